@@ -1,0 +1,128 @@
+//! The envelope: its layout, which envelopes are accepted, and how long a payload is.
+
+ghost use Rattle.std.specs.Prelude.{◌≡◌, ◌≤◌, ◌+◌, ◌<◌, length, None, IsTrue, ◌↔◌, ◌^◌};
+ghost use Rattle.hdl_frame.specs.Envelope.{envelope_at, envelope_octets, fault_of, payload_len, is_truncated, Fits};
+
+use thiserror::Error;
+
+/// How many octets an envelope has.
+pub const ENVELOPE_LEN: usize = 20;
+
+/// How many octets of a message each piece but the last carries.
+pub const PIECE_LEN: u32 = 492;
+
+/// How many octets a message may have.
+pub const MESSAGE_MAX: u32 = 65_536;
+
+/// The major version that is spoken.
+pub const MAJOR_VERSION: u8 = 2;
+
+/// Flags of an envelope. The others are ignored.
+pub const COMPRESSED: u16 = 0x8000;
+
+pub const ENCRYPTED: u16 = 0x4000;
+
+pub const TRUNCATED: u16 = 0x2000;
+
+/// The envelope of a message or of a piece of one.
+#[derive(Clone, Copy, Debug, PartialEq, Eq)]
+pub struct Envelope {
+    pub major: u8,
+    pub minor: u8,
+    pub flags: u16,
+    pub session: u32,
+    pub request: u32,
+    pub sequence: u32,
+    pub length: u32,
+}
+
+/// Why no frame can be cut. The first three say what is wrong with the envelope at the front.
+#[derive(Clone, Copy, Debug, PartialEq, Eq, Error)]
+pub enum FrameFault {
+    #[error("unknown protocol version")]
+    Version(Envelope),
+    #[error("compressed, encrypted, or a piece past the message's end")]
+    Flags(Envelope),
+    #[error("message too long")]
+    TooLong(Envelope),
+    #[error("out of memory")]
+    Memory,
+}
+
+impl Envelope {
+    ghost use Rattle.hdl_frame.specs.Envelope.{envelope_at, envelope_octets, fault_of, payload_len, is_truncated, Fits};
+
+    /// The envelope that stands at the front.
+    #[tactic(auto, unfolding(crate::specs::Envelope::envelope_at))]
+    pub(crate) fn read(octets: &[u8]) -> Envelope
+        requires { ENVELOPE_LEN ≤ length octets.now }
+        ensures { result ≡ envelope_at octets.now }
+    {
+        Envelope {
+            major: octets[0],
+            minor: octets[1],
+            flags: u16::from_be_bytes([octets[2], octets[3]]),
+            session: u32::from_be_bytes([octets[4], octets[5], octets[6], octets[7]]),
+            request: u32::from_be_bytes([octets[8], octets[9], octets[10], octets[11]]),
+            sequence: u32::from_be_bytes([octets[12], octets[13], octets[14], octets[15]]),
+            length: u32::from_be_bytes([octets[16], octets[17], octets[18], octets[19]]),
+        }
+    }
+
+    /// The envelope's octets.
+    #[tactic(auto, unfolding(crate::specs::Envelope::envelope_octets))]
+    pub fn to_octets(self) -> [u8; 20]
+        ensures { result ≡ envelope_octets self }
+    {
+        let [s0, s1, s2, s3] = self.session.to_be_bytes();
+        let [r0, r1, r2, r3] = self.request.to_be_bytes();
+        let [q0, q1, q2, q3] = self.sequence.to_be_bytes();
+        let [l0, l1, l2, l3] = self.length.to_be_bytes();
+        let [f0, f1] = self.flags.to_be_bytes();
+        [
+            self.major, self.minor, f0, f1, s0, s1, s2, s3, r0, r1, r2, r3, q0, q1, q2, q3, l0, l1,
+            l2, l3,
+        ]
+    }
+
+    /// Whether the envelope is that of a piece.
+    pub fn is_truncated(self) -> bool
+        ensures { result ≡ is_truncated self }
+    {
+        self.flags & TRUNCATED != 0
+    }
+
+    /// What is wrong with the envelope, if anything is: the first in the order of the tests.
+    #[tactic(auto, unfolding(crate::specs::Envelope::fault_of))]
+    pub(crate) fn fault(self) -> Option<FrameFault>
+        ensures { result ≡ fault_of self }
+    {
+        let is_past_end = PIECE_LEN as u64 * self.sequence as u64 >= self.length as u64;
+        if self.major != MAJOR_VERSION {
+            Some(FrameFault::Version(self))
+        } else if self.flags & COMPRESSED != 0
+            || self.flags & ENCRYPTED != 0
+            || self.is_truncated() && is_past_end
+        {
+            Some(FrameFault::Flags(self))
+        } else if self.length > MESSAGE_MAX {
+            Some(FrameFault::TooLong(self))
+        } else {
+            None
+        }
+    }
+
+    /// How many octets follow the envelope in its frame.
+    #[tactic(auto, unfolding(crate::specs::Envelope::fault_of, crate::specs::Envelope::payload_len))]
+    pub(crate) fn payload_len(self) -> usize
+        requires { fault_of self ≡ None }
+        ensures len { result ≡ payload_len self }
+        ensures bound { result ≤ MESSAGE_MAX }
+    {
+        if self.is_truncated() {
+            (self.length - PIECE_LEN * self.sequence).min(PIECE_LEN) as usize
+        } else {
+            self.length as usize
+        }
+    }
+}
