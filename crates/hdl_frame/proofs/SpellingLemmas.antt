@@ -101,3 +101,9 @@ frame_is_spelled_lem octets small frame = record {
   accepted = frame.accepted;
   whole = omega (arith, length-drop 20 octets, frame.payload);
 }
+
+pub one_frame_lem : (octets : List ℕ) (e f : Envelope) (payload other : List ℕ) → SpellsFrame octets e payload → SpellsFrame octets f other → (e ≡ f) × (payload ≡ other)
+one_frame_lem octets e f payload other a b =
+    let first = spelled_is_frame_lem octets e payload a in
+    let second = spelled_is_frame_lem octets f other b in
+    (sym first.1 ∙ second.1, sym first.2 ∙ second.2)
