@@ -1,6 +1,6 @@
 -- A message that comes in pieces (docs/PROTOCOL.md, "Frames and pieces"). All its pieces say how many octets it has; of
 -- pieces with the same number the first counts.
-use Rattle.std.specs.Prelude.{◌≡◌, ◌==◌, ℕ, ◌-◌, ◌*◌, ◌<◌, min, List, [], ◌∷◌, ◌++◌, length, map, find, All, Option, Some, None, option_map, IsSome}
+use Rattle.std.specs.Prelude.{◌≡◌, ◌==◌, ℕ, ◌-◌, ◌*◌, ◌<◌, min, List, [], ◌∷◌, ◌++◌, length, map, find, All, Option, Some, None, option_map}
 use Rattle.std.specs.List.{range_with_len}
 use Rattle.hdl_frame.specs.Pieces.{piece_count, stretch}
 
