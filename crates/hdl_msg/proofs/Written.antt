@@ -95,10 +95,10 @@ short_value v lt =
 
 pub can_write : (content : ReplyContent) → length (content_octets content) < 2 ^ 32 → CanBeWritten content
 can_write (Values handle values) lt =
-    let all = length-append handle (counted spelling values.items) in
-    (omega (arith, all, lt), (omega (arith, all, lt, few_from spelling some_spelling values.items), each_from spelling CanBeSpelt (2 ^ 32) short_value values.items (omega (arith, all, lt))))
+    let all = length-append handle (counted spelling values) in
+    (omega (arith, all, lt), (omega (arith, all, lt, few_from spelling some_spelling values), each_from spelling CanBeSpelt (2 ^ 32) short_value values (omega (arith, all, lt))))
 can_write (Handles handles) lt =
-    (omega (arith, lt, few_from string (λ t. omega arith) handles.items), each_from string (λ t. length t < 2 ^ 32) (2 ^ 32) (λ t l. omega (arith, l)) handles.items (omega (arith, lt)))
+    (omega (arith, lt, few_from string (λ t. omega arith) handles), each_from string (λ t. length t < 2 ^ 32) (2 ^ 32) (λ t l. omega (arith, l)) handles (omega (arith, lt)))
 can_write Nothing lt = tt
 can_write (Referral prefix) lt = omega (arith, lt, length-append prefix (number 0))
 can_write (Nonce nonce) lt = tt

@@ -79,6 +79,7 @@ fn shows_a_value(rt: HostRuntime) -> Result<(), Fail> {
     let mut values = Vec::new(rt.alloc());
     values.push(value)?;
     let handle = octets(rt.alloc(), b"10/a")?;
+    let values = ValueList::new(values);
     let octets = written(&rt, &reply(1, 1, ReplyContent::Values { handle, values }))?;
     let mut expected = Vec::new(rt.alloc());
     expected.extend_from_slice(&[
