@@ -14,7 +14,7 @@ mod write;
 pub use admin::{AdminMask, Reference, admin_of, vlist_of};
 pub use fault::ValueFault;
 pub use hdl_name::Octets;
-pub use laws::{none_begins_another, one_administrator, one_list};
+pub use laws::{none_begins_another, one_administrator, one_list, places_are_ordered};
 pub use lists::RawRefs;
 pub use read::read_value;
 pub use reading::{
