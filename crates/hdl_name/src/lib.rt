@@ -19,7 +19,7 @@ mod octets;
 
 pub use fault::NameFault;
 pub use laws::{canonical_stays, names_decided, one_reading, same_prefix};
-pub use name::{Name, is_name};
+pub use name::{Name, is_authority, is_name};
 pub use octets::Octets;
 
 #[cfg(test)]

@@ -1,0 +1,45 @@
+-- Whose lane it is, one publisher after another.
+use Rattle.std.proofs.Common.{◌≡◌, ◌++◌, ◌∷◌, [], List, ℕ, zero, suc, ◌+◌, ◌-◌, ◌<◌, ◌≤◌, Bool, true, false, length, drop, slice_get, nat_lt, Option, None, Some, arith, sym, ap, ◌∙◌, refl, add-one, subst}
+use Rattle.std.specs.Option.{option_map}
+use Rattle.std.proofs.lemmas.Bool.Decides.{Decides-ltb}
+use Rattle.hdl_tenants.specs.Register.{Publisher, owner_among}
+
+drop-at : {A : Type 0} (xs : List A) (k : ℕ) (x : A) → slice_get xs k ≡ Some x → drop k xs ≡ x ∷ drop (k + 1) xs
+drop-at [] k x h = cc
+drop-at (y ∷ ys) zero x h = let same : y ≡ x = cc in ap (λ z. z ∷ ys) same
+drop-at (y ∷ ys) (suc k) x h = rw add-one (drop-at ys k x h ∙ ap (λ n. x ∷ drop n ys) (add-one k))
+
+drop-past : {A : Type 0} (xs : List A) (k : ℕ) → length xs ≤ k → drop k xs ≡ []
+drop-past [] zero h = refl
+drop-past [] (suc k) h = refl
+drop-past (x ∷ xs) zero h = absurd (omega arith)
+drop-past (x ∷ xs) (suc k) h = drop-past xs k (omega arith)
+
+option_map-zero : (o : Option ℕ) → option_map (λ i. i + 0) o ≡ o
+option_map-zero None = refl
+option_map-zero (Some i) = ap (λ n. Some n) (omega arith)
+
+option_map-more : (place : ℕ) (o : Option ℕ) → option_map (λ i. i + place) (option_map (λ i. i + 1) o) ≡ option_map (λ i. i + (place + 1)) o
+option_map-more place None = refl
+option_map-more place (Some i) = ap (λ n. Some n) (omega arith)
+
+-- the publishers before this place own none of the lanes that are left
+pub record SoFar (publishers : List Publisher) (lane place rest : ℕ) : Type 0 where
+  pub owner : owner_among publishers lane ≡ option_map (λ i. i + place) (owner_among (drop place publishers) rest)
+
+pub so_far_none : (publishers : List Publisher) (lane : ℕ) → SoFar publishers lane 0 lane
+so_far_none publishers lane = record { owner = sym (option_map-zero (owner_among publishers lane)) }
+
+module _ (publishers : List Publisher) (lane place rest : ℕ) (so_far : SoFar publishers lane place rest) where
+  pub so_far_here : (p : Publisher) → slice_get publishers place ≡ Some p → rest < p.lanes → owner_among publishers lane ≡ Some place
+  so_far_here p at below =
+      let passes : nat_lt rest p.lanes ≡ true = (Decides-ltb rest p.lanes).1 below in
+      so_far.owner ∙ rw (drop-at publishers place p at, passes) (ap (λ n. Some n) (omega arith))
+
+  pub so_far_more : (p : Publisher) → slice_get publishers place ≡ Some p → p.lanes ≤ rest → SoFar publishers lane (place + 1) (rest - p.lanes)
+  so_far_more p at above =
+      let fails : nat_lt rest p.lanes ≡ false = grind arith in
+      record { owner = so_far.owner ∙ rw (drop-at publishers place p at, fails) (option_map-more place (owner_among (drop (place + 1) publishers) (rest - p.lanes))) }
+
+  pub so_far_end : length publishers ≤ place → owner_among publishers lane ≡ None
+  so_far_end all = so_far.owner ∙ rw (drop-past publishers place all) refl

@@ -1,0 +1,4 @@
+pub mod Register
+pub mod Lines
+pub mod Text
+pub mod Kept

@@ -1,0 +1,125 @@
+-- What a tenants text says as a whole: publishers, hosted prefixes and opening rows, each in the text's order.
+use Rattle.std.specs.Prelude.{◌≡◌, ◌≢◌, ◌≤◌, ◌<◌, ◌^◌, ◌==◌, ◌&&◌, ◌||◌, ◌-◌, ◌+◌, ℕ, Bool, IsTrue, List, [], ◌∷◌, length, codes, map, sum_by, count_by, All, AllPairs, Contains, Option, Some, None, nat_lt, if◌then◌else◌}
+use Rattle.std.specs.List.{AllPass, list_any}
+use Rattle.std.specs.Option.{option_map}
+use Rattle.std.specs.Char.{is_ascii_digit, is_ascii_lowercase}
+use Rattle.std.specs.Str.{bytes_eq, str_to_ascii_lowercase}
+use Rattle.hdl_name.specs.Name.{IsHandle, IsAuthority, canonical, prefix}
+use Rattle.hdl_value.specs.declared.value.Value.{Value}
+use Rattle.hdl_value.specs.Spelling.{CanBeSpelt}
+use Rattle.hdl_value.specs.Fault.{IsSound}
+
+pub record Publisher : Type 0 where
+  pub name : List ℕ
+  pub lanes : ℕ
+  pub port : ℕ
+
+-- a prefix in canonical form, and the place of its publisher among the publishers
+pub record Hosting : Type 0 where
+  pub prefix : List ℕ
+  pub publisher : ℕ
+
+-- a handle's name, and a value of that handle
+abbrev pub Row : Type 0
+Row = List ℕ × Value
+
+pub record Register : Type 0 where
+  pub publishers : List Publisher
+  pub hostings : List Hosting
+  pub opening : List Row
+
+abbrev pub empty : Register
+empty = record { publishers = []; hostings = []; opening = [] }
+
+-- ---- what callers ask
+
+abbrev pub most_lanes : ℕ
+most_lanes = 64
+
+-- how many lanes there are in all
+abbrev pub lane_count : List Publisher → ℕ
+lane_count publishers = sum_by (λ p. p.lanes) publishers
+
+-- whose lane this is: lanes are numbered from 0, those of the first publisher first
+abbrev pub owner_among : List Publisher → ℕ → Option ℕ
+owner_among [] lane = None
+owner_among (p ∷ publishers) lane = if nat_lt lane p.lanes then Some 0 else option_map (λ place. place + 1) (owner_among publishers (lane - p.lanes))
+
+abbrev pub owner : Register → ℕ → Option ℕ
+owner r lane = owner_among r.publishers lane
+
+-- whether this prefix is hosted for the publisher at this place
+abbrev pub hosts_among : List Hosting → ℕ → List ℕ → Bool
+hosts_among hostings publisher prefix = list_any (λ h. (h.publisher == publisher) && bytes_eq prefix h.prefix) hostings
+
+abbrev pub hosts : Register → ℕ → List ℕ → Bool
+hosts r publisher prefix = hosts_among r.hostings publisher prefix
+
+-- ---- what is kept
+
+abbrev pub names_of : List Publisher → List (List ℕ)
+names_of publishers = map (λ p. p.name) publishers
+
+abbrev pub prefixes_of : List Hosting → List (List ℕ)
+prefixes_of hostings = map (λ h. h.prefix) hostings
+
+-- the canonical handle and the index of a row
+abbrev pub place : Row → List ℕ × ℕ
+place row = (canonical row.0, row.1.index)
+
+-- how many values the handle with this canonical form has
+abbrev pub value_count : List ℕ → List Row → ℕ
+value_count handle rows = count_by (λ row. bytes_eq (canonical row.0) handle) rows
+
+abbrev pub most_values : ℕ
+most_values = 1024
+
+abbrev pub AreDistinct : {A : Type 0} → List A → Type 0
+AreDistinct {A} xs = AllPairs (λ (x y : A). x ≢ y) xs
+
+abbrev pub is_name_octet : ℕ → Bool
+is_name_octet octet = is_ascii_lowercase octet || is_ascii_digit octet || octet == 45
+
+-- 1 to 32 of a-z, 0-9 and -
+pub record IsPublisherName (name : List ℕ) : Type 0 where
+  pub some : 0 < length name
+  pub few : length name ≤ 32
+  pub octets : AllPass is_name_octet name
+
+pub record IsPublisher (p : Publisher) : Type 0 where
+  pub named : IsPublisherName p.name
+  pub lanes : (2 ≤ p.lanes) × (p.lanes ≤ most_lanes)
+  pub port : (1 ≤ p.port) × (p.port < 2 ^ 16)
+
+-- the prefix of the administrative handles
+abbrev pub root : List ℕ
+root = codes "0.na"
+
+-- a naming authority in canonical form, other than the root
+pub record IsPrefix (prefix : List ℕ) : Type 0 where
+  pub authority : IsAuthority prefix
+  pub lower : str_to_ascii_lowercase prefix ≡ prefix
+  pub no_root : prefix ≢ root
+
+-- a prefix that may be hosted, for a publisher that is there
+pub record IsHosting (publishers : List Publisher) (h : Hosting) : Type 0 where
+  pub sound : IsPrefix h.prefix
+  pub publisher : h.publisher < length publishers
+
+-- a value that keeps the limits, of a handle whose prefix is hosted
+pub record IsOpening (hostings : List Hosting) (row : Row) : Type 0 where
+  pub handle : IsHandle row.0
+  pub hosted : Contains (prefixes_of hostings) (prefix row.0)
+  pub sound : IsSound row.1
+  pub spelt : CanBeSpelt row.1
+
+-- what every text that is accepted says
+pub record IsRegister (r : Register) : Type 0 where
+  pub publishers : All IsPublisher r.publishers
+  pub names : AreDistinct (names_of r.publishers)
+  pub lanes : lane_count r.publishers ≤ most_lanes
+  pub hostings : All (IsHosting r.publishers) r.hostings
+  pub prefixes : AreDistinct (prefixes_of r.hostings)
+  pub opening : All (IsOpening r.hostings) r.opening
+  pub places : AreDistinct (map place r.opening)
+  pub few : (handle : List ℕ) → value_count handle r.opening ≤ most_values

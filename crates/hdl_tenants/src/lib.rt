@@ -1,0 +1,11 @@
+//! The tenants text: publishers, their lanes, the prefixes that are hosted for them, and the values to open with.
+#![tactic(auto)]
+
+mod decimal;
+mod fault;
+mod lines;
+mod prefixes;
+mod publishers;
+
+pub use decimal::decimal_u16;
+pub use fault::TenantFault;

@@ -1,0 +1,151 @@
+//! The three kinds of line of a tenants text, by their fields.
+
+ghost use Rattle.std.specs.Prelude.{◌≡◌, ◌≢◌, ◌↔◌, ℕ, List, [], ◌∷◌, codes, map, IsTrue, IfOk, IfErr, MatchOption};
+ghost use Rattle.std.specs.Str.{str_to_ascii_lowercase};
+ghost use Rattle.hdl_value.specs.declared.value.Value.{Value};
+ghost use Rattle.hdl_tenants.specs.Register as register;
+ghost use Rattle.hdl_tenants.specs.Register.{IsPublisherName, IsPrefix};
+ghost use Rattle.hdl_tenants.specs.Lines.{IsPublisherLine, IsPrefixLine, IsValueText};
+
+use crate::decimal::decimal_u16;
+use hdl_name::is_authority;
+use hdl_value::{Value, ValueFault, read_value};
+use hex::FromHexError;
+use std::alloc::Global;
+
+/// The most lanes of a publisher, and of all publishers together.
+pub const MOST_LANES: u16 = 64;
+
+const MOST_NAME_OCTETS: usize = 32;
+
+/// A publisher as its line names it: its name, how many lanes it has, and its port.
+#[derive(Clone, Copy, Debug, PartialEq, Eq)]
+pub struct PublisherLine<'a> {
+    pub name: &'a str,
+    pub lanes: u16,
+    pub port: u16,
+}
+
+/// A prefix and the name of its publisher.
+#[derive(Clone, Copy, Debug, PartialEq, Eq)]
+pub struct PrefixLine<'a> {
+    pub prefix: &'a str,
+    pub name: &'a str,
+}
+
+/// A handle and the hexadecimal digits of a value.
+#[derive(Clone, Copy, Debug, PartialEq, Eq)]
+pub struct ValueLine<'a> {
+    pub handle: &'a str,
+    pub digits: &'a str,
+}
+
+/// Why a value's digits give none.
+#[derive(Clone, Copy, Debug, PartialEq, Eq)]
+pub enum TextFault {
+    Bad,
+    Memory,
+}
+
+fn is_publisher_name(name: &str) -> bool
+    ensures { IsTrue result ↔ IsPublisherName name.now }
+{
+    !name.is_empty()
+        && name.len() <= MOST_NAME_OCTETS
+        && name.as_bytes().iter().all(|octet| octet.is_ascii_lowercase()
+            || octet.is_ascii_digit()
+            || *octet == b'-')
+}
+
+/// Whether no letter of the text is in upper case.
+fn is_lower(text: &str) -> bool
+    ensures { IsTrue result ↔ (str_to_ascii_lowercase text.now ≡ text.now) }
+{
+    text.as_bytes()
+        .iter()
+        .all(|octet| octet.to_ascii_lowercase() == *octet)
+}
+
+/// Whether the text is a naming authority in canonical form, other than `0.na`.
+fn is_prefix(text: &str) -> bool
+    ensures { IsTrue result ↔ IsPrefix text.now }
+{
+    is_authority(text) && is_lower(text) && text != "0.na"
+}
+
+/// What the fields of a line `publisher NAME LANES PORT` say.
+pub fn publisher_of<'a>(fields: &[&'a str]) -> Option<PublisherLine<'a>>
+    ensures { MatchOption result ((p : register.Publisher) → ¬ IsPublisherLine (map (λ field. field.now) fields.now) p)
+        (λ p. IsPublisherLine (map (λ field. field.now) fields.now) (record { name = p.name.now; lanes = p.lanes; port = p.port })) }
+{
+    let [word, name, lanes, port] = fields else {
+        return None;
+    };
+    if *word != "publisher" || !is_publisher_name(name) {
+        return None;
+    }
+    let lanes = decimal_u16(lanes)?;
+    let port = decimal_u16(port)?;
+    if lanes < 2 || lanes > MOST_LANES || port == 0 {
+        return None;
+    }
+    Some(PublisherLine { name, lanes, port })
+}
+
+/// What the fields of a line `prefix PREFIX NAME` say.
+pub fn prefix_of<'a>(fields: &[&'a str]) -> Option<PrefixLine<'a>>
+    ensures { MatchOption result ((prefix name : List ℕ) → ¬ IsPrefixLine (map (λ field. field.now) fields.now) prefix name)
+        (λ p. IsPrefixLine (map (λ field. field.now) fields.now) p.prefix.now p.name.now) }
+{
+    let [word, prefix, name] = fields else {
+        return None;
+    };
+    if *word != "prefix" || !is_prefix(prefix) {
+        return None;
+    }
+    Some(PrefixLine { prefix, name })
+}
+
+/// The second and third field of a line `value HANDLE HEX`.
+pub fn value_of<'a>(fields: &[&'a str]) -> Option<ValueLine<'a>>
+    ensures { MatchOption result ((handle digits : List ℕ) → map (λ field. field.now) fields.now ≢ codes "value" ∷ handle ∷ digits ∷ [])
+        (λ v. map (λ field. field.now) fields.now ≡ codes "value" ∷ v.handle.now ∷ v.digits.now ∷ []) }
+{
+    let [word, handle, digits] = fields else {
+        return None;
+    };
+    if *word != "value" {
+        return None;
+    }
+    Some(ValueLine { handle, digits })
+}
+
+/// The one value that the digits spell, with nothing behind it.
+pub fn value_text(alloc: Global, text: &str) -> Result<Value, TextFault>
+    ensures value { IfOk result (λ v. IsValueText text.now v) }
+    ensures bad { IfErr result (λ e. e ≢ TextFault.Memory → (v : Value) → IsValueText text.now v → ⊥) }
+{
+    let octets = match hex::decode(alloc, text) {
+        Ok(octets) => octets,
+        Err(fault) => {
+            if fault == FromHexError::OutOfMemory {
+                return Err(TextFault::Memory);
+            }
+            return Err(TextFault::Bad);
+        }
+    };
+    match read_value(alloc, &octets) {
+        Ok((value, count)) => {
+            if count != octets.len() {
+                return Err(TextFault::Bad);
+            }
+            Ok(value)
+        }
+        Err(fault) => {
+            if fault == ValueFault::Memory {
+                return Err(TextFault::Memory);
+            }
+            Err(TextFault::Bad)
+        }
+    }
+}
