@@ -1,9 +1,10 @@
 -- Reading of messages, from the readers of their fields.
-use Rattle.std.specs.Prelude.{ℕ, zero, suc, ◌==◌, if◌then◌else◌, List, [], ◌∷◌, Option, Some, None}
+use Rattle.std.specs.Prelude.{ℕ, zero, suc, ◌==◌, if◌then◌else◌, List, [], ◌∷◌, Option, Some}
 use Rattle.std.specs.Option.{option_map_or}
 use Rattle.std.specs.Int.{w16, w32}
 use Rattle.hdl_value.specs.declared.value.Value.{Value}
-use Rattle.hdl_value.specs.Reading.{◌>>=◌, pair_at, seen_at, counted_at, whole_of, number_at, octet_at, string_at, value_at}
+use Rattle.hdl_value.specs.Reading.{◌>>=◌, pair_at, seen_at, counted_at, whole_of, number_at, octet_at, string_at}
+use Rattle.hdl_value.specs.Cut.{value_at}
 use Rattle.hdl_msg.specs.declared.fields.Header.{Header}
 use Rattle.hdl_msg.specs.Message.{Operation, resolution, create, delete, add, remove, modify, list, response, other, Content}
 

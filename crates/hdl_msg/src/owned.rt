@@ -13,7 +13,7 @@ pub struct ValueList {
 
 impl Model for ValueList {
     ghost use Rattle.std.specs.Prelude.{List};
-    ghost use Rattle.hdl_msg.specs.Cut.{CutAs};
+    ghost use Rattle.hdl_value.specs.Kept.{CutAs};
 
     ghost Value = { List CutAs };
 
