@@ -1,13 +1,13 @@
 -- A stream has one cut, and is cut in its parts as in the whole.
-use Rattle.std.proofs.Common.{◌≡◌, ℕ, zero, suc, ◌+◌, ◌-◌, ◌≤◌, ◌<◌, Bool, true, false, ltb, List, [], ◌∷◌, ◌++◌, length, take, drop, All, Option, Some, None, refl, sym, ap, subst, ◌∙◌, arith, append_assoc, inl, inr, ◌⊎◌}
+use Rattle.std.proofs.Common.{◌≡◌, ℕ, zero, suc, ◌+◌, ◌≤◌, List, [], ◌∷◌, ◌++◌, length, take, drop, Option, Some, None, refl, sym, ap, ◌∙◌, arith, append_assoc, inl, inr, ◌⊎◌}
 use Rattle.std.specs.List.{concat}
 use Rattle.std.proofs.lemmas.Bool.{cases_lt}
-use Rattle.std.proofs.lemmas.List.{length-append, length-take, length-drop, take-append-drop, append-nil}
+use Rattle.std.proofs.lemmas.List.{length-append, length-take, take-append-drop, append-nil}
 use Rattle.std.proofs.lemmas.List.Folds.{concat-append}
 use Rattle.std.proofs.lemmas.List.Elements.{All-nil, All-cons, All-head, All-tail, All-append}
 use Rattle.hdl_frame.specs.declared.envelope.FrameFault.{FrameFault}
 use Rattle.hdl_frame.specs.Envelope.{envelope_at, fault_of, payload_len}
-use Rattle.hdl_frame.specs.Frames.{IsFrame, BeginsWithFrame, fault_at, IsCut}
+use Rattle.hdl_frame.specs.Frames.{IsFrame, BeginsWithFrame, fault_at, IsCut, IsCutInTurn}
 use Rattle.hdl_frame.proofs.FrameLemmas.{one_front, front_is_frame, none_short, none_faulty, fault_at_whole}
 
 -- octets that no frame begins are all rest
@@ -97,3 +97,16 @@ cut_within (suc n) s le =
 
 pub each_is_cut_lem : (s : List ℕ) → HasCut s
 each_is_cut_lem s = cut_within (length s) s (omega arith)
+
+-- a stream that was cut so far is cut on, chunk by chunk
+cut_on : (chunks more front : List (List ℕ)) (before mid last : List ℕ) → IsCut before front mid (fault_at mid) → IsCutInTurn mid chunks more last
+    → IsCut (before ++ concat chunks) (front ++ more) last (fault_at last)
+cut_on [] more front before mid last so_far turn =
+    pieces_join_lem before [] front more mid last (fault_at mid) (fault_at last) so_far (rw (append-nil mid) turn)
+cut_on (chunk ∷ chunks) more front before mid last so_far (first, next, others, cut, turn, is) =
+    let step = pieces_join_lem before chunk front first mid next (fault_at mid) (fault_at next) so_far cut in
+    let all = cut_on chunks others (front ++ first) (before ++ chunk) next last step turn in
+    rw (is, ← append_assoc before chunk (concat chunks), ← append_assoc front first others) all
+
+pub chunks_join_lem : (chunks frames : List (List ℕ)) (rest : List ℕ) → IsCutInTurn [] chunks frames rest → IsCut (concat chunks) frames rest (fault_at rest)
+chunks_join_lem chunks frames rest turn = cut_on chunks frames [] [] [] rest (all_rest [] (none_short [] (omega arith))) turn

@@ -1,10 +1,10 @@
 -- The envelope read is the envelope written, and the octets written are those read.
-use Rattle.std.proofs.Common.{◌≡◌, ℕ, zero, suc, ◌+◌, ◌≤◌, ◌<◌, ◌^◌, List, [], ◌∷◌, ◌++◌, length, get_or, take, drop, None, refl, sym, ap, ◌∙◌, arith, lit<}
+use Rattle.std.proofs.Common.{◌≡◌, ℕ, zero, suc, ◌+◌, ◌≤◌, ◌<◌, ◌^◌, List, [], ◌∷◌, ◌++◌, length, get_or, drop, refl, sym, ap, ◌∙◌, arith, lit<}
 use Rattle.std.specs.Int.{w16, w32, to_be_bytes, from_be_bytes}
 use Rattle.std.proofs.lemmas.List.{length-append, length-drop, drop_more, drop_at}
 use Rattle.std.proofs.lemmas.Nat.{be_bytes_2, be_bytes_4, from_be_bytes-to_be_bytes_2, from_be_bytes-to_be_bytes_4}
 use Rattle.hdl_frame.specs.declared.envelope.Envelope.{Envelope}
-use Rattle.hdl_frame.specs.Envelope.{envelope_at, envelope_octets, Fits, fault_of, payload_len}
+use Rattle.hdl_frame.specs.Envelope.{envelope_at, envelope_octets, Fits, payload_len}
 use Rattle.hdl_frame.specs.Frames.{IsFrame}
 use Rattle.hdl_frame.specs.Spelling.{SpellsFrame, AreOctets}
 use Rattle.hdl_frame.proofs.FrameLemmas.{envelope_at-append}
@@ -101,3 +101,9 @@ frame_is_spelled_lem octets small frame = record {
   accepted = frame.accepted;
   whole = omega (arith, length-drop 20 octets, frame.payload);
 }
+
+pub one_frame_lem : (octets : List ℕ) (e f : Envelope) (payload other : List ℕ) → SpellsFrame octets e payload → SpellsFrame octets f other → (e ≡ f) × (payload ≡ other)
+one_frame_lem octets e f payload other a b =
+    let first = spelled_is_frame_lem octets e payload a in
+    let second = spelled_is_frame_lem octets f other b in
+    (sym first.1 ∙ second.1, sym first.2 ∙ second.2)

@@ -1,7 +1,7 @@
 //! The envelope: its layout, which envelopes are accepted, and how long a payload is.
 
-ghost use Rattle.std.specs.Prelude.{◌≡◌, ◌≤◌, ◌+◌, ◌<◌, length, None, IsTrue, ◌↔◌, ◌^◌};
-ghost use Rattle.hdl_frame.specs.Envelope.{envelope_at, envelope_octets, fault_of, payload_len, is_truncated, Fits};
+ghost use Rattle.std.specs.Prelude.{◌≡◌, ◌≤◌, length, None};
+ghost use Rattle.hdl_frame.specs.Envelope.{envelope_at, envelope_octets, fault_of, payload_len, is_compressed, is_encrypted, is_truncated};
 
 use thiserror::Error;
 
@@ -14,17 +14,33 @@ pub const PIECE_LEN: u32 = 492;
 /// How many octets a message may have.
 pub const MESSAGE_MAX: u32 = 65_536;
 
-/// The major version that is spoken.
+/// The major version that is spoken; any minor version is accepted.
 pub const MAJOR_VERSION: u8 = 2;
 
-/// Flags of an envelope. The others are ignored.
+/// MessageFlag bit CP: the message is compressed. Such envelopes are refused.
 pub const COMPRESSED: u16 = 0x8000;
 
+/// MessageFlag bit EC: the message is encrypted. Such envelopes are refused.
 pub const ENCRYPTED: u16 = 0x4000;
 
+/// MessageFlag bit TC: the frame is a piece of a message. All other bits are ignored.
 pub const TRUNCATED: u16 = 0x2000;
 
-/// The envelope of a message or of a piece of one.
+/// The envelope of a message or of a piece of one (RFC 3652, section 2.1, in our profile).
+///
+/// ```text
+///  0        1        2                 4
+/// +--------+--------+-----------------+-----------------------------------+
+/// | major  | minor  | MessageFlag     | SessionId                         |
+/// +--------+--------+-----------------+-----------------------------------+
+/// | RequestId                         | SequenceNumber                    |
+/// +-----------------------------------+-----------------------------------+
+/// | MessageLength                     |
+/// +-----------------------------------+
+/// ```
+///
+/// Numbers stand highest octet first. `length` counts the octets of the whole message without the envelope, in each piece
+/// too. Without TC `sequence` means nothing.
 #[derive(Clone, Copy, Debug, PartialEq, Eq)]
 pub struct Envelope {
     pub major: u8,
@@ -36,27 +52,32 @@ pub struct Envelope {
     pub length: u32,
 }
 
-/// Why no frame can be cut. The first three say what is wrong with the envelope at the front.
+/// Why no frame can be cut. The first three say what is wrong with the envelope that stands next, and are tested in this
+/// order.
 #[derive(Clone, Copy, Debug, PartialEq, Eq, Error)]
 pub enum FrameFault {
+    /// The major version isn't 2.
     #[error("unknown protocol version")]
     Version(Envelope),
+    /// CP or EC is set; or TC is, and the piece would begin at or behind the message's end.
     #[error("compressed, encrypted, or a piece past the message's end")]
     Flags(Envelope),
+    /// MessageLength is over 65,536.
     #[error("message too long")]
     TooLong(Envelope),
+    /// A growth was refused.
     #[error("out of memory")]
     Memory,
 }
 
 impl Envelope {
-    ghost use Rattle.hdl_frame.specs.Envelope.{envelope_at, envelope_octets, fault_of, payload_len, is_truncated, Fits};
+    ghost use Rattle.hdl_frame.specs.Envelope.{envelope_at, envelope_octets, fault_of, payload_len, is_compressed, is_encrypted, is_truncated};
 
-    /// The envelope that stands at the front.
+    /// The envelope that the first 20 octets spell; every 20 octets spell one.
     #[tactic(auto, unfolding(crate::specs::Envelope::envelope_at))]
-    pub(crate) fn read(octets: &[u8]) -> Envelope
-        requires { ENVELOPE_LEN ≤ length octets.now }
-        ensures { result ≡ envelope_at octets.now }
+    pub fn read(octets: &[u8]) -> Envelope
+        requires whole { ENVELOPE_LEN ≤ length octets.now }
+        ensures envelope { result ≡ envelope_at octets.now }
     {
         Envelope {
             major: octets[0],
@@ -69,10 +90,10 @@ impl Envelope {
         }
     }
 
-    /// The envelope's octets.
+    /// The envelope's 20 octets.
     #[tactic(auto, unfolding(crate::specs::Envelope::envelope_octets))]
     pub fn to_octets(self) -> [u8; 20]
-        ensures { result ≡ envelope_octets self }
+        ensures octets { result ≡ envelope_octets self }
     {
         let [s0, s1, s2, s3] = self.session.to_be_bytes();
         let [r0, r1, r2, r3] = self.request.to_be_bytes();
@@ -85,25 +106,37 @@ impl Envelope {
         ]
     }
 
-    /// Whether the envelope is that of a piece.
+    /// Whether CP is set.
+    pub fn is_compressed(self) -> bool
+        ensures { result ≡ is_compressed self }
+    {
+        self.flags & COMPRESSED != 0
+    }
+
+    /// Whether EC is set.
+    pub fn is_encrypted(self) -> bool
+        ensures { result ≡ is_encrypted self }
+    {
+        self.flags & ENCRYPTED != 0
+    }
+
+    /// Whether TC is set, so that the frame is a piece of a message.
     pub fn is_truncated(self) -> bool
         ensures { result ≡ is_truncated self }
     {
         self.flags & TRUNCATED != 0
     }
 
-    /// What is wrong with the envelope, if anything is: the first in the order of the tests.
+    /// What is wrong with the envelope, if anything is: the first of Version, Flags and TooLong.
     #[tactic(auto, unfolding(crate::specs::Envelope::fault_of))]
-    pub(crate) fn fault(self) -> Option<FrameFault>
-        ensures { result ≡ fault_of self }
+    pub fn fault(self) -> Option<FrameFault>
+        ensures first_fault { result ≡ fault_of self }
     {
         let is_past_end = PIECE_LEN as u64 * self.sequence as u64 >= self.length as u64;
+        let is_past_end = self.is_truncated() && is_past_end;
         if self.major != MAJOR_VERSION {
             Some(FrameFault::Version(self))
-        } else if self.flags & COMPRESSED != 0
-            || self.flags & ENCRYPTED != 0
-            || self.is_truncated() && is_past_end
-        {
+        } else if self.is_compressed() || self.is_encrypted() || is_past_end {
             Some(FrameFault::Flags(self))
         } else if self.length > MESSAGE_MAX {
             Some(FrameFault::TooLong(self))
@@ -112,10 +145,10 @@ impl Envelope {
         }
     }
 
-    /// How many octets follow the envelope in its frame.
+    /// How many octets follow an accepted envelope in its frame.
     #[tactic(auto, unfolding(crate::specs::Envelope::fault_of, crate::specs::Envelope::payload_len))]
-    pub(crate) fn payload_len(self) -> usize
-        requires { fault_of self ≡ None }
+    pub fn payload_len(self) -> usize
+        requires accepted { fault_of self ≡ None }
         ensures len { result ≡ payload_len self }
         ensures bound { result ≤ MESSAGE_MAX }
     {

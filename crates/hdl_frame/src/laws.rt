@@ -1,6 +1,6 @@
-//! Laws of the definitions of frames. The functions do nothing: their contracts are the laws.
+//! Laws over the definitions of frames, each the contract of a function without a body.
 
-ghost use Rattle.hdl_frame.specs.Laws.{OneCut, PiecesJoin, EachIsCut};
+ghost use Rattle.hdl_frame.specs.Laws.{OneCut, EachIsCut, PiecesJoin, ChunksJoin, OneFrame, OneMessage, MessageIsJoined, JoinedIsMessage, NoneIsMissing};
 ghost use Rattle.hdl_frame.specs.Spelling.{SpelledIsFrame, FrameIsSpelled};
 
 /// A stream is cut in one way only.
@@ -13,10 +13,15 @@ pub fn each_is_cut()
     ensures { EachIsCut }
 {}
 
-/// What is fed in two parts is cut as the whole: first the frames of the first part, then those of its rest followed by
-/// the second part.
+/// What comes in two parts is cut as the whole: first the frames of the first part, then those of its rest followed by the
+/// second part.
 pub fn pieces_join()
     ensures { PiecesJoin }
+{}
+
+/// What comes in any chunks is cut as the whole.
+pub fn chunks_join()
+    ensures { ChunksJoin }
 {}
 
 /// What spells a frame is one, and its envelope and payload are those that it spells.
@@ -27,4 +32,29 @@ pub fn spelled_is_frame()
 /// A frame of octets is spelt by its envelope and payload.
 pub fn frame_is_spelled()
     ensures { FrameIsSpelled }
+{}
+
+/// Octets spell at most one frame.
+pub fn one_frame()
+    ensures { OneFrame }
+{}
+
+/// Pieces make at most one message.
+pub fn one_message()
+    ensures { OneMessage }
+{}
+
+/// The message that pieces make is their payloads by number, one after the other.
+pub fn message_is_joined()
+    ensures { MessageIsJoined }
+{}
+
+/// Payloads of their length, one after the other by number, are the message that the pieces make.
+pub fn joined_is_message()
+    ensures { JoinedIsMessage }
+{}
+
+/// No message is made only where a number of it didn't come.
+pub fn none_is_missing()
+    ensures { NoneIsMissing }
 {}

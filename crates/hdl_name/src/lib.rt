@@ -1,4 +1,15 @@
-//! Names of handles.
+//! Names of handles, after RFC 3651, section 3: a naming authority, the first `/`, and a local name.
+//!
+//! This crate is the grammar of names and nothing else. It stands on no other crate of the service, and every crate
+//! above speaks of a handle through it.
+//!
+//! What it promises: [`Name::read`] accepts exactly the octets that the definition `IsName` spells and gives them back as
+//! they were sent, or tells the first fault of a fixed order; the parts of a name and its canonical form are functions of
+//! the octets that were sent; two handles are the same where their canonical forms are the same octets. [`is_name`] is the
+//! same test without memory. The laws that the crates above lean on (one reading, the canonical form is a name and stays)
+//! are the contracts of functions without a body.
+//!
+//! Contracts see a [`Name`] as the octets that were sent, and [`Octets`] as the list of its numbers.
 #![tactic(auto)]
 
 mod fault;

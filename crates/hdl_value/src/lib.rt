@@ -1,27 +1,45 @@
-//! Values of handles.
+//! Values of handles, from octets and to octets.
+//!
+//! A value has an index, a type, data, a TTL, a permission octet, a timestamp and references, in this order (the layout
+//! is this project's own; the fields are those of RFC 3651, section 3.1). Contracts see the struct `Value` as it is
+//! declared: its octets and references are lists, so it is itself the mathematical value. `specs/Spelling.antt` has its
+//! one spelling, `specs/Data.antt` the data with a meaning, `specs/Fault.antt` the limits and the order of the faults.
+//!
+//! `read_value` gives a value that keeps the limits, or the first fault of the octets. `cut_value` goes by layout alone
+//! and copies nothing, for values inside a message. `admin_of` and `vlist_of` say what a value refers to, `Value::class`
+//! who may read it. Places (`specs/Place.antt`: a canonical handle and an index) are what tables, chains of lists and
+//! covers speak of.
+//!
+//! `specs/Reading.antt` has readers that are made of readers, with two laws (what is read is spelt there, what is spelt
+//! is read), proved once in `proofs/Codecs.antt`. The layouts above, as those of messages, are terms over these.
 #![tactic(auto)]
 
 mod admin;
+mod cut;
 mod data;
 mod fault;
+mod fields;
 mod laws;
-mod lists;
+mod permission;
 mod read;
-mod reading;
+mod references;
 mod value;
 mod write;
 
 pub use admin::{AdminMask, Reference, admin_of, vlist_of};
+pub use cut::{CutValue, cut_value};
 pub use fault::ValueFault;
+pub use fields::{octet_at, put_string, put_u16, put_u32, string_at, u16_at, u32_at};
 pub use hdl_name::Octets;
-pub use laws::{none_begins_another, one_administrator, one_list};
-pub use lists::RawRefs;
-pub use read::read_value;
-pub use reading::{
-    RawReference, RawReferences, RawValue, cut_value, octet_at, string_at, u16_at, u32_at,
+pub use laws::{
+    grants_are_named, listed_are_named, none_begins_another, one_administrator, one_list,
+    places_are_ordered, read_as_spelt, refs_are_named, soundness_decided,
 };
-pub use value::{RawRef, Value};
-pub use write::{put_string, put_u16, put_u32, put_value, write_value};
+pub use permission::{AdminPermission, Class, Permission};
+pub use read::read_value;
+pub use references::{RawRef, RawRefs};
+pub use value::Value;
+pub use write::{put_value, write_value};
 
 #[cfg(test)]
 mod tests;

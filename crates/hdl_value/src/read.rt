@@ -1,26 +1,26 @@
-//! Reading of values.
+//! Reading of values: the layout, then the limits, then the data, then a copy.
 
 ghost use Rattle.std.specs.Prelude.{◌≡◌, ◌≢◌, drop, length, IfOk, IfErr, MatchResult};
 ghost use Rattle.hdl_value.specs.Spelling.{spelling, CanBeSpelt};
-ghost use Rattle.hdl_value.specs.Reading.{refs_view, value_view, IsWhole};
+ghost use Rattle.hdl_value.specs.Cut.{value_view, IsWhole};
 ghost use Rattle.hdl_value.specs.Fault.{Begins, IsSound, IsFirstFault, IsFaultOf};
 
+use crate::cut::{RawValue, cut_value};
 use crate::data::{is_admin_data, is_list_data};
 use crate::fault::ValueFault;
-use crate::lists::RawRefs;
-use crate::reading::{RawReferences, RawValue, cut_value, reference_at};
-use crate::value::{RawRef, Value};
+use crate::references::{RawRefs, copied_references};
+use crate::value::Value;
 use hdl_name::Octets;
 use std::alloc::{AllocError, Global};
 
 const MOST_KIND_OCTETS: usize = 255;
 
-const MOST_OCTETS: usize = 32768;
+const MOST_OCTETS: usize = 32_768;
 
 const MOST_REFERENCES: u32 = 64;
 
-/// The first fault of a value that was cut by layout.
-fn check(raw: &RawValue<'_>) -> Result<(), ValueFault>
+/// The first fault of a value that was cut by layout. It takes no memory.
+pub(crate) fn check(raw: &RawValue<'_>) -> Result<(), ValueFault>
     requires { IsWhole raw.now.refs }
     ensures { MatchResult result (λ _. IsSound (value_view raw.now)) (λ e. IsFirstFault (value_view raw.now) e × (e ≢ ValueFault.Memory)) }
 {
@@ -45,25 +45,7 @@ fn check(raw: &RawValue<'_>) -> Result<(), ValueFault>
     Ok(())
 }
 
-fn copied_references(alloc: Global, refs: &RawReferences<'_>) -> Result<Vec<RawRef>, AllocError>
-    requires { IsWhole refs.now }
-    ensures { IfOk result (λ v. v.items ≡ refs_view refs.now) }
-{
-    let mut references = Vec::new(alloc);
-    let mut rest = refs.octets;
-    for _ in 0..refs.count {
-        let Some((reference, after)) = reference_at(rest) else {
-            unreachable!()
-        };
-        let handle = Octets::new(Vec::from_slice(alloc, reference.handle)?);
-        let index = reference.index;
-        references.push(RawRef { handle, index })?;
-        rest = after;
-    }
-    Ok(references)
-}
-
-fn copied(alloc: Global, raw: &RawValue<'_>) -> Result<Value, AllocError>
+pub(crate) fn copied(alloc: Global, raw: &RawValue<'_>) -> Result<Value, AllocError>
     requires { IsWhole raw.now.refs }
     ensures { IfOk result (λ v. v ≡ value_view raw.now) }
 {
@@ -82,7 +64,10 @@ fn copied(alloc: Global, raw: &RawValue<'_>) -> Result<Value, AllocError>
 }
 
 /// Reads the value at the front, and tells how many octets it takes. Octets may stand behind it.
-/// Memory is asked for only where there is no fault.
+///
+/// Refuses, in this order: Short where the octets do not hold the layout; IndexZero; TypeLong over 255 octets; DataLong over
+/// 32,768; RefsMany over 64; BadAdmin and BadList where data with a meaning is not of its layout or names no handle; Memory,
+/// which is asked for only where there is no other fault. A length or a count that lies is Short, before anything is copied.
 pub fn read_value(alloc: Global, octets: &[u8]) -> Result<(Value, usize), ValueFault>
     ensures begins { IfOk result (λ x. Begins octets.now x.0 (drop x.1 octets.now)) }
     ensures count { IfOk result (λ x. x.1 ≡ length (spelling x.0)) }
@@ -90,10 +75,9 @@ pub fn read_value(alloc: Global, octets: &[u8]) -> Result<(Value, usize), ValueF
     ensures can_be_spelt { IfOk result (λ x. CanBeSpelt x.0) }
     ensures fault { IfErr result (λ e. IsFaultOf octets.now e) }
 {
-    let Some((raw, rest)) = cut_value(octets) else {
+    let Some((cut, rest)) = cut_value(octets) else {
         return Err(ValueFault::Short);
     };
-    check(&raw)?;
-    let value = copied(alloc, &raw)?;
+    let value = cut.read(alloc)?;
     Ok((value, octets.len() - rest.len()))
 }

@@ -1,16 +1,21 @@
-//! Values.
+//! Values of handles.
 
-use crate::lists::RawRefs;
+use crate::permission::{Class, Permission};
+use crate::references::{RawRef, RawRefs};
 use hdl_name::Octets;
+use std::alloc::{AllocError, Global};
 
-/// A reference as it is spelled: its handle may be no name.
-#[derive(Debug, Drop)]
-pub struct RawRef {
-    pub handle: Octets,
-    pub index: u32,
-}
-
-/// A value of a handle.
+/// A value of a handle (RFC 3651, section 3.1). Its layout, in this order and in network order:
+///
+/// ```text
+/// index        4 octets
+/// type         4 octets of length, and that many
+/// data         4 octets of length, and that many
+/// TTL          1 octet of kind and 4 of time, kept and never read
+/// permission   1 octet, see `Permission`
+/// timestamp    8 octets, milliseconds since 1970-01-01 00:00 UTC
+/// references   4 octets of count, and that many of a handle (a string) and 4 octets of index
+/// ```
 #[derive(Debug, Drop)]
 pub struct Value {
     pub index: u32,
@@ -20,4 +25,85 @@ pub struct Value {
     pub perm: u8,
     pub stamp: u64,
     pub refs: RawRefs,
+}
+
+impl Value {
+    ghost use Rattle.std.specs.Prelude.{◌≡◌, IfOk};
+    ghost use Rattle.hdl_value.specs.Permission.{permits, class_of};
+    ghost use Rattle.hdl_value.specs.Refs.{is_admin, is_list, is_secret_key};
+
+    /// Whether the permission octet has this bit.
+    pub fn permits(&self, permission: Permission) -> bool
+        ensures { result ≡ permits self.now permission }
+    {
+        self.perm & permission.bit() != 0
+    }
+
+    /// Who may read the value: anybody, an administrator alone, or nobody.
+    pub fn class(&self) -> Class
+        ensures { result ≡ class_of self.now }
+    {
+        if self.permits(Permission::PublicRead) {
+            Class::Public
+        } else if self.permits(Permission::AdminRead) {
+            Class::Kept
+        } else {
+            Class::Hidden
+        }
+    }
+
+    /// Whether its type is HS_ADMIN.
+    pub fn is_admin(&self) -> bool
+        ensures { result ≡ is_admin self.now }
+    {
+        self.kind.as_slice() == b"HS_ADMIN".as_slice()
+    }
+
+    /// Whether its type is HS_VLIST.
+    pub fn is_list(&self) -> bool
+        ensures { result ≡ is_list self.now }
+    {
+        self.kind.as_slice() == b"HS_VLIST".as_slice()
+    }
+
+    /// Whether its type is HS_SECKEY.
+    pub fn is_secret_key(&self) -> bool
+        ensures { result ≡ is_secret_key self.now }
+    {
+        self.kind.as_slice() == b"HS_SECKEY".as_slice()
+    }
+
+    /// An equal value, in memory of its own.
+    pub fn copy(&self, alloc: Global) -> Result<Value, AllocError>
+        ensures { IfOk result (λ v. v ≡ self.now) }
+    {
+        let kind = Octets::new(Vec::from_slice(alloc, self.kind.as_slice())?);
+        let bytes = Octets::new(Vec::from_slice(alloc, self.bytes.as_slice())?);
+        let refs = RawRefs::new(copies(alloc, self.refs.as_slice())?);
+        Ok(Value {
+            index: self.index,
+            kind,
+            bytes,
+            ttl: self.ttl,
+            perm: self.perm,
+            stamp: self.stamp,
+            refs,
+        })
+    }
+}
+
+ghost use Rattle.std.specs.Prelude.{◌≡◌, IfOk};
+
+fn copies(alloc: Global, refs: &[RawRef]) -> Result<Vec<RawRef>, AllocError>
+    ensures { IfOk result (λ v. v.items ≡ refs.now) }
+{
+    let mut all = Vec::new(alloc);
+    for r in refs {
+        let handle = Octets::new(Vec::from_slice(alloc, r.handle.as_slice())?);
+        all.push(RawRef {
+            handle,
+            index: r.index,
+        })?;
+    }
+    Ok(all)
 }

@@ -1,0 +1,26 @@
+-- The keyed digest of challenge and response (docs/PROTOCOL.md, "Challenge and response").
+use Rattle.std.specs.Prelude.{◌≡◌, ◌≢◌, ℕ, List, ◌∷◌, ◌++◌, length, slice_get, Some}
+use Rattle.sha1.specs.Sha1.{sha1}
+use Rattle.hdl_auth.specs.declared.Verdict.{Verdict}
+use Rattle.hdl_auth.specs.declared.Verdict.TheVariants.{Good, BadForm, Wrong}
+
+-- SHA1(key ++ nonce ++ digest ++ key)
+abbrev pub mac_of : List ℕ → List ℕ → List ℕ → List ℕ
+mac_of key nonce request_digest = sha1 (key ++ nonce ++ request_digest ++ key)
+
+-- the response string that answers a challenge: octet 2 and the keyed digest
+abbrev pub right_response : List ℕ → List ℕ → List ℕ → List ℕ
+right_response key nonce request_digest = 2 ∷ mac_of key nonce request_digest
+
+-- 21 octets that begin with octet 2
+pub record IsResponseForm (response : List ℕ) : Type 0 where
+  pub begins : slice_get response 0 ≡ Some 2
+  pub whole : length response ≡ 21
+
+-- what is said of a response string
+abbrev pub IsVerdict : List ℕ → List ℕ → List ℕ → List ℕ → Verdict → Type 0
+IsVerdict key nonce request_digest response Good =
+    response ≡ right_response key nonce request_digest
+IsVerdict key nonce request_digest response BadForm = ¬ (IsResponseForm response)
+IsVerdict key nonce request_digest response Wrong =
+    IsResponseForm response × (response ≢ right_response key nonce request_digest)

@@ -1,0 +1,40 @@
+//! The response to a challenge (our profile, after RFC 3652, section 3.5).
+
+ghost use Rattle.std.specs.Prelude.{◌≡◌};
+ghost use Rattle.hdl_auth.specs.Mac.{mac_of, IsVerdict};
+
+use crate::Verdict;
+use sha1::Sha1;
+
+/// The octet that names SHA-1 before a digest.
+const SHA1_OCTET: u8 = 2;
+
+/// The keyed digest of a challenge: the SHA-1 of the key, the nonce, the challenged request's digest and the key again.
+pub fn mac(key: &[u8], nonce: &[u8; 16], request_digest: &[u8; 20]) -> [u8; 20]
+    ensures { result ≡ mac_of key.now nonce.now request_digest.now }
+{
+    let mut hasher = Sha1::new();
+    hasher.update(key);
+    hasher.update(nonce);
+    hasher.update(request_digest);
+    hasher.update(key);
+    hasher.finalize()
+}
+
+/// What a response string is to the challenge with this nonce, of a request with this digest, under this key.
+pub fn check(key: &[u8], nonce: &[u8; 16], request_digest: &[u8; 20], response: &[u8]) -> Verdict
+    ensures { IsVerdict key.now nonce.now request_digest.now response.now result }
+{
+    let Some((first, rest)) = response.split_first() else {
+        return Verdict::BadForm;
+    };
+    if *first != SHA1_OCTET || rest.len() != 20 {
+        return Verdict::BadForm;
+    }
+    let wanted = mac(key, nonce, request_digest);
+    if rest == wanted.as_slice() {
+        Verdict::Good
+    } else {
+        Verdict::Wrong
+    }
+}

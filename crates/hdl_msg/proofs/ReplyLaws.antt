@@ -1,0 +1,54 @@
+-- Laws over replies.
+use Rattle.std.proofs.Common.{◌≡◌, ℕ, ◌+◌, ◌-◌, ◌<◌, ◌≤◌, ◌^◌, List, [], ◌∷◌, ◌++◌, length, take, drop, refl, sym, ap, ◌∙◌, append_assoc, arith}
+use Rattle.std.specs.Int.{w32, from_be_bytes}
+use Rattle.std.proofs.lemmas.List.{append-nil, length-append}
+use Rattle.std.proofs.lemmas.Nat.{from_be_bytes-to_be_bytes_4}
+use Rattle.hdl_frame.specs.Envelope.{envelope_octets}
+use Rattle.hdl_value.specs.Spelling.{string}
+use Rattle.hdl_value.proofs.Codecs.{prefix_free}
+use Rattle.hdl_msg.specs.declared.fields.Header.{Header}
+use Rattle.hdl_msg.specs.declared.replies.Reply.{Reply}
+use Rattle.hdl_msg.specs.Message.{number, header_octets, IsNumber}
+use Rattle.hdl_msg.specs.Reading.{message_at}
+use Rattle.hdl_msg.specs.Reply.{digest_octets, content_octets, reply_body, reply_message, reply_envelope, reply_octets}
+use Rattle.hdl_msg.specs.Laws.{response_code_at, ReplyFits}
+use Rattle.hdl_msg.proofs.Codecs.{Message, message_spelling, MessageFits, message_codec}
+use Rattle.hdl_msg.proofs.Written.{length-reply_message}
+
+pub code_at_its_place_lem : (y : Reply) → IsNumber y.header.response_code → response_code_at (reply_octets y) ≡ y.header.response_code
+unfolding reply_octets envelope_octets reply_message header_octets
+code_at_its_place_lem y fits = from_be_bytes-to_be_bytes_4 y.header.response_code fits
+
+session_of : (y : Reply) → IsNumber y.session → from_be_bytes w32 (take 4 (drop 4 (reply_octets y))) ≡ y.session
+unfolding reply_octets envelope_octets
+session_of y fits = from_be_bytes-to_be_bytes_4 y.session fits
+
+request_of : (y : Reply) → IsNumber y.request → from_be_bytes w32 (take 4 (drop 8 (reply_octets y))) ≡ y.request
+unfolding reply_octets envelope_octets
+request_of y fits = from_be_bytes-to_be_bytes_4 y.request fits
+
+message_of : (y : Reply) → drop 20 (reply_octets y) ≡ reply_message y
+unfolding reply_octets envelope_octets
+message_of y = refl
+
+parts : Reply → Message
+parts y = ((y.header, reply_body y), [])
+
+spelt : (y : Reply) → reply_message y ≡ message_spelling (parts y)
+unfolding reply_message parts
+spelt y = sym (append_assoc (header_octets y.header) (string (reply_body y)) (string []))
+
+parts_fit : (y : Reply) → ReplyFits y → MessageFits (parts y)
+unfolding reply_message parts header_octets
+parts_fit y f = ((f.header, omega (arith, f.message, length-append (reply_body y) (string []))), omega arith)
+
+pub one_reply_lem : (y z : Reply) → ReplyFits y → ReplyFits z → reply_octets y ≡ reply_octets z → (y.session ≡ z.session) × (y.request ≡ z.request) × (y.header ≡ z.header) × (reply_body y ≡ reply_body z)
+unfolding parts
+one_reply_lem y z f g e =
+    let at : message_spelling (parts y) ++ [] ≡ message_spelling (parts z) ++ [] = ap (λ (s : List ℕ). s ++ []) (sym (spelt y) ∙ sym (message_of y) ∙ ap (drop 20) e ∙ message_of z ∙ spelt z) in
+    let same = (prefix_free message_at message_spelling MessageFits message_codec (parts y) (parts z) [] [] (parts_fit y f) (parts_fit z g) at).0 in (
+      sym (session_of y f.session) ∙ ap (λ (s : List ℕ). from_be_bytes w32 (take 4 (drop 4 s))) e ∙ session_of z g.session,
+      sym (request_of y f.request) ∙ ap (λ (s : List ℕ). from_be_bytes w32 (take 4 (drop 8 s))) e ∙ request_of z g.request,
+      ap (λ (m : Message). m.0.0) same,
+      ap (λ (m : Message). m.0.1) same,
+    )

@@ -1,0 +1,111 @@
+-- What a table holds, what is read of it, and what each write makes of it.
+use Rattle.std.specs.Prelude.{refl, ℕ, ◌+◌, ◌^◌, ◌-◌, min, List, [], ◌∷◌, Bool, true, not, map, Option, Some, None, Result, Ok, Err, ◌≡◌, ◌≢◌}
+use Rattle.std.specs.List.{AllByRecursion}
+use Rattle.std.specs.FinMap as map
+use Rattle.std.specs.FinSet as set
+use Rattle.std.specs.Coded.{Coded, code_by, coded×, coded_ℕ}
+use Rattle.hdl_name.specs.Name.{canonical, authority}
+use Rattle.hdl_value.specs.contracts.value.Value.{the_row}
+use Rattle.hdl_value.specs.declared.admin.Reference.{Reference}
+use Rattle.hdl_value.specs.declared.value.Value.{Value}
+use Rattle.hdl_value.specs.Place.{Place, handle_cmp, place_cmp, same_handle, handle_code, place_code}
+
+-- a finite set of canonical handles, and a finite map from places to values
+pub record Table : Type 0 where
+  pub handles : set.FinSet handle_cmp
+  pub values : map.FinMap place_cmp Value
+
+abbrev pub no_rows : Table
+no_rows = record { handles = set.empty; values = map.empty }
+
+abbrev pub place : List ℕ → ℕ → Place
+place h i = record { handle = h; index = i }
+
+-- the place that a reference names
+abbrev pub place_of : Reference → Place
+place_of r = place (canonical r.name) r.index
+
+-- ---- what is read
+
+abbrev pub has : Table → List ℕ → Bool
+has t h = set.contains t.handles h
+
+abbrev pub at : Table → Place → Option Value
+at t p = map.get t.values p
+
+-- the values of a handle, by rising index
+abbrev pub values_of : Table → List ℕ → List Value
+values_of t h = map.values (map.retain_keys t.values (λ p. same_handle p.handle h))
+
+-- the handles of an authority, rising by octets
+abbrev pub names_of : Table → List ℕ → List (List ℕ)
+names_of t a = set.items (set.retain t.handles (λ h. same_handle (authority h) a))
+
+-- each value stands at a handle of the set
+abbrev pub IsPlaced : Table → Type 0
+IsPlaced t = (p : Place) (v : Value) → at t p ≡ Some v → has t p.handle ≡ true
+
+-- ---- what is written
+
+-- the values at their indexes of the handle, each over what stood there
+abbrev pub put_values : map.FinMap place_cmp Value → List ℕ → List Value → map.FinMap place_cmp Value
+put_values m h [] = m
+put_values m h (v ∷ vs) = put_values (map.insert m (place h v.index) v) h vs
+
+abbrev pub remove_values : map.FinMap place_cmp Value → List ℕ → List ℕ → map.FinMap place_cmp Value
+remove_values m h [] = m
+remove_values m h (i ∷ is) = remove_values (map.remove m (place h i)) h is
+
+abbrev pub created : Table → List ℕ → List Value → Table
+created t h vs = record { handles = set.insert t.handles h; values = put_values t.values h vs }
+
+-- added, or replaced whole
+abbrev pub with_values : Table → List ℕ → List Value → Table
+with_values t h vs = record t { values = put_values t.values h vs }
+
+abbrev pub without_values : Table → List ℕ → List ℕ → Table
+without_values t h is = record t { values = remove_values t.values h is }
+
+abbrev pub without_handle : Table → List ℕ → Table
+without_handle t h = record { handles = set.remove t.handles h; values = map.retain_keys t.values (λ p. not (same_handle p.handle h)) }
+
+-- ---- what a write asks of the table
+
+-- no two of them are the same
+abbrev pub AreDistinct : List ℕ → Type 0
+AreDistinct [] = Unit {0}
+AreDistinct (i ∷ is) = AllByRecursion (λ j. i ≢ j) is × AreDistinct is
+
+abbrev pub indexes : List Value → List ℕ
+indexes = map (λ v. v.index)
+
+abbrev pub AreAbsent : Table → List ℕ → List ℕ → Type 0
+AreAbsent t h = AllByRecursion (λ i. at t (place h i) ≡ None)
+
+abbrev pub ArePresent : Table → List ℕ → List ℕ → Type 0
+ArePresent t h = AllByRecursion (λ i. at t (place h i) ≢ None)
+
+-- ---- refusals
+
+-- the greatest count
+abbrev pub most : ℕ
+most = 2 ^ 64 - 1
+
+-- a call that is refused raises the count by one, up to the greatest
+abbrev pub counted : {X E : Type 0} → Result X E → ℕ → ℕ
+counted (Ok x) n = n
+counted (Err e) n = min (n + 1) most
+
+-- ---- what a contract sees of an implementation: what it holds, and how many calls were refused
+
+pub record Held : Type 0 where
+  pub table : Table
+  pub refused : ℕ
+
+abbrev pub table_code : Coded Table
+table_code =
+    code_by (set.FinSet handle_cmp × map.FinMap place_cmp Value) (coded× (set.code handle_code) (map.code place_code the_row.coded))
+    (λ t. (t.handles, t.values)) (λ p. record { handles = p.0; values = p.1 }) (λ _. refl)
+
+abbrev pub held_code : Coded Held
+held_code = code_by (Table × ℕ) (coded× table_code coded_ℕ) (λ h. (h.table, h.refused)) (λ p. record { table = p.0; refused = p.1 }) (λ _. refl)

@@ -1,0 +1,94 @@
+//! The contract of a table.
+
+ghost use Rattle.std.specs.Prelude.{◌≡◌, ℕ, map, true, false, IfOk, OnOk, OnErr};
+ghost use Rattle.hdl_name.specs.Name.{canonical};
+ghost use Rattle.hdl_rows.specs.Table.{Table, place_of, has, at, values_of, names_of, created, with_values, without_values, without_handle, AreDistinct, AreAbsent, ArePresent, indexes, counted};
+
+use hdl_name::Name;
+use hdl_value::{Octets, Reference, Value};
+
+/// The store or memory refused. The table is as it was, and its count of refusals rose by one.
+#[derive(Clone, Copy, Debug, PartialEq, Eq, Drop)]
+pub struct Refused;
+
+/// A finite set of canonical handles, and a finite map from places (canonical handle, index) to values.
+///
+/// A name stands for its canonical form in every call: `10.ABC/x` and `10.abc/x` are one handle. Each call is its operation
+/// whole, or is refused and leaves all as it was.
+pub trait Rows {
+    /// What it holds, however it is kept.
+    ghost content: { Self → Table };
+
+    /// How many of its calls were refused, up to the greatest `u64`.
+    ghost refused: { Self → ℕ };
+
+    /// Whether the handle is there.
+    fn exists(&mut self, name: &Name) -> Result<bool, Refused>
+        ensures found { IfOk result (λ is. is ≡ has (content self.old) (canonical name.now)) }
+        ensures unchanged { content self.new ≡ content self.old }
+        ensures count { refused self.new ≡ counted result (refused self.old) };
+
+    /// The value at a reference, if one stands there.
+    fn at(&mut self, reference: &Reference) -> Result<Option<Value>, Refused>
+        ensures found { IfOk result (λ value. value ≡ at (content self.old) (place_of reference.now)) }
+        ensures unchanged { content self.new ≡ content self.old }
+        ensures count { refused self.new ≡ counted result (refused self.old) };
+
+    /// The values of a handle, by rising index; none of an absent one.
+    fn values(&mut self, name: &Name) -> Result<Vec<Value>, Refused>
+        ensures found { IfOk result (λ all. all.items ≡ values_of (content self.old) (canonical name.now)) }
+        ensures unchanged { content self.new ≡ content self.old }
+        ensures count { refused self.new ≡ counted result (refused self.old) };
+
+    /// The canonical handles of an authority in canonical form, rising by octets.
+    fn names(&mut self, authority: &[u8]) -> Result<Vec<Octets>, Refused>
+        ensures found { IfOk result (λ all. all.items ≡ names_of (content self.old) authority.now) }
+        ensures unchanged { content self.new ≡ content self.old }
+        ensures count { refused self.new ≡ counted result (refused self.old) };
+
+    /// Makes an absent handle, with these values.
+    fn create(&mut self, name: &Name, values: &[Value]) -> Result<(), Refused>
+        requires absent { has (content self.old) (canonical name.now) ≡ false }
+        requires distinct { AreDistinct (indexes values.now) }
+        ensures done { OnOk result (content self.new ≡ created (content self.old) (canonical name.now) values.now) }
+        ensures undone { OnErr result (content self.new ≡ content self.old) }
+        ensures count { refused self.new ≡ counted result (refused self.old) };
+
+    /// Puts values at indexes of a handle where none stands.
+    fn add(&mut self, name: &Name, values: &[Value]) -> Result<(), Refused>
+        requires there { has (content self.old) (canonical name.now) ≡ true }
+        requires distinct { AreDistinct (indexes values.now) }
+        requires free { AreAbsent (content self.old) (canonical name.now) (indexes values.now) }
+        ensures done { OnOk result (content self.new ≡ with_values (content self.old) (canonical name.now) values.now) }
+        ensures undone { OnErr result (content self.new ≡ content self.old) }
+        ensures count { refused self.new ≡ counted result (refused self.old) };
+
+    /// Replaces the values at indexes of a handle, each whole.
+    fn modify(&mut self, name: &Name, values: &[Value]) -> Result<(), Refused>
+        requires there { has (content self.old) (canonical name.now) ≡ true }
+        requires distinct { AreDistinct (indexes values.now) }
+        requires taken { ArePresent (content self.old) (canonical name.now) (indexes values.now) }
+        ensures done { OnOk result (content self.new ≡ with_values (content self.old) (canonical name.now) values.now) }
+        ensures undone { OnErr result (content self.new ≡ content self.old) }
+        ensures count { refused self.new ≡ counted result (refused self.old) };
+
+    /// Takes values away from a handle, which stays.
+    fn remove(&mut self, name: &Name, indexes: &[u32]) -> Result<(), Refused>
+        requires there { has (content self.old) (canonical name.now) ≡ true }
+        requires distinct { AreDistinct indexes.now }
+        requires taken { ArePresent (content self.old) (canonical name.now) indexes.now }
+        ensures done { OnOk result (content self.new ≡ without_values (content self.old) (canonical name.now) indexes.now) }
+        ensures undone { OnErr result (content self.new ≡ content self.old) }
+        ensures count { refused self.new ≡ counted result (refused self.old) };
+
+    /// Takes a handle away with all its values.
+    fn delete(&mut self, name: &Name) -> Result<(), Refused>
+        requires there { has (content self.old) (canonical name.now) ≡ true }
+        ensures done { OnOk result (content self.new ≡ without_handle (content self.old) (canonical name.now)) }
+        ensures undone { OnErr result (content self.new ≡ content self.old) }
+        ensures count { refused self.new ≡ counted result (refused self.old) };
+
+    /// How many calls were refused, up to the greatest `u64`.
+    fn refusals(&self) -> u64
+        ensures { result ≡ refused self.now };
+}

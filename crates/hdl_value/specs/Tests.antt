@@ -1,0 +1,14 @@
+-- Soundness as a test that computes. `soundness_decided` says that it is what `IsSound` says.
+use Rattle.std.specs.Prelude.{Bool, true, length, nat_lt, nat_le, ◌&&◌, if◌then◌else◌, is_some}
+use Rattle.hdl_value.specs.declared.value.Value.{Value}
+use Rattle.hdl_value.specs.Fault.{most_kind_octets, most_octets, most_references}
+use Rattle.hdl_value.specs.Refs.{is_admin, is_list, admin_in, list_in}
+
+abbrev pub is_in_limits : Value → Bool
+is_in_limits v = nat_lt 0 v.index && nat_le (length v.kind) most_kind_octets && nat_le (length v.bytes) most_octets && nat_le (length v.refs) most_references
+
+abbrev pub has_good_data : Value → Bool
+has_good_data v = (if is_admin v then is_some (admin_in v.bytes) else true) && (if is_list v then is_some (list_in v.bytes) else true)
+
+abbrev pub is_sound : Value → Bool
+is_sound v = is_in_limits v && has_good_data v

@@ -1,0 +1,84 @@
+//! The fields that layouts are made of: numbers, octets and strings, read from the front and put at the end.
+
+ghost use Rattle.std.specs.Prelude.{◌≡◌, ◌++◌, ◌<◌, ◌^◌, length, OnOk};
+ghost use Rattle.std.specs.Int.{w16, w32, w64, to_be_bytes};
+ghost use Rattle.hdl_value.specs.Spelling.{string};
+ghost use Rattle.hdl_value.specs.Reading.{Reads, number_at, octets_at, octet_at, string_at};
+
+use std::alloc::AllocError;
+
+/// The number in the first two octets, and what follows. None where there are fewer.
+pub fn u16_at(octets: &[u8]) -> Option<(u16, &[u8])>
+    ensures { Reads (λ x. (x.0, x.1.now)) result (number_at w16 octets.now) }
+{
+    let (front, rest) = octets.split_first_chunk::<2>()?;
+    Some((u16::from_be_bytes(*front), rest))
+}
+
+/// The number in the first four octets, and what follows. None where there are fewer.
+pub fn u32_at(octets: &[u8]) -> Option<(u32, &[u8])>
+    ensures { Reads (λ x. (x.0, x.1.now)) result (number_at w32 octets.now) }
+{
+    let (front, rest) = octets.split_first_chunk::<4>()?;
+    Some((u32::from_be_bytes(*front), rest))
+}
+
+/// The number in the first eight octets, and what follows.
+pub(crate) fn u64_at(octets: &[u8]) -> Option<(u64, &[u8])>
+    ensures { Reads (λ x. (x.0, x.1.now)) result (number_at w64 octets.now) }
+{
+    let (front, rest) = octets.split_first_chunk::<8>()?;
+    Some((u64::from_be_bytes(*front), rest))
+}
+
+fn octets_at(octets: &[u8], count: u32) -> Option<(&[u8], &[u8])>
+    ensures { Reads (λ x. (x.0.now, x.1.now)) result (octets_at count octets.now) }
+{
+    octets.split_at_checked(count as usize)
+}
+
+/// The first octet, and what follows. None where there is none.
+pub fn octet_at(octets: &[u8]) -> Option<(u8, &[u8])>
+    ensures { Reads (λ x. (x.0, x.1.now)) result (octet_at octets.now) }
+{
+    let (first, rest) = octets.split_first()?;
+    Some((*first, rest))
+}
+
+/// The string at the front, four octets of length and that many, and what follows. None where the octets do not hold it.
+#[tactic(auto, unfolding(crate::specs::Reading::string_at))]
+pub fn string_at(octets: &[u8]) -> Option<(&[u8], &[u8])>
+    ensures { Reads (λ x. (x.0.now, x.1.now)) result (string_at octets.now) }
+{
+    let (count, rest) = u32_at(octets)?;
+    octets_at(rest, count)
+}
+
+/// Puts the two octets of the number at the end.
+pub fn put_u16(out: &mut Vec<u8>, number: u16) -> Result<(), AllocError>
+    ensures { OnOk result (out.new.items ≡ out.old.items ++ to_be_bytes w16 number) }
+{
+    out.extend_from_slice(&number.to_be_bytes())
+}
+
+/// Puts the four octets of the number at the end.
+pub fn put_u32(out: &mut Vec<u8>, number: u32) -> Result<(), AllocError>
+    ensures { OnOk result (out.new.items ≡ out.old.items ++ to_be_bytes w32 number) }
+{
+    out.extend_from_slice(&number.to_be_bytes())
+}
+
+pub(crate) fn put_u64(out: &mut Vec<u8>, number: u64) -> Result<(), AllocError>
+    ensures { OnOk result (out.new.items ≡ out.old.items ++ to_be_bytes w64 number) }
+{
+    out.extend_from_slice(&number.to_be_bytes())
+}
+
+/// Puts the string at the end: its length in four octets, and its octets. After a refusal the length may stand there.
+pub fn put_string(out: &mut Vec<u8>, octets: &[u8]) -> Result<(), AllocError>
+    requires { length octets.now < 2 ^ 32 }
+    ensures { OnOk result (out.new.items ≡ out.old.items ++ string octets.now) }
+{
+    put_u32(out, octets.len() as u32)?;
+    out.extend_from_slice(octets)
+}

@@ -1,0 +1,50 @@
+"""Prints the crates that differ from origin/main (or from the first commit, where there is none), and all crates
+that stand on them, lowest first."""
+
+import re
+import subprocess
+
+
+def git(*words):
+    done = subprocess.run(["git", *words], capture_output=True, text=True)
+    return done.stdout.split("\n") if done.returncode == 0 else None
+
+
+def dependencies():
+    stands_on = {}
+    for line in open("crates.txt", encoding="utf-8"):
+        line = line.split("#")[0].strip()
+        if line:
+            name, _, below = line.partition(":")
+            stands_on[name.split()[0]] = below.split()
+    return stands_on
+
+
+def changed():
+    base = git("rev-parse", "-q", "--verify", "origin/main") or git("rev-list", "--max-parents=0", "HEAD") or [""]
+    files = (git("diff", "--name-only", base[0]) or []) + (git("ls-files", "--others", "--exclude-standard") or [])
+    found = (re.match(r"crates/([^/]+)/", name) for name in files)
+    return {match.group(1) for match in found if match}
+
+
+def main():
+    stands_on = dependencies()
+    touched = changed() & set(stands_on)
+    order = []
+
+    def visit(name):
+        if name in order:
+            return
+        for below in stands_on[name]:
+            if below in stands_on:
+                visit(below)
+        if any(below in touched for below in stands_on[name]):
+            touched.add(name)
+        order.append(name)
+
+    for name in stands_on:
+        visit(name)
+    print(" ".join(name for name in order if name in touched))
+
+
+main()
