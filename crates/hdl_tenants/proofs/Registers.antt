@@ -8,7 +8,7 @@ use Rattle.std.proofs.lemmas.List.Sums.{sum_by-append}
 use Rattle.std.proofs.lemmas.Slice.Eq.{bytes_eq-Decides}
 use Rattle.hdl_name.specs.Name.{IsHandle, canonical, prefix}
 use Rattle.hdl_value.specs.declared.value.Value.{Value}
-use Rattle.hdl_value.specs.declared.value.RawRef.{RawRef}
+use Rattle.hdl_value.specs.declared.references.RawRef.{RawRef}
 use Rattle.hdl_value.specs.Spelling.{Fits, RefFits, CanBeSpelt}
 use Rattle.hdl_value.specs.Fault.{IsSound}
 use Rattle.hdl_tenants.specs.Register.{Publisher, Hosting, Row, Register, empty, names_of, prefixes_of, lane_count, most_lanes, place, value_count, most_values, AreDistinct, IsPublisher, IsPrefix, IsHosting, IsOpening, IsRegister}
@@ -62,11 +62,11 @@ hosted_added r prefix name is sound allowed =
 
 -- what fits can be spelled
 pub spelt_from_fits : (v : Value) → Fits v → CanBeSpelt v
-spelt_from_fits v fits = record { kind = fits.kind; bytes = fits.bytes; count = fits.refs.count; handles = handles v.refs fits.refs.each }
+spelt_from_fits v fits = record { kind = fits.kind.short; bytes = fits.bytes.short; count = fits.refs.count; handles = handles v.refs fits.refs.each }
   where
     handles : (rs : List RawRef) → AllByRecursion RefFits rs → AllByRecursion (λ r. length r.handle < 2 ^ 32) rs
     handles [] each = tt
-    handles (r ∷ rs) each = (each.0.handle, handles rs each.1)
+    handles (r ∷ rs) each = (each.0.handle.short, handles rs each.1)
 
 pub opened_added : (r : Register) (handle : List ℕ) (v : Value) → IsRegister r → IsHandle handle → IsSound v → CanBeSpelt v → IsKnownRow r (handle, v) → IsRegister (added r (opened handle v))
 opened_added r handle v is named sound spelt known =
