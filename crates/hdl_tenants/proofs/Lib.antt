@@ -3,3 +3,7 @@ pub mod Fields
 pub mod Maps
 pub mod Distinct
 pub mod Lanes
+pub mod Registers
+pub mod Sayings
+pub mod Places
+pub mod Opened

@@ -2,3 +2,4 @@ pub mod Register
 pub mod Lines
 pub mod Text
 pub mod Kept
+pub mod Steps

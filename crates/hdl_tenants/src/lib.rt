@@ -6,6 +6,8 @@ mod fault;
 mod lines;
 mod prefixes;
 mod publishers;
+mod text;
 
 pub use decimal::decimal_u16;
 pub use fault::TenantFault;
+pub use text::Tenants;

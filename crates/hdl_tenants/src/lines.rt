@@ -2,16 +2,21 @@
 
 ghost use Rattle.std.specs.Prelude.{◌≡◌, ◌≢◌, ◌↔◌, ℕ, List, [], ◌∷◌, codes, map, IsTrue, IfOk, IfErr, MatchOption};
 ghost use Rattle.std.specs.Str.{str_to_ascii_lowercase};
+ghost use Rattle.hdl_name.specs.Name.{IsHandle};
 ghost use Rattle.hdl_value.specs.declared.value.Value.{Value};
 ghost use Rattle.hdl_tenants.specs.Register as register;
 ghost use Rattle.hdl_tenants.specs.Register.{IsPublisherName, IsPrefix};
+ghost use Rattle.hdl_tenants.specs.Lines as lines;
 ghost use Rattle.hdl_tenants.specs.Lines.{IsPublisherLine, IsPrefixLine, IsValueText};
+ghost use Rattle.hdl_tenants.specs.Text.{IsSkipped};
+ghost use Rattle.hdl_tenants.specs.Steps.{IsNameFault, IsDigitsFault};
 
 use crate::decimal::decimal_u16;
-use hdl_name::is_authority;
+use crate::fault::TenantFault;
+use hdl_name::{Name, is_authority, is_name};
 use hdl_value::{Value, ValueFault, read_value};
 use hex::FromHexError;
-use std::alloc::Global;
+use std::alloc::{AllocError, Global};
 
 /// The most lanes of a publisher, and of all publishers together.
 pub const MOST_LANES: u16 = 64;
@@ -38,13 +43,6 @@ pub struct PrefixLine<'a> {
 pub struct ValueLine<'a> {
     pub handle: &'a str,
     pub digits: &'a str,
-}
-
-/// Why a value's digits give none.
-#[derive(Clone, Copy, Debug, PartialEq, Eq)]
-pub enum TextFault {
-    Bad,
-    Memory,
 }
 
 fn is_publisher_name(name: &str) -> bool
@@ -120,32 +118,64 @@ pub fn value_of<'a>(fields: &[&'a str]) -> Option<ValueLine<'a>>
     Some(ValueLine { handle, digits })
 }
 
+/// The name of the handle.
+pub fn name_of(alloc: Global, handle: &str) -> Result<Name, TenantFault>
+    ensures name { IfOk result (λ name. name ≡ handle.now) }
+    ensures named { IfOk result (λ _. IsHandle handle.now) }
+    ensures fault { IfErr result (λ e. IsNameFault handle.now e) }
+{
+    if !is_name(handle.as_bytes()) {
+        return Err(TenantFault::BadLine);
+    }
+    let Ok(name) = Name::read(alloc, handle.as_bytes()) else {
+        return Err(TenantFault::Memory);
+    };
+    Ok(name)
+}
+
 /// The one value that the digits spell, with nothing behind it.
-pub fn value_text(alloc: Global, text: &str) -> Result<Value, TextFault>
+pub fn value_text(alloc: Global, text: &str) -> Result<Value, TenantFault>
     ensures value { IfOk result (λ v. IsValueText text.now v) }
-    ensures bad { IfErr result (λ e. e ≢ TextFault.Memory → (v : Value) → IsValueText text.now v → ⊥) }
+    ensures fault { IfErr result (λ e. IsDigitsFault text.now e) }
 {
     let octets = match hex::decode(alloc, text) {
         Ok(octets) => octets,
         Err(fault) => {
             if fault == FromHexError::OutOfMemory {
-                return Err(TextFault::Memory);
+                return Err(TenantFault::Memory);
             }
-            return Err(TextFault::Bad);
+            return Err(TenantFault::BadLine);
         }
     };
     match read_value(alloc, &octets) {
         Ok((value, count)) => {
             if count != octets.len() {
-                return Err(TextFault::Bad);
+                return Err(TenantFault::BadLine);
             }
             Ok(value)
         }
         Err(fault) => {
             if fault == ValueFault::Memory {
-                return Err(TextFault::Memory);
+                return Err(TenantFault::Memory);
             }
-            Err(TextFault::Bad)
+            Err(TenantFault::BadLine)
         }
+    }
+}
+
+/// The fields of a line: what stands between its single spaces.
+pub fn fields_of<'a>(alloc: Global, line: &'a str) -> Result<Vec<&'a str>, AllocError>
+    ensures { IfOk result (λ fields. map (λ field. field.now) fields.items ≡ lines.fields_of line.now) }
+{
+    line.split(' ').collect(alloc)
+}
+
+/// Whether the line is empty or begins with `#`.
+pub fn is_skipped(line: &str) -> bool
+    ensures { IsTrue result ↔ IsSkipped line.now }
+{
+    match line.as_bytes().first() {
+        Some(octet) => *octet == b'#',
+        None => true,
     }
 }

@@ -1,0 +1,201 @@
+//! A tenants text, line after line.
+
+ghost use Rattle.std.specs.Prelude.{◌≡◌, ◌<◌, ◌↔◌, ℕ, List, Contains, IsTrue, IfOk, IfErr, MatchOption, OnOk, map, slice_get};
+ghost use Rattle.std.specs.Str.Lines.{lines};
+ghost use Rattle.hdl_name.specs.Name.{prefix};
+ghost use Rattle.hdl_tenants.specs.Register as register;
+ghost use Rattle.hdl_tenants.specs.Register.{empty, place, value_count, most_values, IsPublisher, IsPrefix, IsRegister};
+ghost use Rattle.hdl_tenants.specs.Text.{publisher, hosted, added, IsAllowed, IsPublisherFault, HasFault, Adds, IsAccepted, IsFirstFault};
+ghost use Rattle.hdl_tenants.specs.Steps.{IsHostedFault, IsOpenedFault, Opens};
+ghost use Rattle.hdl_tenants.specs.Kept.{publisher_on};
+
+use crate::fault::TenantFault;
+use crate::lines::{
+    PrefixLine, PublisherLine, ValueLine, fields_of, is_skipped, name_of, prefix_of, publisher_of,
+    value_of, value_text,
+};
+use crate::prefixes::Prefixes;
+use crate::publishers::Publishers;
+use hdl_name::Name;
+use hdl_value::Value;
+use std::alloc::Global;
+use std::marker::Model;
+
+/// The most values of a handle.
+const MOST_VALUES: usize = 1024;
+
+/// Whether one of the rows has this canonical handle and this index.
+fn has_place(rows: &[(Name, Value)], handle: &[u8], index: u32) -> bool
+    ensures { IsTrue result ↔ Contains (map place rows.now) (handle.now, index) }
+{
+    rows.iter()
+        .any(|row| row.1.index == index && row.0.canon() == handle)
+}
+
+/// How many of the rows have this canonical handle.
+fn count_values(rows: &[(Name, Value)], handle: &[u8]) -> usize
+    ensures { result ≡ value_count handle.now rows.now }
+{
+    rows.iter().filter(|row| row.0.canon() == handle).count()
+}
+
+/// What a tenants text says: publishers with their lanes and ports, the prefixes that are hosted for them, and the values to
+/// open with.
+#[derive(Drop)]
+pub struct Tenants {
+    publishers: Publishers,
+    prefixes: Prefixes,
+    opening: Vec<(Name, Value)>,
+}
+
+impl Model for Tenants {
+    ghost use Rattle.hdl_tenants.specs.Register.{Register, IsRegister};
+
+    ghost Value = { Register };
+
+    ghost view = { λ a. record { publishers = a.publishers; hostings = a.prefixes; opening = a.opening.items } };
+
+    ghost invariant = { λ a. IsRegister (record { publishers = a.publishers; hostings = a.prefixes; opening = a.opening.items }) };
+}
+
+impl Tenants {
+    fn new(alloc: Global) -> Tenants
+        ensures { result ≡ empty }
+    {
+        Tenants {
+            publishers: Publishers::new(alloc),
+            prefixes: Prefixes::new(alloc),
+            opening: Vec::new(alloc),
+        }
+    }
+
+    fn add_publisher(&mut self, alloc: Global, line: &PublisherLine<'_>) -> Result<(), TenantFault>
+        requires { IsPublisher (publisher_on line.now) }
+        ensures allowed { OnOk result (IsAllowed self.old (publisher (publisher_on line.now))) }
+        ensures added { OnOk result (self.new ≡ added self.old (publisher (publisher_on line.now))) }
+        ensures fault { IfErr result (λ e. IsPublisherFault self.old.publishers (publisher_on line.now) e) }
+    {
+        self.publishers.add(alloc, line)?;
+        Ok(())
+    }
+
+    fn add_prefix(&mut self, alloc: Global, line: &PrefixLine<'_>) -> Result<(), TenantFault>
+        requires { IsPrefix line.now.prefix.now }
+        ensures allowed { OnOk result (IsAllowed self.old (hosted line.now.prefix.now line.now.name.now)) }
+        ensures added { OnOk result (self.new ≡ added self.old (hosted line.now.prefix.now line.now.name.now)) }
+        ensures fault { IfErr result (λ e. IsHostedFault self.old line.now.prefix.now line.now.name.now e) }
+    {
+        let Some(publisher) = self.publishers.place(line.name) else {
+            return Err(TenantFault::BadLine);
+        };
+        self.prefixes.add(alloc, line.prefix.as_bytes(), publisher)?;
+        Ok(())
+    }
+
+    fn add_value(&mut self, alloc: Global, line: &ValueLine<'_>) -> Result<(), TenantFault>
+        ensures ok { OnOk result (Opens self.old line.now.handle.now line.now.digits.now self.new) }
+        ensures fault { IfErr result (λ e. IsOpenedFault self.old line.now.handle.now line.now.digits.now e) }
+    {
+        let name = name_of(alloc, line.handle)?;
+        if !self.prefixes.contains(name.prefix()) {
+            return Err(TenantFault::BadLine);
+        }
+        let value = value_text(alloc, line.digits)?;
+        if has_place(&self.opening, name.canon(), value.index) {
+            return Err(TenantFault::BadLine);
+        }
+        if count_values(&self.opening, name.canon()) >= MOST_VALUES {
+            return Err(TenantFault::BadLine);
+        }
+        let Ok(()) = self.opening.push((name, value)) else {
+            return Err(TenantFault::Memory);
+        };
+        Ok(())
+    }
+
+    fn add_line(&mut self, alloc: Global, line: &str) -> Result<(), TenantFault>
+        ensures ok { OnOk result (Adds self.old line.now self.new) }
+        ensures fault { IfErr result (λ e. HasFault self.old line.now e) }
+    {
+        if is_skipped(line) {
+            return Ok(());
+        }
+        let Ok(fields) = fields_of(alloc, line) else {
+            return Err(TenantFault::Memory);
+        };
+        if let Some(line) = publisher_of(&fields) {
+            return self.add_publisher(alloc, &line);
+        }
+        if let Some(line) = prefix_of(&fields) {
+            return self.add_prefix(alloc, &line);
+        }
+        if let Some(line) = value_of(&fields) {
+            return self.add_value(alloc, &line);
+        }
+        Err(TenantFault::BadLine)
+    }
+
+    /// Reads a tenants text, whose lines end by LF (a CR before it is dropped), which the last may lack. Empty lines and those
+    /// that begin with `#` are skipped, and fields are divided by single spaces. The others are
+    ///
+    /// ```text
+    /// publisher NAME LANES PORT    a publisher: 1 to 32 of a-z, 0-9 and -; 2 to 64 lanes; a port from 1 on
+    /// prefix PREFIX NAME           a naming authority in canonical form, other than 0.na, and a publisher named before
+    /// value HANDLE HEX             one value, of a handle whose prefix stands before
+    /// ```
+    ///
+    /// Any other text is refused with the number of its first faulty line, counted from 1 over all lines, and the fault there.
+    pub fn read(alloc: Global, text: &str) -> Result<Tenants, (usize, TenantFault)>
+        ensures accepted { IfOk result (λ tenants. IsAccepted (lines text.now) tenants) }
+        ensures kept { IfOk result IsRegister }
+        ensures refused { IfErr result (λ e. IsFirstFault (lines text.now) e.0 e.1) }
+    {
+        let mut tenants = Tenants::new(alloc);
+        let mut number = 0usize;
+        for line in text.lines() {
+            number += 1;
+            if let Err(fault) = tenants.add_line(alloc, line) {
+                return Err((number, fault));
+            }
+        }
+        Ok(tenants)
+    }
+
+    /// How many lanes there are in all: at most 64, numbered from 0 in the text's order.
+    pub fn lanes(&self) -> u16
+        ensures { result ≡ register.lane_count self.now.publishers }
+    {
+        self.publishers.lanes()
+    }
+
+    /// The place of the publisher whose lane this is.
+    pub fn owner(&self, lane: u16) -> Option<usize>
+        ensures { result ≡ register.owner self.now lane }
+    {
+        self.publishers.owner(lane)
+    }
+
+    /// Whether the name's prefix is hosted for the publisher at this place.
+    pub fn hosts(&self, publisher: usize, name: &Name) -> bool
+        ensures { result ≡ register.hosts self.now publisher (prefix name.now) }
+    {
+        self.prefixes.hosts(publisher, name.prefix())
+    }
+
+    /// Name, lanes and port of the publisher at this place. Its lanes follow those of the publishers before it, and the last of
+    /// them is the lane of its datagrams.
+    pub fn publisher(&self, place: usize) -> Option<(&str, u16, u16)>
+        ensures { MatchOption result (slice_get self.now.publishers place ≡ None)
+            (λ p. slice_get self.now.publishers place ≡ Some (record { name = p.0.now; lanes = p.1; port = p.2 })) }
+    {
+        self.publishers.get(place)
+    }
+
+    /// The names and values to open with, in the text's order.
+    pub fn opening(&self) -> &[(Name, Value)]
+        ensures rows { result.now ≡ self.now.opening }
+        ensures kept { IsRegister self.now }
+    {
+        &self.opening
+    }
+}
