@@ -6,7 +6,8 @@ use Rattle.std.specs.Char.{is_ascii_digit, is_ascii_lowercase}
 use Rattle.std.specs.Str.{bytes_eq, str_to_ascii_lowercase}
 use Rattle.hdl_name.specs.Name.{IsHandle, IsAuthority, canonical, prefix}
 use Rattle.hdl_value.specs.declared.value.Value.{Value}
-use Rattle.hdl_value.specs.Spelling.{CanBeSpelt}
+use Rattle.hdl_value.specs.Place.{Place}
+use Rattle.hdl_value.specs.Spelling.{Fits, CanBeSpelt}
 use Rattle.hdl_value.specs.Fault.{IsSound}
 
 pub record Publisher : Type 0 where
@@ -63,9 +64,9 @@ names_of publishers = map (λ p. p.name) publishers
 abbrev pub prefixes_of : List Hosting → List (List ℕ)
 prefixes_of hostings = map (λ h. h.prefix) hostings
 
--- the canonical handle and the index of a row
-abbrev pub place : Row → List ℕ × ℕ
-place row = (canonical row.0, row.1.index)
+-- where a row stands: its canonical handle and its value's index
+abbrev pub place : Row → Place
+place row = record { handle = canonical row.0; index = row.1.index }
 
 -- how many values the handle with this canonical form has
 abbrev pub value_count : List ℕ → List Row → ℕ
@@ -111,6 +112,7 @@ pub record IsOpening (hostings : List Hosting) (row : Row) : Type 0 where
   pub handle : IsHandle row.0
   pub hosted : Contains (prefixes_of hostings) (prefix row.0)
   pub sound : IsSound row.1
+  pub fits : Fits row.1
   pub spelt : CanBeSpelt row.1
 
 -- what every text that is accepted says

@@ -26,7 +26,7 @@ const MOST_VALUES: usize = 1024;
 
 /// Whether one of the rows has this canonical handle and this index.
 fn has_place(rows: &[(Name, Value)], handle: &[u8], index: u32) -> bool
-    ensures { IsTrue result ↔ Contains (map place rows.now) (handle.now, index) }
+    ensures { IsTrue result ↔ Contains (map place rows.now) (record { handle = handle.now; index = index }) }
 {
     rows.iter()
         .any(|row| row.1.index == index && row.0.canon() == handle)
