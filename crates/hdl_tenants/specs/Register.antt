@@ -1,5 +1,5 @@
 -- What a tenants text says as a whole: publishers, hosted prefixes and opening rows, each in the text's order.
-use Rattle.std.specs.Prelude.{◌≡◌, ◌≢◌, ◌≤◌, ◌<◌, ◌^◌, ◌==◌, ◌&&◌, ◌||◌, ◌-◌, ◌+◌, ℕ, Bool, IsTrue, List, [], ◌∷◌, length, codes, map, sum_by, count_by, All, AllPairs, Contains, Option, Some, None, nat_lt, if◌then◌else◌}
+use Rattle.std.specs.Prelude.{◌≡◌, ◌≢◌, ◌≤◌, ◌<◌, ◌^◌, ◌==◌, ◌&&◌, ◌||◌, ◌-◌, ◌+◌, ℕ, Bool, IsTrue, List, [], ◌∷◌, length, take, codes, map, sum_by, count_by, All, AllPairs, Contains, Option, Some, None, nat_lt, if◌then◌else◌}
 use Rattle.std.specs.List.{AllPass, list_any}
 use Rattle.std.specs.Option.{option_map}
 use Rattle.std.specs.Char.{is_ascii_digit, is_ascii_lowercase}
@@ -48,6 +48,10 @@ owner_among (p ∷ publishers) lane = if nat_lt lane p.lanes then Some 0 else op
 
 abbrev pub owner : Register → ℕ → Option ℕ
 owner r lane = owner_among r.publishers lane
+
+-- the first lane of the publisher at this place, behind the lanes of those before it
+abbrev pub first_lane : List Publisher → ℕ → ℕ
+first_lane publishers place = lane_count (take place publishers)
 
 -- whether this prefix is hosted for the publisher at this place
 abbrev pub hosts_among : List Hosting → ℕ → List ℕ → Bool
