@@ -1,6 +1,6 @@
 //! What is tested before the table is looked at.
 
-ghost use Rattle.std.specs.Prelude.{◌≡◌, option_map, IfOk, IfSome};
+ghost use Rattle.std.specs.Prelude.{◌≡◌, ◌≤◌, length, option_map, IfOk, IfSome};
 ghost use Rattle.hdl_name.specs.Name.{canonical, sent_prefix};
 ghost use Rattle.hdl_name.specs.Tests.{is_handle};
 ghost use Rattle.hdl_tenants.specs.Register.{hosts};
@@ -47,8 +47,10 @@ fn read_name(alloc: Global, octets: &[u8]) -> Result<Option<Name>, Refused>
 }
 
 fn sent_prefix(alloc: Global, name: &Name) -> Result<Octets, AllocError>
-    ensures { IfOk result (λ octets. octets ≡ sent_prefix name.now) }
+    ensures octets { IfOk result (λ octets. octets ≡ sent_prefix name.now) }
+    ensures short { IfOk result (λ octets. length octets ≤ 2048) }
 {
+    let _ = name.sent();
     Ok(Octets::new(Vec::from_slice(alloc, name.prefix_sent())?))
 }
 
@@ -63,7 +65,7 @@ fn failed(code: ResponseCode, content: ReplyContent) -> Admitted
 }
 
 /// Tests the request before the table is looked at, and reads its name.
-#[tactic(auto, unfolding(crate::specs::Decisions::first, crate::specs::Decisions::refusal, crate::specs::Decisions::refused))]
+#[tactic(auto, unfolding(crate::specs::Decisions::first, crate::specs::Decisions::refusal, crate::specs::Decisions::refused), using(crate::proofs::Lengths::empty_fits, crate::proofs::Lengths::referral_fits))]
 pub(crate) fn admit(
     alloc: Global,
     tenants: &Tenants,

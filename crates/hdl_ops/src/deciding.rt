@@ -48,6 +48,7 @@ pub fn decide<R: Rows>(
     requires signed { request.now.signed.now ≡ signed_octets (content_of request.now) }
     ensures unchanged { R.content rows.new ≡ R.content rows.old }
     ensures decided { IfOk result (λ d. Decides (hosts tenants.now publisher) (R.content rows.old) (content_of request.now) (decision_of d)) }
+    ensures carried { IfOk result (λ d. IsTrue (fits (content_of request.now) d.content)) }
     ensures answered { OnOk result (R.refused rows.new ≡ R.refused rows.old) }
     ensures refused { OnErr result ((R.refused rows.new ≡ R.refused rows.old) ⊎ (R.refused rows.new ≡ min (R.refused rows.old + 1) most)) }
 {

@@ -1,12 +1,13 @@
 //! From the code of a table of decision to the whole decision.
 
-ghost use Rattle.std.specs.Prelude.{◌≡◌, ◌&&◌, filter, IfOk};
+ghost use Rattle.std.specs.Prelude.{◌≡◌, ◌&&◌, filter, IfOk, IsTrue};
 ghost use Rattle.hdl_value.specs.Permission.{is_public};
 ghost use Rattle.hdl_msg.specs.Bodies.{operation_of, content_of};
 ghost use Rattle.hdl_msg.specs.Codes.{response_number};
 ghost use Rattle.hdl_msg.specs.Message.{signed_octets};
 ghost use Rattle.hdl_ops.specs.Decisions as decisions;
 ghost use Rattle.hdl_ops.specs.Decisions.{asks, carried};
+ghost use Rattle.hdl_ops.specs.Replies.{fits};
 ghost use Rattle.hdl_ops.specs.Views.{decision_of, sight_of};
 
 use crate::anyone::{asks, is_public};
@@ -44,7 +45,7 @@ fn failure(code: ResponseCode) -> Decision
 }
 
 /// The whole decision, from the code of the table.
-#[tactic(auto, unfolding(crate::specs::Decisions::decision))]
+#[tactic(auto, unfolding(crate::specs::Decisions::decision), using(crate::proofs::Lengths::empty_fits))]
 pub(crate) fn settle(
     alloc: Global,
     request: &Request<'_>,
@@ -52,7 +53,8 @@ pub(crate) fn settle(
     code: ResponseCode,
 ) -> Result<Decision, Refused>
     requires signed { request.now.signed.now ≡ signed_octets (content_of request.now) }
-    ensures { IfOk result (λ d. decision_of d ≡ decisions.decision (sight_of sight) (content_of request.now) (response_number code)) }
+    ensures carried { IfOk result (λ d. IsTrue (fits (content_of request.now) d.content)) }
+    ensures decided { IfOk result (λ d. decision_of d ≡ decisions.decision (sight_of sight) (content_of request.now) (response_number code)) }
 {
     if code != ResponseCode::Success {
         return Ok(failure(code));
