@@ -1,5 +1,5 @@
 -- Two runs in a row are one.
-use Rattle.std.proofs.Common.{◌≡◌, List, [], ◌∷◌, ◌++◌, map, refl, sym, ap, ◌∙◌, subst}
+use Rattle.std.proofs.Common.{◌≡◌, List, [], ◌∷◌, ◌++◌, refl, sym, ap, ◌∙◌, subst}
 use Rattle.std.proofs.lemmas.List.{map-append}
 use Rattle.hdl_laws.specs.Worlds.{World, Turn}
 use Rattle.hdl_laws.specs.Runs.{IsRun, last}

@@ -18,7 +18,10 @@ pub enum What {
         bytes: Octets,
     },
     /// A faulty envelope stands next in the stream; these are the two numbers at their places in it.
-    Bad { session: u32, request: u32 },
+    Bad {
+        session: u32,
+        request: u32,
+    },
     /// The connection ends.
     Close,
 }
