@@ -35,7 +35,7 @@ pub content_fits : (r : Content) (content : ReplyContent) (reply : Reply) (n : �
 unfolding fits reply_to
 content_fits r content reply n is len le =
     let short : length (reply_message (reply_to 0 0 r 0 content)) ≤ most_octets =
-        subst (λ (y : Reply). length (reply_message y) ≤ most_octets) is (omega (arith, len, le)) in
+    subst (λ (y : Reply). length (reply_message y) ≤ most_octets) is (omega (arith, len, le)) in
     ap (λ (y : Reply). Some y.content) is ∙ ap (λ (b : Bool). cond b (Some content) None) (sym (le-leb (length (reply_message (reply_to 0 0 r 0 content))) most_octets short))
 
 -- ---- what always fits

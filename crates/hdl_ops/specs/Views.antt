@@ -18,5 +18,5 @@ sight_of s = record { there = s.there; values = s.values.items }
 
 -- what comes of the tests before the table is looked at
 abbrev pub IsAdmitted : (List ℕ → Bool) → Content → Admitted → Type 0
-IsAdmitted hosts r (admitted.Refused x) = (d.refusal hosts r ≡ Some (response_number x.code)) × (decision_of x ≡ d.refused r (response_number x.code)) × IsTrue (fits r x.content)
+IsAdmitted hosts r (admitted.Refused x) = (d.refusal hosts r ≡ Some (response_number x.code)) × (decision_of x ≡ d.refused r (response_number x.code)) × IsTrue (fits r x.content) × (x.change ≡ None)
 IsAdmitted hosts r (admitted.Passed name) = (d.refusal hosts r ≡ None) × (name ≡ named r.operation)

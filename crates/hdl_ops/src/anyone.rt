@@ -93,7 +93,9 @@ fn any_left(request: &Request<'_>, values: &[Value]) -> bool
 fn any_kept_left(request: &Request<'_>, values: &[Value]) -> bool
     ensures { result ≡ list_any (λ v. is_left (content_of request.now) v && is_kept v) values.now }
 {
-    values.iter().any(|value| is_left(request, value) && is_kept(value))
+    values
+        .iter()
+        .any(|value| is_left(request, value) && is_kept(value))
 }
 
 /// The code of the table of decision for anyone.

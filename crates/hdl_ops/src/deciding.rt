@@ -1,6 +1,6 @@
 //! Decisions.
 
-ghost use Rattle.std.specs.Prelude.{◌≡◌, ◌+◌, ◌⊎◌, min, IfOk, OnErr, OnOk, IsTrue};
+ghost use Rattle.std.specs.Prelude.{◌≡◌, ◌+◌, ◌⊎◌, min, IfOk, IfSome, OnErr, OnOk, IsTrue};
 ghost use Rattle.hdl_tenants.specs.Register.{hosts};
 ghost use Rattle.hdl_msg.specs.Bodies.{content_of};
 ghost use Rattle.hdl_msg.specs.Message.{signed_octets};
@@ -8,6 +8,7 @@ ghost use Rattle.hdl_rows.specs.Table.{most};
 ghost use Rattle.hdl_ops.specs.Decisions.{sight, Decides};
 ghost use Rattle.hdl_ops.specs.Replies.{fits};
 ghost use Rattle.hdl_ops.specs.Requests.{named};
+ghost use Rattle.hdl_ops.specs.Tables.{CanApply};
 ghost use Rattle.hdl_ops.specs.Views.{decision_of, sight_of};
 
 use crate::admit::{Admitted, admit};
@@ -37,7 +38,7 @@ fn look<R: Rows>(rows: &mut R, request: &Request<'_>, name: &Name) -> Result<Sig
 /// The decision about a request on a lane of the publisher. The table stays as it is.
 ///
 /// Refused: the table refused a look, and its count rose by one; or memory for the decision was refused, and the count is as
-/// it was. What is carried fits into the message of a reply.
+/// it was. What is carried fits into the message of a reply, and a change meets the conditions of its write.
 pub fn decide<R: Rows>(
     alloc: Global,
     tenants: &Tenants,
@@ -49,6 +50,7 @@ pub fn decide<R: Rows>(
     ensures unchanged { R.content rows.new ≡ R.content rows.old }
     ensures decided { IfOk result (λ d. Decides (hosts tenants.now publisher) (R.content rows.old) (content_of request.now) (decision_of d)) }
     ensures carried { IfOk result (λ d. IsTrue (fits (content_of request.now) d.content)) }
+    ensures can_apply { IfOk result (λ d. IfSome d.change (λ change. CanApply (R.content rows.old) change)) }
     ensures answered { OnOk result (R.refused rows.new ≡ R.refused rows.old) }
     ensures refused { OnErr result ((R.refused rows.new ≡ R.refused rows.old) ⊎ (R.refused rows.new ≡ min (R.refused rows.old + 1) most)) }
 {

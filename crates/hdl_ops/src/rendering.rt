@@ -9,7 +9,9 @@ ghost use Rattle.hdl_ops.specs.Replies.{asked_digest, reply_to, fits};
 
 use crate::requests::wants_digest;
 use hdl_auth::digest;
-use hdl_msg::{MESSAGE_MOST, Reply, ReplyContent, Request, ResponseCode, answer_header, reply_len, write_reply};
+use hdl_msg::{
+    MESSAGE_MOST, Reply, ReplyContent, Request, ResponseCode, answer_header, reply_len, write_reply,
+};
 use std::alloc::{AllocError, Global};
 
 /// The digest of the request, where it asks for it.
@@ -25,7 +27,13 @@ fn asked_digest(request: &Request<'_>) -> Option<[u8; 20]>
 }
 
 #[tactic(auto, unfolding(crate::specs::Replies::reply_to))]
-fn reply_to(session: u32, number: u32, request: &Request<'_>, code: u32, content: ReplyContent) -> Reply
+fn reply_to(
+    session: u32,
+    number: u32,
+    request: &Request<'_>,
+    code: u32,
+    content: ReplyContent,
+) -> Reply
     requires signed { request.now.signed.now ≡ signed_octets (content_of request.now) }
     ensures { result ≡ reply_to session number (content_of request.now) code content }
 {

@@ -1,6 +1,6 @@
 //! From the code of a table of decision to the whole decision.
 
-ghost use Rattle.std.specs.Prelude.{◌≡◌, ◌&&◌, filter, IfOk, IsTrue};
+ghost use Rattle.std.specs.Prelude.{◌≡◌, ◌&&◌, None, filter, IfOk, IsTrue};
 ghost use Rattle.hdl_value.specs.Permission.{is_public};
 ghost use Rattle.hdl_msg.specs.Bodies.{operation_of, content_of};
 ghost use Rattle.hdl_msg.specs.Codes.{response_number};
@@ -54,6 +54,7 @@ pub(crate) fn settle(
 ) -> Result<Decision, Refused>
     requires signed { request.now.signed.now ≡ signed_octets (content_of request.now) }
     ensures carried { IfOk result (λ d. IsTrue (fits (content_of request.now) d.content)) }
+    ensures unchanging { IfOk result (λ d. d.change ≡ None) }
     ensures decided { IfOk result (λ d. decision_of d ≡ decisions.decision (sight_of sight) (content_of request.now) (response_number code)) }
 {
     if code != ResponseCode::Success {
