@@ -1,0 +1,3 @@
+pub mod Receiving
+pub mod Places
+pub mod Steps

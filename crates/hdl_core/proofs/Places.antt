@@ -1,0 +1,87 @@
+-- Maps of the elements of a list by their places, and the world of a service.
+use Rattle.std.proofs.Common.{◌≡◌, ℕ, zero, suc, ◌+◌, ◌<◌, List, [], ◌∷◌, true, false, cond, ◌==◌, Some, map, length, set, refl, sym, ap, ◌∙◌, subst, option_map, arith, nat_cmp, unwrap_or, get_or}
+use Rattle.std.specs.Prelude.{slice_get}
+use Rattle.std.specs.Cmp.{nat_cmp_total, unsigned_tied}
+use Rattle.std.specs.FinMap as map
+use Rattle.std.specs.FinMap.{nat_cmp-IsAntisymmetric, find}
+use Rattle.std.proofs.lemmas.Bool.Decides.{nat_tests}
+use Rattle.std.proofs.lemmas.Option.{slice_get-map, slice_get-get_or}
+use Rattle.std.proofs.lemmas.List.{length-map}
+use Rattle.hdl_rows.specs.Table.{Table}
+use Rattle.hdl_tenants.specs.Register.{Register}
+use Rattle.hdl_ops.specs.Tables.{apply_if}
+use Rattle.hdl_laws.specs.Lanes.{LaneState, fresh}
+use Rattle.hdl_laws.specs.declared.events.Event.{Event}
+use Rattle.hdl_laws.specs.Worlds.{World, Effect, owner, lane_of, after_effect, moment_of}
+use Rattle.hdl_core.specs.declared.lane.Lane.{Lane}
+use Rattle.hdl_core.specs.Worlds.{numbered, by_place, state_of, world_of}
+
+same_number : (a b : ℕ) → a ≡ b → (a == b) ≡ true
+same_number a b e = grind (arith, nat_tests)
+
+other_number : (a b : ℕ) → (a ≡ b → ⊥) → (a == b) ≡ false
+other_number a b f = grind (arith, nat_tests)
+
+find_numbered : {X : Type 0} (n : ℕ) (xs : List X) (q p : ℕ) → p ≡ n + q → find nat_cmp p (numbered n xs) ≡ slice_get xs q
+find_numbered n [] q p e = refl
+find_numbered n (x ∷ xs) zero p e = ap (λ b. cond b (Some x) (find nat_cmp p (numbered (n + 1) xs))) (unsigned_tied p n ∙ same_number p n (omega arith))
+find_numbered n (x ∷ xs) (suc q) p e =
+    ap (λ b. cond b (Some x) (find nat_cmp p (numbered (n + 1) xs))) (unsigned_tied p n ∙ other_number p n (λ (f : p ≡ n). omega arith))
+    ∙ find_numbered (n + 1) xs q p (omega arith)
+
+pub get-by_place : {X : Type 0} (xs : List X) (q : ℕ) → map.get (by_place xs) q ≡ slice_get xs q
+get-by_place xs q = map.get-from_entries nat_cmp_total (numbered 0 xs) q ∙ find_numbered 0 xs q q (omega arith)
+
+same_test : (q l : ℕ) → (q == l) ≡ (suc q == suc l)
+same_test q l = grind (arith, nat_tests)
+
+get_after_set : {X : Type 0} (xs : List X) (l : ℕ) (y : X) (q : ℕ) → l < length xs → slice_get (set xs l y) q ≡ cond (q == l) (Some y) (slice_get xs q)
+get_after_set [] l y q h = absurd (omega arith)
+get_after_set (x ∷ xs) zero y zero h = refl
+get_after_set (x ∷ xs) zero y (suc q) h = ap (λ b. cond b (Some y) (slice_get xs q)) (sym (other_number (suc q) 0 (λ (e : suc q ≡ 0). omega arith)))
+get_after_set (x ∷ xs) (suc l) y zero h = ap (λ b. cond b (Some y) (Some x)) (sym (other_number 0 (suc l) (λ (e : 0 ≡ suc l). omega arith)))
+get_after_set (x ∷ xs) (suc l) y (suc q) h = get_after_set xs l y q (omega arith) ∙ ap (λ b. cond b (Some y) (slice_get xs q)) (same_test q l)
+
+pub by_place-set : {X : Type 0} (xs : List X) (l : ℕ) (y : X) → l < length xs → by_place (set xs l y) ≡ map.insert (by_place xs) l y
+by_place-set xs l y h = map.same_map nat_cmp_total nat_cmp-IsAntisymmetric _ _ (λ q.
+    get-by_place (set xs l y) q
+    ∙ get_after_set xs l y q h
+    ∙ (λ i. cond (sym (unsigned_tied q l) i) (Some y) (sym (get-by_place xs q) i))
+    ∙ sym (map.get-insert nat_cmp_total (by_place xs) l y q))
+
+map-set : {X Y : Type 0} (f : X → Y) (xs : List X) (l : ℕ) (y : X) → map f (set xs l y) ≡ set (map f xs) l (f y)
+map-set f [] l y = refl
+map-set f (x ∷ xs) zero y = refl
+map-set f (x ∷ xs) (suc l) y = ap (λ ys. f x ∷ ys) (map-set f xs l y)
+
+set_same : {X : Type 0} (xs : List X) (l : ℕ) (d : X) → l < length xs → set xs l (get_or xs l d) ≡ xs
+set_same xs l d h = Rattle.std.proofs.lemmas.List.set-get_or xs l d
+
+-- ---- the world of the lanes
+
+pub owner_of : (r : Register) (lanes : List Lane) (t : Table) (l : ℕ) → owner (world_of r lanes t).site l ≡ option_map (λ (x : Lane). x.publisher) (slice_get lanes l)
+unfolding world_of
+owner_of r lanes t l = get-by_place (map (λ (x : Lane). x.publisher) lanes) l ∙ slice_get-map _ lanes l
+
+pub lane_of_world : (r : Register) (lanes : List Lane) (t : Table) (l : ℕ) → lane_of (world_of r lanes t) l ≡ unwrap_or (option_map state_of (slice_get lanes l)) (fresh false)
+unfolding world_of
+lane_of_world r lanes t l = ap (λ o. unwrap_or o (fresh false)) (get-by_place (map state_of lanes) l ∙ slice_get-map state_of lanes l)
+
+pub lane_here : (r : Register) (lanes : List Lane) (t : Table) (l : ℕ) (d : Lane) → l < length lanes → lane_of (world_of r lanes t) l ≡ state_of (get_or lanes l d)
+lane_here r lanes t l d h = lane_of_world r lanes t l ∙ ap (λ o. unwrap_or (option_map state_of o) (fresh false)) (slice_get-get_or lanes l d h)
+
+-- a lane that is written, with the table, is the effect
+pub world_after : (r : Register) (lanes : List Lane) (t t' : Table) (e : Event) (x d : Lane) (eff : Effect) → e.lane < length lanes → x.publisher ≡ (get_or lanes e.lane d).publisher → state_of x ≡ eff.state → t' ≡ apply_if t (moment_of e.what) eff.change
+    → world_of r (set lanes e.lane x) t' ≡ after_effect (world_of r lanes t) e eff
+unfolding world_of
+world_after r lanes t t' e x d eff h same state table =
+    let owners : by_place (map (λ (y : Lane). y.publisher) (set lanes e.lane x)) ≡ by_place (map (λ (y : Lane). y.publisher) lanes) =
+    ap by_place (map-set (λ (y : Lane). y.publisher) lanes e.lane x
+    ∙ ap (set (map (λ (y : Lane). y.publisher) lanes) e.lane) same
+    ∙ sym (map-set (λ (y : Lane). y.publisher) lanes e.lane (get_or lanes e.lane d))
+    ∙ ap (map (λ (y : Lane). y.publisher)) (set_same lanes e.lane d h)) in
+    let states : by_place (map state_of (set lanes e.lane x)) ≡ map.insert (by_place (map state_of lanes)) e.lane eff.state =
+    ap by_place (map-set state_of lanes e.lane x)
+    ∙ by_place-set (map state_of lanes) e.lane (state_of x) (subst (λ n. e.lane < n) (sym (length-map lanes state_of)) h)
+    ∙ ap (map.insert (by_place (map state_of lanes)) e.lane) state in
+    λ i. record { site = record { owners = owners i; hostings = r.hostings }; table = table i; lanes = states i }

@@ -1,0 +1,19 @@
+use Rattle.std.proofs.Common.{arith, ◌∙◌, ◌≡◌, sym, ap, subst, ◌++◌, ◌∷◌, [], map-id}
+use Rattle.std.specs.Prelude.{if◌then◌else◌}
+use Rattle.std.proofs.lemmas.Iterator.Adapters.{YieldsList-from_vec}
+use Rattle.std.proofs.lemmas.Iterator.Consumers.{YieldsList-end}
+use Rattle.hdl_laws.specs.Runs.{Run}
+use Rattle.hdl_core.proofs.Steps.{run_step}
+use Rattle.hdl_core.proofs.service.Service.run.Goals as goal
+
+pub loop-event-preserved : goal.loop-event-preserved
+loop-event-preserved g c = record {
+  run = subst (λ os. Run c.args.self.now (c.loop-event.yielded ++ (c.in-Some.event ∷ [])) os c.step-outcome.new.self) (sym (c.push.ensures.items ∙ ap (λ b. if b then c.loop-event.outcomes.items ++ (c.step-outcome.result ∷ []) else c.loop-event.outcomes.items) (sym c.is_ok-pushed.ensures.value ∙ c.if-prove.false)))
+      (run_step c.runs_joined.ensures _ _ _ _ _ _ _ c.loop-event.invariant.run c.step-outcome.ensures);
+  room = omega (arith, c.loop-event.invariant.room, c.push.ensures.capacity);
+}
+
+pub returns-clause-run : goal.returns-clause-run
+returns-clause-run g c =
+    let all : c.loop-event.yielded ≡ c.args.events.items = sym (map-id c.loop-event.yielded) ∙ (YieldsList-end (YieldsList-from_vec c.args.events.items c.into_iter-event-iterator.ensures.into_iter_gives.0 (c.into_iter-event-iterator.ensures.into_iter_gives.1 ∙ c.args.events.ok.0)) c.loop-event.yielded c.loop-event.event-iterator c.loop-event.yielded_by c.next.result c.next.new.self c.in-None.is c.next.ensures.steps).0 in
+    subst (λ es. Run c.args.self.now es c.loop-event.outcomes.items c.loop-event.self) all c.loop-event.invariant.run

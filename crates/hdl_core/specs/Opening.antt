@@ -1,0 +1,32 @@
+-- The world with which a service opens.
+use Rattle.std.specs.Prelude.{◌≡◌, ℕ, zero, suc, List, [], ◌∷◌, ◌++◌, false, map, unwrap_or}
+use Rattle.std.specs.FinMap as map
+use Rattle.std.specs.FinSet as set
+use Rattle.hdl_name.specs.Name.{canonical}
+use Rattle.hdl_value.specs.declared.value.Value.{Value}
+use Rattle.hdl_value.specs.Place.{Place, handle_cmp, place_cmp}
+use Rattle.hdl_rows.specs.Table.{Table}
+use Rattle.hdl_tenants.specs.Register as register
+use Rattle.hdl_tenants.specs.Register.{Register, Row, place}
+use Rattle.hdl_laws.specs.Lanes.{fresh}
+use Rattle.hdl_laws.specs.Worlds.{World, owner, lane_of}
+use Rattle.hdl_core.specs.declared.lane.Lane.{Lane}
+
+abbrev pub entry_of : Row → Place × Value
+entry_of row = (place row, row.1)
+
+-- the table of the opening rows: their handles, and their values at their places
+abbrev pub opening_table : List Row → Table
+opening_table rows = record { handles = set.from_list (map (λ row. canonical row.0) rows); values = map.from_entries (map entry_of rows) }
+
+-- The lanes are the publishers' and closed, the hosted prefixes those of the tenants text, and the table holds its opening rows.
+pub record IsOpening (r : Register) (w : World) : Type 0 where
+  pub owners : (lane : ℕ) → owner w.site lane ≡ register.owner r lane
+  pub hostings : w.site.hostings ≡ r.hostings
+  pub closed : (lane : ℕ) → lane_of w lane ≡ fresh false
+  pub table : w.table ≡ opening_table r.opening
+
+-- the first lanes, closed, each with its owner
+abbrev pub first_lanes : Register → ℕ → List Lane
+first_lanes r zero = []
+first_lanes r (suc n) = first_lanes r n ++ record { publisher = unwrap_or (register.owner r n) 0; is_open = false } ∷ []

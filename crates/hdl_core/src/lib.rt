@@ -1,0 +1,22 @@
+//! The service: a machine that takes one event of one lane at a time, with moments and nonces handed in.
+//!
+//! ```text
+//! Event { lane, what } -> frame -> message -> request -> decision -> change and reply -> Outcome
+//! ```
+//!
+//! [`Service::open`] gives the world of the tenants text, [`Service::step`] is a step of the machine that `hdl_laws` defines,
+//! and [`Service::run`] is a run of it with one outcome for each event, over any table [`Rows`]. Where memory or the table is
+//! refused an event is Busy and the world is as it was; where room for a run's outcomes is refused the events come back.
+//!
+//! It stands on `hdl_ops` and `hdl_laws`, and knows no threads, sockets or clocks.
+#![tactic(auto)]
+
+mod lane;
+mod opening;
+mod service;
+mod serving;
+
+pub use hdl_laws::{Event, Octets, Outcome, What};
+pub use hdl_ops::{Refused, Rows, Tenants};
+pub use opening::OpenFault;
+pub use service::{Early, Service};

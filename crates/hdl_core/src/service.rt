@@ -1,0 +1,84 @@
+//! The service over any table.
+
+ghost use Rattle.std.specs.Prelude.{◌≡◌, IfOk, IfErr, OnErr};
+ghost use Rattle.hdl_laws.specs.Runs.{Run, Steps};
+
+use crate::lane::Lane;
+use crate::serving::serve;
+use hdl_laws::laws::runs_joined;
+use hdl_laws::{Event, Outcome};
+use hdl_ops::{Rows, Tenants};
+use std::alloc::Global;
+use std::marker::Model;
+
+/// A service of several publishers, over a table. Contracts see its world: the lanes' owners, the hosted prefixes, the table,
+/// and the lanes' states.
+#[derive(Drop)]
+pub struct Service<R: Rows + Drop> {
+    pub(crate) alloc: Global,
+    pub(crate) tenants: Tenants,
+    pub(crate) lanes: Vec<Lane>,
+    pub(crate) rows: R,
+}
+
+impl<R: Rows + Drop> Model for Service<R> {
+    ghost use Rattle.hdl_laws.specs.Worlds.{World};
+
+    ghost Value = { World };
+
+    ghost use Rattle.std.specs.Coded.{codes};
+    ghost use Rattle.std.specs.FinMap as map;
+    ghost use Rattle.std.specs.FinSet as set;
+
+    ghost coded = { Prim.hlevel (codes, map.code, set.code) };
+
+    ghost use Rattle.hdl_core.specs.Worlds.{world_of};
+
+    ghost view = { λ s. world_of s.tenants s.lanes.items (R.content s.rows) };
+}
+
+/// Room for a run's outcomes was refused: the events come back as they were, and nothing changed.
+#[derive(Drop)]
+pub struct Early(pub Vec<Event>);
+
+impl<R: Rows + Drop> Service<R> {
+    /// Serves one event: the answer, or Busy with the world as it was.
+    ///
+    /// On a lane that nobody owns, and of everything but Open on a lane that isn't open, the outcome is Silent. A Frame whose
+    /// octets aren't one frame is Silent; a message out of the grammar gets the short reply with code 4; a request is decided.
+    pub fn step(&mut self, event: Event) -> Outcome
+        ensures { Steps self.old event result self.new }
+    {
+        let place = event.lane as usize;
+        if place >= self.lanes.len() {
+            return Outcome::Silent;
+        }
+        serve(
+            self.alloc,
+            &self.tenants,
+            &mut self.rows,
+            &mut self.lanes[place],
+            event.what,
+        )
+    }
+
+    /// Serves each event in turn, with one outcome for each. Its room is taken first; where that is refused nothing changed and
+    /// the events come back.
+    pub fn run(&mut self, events: Vec<Event>) -> Result<Vec<Outcome>, Early>
+        ensures run { IfOk result (λ outcomes. Run self.old events.items outcomes.items self.new) }
+        ensures early { IfErr result (λ back. back.0.items ≡ events.items) }
+        ensures unchanged { OnErr result (self.new ≡ self.old) }
+    {
+        let mut outcomes = Vec::new(self.alloc);
+        if outcomes.reserve_exact(events.len()).is_err() {
+            return Err(Early(events));
+        }
+        runs_joined();
+        for event in events {
+            let outcome = self.step(event);
+            let pushed = outcomes.push(outcome).is_ok();
+            prove!(pushed);
+        }
+        Ok(outcomes)
+    }
+}
