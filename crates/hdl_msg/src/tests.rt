@@ -18,7 +18,7 @@ fn hex(alloc: Global, text: &str) -> Result<Vec<u8>, AllocError> {
         };
         match high.take() {
             None => high = Some(value),
-            Some(first) => out.push(first * 16 + value)?,
+            Some(first) => out.push(first.rotate_left(4) | value)?,
         }
     }
     Ok(out)
