@@ -1,8 +1,11 @@
 -- Whose lane it is, one publisher after another.
-use Rattle.std.proofs.Common.{◌≡◌, ◌++◌, ◌∷◌, [], List, ℕ, zero, suc, ◌+◌, ◌-◌, ◌<◌, ◌≤◌, Bool, true, false, length, drop, slice_get, nat_lt, Option, None, Some, arith, sym, ap, ◌∙◌, refl, add-one, subst}
+use Rattle.std.proofs.Common.{◌≡◌, ◌++◌, ◌∷◌, [], List, ℕ, zero, suc, ◌+◌, ◌-◌, ◌<◌, ◌≤◌, Bool, true, false, length, drop, slice_get, nat_lt, Option, None, Some, arith, sym, ap, ◌∙◌, refl, add-one, subst, take, All}
 use Rattle.std.specs.Option.{option_map}
+use Rattle.std.proofs.lemmas.List.{take_more, take-append-drop}
+use Rattle.std.proofs.lemmas.List.Sums.{sum_by-append}
+use Rattle.std.proofs.lemmas.Option.{get_or_from_slice_get, slice_get_within}
 use Rattle.std.proofs.lemmas.Bool.Decides.{Decides-ltb}
-use Rattle.hdl_tenants.specs.Register.{Publisher, owner_among}
+use Rattle.hdl_tenants.specs.Register.{Publisher, owner_among, lane_count, first_lane}
 
 drop-at : {A : Type 0} (xs : List A) (k : ℕ) (x : A) → slice_get xs k ≡ Some x → drop k xs ≡ x ∷ drop (k + 1) xs
 drop-at [] k x h = cc
@@ -43,3 +46,19 @@ module _ (publishers : List Publisher) (lane place rest : ℕ) (so_far : SoFar p
 
   pub so_far_end : length publishers ≤ place → owner_among publishers lane ≡ None
   so_far_end all = so_far.owner ∙ rw (drop-past publishers place all) refl
+
+pub All-at : {A : Type 0} (P : A → Type 0) (xs : List A) (k : ℕ) (x : A) → All P xs → slice_get xs k ≡ Some x → P x
+All-at P xs k x each at = subst P (get_or_from_slice_get xs k x x at) (each k x (slice_get_within xs k x at))
+
+-- the lanes of one publisher follow those of the publishers before it
+pub first_lane-more : (publishers : List Publisher) (place : ℕ) (p : Publisher) → slice_get publishers place ≡ Some p → first_lane publishers (place + 1) ≡ first_lane publishers place + p.lanes
+first_lane-more publishers place p at =
+    ap lane_count (take_more publishers place p (slice_get_within publishers place p at) ∙ ap (λ x. take place publishers ++ x ∷ []) (get_or_from_slice_get publishers place p p at))
+    ∙ sum_by-append (λ (q : Publisher). q.lanes) (take place publishers) (p ∷ [])
+    ∙ ap (λ n. first_lane publishers place + n) (omega arith)
+
+-- and are among all of them
+pub first_lane-within : (publishers : List Publisher) (place : ℕ) → first_lane publishers place ≤ lane_count publishers
+first_lane-within publishers place =
+    let all : lane_count publishers ≡ first_lane publishers place + lane_count (drop place publishers) = ap lane_count (sym (take-append-drop place publishers)) ∙ sum_by-append (λ (q : Publisher). q.lanes) (take place publishers) (drop place publishers) in
+    omega arith

@@ -12,10 +12,10 @@ module _ (r : Register) (handle digits : List ℕ) (v : Value) (name canon : Lis
   canon_of : canon ≡ canonical handle
   canon_of = canon_is ∙ ap canonical same
 
-  place_of_row : Contains (map place rows) (canon, v.index) → Contains (map place r.opening) (place (handle, v))
+  place_of_row : Contains (map place rows) (record { handle = canon; index = v.index }) → Contains (map place r.opening) (place (handle, v))
   place_of_row there = rw (← canon_of, ← all) there
 
-  pub taken : Contains (map place rows) (canon, v.index) → IsValueText digits v → (w : Value) → IsHandle handle → IsValueText digits w → IsKnownRow r (handle, w) → ⊥
+  pub taken : Contains (map place rows) (record { handle = canon; index = v.index }) → IsValueText digits v → (w : Value) → IsHandle handle → IsValueText digits w → IsKnownRow r (handle, w) → ⊥
   taken there text w named other known = known.once (subst (λ (x : Value). Contains (map place r.opening) (place (handle, x))) (one_text digits v w text other) (place_of_row there))
 
   pub too_many : most_values ≤ value_count canon rows → IsValueText digits v → (w : Value) → IsHandle handle → IsValueText digits w → IsKnownRow r (handle, w) → ⊥
@@ -23,7 +23,7 @@ module _ (r : Register) (handle digits : List ℕ) (v : Value) (name canon : Lis
       let room : value_count canon rows < most_values = rw (canon_of, all) known.room in
       absurd (omega arith)
 
-  pub known_row : (before : List ℕ) → before ≡ prefix name → Contains (prefixes_of r.hostings) before → (Contains (map place rows) (canon, v.index) → ⊥) → value_count canon rows < most_values → IsKnownRow r (handle, v)
+  pub known_row : (before : List ℕ) → before ≡ prefix name → Contains (prefixes_of r.hostings) before → (Contains (map place rows) (record { handle = canon; index = v.index }) → ⊥) → value_count canon rows < most_values → IsKnownRow r (handle, v)
   known_row before is there new room = record {
     hosted = subst (λ p. Contains (prefixes_of r.hostings) p) (is ∙ ap prefix same) there;
     once = λ old. new (rw (canon_of, all) old);

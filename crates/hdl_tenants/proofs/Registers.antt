@@ -1,16 +1,16 @@
 -- A register stays one when a line is added.
 use Rattle.std.proofs.Common.{◌≡◌, ◌≢◌, ◌++◌, ◌∷◌, [], List, ℕ, ◌+◌, ◌-◌, ◌<◌, ◌≤◌, ◌^◌, true≢false, Bool, true, false, not, cond, length, map, sum_by, count_by, Contains, All, arith, sym, ap, subst, ◌∙◌, refl, inl, inr, length-append}
 use Rattle.std.specs.Str.{bytes_eq}
-use Rattle.std.specs.List.{position_or_len, AllByRecursion}
+use Rattle.std.specs.List.{position_or_len}
 use Rattle.std.proofs.lemmas.List.{map-append}
 use Rattle.std.proofs.lemmas.List.Elements.{All-push, All-nil, All-weaker, Contains-append_left, Contains-append_cases, Contains-push_cases, All-from_recursion, recursion_from_All}
 use Rattle.std.proofs.lemmas.List.Sums.{sum_by-append}
 use Rattle.std.proofs.lemmas.Slice.Eq.{bytes_eq-Decides}
 use Rattle.hdl_name.specs.Name.{IsHandle, canonical, prefix}
 use Rattle.hdl_value.specs.declared.value.Value.{Value}
-use Rattle.hdl_value.specs.declared.references.RawRef.{RawRef}
-use Rattle.hdl_value.specs.Spelling.{Fits, RefFits, CanBeSpelt}
+use Rattle.hdl_value.specs.Spelling.{Fits}
 use Rattle.hdl_value.specs.Fault.{IsSound}
+use Rattle.hdl_value.proofs.Whole.{can_be_spelt}
 use Rattle.hdl_tenants.specs.Register.{Publisher, Hosting, Row, Register, empty, names_of, prefixes_of, lane_count, most_lanes, place, value_count, most_values, AreDistinct, IsPublisher, IsPrefix, IsHosting, IsOpening, IsRegister}
 use Rattle.hdl_tenants.specs.Lines.{IsValueText}
 use Rattle.hdl_tenants.specs.Text.{Line, skipped, publisher, hosted, opened, IsLine, place_of, added, IsKnownRow, IsAllowed, Adds, AddsAll, IsAccepted}
@@ -55,21 +55,13 @@ hosted_added r prefix name is sound allowed =
       lanes = is.lanes;
       hostings = All-push (IsHosting r.publishers) r.hostings h is.hostings (record { sound = sound; publisher = place_within r.publishers name allowed.0 });
       prefixes = rw (prefixes-push r.hostings h) (distinct_push (prefixes_of r.hostings) prefix is.prefixes allowed.1);
-      opening = All-weaker (IsOpening r.hostings) (IsOpening (r.hostings ++ h ∷ [])) (λ row old. record { handle = old.handle; hosted = rw (prefixes-push r.hostings h) (Contains-append_left (prefixes_of r.hostings) (prefix ∷ []) _ old.hosted); sound = old.sound; spelt = old.spelt }) r.opening is.opening;
+      opening = All-weaker (IsOpening r.hostings) (IsOpening (r.hostings ++ h ∷ [])) (λ row old. record { handle = old.handle; hosted = rw (prefixes-push r.hostings h) (Contains-append_left (prefixes_of r.hostings) (prefix ∷ []) _ old.hosted); sound = old.sound; fits = old.fits; spelt = old.spelt }) r.opening is.opening;
       places = is.places;
       few = is.few;
     }
 
--- what fits can be spelled
-pub spelt_from_fits : (v : Value) → Fits v → CanBeSpelt v
-spelt_from_fits v fits = record { kind = fits.kind.short; bytes = fits.bytes.short; count = fits.refs.count; handles = handles v.refs fits.refs.each }
-  where
-    handles : (rs : List RawRef) → AllByRecursion RefFits rs → AllByRecursion (λ r. length r.handle < 2 ^ 32) rs
-    handles [] each = tt
-    handles (r ∷ rs) each = (each.0.handle.short, handles rs each.1)
-
-pub opened_added : (r : Register) (handle : List ℕ) (v : Value) → IsRegister r → IsHandle handle → IsSound v → CanBeSpelt v → IsKnownRow r (handle, v) → IsRegister (added r (opened handle v))
-opened_added r handle v is named sound spelt known =
+pub opened_added : (r : Register) (handle : List ℕ) (v : Value) → IsRegister r → IsHandle handle → IsSound v → Fits v → IsKnownRow r (handle, v) → IsRegister (added r (opened handle v))
+opened_added r handle v is named sound fits known =
     let row : Row = (handle, v) in
     record {
       publishers = is.publishers;
@@ -77,7 +69,7 @@ opened_added r handle v is named sound spelt known =
       lanes = is.lanes;
       hostings = is.hostings;
       prefixes = is.prefixes;
-      opening = All-push (IsOpening r.hostings) r.opening row is.opening (record { handle = named; hosted = known.hosted; sound = sound; spelt = spelt });
+      opening = All-push (IsOpening r.hostings) r.opening row is.opening (record { handle = named; hosted = known.hosted; sound = sound; fits = fits; spelt = can_be_spelt v fits });
       places = rw (map-append place r.opening (row ∷ [])) (distinct_push (map place r.opening) (place row) is.places known.once);
       few = λ h. rw (sum_by-append (λ (x : Row). cond (bytes_eq (canonical x.0) h) 1 0) r.opening (row ∷ [])) (one_more h (bytes_eq (canonical handle) h) refl);
     }
@@ -93,7 +85,7 @@ pub line_added : (r : Register) (text : List ℕ) (line : Line) → IsRegister r
 line_added r text skipped is says allowed = is
 line_added r text (publisher p) is says allowed = publisher_added r p is says.sound allowed
 line_added r text (hosted prefix name) is says allowed = hosted_added r prefix name is says.sound allowed
-line_added r text (opened handle v) is says allowed = opened_added r handle v is says.named says.value.sound (spelt_from_fits v says.value.spelt.fits) allowed
+line_added r text (opened handle v) is says allowed = opened_added r handle v is says.named says.value.sound says.value.spelt.fits allowed
 
 pub empty_is : IsRegister empty
 empty_is = record {

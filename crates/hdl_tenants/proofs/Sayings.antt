@@ -6,8 +6,8 @@ use Rattle.hdl_tenants.specs.declared.fault.TenantFault.{TenantFault}
 use Rattle.hdl_tenants.specs.declared.fault.TenantFault.TheVariants.{BadLine, TwicePrefix, TwicePublisher, TooMany, Memory}
 use Rattle.hdl_tenants.specs.Register.{Publisher, Register, names_of}
 use Rattle.hdl_tenants.specs.Lines.{fields_of, IsPublisherLine, IsPrefixLine, IsValueLine, IsValueText}
-use Rattle.hdl_tenants.specs.Text.{Line, skipped, publisher, hosted, opened, IsLine, IsSkipped, IsKnown, IsKnownRow, IsAllowed, HasFault, Adds, added, IsPublisherFault}
-use Rattle.hdl_tenants.specs.Steps.{IsDigitsFault, IsHostedFault, IsOpenedFault, Opens}
+use Rattle.hdl_tenants.specs.Text.{Line, skipped, publisher, hosted, opened, IsLine, IsSkipped, IsKnown, IsKnownRow, IsAllowed, HasFault, Adds, added}
+use Rattle.hdl_tenants.specs.Steps.{IsPublisherFault, IsDigitsFault, IsHostedFault, IsOpenedFault, Opens}
 
 pub both_ok : {A E : Type 0} (P Q R : Type 0) (r : Result A E) → OnOk r P → OnOk r Q → (P → Q → R) → OnOk r R
 both_ok P Q R (Ok x) p q f = f p q
@@ -53,7 +53,7 @@ module _ (r : Register) (text : List ℕ) (shown : ¬ (IsSkipped text)) where
   publisher_fault p line BadLine f = absurd f
   publisher_fault p line TwicePrefix f = absurd f
   publisher_fault p line TwicePublisher f = (p, line, f)
-  publisher_fault p line TooMany f = (p, line, f)
+  publisher_fault p line TooMany f = (p, line, f.0, f.1)
   publisher_fault p line Memory f = shown
 
   module _ (no_publisher : (p : Publisher) → ¬ (IsPublisherLine (fields_of text) p)) where

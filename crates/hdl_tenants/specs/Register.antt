@@ -1,12 +1,13 @@
 -- What a tenants text says as a whole: publishers, hosted prefixes and opening rows, each in the text's order.
-use Rattle.std.specs.Prelude.{◌≡◌, ◌≢◌, ◌≤◌, ◌<◌, ◌^◌, ◌==◌, ◌&&◌, ◌||◌, ◌-◌, ◌+◌, ℕ, Bool, IsTrue, List, [], ◌∷◌, length, codes, map, sum_by, count_by, All, AllPairs, Contains, Option, Some, None, nat_lt, if◌then◌else◌}
+use Rattle.std.specs.Prelude.{◌≡◌, ◌≢◌, ◌≤◌, ◌<◌, ◌^◌, ◌==◌, ◌&&◌, ◌||◌, ◌-◌, ◌+◌, ℕ, Bool, IsTrue, List, [], ◌∷◌, length, take, codes, map, sum_by, count_by, All, AllPairs, Contains, Option, Some, None, nat_lt, if◌then◌else◌}
 use Rattle.std.specs.List.{AllPass, list_any}
 use Rattle.std.specs.Option.{option_map}
 use Rattle.std.specs.Char.{is_ascii_digit, is_ascii_lowercase}
 use Rattle.std.specs.Str.{bytes_eq, str_to_ascii_lowercase}
 use Rattle.hdl_name.specs.Name.{IsHandle, IsAuthority, canonical, prefix}
 use Rattle.hdl_value.specs.declared.value.Value.{Value}
-use Rattle.hdl_value.specs.Spelling.{CanBeSpelt}
+use Rattle.hdl_value.specs.Place.{Place}
+use Rattle.hdl_value.specs.Spelling.{Fits, CanBeSpelt}
 use Rattle.hdl_value.specs.Fault.{IsSound}
 
 pub record Publisher : Type 0 where
@@ -48,6 +49,10 @@ owner_among (p ∷ publishers) lane = if nat_lt lane p.lanes then Some 0 else op
 abbrev pub owner : Register → ℕ → Option ℕ
 owner r lane = owner_among r.publishers lane
 
+-- the first lane of the publisher at this place, behind the lanes of those before it
+abbrev pub first_lane : List Publisher → ℕ → ℕ
+first_lane publishers place = lane_count (take place publishers)
+
 -- whether this prefix is hosted for the publisher at this place
 abbrev pub hosts_among : List Hosting → ℕ → List ℕ → Bool
 hosts_among hostings publisher prefix = list_any (λ h. (h.publisher == publisher) && bytes_eq prefix h.prefix) hostings
@@ -63,9 +68,9 @@ names_of publishers = map (λ p. p.name) publishers
 abbrev pub prefixes_of : List Hosting → List (List ℕ)
 prefixes_of hostings = map (λ h. h.prefix) hostings
 
--- the canonical handle and the index of a row
-abbrev pub place : Row → List ℕ × ℕ
-place row = (canonical row.0, row.1.index)
+-- where a row stands: its canonical handle and its value's index
+abbrev pub place : Row → Place
+place row = record { handle = canonical row.0; index = row.1.index }
 
 -- how many values the handle with this canonical form has
 abbrev pub value_count : List ℕ → List Row → ℕ
@@ -111,6 +116,7 @@ pub record IsOpening (hostings : List Hosting) (row : Row) : Type 0 where
   pub handle : IsHandle row.0
   pub hosted : Contains (prefixes_of hostings) (prefix row.0)
   pub sound : IsSound row.1
+  pub fits : Fits row.1
   pub spelt : CanBeSpelt row.1
 
 -- what every text that is accepted says

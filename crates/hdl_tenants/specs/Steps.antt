@@ -1,13 +1,30 @@
--- What is told of a line whose kind is known, by its fields.
-use Rattle.std.specs.Prelude.{◌≡◌, ℕ, List, Contains, ⊤}
+-- What adding a line tells, where its kind is known: why it isn't taken, or what is there then.
+use Rattle.std.specs.Prelude.{◌≡◌, ◌<◌, ◌+◌, ℕ, List, Contains, ⊤}
 use Rattle.hdl_name.specs.Name.{IsHandle}
 use Rattle.hdl_value.specs.declared.value.Value.{Value}
 use Rattle.hdl_tenants.specs.declared.fault.TenantFault.{TenantFault}
 use Rattle.hdl_tenants.specs.declared.fault.TenantFault.TheVariants.{BadLine, TwicePrefix, TwicePublisher, TooMany, Memory}
-use Rattle.hdl_tenants.specs.Register.{Register, names_of, prefixes_of}
+use Rattle.hdl_tenants.specs.Register.{Publisher, Hosting, Register, names_of, prefixes_of, lane_count, most_lanes}
 use Rattle.hdl_tenants.specs.Lines.{IsValueText}
 use Rattle.hdl_tenants.specs.Text.{opened, added, IsKnownRow}
 
+-- a publisher whose name is there, or for which no lanes are left
+abbrev pub IsPublisherFault : List Publisher → Publisher → TenantFault → Type 0
+IsPublisherFault publishers p TwicePublisher = Contains (names_of publishers) p.name
+IsPublisherFault publishers p TooMany = ¬ (Contains (names_of publishers) p.name) × (most_lanes < lane_count publishers + p.lanes)
+IsPublisherFault publishers p Memory = ⊤
+IsPublisherFault publishers p BadLine = ⊥
+IsPublisherFault publishers p TwicePrefix = ⊥
+
+-- a prefix that is there
+abbrev pub IsPrefixFault : List Hosting → List ℕ → TenantFault → Type 0
+IsPrefixFault hostings prefix TwicePrefix = Contains (prefixes_of hostings) prefix
+IsPrefixFault hostings prefix Memory = ⊤
+IsPrefixFault hostings prefix BadLine = ⊥
+IsPrefixFault hostings prefix TwicePublisher = ⊥
+IsPrefixFault hostings prefix TooMany = ⊥
+
+-- a handle that is no name
 abbrev pub IsNameFault : List ℕ → TenantFault → Type 0
 IsNameFault handle BadLine = ¬ (IsHandle handle)
 IsNameFault handle Memory = ⊤
@@ -15,6 +32,7 @@ IsNameFault handle TwicePrefix = ⊥
 IsNameFault handle TwicePublisher = ⊥
 IsNameFault handle TooMany = ⊥
 
+-- digits that spell no value
 abbrev pub IsDigitsFault : List ℕ → TenantFault → Type 0
 IsDigitsFault digits BadLine = (v : Value) → ¬ (IsValueText digits v)
 IsDigitsFault digits Memory = ⊤
@@ -22,6 +40,7 @@ IsDigitsFault digits TwicePrefix = ⊥
 IsDigitsFault digits TwicePublisher = ⊥
 IsDigitsFault digits TooMany = ⊥
 
+-- a prefix of a publisher that isn't there, or a prefix that is
 abbrev pub IsHostedFault : Register → List ℕ → List ℕ → TenantFault → Type 0
 IsHostedFault r prefix name BadLine = ¬ (Contains (names_of r.publishers) name)
 IsHostedFault r prefix name TwicePrefix = Contains (names_of r.publishers) name × Contains (prefixes_of r.hostings) prefix
@@ -29,6 +48,7 @@ IsHostedFault r prefix name Memory = ⊤
 IsHostedFault r prefix name TwicePublisher = ⊥
 IsHostedFault r prefix name TooMany = ⊥
 
+-- a handle and digits that say no value that may follow
 abbrev pub IsOpenedFault : Register → List ℕ → List ℕ → TenantFault → Type 0
 IsOpenedFault r handle digits BadLine = (v : Value) → IsHandle handle → IsValueText digits v → ¬ (IsKnownRow r (handle, v))
 IsOpenedFault r handle digits Memory = ⊤

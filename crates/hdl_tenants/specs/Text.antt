@@ -58,27 +58,12 @@ IsAllowed r (publisher p) = ¬ (Contains (names_of r.publishers) p.name) × (lan
 IsAllowed r (hosted prefix name) = Contains (names_of r.publishers) name × ¬ (Contains (prefixes_of r.hostings) prefix)
 IsAllowed r (opened handle v) = IsKnownRow r (handle, v)
 
--- why a publisher, or a prefix of a publisher that is there, isn't taken
-abbrev pub IsPublisherFault : List Publisher → Publisher → TenantFault → Type 0
-IsPublisherFault publishers p TwicePublisher = Contains (names_of publishers) p.name
-IsPublisherFault publishers p TooMany = ¬ (Contains (names_of publishers) p.name) × (most_lanes < lane_count publishers + p.lanes)
-IsPublisherFault publishers p Memory = ⊤
-IsPublisherFault publishers p BadLine = ⊥
-IsPublisherFault publishers p TwicePrefix = ⊥
-
-abbrev pub IsPrefixFault : List Hosting → List ℕ → TenantFault → Type 0
-IsPrefixFault hostings prefix TwicePrefix = Contains (prefixes_of hostings) prefix
-IsPrefixFault hostings prefix Memory = ⊤
-IsPrefixFault hostings prefix BadLine = ⊥
-IsPrefixFault hostings prefix TwicePublisher = ⊥
-IsPrefixFault hostings prefix TooMany = ⊥
-
 -- what is wrong with a line; a line that is skipped needs no memory
 abbrev pub HasFault : Register → List ℕ → TenantFault → Type 0
 HasFault r text BadLine = (line : Line) → IsLine text line → ¬ (IsKnown r line)
-HasFault r text TwicePrefix = (prefix : List ℕ) × (name : List ℕ) × IsLine text (hosted prefix name) × Contains (names_of r.publishers) name × IsPrefixFault r.hostings prefix TwicePrefix
-HasFault r text TwicePublisher = (p : Publisher) × IsLine text (publisher p) × IsPublisherFault r.publishers p TwicePublisher
-HasFault r text TooMany = (p : Publisher) × IsLine text (publisher p) × IsPublisherFault r.publishers p TooMany
+HasFault r text TwicePrefix = (prefix : List ℕ) × (name : List ℕ) × IsLine text (hosted prefix name) × Contains (names_of r.publishers) name × Contains (prefixes_of r.hostings) prefix
+HasFault r text TwicePublisher = (p : Publisher) × IsLine text (publisher p) × Contains (names_of r.publishers) p.name
+HasFault r text TooMany = (p : Publisher) × IsLine text (publisher p) × ¬ (Contains (names_of r.publishers) p.name) × (most_lanes < lane_count r.publishers + p.lanes)
 HasFault r text Memory = ¬ (IsSkipped text)
 
 -- the line says something that is allowed, and takes one register to the other

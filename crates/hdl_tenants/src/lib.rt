@@ -11,3 +11,6 @@ mod text;
 pub use decimal::decimal_u16;
 pub use fault::TenantFault;
 pub use text::Tenants;
+
+#[cfg(test)]
+mod tests;

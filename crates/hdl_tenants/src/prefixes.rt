@@ -2,7 +2,7 @@
 
 ghost use Rattle.std.specs.Prelude.{◌≡◌, ◌↔◌, [], ◌∷◌, ◌++◌, Contains, IsTrue, IfErr, OnOk, OnErr};
 ghost use Rattle.hdl_tenants.specs.Register.{prefixes_of, hosts_among};
-ghost use Rattle.hdl_tenants.specs.Text.{IsPrefixFault};
+ghost use Rattle.hdl_tenants.specs.Steps.{IsPrefixFault};
 
 use crate::fault::TenantFault;
 use indexmap::IndexMap;

@@ -1,8 +1,9 @@
 //! The publishers of a tenants text, in its order.
 
 ghost use Rattle.std.specs.Prelude.{◌≡◌, ◌+◌, ◌<◌, ◌≤◌, [], ◌∷◌, ◌++◌, length, Contains, IfErr, IfSome, IfNone, MatchOption, OnOk, OnErr, slice_get};
-ghost use Rattle.hdl_tenants.specs.Register.{names_of, lane_count, owner_among, most_lanes};
-ghost use Rattle.hdl_tenants.specs.Text.{place_of, IsPublisherFault};
+ghost use Rattle.hdl_tenants.specs.Register.{names_of, lane_count, owner_among, first_lane, most_lanes};
+ghost use Rattle.hdl_tenants.specs.Steps.{IsPublisherFault};
+ghost use Rattle.hdl_tenants.specs.Text.{place_of};
 ghost use Rattle.hdl_tenants.specs.Kept.{publisher_on};
 
 use crate::fault::TenantFault;
@@ -100,6 +101,24 @@ impl Publishers {
     {
         let (name, shape) = self.by_name.get_index(place)?;
         Some((name.as_str(), shape.lanes, shape.port))
+    }
+
+    /// The first lane of the publisher at this place.
+    pub fn first_lane(&self, place: usize) -> Option<u16>
+        ensures found { IfSome result (λ lane. (place < length self.now) × (lane ≡ first_lane self.now place)) }
+        ensures absent { IfNone result (length self.now ≤ place) }
+    {
+        if place >= self.by_name.len() {
+            return None;
+        }
+        let mut lane = 0;
+        for before in 0..place {
+            let Some((_, shape)) = self.by_name.get_index(before) else {
+                unreachable!()
+            };
+            lane += shape.lanes;
+        }
+        Some(lane)
     }
 
     /// The place of the publisher whose lane this is.

@@ -1,12 +1,12 @@
 //! A tenants text, line after line.
 
-ghost use Rattle.std.specs.Prelude.{◌≡◌, ◌<◌, ◌↔◌, ℕ, List, Contains, IsTrue, IfOk, IfErr, MatchOption, OnOk, map, slice_get};
+ghost use Rattle.std.specs.Prelude.{◌≡◌, ◌<◌, ◌↔◌, ℕ, List, ◌+◌, length, Contains, IsTrue, IsSome, IfOk, IfErr, IfSome, MatchOption, OnOk, map, slice_get};
 ghost use Rattle.std.specs.Str.Lines.{lines};
 ghost use Rattle.hdl_name.specs.Name.{prefix};
 ghost use Rattle.hdl_tenants.specs.Register as register;
 ghost use Rattle.hdl_tenants.specs.Register.{empty, place, value_count, most_values, IsPublisher, IsPrefix, IsRegister};
-ghost use Rattle.hdl_tenants.specs.Text.{publisher, hosted, added, IsAllowed, IsPublisherFault, HasFault, Adds, IsAccepted, IsFirstFault};
-ghost use Rattle.hdl_tenants.specs.Steps.{IsHostedFault, IsOpenedFault, Opens};
+ghost use Rattle.hdl_tenants.specs.Text.{publisher, hosted, added, IsAllowed, HasFault, Adds, IsAccepted, IsFirstFault};
+ghost use Rattle.hdl_tenants.specs.Steps.{IsPublisherFault, IsHostedFault, IsOpenedFault, Opens};
 ghost use Rattle.hdl_tenants.specs.Kept.{publisher_on};
 
 use crate::fault::TenantFault;
@@ -26,7 +26,7 @@ const MOST_VALUES: usize = 1024;
 
 /// Whether one of the rows has this canonical handle and this index.
 fn has_place(rows: &[(Name, Value)], handle: &[u8], index: u32) -> bool
-    ensures { IsTrue result ↔ Contains (map place rows.now) (handle.now, index) }
+    ensures { IsTrue result ↔ Contains (map place rows.now) (record { handle = handle.now; index = index }) }
 {
     rows.iter()
         .any(|row| row.1.index == index && row.0.canon() == handle)
@@ -182,13 +182,23 @@ impl Tenants {
         self.prefixes.hosts(publisher, name.prefix())
     }
 
-    /// Name, lanes and port of the publisher at this place. Its lanes follow those of the publishers before it, and the last of
-    /// them is the lane of its datagrams.
+    /// Name, number of lanes and port of the publisher at this place.
     pub fn publisher(&self, place: usize) -> Option<(&str, u16, u16)>
         ensures { MatchOption result (slice_get self.now.publishers place ≡ None)
             (λ p. slice_get self.now.publishers place ≡ Some (record { name = p.0.now; lanes = p.1; port = p.2 })) }
     {
         self.publishers.get(place)
+    }
+
+    /// The first and the last lane of the publisher at this place. The last is the lane of its datagrams.
+    pub fn lanes_of(&self, place: usize) -> Option<(u16, u16)>
+        ensures first { IfSome result (λ lanes. lanes.0 ≡ register.first_lane self.now.publishers place) }
+        ensures last { IfSome result (λ lanes. lanes.1 + 1 ≡ register.first_lane self.now.publishers (place + 1)) }
+        ensures there { IsSome result ↔ (place < length self.now.publishers) }
+    {
+        let first = self.publishers.first_lane(place)?;
+        let (_, lanes, _) = self.publishers.get(place)?;
+        Some((first, first + lanes - 1))
     }
 
     /// The names and values to open with, in the text's order.

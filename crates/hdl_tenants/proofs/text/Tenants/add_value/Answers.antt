@@ -3,7 +3,7 @@ use Rattle.std.proofs.lemmas.Result.{err_from_is_err_and}
 use Rattle.hdl_name.specs.Name.{canonical, prefix}
 use Rattle.hdl_tenants.specs.Register.{Register, Row, place}
 use Rattle.hdl_tenants.specs.Text.{IsKnownRow}
-use Rattle.hdl_tenants.proofs.Registers.{opened_added, spelt_from_fits}
+use Rattle.hdl_tenants.proofs.Registers.{opened_added}
 use Rattle.hdl_tenants.proofs.Sayings.{from_digits}
 use Rattle.hdl_tenants.proofs.Opened.{taken, too_many, known_row}
 use Rattle.hdl_tenants.proofs.text.Tenants.add_value.Goals as goal
@@ -52,4 +52,4 @@ invariant_of-self-2 c =
     (λ there. true≢false (sym (c.has_place.ensures.1 there) ∙ c.if-has_place.false)) (rw (same_canon, same_rows) few) in
     let grown = c.in-Ok.ensures.items ∙ ap (λ (n : List ℕ). c.self.inside.opening.items ++ (n, v) ∷ []) c.in_ok-name.ensures.name in
     let text = c.in_ok-value.ensures.value in
-    rw grown (opened_added r handle v c.self.invariant c.in_ok-name.ensures.named text.sound (spelt_from_fits v text.spelt.fits) known)
+    rw grown (opened_added r handle v c.self.invariant c.in_ok-name.ensures.named text.sound text.spelt.fits known)
