@@ -49,7 +49,7 @@ fn reply(request: u32, op_code: OpCode, code: ResponseCode, content: ReplyConten
     Reply {
         session: 0,
         request,
-        header: header(op_code).answer(code),
+        header: answer_header(header(op_code), code.number()),
         digest: None,
         content,
     }
@@ -216,7 +216,7 @@ fn answers_echo_one_flag(rt: HostRuntime) {
         ..header(OpCode::AddValue)
     };
     assert!(rt; asked.has(OpFlag::PublicOnly));
-    let answer = asked.answer(ResponseCode::Error);
+    let answer = answer_header(asked, ResponseCode::Error.number());
     assert_eq!(rt;
         (answer.op_code, answer.response_code, answer.op_flag),
         (102, 2, 0x0080_0000)
