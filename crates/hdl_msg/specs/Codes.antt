@@ -22,15 +22,15 @@ op_number ChallengeResponse = 200
 -- the operation of a number, of those that are used
 unfoldable pub op_code_of : ℕ → Option OpCode
 op_code_of n =
-  if n == 1 then Some Resolution
-  else if n == 100 then Some CreateHandle
-  else if n == 101 then Some DeleteHandle
-  else if n == 102 then Some AddValue
-  else if n == 103 then Some RemoveValue
-  else if n == 104 then Some ModifyValue
-  else if n == 105 then Some ListHandles
-  else if n == 200 then Some ChallengeResponse
-  else None
+    if n == 1 then Some Resolution
+    else if n == 100 then Some CreateHandle
+    else if n == 101 then Some DeleteHandle
+    else if n == 102 then Some AddValue
+    else if n == 103 then Some RemoveValue
+    else if n == 104 then Some ModifyValue
+    else if n == 105 then Some ListHandles
+    else if n == 200 then Some ChallengeResponse
+    else None
 
 -- the number is that of this operation, or of none that is used
 abbrev pub IsNumberOf : Option OpCode → ℕ → Type 0

@@ -18,6 +18,7 @@ walked reader (suc n) octets = option_map_or (λ x. x.0 ∷ walked reader n x.1)
 
 -- ---- bodies
 
+-- a list of numbers, of strings, of values
 unfoldable pub numbers_at : List ℕ → Option (List ℕ × List ℕ)
 numbers_at octets = counted_at (number_at w32) octets
 
@@ -27,12 +28,13 @@ strings_at octets = counted_at string_at octets
 unfoldable pub values_at : List ℕ → Option (List Value × List ℕ)
 values_at octets = counted_at value_at octets
 
--- the body of a resolution, and so on
+-- the body of a resolution
 unfoldable pub resolution_in : List ℕ → Option Operation
 resolution_in octets = do
   x ← whole_of (pair_at string_at (pair_at numbers_at strings_at)) octets
   Some (resolution x.0 x.1.0 x.1.1)
 
+-- the body of a write of values: a handle and the values
 unfoldable pub with_values_in : List ℕ → Option (List ℕ × List Value)
 with_values_in octets = whole_of (pair_at string_at values_at) octets
 
@@ -60,6 +62,7 @@ operation_in None octets = Some (other octets)
 
 -- ---- messages
 
+-- the fields of a header, nested as they are read
 abbrev pub HeaderFields : Type 0
 HeaderFields = ℕ × (ℕ × (ℕ × (ℕ × (ℕ × (ℕ × ℕ)))))
 
@@ -77,6 +80,7 @@ signed_at octets = pair_at header_at string_at octets
 unfoldable pub message_at : List ℕ → Option (((Header × List ℕ) × List ℕ) × List ℕ)
 message_at octets = pair_at signed_at string_at octets
 
+-- the request that the octets are
 unfoldable pub request_at : List ℕ → Option Content
 request_at octets = do
   m ← whole_of message_at octets

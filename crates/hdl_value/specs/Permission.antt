@@ -19,6 +19,7 @@ permission_bit PublicRead = 0x02
 permission_bit AdminWrite = 0x04
 permission_bit AdminRead = 0x08
 
+-- the value has this permission
 abbrev pub permits : Value → Permission → Bool
 permits v permission = has_bit v.perm (permission_bit permission)
 
@@ -36,6 +37,7 @@ is_kept v = not (permits v PublicRead) && permits v AdminRead
 abbrev pub is_hidden : Value → Bool
 is_hidden v = not (permits v PublicRead) && not (permits v AdminRead)
 
+-- one of these three holds
 abbrev pub class_of : Value → Class
 class_of v = if is_public v then Public else if is_kept v then Kept else Hidden
 
@@ -56,5 +58,6 @@ admin_bit AddAdmin = 0x0200
 admin_bit AuthorizedRead = 0x0400
 admin_bit ListHandle = 0x0800
 
+-- the mask has this permission
 abbrev pub mask_permits : ℕ → AdminPermission → Bool
 mask_permits mask permission = has_bit mask (admin_bit permission)

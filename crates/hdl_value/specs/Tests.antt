@@ -4,11 +4,14 @@ use Rattle.hdl_value.specs.declared.value.Value.{Value}
 use Rattle.hdl_value.specs.Fault.{most_kind_octets, most_octets, most_references}
 use Rattle.hdl_value.specs.Refs.{is_admin, is_list, admin_in, list_in}
 
+-- index 0 names no value, and nothing is longer than its limit
 abbrev pub is_in_limits : Value → Bool
 is_in_limits v = nat_lt 0 v.index && nat_le (length v.kind) most_kind_octets && nat_le (length v.bytes) most_octets && nat_le (length v.refs) most_references
 
+-- data that has a meaning has its layout
 abbrev pub has_good_data : Value → Bool
 has_good_data v = (if is_admin v then is_some (admin_in v.bytes) else true) && (if is_list v then is_some (list_in v.bytes) else true)
 
+-- both
 abbrev pub is_sound : Value → Bool
 is_sound v = is_in_limits v && has_good_data v

@@ -1,9 +1,9 @@
 //! Values of handles, from octets and to octets.
 //!
-//! A value has an index, a type, data, a TTL, a permission octet, a timestamp and references, in this order (the layout
-//! is this project's own; the fields are those of RFC 3651, section 3.1). Contracts see the struct `Value` as it is
-//! declared: its octets and references are lists, so it is itself the mathematical value. `specs/Spelling.antt` has its
-//! one spelling, `specs/Data.antt` the data with a meaning, `specs/Fault.antt` the limits and the order of the faults.
+//! A value has an index, a type, data, a TTL, a permission octet, a timestamp and references (RFC 3651, section 3.1; layout
+//! and limits are our profile: docs/PROTOCOL.md, "Values"). Contracts see the struct `Value` as it is declared: its octets
+//! and references are lists, so it is itself the mathematical value. `specs/Spelling.antt` has its one spelling,
+//! `specs/Data.antt` the data with a meaning, `specs/Fault.antt` the limits and the order of the faults.
 //!
 //! `read_value` gives a value that keeps the limits, or the first fault of the octets. `cut_value` goes by layout alone
 //! and copies nothing, for values inside a message. `admin_of` and `vlist_of` say what a value refers to, `Value::class`

@@ -1,11 +1,13 @@
 //! Values of handles.
 
+ghost use Rattle.std.specs.Prelude.{◌≡◌, IfOk};
+
 use crate::permission::{Class, Permission};
 use crate::references::{RawRef, RawRefs};
 use hdl_name::Octets;
 use std::alloc::{AllocError, Global};
 
-/// A value of a handle (RFC 3651, section 3.1). Its layout, in this order and in network order:
+/// A value of a handle (RFC 3651, section 3.1; its layout is our profile). The fields in order, numbers in network order:
 ///
 /// ```text
 /// index        4 octets
@@ -28,7 +30,6 @@ pub struct Value {
 }
 
 impl Value {
-    ghost use Rattle.std.specs.Prelude.{◌≡◌, IfOk};
     ghost use Rattle.hdl_value.specs.Permission.{permits, class_of};
     ghost use Rattle.hdl_value.specs.Refs.{is_admin, is_list, is_secret_key};
 
@@ -91,8 +92,6 @@ impl Value {
         })
     }
 }
-
-ghost use Rattle.std.specs.Prelude.{◌≡◌, IfOk};
 
 fn copies(alloc: Global, refs: &[RawRef]) -> Result<Vec<RawRef>, AllocError>
     ensures { IfOk result (λ v. v.items ≡ refs.now) }

@@ -1,5 +1,5 @@
 use Rattle.hdl_msg.proofs.Written.{header_written}
-use Rattle.hdl_msg.proofs.replies.put_header.Goals as goal
+use Rattle.hdl_msg.proofs.fields.put_header.Goals as goal
 
 pub returns : goal.returns
 returns c =
