@@ -1,1 +1,3 @@
 pub mod Writes
+pub mod RowLemmas
+pub mod ShelfLemmas

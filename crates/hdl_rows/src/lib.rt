@@ -8,6 +8,7 @@
 
 mod fuse;
 pub mod laws;
+mod row;
 mod rows;
 
 pub use fuse::Fuse;
