@@ -1,6 +1,6 @@
 -- The table that rows in order are: what it answers, and what a change of the rows makes of it.
-use Rattle.std.proofs.Common.{◌≡◌, ◌≢◌, ℕ, zero, suc, ◌+◌, ◌<◌, List, [], ◌∷◌, ◌++◌, map, filter, Bool, true, false, cond, not, ◌&&◌, ◌||◌, T, Option, Some, None, ◌==◌, refl, sym, ap, ◌∙◌, subst, arith, Ordering, Less, Equal, Greater, is_eq, is_lt, IsTrue, is_some}
-use Rattle.std.specs.Ordering.{nat_cmp, eq_by_cmp}
+use Rattle.std.proofs.Common.{◌≡◌, ◌≢◌, ℕ, zero, suc, ◌+◌, ◌<◌, List, [], ◌∷◌, ◌++◌, map, filter, unwrap_or, Bool, true, false, cond, not, ◌&&◌, ◌||◌, T, Option, Some, None, ◌==◌, refl, sym, ap, ◌∙◌, subst, arith, Ordering, Less, Equal, Greater, is_eq, is_lt, IsTrue, is_some, ◌↔◌, true≢false}
+use Rattle.std.specs.Ordering.{nat_cmp, eq_by_cmp, ordering_then}
 use Rattle.std.specs.Cmp.{IsTotalOrder, nat_cmp_total, tied_itself}
 use Rattle.std.specs.List.{AllByRecursion, flat_map, list_any}
 use Rattle.std.specs.FinMap as map
@@ -15,7 +15,7 @@ use Rattle.hdl_value.proofs.Places.{handle_total, handle_antisymmetric, place_to
 use Rattle.hdl_rows.specs.Table.{Table, place, has, at, values_of, names_of, in_order, key, created, with_values, without_values, without_handle, indexes}
 use Rattle.hdl_rows.specs.Write.{Write, handle_of, written}
 use Rattle.hdl_rows.specs.Shelf.{by_index, by_place, table_of, AreInOrder, put_all}
-use Rattle.hdl_rows.proofs.Writes.{same_look_ups_lem, at-written, has-written, at_place, put_at, removed_at, at_after, has_after, some_none}
+use Rattle.hdl_rows.proofs.Writes.{same_look_ups_lem, at-written, has-written, at_place, put_at, removed_at, at_after, has_after, some_none, apart}
 
 index_test : (i j : ℕ) → is_eq (nat_cmp i j) ≡ (j == i)
 index_test i j = grind (arith, nat_tests)
@@ -35,7 +35,7 @@ second : (a b : Bool) → T (a && b) → T b
 second true b p = p
 second false b p = absurd p
 
-holds : (b : Bool) → T b → b ≡ true
+pub holds : (b : Bool) → T b → b ≡ true
 holds true p = refl
 holds false p = absurd p
 
@@ -98,7 +98,7 @@ find-places (e ∷ es) sorted p = by_test (same_handle p.handle e.0) refl (find-
         let none : find place_cmp p (by_place e) ≡ None = find-by_place p e.0 e.1 ∙ ap (λ b. cond b (find nat_cmp p.index (by_index e.1)) None) is in
         find-append_none p (by_place e) (flat_map by_place es) none ∙ rest
 
-to_T : (b : Bool) → b ≡ true → T b
+pub to_T : (b : Bool) → b ≡ true → T b
 to_T b e = subst T (sym e) tt
 
 pub at-table : (es : Rows) → IsTrue (is_sorted handle_cmp es) → (p : Place) → at (table_of es) p ≡ within (find handle_cmp p.handle es) p.index
@@ -129,12 +129,12 @@ pub changed : (es fs : Rows) (w : Write) (o : Option (List Value)) → IsTrue (i
     → table_of fs ≡ written (table_of es) w
 changed es fs w o sorted next found there inside =
     same_look_ups_lem (table_of fs) (written (table_of es) w)
-      (λ q. has-table fs q ∙ ap is_some (found q) ∙ some_or (same_handle q (handle_of w)) o (find handle_cmp q es)
-        ∙ gate (same_handle q (handle_of w)) _ _ _ (λ e. sym there ∙ ap (λ (h : List ℕ). has_after w (is_some (find handle_cmp h es))) (sym (handles_equal q (handle_of w) e)))
-        ∙ sym (has-written (table_of es) w q ∙ ap (λ b. cond (same_handle q (handle_of w)) (has_after w b) b) (has-table es q)))
-      (λ p. at-table fs next p ∙ ap (λ x. within x p.index) (found p.handle) ∙ within_or (same_handle p.handle (handle_of w)) o (find handle_cmp p.handle es) p.index
-        ∙ gate (same_handle p.handle (handle_of w)) _ _ _ (λ e. inside p.index ∙ ap (λ (h : List ℕ). at_after w p.index (within (find handle_cmp h es) p.index)) (sym (handles_equal p.handle (handle_of w) e)))
-        ∙ sym (at-written (table_of es) w p ∙ ap (λ x. cond (same_handle p.handle (handle_of w)) (at_after w p.index x) x) (at-table es sorted p)))
+    (λ q. has-table fs q ∙ ap is_some (found q) ∙ some_or (same_handle q (handle_of w)) o (find handle_cmp q es)
+    ∙ gate (same_handle q (handle_of w)) _ _ _ (λ e. sym there ∙ ap (λ (h : List ℕ). has_after w (is_some (find handle_cmp h es))) (sym (handles_equal q (handle_of w) e)))
+    ∙ sym (has-written (table_of es) w q ∙ ap (λ b. cond (same_handle q (handle_of w)) (has_after w b) b) (has-table es q)))
+    (λ p. at-table fs next p ∙ ap (λ x. within x p.index) (found p.handle) ∙ within_or (same_handle p.handle (handle_of w)) o (find handle_cmp p.handle es) p.index
+    ∙ gate (same_handle p.handle (handle_of w)) _ _ _ (λ e. inside p.index ∙ ap (λ (h : List ℕ). at_after w p.index (within (find handle_cmp h es) p.index)) (sym (handles_equal p.handle (handle_of w) e)))
+    ∙ sym (at-written (table_of es) w p ∙ ap (λ x. cond (same_handle p.handle (handle_of w)) (at_after w p.index x) x) (at-table es sorted p)))
 
 -- ---- what values in order answer
 
@@ -178,6 +178,116 @@ removed_at-is (i ∷ is) j x = removed_at-is is j _ ∙ ap (λ b. cond (stays is
 pub values_left : (ws old : List Value) (is : List ℕ) → ws ≡ filter (λ v. not (list_any (λ i. i == v.index) is)) old → IsTrue (is_sorted nat_cmp (by_index old))
     → IsTrue (is_sorted nat_cmp (by_index ws)) × ((i : ℕ) → find nat_cmp i (by_index ws) ≡ removed_at is i (find nat_cmp i (by_index old)))
 values_left ws old is e sorted =
-    let same : by_index ws ≡ where_key nat_cmp (stays is) (by_index old) = ap by_index e ∙ left-by_index is old in
-    (ap (is_sorted nat_cmp) same ∙ holds _ (is_sorted-where_key nat_cmp (stays is) (by_index old) (to_T _ sorted)),
-      λ i. ap (find nat_cmp i) same ∙ find-where_key nat_cmp (stays is) i (λ j t. ap (stays is) (sym (nat_cmp-IsAntisymmetric i j t))) (by_index old) ∙ sym (removed_at-is is i (find nat_cmp i (by_index old))))
+    let same : by_index ws ≡ where_key nat_cmp (stays is) (by_index old) = ap by_index e ∙ left-by_index is old in (
+      ap (is_sorted nat_cmp) same ∙ holds _ (is_sorted-where_key nat_cmp (stays is) (by_index old) (to_T _ sorted)),
+      λ i. ap (find nat_cmp i) same ∙ find-where_key nat_cmp (stays is) i (λ j t. ap (stays is) (sym (nat_cmp-IsAntisymmetric i j t))) (by_index old) ∙ sym (removed_at-is is i (find nat_cmp i (by_index old))),
+    )
+
+-- ---- what the rows of a handle answer when read
+
+found_sorted : (h : List ℕ) (es : Rows) (vs : List Value) → AllByRecursion (λ e. IsTrue (is_sorted nat_cmp (by_index e.1))) es → find handle_cmp h es ≡ Some vs → IsTrue (is_sorted nat_cmp (by_index vs))
+found_sorted h [] vs all e = absurd (some_none vs (sym e))
+found_sorted h (f ∷ es) vs all e = by_test (same_handle h f.0) e (found_sorted h es vs all.1)
+  where
+    by_test : (b : Bool) → cond b (Some f.1) (find handle_cmp h es) ≡ Some vs → (find handle_cmp h es ≡ Some vs → IsTrue (is_sorted nat_cmp (by_index vs))) → IsTrue (is_sorted nat_cmp (by_index vs))
+    by_test true e rest = ap (λ (x : Option (List Value)). is_sorted nat_cmp (by_index (unwrap_or x vs))) (sym e) ∙ all.0
+    by_test false e rest = rest e
+
+-- the values that a look-up of the handle gives, none where it is absent
+abbrev pub values_there : Option (List Value) → List Value
+values_there None = []
+values_there (Some vs) = vs
+
+within-is : (o : Option (List Value)) (i : ℕ) → within o i ≡ find nat_cmp i (by_index (values_there o))
+within-is None i = refl
+within-is (Some vs) i = refl
+
+below-places : (h : List ℕ) (i : ℕ) (vs : List Value) → below_all place_cmp (place h i) (by_place (h, vs)) ≡ below_all nat_cmp i (by_index vs)
+below-places h i [] = refl
+below-places h i (v ∷ vs) = λ k. is_lt (ordering_then (tied_itself handle_total h k) (nat_cmp i v.index)) && below-places h i vs k
+
+sorted-places : (h : List ℕ) (vs : List Value) → is_sorted place_cmp (by_place (h, vs)) ≡ is_sorted nat_cmp (by_index vs)
+sorted-places h [] = refl
+sorted-places h (v ∷ vs) = λ k. below-places h v.index vs k && sorted-places h vs k
+
+values-by_place : (h : List ℕ) (vs : List Value) → map (λ e. e.1) (by_place (h, vs)) ≡ vs
+values-by_place h [] = refl
+values-by_place h (v ∷ vs) = ap (λ ws. v ∷ ws) (values-by_place h vs)
+
+there_sorted : (o : Option (List Value)) → ((vs : List Value) → o ≡ Some vs → IsTrue (is_sorted nat_cmp (by_index vs))) → IsTrue (is_sorted nat_cmp (by_index (values_there o)))
+there_sorted None each = refl
+there_sorted (Some vs) each = each vs refl
+
+pub values_of-table : (es : Rows) (h : List ℕ) → AreInOrder es → values_of (table_of es) h ≡ values_there (find handle_cmp h es)
+values_of-table es h order =
+    let vs = values_there (find handle_cmp h es) in
+    let sorted : IsTrue (is_sorted nat_cmp (by_index (values_there (find handle_cmp h es)))) = there_sorted (find handle_cmp h es) (λ ws e. found_sorted h es ws order.values e) in
+    let rising : T (is_sorted place_cmp (by_place (h, values_there (find handle_cmp h es)))) = to_T _ (sorted-places h (values_there (find handle_cmp h es)) ∙ sorted) in
+    let same : map.retain_keys (table_of es).values (λ q. same_handle q.handle h) ≡ map.from_sorted (by_place (h, values_there (find handle_cmp h es))) =
+    map.same_map place_total place_antisymmetric _ _ (λ p.
+    map.get-retain_keys (table_of es).values (λ q. same_handle q.handle h) p (λ q e. ap (λ (r : Place). same_handle r.handle h) (sym (place_antisymmetric p q e)))
+    ∙ ap (λ x. cond (same_handle p.handle h) x None) (at-table es order.handles p)
+    ∙ gate (same_handle p.handle h) _ _ _ (λ e. ap (λ (g : List ℕ). within (find handle_cmp g es) p.index) (handles_equal p.handle h e) ∙ within-is (find handle_cmp h es) p.index)
+    ∙ sym (map.get-from_sorted place_cmp (by_place (h, values_there (find handle_cmp h es))) p rising ∙ find-by_place p h (values_there (find handle_cmp h es)))) in
+    ap map.values same ∙ ap (map (λ e. e.1)) (map.entries-from_sorted place_cmp (by_place (h, values_there (find handle_cmp h es))) rising) ∙ values-by_place h (values_there (find handle_cmp h es))
+
+-- ---- the handles of an authority
+
+abbrev names : Rows → List (List ℕ)
+names es = map (λ e. e.0) es
+
+below-names : (h : List ℕ) (es : Rows) → below_all handle_cmp h (map key (names es)) ≡ below_all handle_cmp h es
+below-names h [] = refl
+below-names h (e ∷ es) = ap (λ b. is_lt (handle_cmp h e.0) && b) (below-names h es)
+
+sorted-names : (es : Rows) → is_sorted handle_cmp (map key (names es)) ≡ is_sorted handle_cmp es
+sorted-names [] = refl
+sorted-names (e ∷ es) = λ k. below-names e.0 es k && sorted-names es k
+
+abbrev nothing : Unit {0}
+nothing = tt
+
+find-keys : (q : List ℕ) (hs : List (List ℕ)) → find handle_cmp q (map key hs) ≡ cond (list_any (same_handle q) hs) (Some nothing) None
+find-keys q [] = refl
+find-keys q (h ∷ hs) = ap (cond (same_handle q h) (Some nothing)) (find-keys q hs) ∙ join (same_handle q h) (list_any (same_handle q) hs)
+  where
+    join : (a b : Bool) → cond a (Some nothing) (cond b (Some nothing) None) ≡ cond (a || b) (Some nothing) None
+    join true b = refl
+    join false b = refl
+
+keys-kept : (p : List ℕ → Bool) (hs : List (List ℕ)) → map (λ e. e.0) (where_key handle_cmp p (map key hs)) ≡ filter p hs
+keys-kept p [] = refl
+keys-kept p (h ∷ hs) = pick (p h) (keys-kept p hs)
+  where
+    pick : (b : Bool) → map (λ e. e.0) (where_key handle_cmp p (map key hs)) ≡ filter p hs
+        → map (λ e. e.0) (cond b (key h ∷ where_key handle_cmp p (map key hs)) (where_key handle_cmp p (map key hs))) ≡ cond b (h ∷ filter p hs) (filter p hs)
+    pick true e = ap (λ gs. h ∷ gs) e
+    pick false e = e
+
+pub names_of-table : (es : Rows) (a : List ℕ) → IsTrue (is_sorted handle_cmp es) → names_of (table_of es) a ≡ filter (λ h. same_handle (authority h) a) (names es)
+names_of-table es a sorted =
+    let of = λ (h : List ℕ). same_handle (authority h) a in
+    let kept = set.retain (table_of es).handles (λ h. same_handle (authority h) a) in
+    let rising : T (is_sorted handle_cmp (where_key handle_cmp (λ h. same_handle (authority h) a) (map key (names es)))) =
+    is_sorted-where_key handle_cmp (λ h. same_handle (authority h) a) (map key (names es)) (to_T _ (sorted-names es ∙ sorted)) in
+    let same : map.from_entries {R = handle_cmp} (map key (set.items (set.retain (table_of es).handles (λ h. same_handle (authority h) a)))) ≡ map.from_sorted (where_key handle_cmp (λ h. same_handle (authority h) a) (map key (names es))) =
+    map.same_map handle_total handle_antisymmetric _ _ (λ q.
+    map.get-from_entries handle_total (map key (set.items kept)) q ∙ find-keys q (set.items kept)
+    ∙ ap (λ b. cond b (Some nothing) None) (sym (set.contains-items kept q) ∙ set.contains-retain (table_of es).handles (λ h. same_handle (authority h) a) q (λ x e. ap (λ (h : List ℕ). same_handle (authority h) a) (sym (handle_antisymmetric q x e)))
+    ∙ ap (λ b. b && same_handle (authority q) a) (set.contains-from_list handle_total (names es) q))
+    ∙ turn (list_any (same_handle q) (names es)) (same_handle (authority q) a)
+    ∙ sym (map.get-from_sorted handle_cmp (where_key handle_cmp (λ h. same_handle (authority h) a) (map key (names es))) q rising
+    ∙ find-where_key handle_cmp (λ h. same_handle (authority h) a) q (λ x e. ap (λ (h : List ℕ). same_handle (authority h) a) (sym (handle_antisymmetric q x e))) (map key (names es))
+    ∙ ap (λ x. cond (same_handle (authority q) a) x None) (find-keys q (names es)))) in
+    ap map.keys same ∙ ap (map (λ e. e.0)) (map.entries-from_sorted handle_cmp (where_key handle_cmp (λ h. same_handle (authority h) a) (map key (names es))) rising) ∙ keys-kept (λ h. same_handle (authority h) a) (names es)
+  where
+    turn : (a b : Bool) → cond (a && b) (Some nothing) None ≡ cond b (cond a (Some nothing) None) None
+    turn true true = refl
+    turn true false = refl
+    turn false true = refl
+    turn false false = refl
+
+-- a test that says whether two handles are one
+pub same_test : (b : Bool) (g h : List ℕ) → (IsTrue b ↔ (g ≡ h)) → b ≡ same_handle g h
+same_test true g h e = sym (ap (same_handle g) (sym (e.0 refl)) ∙ handle_itself g)
+same_test false g h e = sym (apart g h (λ same. true≢false (sym (e.1 same))))

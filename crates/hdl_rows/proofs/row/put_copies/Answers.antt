@@ -9,6 +9,7 @@ use Rattle.hdl_rows.proofs.row.put_copies.Goals as goal
 pub loop-value-preserved : goal.loop-value-preserved
 loop-value-preserved c =
     let v = c.in-Some.value in
-    let room = length-append c.loop-value.yielded (c.in-Some.value ∷ []) in
-    (c.put_value.ensures.put ∙ ap (λ (es : List (ℕ × Value)). put nat_cmp v.index v es) c.loop-value.invariant.0 ∙ sym (put_all-push (by_index c.reserve.new.self.items) c.loop-value.yielded v),
-      omega (arith, c.put_value.ensures.len, c.put_value.ensures.capacity, c.loop-value.invariant.1))
+    let room = length-append c.loop-value.yielded (c.in-Some.value ∷ []) in (
+      c.put_value.ensures.put ∙ ap (λ (es : List (ℕ × Value)). put nat_cmp v.index v es) c.loop-value.invariant.0 ∙ sym (put_all-push (by_index c.reserve.new.self.items) c.loop-value.yielded v),
+      omega (arith, c.put_value.ensures.len, c.put_value.ensures.capacity, c.loop-value.invariant.1),
+    )
