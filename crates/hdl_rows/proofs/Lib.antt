@@ -1,1 +1,5 @@
 pub mod Writes
+pub mod RowLemmas
+pub mod ShelfLemmas
+pub mod RowsLemmas
+pub mod Changes

@@ -1,3 +1,4 @@
 pub mod Table
 pub mod Write
 pub mod Laws
+pub mod Shelf

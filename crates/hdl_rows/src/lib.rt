@@ -1,15 +1,23 @@
 //! The value table: a finite set of canonical handles and a finite map from places (handle, index) to values.
 //!
 //! [`Rows`] is its contract, whatever keeps it: each call is one operation of set and map, whole or not at all, and the
-//! count of refusals is exact. [`Fuse`] is any table of which some calls are refused, for tests.
+//! count of refusals is exact. [`PlainRows`] keeps it in memory; [`Fuse`] is any table of which some calls are refused, for
+//! tests. [`laws`] says what every look-up answers after every write.
 //!
-//! It stands on `hdl_value`. The crates above know a table through [`Rows`] alone.
+//! Each call takes a name for its canonical form. That a table's values stand at its handles is no clause of the calls: it
+//! is a word of its own (`IsPlaced`), which every write keeps under its conditions.
+//!
+//! It stands on `hdl_name` and `hdl_value`. The crates above know a table through [`Rows`] alone.
 #![tactic(auto)]
 
 mod fuse;
 pub mod laws;
+mod plain;
+mod row;
 mod rows;
+mod shelf;
 
 pub use fuse::Fuse;
 pub use hdl_value::Octets;
+pub use plain::PlainRows;
 pub use rows::{Refused, Rows};

@@ -1,0 +1,103 @@
+-- Values in order: what a put and a removal make of them.
+use Rattle.std.proofs.Common.{◌≡◌, ◌≢◌, ℕ, zero, suc, ◌+◌, ◌<◌, ◌≤◌, List, [], ◌∷◌, ◌++◌, map, filter, length, get_or, set, take, drop, insert, Bool, true, false, cond, not, ltb, refl, sym, ap, ◌∙◌, Ordering, Less, Equal, Greater, arith}
+use Rattle.std.specs.Ordering.{nat_cmp}
+use Rattle.std.specs.List.{prefix_len, list_any}
+use Rattle.std.specs.FinMap.{put}
+use Rattle.std.specs.FinMap.Entries.{by_order, where_key}
+use Rattle.std.proofs.lemmas.Bool.Decides.{nat_tests}
+use Rattle.std.proofs.lemmas.List.{get_or_default}
+use Rattle.std.proofs.lemmas.List.Sums.{prefix_len-le-length}
+use Rattle.hdl_value.specs.declared.value.Value.{Value}
+use Rattle.hdl_rows.specs.Shelf.{by_index, put_all}
+
+above : (i j : ℕ) → ltb j i ≡ true → nat_cmp i j ≡ Greater
+above i j lt = grind (arith, nat_tests)
+
+below : (i j : ℕ) → ltb j i ≡ false → j ≢ i → nat_cmp i j ≡ Less
+below i j past other = grind (arith, nat_tests)
+
+tie : (i j : ℕ) → j ≡ i → nat_cmp i j ≡ Equal
+tie i j same = grind (arith, nat_tests)
+
+not_below : (i j : ℕ) → ltb j i ≡ true → j ≢ i
+not_below i j lt same = absurd (grind (arith, nat_tests))
+
+one_more : (n : ℕ) → 1 + n ≡ suc n
+one_more n = omega arith
+
+abbrev pub place_in : List Value → ℕ → ℕ
+place_in vs i = prefix_len (λ w. ltb w.index i) vs
+
+later_insert : (w v : Value) (ws : List Value) (n : ℕ) → by_index (insert (w ∷ ws) (1 + n) v) ≡ (w.index, w) ∷ by_index (insert ws n v)
+later_insert w v ws n = rw (one_more n) refl
+
+later_set : (w v : Value) (ws : List Value) (n : ℕ) → by_index (set (w ∷ ws) (1 + n) v) ≡ (w.index, w) ∷ by_index (set ws n v)
+later_set w v ws n = rw (one_more n) refl
+
+-- no value at place n has the index
+abbrev IsOther : List Value → ℕ → Value → Type 0
+IsOther vs n v = n < length vs → (get_or vs n v).index ≢ v.index
+
+later_other : (w v : Value) (ws : List Value) (n : ℕ) → IsOther (w ∷ ws) (1 + n) v → IsOther ws n v
+later_other w v ws n other lt =
+    let after = rw (one_more n) at other in
+    after (omega arith)
+
+abbrev Same : List Value → ℕ → Value → Type 0
+Same vs n v = (n < length vs) × ((get_or vs n v).index ≡ v.index)
+
+later_same : (w v : Value) (ws : List Value) (n : ℕ) → Same (w ∷ ws) (1 + n) v → Same ws n v
+later_same w v ws n same =
+    let after = rw (one_more n) at same in
+    (omega (arith, after.0), after.1)
+
+-- where no value has the index
+new_place : (vs : List Value) (v : Value) → IsOther vs (place_in vs v.index) v → by_index (insert vs (place_in vs v.index) v) ≡ put nat_cmp v.index v (by_index vs)
+new_place [] v other = refl
+new_place (w ∷ ws) v other = by_test (ltb w.index v.index) refl (λ o. new_place ws v o) other
+  where
+    by_test : (b : Bool) → ltb w.index v.index ≡ b → (IsOther ws (place_in ws v.index) v → by_index (insert ws (place_in ws v.index) v) ≡ put nat_cmp v.index v (by_index ws))
+        → IsOther (w ∷ ws) (cond b (1 + place_in ws v.index) 0) v → by_index (insert (w ∷ ws) (cond b (1 + place_in ws v.index) 0) v) ≡ put nat_cmp v.index v (by_index (w ∷ ws))
+    by_test true lt after other =
+        later_insert w v ws (place_in ws v.index) ∙ ap (λ (t : List (ℕ × Value)). (w.index, w) ∷ t) (after (later_other w v ws (place_in ws v.index) other))
+        ∙ sym (ap (λ r. by_order r ((v.index, v) ∷ by_index (w ∷ ws)) ((w.index, v) ∷ by_index ws) ((w.index, w) ∷ put nat_cmp v.index v (by_index ws))) (above v.index w.index lt))
+    by_test false past after other =
+        sym (ap (λ r. by_order r ((v.index, v) ∷ by_index (w ∷ ws)) ((w.index, v) ∷ by_index ws) ((w.index, w) ∷ put nat_cmp v.index v (by_index ws))) (below v.index w.index past (other (omega arith))))
+
+-- where a value has it
+same_place : (vs : List Value) (v : Value) → Same vs (place_in vs v.index) v → by_index (set vs (place_in vs v.index) v) ≡ put nat_cmp v.index v (by_index vs)
+same_place [] v same = absurd (omega (arith, same.0))
+same_place (w ∷ ws) v same = by_test (ltb w.index v.index) refl (λ s. same_place ws v s) same
+  where
+    by_test : (b : Bool) → ltb w.index v.index ≡ b → (Same ws (place_in ws v.index) v → by_index (set ws (place_in ws v.index) v) ≡ put nat_cmp v.index v (by_index ws))
+        → Same (w ∷ ws) (cond b (1 + place_in ws v.index) 0) v → by_index (set (w ∷ ws) (cond b (1 + place_in ws v.index) 0) v) ≡ put nat_cmp v.index v (by_index (w ∷ ws))
+    by_test true lt after same =
+        later_set w v ws (place_in ws v.index) ∙ ap (λ (t : List (ℕ × Value)). (w.index, w) ∷ t) (after (later_same w v ws (place_in ws v.index) same))
+        ∙ sym (ap (λ r. by_order r ((v.index, v) ∷ by_index (w ∷ ws)) ((w.index, v) ∷ by_index ws) ((w.index, w) ∷ put nat_cmp v.index v (by_index ws))) (above v.index w.index lt))
+    by_test false past after same =
+        ap (λ (n : ℕ). (n, v) ∷ by_index ws) (sym same.1)
+        ∙ sym (ap (λ r. by_order r ((v.index, v) ∷ by_index (w ∷ ws)) ((w.index, v) ∷ by_index ws) ((w.index, w) ∷ put nat_cmp v.index v (by_index ws))) (tie v.index w.index same.1))
+
+-- the same, at a number that a call gave
+pub put_new : (vs new : List Value) (n : ℕ) (v d : Value) → n ≡ place_in vs v.index → (n < length vs → (get_or vs n d).index ≢ v.index) → new ≡ insert vs n v → by_index new ≡ put nat_cmp v.index v (by_index vs)
+put_new vs new n v d at other is =
+    let found : IsOther vs n v = λ lt same. other lt (ap (λ (w : Value). w.index) (get_or_default vs n d v lt) ∙ same) in
+    let there : IsOther vs (place_in vs v.index) v = rw at at found in
+    rw (is, at) (new_place vs v there)
+
+pub put_over : (vs new : List Value) (n : ℕ) (v d : Value) → n ≡ place_in vs v.index → n < length vs → (get_or vs n d).index ≡ v.index → new ≡ set vs n v → by_index new ≡ put nat_cmp v.index v (by_index vs)
+put_over vs new n v d at lt same is =
+    let found : Same vs n v = (lt, ap (λ (w : Value). w.index) (sym (get_or_default vs n d v lt)) ∙ same) in
+    let there : Same vs (place_in vs v.index) v = rw at at found in
+    rw (is, at) (same_place vs v there)
+
+-- one more value is put
+pub put_all-push : (es : List (ℕ × Value)) (vs : List Value) (v : Value) → put_all es (vs ++ v ∷ []) ≡ put nat_cmp v.index v (put_all es vs)
+put_all-push es [] v = refl
+put_all-push es (w ∷ ws) v = put_all-push (put nat_cmp w.index w es) ws v
+
+-- the place that was counted in a slice of the vector
+pub place_of_count : (slice vs : List Value) (n i : ℕ) → slice ≡ vs → n ≡ place_in slice i → (n ≡ place_in vs i) × (n ≤ length vs)
+place_of_count slice vs n i same count =
+    let at : n ≡ place_in vs i = count ∙ ap (λ (xs : List Value). place_in xs i) same in
+    (at, omega (arith, at, prefix_len-le-length (λ (w : Value). ltb w.index i) vs))

@@ -1,0 +1,15 @@
+use Rattle.std.proofs.Common.{◌≡◌, ◌≤◌, ◌+◌, ◌++◌, ◌∷◌, [], ◌∙◌, ap, sym, length, length-append, vec_len, vec_capacity, arith, List, ℕ}
+use Rattle.std.specs.Ordering.{nat_cmp}
+use Rattle.std.specs.FinMap.{put}
+use Rattle.hdl_value.specs.declared.value.Value.{Value}
+use Rattle.hdl_rows.specs.Shelf.{by_index}
+use Rattle.hdl_rows.proofs.RowLemmas.{put_all-push}
+use Rattle.hdl_rows.proofs.row.put_copies.Goals as goal
+
+pub loop-value-preserved : goal.loop-value-preserved
+loop-value-preserved c =
+    let v = c.in-Some.value in
+    let room = length-append c.loop-value.yielded (c.in-Some.value ∷ []) in (
+      c.put_value.ensures.put ∙ ap (λ (es : List (ℕ × Value)). put nat_cmp v.index v es) c.loop-value.invariant.0 ∙ sym (put_all-push (by_index c.reserve.new.self.items) c.loop-value.yielded v),
+      omega (arith, c.put_value.ensures.len, c.put_value.ensures.capacity, c.loop-value.invariant.1),
+    )

@@ -1,0 +1,122 @@
+//! A table in memory.
+
+ghost use Rattle.std.specs.Prelude.{◌≡◌, MatchResult, IsErr, Ok, IfOk, option_copied};
+ghost use Rattle.hdl_rows.specs.Table.{no_rows, counted};
+
+use crate::rows::{Refused, Rows};
+use crate::shelf::Shelf;
+use hdl_name::Name;
+use hdl_value::{Octets, Reference, Value};
+use std::alloc::{AllocError, Global};
+use std::marker::Model;
+
+/// A table in memory, which refuses a call only where a growth was refused. Contracts see what it holds and how many calls
+/// were refused.
+#[derive(Drop)]
+pub struct PlainRows {
+    alloc: Global,
+    shelf: Shelf,
+    refusals: u64,
+}
+
+impl Model for PlainRows {
+    ghost use Rattle.hdl_rows.specs.Table.{Held, held_code};
+
+    ghost Value = { Held };
+
+    ghost coded = { held_code };
+
+    ghost view = { λ s. record { table = s.shelf; refused = s.refusals } };
+}
+
+impl PlainRows {
+    /// An empty table. It takes no memory.
+    pub fn new(alloc: Global) -> PlainRows
+        ensures empty { result ≡ record { table = no_rows; refused = 0 } }
+    {
+        PlainRows {
+            alloc,
+            shelf: Shelf::new(alloc),
+            refusals: 0,
+        }
+    }
+}
+
+// Counts a call that was refused.
+fn tally<T>(refusals: &mut u64, outcome: Result<T, AllocError>) -> Result<T, Refused>
+    ensures count { refusals.new ≡ counted outcome refusals.old }
+    ensures same { MatchResult outcome (λ x. result ≡ Ok x) (λ _. IsErr result) }
+{
+    match outcome {
+        Ok(value) => Ok(value),
+        Err(_) => {
+            *refusals = refusals.saturating_add(1);
+            Err(Refused)
+        }
+    }
+}
+
+// A copy of what was found.
+fn copied(alloc: Global, value: Option<&Value>) -> Result<Option<Value>, AllocError>
+    ensures { IfOk result (λ copy. copy ≡ option_copied value.entry) }
+{
+    match value {
+        Some(value) => Ok(Some(value.copy(alloc)?)),
+        None => Ok(None),
+    }
+}
+
+impl Rows for PlainRows {
+    ghost content = { λ s. s.table };
+
+    ghost refused = { λ s. s.refused };
+
+    fn exists(&mut self, name: &Name) -> Result<bool, Refused> {
+        Ok(self.shelf.has(name.canon()))
+    }
+
+    fn at(&mut self, reference: &Reference) -> Result<Option<Value>, Refused> {
+        let value = self.shelf.value(reference.name.canon(), reference.index);
+        let found = copied(self.alloc, value);
+        tally(&mut self.refusals, found)
+    }
+
+    fn values(&mut self, name: &Name) -> Result<Vec<Value>, Refused> {
+        let found = self.shelf.values(self.alloc, name.canon());
+        tally(&mut self.refusals, found)
+    }
+
+    fn names(&mut self, authority: &[u8]) -> Result<Vec<Octets>, Refused> {
+        let found = self.shelf.names(self.alloc, authority);
+        tally(&mut self.refusals, found)
+    }
+
+    fn create(&mut self, name: &Name, values: &[Value]) -> Result<(), Refused> {
+        let done = self.shelf.create(self.alloc, name.canon(), values);
+        tally(&mut self.refusals, done)
+    }
+
+    fn add(&mut self, name: &Name, values: &[Value]) -> Result<(), Refused> {
+        let done = self.shelf.put(self.alloc, name.canon(), values);
+        tally(&mut self.refusals, done)
+    }
+
+    fn modify(&mut self, name: &Name, values: &[Value]) -> Result<(), Refused> {
+        let done = self.shelf.put(self.alloc, name.canon(), values);
+        tally(&mut self.refusals, done)
+    }
+
+    fn remove(&mut self, name: &Name, indexes: &[u32]) -> Result<(), Refused> {
+        self.shelf.remove(name.canon(), indexes);
+        Ok(())
+    }
+
+    fn delete(&mut self, name: &Name) -> Result<(), Refused> {
+        self.shelf.delete(name.canon());
+        Ok(())
+    }
+
+    fn refusals(&self) -> u64 {
+        self.refusals
+    }
+}

@@ -1,0 +1,91 @@
+//! One handle with its values.
+
+ghost use Rattle.std.specs.Prelude.{◌≡◌, ◌≤◌, ◌<◌, ◌+◌, ◌==◌, not, filter, nat_lt, option_copied, vec_len, vec_capacity, IfOk, OnOk, OnErr};
+ghost use Rattle.std.specs.List.{list_any, prefix_len};
+ghost use Rattle.std.specs.FinMap.{find, put};
+ghost use Rattle.std.specs.Ordering.{nat_cmp};
+ghost use Rattle.hdl_rows.specs.Shelf.{by_index, put_all};
+
+use hdl_value::{Octets, Value};
+use std::alloc::{AllocError, Global};
+
+/// A canonical handle, and its values by rising index.
+#[derive(Drop)]
+pub(crate) struct Row {
+    pub(crate) name: Octets,
+    pub(crate) values: Vec<Value>,
+}
+
+/// The value with this index.
+pub(crate) fn value_of(values: &[Value], index: u32) -> Option<&Value>
+    ensures { option_copied result ≡ find nat_cmp index (by_index values.now) }
+{
+    for value in values {
+        if value.index == index {
+            return Some(value);
+        }
+    }
+    None
+}
+
+pub(crate) fn copies(alloc: Global, values: &[Value]) -> Result<Vec<Value>, AllocError>
+    ensures { IfOk result (λ all. all.items ≡ values.now) }
+{
+    let mut all = Vec::new(alloc);
+    for value in values {
+        all.push(value.copy(alloc)?)?;
+    }
+    Ok(all)
+}
+
+// How many values at the front have an index below.
+fn count_below(values: &[Value], index: u32) -> usize
+    ensures { result ≡ prefix_len (λ v. nat_lt v.index index) values.now }
+{
+    values
+        .iter()
+        .take_while(|value| value.index < index)
+        .count()
+}
+
+// Puts a value in its place, over the one with its index if there is one.
+fn put_value(values: &mut Vec<Value>, value: Value)
+    requires room { vec_len values.old < vec_capacity values.old }
+    ensures put { by_index values.new.items ≡ put nat_cmp value.index value (by_index values.old.items) }
+    ensures len { vec_len values.new ≤ vec_len values.old + 1 }
+    ensures capacity { vec_capacity values.new ≡ vec_capacity values.old }
+{
+    let at = count_below(values, value.index);
+    if at < values.len() && values[at].index == value.index {
+        values[at] = value;
+    } else {
+        match values.insert(at, value) {
+            Ok(()) => {}
+            Err(_) => unreachable!(),
+        }
+    }
+}
+
+/// Puts copies of all in their places. All memory is taken first.
+pub(crate) fn put_copies(
+    alloc: Global,
+    values: &mut Vec<Value>,
+    others: &[Value],
+) -> Result<(), AllocError>
+    ensures done { OnOk result (by_index values.new.items ≡ put_all (by_index values.old.items) others.now) }
+    ensures undone { OnErr result (values.new.items ≡ values.old.items) }
+{
+    let fresh = copies(alloc, others)?;
+    values.reserve(fresh.len())?;
+    for value in fresh {
+        put_value(values, value);
+    }
+    Ok(())
+}
+
+/// Takes the values with these indexes away.
+pub(crate) fn take_away(values: &mut Vec<Value>, indexes: &[u32])
+    ensures { values.new.items ≡ filter (λ v. not (list_any (λ i. i == v.index) indexes.now)) values.old.items }
+{
+    values.retain(|value| !indexes.contains(&value.index));
+}
