@@ -11,8 +11,8 @@ ghost use Rattle.hdl_tenants.specs.Lines.{IsPublisherLine, IsPrefixLine, IsValue
 ghost use Rattle.hdl_tenants.specs.Text.{IsSkipped};
 ghost use Rattle.hdl_tenants.specs.Steps.{IsNameFault, IsDigitsFault};
 
-use crate::decimal::decimal_u16;
 use crate::fault::TenantFault;
+use crate::numerals::decimal_u16;
 use hdl_name::{Name, is_authority, is_name};
 use hdl_value::{Value, ValueFault, read_value};
 use hex::FromHexError;
