@@ -1,19 +1,17 @@
 -- Laws over replies.
-use Rattle.std.proofs.Common.{◌≡◌, ℕ, ◌+◌, ◌-◌, ◌<◌, ◌≤◌, ◌^◌, List, [], ◌∷◌, ◌++◌, length, take, drop, refl, sym, ap, ◌∙◌, append_assoc, arith}
+use Rattle.std.proofs.Common.{◌≡◌, ℕ, List, [], ◌++◌, take, drop, refl, sym, ap, ◌∙◌, append_assoc, arith}
 use Rattle.std.specs.Int.{w32, from_be_bytes}
-use Rattle.std.proofs.lemmas.List.{append-nil, length-append}
+use Rattle.std.proofs.lemmas.List.{length-append}
 use Rattle.std.proofs.lemmas.Nat.{from_be_bytes-to_be_bytes_4}
 use Rattle.hdl_frame.specs.Envelope.{envelope_octets}
 use Rattle.hdl_value.specs.Spelling.{string}
 use Rattle.hdl_value.proofs.Codecs.{prefix_free}
-use Rattle.hdl_msg.specs.declared.fields.Header.{Header}
 use Rattle.hdl_msg.specs.declared.replies.Reply.{Reply}
-use Rattle.hdl_msg.specs.Message.{number, header_octets, IsNumber}
+use Rattle.hdl_msg.specs.Message.{header_octets, IsNumber}
 use Rattle.hdl_msg.specs.Reading.{message_at}
-use Rattle.hdl_msg.specs.Reply.{digest_octets, content_octets, reply_body, reply_message, reply_envelope, reply_octets}
+use Rattle.hdl_msg.specs.Reply.{reply_body, reply_message, reply_octets}
 use Rattle.hdl_msg.specs.Laws.{response_code_at, ReplyFits}
 use Rattle.hdl_msg.proofs.Codecs.{Message, message_spelling, MessageFits, message_codec}
-use Rattle.hdl_msg.proofs.Written.{length-reply_message}
 
 pub code_at_its_place_lem : (y : Reply) → IsNumber y.header.response_code → response_code_at (reply_octets y) ≡ y.header.response_code
 unfolding reply_octets envelope_octets reply_message header_octets

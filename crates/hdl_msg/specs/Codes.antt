@@ -1,8 +1,56 @@
--- The numbers of operations and of responses (RFC 3652, sections 2.2.2.1 and 2.2.2.2; the numbers are this project's own:
+-- The numbers of operations, responses and flags (RFC 3652, sections 2.2.2.1 to 2.2.2.3; the numbers are this project's own:
 -- docs/PROTOCOL.md, "Message").
-use Rattle.std.specs.Prelude.{ℕ}
+use Rattle.std.specs.Prelude.{◌≡◌, ◌≢◌, ℕ, ◌==◌, if◌then◌else◌, Bool, Option, Some, None}
+use Rattle.hdl_value.specs.Permission.{has_bit}
+use Rattle.hdl_msg.specs.declared.codes.OpCode.{OpCode}
+use Rattle.hdl_msg.specs.declared.codes.OpCode.TheVariants.{Resolution, CreateHandle, DeleteHandle, AddValue, RemoveValue, ModifyValue, ListHandles, ChallengeResponse}
+use Rattle.hdl_msg.specs.declared.codes.OpFlag.{OpFlag}
+use Rattle.hdl_msg.specs.declared.codes.OpFlag.TheVariants.{Authoritative, Certified, Encrypted, Recursive, CacheAuthentication, Continuous, KeepConnection, PublicOnly, ReturnDigest}
 use Rattle.hdl_msg.specs.declared.codes.ResponseCode.{ResponseCode}
 use Rattle.hdl_msg.specs.declared.codes.ResponseCode.TheVariants.{Success, Error, ServerBusy, ProtocolError, OperationDenied, HandleNotFound, HandleAlreadyExists, InvalidHandle, ValueNotFound, ValueAlreadyExists, ValueInvalid, ServiceReferral, NotAuthorized, AccessDenied, AuthenticationNeeded, AuthenticationFailed, InvalidCredential, AuthenticationTimeout, UnableToAuthenticate}
+
+abbrev pub op_number : OpCode → ℕ
+op_number Resolution = 1
+op_number CreateHandle = 100
+op_number DeleteHandle = 101
+op_number AddValue = 102
+op_number RemoveValue = 103
+op_number ModifyValue = 104
+op_number ListHandles = 105
+op_number ChallengeResponse = 200
+
+-- the operation of a number, of those that are used
+unfoldable pub op_code_of : ℕ → Option OpCode
+op_code_of n =
+  if n == 1 then Some Resolution
+  else if n == 100 then Some CreateHandle
+  else if n == 101 then Some DeleteHandle
+  else if n == 102 then Some AddValue
+  else if n == 103 then Some RemoveValue
+  else if n == 104 then Some ModifyValue
+  else if n == 105 then Some ListHandles
+  else if n == 200 then Some ChallengeResponse
+  else None
+
+-- the number is that of this operation, or of none that is used
+abbrev pub IsNumberOf : Option OpCode → ℕ → Type 0
+IsNumberOf (Some code) n = n ≡ op_number code
+IsNumberOf None n = (code : OpCode) → n ≢ op_number code
+
+-- the flags of a header, from its highest bit on
+abbrev pub flag_bit : OpFlag → ℕ
+flag_bit Authoritative = 0x80000000
+flag_bit Certified = 0x40000000
+flag_bit Encrypted = 0x20000000
+flag_bit Recursive = 0x10000000
+flag_bit CacheAuthentication = 0x08000000
+flag_bit Continuous = 0x04000000
+flag_bit KeepConnection = 0x02000000
+flag_bit PublicOnly = 0x01000000
+flag_bit ReturnDigest = 0x00800000
+
+abbrev pub has_flag : ℕ → OpFlag → Bool
+has_flag flags flag = has_bit flags (flag_bit flag)
 
 abbrev pub response_number : ResponseCode → ℕ
 response_number Success = 1

@@ -1,10 +1,14 @@
 -- Reading of messages, from the readers of their fields.
-use Rattle.std.specs.Prelude.{ℕ, zero, suc, ◌==◌, if◌then◌else◌, List, [], ◌∷◌, Option, Some, None}
+use Rattle.std.specs.Prelude.{ℕ, zero, suc, List, [], ◌∷◌, Option, Some, None}
 use Rattle.std.specs.Option.{option_map_or}
 use Rattle.std.specs.Int.{w16, w32}
 use Rattle.hdl_value.specs.declared.value.Value.{Value}
-use Rattle.hdl_value.specs.Reading.{◌>>=◌, pair_at, seen_at, counted_at, whole_of, number_at, octet_at, string_at, value_at}
+use Rattle.hdl_value.specs.Reading.{◌>>=◌, pair_at, seen_at, counted_at, whole_of, number_at, octet_at, string_at}
+use Rattle.hdl_value.specs.Cut.{value_at}
 use Rattle.hdl_msg.specs.declared.fields.Header.{Header}
+use Rattle.hdl_msg.specs.declared.codes.OpCode.{OpCode}
+use Rattle.hdl_msg.specs.declared.codes.OpCode.TheVariants.{Resolution, CreateHandle, DeleteHandle, AddValue, RemoveValue, ModifyValue, ListHandles, ChallengeResponse}
+use Rattle.hdl_msg.specs.Codes.{op_code_of}
 use Rattle.hdl_msg.specs.Message.{Operation, resolution, create, delete, add, remove, modify, list, response, other, Content}
 
 -- what can be read, up to so many: what a walk over a list gives
@@ -42,18 +46,17 @@ response_in octets = do
   x ← whole_of (pair_at string_at (pair_at string_at (pair_at (number_at w32) string_at))) octets
   Some (response x.0 x.1.0 x.1.1.0 x.1.1.1)
 
--- the body of the operation with this code, all of the octets
-unfoldable pub operation_in : ℕ → List ℕ → Option Operation
-operation_in code octets =
-    if code == 1 then resolution_in octets
-    else if code == 100 then (with_values_in octets >>= λ x. Some (create x.0 x.1))
-    else if code == 101 then (whole_of string_at octets >>= λ x. Some (delete x))
-    else if code == 102 then (with_values_in octets >>= λ x. Some (add x.0 x.1))
-    else if code == 103 then remove_in octets
-    else if code == 104 then (with_values_in octets >>= λ x. Some (modify x.0 x.1))
-    else if code == 105 then (whole_of string_at octets >>= λ x. Some (list x))
-    else if code == 200 then response_in octets
-    else Some (other octets)
+-- the body of the operation with this code, all of the octets; of one that isn't used any octets
+unfoldable pub operation_in : Option OpCode → List ℕ → Option Operation
+operation_in (Some Resolution) octets = resolution_in octets
+operation_in (Some CreateHandle) octets = with_values_in octets >>= λ x. Some (create x.0 x.1)
+operation_in (Some DeleteHandle) octets = whole_of string_at octets >>= λ x. Some (delete x)
+operation_in (Some AddValue) octets = with_values_in octets >>= λ x. Some (add x.0 x.1)
+operation_in (Some RemoveValue) octets = remove_in octets
+operation_in (Some ModifyValue) octets = with_values_in octets >>= λ x. Some (modify x.0 x.1)
+operation_in (Some ListHandles) octets = whole_of string_at octets >>= λ x. Some (list x)
+operation_in (Some ChallengeResponse) octets = response_in octets
+operation_in None octets = Some (other octets)
 
 -- ---- messages
 
@@ -77,5 +80,5 @@ message_at octets = pair_at signed_at string_at octets
 unfoldable pub request_at : List ℕ → Option Content
 request_at octets = do
   m ← whole_of message_at octets
-  operation ← operation_in m.0.0.op_code m.0.1
+  operation ← operation_in (op_code_of m.0.0.op_code) m.0.1
   Some (record { header = m.0.0; operation = operation })

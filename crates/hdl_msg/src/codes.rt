@@ -1,7 +1,82 @@
-//! What a reply says in one number.
+//! Operations, flags and responses, and their numbers.
 
 ghost use Rattle.std.specs.Prelude.{◌≡◌};
-ghost use Rattle.hdl_msg.specs.Codes.{response_number};
+ghost use Rattle.hdl_msg.specs.Codes.{op_number, op_code_of, IsNumberOf, flag_bit, response_number};
+
+/// OpCode, under the names of RFC 3652, section 2.2.2.1; the numbers are this project's own. Every other number is that of
+/// an operation that isn't used.
+#[derive(Clone, Copy, Debug, PartialEq, Eq)]
+pub enum OpCode {
+    Resolution = 1,
+    CreateHandle = 100,
+    DeleteHandle = 101,
+    AddValue = 102,
+    RemoveValue = 103,
+    ModifyValue = 104,
+    ListHandles = 105,
+    ChallengeResponse = 200,
+}
+
+impl OpCode {
+    /// Its number on the wire.
+    pub fn number(self) -> u32
+        ensures { result ≡ op_number self }
+    {
+        self as u32
+    }
+
+    /// The operation of a number, or None where it is that of none.
+    #[tactic(auto, unfolding(crate::specs::Codes::op_code_of))]
+    pub fn of(number: u32) -> Option<OpCode>
+        ensures computed { result ≡ op_code_of number }
+        ensures number { IsNumberOf result number }
+    {
+        match number {
+            1 => Some(OpCode::Resolution),
+            100 => Some(OpCode::CreateHandle),
+            101 => Some(OpCode::DeleteHandle),
+            102 => Some(OpCode::AddValue),
+            103 => Some(OpCode::RemoveValue),
+            104 => Some(OpCode::ModifyValue),
+            105 => Some(OpCode::ListHandles),
+            200 => Some(OpCode::ChallengeResponse),
+            _ => None,
+        }
+    }
+}
+
+/// The bits of OpFlag, under the names of RFC 3652, section 2.2.2.3. Of a request only PublicOnly and ReturnDigest are
+/// looked at; of a reply only ReturnDigest is ever set.
+#[derive(Clone, Copy, Debug, PartialEq, Eq)]
+pub enum OpFlag {
+    /// AT.
+    Authoritative = 0x8000_0000,
+    /// CT.
+    Certified = 0x4000_0000,
+    /// ENC.
+    Encrypted = 0x2000_0000,
+    /// REC.
+    Recursive = 0x1000_0000,
+    /// CA.
+    CacheAuthentication = 0x0800_0000,
+    /// CN.
+    Continuous = 0x0400_0000,
+    /// KC.
+    KeepConnection = 0x0200_0000,
+    /// PO: the answer may show public values alone.
+    PublicOnly = 0x0100_0000,
+    /// RD: the reply is to carry the request's digest.
+    ReturnDigest = 0x0080_0000,
+}
+
+impl OpFlag {
+    /// Its bit.
+    pub fn bit(self) -> u32
+        ensures { result ≡ flag_bit self }
+    {
+        self as u32
+    }
+}
 
 /// ResponseCode, under the names of RFC 3652, section 2.2.2.2; the numbers are this project's own.
 #[derive(Clone, Copy, Debug, PartialEq, Eq)]

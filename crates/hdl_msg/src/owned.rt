@@ -13,9 +13,9 @@ pub struct ValueList {
 
 impl Model for ValueList {
     ghost use Rattle.std.specs.Prelude.{List};
-    ghost use Rattle.hdl_msg.specs.Cut.{CutAs};
+    ghost use Rattle.hdl_value.specs.Kept.{ValueRecord};
 
-    ghost Value = { List CutAs };
+    ghost Value = { List ValueRecord };
 
     ghost view = { λ a. a.values.items };
 }

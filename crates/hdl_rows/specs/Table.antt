@@ -37,9 +37,16 @@ at t p = map.get t.values p
 abbrev pub values_of : Table → List ℕ → List Value
 values_of t h = map.values (map.retain_keys t.values (λ p. same_handle p.handle h))
 
+abbrev pub key : List ℕ → List ℕ × Unit {0}
+key h = (h, tt)
+
+-- the members of a set, rising by octets: the keys of the map that has just these
+abbrev pub in_order : set.FinSet handle_cmp → List (List ℕ)
+in_order s = map.keys (map.from_entries {R = handle_cmp} (map key (set.items s)))
+
 -- the handles of an authority, rising by octets
 abbrev pub names_of : Table → List ℕ → List (List ℕ)
-names_of t a = set.items (set.retain t.handles (λ h. same_handle (authority h) a))
+names_of t a = in_order (set.retain t.handles (λ h. same_handle (authority h) a))
 
 -- each value stands at a handle of the set
 abbrev pub IsPlaced : Table → Type 0

@@ -7,6 +7,7 @@
 #![tactic(auto)]
 
 mod fuse;
+pub mod laws;
 mod rows;
 
 pub use fuse::Fuse;

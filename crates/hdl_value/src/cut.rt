@@ -36,9 +36,9 @@ pub struct CutValue<'a> {
 
 impl<'a> Model for CutValue<'a> {
     ghost use Rattle.hdl_value.specs.Cut.{value_view, IsCut};
-    ghost use Rattle.hdl_value.specs.Kept.{CutAs};
+    ghost use Rattle.hdl_value.specs.Kept.{ValueRecord};
 
-    ghost Value = { CutAs };
+    ghost Value = { ValueRecord };
 
     ghost view = { λ c. value_view c.fields };
 

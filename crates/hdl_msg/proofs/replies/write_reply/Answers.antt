@@ -1,4 +1,4 @@
-use Rattle.std.proofs.Common.{◌≡◌, ◌∙◌, ap, arith, rules}
+use Rattle.std.proofs.Common.{arith, rules}
 use Rattle.hdl_msg.proofs.Written.{length-reply_message, content_short, reply_written}
 use Rattle.hdl_msg.proofs.replies.write_reply.Goals as goal
 

@@ -1,0 +1,29 @@
+-- Whole runs: one outcome for each event.
+use Rattle.std.specs.Prelude.{◌≡◌, List, [], ◌∷◌, map, ⊤}
+use Rattle.hdl_laws.specs.declared.events.Event.{Event}
+use Rattle.hdl_laws.specs.declared.events.Outcome.{Outcome}
+use Rattle.hdl_laws.specs.Worlds.{World, Turn, IsStep}
+
+-- each turn is a step from the world that the one before it left
+abbrev pub IsRun : World → List Turn → Type 0
+IsRun w [] = ⊤
+IsRun w (t ∷ ts) = IsStep w t × IsRun t.after ts
+
+-- the world after the turns
+abbrev pub last : World → List Turn → World
+last w [] = w
+last w (t ∷ ts) = last t.after ts
+
+abbrev pub events : List Turn → List Event
+events ts = map (λ t. t.event) ts
+
+abbrev pub outcomes : List Turn → List Outcome
+outcomes ts = map (λ t. t.outcome) ts
+
+-- the events can have these outcomes, and lead from one world to the other
+abbrev pub Run : World → List Event → List Outcome → World → Type 0
+Run w es os new = (ts : List Turn) × IsRun w ts × (events ts ≡ es) × (outcomes ts ≡ os) × (last w ts ≡ new)
+
+-- the event has this outcome, and leads from one world to the other
+abbrev pub Steps : World → Event → Outcome → World → Type 0
+Steps w e o new = (t : Turn) × IsStep w t × (t.event ≡ e) × (t.outcome ≡ o) × (t.after ≡ new)

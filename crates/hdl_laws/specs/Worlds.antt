@@ -1,0 +1,168 @@
+-- The service as a machine: a world, an event, its outcome, the world after it (docs/PROTOCOL.md, "One event").
+use Rattle.std.specs.Prelude.{◌≡◌, ◌≢◌, ℕ, List, Bool, true, false, Option, Some, None, if◌then◌else◌, ◌⊎◌, drop, unwrap_or, IsTrue, MatchBool}
+use Rattle.std.specs.Ordering.{nat_cmp}
+use Rattle.std.specs.FinMap as map
+use Rattle.hdl_frame.specs.declared.envelope.Envelope.{Envelope}
+use Rattle.hdl_frame.specs.Envelope.{envelope_at, is_truncated}
+use Rattle.hdl_frame.specs.Frames.{IsFrame}
+use Rattle.hdl_msg.specs.Message.{Content, SpellsRequest}
+use Rattle.hdl_msg.specs.Reply.{reply_envelope, reply_octets, short_reply}
+use Rattle.hdl_rows.specs.Table.{Table}
+use Rattle.hdl_tenants.specs.Register.{Hosting, hosts_among}
+use Rattle.hdl_ops.specs.declared.change.Change.{Change}
+use Rattle.hdl_ops.specs.Decisions.{Decision, Decides}
+use Rattle.hdl_ops.specs.Replies.{reply_to}
+use Rattle.hdl_ops.specs.Tables.{apply_if}
+use Rattle.hdl_laws.specs.declared.events.What.{What}
+use Rattle.hdl_laws.specs.declared.events.What.TheVariants.{Open, Bad, Close}
+use Rattle.hdl_laws.specs.declared.events.Event.{Event}
+use Rattle.hdl_laws.specs.declared.events.Outcome.{Outcome}
+use Rattle.hdl_laws.specs.declared.events.Outcome.TheVariants.{Reply, Busy, Silent, CloseAfter}
+use Rattle.hdl_laws.specs.Lanes.{LaneState, fresh}
+
+-- what a frame event brings
+pub record Received : Type 0 where
+  pub peer : ℕ
+  pub moment : ℕ
+  pub nonce : List ℕ
+  pub bytes : List ℕ
+
+-- which publisher owns a lane, and which prefixes are hosted for whom
+pub record Site : Type 0 where
+  pub owners : map.FinMap nat_cmp ℕ
+  pub hostings : List Hosting
+
+pub record World : Type 0 where
+  pub site : Site
+  pub table : Table
+  pub lanes : map.FinMap nat_cmp LaneState
+
+abbrev pub owner : Site → ℕ → Option ℕ
+owner s lane = map.get s.owners lane
+
+abbrev pub hosts : Site → ℕ → List ℕ → Bool
+hosts s publisher prefix = hosts_among s.hostings publisher prefix
+
+-- a lane of which nothing is kept is closed
+abbrev pub lane_of : World → ℕ → LaneState
+lane_of w lane = unwrap_or (map.get w.lanes lane) (fresh false)
+
+-- what an event of a lane does: its outcome, the lane after it, and the change of the table
+pub record Effect : Type 0 where
+  pub outcome : Outcome
+  pub state : LaneState
+  pub change : Option Change
+
+-- a frame on an open lane, with the message that it brings
+pub record Letter : Type 0 where
+  pub received : Received
+  pub envelope : Envelope
+  pub message : List ℕ
+
+abbrev pub letter : Received → Letter
+letter x = record { received = x; envelope = envelope_at x.bytes; message = drop 20 x.bytes }
+
+-- ---- what an event comes to before the table is looked at, with the lane as it then is
+
+pub data Task : Type 0 where
+  Ignore : LaneState → Task
+  Break : ℕ → ℕ → LaneState → Task
+  Malformed : Letter → LaneState → Task
+  Ask : Letter → Content → LaneState → Task
+
+-- what the octets spell, or that they spell nothing
+abbrev pub IsReading : {A : Type 0} → (A → Type 0) → Option A → Type 0
+IsReading {A} P None = (x : A) → P x → ⊥
+IsReading P (Some x) = P x
+
+-- a message, by its reading
+abbrev pub IsMessageTask : LaneState → Letter → Option Content → Task → Type 0
+IsMessageTask s m None k = k ≡ Malformed m s
+IsMessageTask s m (Some r) k = k ≡ Ask m r s
+
+-- a frame, by its message; a piece of a message is not taken yet
+abbrev pub IsFrameTask : LaneState → Letter → Task → Type 0
+IsFrameTask s m k =
+    MatchBool (is_truncated m.envelope)
+    (k ≡ Ignore s)
+    ((o : Option Content) × IsReading (SpellsRequest m.message) o × IsMessageTask s m o k)
+
+-- octets, by the frame that they are or are not
+abbrev pub IsOctetsTask : LaneState → Received → Task → Type 0
+IsOctetsTask s x k = (IsFrame x.bytes × IsFrameTask s (letter x) k) ⊎ ((¬ IsFrame x.bytes) × (k ≡ Ignore s))
+
+abbrev pub IsTask : LaneState → What → Task → Type 0
+IsTask s Open k = k ≡ Ignore (fresh true)
+IsTask s Close k = k ≡ Ignore (fresh false)
+IsTask s (Bad session request) k = k ≡ (if s.is_open then Break session request s else Ignore s)
+IsTask s (What.Frame peer moment nonce bytes) k =
+    MatchBool s.is_open
+    (IsOctetsTask s (record { peer = peer; moment = moment; nonce = nonce; bytes = bytes }) k)
+    (k ≡ Ignore s)
+
+-- ---- what a task does
+
+-- a request decided for anyone
+abbrev pub ask_effect : LaneState → Letter → Content → Decision → Effect
+ask_effect s m r d = record {
+  outcome = Reply (reply_octets (reply_to m.envelope.session m.envelope.request r d.code d.content));
+  state = s;
+  change = d.change;
+}
+
+-- the effect of a task on this table, for a publisher who hosts these prefixes
+abbrev pub Does : (List ℕ → Bool) → Table → Task → Effect → Type 0
+Does hosted t (Ignore s) eff = eff ≡ record { outcome = Silent; state = s; change = None }
+Does hosted t (Break session request s) eff = eff ≡ record { outcome = CloseAfter (short_reply 4 (reply_envelope session request 0)); state = s; change = None }
+Does hosted t (Malformed m s) eff = eff ≡ record { outcome = Reply (short_reply 4 m.envelope); state = s; change = None }
+Does hosted t (Ask m r s) eff = (d : Decision) × Decides hosted t r d × (eff ≡ ask_effect s m r d)
+
+-- ---- steps
+
+-- the moment of an event, which a change of the table is stamped with
+abbrev pub moment_of : What → ℕ
+moment_of Open = 0
+moment_of (What.Frame peer moment nonce bytes) = moment
+moment_of (Bad session request) = 0
+moment_of Close = 0
+
+-- the frame event of what was received
+abbrev pub arrived : Received → What
+arrived x = What.Frame x.peer x.moment x.nonce x.bytes
+
+-- one step: the event, its outcome, the change that it made, the world after it
+pub record Turn : Type 0 where
+  pub event : Event
+  pub outcome : Outcome
+  pub change : Option Change
+  pub after : World
+
+abbrev pub after_effect : World → Event → Effect → World
+after_effect w e eff = record {
+  site = w.site;
+  table = apply_if w.table (moment_of e.what) eff.change;
+  lanes = map.insert w.lanes e.lane eff.state;
+}
+
+abbrev pub turn : World → Event → Effect → Turn
+turn w e eff = record { event = e; outcome = eff.outcome; change = eff.change; after = after_effect w e eff }
+
+-- the turn is the answer, by the lane's owner: nobody's lane is silent
+abbrev pub IsAnswerFor : World → Option ℕ → Turn → Type 0
+IsAnswerFor w None t = t ≡ record { event = t.event; outcome = Silent; change = None; after = w }
+IsAnswerFor w (Some u) t = (eff : Effect) × (k : Task) × IsTask (lane_of w t.event.lane) t.event.what k × Does (hosts w.site u) w.table k eff × (t ≡ turn w t.event eff)
+
+abbrev pub IsAnswer : World → Turn → Type 0
+IsAnswer w t = IsAnswerFor w (owner w.site t.event.lane) t
+
+-- want of memory, or a refusal of the store: a frame on an open lane of somebody is answered busy, and the world stays
+pub record IsBusy (w : World) (t : Turn) : Type 0 where
+  pub received : Received
+  pub frame_event : t.event.what ≡ arrived received
+  pub frame : IsFrame received.bytes
+  pub owned : owner w.site t.event.lane ≢ None
+  pub is_open : IsTrue (lane_of w t.event.lane).is_open
+  pub busy : t ≡ record { event = t.event; outcome = Busy (short_reply 3 (envelope_at received.bytes)); change = None; after = w }
+
+abbrev pub IsStep : World → Turn → Type 0
+IsStep w t = IsAnswer w t ⊎ IsBusy w t

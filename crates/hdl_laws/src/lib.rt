@@ -1,0 +1,15 @@
+//! The laws of the service: what a world, an event, an outcome, a step and a run are, and what holds of every run.
+//!
+//! The definitions in `specs/Worlds.antt` and `specs/Runs.antt` are relations over the definitions of the crates below: a
+//! world is the lanes' owners, the hosted prefixes, a table and a state for each lane; a step is the answer of docs/PROTOCOL.md,
+//! "One event", or Busy with the world as it was; a run is a list of steps. The laws are the contracts of functions without a
+//! body, which the service calls.
+//!
+//! It stands on `hdl_ops` and has no state: what is said here is said of any service.
+#![tactic(auto)]
+
+mod events;
+pub mod laws;
+
+pub use events::{Event, Outcome, What};
+pub use hdl_value::Octets;

@@ -1,0 +1,74 @@
+-- How long the message of a reply is: session, request number and code don't matter.
+use Rattle.std.proofs.Common.{◌≡◌, ◌≤◌, ◌+◌, ℕ, Bool, true, false, cond, List, ◌++◌, length, length-append, refl, sym, ap, subst, ◌∙◌, arith, Some, None}
+use Rattle.std.specs.Prelude.{IsTrue, codes}
+use Rattle.std.specs.List.{position_or_len}
+use Rattle.std.proofs.lemmas.Bool.{leb-true, le-leb}
+use Rattle.std.proofs.lemmas.List.{length-take, length-drop}
+use Rattle.sha1.specs.Sha1.{sha1, digest_bytes}
+use Rattle.hdl_name.specs.Name.{IsHandle, is_slash, is_admin, sent_authority, sent_local, sent_prefix}
+use Rattle.hdl_value.specs.Spelling.{string}
+use Rattle.hdl_msg.specs.Message.{Content, number, signed_octets}
+use Rattle.hdl_msg.specs.declared.replies.Reply.{Reply}
+use Rattle.hdl_msg.specs.declared.replies.ReplyContent.{ReplyContent}
+use Rattle.hdl_msg.specs.declared.replies.ReplyContent.TheVariants.{Empty, Referral}
+use Rattle.hdl_msg.specs.Reply.{most_octets, capped, digest_octets, content_octets, reply_message, reply_body}
+use Rattle.hdl_msg.proofs.Written.{length-reply_message}
+use Rattle.hdl_ops.specs.Requests.{wants_digest}
+use Rattle.hdl_ops.specs.Replies.{reply_to, fits}
+
+same_length : (session number : ℕ) (r : Content) (code : ℕ) (content : ReplyContent)
+    → length (reply_message (reply_to session number r code content)) ≡ length (reply_message (reply_to 0 0 r 0 content))
+unfolding reply_to reply_body
+same_length session number r code content = length-reply_message (reply_to session number r code content) ∙ sym (length-reply_message (reply_to 0 0 r 0 content))
+
+pub fits_anywhere : (session number : ℕ) (r : Content) (code : ℕ) (content : ReplyContent) → IsTrue (fits r content)
+    → length (reply_message (reply_to session number r code content)) ≤ most_octets
+unfolding fits
+fits_anywhere session number r code content h =
+    let le = leb-true (length (reply_message (reply_to 0 0 r 0 content))) most_octets h in
+    let same = same_length session number r code content in
+    omega (arith, le, same)
+
+-- a reply that was measured and is short enough gives its content back
+pub content_fits : (r : Content) (content : ReplyContent) (reply : Reply) (n : ℕ) → reply ≡ reply_to 0 0 r 0 content → n ≡ capped (length (reply_message reply)) → n ≤ most_octets
+    → Some reply.content ≡ cond (fits r content) (Some content) None
+unfolding fits reply_to
+content_fits r content reply n is len le =
+    let short : length (reply_message (reply_to 0 0 r 0 content)) ≤ most_octets =
+    subst (λ (y : Reply). length (reply_message y) ≤ most_octets) is (omega (arith, len, le)) in
+    ap (λ (y : Reply). Some y.content) is ∙ ap (λ (b : Bool). cond b (Some content) None) (sym (le-leb (length (reply_message (reply_to 0 0 r 0 content))) most_octets short))
+
+-- ---- what always fits
+
+length-sha1 : (m : List ℕ) → length (sha1 m) ≡ 20
+unfolding sha1 digest_bytes
+length-sha1 m = refl
+
+digest_short : (b : Bool) (m : List ℕ) → length (digest_octets (cond b (Some (sha1 m)) None)) ≤ 21
+digest_short true m = let len = length-sha1 m in omega (arith, len)
+digest_short false m = omega arith
+
+short_fits : (r : Content) (content : ReplyContent) → length (content_octets content) ≤ 60000 → IsTrue (fits r content)
+unfolding fits reply_to
+short_fits r content h =
+    let y = reply_to 0 0 r 0 content in
+    let len = length-reply_message y in
+    let digest = digest_short (wants_digest r) (signed_octets r) in
+    le-leb (length (reply_message y)) most_octets (omega (arith, len, digest, h))
+
+pub empty_fits : (r : Content) → IsTrue (fits r Empty)
+empty_fits r = short_fits r Empty (omega arith)
+
+pub referral_fits : (r : Content) (prefix : List ℕ) → length prefix ≤ 2048 → IsTrue (fits r (Referral prefix))
+referral_fits r prefix h =
+    let front = length-append (codes "0.NA/") prefix in
+    let all = length-append (string (codes "0.NA/" ++ prefix)) (number 0) in
+    short_fits r (Referral prefix) (omega (arith, front, all, h))
+
+-- a name's prefix is no longer than the name
+pub prefix_short : (name : List ℕ) → IsHandle name → length (sent_prefix name) ≤ 2048
+prefix_short name h = by (is_admin name)
+  where
+    by : (b : Bool) → length (cond b (sent_local name) (sent_authority name)) ≤ 2048
+    by true = let short = h.2.short in let len = length-drop (position_or_len is_slash name + 1) name in omega (arith, short, len)
+    by false = let short = h.2.short in let len = length-take (position_or_len is_slash name) name in omega (arith, short, len)

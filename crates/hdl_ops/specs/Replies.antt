@@ -1,0 +1,29 @@
+-- The reply to a request: its digest where the request asks for it, and its content.
+use Rattle.std.specs.Prelude.{ℕ, List, Bool, Option, Some, None, if◌then◌else◌, length, nat_le}
+use Rattle.sha1.specs.Sha1.{sha1}
+use Rattle.hdl_msg.specs.Message.{Content, signed_octets}
+use Rattle.hdl_msg.specs.declared.replies.Reply.{Reply}
+use Rattle.hdl_msg.specs.declared.replies.ReplyContent.{ReplyContent}
+use Rattle.hdl_msg.specs.Reply.{most_octets, answer_header, reply_message}
+use Rattle.hdl_ops.specs.Requests.{wants_digest}
+
+-- the digest of a request: the SHA-1 of its header and body
+abbrev pub digest_of : Content → List ℕ
+digest_of r = sha1 (signed_octets r)
+
+abbrev pub asked_digest : Content → Option (List ℕ)
+asked_digest r = if wants_digest r then Some (digest_of r) else None
+
+-- the reply with this session, request number and code
+unfoldable pub reply_to : ℕ → ℕ → Content → ℕ → ReplyContent → Reply
+reply_to session number r code content = record {
+  session = session;
+  request = number;
+  header = answer_header r.header code;
+  digest = asked_digest r;
+  content = content;
+}
+
+-- the message of a reply with this content has at most 65,536 octets, whatever session, request number and code
+unfoldable pub fits : Content → ReplyContent → Bool
+fits r content = nat_le (length (reply_message (reply_to 0 0 r 0 content))) most_octets

@@ -1,0 +1,91 @@
+//! What is tested before the table is looked at.
+
+ghost use Rattle.std.specs.Prelude.{◌≡◌, ◌≤◌, length, option_map, IfOk, IfSome};
+ghost use Rattle.hdl_name.specs.Name.{canonical, sent_prefix};
+ghost use Rattle.hdl_name.specs.Tests.{is_handle};
+ghost use Rattle.hdl_tenants.specs.Register.{hosts};
+ghost use Rattle.hdl_msg.specs.Bodies.{content_of};
+ghost use Rattle.hdl_ops.specs.Decisions.{handle_in};
+ghost use Rattle.hdl_ops.specs.Views.{IsAdmitted};
+
+use crate::decision::Decision;
+use crate::requests::{named, resolves};
+use hdl_msg::{ReplyContent, Request, ResponseCode};
+use hdl_name::{Name, names_decided};
+use hdl_rows::Refused;
+use hdl_tenants::Tenants;
+use hdl_value::Octets;
+use std::alloc::{AllocError, Global};
+
+/// What comes of the tests before the table is looked at.
+#[derive(Drop)]
+pub(crate) enum Admitted {
+    Refused(Decision),
+    Passed(Name),
+}
+
+fn is_name(octets: &[u8]) -> bool
+    ensures { result ≡ is_handle octets.now }
+{
+    names_decided();
+    hdl_name::is_name(octets)
+}
+
+/// The name that octets are, if they are one.
+#[tactic(auto, unfolding(crate::specs::Decisions::handle_in))]
+fn read_name(alloc: Global, octets: &[u8]) -> Result<Option<Name>, Refused>
+    ensures handle { IfOk result (λ name. option_map canonical name ≡ handle_in octets.now) }
+    ensures sent { IfOk result (λ name. IfSome name (λ name. name ≡ octets.now)) }
+{
+    if !is_name(octets) {
+        return Ok(None);
+    }
+    match Name::read(alloc, octets) {
+        Ok(name) => Ok(Some(name)),
+        Err(_) => Err(Refused),
+    }
+}
+
+fn sent_prefix(alloc: Global, name: &Name) -> Result<Octets, AllocError>
+    ensures octets { IfOk result (λ octets. octets ≡ sent_prefix name.now) }
+    ensures short { IfOk result (λ octets. length octets ≤ 2048) }
+{
+    let _ = name.sent();
+    Ok(Octets::new(Vec::from_slice(alloc, name.prefix_sent())?))
+}
+
+fn failed(code: ResponseCode, content: ReplyContent) -> Admitted
+    ensures { result ≡ Admitted.Refused (record { code = code; content = content; change = None }) }
+{
+    Admitted::Refused(Decision {
+        code,
+        content,
+        change: None,
+    })
+}
+
+/// Tests the request before the table is looked at, and reads its name.
+#[tactic(auto, unfolding(crate::specs::Decisions::first, crate::specs::Decisions::refusal, crate::specs::Decisions::refused), using(crate::proofs::Lengths::empty_fits, crate::proofs::Lengths::referral_fits))]
+pub(crate) fn admit(
+    alloc: Global,
+    tenants: &Tenants,
+    publisher: usize,
+    request: &Request<'_>,
+) -> Result<Admitted, Refused>
+    ensures { IfOk result (λ admitted. IsAdmitted (hosts tenants.now publisher) (content_of request.now) admitted) }
+{
+    if !resolves(&request.body) {
+        return Ok(failed(ResponseCode::OperationDenied, ReplyContent::Empty));
+    }
+    let Some(name) = read_name(alloc, named(&request.body))? else {
+        return Ok(failed(ResponseCode::InvalidHandle, ReplyContent::Empty));
+    };
+    if !tenants.hosts(publisher, &name) {
+        let Ok(prefix) = sent_prefix(alloc, &name) else {
+            return Err(Refused);
+        };
+        let referral = ReplyContent::Referral { prefix };
+        return Ok(failed(ResponseCode::ServiceReferral, referral));
+    }
+    Ok(Admitted::Passed(name))
+}

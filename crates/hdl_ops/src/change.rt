@@ -1,0 +1,85 @@
+//! Changes of the table.
+
+ghost use Rattle.std.specs.Prelude.{◌≡◌, map, OnOk, OnErr};
+ghost use Rattle.hdl_rows.specs.Table.{indexes, counted};
+ghost use Rattle.hdl_ops.specs.Tables.{apply, stamped, CanApply};
+
+use hdl_msg::ValueList;
+use hdl_name::Name;
+use hdl_rows::{Refused, Rows};
+use hdl_value::Value;
+use std::marker::Model;
+
+/// Indexes on the heap, in order.
+#[derive(Debug, Drop)]
+pub struct IndexList {
+    indexes: Vec<u32>,
+}
+
+impl Model for IndexList {
+    ghost use Rattle.std.specs.Prelude.{ℕ, List};
+
+    ghost Value = { List ℕ };
+
+    ghost view = { λ a. a.indexes.items };
+}
+
+impl IndexList {
+    /// The indexes of a vector, which is taken as it is.
+    pub fn new(indexes: Vec<u32>) -> IndexList
+        ensures { result ≡ indexes.items }
+    {
+        IndexList { indexes }
+    }
+
+    /// The indexes where they stand.
+    pub fn as_slice(&self) -> &[u32]
+        ensures { result.now ≡ self.now }
+    {
+        &self.indexes
+    }
+}
+
+/// One write of the table. A name stands for its canonical form.
+#[derive(Debug, Drop)]
+pub enum Change {
+    Create { name: Name, values: ValueList },
+    Delete { name: Name },
+    Add { name: Name, values: ValueList },
+    Remove { name: Name, indexes: IndexList },
+    Modify { name: Name, values: ValueList },
+}
+
+fn with_moment(mut values: Vec<Value>, moment: u64) -> Vec<Value>
+    ensures { result.items ≡ map (stamped moment) values.items }
+{
+    for value in values.iter_mut() {
+        value.stamp = moment;
+    }
+    values
+}
+
+/// The values with the moment of their write.
+fn stamp(values: ValueList, moment: u64) -> Vec<Value>
+    ensures stamped { result.items ≡ map (stamped moment) values }
+    ensures indexes { indexes result.items ≡ indexes values }
+{
+    with_moment(values.into_vec(), moment)
+}
+
+/// Does the change, at a moment in milliseconds, which becomes the timestamp of each value that is written. Refused: the
+/// table is as it was.
+pub fn apply<R: Rows>(rows: &mut R, change: Change, moment: u64) -> Result<(), Refused>
+    requires can_apply { CanApply (R.content rows.old) change }
+    ensures done { OnOk result (R.content rows.new ≡ apply (R.content rows.old) moment change) }
+    ensures undone { OnErr result (R.content rows.new ≡ R.content rows.old) }
+    ensures count { R.refused rows.new ≡ counted result (R.refused rows.old) }
+{
+    match change {
+        Change::Create { name, values } => rows.create(&name, &stamp(values, moment)),
+        Change::Delete { name } => rows.delete(&name),
+        Change::Add { name, values } => rows.add(&name, &stamp(values, moment)),
+        Change::Remove { name, indexes } => rows.remove(&name, indexes.as_slice()),
+        Change::Modify { name, values } => rows.modify(&name, &stamp(values, moment)),
+    }
+}

@@ -1,0 +1,78 @@
+//! The reply to a request.
+
+ghost use Rattle.std.specs.Prelude.{◌≡◌, ◌≤◌, IfOk, IsTrue, Some, None, if◌then◌else◌};
+ghost use Rattle.hdl_msg.specs.Bodies.{content_of};
+ghost use Rattle.hdl_msg.specs.Codes.{response_number};
+ghost use Rattle.hdl_msg.specs.Message.{signed_octets};
+ghost use Rattle.hdl_msg.specs.Reply.{reply_octets};
+ghost use Rattle.hdl_ops.specs.Replies.{asked_digest, reply_to, fits};
+
+use crate::requests::wants_digest;
+use hdl_auth::digest;
+use hdl_msg::{
+    MESSAGE_MOST, Reply, ReplyContent, Request, ResponseCode, answer_header, reply_len, write_reply,
+};
+use std::alloc::{AllocError, Global};
+
+/// The digest of the request, where it asks for it.
+fn asked_digest(request: &Request<'_>) -> Option<[u8; 20]>
+    requires signed { request.now.signed.now ≡ signed_octets (content_of request.now) }
+    ensures { result ≡ asked_digest (content_of request.now) }
+{
+    if wants_digest(request) {
+        Some(digest(request.signed))
+    } else {
+        None
+    }
+}
+
+#[tactic(auto, unfolding(crate::specs::Replies::reply_to))]
+fn reply_to(
+    session: u32,
+    number: u32,
+    request: &Request<'_>,
+    code: u32,
+    content: ReplyContent,
+) -> Reply
+    requires signed { request.now.signed.now ≡ signed_octets (content_of request.now) }
+    ensures { result ≡ reply_to session number (content_of request.now) code content }
+{
+    Reply {
+        session,
+        request: number,
+        header: answer_header(request.header, code),
+        digest: asked_digest(request),
+        content,
+    }
+}
+
+/// The content, if the message of a reply with it isn't too long.
+#[tactic(auto, unfolding(crate::specs::Replies::fits))]
+pub(crate) fn fitting(request: &Request<'_>, content: ReplyContent) -> Option<ReplyContent>
+    requires signed { request.now.signed.now ≡ signed_octets (content_of request.now) }
+    ensures { result ≡ (if fits (content_of request.now) content then Some content else None) }
+{
+    let reply = reply_to(0, 0, request, 0, content);
+    if reply_len(&reply) > MESSAGE_MOST {
+        return None;
+    }
+    let Reply { content, .. } = reply;
+    Some(content)
+}
+
+/// The octets of the reply with this session and request number, code and content.
+pub fn render(
+    alloc: Global,
+    session: u32,
+    number: u32,
+    request: &Request<'_>,
+    code: ResponseCode,
+    content: ReplyContent,
+) -> Result<Vec<u8>, AllocError>
+    requires signed { request.now.signed.now ≡ signed_octets (content_of request.now) }
+    requires fits { IsTrue (fits (content_of request.now) content) }
+    ensures { IfOk result (λ octets. octets.items ≡ reply_octets (reply_to session number (content_of request.now) (response_number code) content)) }
+{
+    let reply = reply_to(session, number, request, code.number(), content);
+    write_reply(alloc, &reply)
+}

@@ -1,0 +1,34 @@
+-- The writes of a table, one by one: what each makes of it, and what it asks.
+use Rattle.std.specs.Prelude.{ℕ, List, true, false, ◌≡◌}
+use Rattle.hdl_value.specs.declared.value.Value.{Value}
+use Rattle.hdl_rows.specs.Table.{Table, has, created, with_values, without_values, without_handle, AreDistinct, AreAbsent, ArePresent, indexes}
+
+pub data Write : Type 0 where
+  Create : List ℕ → List Value → Write
+  Add : List ℕ → List Value → Write
+  Modify : List ℕ → List Value → Write
+  Remove : List ℕ → List ℕ → Write
+  Delete : List ℕ → Write
+
+abbrev pub handle_of : Write → List ℕ
+handle_of (Create h vs) = h
+handle_of (Add h vs) = h
+handle_of (Modify h vs) = h
+handle_of (Remove h is) = h
+handle_of (Delete h) = h
+
+-- the table after the write
+abbrev pub written : Table → Write → Table
+written t (Create h vs) = created t h vs
+written t (Add h vs) = with_values t h vs
+written t (Modify h vs) = with_values t h vs
+written t (Remove h is) = without_values t h is
+written t (Delete h) = without_handle t h
+
+-- what the write asks of the table
+abbrev pub CanWrite : Table → Write → Type 0
+CanWrite t (Create h vs) = (has t h ≡ false) × AreDistinct (indexes vs)
+CanWrite t (Add h vs) = (has t h ≡ true) × AreDistinct (indexes vs) × AreAbsent t h (indexes vs)
+CanWrite t (Modify h vs) = (has t h ≡ true) × AreDistinct (indexes vs) × ArePresent t h (indexes vs)
+CanWrite t (Remove h is) = (has t h ≡ true) × AreDistinct is × ArePresent t h is
+CanWrite t (Delete h) = has t h ≡ true
