@@ -7,3 +7,4 @@ pub mod Registers
 pub mod Sayings
 pub mod Places
 pub mod Opened
+pub mod Uniqueness

@@ -42,7 +42,7 @@ one_name fields q n prefix name says line =
     cc
 
 -- a line of one kind is of no other
-prefix_or_value : (fields : List (List ℕ)) (prefix name h : List ℕ) (v : Value) → IsPrefixLine fields prefix name → IsValueLine fields h v → ⊥
+pub prefix_or_value : (fields : List (List ℕ)) (prefix name h : List ℕ) (v : Value) → IsPrefixLine fields prefix name → IsValueLine fields h v → ⊥
 prefix_or_value fields prefix name h v line says =
     let same : codes "value" ∷ h ∷ says.digits ∷ [] ≡ codes "prefix" ∷ prefix ∷ name ∷ [] = sym says.split ∙ line.split in
     let words : codes "value" ≡ codes "prefix" = cc in

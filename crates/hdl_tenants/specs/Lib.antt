@@ -3,3 +3,4 @@ pub mod Lines
 pub mod Text
 pub mod Kept
 pub mod Steps
+pub mod Laws

@@ -10,6 +10,7 @@ use Rattle.hdl_value.specs.Place.{Place}
 use Rattle.hdl_value.specs.Spelling.{Fits, CanBeSpelt}
 use Rattle.hdl_value.specs.Fault.{IsSound}
 
+-- a publisher: its name, how many lanes it has, and its port
 pub record Publisher : Type 0 where
   pub name : List ℕ
   pub lanes : ℕ
@@ -24,16 +25,19 @@ pub record Hosting : Type 0 where
 abbrev pub Row : Type 0
 Row = List ℕ × Value
 
+-- the publishers, what is hosted for them, and the rows to open with
 pub record Register : Type 0 where
   pub publishers : List Publisher
   pub hostings : List Hosting
   pub opening : List Row
 
+-- what no line says
 abbrev pub empty : Register
 empty = record { publishers = []; hostings = []; opening = [] }
 
 -- ---- what callers ask
 
+-- the most lanes of all publishers together
 abbrev pub most_lanes : ℕ
 most_lanes = 64
 
@@ -46,6 +50,7 @@ abbrev pub owner_among : List Publisher → ℕ → Option ℕ
 owner_among [] lane = None
 owner_among (p ∷ publishers) lane = if nat_lt lane p.lanes then Some 0 else option_map (λ place. place + 1) (owner_among publishers (lane - p.lanes))
 
+-- the place of the publisher whose lane this is
 abbrev pub owner : Register → ℕ → Option ℕ
 owner r lane = owner_among r.publishers lane
 
@@ -53,18 +58,21 @@ owner r lane = owner_among r.publishers lane
 abbrev pub first_lane : List Publisher → ℕ → ℕ
 first_lane publishers place = lane_count (take place publishers)
 
--- whether this prefix is hosted for the publisher at this place
+-- whether one of these gives the prefix to the publisher at this place
 abbrev pub hosts_among : List Hosting → ℕ → List ℕ → Bool
 hosts_among hostings publisher prefix = list_any (λ h. (h.publisher == publisher) && bytes_eq prefix h.prefix) hostings
 
+-- whether the prefix is hosted for the publisher at this place
 abbrev pub hosts : Register → ℕ → List ℕ → Bool
 hosts r publisher prefix = hosts_among r.hostings publisher prefix
 
 -- ---- what is kept
 
+-- the names of the publishers
 abbrev pub names_of : List Publisher → List (List ℕ)
 names_of publishers = map (λ p. p.name) publishers
 
+-- the prefixes that are hosted
 abbrev pub prefixes_of : List Hosting → List (List ℕ)
 prefixes_of hostings = map (λ h. h.prefix) hostings
 
@@ -76,21 +84,25 @@ place row = record { handle = canonical row.0; index = row.1.index }
 abbrev pub value_count : List ℕ → List Row → ℕ
 value_count handle rows = count_by (λ row. bytes_eq (canonical row.0) handle) rows
 
+-- the most values of a handle to open with
 abbrev pub most_values : ℕ
 most_values = 1024
 
+-- no element stands twice
 abbrev pub AreDistinct : {A : Type 0} → List A → Type 0
 AreDistinct {A} xs = AllPairs (λ (x y : A). x ≢ y) xs
 
+-- one of a-z, 0-9 and -
 abbrev pub is_name_octet : ℕ → Bool
 is_name_octet octet = is_ascii_lowercase octet || is_ascii_digit octet || octet == 45
 
--- 1 to 32 of a-z, 0-9 and -
+-- 1 to 32 of these
 pub record IsPublisherName (name : List ℕ) : Type 0 where
   pub some : 0 < length name
   pub few : length name ≤ 32
   pub octets : AllPass is_name_octet name
 
+-- a publisher with a name, 2 to 64 lanes, and a port other than 0
 pub record IsPublisher (p : Publisher) : Type 0 where
   pub named : IsPublisherName p.name
   pub lanes : (2 ≤ p.lanes) × (p.lanes ≤ most_lanes)

@@ -1,15 +1,33 @@
-//! The tenants text: publishers, their lanes, the prefixes that are hosted for them, and the values to open with.
+//! The tenants text: publishers with their lanes and ports, the prefixes that are hosted for them, and the values to open
+//! with. The format is this project's own.
+//!
+//! [`Tenants::read`] accepts exactly the texts that `specs/Text.antt` defines, line after line, and gives what they say;
+//! any other text is refused with its first faulty line and the fault there. Nothing else is ever asked of the text: the
+//! calls of [`Tenants`] after `read` take no memory and can't fail.
+//!
+//! Contracts see a [`Tenants`] as a `Register` (`specs/Register.antt`): the list of publishers, the list of hosted prefixes
+//! with the places of their publishers, and the list of opening rows, each in the text's order. Whose lane it is (`owner`)
+//! and whether a prefix is hosted (`hosts`) are functions of it. What holds of each register is `IsRegister`; that lanes are
+//! numbered by publisher, that nobody hosts `0.na` and that a text has one meaning are the contracts of functions without a
+//! body.
+//!
+//! It stands on `hdl_name` and `hdl_value`. [`decimal`] reads the numbers of scripts too.
 #![tactic(auto)]
 
-mod decimal;
 mod fault;
+mod laws;
 mod lines;
+mod numerals;
 mod prefixes;
 mod publishers;
 mod text;
 
-pub use decimal::decimal_u16;
 pub use fault::TenantFault;
+pub use laws::{
+    accepted_has_no_fault, lanes_by_range, one_first_fault, one_host, one_register,
+    opening_is_hosted, root_is_nobodys,
+};
+pub use numerals::{decimal, decimal_u16};
 pub use text::Tenants;
 
 #[cfg(test)]

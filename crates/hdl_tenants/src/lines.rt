@@ -11,8 +11,8 @@ ghost use Rattle.hdl_tenants.specs.Lines.{IsPublisherLine, IsPrefixLine, IsValue
 ghost use Rattle.hdl_tenants.specs.Text.{IsSkipped};
 ghost use Rattle.hdl_tenants.specs.Steps.{IsNameFault, IsDigitsFault};
 
-use crate::decimal::decimal_u16;
 use crate::fault::TenantFault;
+use crate::numerals::decimal_u16;
 use hdl_name::{Name, is_authority, is_name};
 use hdl_value::{Value, ValueFault, read_value};
 use hex::FromHexError;
@@ -24,7 +24,7 @@ pub const MOST_LANES: u16 = 64;
 const MOST_NAME_OCTETS: usize = 32;
 
 /// A publisher as its line names it: its name, how many lanes it has, and its port.
-#[derive(Clone, Copy, Debug, PartialEq, Eq)]
+#[derive(Clone, Copy, Debug)]
 pub struct PublisherLine<'a> {
     pub name: &'a str,
     pub lanes: u16,
@@ -32,19 +32,20 @@ pub struct PublisherLine<'a> {
 }
 
 /// A prefix and the name of its publisher.
-#[derive(Clone, Copy, Debug, PartialEq, Eq)]
+#[derive(Clone, Copy, Debug)]
 pub struct PrefixLine<'a> {
     pub prefix: &'a str,
     pub name: &'a str,
 }
 
 /// A handle and the hexadecimal digits of a value.
-#[derive(Clone, Copy, Debug, PartialEq, Eq)]
+#[derive(Clone, Copy, Debug)]
 pub struct ValueLine<'a> {
     pub handle: &'a str,
     pub digits: &'a str,
 }
 
+/// Whether the text is 1 to 32 of `a-z`, `0-9` and `-`.
 fn is_publisher_name(name: &str) -> bool
     ensures { IsTrue result ↔ IsPublisherName name.now }
 {

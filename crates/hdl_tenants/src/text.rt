@@ -40,7 +40,7 @@ fn count_values(rows: &[(Name, Value)], handle: &[u8]) -> usize
 }
 
 /// What a tenants text says: publishers with their lanes and ports, the prefixes that are hosted for them, and the values to
-/// open with.
+/// open with, each in the text's order. A publisher is known by its place in that order, counted from 0.
 #[derive(Drop)]
 pub struct Tenants {
     publishers: Publishers,
@@ -59,6 +59,7 @@ impl Model for Tenants {
 }
 
 impl Tenants {
+    /// What no line says.
     fn new(alloc: Global) -> Tenants
         ensures { result ≡ empty }
     {
@@ -69,6 +70,7 @@ impl Tenants {
         }
     }
 
+    /// Adds a publisher.
     fn add_publisher(&mut self, alloc: Global, line: &PublisherLine<'_>) -> Result<(), TenantFault>
         requires { IsPublisher (publisher_on line.now) }
         ensures allowed { OnOk result (IsAllowed self.old (publisher (publisher_on line.now))) }
@@ -79,6 +81,7 @@ impl Tenants {
         Ok(())
     }
 
+    /// Adds a prefix for a publisher that is there.
     fn add_prefix(&mut self, alloc: Global, line: &PrefixLine<'_>) -> Result<(), TenantFault>
         requires { IsPrefix line.now.prefix.now }
         ensures allowed { OnOk result (IsAllowed self.old (hosted line.now.prefix.now line.now.name.now)) }
@@ -92,6 +95,7 @@ impl Tenants {
         Ok(())
     }
 
+    /// Adds a value of a handle whose prefix is there.
     fn add_value(&mut self, alloc: Global, line: &ValueLine<'_>) -> Result<(), TenantFault>
         ensures ok { OnOk result (Opens self.old line.now.handle.now line.now.digits.now self.new) }
         ensures fault { IfErr result (λ e. IsOpenedFault self.old line.now.handle.now line.now.digits.now e) }
@@ -113,6 +117,7 @@ impl Tenants {
         Ok(())
     }
 
+    /// Adds what the line says.
     fn add_line(&mut self, alloc: Global, line: &str) -> Result<(), TenantFault>
         ensures ok { OnOk result (Adds self.old line.now self.new) }
         ensures fault { IfErr result (λ e. HasFault self.old line.now e) }
@@ -135,16 +140,18 @@ impl Tenants {
         Err(TenantFault::BadLine)
     }
 
-    /// Reads a tenants text, whose lines end by LF (a CR before it is dropped), which the last may lack. Empty lines and those
-    /// that begin with `#` are skipped, and fields are divided by single spaces. The others are
+    /// Reads a tenants text. Its lines end by LF (a CR before it is dropped), which the last line may lack. Empty lines and
+    /// lines that begin with `#` are skipped; the fields of the others are divided by single spaces:
     ///
     /// ```text
-    /// publisher NAME LANES PORT    a publisher: 1 to 32 of a-z, 0-9 and -; 2 to 64 lanes; a port from 1 on
-    /// prefix PREFIX NAME           a naming authority in canonical form, other than 0.na, and a publisher named before
-    /// value HANDLE HEX             one value, of a handle whose prefix stands before
+    /// publisher NAME LANES PORT    NAME is 1 to 32 of a-z, 0-9 and -; LANES is 2 to 64; PORT is 1 to 65535
+    /// prefix PREFIX NAME           PREFIX is a naming authority in canonical form, other than 0.na; NAME stands before
+    /// value HANDLE HEX             HEX spells one value within its limits; the prefix of HANDLE stands before
     /// ```
     ///
-    /// Any other text is refused with the number of its first faulty line, counted from 1 over all lines, and the fault there.
+    /// Refuses the first faulty line, counted from 1 over all lines: BadLine for any other line, an index twice in a handle and
+    /// more than 1,024 values of one; then, in this order, TwicePrefix, TwicePublisher, TooMany for more than 64 lanes together;
+    /// Memory where room for the line was refused. Nothing is left of a text that is refused.
     pub fn read(alloc: Global, text: &str) -> Result<Tenants, (usize, TenantFault)>
         ensures accepted { IfOk result (λ tenants. IsAccepted (lines text.now) tenants) }
         ensures kept { IfOk result IsRegister }
@@ -168,21 +175,21 @@ impl Tenants {
         self.publishers.lanes()
     }
 
-    /// The place of the publisher whose lane this is.
+    /// The place of the publisher whose lane this is. None for a lane from `lanes` on.
     pub fn owner(&self, lane: u16) -> Option<usize>
         ensures { result ≡ register.owner self.now lane }
     {
         self.publishers.owner(lane)
     }
 
-    /// Whether the name's prefix is hosted for the publisher at this place.
+    /// Whether the name's prefix is hosted for the publisher at this place: its whole prefix, in canonical form.
     pub fn hosts(&self, publisher: usize, name: &Name) -> bool
         ensures { result ≡ register.hosts self.now publisher (prefix name.now) }
     {
         self.prefixes.hosts(publisher, name.prefix())
     }
 
-    /// Name, number of lanes and port of the publisher at this place.
+    /// Name, number of lanes and port of the publisher at this place, if there is one.
     pub fn publisher(&self, place: usize) -> Option<(&str, u16, u16)>
         ensures { MatchOption result (slice_get self.now.publishers place ≡ None)
             (λ p. slice_get self.now.publishers place ≡ Some (record { name = p.0.now; lanes = p.1; port = p.2 })) }
@@ -190,7 +197,8 @@ impl Tenants {
         self.publishers.get(place)
     }
 
-    /// The first and the last lane of the publisher at this place. The last is the lane of its datagrams.
+    /// The first and the last lane of the publisher at this place, if there is one. The last is the lane of its datagrams, the
+    /// others are those of its connections.
     pub fn lanes_of(&self, place: usize) -> Option<(u16, u16)>
         ensures first { IfSome result (λ lanes. lanes.0 ≡ register.first_lane self.now.publishers place) }
         ensures last { IfSome result (λ lanes. lanes.1 + 1 ≡ register.first_lane self.now.publishers (place + 1)) }
@@ -201,7 +209,7 @@ impl Tenants {
         Some((first, first + lanes - 1))
     }
 
-    /// The names and values to open with, in the text's order.
+    /// The names, as the text has them, and the values to open with. A handle may be named in several ways.
     pub fn opening(&self) -> &[(Name, Value)]
         ensures rows { result.now ≡ self.now.opening }
         ensures kept { IsRegister self.now }

@@ -1,0 +1,38 @@
+//! Laws over tenants texts, each the contract of a function without a body.
+
+ghost use Rattle.hdl_tenants.specs.Laws.{OneRegister, AcceptedHasNoFault, OneFirstFault, LanesByRange, RootIsNobodys, OneHost, OpeningIsHosted};
+
+/// An accepted text says one thing.
+pub fn one_register()
+    ensures { OneRegister }
+{}
+
+/// No text is both accepted and refused, want of memory aside.
+pub fn accepted_has_no_fault()
+    ensures { AcceptedHasNoFault }
+{}
+
+/// A text has one first faulty line at most and one fault there, want of memory aside.
+pub fn one_first_fault()
+    ensures { OneFirstFault }
+{}
+
+/// Lanes are numbered from 0, publisher after publisher.
+pub fn lanes_by_range()
+    ensures { LanesByRange }
+{}
+
+/// The prefix `0.na` is hosted for nobody.
+pub fn root_is_nobodys()
+    ensures { RootIsNobodys }
+{}
+
+/// A prefix is hosted for one publisher at most.
+pub fn one_host()
+    ensures { OneHost }
+{}
+
+/// Each handle to open with has a prefix that is hosted for a publisher.
+pub fn opening_is_hosted()
+    ensures { OpeningIsHosted }
+{}
