@@ -1,3 +1,4 @@
 pub mod Receiving
 pub mod Places
 pub mod Steps
+pub mod Opened

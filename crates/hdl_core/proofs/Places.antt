@@ -10,9 +10,9 @@ use Rattle.std.proofs.lemmas.List.{length-map}
 use Rattle.hdl_rows.specs.Table.{Table}
 use Rattle.hdl_tenants.specs.Register.{Register}
 use Rattle.hdl_ops.specs.Tables.{apply_if}
-use Rattle.hdl_laws.specs.Lanes.{LaneState, fresh}
+use Rattle.hdl_laws.specs.Lanes.{fresh}
 use Rattle.hdl_laws.specs.declared.events.Event.{Event}
-use Rattle.hdl_laws.specs.Worlds.{World, Effect, owner, lane_of, after_effect, moment_of}
+use Rattle.hdl_laws.specs.Worlds.{Effect, owner, lane_of, after_effect, moment_of}
 use Rattle.hdl_core.specs.declared.lane.Lane.{Lane}
 use Rattle.hdl_core.specs.Worlds.{numbered, by_place, state_of, world_of}
 

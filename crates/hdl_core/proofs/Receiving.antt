@@ -16,7 +16,7 @@ use Rattle.hdl_laws.specs.Lanes.{LaneState, fresh}
 use Rattle.hdl_laws.specs.Worlds.{Received, Task, Ignore, Break, Malformed, Ask, Effect, IsFrameTask, IsOctetsTask, letter, ask_effect, arrived}
 use Rattle.hdl_core.specs.declared.lane.Lane.{Lane}
 use Rattle.hdl_core.specs.Worlds.{state_of}
-use Rattle.hdl_core.specs.Serving.{IsDecided, IsReceived, IsServed, IsTurnedDown}
+use Rattle.hdl_core.specs.Serving.{IsDecided, IsReceived, IsServed}
 
 when_true : (b : Bool) (P Q : Type 0) → b ≡ true → P → MatchBool b P Q
 when_true true P Q e p = p

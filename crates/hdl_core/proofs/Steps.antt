@@ -1,5 +1,5 @@
 -- The step that serving an event makes, and a run that goes on by a step.
-use Rattle.std.proofs.Common.{◌≡◌, ◌≢◌, ℕ, ◌<◌, ◌≤◌, List, [], ◌∷◌, ◌++◌, Bool, Option, Some, None, length, set, refl, sym, ap, ◌∙◌, subst, inl, inr, option_map, get_or}
+use Rattle.std.proofs.Common.{◌≡◌, ℕ, ◌<◌, ◌≤◌, List, [], ◌∷◌, ◌++◌, Some, None, length, set, refl, sym, ap, ◌∙◌, subst, inl, inr, option_map, get_or}
 use Rattle.std.proofs.lemmas.Option.{slice_get-get_or, slice_get_past}
 use Rattle.std.proofs.lemmas.List.{set-get_or}
 use Rattle.hdl_frame.specs.Envelope.{envelope_at}
@@ -13,9 +13,9 @@ use Rattle.hdl_laws.specs.declared.events.Outcome.TheVariants.{Busy, Silent}
 use Rattle.hdl_laws.specs.Lanes.{LaneState}
 use Rattle.hdl_laws.specs.Laws.{JoinsRuns}
 use Rattle.hdl_laws.specs.Runs.{Run, Steps}
-use Rattle.hdl_laws.specs.Worlds.{World, Turn, turn, Task, Effect, IsTask, Does, hosts, owner, lane_of, IsAnswerFor}
+use Rattle.hdl_laws.specs.Worlds.{World, Turn, turn, IsTask, Does, hosts, owner, lane_of, IsAnswerFor}
 use Rattle.hdl_core.specs.declared.lane.Lane.{Lane}
-use Rattle.hdl_core.specs.Worlds.{state_of, world_of}
+use Rattle.hdl_core.specs.Worlds.{world_of}
 use Rattle.hdl_core.specs.Serving.{IsServed}
 use Rattle.hdl_core.proofs.Places.{owner_of, lane_here, world_after}
 

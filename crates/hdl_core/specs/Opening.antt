@@ -4,7 +4,7 @@ use Rattle.std.specs.FinMap as map
 use Rattle.std.specs.FinSet as set
 use Rattle.hdl_name.specs.Name.{canonical}
 use Rattle.hdl_value.specs.declared.value.Value.{Value}
-use Rattle.hdl_value.specs.Place.{Place, handle_cmp, place_cmp}
+use Rattle.hdl_value.specs.Place.{Place}
 use Rattle.hdl_rows.specs.Table.{Table}
 use Rattle.hdl_tenants.specs.Register as register
 use Rattle.hdl_tenants.specs.Register.{Register, Row, place}
@@ -18,6 +18,10 @@ entry_of row = (place row, row.1)
 -- the table of the opening rows: their handles, and their values at their places
 abbrev pub opening_table : List Row → Table
 opening_table rows = record { handles = set.from_list (map (λ row. canonical row.0) rows); values = map.from_entries (map entry_of rows) }
+
+-- the table with one more row
+abbrev pub with_row : Table → Row → Table
+with_row t row = record { handles = set.insert t.handles (canonical row.0); values = map.insert t.values (place row) row.1 }
 
 -- The lanes are the publishers' and closed, the hosted prefixes those of the tenants text, and the table holds its opening rows.
 pub record IsOpening (r : Register) (w : World) : Type 0 where

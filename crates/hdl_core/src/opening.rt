@@ -1,9 +1,9 @@
 //! Opening a service from a tenants text.
 
-ghost use Rattle.std.specs.Prelude.{◌≡◌, IfOk, OnOk};
-ghost use Rattle.hdl_rows.specs.Table.{no_rows};
-ghost use Rattle.hdl_tenants.specs.Register.{lane_count, IsRegister};
-ghost use Rattle.hdl_core.specs.Opening.{IsOpening, opening_table, first_lanes};
+ghost use Rattle.std.specs.Prelude.{◌≡◌, None, map, IfOk, OnOk};
+ghost use Rattle.hdl_rows.specs.Table.{no_rows, at};
+ghost use Rattle.hdl_tenants.specs.Register.{lane_count, place, AreDistinct};
+ghost use Rattle.hdl_core.specs.Opening.{IsOpening, opening_table, with_row, first_lanes};
 
 use crate::lane::Lane;
 use crate::service::Service;
@@ -40,8 +40,11 @@ fn closed_lanes(alloc: Global, tenants: &Tenants) -> Result<Vec<Lane>, AllocErro
     Ok(lanes)
 }
 
-/// Puts an opening row into the table.
-fn put_row<R: Rows>(rows: &mut R, name: &Name, value: &Value) -> Result<(), Refused> {
+/// Puts an opening row into the table, whose handle is made if it isn't there.
+fn put_row<R: Rows>(rows: &mut R, name: &Name, value: &Value) -> Result<(), Refused>
+    requires free { at (R.content rows.old) (place (name.now, value.now)) ≡ None }
+    ensures { OnOk result (R.content rows.new ≡ with_row (R.content rows.old) (name.now, value.now)) }
+{
     let values = slice::from_ref(value);
     if rows.exists(name)? {
         rows.add(name, values)
@@ -50,11 +53,14 @@ fn put_row<R: Rows>(rows: &mut R, name: &Name, value: &Value) -> Result<(), Refu
     }
 }
 
+/// Puts all opening rows into an empty table.
 fn put_rows<R: Rows>(rows: &mut R, opening: &[(Name, Value)]) -> Result<(), Refused>
+    requires empty { R.content rows.old ≡ no_rows }
+    requires distinct { AreDistinct (map place opening.now) }
     ensures { OnOk result (R.content rows.new ≡ opening_table opening.now) }
 {
-    for (name, value) in opening {
-        put_row(rows, name, value)?;
+    for row in opening {
+        put_row(rows, &row.0, &row.1)?;
     }
     Ok(())
 }

@@ -1,0 +1,174 @@
+-- The world with which a service opens.
+use Rattle.std.proofs.Common.{◌≡◌, ◌≢◌, ℕ, zero, suc, ◌+◌, ◌-◌, ◌<◌, ◌≤◌, Bool, true, false, cond, ◌||◌, List, [], ◌∷◌, ◌++◌, length, map, take, get_or, slice_get, nat_lt, Option, Some, None, option_map, unwrap_or, refl, sym, ap, ◌∙◌, subst, arith, inl, inr, length-append, Result, Ok, Err}
+use Rattle.std.proofs.lemmas.Bool.{cases_lt}
+use Rattle.std.proofs.lemmas.Bool.Decides.{Decides-ltb}
+use Rattle.std.specs.Prelude.{OnOk}
+use Rattle.std.proofs.lemmas.List.{map-append, length-map, length-take, take_more, get_or-map, get_or-take, get_or_default}
+use Rattle.std.proofs.lemmas.List.Sums.{sum_by-cons}
+use Rattle.std.proofs.lemmas.Option.{slice_get_past}
+use Rattle.std.specs.FinMap as map
+use Rattle.std.specs.FinMap.{find}
+use Rattle.std.specs.FinSet as set
+use Rattle.hdl_name.specs.Name.{canonical}
+use Rattle.hdl_value.specs.declared.value.Value.{Value}
+use Rattle.hdl_value.specs.Place.{Place, handle_cmp, place_cmp, same_handle, same_place}
+use Rattle.hdl_value.proofs.Places.{handle_total, handle_antisymmetric, place_total, place_antisymmetric, handles_equal, places_equal}
+use Rattle.hdl_rows.specs.Table.{Table, has, at, created, with_values}
+use Rattle.hdl_tenants.specs.Register as register
+use Rattle.hdl_tenants.specs.Register.{Register, Publisher, Row, place, lane_count, owner_among, AreDistinct}
+use Rattle.hdl_laws.specs.Lanes.{fresh}
+use Rattle.hdl_laws.specs.Worlds.{owner, lane_of}
+use Rattle.hdl_core.specs.declared.lane.Lane.{Lane}
+use Rattle.hdl_core.specs.Worlds.{state_of, world_of}
+use Rattle.hdl_core.specs.Opening.{entry_of, opening_table, with_row, first_lanes, IsOpening}
+use Rattle.hdl_core.proofs.Places.{owner_of, lane_of_world}
+
+-- ---- one row
+
+-- a handle that is there is put into the set without a change
+insert_member : (t : Table) (h : List ℕ) → has t h ≡ true → set.insert t.handles h ≡ t.handles
+insert_member t h there = set.same_set handle_total handle_antisymmetric _ _ (λ q. set.contains-insert handle_total t.handles h q ∙ by q (same_handle q h) refl)
+  where
+    by : (q : List ℕ) (b : Bool) → same_handle q h ≡ b → (b || set.contains t.handles q) ≡ set.contains t.handles q
+    by q true e = sym (ap (set.contains t.handles) (handles_equal q h e) ∙ there)
+    by q false e = refl
+
+pub row_created : (t : Table) (name : List ℕ) (v : Value) → created t (canonical name) (v ∷ []) ≡ with_row t (name, v)
+row_created t name v = refl
+
+pub row_added : (t : Table) (name : List ℕ) (v : Value) → has t (canonical name) ≡ true → with_values t (canonical name) (v ∷ []) ≡ with_row t (name, v)
+row_added t name v there = λ i. record { handles = sym (insert_member t (canonical name) there) i; values = map.insert t.values (place (name, v)) v }
+
+-- ---- all rows
+
+find_none : (rows : List Row) (p : Place) → ((k : ℕ) (d : Row) → k < length rows → place (get_or rows k d) ≢ p) → find place_cmp p (map entry_of rows) ≡ None
+find_none [] p h = refl
+find_none (row ∷ rows) p h =
+    by (same_place p (place row)) refl (find_none rows p (λ k d lt. h (suc k) d (omega (arith, lt))))
+  where
+    by : (b : Bool) → same_place p (place row) ≡ b → find place_cmp p (map entry_of rows) ≡ None → cond b (Some row.1) (find place_cmp p (map entry_of rows)) ≡ None
+    by true e rest = absurd (h 0 row (omega arith) (sym (places_equal p (place row) e)))
+    by false e rest = rest
+
+pub none_yet : (rows : List Row) (p : Place) → ((k : ℕ) (d : Row) → k < length rows → place (get_or rows k d) ≢ p) → at (opening_table rows) p ≡ None
+none_yet rows p h = map.get-from_entries place_total (map entry_of rows) p ∙ find_none rows p h
+
+pub one_more : (rows : List Row) (row : Row) → find place_cmp (place row) (map entry_of rows) ≡ None → opening_table (rows ++ row ∷ []) ≡ with_row (opening_table rows) row
+one_more rows row none =
+    let handles : set.from_list {R = handle_cmp} (map (λ (x : Row). canonical x.0) (rows ++ row ∷ [])) ≡ set.insert (set.from_list (map (λ (x : Row). canonical x.0) rows)) (canonical row.0) =
+    ap set.from_list (map-append (λ (x : Row). canonical x.0) rows (row ∷ [])) ∙ set.from_list_push handle_total handle_antisymmetric (map (λ (x : Row). canonical x.0) rows) (canonical row.0) in
+    let values : map.from_entries {R = place_cmp} (map entry_of (rows ++ row ∷ [])) ≡ map.insert (map.from_entries (map entry_of rows)) (place row) row.1 =
+    ap map.from_entries (map-append entry_of rows (row ∷ [])) ∙ map.from_entries_push place_total place_antisymmetric (map entry_of rows) (place row) row.1 none in
+    λ i. record { handles = handles i; values = values i }
+
+pub on_ok : {X E : Type 0} (r : Result X E) (P Q : Type 0) → (P → Q) → OnOk r P → OnOk r Q
+on_ok (Ok x) P Q f h = f h
+on_ok (Err e) P Q f h = h
+
+-- the rows before a row have other places
+pub others_before : (rows : List Row) (i : ℕ) (d : Row) → i < length rows → AreDistinct (map place rows) → at (opening_table (take i rows)) (place (get_or rows i d)) ≡ None
+others_before rows i d lt distinct = none_yet (take i rows) (place (get_or rows i d)) (λ k e short same. before k e (omega (arith, short, length-take i rows)) same)
+  where
+    before : (k : ℕ) (e : Row) → k < i → place (get_or (take i rows) k e) ≢ place (get_or rows i d)
+    before k e less same =
+        let len = length-map rows place in
+        distinct k i (place d) less (omega (arith, lt, len))
+        (get_or-map place rows k d (place d) (omega (arith, less, lt)) ∙ ap place (get_or_default rows k d e (omega (arith, less, lt))) ∙ sym (ap place (get_or-take i rows k e less)) ∙ same ∙ sym (get_or-map place rows i d (place d) lt))
+
+pub find_before : (rows : List Row) (i : ℕ) (d : Row) → i < length rows → AreDistinct (map place rows) → find place_cmp (place (get_or rows i d)) (map entry_of (take i rows)) ≡ None
+find_before rows i d lt distinct = sym (map.get-from_entries place_total (map entry_of (take i rows)) (place (get_or rows i d))) ∙ others_before rows i d lt distinct
+
+pub rows_more : (rows : List Row) (i : ℕ) (d : Row) → i < length rows → AreDistinct (map place rows) → with_row (opening_table (take i rows)) (get_or rows i d) ≡ opening_table (take (i + 1) rows)
+rows_more rows i d lt distinct = sym (ap opening_table (take_more rows i d lt) ∙ one_more (take i rows) (get_or rows i d) (find_before rows i d lt distinct))
+
+-- ---- the lanes
+
+get_before : {A : Type 0} (xs ys : List A) (l : ℕ) → l < length xs → slice_get (xs ++ ys) l ≡ slice_get xs l
+get_before [] ys l h = absurd (omega (arith, h))
+get_before (x ∷ xs) ys zero h = refl
+get_before (x ∷ xs) ys (suc l) h = get_before xs ys l (omega (arith, h))
+
+get_at_end : {A : Type 0} (xs : List A) (x : A) (l : ℕ) → l ≡ length xs → slice_get (xs ++ x ∷ []) l ≡ Some x
+get_at_end [] x zero e = refl
+get_at_end [] x (suc l) e = absurd (omega (arith, e))
+get_at_end (y ∷ xs) x zero e = absurd (omega (arith, e))
+get_at_end (y ∷ xs) x (suc l) e = get_at_end xs x l (omega (arith, e))
+
+abbrev closed : Register → ℕ → Lane
+closed r l = record { publisher = unwrap_or (register.owner r l) 0; is_open = false }
+
+length-first_lanes : (r : Register) (n : ℕ) → length (first_lanes r n) ≡ n
+length-first_lanes r zero = refl
+length-first_lanes r (suc n) = length-append (first_lanes r n) (closed r n ∷ []) ∙ ap (λ k. k + 1) (length-first_lanes r n) ∙ omega arith
+
+lane_within : (r : Register) (n l : ℕ) → l < n → slice_get (first_lanes r n) l ≡ Some (closed r l)
+lane_within r zero l h = absurd (omega (arith, h))
+lane_within r (suc n) l h = elim (cases_lt l n) [
+  | inl before ↦ let len = length-first_lanes r n in get_before (first_lanes r n) (closed r n ∷ []) l (omega (arith, before, len)) ∙ lane_within r n l before
+  | inr at ↦
+    let len = length-first_lanes r n in
+    let same : n ≡ l = omega (arith, h, at) in
+    get_at_end (first_lanes r n) (closed r n) l (omega (arith, len, same)) ∙ ap (λ k. Some (closed r k)) same
+]
+
+lane_past : (r : Register) (n l : ℕ) → n ≤ l → slice_get (first_lanes r n) l ≡ None
+lane_past r n l h = let len = length-first_lanes r n in slice_get_past (first_lanes r n) l (omega (arith, len, h))
+
+count_more : (p : Publisher) (ps : List Publisher) → lane_count (p ∷ ps) ≡ p.lanes + lane_count ps
+count_more p ps = sum_by-cons (λ (q : Publisher). q.lanes) p ps
+
+owner_past : (ps : List Publisher) (l : ℕ) → lane_count ps ≤ l → owner_among ps l ≡ None
+owner_past [] l h = refl
+owner_past (p ∷ ps) l h =
+    let more = count_more p ps in
+    let above : p.lanes ≤ l = omega (arith, h, more) in
+    let fails : nat_lt l p.lanes ≡ false = grind (arith, above) in
+    rw fails (ap (option_map (λ (k : ℕ). k + 1)) (owner_past ps (l - p.lanes) (omega (arith, h, more))))
+
+owner_within : (ps : List Publisher) (l : ℕ) → l < lane_count ps → (u : ℕ) × (owner_among ps l ≡ Some u)
+owner_within [] l h = absurd (omega (arith, h))
+owner_within (p ∷ ps) l h = elim (cases_lt l p.lanes) [
+  | inl here ↦ let passes : nat_lt l p.lanes ≡ true = (Decides-ltb l p.lanes).1 here in (0, rw passes refl)
+  | inr later ↦
+    let more = count_more p ps in
+    let fails : nat_lt l p.lanes ≡ false = grind (arith, later) in
+    let rest = owner_within ps (l - p.lanes) (omega (arith, h, later, more)) in
+    (rest.0 + 1, rw fails (ap (option_map (λ (k : ℕ). k + 1)) rest.1))
+]
+
+module _ (r : Register) (t : Table) where
+  abbrev count : ℕ
+  count = lane_count r.publishers
+
+  abbrev lanes : List Lane
+  lanes = first_lanes r count
+
+  owners : (l : ℕ) → owner (world_of r lanes t).site l ≡ register.owner r l
+  owners l = owner_of r lanes t l ∙ elim (cases_lt l count) [
+    | inl within ↦
+      let u = owner_within r.publishers l within in
+      ap (option_map (λ (x : Lane). x.publisher)) (lane_within r count l within) ∙ ap (λ (o : Option ℕ). Some (unwrap_or o 0)) u.1 ∙ sym u.1
+    | inr past ↦ ap (option_map (λ (x : Lane). x.publisher)) (lane_past r count l past) ∙ sym (owner_past r.publishers l past)
+  ]
+
+  all_closed : (l : ℕ) → lane_of (world_of r lanes t) l ≡ fresh false
+  all_closed l = lane_of_world r lanes t l ∙ elim (cases_lt l count) [
+    | inl within ↦ ap (λ (o : Option Lane). unwrap_or (option_map state_of o) (fresh false)) (lane_within r count l within)
+    | inr past ↦ ap (λ (o : Option Lane). unwrap_or (option_map state_of o) (fresh false)) (lane_past r count l past)
+  ]
+
+  hosted : (world_of r lanes t).site.hostings ≡ r.hostings
+  unfolding world_of
+  hosted = refl
+
+  held : (world_of r lanes t).table ≡ t
+  unfolding world_of
+  held = refl
+
+  pub opens : (all : List Lane) → all ≡ first_lanes r (lane_count r.publishers) → t ≡ opening_table r.opening → IsOpening r (world_of r all t)
+  opens all same rows = subst (λ (ls : List Lane). IsOpening r (world_of r ls t)) (sym same) (record {
+    owners = owners;
+    hostings = hosted;
+    closed = all_closed;
+    table = held ∙ rows;
+  })
