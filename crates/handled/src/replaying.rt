@@ -1,0 +1,122 @@
+//! One run of a script.
+
+ghost use Rattle.std.specs.Prelude.{◌≡◌, ◌≢◌, OnOk, IfErr};
+ghost use Rattle.std.specs.Io.KnownBytes.{Appends, Keeps};
+ghost use Rattle.hdl_rows.specs.Table.{no_rows};
+
+use crate::fault::Fault;
+use crate::input::read_input;
+use crate::script::{events_of, parts_of};
+use hdl_core::{Event, Outcome, Rows, Service, Tenants};
+use std::alloc::Global;
+use std::io::{Read, Write};
+
+/// Writes all octets. A write that fails, an interrupted one too, is a device fault.
+fn put_all<O: Write>(output: &mut O, octets: &[u8]) -> Result<(), Fault>
+    ensures ok { OnOk result (Appends (O.contents output.old) (O.contents output.new) octets.now) }
+    ensures err { IfErr result (λ e. e ≡ Fault.Device) }
+{
+    let mut rest = octets;
+    while !rest.is_empty() {
+        match output.write(rest) {
+            Ok(0) => return Err(Fault::Device),
+            Ok(count) => rest = &rest[count..],
+            Err(_) => return Err(Fault::Device),
+        }
+    }
+    Ok(())
+}
+
+/// The line that tells one outcome.
+fn line_of(alloc: Global, lane: u16, outcome: &Outcome) -> Result<String, Fault> {
+    let line = match outcome {
+        Outcome::Reply(octets) => {
+            let digits = hex::encode(alloc, octets.as_slice())?;
+            format!(in alloc; "{lane} reply {digits}\n")?
+        }
+        Outcome::Busy(octets) => {
+            let digits = hex::encode(alloc, octets.as_slice())?;
+            format!(in alloc; "{lane} busy {digits}\n")?
+        }
+        Outcome::Silent => format!(in alloc; "{lane} silent\n")?,
+        Outcome::CloseAfter(octets) => {
+            let digits = hex::encode(alloc, octets.as_slice())?;
+            format!(in alloc; "{lane} close {digits}\n")?
+        }
+    };
+    Ok(line)
+}
+
+/// The lines of all outcomes, as one text.
+fn lines_of(alloc: Global, lanes: &[u16], outcomes: &[Outcome]) -> Result<String, Fault> {
+    let mut text = String::new(alloc);
+    for (lane, outcome) in lanes.iter().zip(outcomes) {
+        let line = line_of(alloc, *lane, outcome)?;
+        text.push_str(line.as_str())?;
+    }
+    Ok(text)
+}
+
+/// The lane of each event.
+fn lanes_of(alloc: Global, events: &[Event]) -> Result<Vec<u16>, Fault> {
+    let mut lanes = Vec::with_capacity(alloc, events.len())?;
+    for event in events {
+        lanes.push(event.lane)?;
+    }
+    Ok(lanes)
+}
+
+/// What a script prints, over an empty table.
+fn printed<R: Rows + Drop>(alloc: Global, rows: R, text: &[u8]) -> Result<String, Fault>
+    requires empty { R.content rows ≡ no_rows }
+{
+    let Ok(text) = str::from_utf8(text) else {
+        return Err(Fault::InputNotUtf8);
+    };
+    let parts = parts_of(text);
+    let tenants = match Tenants::read(alloc, parts.tenants) {
+        Ok(tenants) => tenants,
+        Err((line, fault)) => return Err(Fault::Tenants(line, fault)),
+    };
+    let events = events_of(alloc, parts.script, parts.run_line)?;
+    let lanes = lanes_of(alloc, events.as_slice())?;
+    let mut service = Service::open(alloc, tenants, rows)?;
+    let Ok(outcomes) = service.run(events) else {
+        return Err(Fault::NoMemory);
+    };
+    lines_of(alloc, lanes.as_slice(), outcomes.as_slice())
+}
+
+fn replayed<R: Rows + Drop, I: Read, O: Write>(
+    alloc: Global,
+    rows: R,
+    input: &mut I,
+    output: &mut O,
+) -> Result<(), Fault>
+    requires empty { R.content rows ≡ no_rows }
+    ensures silent { IfErr result (λ e. e ≢ Fault.Device → Keeps (O.contents output.old) (O.contents output.new)) }
+{
+    let text = read_input(alloc, input)?;
+    let lines = printed(alloc, rows, text.as_slice())?;
+    put_all(output, lines.as_bytes())
+}
+
+/// Runs the script on the input over an empty table, writes the outcomes to the output, and a fault line to the faults.
+/// Answers the exit status. A fault line that can't be written changes no status.
+pub fn replay<R: Rows + Drop, I: Read, O: Write, F: Write>(
+    alloc: Global,
+    rows: R,
+    input: &mut I,
+    output: &mut O,
+    faults: &mut F,
+) -> u8
+    requires empty { R.content rows ≡ no_rows }
+{
+    match replayed(alloc, rows, input, output) {
+        Ok(()) => 0,
+        Err(fault) => {
+            let _ = writeln!(faults, "{fault}");
+            fault.status()
+        }
+    }
+}
