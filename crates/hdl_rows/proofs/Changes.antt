@@ -1,5 +1,5 @@
 -- What the calls of a shelf make of its rows, and so of its table.
-use Rattle.std.proofs.Common.{◌≡◌, ℕ, zero, suc, ◌+◌, ◌<◌, ◌≤◌, List, [], ◌∷◌, map, filter, length, get_or, set, take, insert, position, Bool, true, false, cond, not, T, Option, Some, None, option_map, Result, Ok, Err, OnOk, OnErr, IfOk, IsTrue, is_some, refl, sym, ap, ◌∙◌, subst, arith, inl, inr, true≢false, ◌==◌}
+use Rattle.std.proofs.Common.{◌≡◌, ℕ, zero, suc, ◌≤◌, List, [], ◌∷◌, map, filter, length, get_or, set, take, insert, position, Bool, true, false, cond, not, Option, Some, None, option_map, Result, Ok, Err, OnOk, OnErr, IfOk, IsTrue, is_some, refl, sym, ap, ◌∙◌, subst, true≢false, ◌==◌}
 use Rattle.std.specs.List.{list_any}
 use Rattle.std.specs.Ordering.{nat_cmp}
 use Rattle.std.specs.FinMap.{find, is_sorted}
@@ -11,7 +11,7 @@ use Rattle.hdl_rows.specs.declared.row.Row.{Row}
 use Rattle.hdl_rows.specs.Table.{Table, place, has, at, values_of, names_of, created, with_values, without_values, without_handle}
 use Rattle.hdl_rows.specs.Write.{Create, Add, Remove, Delete}
 use Rattle.hdl_rows.specs.Shelf.{entry_of, entries_of, by_index, table_of, AreInOrder, put_all}
-use Rattle.hdl_rows.proofs.Writes.{put_at, removed_at, some_none}
+use Rattle.hdl_rows.proofs.Writes.{put_at, removed_at}
 use Rattle.hdl_rows.proofs.ShelfLemmas.{at-table, has-table, changed, within, values_there, values_put, values_left, values_of-table, names_of-table}
 use Rattle.hdl_rows.proofs.RowsLemmas.{row_place, inserted, place_within, IsRowOf, row_at, found_at, replaced, rises_at, not_found, taken_away}
 

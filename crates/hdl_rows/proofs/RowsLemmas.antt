@@ -1,7 +1,6 @@
 -- Rows in order: what putting a row, changing one and taking one away make of their entries.
-use Rattle.std.proofs.Common.{◌≡◌, ◌≢◌, ℕ, zero, suc, ◌+◌, ◌<◌, ◌≤◌, List, [], ◌∷◌, ◌++◌, map, filter, length, get_or, set, take, drop, insert, position, Bool, true, false, cond, not, ◌&&◌, T, Option, Some, None, IsTrue, refl, sym, ap, ◌∙◌, subst, Ordering, Less, Equal, Greater, is_eq, is_lt, arith}
+use Rattle.std.proofs.Common.{◌≡◌, ℕ, zero, suc, ◌+◌, ◌<◌, ◌≤◌, List, [], ◌∷◌, filter, length, get_or, set, insert, position, Bool, true, false, cond, not, ◌&&◌, T, Option, Some, None, IsTrue, refl, sym, ap, ◌∙◌, subst, Ordering, Less, Equal, Greater, is_eq, is_lt, arith}
 use Rattle.std.specs.Ordering.{ordering_reverse}
-use Rattle.std.specs.Cmp.{IsTotalOrder}
 use Rattle.std.specs.List.{prefix_len, position_from, AllByRecursion}
 use Rattle.std.specs.FinMap.{find, put, is_sorted}
 use Rattle.std.specs.Ordering.{nat_cmp}
@@ -11,7 +10,7 @@ use Rattle.std.proofs.lemmas.Iterator.Adapters.{position_from-zero}
 use Rattle.std.proofs.lemmas.List.Sums.{prefix_len-le-length}
 use Rattle.hdl_value.specs.Place.{handle_cmp, same_handle}
 use Rattle.hdl_value.specs.declared.value.Value.{Value}
-use Rattle.hdl_value.proofs.Places.{handle_total, handle_antisymmetric, tied, handles_equal, handle_itself}
+use Rattle.hdl_value.proofs.Places.{handle_total, handle_antisymmetric, handles_equal, handle_itself}
 use Rattle.hdl_rows.specs.declared.row.Row.{Row}
 use Rattle.hdl_rows.specs.Shelf.{entry_of, entries_of, by_index, AreInOrder}
 use Rattle.hdl_rows.proofs.Writes.{some_none}

@@ -1,18 +1,18 @@
 -- The table that rows in order are: what it answers, and what a change of the rows makes of it.
-use Rattle.std.proofs.Common.{◌≡◌, ◌≢◌, ℕ, zero, suc, ◌+◌, ◌<◌, List, [], ◌∷◌, ◌++◌, map, filter, unwrap_or, Bool, true, false, cond, not, ◌&&◌, ◌||◌, T, Option, Some, None, ◌==◌, refl, sym, ap, ◌∙◌, subst, arith, Ordering, Less, Equal, Greater, is_eq, is_lt, IsTrue, is_some, ◌↔◌, true≢false}
+use Rattle.std.proofs.Common.{◌≡◌, ℕ, List, [], ◌∷◌, ◌++◌, map, filter, unwrap_or, Bool, true, false, cond, not, ◌&&◌, ◌||◌, T, Option, Some, None, ◌==◌, refl, sym, ap, ◌∙◌, subst, arith, Ordering, Less, Equal, Greater, is_eq, is_lt, IsTrue, is_some, ◌↔◌, true≢false}
 use Rattle.std.specs.Ordering.{nat_cmp, eq_by_cmp, ordering_then}
-use Rattle.std.specs.Cmp.{IsTotalOrder, nat_cmp_total, tied_itself}
+use Rattle.std.specs.Cmp.{nat_cmp_total, tied_itself}
 use Rattle.std.specs.List.{AllByRecursion, flat_map, list_any}
 use Rattle.std.specs.FinMap as map
 use Rattle.std.specs.FinMap.{find, put, is_sorted, nat_cmp-IsAntisymmetric}
-use Rattle.std.specs.FinMap.Entries.{where_key, below_all, is_some-find, find-put, is_sorted-put, find-where_key, is_sorted-where_key, find_tied}
+use Rattle.std.specs.FinMap.Entries.{where_key, below_all, is_some-find, find-put, is_sorted-put, find-where_key, is_sorted-where_key}
 use Rattle.std.specs.FinSet as set
 use Rattle.std.proofs.lemmas.Bool.Decides.{nat_tests}
 use Rattle.hdl_name.specs.Name.{authority}
 use Rattle.hdl_value.specs.Place.{Place, handle_cmp, place_cmp, same_handle}
 use Rattle.hdl_value.specs.declared.value.Value.{Value}
 use Rattle.hdl_value.proofs.Places.{handle_total, handle_antisymmetric, place_total, place_antisymmetric, tied, handles_equal, handle_itself}
-use Rattle.hdl_rows.specs.Table.{Table, place, has, at, values_of, names_of, in_order, key, created, with_values, without_values, without_handle, indexes}
+use Rattle.hdl_rows.specs.Table.{place, has, at, values_of, names_of, key}
 use Rattle.hdl_rows.specs.Write.{Write, handle_of, written}
 use Rattle.hdl_rows.specs.Shelf.{by_index, by_place, table_of, AreInOrder, put_all}
 use Rattle.hdl_rows.proofs.Writes.{same_look_ups_lem, at-written, has-written, at_place, put_at, removed_at, at_after, has_after, some_none, apart}

@@ -1,14 +1,14 @@
 -- What a write leaves at each place and of each handle.
-use Rattle.std.proofs.Common.{◌≡◌, ◌≢◌, ℕ, List, [], ◌∷◌, Bool, true, false, cond, not, ◌&&◌, ◌||◌, T, Option, Some, None, map, refl, sym, ap, ◌∙◌, subst, Ordering, Less, Equal, Greater, is_eq, IsTrue, is_some}
+use Rattle.std.proofs.Common.{◌≡◌, ◌≢◌, ℕ, List, [], ◌∷◌, Bool, true, false, cond, not, ◌&&◌, ◌||◌, T, Option, Some, None, refl, sym, ap, ◌∙◌, subst, Ordering, Less, Equal, Greater, is_eq, is_some}
 use Rattle.std.specs.Ordering.{nat_cmp, ordering_then, eq_by_cmp}
-use Rattle.std.specs.Cmp.{IsTotalOrder, nat_cmp_total, tied_itself}
+use Rattle.std.specs.Cmp.{nat_cmp_total, tied_itself}
 use Rattle.std.specs.List.{AllByRecursion}
 use Rattle.std.specs.FinMap as map
 use Rattle.std.specs.FinMap.{nat_cmp-IsAntisymmetric}
 use Rattle.std.specs.FinSet as set
 use Rattle.hdl_value.specs.Place.{Place, handle_cmp, place_cmp, same_handle}
 use Rattle.hdl_value.specs.declared.value.Value.{Value}
-use Rattle.hdl_value.proofs.Places.{handle_total, handle_antisymmetric, place_total, place_antisymmetric, tied, handles_equal, handle_itself}
+use Rattle.hdl_value.proofs.Places.{handle_total, handle_antisymmetric, place_total, place_antisymmetric, handles_equal, handle_itself}
 use Rattle.hdl_rows.specs.Table.{Table, place, has, at, values_of, put_values, remove_values, created, with_values, without_values, without_handle, AreDistinct, indexes, IsPlaced}
 use Rattle.hdl_rows.specs.Write.{Write, Create, Add, Modify, Remove, Delete, handle_of, written, CanWrite}
 

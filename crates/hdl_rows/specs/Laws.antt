@@ -1,5 +1,5 @@
 -- The laws of `src/laws.rt`.
-use Rattle.std.specs.Prelude.{◌≡◌, ◌≢◌, ℕ, List, true, false, Some, None, Contains}
+use Rattle.std.specs.Prelude.{◌≡◌, ◌≢◌, ℕ, List, true, false, Some, None}
 use Rattle.std.specs.List.{AllByRecursion}
 use Rattle.hdl_value.specs.Place.{Place}
 use Rattle.hdl_value.specs.declared.value.Value.{Value}

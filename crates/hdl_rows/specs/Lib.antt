@@ -1,4 +1,5 @@
 pub mod Table
 pub mod Write
+pub mod Fuse
 pub mod Laws
 pub mod Shelf

@@ -1,40 +1,29 @@
 //! A table of which some calls are refused, for tests.
 
-ghost use Rattle.std.specs.Prelude.{◌≡◌, ◌+◌, min, MatchBool};
-ghost use Rattle.hdl_rows.specs.Table.{most};
+ghost use Rattle.std.specs.Prelude.{◌≡◌, ◌+◌, min, map, true, false, IfOk, OnOk, OnErr};
+ghost use Rattle.hdl_name.specs.Name.{canonical};
+ghost use Rattle.hdl_rows.specs.Table.{most, counted, place_of, has, at, values_of, names_of, created, with_values, without_values, without_handle, AreDistinct, AreAbsent, ArePresent, indexes};
 
 use crate::rows::{Refused, Rows};
 use hdl_name::Name;
 use hdl_value::{Octets, Reference, Value};
 
-/// Refuses its calls from `first` to `last`, counted from 1, without reaching the inner table.
-#[derive(Drop)]
-pub struct Fuse<R> {
-    inner: R,
+/// Which calls are refused, and what came so far.
+#[derive(Clone, Copy, Drop)]
+struct Wire {
     first: u64,
     last: u64,
     calls: u64,
     refusals: u64,
 }
 
-impl<R: Rows> Fuse<R> {
-    /// The inner table behind a fuse. `first` above `last` never blows.
-    pub fn new(inner: R, first: u64, last: u64) -> Fuse<R>
-        ensures content { ⟦<Fuse<R> as Rows>⟧.content result ≡ R.content inner }
-    {
-        Fuse {
-            inner,
-            first,
-            last,
-            calls: 0,
-            refusals: 0,
-        }
-    }
+impl Wire {
+    ghost use Rattle.hdl_rows.specs.Fuse.{is_blown, after_call};
 
-    /// Counts a call, and tells whether it is refused.
+    // Counts a call, and tells whether it is refused.
     fn blows(&mut self) -> bool
-        ensures inner { self.new.inner ≡ self.old.inner }
-        ensures counted { MatchBool result (self.new.refusals ≡ min (self.old.refusals + 1) most) (self.new.refusals ≡ self.old.refusals) }
+        ensures refused { result ≡ is_blown self.old }
+        ensures counted { self.new ≡ after_call self.old }
     {
         self.calls = self.calls.saturating_add(1);
         let refused = self.first <= self.calls && self.calls <= self.last;
@@ -45,75 +34,181 @@ impl<R: Rows> Fuse<R> {
     }
 }
 
+/// Refuses its calls from `first` to `last`, counted from 1 up to the greatest `u64`, without reaching the inner table.
+/// `refusals` isn't counted as a call.
+#[derive(Drop)]
+pub struct Fuse<R> {
+    inner: R,
+    wire: Wire,
+}
+
+impl<R: Rows> Fuse<R> {
+    ghost use Rattle.hdl_rows.specs.Fuse.{inner_of, wire_of};
+
+    /// The inner table behind a fuse. With `first` above `last` it never blows.
+    pub fn new(inner: R, first: u64, last: u64) -> Fuse<R>
+        ensures inner { inner_of result ≡ inner }
+        ensures wire { wire_of result ≡ record { first = first; last = last; calls = 0; refusals = 0 } }
+        ensures content { ⟦<Fuse<R> as Rows>⟧.content result ≡ R.content inner }
+    {
+        Fuse {
+            inner,
+            wire: Wire {
+                first,
+                last,
+                calls: 0,
+                refusals: 0,
+            },
+        }
+    }
+}
+
 impl<R: Rows> Rows for Fuse<R> {
-    ghost content = { λ s. R.content s.inner };
+    ghost use Rattle.hdl_rows.specs.Fuse.{inner_of, wire_of, refusals_of, after_call, Blows, Passes};
 
-    ghost refused = { λ s. min (R.refused s.inner + s.refusals) most };
+    ghost content = { λ s. R.content (inner_of s) };
 
-    fn exists(&mut self, name: &Name) -> Result<bool, Refused> {
-        if self.blows() {
+    ghost refused = { λ s. refusals_of R.refused s };
+
+    fn exists(&mut self, name: &Name) -> Result<bool, Refused>
+        ensures found { IfOk result (λ is. is ≡ has (R.content (inner_of self.old)) (canonical name.now)) }
+        ensures unchanged { R.content (inner_of self.new) ≡ R.content (inner_of self.old) }
+        ensures count { refusals_of R.refused self.new ≡ counted result (refusals_of R.refused self.old) }
+        ensures wire { wire_of self.new ≡ after_call (wire_of self.old) }
+        ensures blown { Blows self.old self.new result }
+        ensures passed { Passes R.refused self.old self.new result }
+    {
+        if self.wire.blows() {
             return Err(Refused);
         }
         self.inner.exists(name)
     }
 
-    fn at(&mut self, reference: &Reference) -> Result<Option<Value>, Refused> {
-        if self.blows() {
+    fn at(&mut self, reference: &Reference) -> Result<Option<Value>, Refused>
+        ensures found { IfOk result (λ value. value ≡ at (R.content (inner_of self.old)) (place_of reference.now)) }
+        ensures unchanged { R.content (inner_of self.new) ≡ R.content (inner_of self.old) }
+        ensures count { refusals_of R.refused self.new ≡ counted result (refusals_of R.refused self.old) }
+        ensures wire { wire_of self.new ≡ after_call (wire_of self.old) }
+        ensures blown { Blows self.old self.new result }
+        ensures passed { Passes R.refused self.old self.new result }
+    {
+        if self.wire.blows() {
             return Err(Refused);
         }
         self.inner.at(reference)
     }
 
-    fn values(&mut self, name: &Name) -> Result<Vec<Value>, Refused> {
-        if self.blows() {
+    fn values(&mut self, name: &Name) -> Result<Vec<Value>, Refused>
+        ensures found { IfOk result (λ all. all.items ≡ values_of (R.content (inner_of self.old)) (canonical name.now)) }
+        ensures unchanged { R.content (inner_of self.new) ≡ R.content (inner_of self.old) }
+        ensures count { refusals_of R.refused self.new ≡ counted result (refusals_of R.refused self.old) }
+        ensures wire { wire_of self.new ≡ after_call (wire_of self.old) }
+        ensures blown { Blows self.old self.new result }
+        ensures passed { Passes R.refused self.old self.new result }
+    {
+        if self.wire.blows() {
             return Err(Refused);
         }
         self.inner.values(name)
     }
 
-    fn names(&mut self, authority: &[u8]) -> Result<Vec<Octets>, Refused> {
-        if self.blows() {
+    fn names(&mut self, authority: &[u8]) -> Result<Vec<Octets>, Refused>
+        ensures found { IfOk result (λ all. all.items ≡ names_of (R.content (inner_of self.old)) authority.now) }
+        ensures unchanged { R.content (inner_of self.new) ≡ R.content (inner_of self.old) }
+        ensures count { refusals_of R.refused self.new ≡ counted result (refusals_of R.refused self.old) }
+        ensures wire { wire_of self.new ≡ after_call (wire_of self.old) }
+        ensures blown { Blows self.old self.new result }
+        ensures passed { Passes R.refused self.old self.new result }
+    {
+        if self.wire.blows() {
             return Err(Refused);
         }
         self.inner.names(authority)
     }
 
-    fn create(&mut self, name: &Name, values: &[Value]) -> Result<(), Refused> {
-        if self.blows() {
+    fn create(&mut self, name: &Name, values: &[Value]) -> Result<(), Refused>
+        requires absent { has (R.content (inner_of self.old)) (canonical name.now) ≡ false }
+        requires distinct { AreDistinct (indexes values.now) }
+        ensures done { OnOk result (R.content (inner_of self.new) ≡ created (R.content (inner_of self.old)) (canonical name.now) values.now) }
+        ensures undone { OnErr result (R.content (inner_of self.new) ≡ R.content (inner_of self.old)) }
+        ensures count { refusals_of R.refused self.new ≡ counted result (refusals_of R.refused self.old) }
+        ensures wire { wire_of self.new ≡ after_call (wire_of self.old) }
+        ensures blown { Blows self.old self.new result }
+        ensures passed { Passes R.refused self.old self.new result }
+    {
+        if self.wire.blows() {
             return Err(Refused);
         }
         self.inner.create(name, values)
     }
 
-    fn add(&mut self, name: &Name, values: &[Value]) -> Result<(), Refused> {
-        if self.blows() {
+    fn add(&mut self, name: &Name, values: &[Value]) -> Result<(), Refused>
+        requires there { has (R.content (inner_of self.old)) (canonical name.now) ≡ true }
+        requires distinct { AreDistinct (indexes values.now) }
+        requires free { AreAbsent (R.content (inner_of self.old)) (canonical name.now) (indexes values.now) }
+        ensures done { OnOk result (R.content (inner_of self.new) ≡ with_values (R.content (inner_of self.old)) (canonical name.now) values.now) }
+        ensures undone { OnErr result (R.content (inner_of self.new) ≡ R.content (inner_of self.old)) }
+        ensures count { refusals_of R.refused self.new ≡ counted result (refusals_of R.refused self.old) }
+        ensures wire { wire_of self.new ≡ after_call (wire_of self.old) }
+        ensures blown { Blows self.old self.new result }
+        ensures passed { Passes R.refused self.old self.new result }
+    {
+        if self.wire.blows() {
             return Err(Refused);
         }
         self.inner.add(name, values)
     }
 
-    fn modify(&mut self, name: &Name, values: &[Value]) -> Result<(), Refused> {
-        if self.blows() {
+    fn modify(&mut self, name: &Name, values: &[Value]) -> Result<(), Refused>
+        requires there { has (R.content (inner_of self.old)) (canonical name.now) ≡ true }
+        requires distinct { AreDistinct (indexes values.now) }
+        requires taken { ArePresent (R.content (inner_of self.old)) (canonical name.now) (indexes values.now) }
+        ensures done { OnOk result (R.content (inner_of self.new) ≡ with_values (R.content (inner_of self.old)) (canonical name.now) values.now) }
+        ensures undone { OnErr result (R.content (inner_of self.new) ≡ R.content (inner_of self.old)) }
+        ensures count { refusals_of R.refused self.new ≡ counted result (refusals_of R.refused self.old) }
+        ensures wire { wire_of self.new ≡ after_call (wire_of self.old) }
+        ensures blown { Blows self.old self.new result }
+        ensures passed { Passes R.refused self.old self.new result }
+    {
+        if self.wire.blows() {
             return Err(Refused);
         }
         self.inner.modify(name, values)
     }
 
-    fn remove(&mut self, name: &Name, indexes: &[u32]) -> Result<(), Refused> {
-        if self.blows() {
+    fn remove(&mut self, name: &Name, indexes: &[u32]) -> Result<(), Refused>
+        requires there { has (R.content (inner_of self.old)) (canonical name.now) ≡ true }
+        requires distinct { AreDistinct indexes.now }
+        requires taken { ArePresent (R.content (inner_of self.old)) (canonical name.now) indexes.now }
+        ensures done { OnOk result (R.content (inner_of self.new) ≡ without_values (R.content (inner_of self.old)) (canonical name.now) indexes.now) }
+        ensures undone { OnErr result (R.content (inner_of self.new) ≡ R.content (inner_of self.old)) }
+        ensures count { refusals_of R.refused self.new ≡ counted result (refusals_of R.refused self.old) }
+        ensures wire { wire_of self.new ≡ after_call (wire_of self.old) }
+        ensures blown { Blows self.old self.new result }
+        ensures passed { Passes R.refused self.old self.new result }
+    {
+        if self.wire.blows() {
             return Err(Refused);
         }
         self.inner.remove(name, indexes)
     }
 
-    fn delete(&mut self, name: &Name) -> Result<(), Refused> {
-        if self.blows() {
+    fn delete(&mut self, name: &Name) -> Result<(), Refused>
+        requires there { has (R.content (inner_of self.old)) (canonical name.now) ≡ true }
+        ensures done { OnOk result (R.content (inner_of self.new) ≡ without_handle (R.content (inner_of self.old)) (canonical name.now)) }
+        ensures undone { OnErr result (R.content (inner_of self.new) ≡ R.content (inner_of self.old)) }
+        ensures count { refusals_of R.refused self.new ≡ counted result (refusals_of R.refused self.old) }
+        ensures wire { wire_of self.new ≡ after_call (wire_of self.old) }
+        ensures blown { Blows self.old self.new result }
+        ensures passed { Passes R.refused self.old self.new result }
+    {
+        if self.wire.blows() {
             return Err(Refused);
         }
         self.inner.delete(name)
     }
 
     fn refusals(&self) -> u64 {
-        self.inner.refusals().saturating_add(self.refusals)
+        self.inner.refusals().saturating_add(self.wire.refusals)
     }
 }

@@ -1,8 +1,6 @@
-use Rattle.std.proofs.Common.{◌≡◌, ◌≢◌, ◌<◌, ◌≤◌, ◌∙◌, length, get_or, refl, sym, ap, arith, vec_len}
-use Rattle.std.specs.List.{prefix_len}
+use Rattle.std.proofs.Common.{◌∙◌, refl, sym, ap, arith}
 use Rattle.hdl_value.specs.declared.value.Value.{Value}
-use Rattle.std.proofs.lemmas.List.Sums.{prefix_len-le-length}
-use Rattle.hdl_rows.proofs.RowLemmas.{put_new, put_over, place_in, place_of_count}
+use Rattle.hdl_rows.proofs.RowLemmas.{put_new, put_over, place_of_count}
 use Rattle.hdl_rows.proofs.row.put_value.Goals.{else-at-len-via-then-at-len+else-index-value, else-at-len-via-else-at-len}
 use Rattle.hdl_rows.proofs.row.put_value.Goals as goal
 

@@ -1,4 +1,4 @@
-use Rattle.std.proofs.Common.{◌≡◌, List, filter, not, rules}
+use Rattle.std.proofs.Common.{◌≡◌, filter, not, rules}
 use Rattle.std.proofs.lemmas.Fn.{filter_same}
 use Rattle.hdl_value.specs.Place.{same_handle}
 use Rattle.hdl_rows.specs.declared.row.Row.{Row}

@@ -1,4 +1,4 @@
-use Rattle.std.proofs.Common.{◌≡◌, ◌∙◌, refl, sym}
+use Rattle.std.proofs.Common.{◌∙◌, refl, sym}
 use Rattle.hdl_rows.specs.declared.row.Row.{Row}
 use Rattle.hdl_rows.proofs.Changes.{removed_is, changes, has_row}
 use Rattle.hdl_rows.proofs.shelf.Shelf.remove.Goals as goal

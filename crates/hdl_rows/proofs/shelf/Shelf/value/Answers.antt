@@ -1,4 +1,4 @@
-use Rattle.std.proofs.Common.{◌≡◌, ◌∙◌, ap, sym, option_map, ℕ, List}
+use Rattle.std.proofs.Common.{◌∙◌, ap, sym, option_map, List}
 use Rattle.std.specs.FinMap.{find}
 use Rattle.std.specs.Ordering.{nat_cmp}
 use Rattle.hdl_value.specs.declared.value.Value.{Value}

@@ -1,5 +1,4 @@
-use Rattle.std.proofs.Common.{◌≡◌, ◌∙◌, ap, sym, option_map, ℕ, List, IfOk}
-use Rattle.hdl_value.specs.declared.value.Value.{Value}
+use Rattle.std.proofs.Common.{◌∙◌, ap, sym, option_map}
 use Rattle.hdl_rows.proofs.ShelfLemmas.{values_there}
 use Rattle.hdl_rows.proofs.Changes.{values_is, if_ok}
 use Rattle.hdl_rows.proofs.shelf.Shelf.values.Goals as goal
