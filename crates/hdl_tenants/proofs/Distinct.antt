@@ -1,5 +1,5 @@
 -- Lists without an element twice, and whether a prefix is hosted.
-use Rattle.std.proofs.Common.{◌≡◌, ◌≢◌, ◌++◌, ◌∷◌, [], List, ℕ, ◌+◌, ◌<◌, ◌==◌, ◌&&◌, ◌||◌, Bool, true, false, cond, length, get_or, map, Contains, Option, None, Some, arith, sym, ap, ◌∙◌, true≢false, refl, subst, add-one, AllPairs, All, IsTrue, eqb-true, ◌⊎◌, inl, inr}
+use Rattle.std.proofs.Common.{◌≡◌, ◌≢◌, ◌++◌, ◌∷◌, [], List, ℕ, ◌+◌, ◌<◌, ◌==◌, ◌&&◌, ◌||◌, Bool, true, false, length, get_or, map, Contains, Some, arith, sym, ap, ◌∙◌, true≢false, refl, subst, add-one, All, IsTrue, eqb-true, ◌⊎◌, inl, inr}
 use Rattle.std.specs.Str.{bytes_eq}
 use Rattle.std.specs.Map.{lookup}
 use Rattle.std.proofs.lemmas.List.{get_or_default, get_or-map, length-map}

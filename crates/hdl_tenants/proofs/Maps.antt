@@ -1,5 +1,5 @@
 -- A map's look-up by octets, beside what its entries show.
-use Rattle.std.proofs.Common.{◌≡◌, ◌++◌, ◌∷◌, [], List, ℕ, ◌+◌, ◌<◌, Bool, true, false, cond, not, is_some, length, map, Contains, Option, None, Some, IfSome, IfNone, IsTrue, ◌↔◌, nat_lt, position, arith, sym, ap, subst, ◌∙◌, inl, inr, true≢false, refl}
+use Rattle.std.proofs.Common.{◌≡◌, ◌++◌, ◌∷◌, [], List, ℕ, ◌+◌, Bool, true, false, cond, not, is_some, length, map, Contains, Option, None, Some, IfSome, IfNone, IsTrue, ◌↔◌, nat_lt, position, arith, sym, ap, ◌∙◌, inl, inr, true≢false, refl}
 use Rattle.std.specs.Str.{bytes_eq}
 use Rattle.std.specs.Map.{lookup, keys_of}
 use Rattle.std.specs.List.{position_or_len}

@@ -1,5 +1,5 @@
 -- Whether a value may follow what stands before it.
-use Rattle.std.proofs.Common.{◌≡◌, ◌<◌, ◌≤◌, ◌++◌, ◌∷◌, [], List, ℕ, map, Contains, arith, sym, ap, subst, ◌∙◌}
+use Rattle.std.proofs.Common.{◌≡◌, ◌<◌, ◌≤◌, List, ℕ, map, Contains, arith, ap, subst, ◌∙◌}
 use Rattle.hdl_name.specs.Name.{IsHandle, canonical, prefix}
 use Rattle.hdl_value.specs.declared.value.Value.{Value}
 use Rattle.hdl_tenants.specs.Register.{Register, Row, prefixes_of, place, value_count, most_values}

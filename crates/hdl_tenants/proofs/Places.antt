@@ -1,5 +1,5 @@
 -- Whether a row has a place.
-use Rattle.std.proofs.Common.{◌≡◌, ◌∷◌, [], List, ℕ, ◌+◌, ◌<◌, ◌==◌, ◌&&◌, ◌||◌, Bool, true, false, IsTrue, ◌↔◌, length, map, Contains, arith, sym, ap, ◌∙◌, refl, inl, inr, true≢false, eqb-true}
+use Rattle.std.proofs.Common.{◌≡◌, ◌∷◌, [], List, ℕ, ◌==◌, ◌&&◌, Bool, true, false, IsTrue, ◌↔◌, map, Contains, arith, sym, ap, ◌∙◌, refl, inl, inr, true≢false, eqb-true}
 use Rattle.std.specs.Str.{bytes_eq}
 use Rattle.std.specs.List.{list_any}
 use Rattle.std.proofs.lemmas.Bool.Decides.{Decides-eqb}

@@ -1,9 +1,8 @@
 -- A register stays one when a line is added.
-use Rattle.std.proofs.Common.{◌≡◌, ◌≢◌, ◌++◌, ◌∷◌, [], List, ℕ, ◌+◌, ◌-◌, ◌<◌, ◌≤◌, ◌^◌, true≢false, Bool, true, false, not, cond, length, map, sum_by, count_by, Contains, All, arith, sym, ap, subst, ◌∙◌, refl, inl, inr, length-append}
+use Rattle.std.proofs.Common.{◌≡◌, ◌++◌, ◌∷◌, [], List, ℕ, ◌+◌, ◌<◌, ◌≤◌, true≢false, Bool, true, false, cond, length, map, sum_by, Contains, arith, sym, subst, ◌∙◌, refl, inl, inr, length-append}
 use Rattle.std.specs.Str.{bytes_eq}
-use Rattle.std.specs.List.{position_or_len}
 use Rattle.std.proofs.lemmas.List.{map-append}
-use Rattle.std.proofs.lemmas.List.Elements.{All-push, All-nil, All-weaker, Contains-append_left, Contains-append_cases, Contains-push_cases, All-from_recursion, recursion_from_All}
+use Rattle.std.proofs.lemmas.List.Elements.{All-push, All-nil, All-weaker, Contains-append_left, Contains-append_cases, Contains-push_cases}
 use Rattle.std.proofs.lemmas.List.Sums.{sum_by-append}
 use Rattle.std.proofs.lemmas.Slice.Eq.{bytes_eq-Decides}
 use Rattle.hdl_name.specs.Name.{IsHandle, canonical, prefix}
@@ -11,9 +10,8 @@ use Rattle.hdl_value.specs.declared.value.Value.{Value}
 use Rattle.hdl_value.specs.Spelling.{Fits}
 use Rattle.hdl_value.specs.Fault.{IsSound}
 use Rattle.hdl_value.proofs.Whole.{can_be_spelt}
-use Rattle.hdl_tenants.specs.Register.{Publisher, Hosting, Row, Register, empty, names_of, prefixes_of, lane_count, most_lanes, place, value_count, most_values, AreDistinct, IsPublisher, IsPrefix, IsHosting, IsOpening, IsRegister}
-use Rattle.hdl_tenants.specs.Lines.{IsValueText}
-use Rattle.hdl_tenants.specs.Text.{Line, skipped, publisher, hosted, opened, IsLine, place_of, added, IsKnownRow, IsAllowed, Adds, AddsAll, IsAccepted}
+use Rattle.hdl_tenants.specs.Register.{Publisher, Hosting, Row, Register, empty, names_of, prefixes_of, place, value_count, most_values, IsPublisher, IsPrefix, IsHosting, IsOpening, IsRegister}
+use Rattle.hdl_tenants.specs.Text.{Line, skipped, publisher, hosted, opened, IsLine, place_of, added, IsKnownRow, IsAllowed, Adds, AddsAll}
 use Rattle.hdl_tenants.proofs.Distinct.{distinct_push}
 
 -- who is named has a place

@@ -1,12 +1,12 @@
 -- What a line says, from what its fields say.
-use Rattle.std.proofs.Common.{◌≡◌, ◌≢◌, ◌∷◌, [], List, ℕ, Bool, true, false, Contains, IsTrue, Result, Ok, Err, OnOk, IfErr, codes, length, arith, sym, ap, subst, ◌∙◌, refl}
+use Rattle.std.proofs.Common.{◌≡◌, ◌≢◌, ◌∷◌, [], List, ℕ, Contains, Result, Ok, Err, OnOk, IfErr, codes, length, arith, sym, ap, subst, ◌∙◌}
 use Rattle.hdl_name.specs.Name.{IsHandle}
 use Rattle.hdl_value.specs.declared.value.Value.{Value}
 use Rattle.hdl_tenants.specs.declared.fault.TenantFault.{TenantFault}
 use Rattle.hdl_tenants.specs.declared.fault.TenantFault.TheVariants.{BadLine, TwicePrefix, TwicePublisher, TooMany, Memory}
 use Rattle.hdl_tenants.specs.Register.{Publisher, Register, names_of}
 use Rattle.hdl_tenants.specs.Lines.{fields_of, IsPublisherLine, IsPrefixLine, IsValueLine, IsValueText}
-use Rattle.hdl_tenants.specs.Text.{Line, skipped, publisher, hosted, opened, IsLine, IsSkipped, IsKnown, IsKnownRow, IsAllowed, HasFault, Adds, added}
+use Rattle.hdl_tenants.specs.Text.{Line, skipped, publisher, hosted, opened, IsLine, IsSkipped, IsKnown, IsKnownRow, HasFault, Adds}
 use Rattle.hdl_tenants.specs.Steps.{IsPublisherFault, IsDigitsFault, IsHostedFault, IsOpenedFault, Opens}
 
 pub both_ok : {A E : Type 0} (P Q R : Type 0) (r : Result A E) → OnOk r P → OnOk r Q → (P → Q → R) → OnOk r R

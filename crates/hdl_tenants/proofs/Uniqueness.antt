@@ -1,6 +1,6 @@
 -- A line says one thing, and so does a text.
-use Rattle.std.proofs.Common.{◌≡◌, ◌≢◌, ◌++◌, ◌∷◌, [], List, ℕ, ◌+◌, ◌<◌, ◌≤◌, ◌==◌, Bool, true, false, length, codes, Contains, Some, slice_get, arith, sym, ap, subst, ◌∙◌, refl, inl, inr}
-use Rattle.std.specs.List.{slice_split, onto_first}
+use Rattle.std.proofs.Common.{◌≡◌, ◌≢◌, ◌++◌, ◌∷◌, [], List, ℕ, ◌==◌, false, length, codes, Contains, arith, sym, ap, subst, ◌∙◌, refl, inl, inr}
+use Rattle.std.specs.List.{onto_first}
 use Rattle.std.specs.Str.Parse.{digits_value}
 use Rattle.std.proofs.lemmas.List.Splits.{slice_split-cons_no}
 use Rattle.hdl_value.specs.declared.value.Value.{Value}

@@ -1,5 +1,5 @@
 -- What a tenants text says as a whole: publishers, hosted prefixes and opening rows, each in the text's order.
-use Rattle.std.specs.Prelude.{◌≡◌, ◌≢◌, ◌≤◌, ◌<◌, ◌^◌, ◌==◌, ◌&&◌, ◌||◌, ◌-◌, ◌+◌, ℕ, Bool, IsTrue, List, [], ◌∷◌, length, take, codes, map, sum_by, count_by, All, AllPairs, Contains, Option, Some, None, nat_lt, if◌then◌else◌}
+use Rattle.std.specs.Prelude.{◌≡◌, ◌≢◌, ◌≤◌, ◌<◌, ◌^◌, ◌==◌, ◌&&◌, ◌||◌, ◌-◌, ◌+◌, ℕ, Bool, List, [], ◌∷◌, length, take, codes, map, sum_by, count_by, All, AllPairs, Contains, Option, Some, None, nat_lt, if◌then◌else◌}
 use Rattle.std.specs.List.{AllPass, list_any}
 use Rattle.std.specs.Option.{option_map}
 use Rattle.std.specs.Char.{is_ascii_digit, is_ascii_lowercase}

@@ -6,7 +6,7 @@ use Rattle.hdl_name.specs.Name.{canonical, prefix}
 use Rattle.hdl_value.specs.declared.value.Value.{Value}
 use Rattle.hdl_tenants.specs.declared.fault.TenantFault.{TenantFault}
 use Rattle.hdl_tenants.specs.declared.fault.TenantFault.TheVariants.{BadLine, TwicePrefix, TwicePublisher, TooMany, Memory}
-use Rattle.hdl_tenants.specs.Register.{Publisher, Hosting, Register, Row, empty, names_of, prefixes_of, lane_count, most_lanes, place, value_count, most_values}
+use Rattle.hdl_tenants.specs.Register.{Publisher, Register, Row, empty, names_of, prefixes_of, lane_count, most_lanes, place, value_count, most_values}
 use Rattle.hdl_tenants.specs.Lines.{fields_of, IsPublisherLine, IsPrefixLine, IsValueLine}
 
 -- what one line says

@@ -1,4 +1,4 @@
-use Rattle.std.proofs.Common.{◌≡◌, ◌+◌, ℕ, sym, ap, ◌∙◌}
+use Rattle.std.proofs.Common.{◌+◌, ℕ, sym, ap, ◌∙◌}
 use Rattle.hdl_tenants.specs.Register.{empty}
 use Rattle.hdl_tenants.proofs.Uniqueness.{one_place}
 use Rattle.hdl_tenants.proofs.laws.one_first_fault.Goals as goal

@@ -1,4 +1,4 @@
-use Rattle.std.proofs.Common.{◌≡◌, ◌≢◌, List, ℕ, refl}
+use Rattle.std.proofs.Common.{◌≢◌, List, ℕ, refl}
 use Rattle.std.proofs.lemmas.List.Elements.{All-contains, All-map, All-weaker}
 use Rattle.hdl_tenants.specs.Register.{Hosting, IsHosting, prefixes_of, root}
 use Rattle.hdl_tenants.proofs.Distinct.{hosts-absent}

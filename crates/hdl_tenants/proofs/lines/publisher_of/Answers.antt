@@ -1,4 +1,4 @@
-use Rattle.std.proofs.Common.{◌≡◌, ℕ, List, [], ◌∷◌, length, get_or, map, arith, rules, refl, ap, ◌∙◌, Bor, codes}
+use Rattle.std.proofs.Common.{◌≡◌, ℕ, List, [], length, get_or, arith, rules, Bor, codes}
 use Rattle.hdl_tenants.proofs.Fields.{four_texts}
 use Rattle.hdl_tenants.proofs.lines.publisher_of.Goals as goal
 

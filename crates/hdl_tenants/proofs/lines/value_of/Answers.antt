@@ -1,4 +1,4 @@
-use Rattle.std.proofs.Common.{◌≡◌, ℕ, List, [], ◌∷◌, length, get_or, arith, rules, Bor, codes}
+use Rattle.std.proofs.Common.{◌≡◌, ℕ, List, [], length, get_or, arith, rules, Bor, codes}
 use Rattle.hdl_tenants.proofs.Fields.{three_texts}
 use Rattle.hdl_tenants.proofs.lines.value_of.Goals as goal
 

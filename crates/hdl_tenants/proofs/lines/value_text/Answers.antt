@@ -1,4 +1,4 @@
-use Rattle.std.proofs.Common.{◌≡◌, ◌≢◌, ℕ, List, [], sym, ◌∙◌, subst, arith, rules}
+use Rattle.std.proofs.Common.{◌≢◌, ℕ, List, [], subst, arith, rules}
 use Rattle.hdl_value.specs.Fault.{Begins}
 use Rattle.hdl_value.specs.declared.fault.ValueFault.TheVariants.{Memory}
 use Rattle.hdl_tenants.proofs.Texts.{no_fault_of, whole_count, ok_is}

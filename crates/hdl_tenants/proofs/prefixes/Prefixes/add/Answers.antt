@@ -1,4 +1,4 @@
-use Rattle.std.proofs.Common.{◌≡◌, ◌++◌, ◌∷◌, [], List, ℕ, sym, ap, refl, ◌∙◌, None, Option}
+use Rattle.std.proofs.Common.{◌≡◌, List, ℕ, sym, ap, refl, ◌∙◌, None}
 use Rattle.std.specs.Str.{bytes_eq}
 use Rattle.std.specs.Map.{lookup}
 use Rattle.std.proofs.lemmas.List.{map-append}

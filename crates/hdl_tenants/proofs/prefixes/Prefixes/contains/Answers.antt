@@ -1,4 +1,4 @@
-use Rattle.std.proofs.Common.{◌≡◌, Bool, true, false, refl, sym, ◌∙◌}
+use Rattle.std.proofs.Common.{refl}
 use Rattle.hdl_tenants.specs.Kept.{hosting_in}
 use Rattle.hdl_tenants.proofs.Maps.{found-Contains, absent-Contains, tells}
 use Rattle.hdl_tenants.proofs.prefixes.Prefixes.contains.Goals as goal

@@ -1,4 +1,4 @@
-use Rattle.std.proofs.Common.{◌≡◌, refl, sym, ◌∙◌, ap, is_some}
+use Rattle.std.proofs.Common.{refl, sym, ap, is_some}
 use Rattle.hdl_tenants.specs.Kept.{hosting_in}
 use Rattle.hdl_tenants.proofs.Maps.{absent-Contains}
 use Rattle.hdl_tenants.proofs.Distinct.{hosts-absent, hosts-found}

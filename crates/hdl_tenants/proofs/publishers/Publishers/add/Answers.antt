@@ -1,10 +1,10 @@
-use Rattle.std.proofs.Common.{◌≡◌, ◌++◌, ◌∷◌, [], List, ℕ, sym, ap, refl, ◌∙◌, None, Option, arith, sum_by}
+use Rattle.std.proofs.Common.{◌≡◌, sym, ap, refl, ◌∙◌, None, arith}
 use Rattle.std.specs.Str.{bytes_eq}
 use Rattle.std.specs.String.{string_bytes}
 use Rattle.std.specs.Map.{lookup}
 use Rattle.std.proofs.lemmas.List.Sums.{sum_by-append}
 use Rattle.indexmap.proofs.CallerLemmas.{insert_entry-new}
-use Rattle.hdl_tenants.specs.Kept.{publisher_in, publishers_in}
+use Rattle.hdl_tenants.specs.Kept.{publisher_in}
 use Rattle.hdl_tenants.proofs.Maps.{found-Contains, absent-Contains, none-from_is_some, shown-push}
 use Rattle.hdl_tenants.proofs.publishers.Publishers.add.Goals as goal
 

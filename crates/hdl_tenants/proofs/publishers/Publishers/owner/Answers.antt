@@ -1,8 +1,8 @@
-use Rattle.std.proofs.Common.{◌≡◌, ℕ, List, Option, Some, slice_get, sym, ◌∙◌, ap, arith, String}
+use Rattle.std.proofs.Common.{sym, ◌∙◌, ap}
 use Rattle.std.specs.Option.{option_map}
 use Rattle.std.proofs.lemmas.Option.{slice_get-map}
 use Rattle.hdl_tenants.specs.Kept.{publisher_in, publishers_in}
-use Rattle.hdl_tenants.proofs.Lanes.{so_far_here, so_far_more, so_far_end}
+use Rattle.hdl_tenants.proofs.Lanes.{so_far_here, so_far_more}
 use Rattle.hdl_tenants.proofs.publishers.Publishers.owner.Goals as goal
 
 pub returns-then-rest-shape : goal.returns-then-rest-shape

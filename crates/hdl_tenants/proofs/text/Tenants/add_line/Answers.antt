@@ -1,9 +1,8 @@
-use Rattle.std.proofs.Common.{◌≡◌, ◌∷◌, [], List, ℕ, map, Bor, OnOk, sym, subst, ◌∙◌, ap, codes, true≢false}
+use Rattle.std.proofs.Common.{sym, ◌∙◌, true≢false}
 use Rattle.hdl_tenants.specs.Register.{Publisher}
-use Rattle.hdl_tenants.specs.Lines.{fields_of, IsPublisherLine, IsPrefixLine}
-use Rattle.hdl_tenants.specs.Text.{publisher, hosted, IsSkipped, Adds}
+use Rattle.hdl_tenants.specs.Text.{publisher, hosted, IsSkipped}
 use Rattle.hdl_tenants.specs.Kept.{publisher_on}
-use Rattle.hdl_tenants.proofs.Sayings.{both_ok, if_ok, if_fault, hosted_fault, opened_fault, no_line, opens_adds}
+use Rattle.hdl_tenants.proofs.Sayings.{both_ok, if_ok, if_fault, opened_fault, no_line, opens_adds}
 use Rattle.hdl_tenants.proofs.text.Tenants.add_line.Goals as goal
 
 pub returns-in-Some-clause-ok : goal.returns-in-Some-clause-ok

@@ -1,4 +1,3 @@
-use Rattle.std.proofs.Common.{◌≡◌}
 use Rattle.hdl_tenants.specs.Register.{Register}
 use Rattle.hdl_tenants.proofs.Registers.{hosted_added}
 use Rattle.hdl_tenants.proofs.text.Tenants.add_prefix.Goals as goal

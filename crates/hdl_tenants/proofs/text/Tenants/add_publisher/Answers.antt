@@ -1,4 +1,3 @@
-use Rattle.std.proofs.Common.{◌≡◌}
 use Rattle.hdl_tenants.specs.Register.{Register}
 use Rattle.hdl_tenants.specs.Kept.{publisher_on}
 use Rattle.hdl_tenants.proofs.Registers.{publisher_added}

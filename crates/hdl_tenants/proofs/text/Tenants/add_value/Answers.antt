@@ -1,8 +1,6 @@
-use Rattle.std.proofs.Common.{◌≡◌, ◌≢◌, ◌<◌, ◌++◌, ◌∷◌, [], List, ℕ, map, Contains, IsTrue, arith, rules, sym, ap, subst, ◌∙◌, true≢false}
+use Rattle.std.proofs.Common.{◌++◌, ◌∷◌, [], List, ℕ, rules, sym, ap, ◌∙◌, true≢false}
 use Rattle.std.proofs.lemmas.Result.{err_from_is_err_and}
-use Rattle.hdl_name.specs.Name.{canonical, prefix}
-use Rattle.hdl_tenants.specs.Register.{Register, Row, place}
-use Rattle.hdl_tenants.specs.Text.{IsKnownRow}
+use Rattle.hdl_tenants.specs.Register.{Register, Row}
 use Rattle.hdl_tenants.proofs.Registers.{opened_added}
 use Rattle.hdl_tenants.proofs.Sayings.{from_digits}
 use Rattle.hdl_tenants.proofs.Opened.{taken, too_many, known_row}

@@ -1,4 +1,4 @@
-use Rattle.std.proofs.Common.{◌≡◌, ◌+◌, arith}
+use Rattle.std.proofs.Common.{◌+◌, arith}
 use Rattle.hdl_tenants.specs.Register.{IsPublisher}
 use Rattle.hdl_tenants.proofs.Lanes.{All-at, first_lane-more, first_lane-within}
 use Rattle.hdl_tenants.proofs.text.Tenants.lanes_of.Goals as goal

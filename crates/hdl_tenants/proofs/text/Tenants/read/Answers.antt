@@ -5,7 +5,6 @@ use Rattle.std.proofs.lemmas.List.{take-append-drop, drop_more, map-append, leng
 use Rattle.std.proofs.lemmas.Iterator.Splits.{YieldsList-from_lines}
 use Rattle.std.proofs.lemmas.Iterator.Consumers.{YieldsList-at, YieldsList-so_far, YieldsList-turn, YieldsList-end}
 use Rattle.hdl_tenants.specs.Register.{empty}
-use Rattle.hdl_tenants.specs.Text.{IsAccepted}
 use Rattle.hdl_tenants.proofs.Registers.{AddsAll-push, all_added, empty_is}
 use Rattle.hdl_tenants.proofs.text.Tenants.read.Goals as goal
 
