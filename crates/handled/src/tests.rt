@@ -440,8 +440,9 @@ fn longest_input(rt: HostRuntime) -> Result<(), Fail> {
 /// The length is tested before UTF-8.
 #[test]
 fn too_long_an_input(rt: HostRuntime) -> Result<(), Fail> {
-    let mut text = comment(&rt, 17_825_792)?;
-    text[0] = 0xff;
+    let mut text = Vec::new(rt.alloc());
+    text.push(0xff)?;
+    text.resize(17_825_792, b'#')?;
     expect(
         rt.alloc(),
         &rt,

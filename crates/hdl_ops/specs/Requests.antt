@@ -1,7 +1,8 @@
 -- A request, in the words of the tables of decision.
 use Rattle.std.specs.Prelude.{ℕ, List, [], Bool, true, false}
 use Rattle.hdl_name.specs.Name.{canonical}
-use Rattle.hdl_value.specs.Permission.{has_bit}
+use Rattle.hdl_msg.specs.Codes.{has_flag}
+use Rattle.hdl_msg.specs.declared.codes.OpFlag.TheVariants.{PublicOnly, ReturnDigest}
 use Rattle.hdl_msg.specs.Message.{Content, Operation, resolution, create, delete, add, remove, modify, list, response, other}
 
 -- the handle that an operation names, as it was sent
@@ -24,10 +25,10 @@ abbrev pub resolves : Operation → Bool
 resolves (resolution handle indexes types) = true
 resolves _ = false
 
--- OpFlag PO: public values only
+-- public values only (PO)
 abbrev pub is_public_only : Content → Bool
-is_public_only r = has_bit r.header.op_flag 0x01000000
+is_public_only r = has_flag r.header.op_flag PublicOnly
 
--- OpFlag RD: return the request's digest
+-- return the request's digest (RD)
 abbrev pub wants_digest : Content → Bool
-wants_digest r = has_bit r.header.op_flag 0x00800000
+wants_digest r = has_flag r.header.op_flag ReturnDigest

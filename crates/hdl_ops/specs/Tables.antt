@@ -1,8 +1,10 @@
--- What a change makes of a table.
-use Rattle.std.specs.Prelude.{◌≡◌, ℕ, Option, Some, None, map, true, false}
+-- What a change makes of a table: its write, at the moment of its event.
+use Rattle.std.specs.Prelude.{ℕ, Option, Some, None, map}
 use Rattle.hdl_name.specs.Name.{canonical}
 use Rattle.hdl_value.specs.declared.value.Value.{Value}
-use Rattle.hdl_rows.specs.Table.{Table, has, created, with_values, without_values, without_handle, AreDistinct, AreAbsent, ArePresent, indexes}
+use Rattle.hdl_rows.specs.Table.{Table}
+use Rattle.hdl_rows.specs.Write as write
+use Rattle.hdl_rows.specs.Write.{Write, CanWrite, written}
 use Rattle.hdl_ops.specs.declared.change.Change.{Change}
 use Rattle.hdl_ops.specs.declared.change.Change.TheVariants.{Create, Delete, Add, Remove, Modify}
 
@@ -10,13 +12,25 @@ use Rattle.hdl_ops.specs.declared.change.Change.TheVariants.{Create, Delete, Add
 abbrev pub stamped : ℕ → Value → Value
 stamped moment v = record v { stamp = moment }
 
+-- the write of a change, its values as they are
+abbrev pub write_of : Change → Write
+write_of (Create name values) = write.Create (canonical name) values
+write_of (Delete name) = write.Delete (canonical name)
+write_of (Add name values) = write.Add (canonical name) values
+write_of (Remove name is) = write.Remove (canonical name) is
+write_of (Modify name values) = write.Modify (canonical name) values
+
+-- the write with each value stamped
+abbrev pub stamped_write : ℕ → Write → Write
+stamped_write moment (write.Create h vs) = write.Create h (map (stamped moment) vs)
+stamped_write moment (write.Delete h) = write.Delete h
+stamped_write moment (write.Add h vs) = write.Add h (map (stamped moment) vs)
+stamped_write moment (write.Remove h is) = write.Remove h is
+stamped_write moment (write.Modify h vs) = write.Modify h (map (stamped moment) vs)
+
 -- the table after a change at the moment
 abbrev pub apply : Table → ℕ → Change → Table
-apply t moment (Create name values) = created t (canonical name) (map (stamped moment) values)
-apply t moment (Delete name) = without_handle t (canonical name)
-apply t moment (Add name values) = with_values t (canonical name) (map (stamped moment) values)
-apply t moment (Remove name is) = without_values t (canonical name) is
-apply t moment (Modify name values) = with_values t (canonical name) (map (stamped moment) values)
+apply t moment change = written t (stamped_write moment (write_of change))
 
 abbrev pub apply_if : Table → ℕ → Option Change → Table
 apply_if t moment None = t
@@ -24,8 +38,4 @@ apply_if t moment (Some change) = apply t moment change
 
 -- what a change asks of the table
 abbrev pub CanApply : Table → Change → Type 0
-CanApply t (Create name values) = (has t (canonical name) ≡ false) × AreDistinct (indexes values)
-CanApply t (Delete name) = has t (canonical name) ≡ true
-CanApply t (Add name values) = (has t (canonical name) ≡ true) × AreDistinct (indexes values) × AreAbsent t (canonical name) (indexes values)
-CanApply t (Remove name is) = (has t (canonical name) ≡ true) × AreDistinct is × ArePresent t (canonical name) is
-CanApply t (Modify name values) = (has t (canonical name) ≡ true) × AreDistinct (indexes values) × ArePresent t (canonical name) (indexes values)
+CanApply t change = CanWrite t (write_of change)

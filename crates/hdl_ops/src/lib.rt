@@ -27,3 +27,6 @@ pub use hdl_msg::{Request, read_request};
 pub use hdl_rows::{Refused, Rows};
 pub use hdl_tenants::Tenants;
 pub use rendering::render;
+
+#[cfg(test)]
+mod tests;

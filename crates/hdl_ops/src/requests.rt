@@ -4,13 +4,7 @@ ghost use Rattle.std.specs.Prelude.{◌≡◌};
 ghost use Rattle.hdl_msg.specs.Bodies.{operation_of, content_of};
 ghost use Rattle.hdl_ops.specs.Requests.{named, resolves, is_public_only, wants_digest};
 
-use hdl_msg::{Body, Request};
-
-/// OpFlag PO: public values only (RFC 3652, section 2.2.2.3; the number is our profile's).
-const PUBLIC_ONLY: u32 = 0x0100_0000;
-
-/// OpFlag RD: return the request's digest.
-const RETURN_DIGEST: u32 = 0x0080_0000;
+use hdl_msg::{Body, OpFlag, Request};
 
 /// The handle that a body names, as it was sent.
 pub(crate) fn named<'a>(body: &Body<'a>) -> &'a [u8]
@@ -39,12 +33,12 @@ pub(crate) fn resolves(body: &Body<'_>) -> bool
 pub(crate) fn is_public_only(request: &Request<'_>) -> bool
     ensures { result ≡ is_public_only (content_of request.now) }
 {
-    request.header.op_flag & PUBLIC_ONLY != 0
+    request.header.has(OpFlag::PublicOnly)
 }
 
 /// Whether the request asks for its digest.
 pub(crate) fn wants_digest(request: &Request<'_>) -> bool
     ensures { result ≡ wants_digest (content_of request.now) }
 {
-    request.header.op_flag & RETURN_DIGEST != 0
+    request.header.has(OpFlag::ReturnDigest)
 }
