@@ -4,3 +4,4 @@ pub mod Text
 pub mod Kept
 pub mod Steps
 pub mod Laws
+pub mod Taken

@@ -1,10 +1,12 @@
 -- What adding a line tells, where its kind is known: why it isn't taken, or what is there then.
-use Rattle.std.specs.Prelude.{◌≡◌, ◌<◌, ◌+◌, ℕ, List, Contains, ⊤}
+use Rattle.std.specs.Prelude.{◌≡◌, ◌≤◌, ◌⊎◌, ◌<◌, ◌+◌, ℕ, List, Contains, ⊤}
 use Rattle.hdl_name.specs.Name.{IsHandle}
 use Rattle.hdl_value.specs.declared.value.Value.{Value}
 use Rattle.hdl_tenants.specs.declared.fault.TenantFault.{TenantFault}
 use Rattle.hdl_tenants.specs.declared.fault.TenantFault.TheVariants.{BadLine, TwicePrefix, TwicePublisher, TooMany, Memory}
-use Rattle.hdl_tenants.specs.Register.{Publisher, Hosting, Register, names_of, prefixes_of, lane_count, most_lanes}
+use Rattle.hdl_tenants.specs.Register.{Publisher, Hosting, Register, names_of, prefixes_of, lane_count, most_lanes, most_values}
+use Rattle.hdl_tenants.specs.Taken.{count_at}
+use Rattle.hdl_value.specs.Place.{Place}
 use Rattle.hdl_tenants.specs.Lines.{IsValueText}
 use Rattle.hdl_tenants.specs.Text.{opened, added, IsKnownRow}
 
@@ -59,3 +61,11 @@ IsOpenedFault r handle digits TooMany = ⊥
 -- the digits spell a value that may follow, and it is added
 abbrev pub Opens : Register → List ℕ → List ℕ → Register → Type 0
 Opens before handle digits after = (v : Value) × IsHandle handle × IsValueText digits v × IsKnownRow before (handle, v) × (after ≡ added before (opened handle v))
+
+-- a place that is there, or one of a handle that has as many as it may
+abbrev pub IsPlaceFault : List Place → Place → TenantFault → Type 0
+IsPlaceFault places p BadLine = Contains places p ⊎ (most_values ≤ count_at p.handle places)
+IsPlaceFault places p Memory = ⊤
+IsPlaceFault places p TwicePrefix = ⊥
+IsPlaceFault places p TwicePublisher = ⊥
+IsPlaceFault places p TooMany = ⊥

@@ -20,6 +20,7 @@ mod lines;
 mod numerals;
 mod prefixes;
 mod publishers;
+mod taken;
 mod text;
 
 pub use fault::TenantFault;

@@ -4,10 +4,11 @@ ghost use Rattle.std.specs.Prelude.{◌≡◌, ◌<◌, ◌↔◌, ℕ, List, �
 ghost use Rattle.std.specs.Str.Lines.{lines};
 ghost use Rattle.hdl_name.specs.Name.{prefix};
 ghost use Rattle.hdl_tenants.specs.Register as register;
-ghost use Rattle.hdl_tenants.specs.Register.{empty, place, value_count, most_values, IsPublisher, IsPrefix, IsRegister};
+ghost use Rattle.hdl_tenants.specs.Register.{empty, place, IsPublisher, IsPrefix, IsRegister};
 ghost use Rattle.hdl_tenants.specs.Text.{publisher, hosted, added, IsAllowed, HasFault, Adds, IsAccepted, IsFirstFault};
 ghost use Rattle.hdl_tenants.specs.Steps.{IsPublisherFault, IsHostedFault, IsOpenedFault, Opens};
 ghost use Rattle.hdl_tenants.specs.Kept.{publisher_on};
+ghost use Rattle.hdl_tenants.specs.Taken.{Indexes};
 
 use crate::fault::TenantFault;
 use crate::lines::{
@@ -16,28 +17,11 @@ use crate::lines::{
 };
 use crate::prefixes::Prefixes;
 use crate::publishers::Publishers;
+use crate::taken::TakenPlaces;
 use hdl_name::Name;
 use hdl_value::Value;
 use std::alloc::Global;
 use std::marker::Model;
-
-/// The most values of a handle.
-const MOST_VALUES: usize = 1024;
-
-/// Whether one of the rows has this canonical handle and this index.
-fn has_place(rows: &[(Name, Value)], handle: &[u8], index: u32) -> bool
-    ensures { IsTrue result ↔ Contains (map place rows.now) (record { handle = handle.now; index = index }) }
-{
-    rows.iter()
-        .any(|row| row.1.index == index && row.0.canon() == handle)
-}
-
-/// How many of the rows have this canonical handle.
-fn count_values(rows: &[(Name, Value)], handle: &[u8]) -> usize
-    ensures { result ≡ value_count handle.now rows.now }
-{
-    rows.iter().filter(|row| row.0.canon() == handle).count()
-}
 
 /// What a tenants text says: publishers with their lanes and ports, the prefixes that are hosted for them, and the values to
 /// open with, each in the text's order. A publisher is known by its place in that order, counted from 0.
@@ -96,8 +80,15 @@ impl Tenants {
     }
 
     /// Adds a value of a handle whose prefix is there.
-    fn add_value(&mut self, alloc: Global, line: &ValueLine<'_>) -> Result<(), TenantFault>
+    fn add_value(
+        &mut self,
+        alloc: Global,
+        line: &ValueLine<'_>,
+        taken: &mut TakenPlaces,
+    ) -> Result<(), TenantFault>
+        requires { Indexes taken.old (map place self.old.opening) }
         ensures ok { OnOk result (Opens self.old line.now.handle.now line.now.digits.now self.new) }
+        ensures taken { OnOk result (Indexes taken.new (map place self.new.opening)) }
         ensures fault { IfErr result (λ e. IsOpenedFault self.old line.now.handle.now line.now.digits.now e) }
     {
         let name = name_of(alloc, line.handle)?;
@@ -105,12 +96,7 @@ impl Tenants {
             return Err(TenantFault::BadLine);
         }
         let value = value_text(alloc, line.digits)?;
-        if has_place(&self.opening, name.canon(), value.index) {
-            return Err(TenantFault::BadLine);
-        }
-        if count_values(&self.opening, name.canon()) >= MOST_VALUES {
-            return Err(TenantFault::BadLine);
-        }
+        taken.add(alloc, name.canon(), value.index)?;
         let Ok(()) = self.opening.push((name, value)) else {
             return Err(TenantFault::Memory);
         };
@@ -118,8 +104,15 @@ impl Tenants {
     }
 
     /// Adds what the line says.
-    fn add_line(&mut self, alloc: Global, line: &str) -> Result<(), TenantFault>
+    fn add_line(
+        &mut self,
+        alloc: Global,
+        line: &str,
+        taken: &mut TakenPlaces,
+    ) -> Result<(), TenantFault>
+        requires { Indexes taken.old (map place self.old.opening) }
         ensures ok { OnOk result (Adds self.old line.now self.new) }
+        ensures taken { OnOk result (Indexes taken.new (map place self.new.opening)) }
         ensures fault { IfErr result (λ e. HasFault self.old line.now e) }
     {
         if is_skipped(line) {
@@ -135,7 +128,7 @@ impl Tenants {
             return self.add_prefix(alloc, &line);
         }
         if let Some(line) = value_of(&fields) {
-            return self.add_value(alloc, &line);
+            return self.add_value(alloc, &line, taken);
         }
         Err(TenantFault::BadLine)
     }
@@ -158,10 +151,11 @@ impl Tenants {
         ensures refused { IfErr result (λ e. IsFirstFault (lines text.now) e.0 e.1) }
     {
         let mut tenants = Tenants::new(alloc);
+        let mut taken = TakenPlaces::new(alloc);
         let mut number = 0usize;
         for line in text.lines() {
             number += 1;
-            if let Err(fault) = tenants.add_line(alloc, line) {
+            if let Err(fault) = tenants.add_line(alloc, line, &mut taken) {
                 return Err((number, fault));
             }
         }

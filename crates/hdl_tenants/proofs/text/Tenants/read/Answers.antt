@@ -36,6 +36,7 @@ loop-line-preserved c = record {
   bounded = grind (arith, common_steps, c.in-Some.ensures.goes);
   accepted = rw (map-append {A = Bor (List ℕ)} {B = List ℕ} (λ x. x.now) c.loop-line.yielded (c.in-Some.line ∷ []))
       (AddsAll-push empty (map (λ x. x.now) c.loop-line.yielded) c.loop-line.tenants c.in-Some.line.now c.add_line.new.self c.loop-line.invariant.accepted c.in_default.ensures.ok);
+  taken = c.in_default.ensures.taken;
 }
 
 pub returns-clause-accepted : goal.returns-clause-accepted
