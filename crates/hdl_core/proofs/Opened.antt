@@ -106,9 +106,9 @@ lane_within r zero l h = absurd (omega (arith, h))
 lane_within r (suc n) l h = elim (cases_lt l n) [
   | inl before ↦ let len = length-first_lanes r n in get_before (first_lanes r n) (closed r n ∷ []) l (omega (arith, before, len)) ∙ lane_within r n l before
   | inr at ↦
-    let len = length-first_lanes r n in
-    let same : n ≡ l = omega (arith, h, at) in
-    get_at_end (first_lanes r n) (closed r n) l (omega (arith, len, same)) ∙ ap (λ k. Some (closed r k)) same
+      let len = length-first_lanes r n in
+      let same : n ≡ l = omega (arith, h, at) in
+      get_at_end (first_lanes r n) (closed r n) l (omega (arith, len, same)) ∙ ap (λ k. Some (closed r k)) same
 ]
 
 lane_past : (r : Register) (n l : ℕ) → n ≤ l → slice_get (first_lanes r n) l ≡ None
@@ -130,10 +130,10 @@ owner_within [] l h = absurd (omega (arith, h))
 owner_within (p ∷ ps) l h = elim (cases_lt l p.lanes) [
   | inl here ↦ let passes : nat_lt l p.lanes ≡ true = (Decides-ltb l p.lanes).1 here in (0, rw passes refl)
   | inr later ↦
-    let more = count_more p ps in
-    let fails : nat_lt l p.lanes ≡ false = grind (arith, later) in
-    let rest = owner_within ps (l - p.lanes) (omega (arith, h, later, more)) in
-    (rest.0 + 1, rw fails (ap (option_map (λ (k : ℕ). k + 1)) rest.1))
+      let more = count_more p ps in
+      let fails : nat_lt l p.lanes ≡ false = grind (arith, later) in
+      let rest = owner_within ps (l - p.lanes) (omega (arith, h, later, more)) in
+      (rest.0 + 1, rw fails (ap (option_map (λ (k : ℕ). k + 1)) rest.1))
 ]
 
 module _ (r : Register) (t : Table) where
@@ -146,8 +146,8 @@ module _ (r : Register) (t : Table) where
   owners : (l : ℕ) → owner (world_of r lanes t).site l ≡ register.owner r l
   owners l = owner_of r lanes t l ∙ elim (cases_lt l count) [
     | inl within ↦
-      let u = owner_within r.publishers l within in
-      ap (option_map (λ (x : Lane). x.publisher)) (lane_within r count l within) ∙ ap (λ (o : Option ℕ). Some (unwrap_or o 0)) u.1 ∙ sym u.1
+        let u = owner_within r.publishers l within in
+        ap (option_map (λ (x : Lane). x.publisher)) (lane_within r count l within) ∙ ap (λ (o : Option ℕ). Some (unwrap_or o 0)) u.1 ∙ sym u.1
     | inr past ↦ ap (option_map (λ (x : Lane). x.publisher)) (lane_past r count l past) ∙ sym (owner_past r.publishers l past)
   ]
 
