@@ -1,13 +1,12 @@
 -- The lists of a lane's challenges: what is found, what is taken, and that numbers stay different.
-use Rattle.std.proofs.Common.{◌≡◌, ℕ, zero, suc, ◌+◌, ◌-◌, ◌<◌, Bool, true, false, not, cond, eqb, ◌&&◌, List, [], ◌∷◌, ◌++◌, length, get_or, drop, Option, Some, None, option_map, refl, sym, ap, ◌∙◌, arith}
+use Rattle.std.proofs.Common.{◌≡◌, ℕ, zero, suc, ◌<◌, Bool, true, false, not, cond, eqb, ◌&&◌, List, [], ◌∷◌, ◌++◌, length, get_or, drop, Some, None, refl, sym, ap, ◌∙◌, arith}
 use Rattle.std.specs.List.{AllByRecursion, filter, find, position, remove}
 use Rattle.std.proofs.lemmas.List.Quantifiers.{position-Some}
 use Rattle.std.proofs.lemmas.List.Sums.{fails_before_first}
 use Rattle.std.proofs.lemmas.Bool.{and_parts, eqb-true, ltb-false}
 use Rattle.std.proofs.lemmas.List.{get_or_default}
 use Rattle.hdl_slots.specs.declared.pending.Challenge.{Challenge}
-use Rattle.hdl_slots.specs.declared.pending.Pending.{Pending}
-use Rattle.hdl_slots.specs.Lanes.{LaneState, NumbersDiffer, without, is_of, challenge_of, spent}
+use Rattle.hdl_slots.specs.Lanes.{NumbersDiffer, without, is_of, challenge_of}
 
 abbrev IsNot : ℕ → Challenge → Type 0
 IsNot n d = eqb d.number n ≡ false

@@ -72,8 +72,7 @@ impl Lane {
         let number = self.next;
         forget(&mut self.challenges, number);
         make_room(&mut self.challenges);
-        self.challenges
-            .push_reserved(Challenge { number, pending });
+        self.challenges.push_reserved(Challenge { number, pending });
         self.next = next_after(number);
         number
     }
@@ -85,6 +84,14 @@ impl Lane {
     {
         let slot = position(&self.challenges, peer, number)?;
         Some(self.challenges.remove(slot).pending)
+    }
+}
+
+#[cfg(test)]
+impl Lane {
+    /// The next number is this one.
+    pub(crate) fn renumber(&mut self, number: u32) {
+        self.next = number;
     }
 }
 

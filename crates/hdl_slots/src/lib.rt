@@ -16,3 +16,6 @@ mod slots;
 pub use hdl_name::Octets;
 pub use pending::{Challenge, Pending};
 pub use slots::{LANES, Slots};
+
+#[cfg(test)]
+mod tests;

@@ -46,8 +46,7 @@ impl Slots {
         requires { lane < LANES }
         ensures number { result ≡ (lane_at self.now lane).next }
     {
-        let lane = &self.lanes[lane as usize];
-        lane.next_number()
+        self.lanes[lane as usize].next_number()
     }
 
     /// Puts a challenge under the lane's next number, and answers that number. A pending challenge of this number is dropped
@@ -57,8 +56,7 @@ impl Slots {
         ensures number { result ≡ (lane_at self.old lane).next }
         ensures slots { self.new ≡ slice_set self.old lane (challenged (lane_at self.old lane) pending) }
     {
-        let lane = &mut self.lanes[lane as usize];
-        lane.put(pending)
+        self.lanes[lane as usize].put(pending)
     }
 
     /// What was sent on the lane to this peer under this number, if it's pending.
@@ -66,8 +64,7 @@ impl Slots {
         requires { lane < LANES }
         ensures found { option_copied result ≡ challenge_of (lane_at self.now lane).challenges peer number }
     {
-        let lane = &self.lanes[lane as usize];
-        lane.find(peer, number)
+        self.lanes[lane as usize].find(peer, number)
     }
 
     /// Takes out what was sent on the lane to this peer under this number, if it's pending.
@@ -76,8 +73,7 @@ impl Slots {
         ensures found { result ≡ challenge_of (lane_at self.old lane).challenges peer number }
         ensures slots { self.new ≡ slice_set self.old lane (spent (lane_at self.old lane) peer number) }
     {
-        let lane = &mut self.lanes[lane as usize];
-        lane.take(peer, number)
+        self.lanes[lane as usize].take(peer, number)
     }
 
     /// Forgets the lane's challenges; its numbers begin at 1 again.
@@ -85,7 +81,16 @@ impl Slots {
         requires { lane < LANES }
         ensures slots { self.new ≡ slice_set self.old lane fresh }
     {
-        let lane = &mut self.lanes[lane as usize];
-        lane.reset();
+        self.lanes[lane as usize].reset();
+    }
+}
+
+#[cfg(test)]
+impl Slots {
+    /// For tests of numbers that go round: the lane's next number is this one.
+    pub(crate) fn renumber(&mut self, lane: u16, number: u32)
+        requires { lane < LANES }
+    {
+        self.lanes[lane as usize].renumber(number);
     }
 }

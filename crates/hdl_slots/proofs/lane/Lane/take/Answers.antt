@@ -15,9 +15,11 @@ returns-in_err-slot-clause-lane c =
 pub invariant_of-self : goal.invariant_of-self
 invariant_of-self c =
     let left = (take_found c.args.peer c.args.number c.self.inside.challenges.items c.remove.new.self.items c.in_ok-slot.slot c.remove.result c.self.invariant.2
-      (rw c.deref.ensures.value at (sym c.in_ok-slot.ensures)) c.remove.ensures.value c.remove.ensures.items).1 in
-    (omega (arith, c.self.invariant, c.remove.ensures.len), omega (arith, c.self.invariant, c.remove.ensures.capacity),
-    rw left (differ-filter (λ x. not (is_of c.args.peer c.args.number x)) c.self.inside.challenges.items c.self.invariant.2))
+    (rw c.deref.ensures.value at (sym c.in_ok-slot.ensures)) c.remove.ensures.value c.remove.ensures.items).1 in (
+      omega (arith, c.self.invariant, c.remove.ensures.len),
+      omega (arith, c.self.invariant, c.remove.ensures.capacity),
+      rw left (differ-filter (λ x. not (is_of c.args.peer c.args.number x)) c.self.inside.challenges.items c.self.invariant.2),
+    )
 
 pub returns-clause-found : goal.returns-clause-found
 returns-clause-found c =
@@ -27,5 +29,5 @@ returns-clause-found c =
 pub returns-clause-lane : goal.returns-clause-lane
 returns-clause-lane c =
     let left = (take_found c.args.peer c.args.number c.self.inside.challenges.items c.remove.new.self.items c.in_ok-slot.slot c.remove.result c.self.invariant.2
-      (rw c.deref.ensures.value at (sym c.in_ok-slot.ensures)) c.remove.ensures.value c.remove.ensures.items).1 in
+    (rw c.deref.ensures.value at (sym c.in_ok-slot.ensures)) c.remove.ensures.value c.remove.ensures.items).1 in
     rw (← c.self.view_is) (ap (λ cs. record { next = c.self.inside.next; challenges = cs }) left)
