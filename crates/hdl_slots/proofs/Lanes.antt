@@ -8,7 +8,7 @@ use Rattle.std.proofs.lemmas.List.{get_or_default}
 use Rattle.hdl_slots.specs.declared.pending.Challenge.{Challenge}
 use Rattle.hdl_slots.specs.Lanes.{NumbersDiffer, without, is_of, challenge_of}
 
-abbrev IsNot : ℕ → Challenge → Type 0
+abbrev pub IsNot : ℕ → Challenge → Type 0
 IsNot n d = eqb d.number n ≡ false
 
 -- ---- numbers stay different
@@ -57,7 +57,7 @@ without_cond : (n : ℕ) (b : Bool) (x : Challenge) (xs : List Challenge) → eq
 without_cond n true x xs e ps = ps
 without_cond n false x xs e ps = (e, ps)
 
-all_without : (n : ℕ) (xs : List Challenge) → AllByRecursion (IsNot n) (without n xs)
+pub all_without : (n : ℕ) (xs : List Challenge) → AllByRecursion (IsNot n) (without n xs)
 all_without n [] = tt
 all_without n (x ∷ xs) = without_cond n (eqb x.number n) x (without n xs) refl (all_without n xs)
 
@@ -71,7 +71,7 @@ differ_put k old kept newest pushed x ps was_kept was_newest was_pushed =
 
 -- ---- what is taken
 
-and_false : (b c : Bool) → c ≡ false → b && c ≡ false
+pub and_false : (b c : Bool) → c ≡ false → b && c ≡ false
 and_false true c h = h
 and_false false c h = refl
 

@@ -6,14 +6,17 @@
 //!
 //! It stands on `hdl_name` for [`Octets`] alone. All slots are made by [`Slots::new`]: no other call takes memory or can be
 //! refused. What it promises is one equation for each call: the list of all lanes is as it was but for the called one, which
-//! is a function of what it was (`specs/Lanes.antt`). Whether a response is right is said by `hdl_auth`.
+//! is a function of what it was (`specs/Lanes.antt`). The laws of `specs/Laws.antt` say what follows: what was put is found
+//! under its number, what was taken is gone, no lane has more than eight. Whether a response is right is said by `hdl_auth`.
 #![tactic(auto)]
 
 mod lane;
+mod laws;
 mod pending;
 mod slots;
 
 pub use hdl_name::Octets;
+pub use laws::{at_most_eight, put_is_found, taken_is_gone};
 pub use pending::{Challenge, Pending};
 pub use slots::{LANES, Slots};
 
