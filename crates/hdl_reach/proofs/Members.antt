@@ -39,7 +39,7 @@ pub at_among : (P : Place → Type 0) (ps : List Place) (p : Place) → AllByRec
 at_among P [] p all h = absurd (let no : false ≡ true = h in cc)
 at_among P (q ∷ ps) p all h = elim (either_true (same_place p q) (is_among p ps) h) [ inl here ↦ subst P (sym (places_equal p q here)) all.0 | inr later ↦ at_among P ps p all.1 later ]
 
-among_append : (ps qs : List Place) (p : Place) → is_among p (ps ++ qs) ≡ (is_among p ps || is_among p qs)
+pub among_append : (ps qs : List Place) (p : Place) → is_among p (ps ++ qs) ≡ (is_among p ps || is_among p qs)
 among_append [] qs p = refl
 among_append (x ∷ ps) qs p = ap (λ b. same_place p x || b) (among_append ps qs p) ∙ turn (same_place p x) _ _
   where

@@ -2,22 +2,27 @@
 use Rattle.std.proofs.Common.{◌≡◌, ◌≢◌, ℕ, suc, ◌+◌, ◌-◌, ◌<◌, ◌≤◌, List, zero, add-one, length-append, [], ◌∷◌, ◌++◌, if◌then◌else◌, take, length, get_or, append-nil, append_assoc, Bool, true, false, cond, ◌||◌, Some, refl, sym, ap, subst, ◌∙◌, arith, IsTrue, filter, not, ◌==◌}
 use Rattle.std.proofs.Common.{map as map_list}
 use Rattle.std.specs.Bool.{Decides}
-use Rattle.std.specs.List.{flat_map, AllByRecursion, IsDistinct}
+use Rattle.std.specs.BTreeSet.{BTreeSet, contains, Updates}
+use Rattle.hdl_reach.specs.declared.search.Seen.{Seen}
+use Rattle.std.specs.List.{list_any, flat_map, AllByRecursion, IsDistinct}
 use Rattle.std.specs.FinMap as map
-use Rattle.std.specs.Ordering.{eq_by_cmp}
+use Rattle.std.specs.Ordering.{is_eq, eq_by_cmp}
 use Rattle.std.proofs.lemmas.List.{length-map, map-append}
 use Rattle.std.proofs.lemmas.List.Elements.{filter-append}
 use Rattle.std.proofs.lemmas.Map.Made.{length-le_from_is_member}
 use Rattle.std.proofs.lemmas.Grind.{common_steps}
 use Rattle.std.proofs.lemmas.Bool.Decides.{nat_tests}
+use Rattle.std.specs.Prelude.{Vec}
+use Rattle.std.specs.declared.alloc.Global.{Global}
+use Rattle.hdl_name.specs.Name.{canonical}
 use Rattle.hdl_value.specs.Place.{Place, place_cmp, same_place}
 use Rattle.hdl_value.specs.Refs.{listed, listed_by, list_read, refers, place, place_of, raws}
 use Rattle.hdl_value.specs.declared.admin.Reference.{Reference}
 use Rattle.hdl_value.specs.declared.value.Value.{Value}
 use Rattle.hdl_rows.specs.Table.{Table}
 use Rattle.hdl_reach.specs.Reach.{is_among, listed_in, lists, IsPath, IsChain}
-use Rattle.hdl_reach.specs.Search.{IsClosed, Extends, reachable, IsSearched, with_place, places, referring}
-use Rattle.hdl_reach.proofs.Members.{same_laws, at_among, among_front, among_back, among_first, among_last, or_true, all_weaker, all_append, all_push}
+use Rattle.hdl_reach.specs.Search.{IsClosed, Extends, reachable, IsSearched, with_place, places, referring, Key, place_at, key_cmp, HasKeys, AreKept}
+use Rattle.hdl_reach.proofs.Members.{same_laws, at_among, among_append, among_front, among_back, among_first, among_last, or_true, all_weaker, all_append, all_push}
 use Rattle.hdl_reach.proofs.Chains.{path_stays, chain_itself, chain_more}
 
 -- ---- what is seen grows
@@ -73,6 +78,58 @@ referring_more rs r other =
 -- the same of a reference that refers to something
 pub extends_next : (old now next : List Place) (rs : List Reference) (r : Reference) → Extends old (referring rs) now → r.index ≢ 0 → next ≡ with_place now (place_of r) → Extends old (referring (rs ++ r ∷ [])) next
 extends_next old now next rs r h other put = subst (λ ps. Extends old ps next) (sym (referring_more rs r other)) (extends_with old (referring rs) now next (place_of r) h put)
+
+-- ---- one more is kept
+
+by_either : (a b : Bool) → cond a true b ≡ (b || (a || false))
+by_either true true = refl
+by_either true false = refl
+by_either false true = refl
+by_either false false = refl
+
+key_more : (old new : BTreeSet Key) (k : Key) (seen : List Place) → Updates key_cmp old new k true → HasKeys old seen → HasKeys new (seen ++ place_at k ∷ [])
+key_more old new k seen updates kept q =
+    updates.0 q
+    ∙ ap (λ b. cond b true (contains key_cmp old q)) (same_laws.symm (place_at k) (place_at q))
+    ∙ ap (λ b. cond (same_place (place_at q) (place_at k)) true b) (kept q)
+    ∙ by_either (same_place (place_at q) (place_at k)) (is_among (place_at q) seen)
+    ∙ sym (among_append seen (place_at k ∷ []) (place_at q))
+
+places_more : (rs : List Reference) (one : Reference) → places (rs ++ one ∷ []) ≡ places rs ++ place_of one ∷ []
+places_more rs one = map-append place_of rs (one ∷ [])
+
+pub absent_key : (b c : Bool) → b ≡ not c → b ≡ true → c ≡ false
+absent_key b true is new = absurd (let no : true ≡ false = sym new ∙ is in cc)
+absent_key b false is new = refl
+
+pub present_key : (b c : Bool) → b ≡ not c → b ≡ false → c ≡ true
+present_key b true is old = refl
+present_key b false is old = absurd (let no : true ≡ false = sym is ∙ old in cc)
+
+pub key_place : (handle : Vec ℕ Global) (one : Reference) → handle.items ≡ canonical one.name → place_at (handle, one.index) ≡ place_of one
+key_place handle one is = λ i. record { handle = is i; index = one.index }
+
+-- what a call made of those seen: one more, unless it was seen
+abbrev pub Adds : Seen → Seen → Reference → Type 0
+Adds old new one = (places new.references.items ≡ with_place (places old.references.items) (place_of one)) × AreKept new
+
+pub adds_new : (old new : Seen) (one : Reference) (k : Key) → AreKept old → place_at k ≡ place_of one → contains key_cmp old.keys k ≡ false → Updates key_cmp old.keys new.keys k true → new.references.items ≡ old.references.items ++ one ∷ [] → Adds old new one
+adds_new old new one k kept is absent updates pushed =
+    let seen = places old.references.items in
+    let p = place_of one in
+    let out : is_among p seen ≡ false = subst (λ q. is_among q seen ≡ false) is (sym (kept k) ∙ absent) in
+    let now : places new.references.items ≡ seen ++ p ∷ [] = ap places pushed ∙ places_more old.references.items one in
+    let more : HasKeys new.keys (seen ++ p ∷ []) = subst (λ q. HasKeys new.keys (seen ++ q ∷ [])) is (key_more old.keys new.keys k seen updates kept) in (
+      now ∙ sym (ap (λ b. if b then seen else seen ++ p ∷ []) out),
+      subst (HasKeys new.keys) (sym now) more,
+    )
+
+pub adds_none : (old : Seen) (one : Reference) (k : Key) → AreKept old → place_at k ≡ place_of one → contains key_cmp old.keys k ≡ true → places old.references.items ≡ with_place (places old.references.items) (place_of one)
+adds_none old one k kept is there =
+    let seen = places old.references.items in
+    let p = place_of one in
+    let in_seen : is_among p seen ≡ true = subst (λ q. is_among q seen ≡ true) is (sym (kept k) ∙ there) in
+    sym (ap (λ b. if b then seen else seen ++ p ∷ []) in_seen)
 
 -- ---- the loop
 

@@ -1,11 +1,15 @@
 -- What a search has seen.
-use Rattle.std.specs.Prelude.{◌≡◌, ◌≢◌, ◌≤◌, ℕ, List, [], ◌∷◌, ◌++◌, take, length, map, filter, IsTrue, if◌then◌else◌}
+use Rattle.std.specs.Prelude.{Vec, ◌≡◌, ◌≢◌, ◌≤◌, ℕ, List, [], ◌∷◌, ◌++◌, take, length, map, filter, IsTrue, if◌then◌else◌}
 use Rattle.std.specs.List.{AllByRecursion, flat_map, IsDistinct}
 use Rattle.std.specs.FinMap as map
-use Rattle.hdl_value.specs.Place.{Place, same_place}
+use Rattle.std.specs.BTreeSet.{BTreeSet, contains}
+use Rattle.std.specs.declared.alloc.Global.{Global}
+use Rattle.std.specs.declared.cmp.Ordering.{Ordering}
+use Rattle.hdl_value.specs.Place.{Place, place_cmp, same_place}
 use Rattle.hdl_value.specs.Refs.{listed, refers, place_of}
 use Rattle.hdl_value.specs.declared.admin.Reference.{Reference}
 use Rattle.hdl_rows.specs.Table.{Table}
+use Rattle.hdl_reach.specs.declared.search.Seen.{Seen}
 use Rattle.hdl_reach.specs.Reach.{is_among, lists, IsChain}
 
 -- where references point
@@ -15,6 +19,24 @@ places rs = map place_of rs
 -- those that refer to something
 abbrev pub referring : List Reference → List Place
 referring rs = filter refers (places rs)
+
+-- the octets of a handle, and an index
+abbrev pub Key : Type 0
+Key = Vec ℕ Global × ℕ
+
+abbrev pub place_at : Key → Place
+place_at k = record { handle = k.0.items; index = k.1 }
+
+abbrev pub key_cmp : Key → Key → Ordering
+key_cmp j k = place_cmp (place_at j) (place_at k)
+
+-- the keys are those of these places
+abbrev pub HasKeys : BTreeSet Key → List Place → Type 0
+HasKeys keys seen = (k : Key) → contains key_cmp keys k ≡ is_among (place_at k) seen
+
+-- the keys are those of the references
+abbrev pub AreKept : Seen → Type 0
+AreKept s = HasKeys s.keys (places s.references.items)
 
 -- what the values at these places list is among those seen
 abbrev pub IsClosed : Table → List Place → List Place → Type 0

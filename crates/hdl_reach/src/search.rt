@@ -5,12 +5,13 @@ ghost use Rattle.std.specs.Bool.{Decides};
 ghost use Rattle.hdl_value.specs.Place.{same_place};
 ghost use Rattle.hdl_value.specs.Refs.{listed, refers, place_of};
 ghost use Rattle.hdl_rows.specs.Table.{most};
-ghost use Rattle.hdl_reach.specs.Reach.{is_among, lists, IsChain};
-ghost use Rattle.hdl_reach.specs.Search.{places, referring, with_place, Extends};
+ghost use Rattle.hdl_reach.specs.Reach.{lists, IsChain};
+ghost use Rattle.hdl_reach.specs.Search.{places, referring, with_place, AreKept, Extends};
 
 use hdl_rows::{Refused, Rows};
 use hdl_value::{Reference, Value, vlist_of};
 use std::alloc::{AllocError, Global};
+use std::collections::BTreeSet;
 
 fn is_same(a: &Reference, b: &Reference) -> bool
     ensures { result ≡ same_place (place_of a.now) (place_of b.now) }
@@ -18,37 +19,50 @@ fn is_same(a: &Reference, b: &Reference) -> bool
     a.index == b.index && a.name.canon() == b.name.canon()
 }
 
-fn is_seen(seen: &[Reference], one: &Reference) -> bool
-    ensures { result ≡ is_among (place_of one.now) (places seen.now) }
-{
-    for other in seen {
-        if is_same(one, other) {
-            return true;
-        }
-    }
-    false
+/// References in the order in which they were seen, no place twice, and their places in order.
+#[derive(Drop)]
+struct Seen {
+    references: Vec<Reference>,
+    keys: BTreeSet<(Vec<u8>, u32)>,
 }
 
-fn add_one(seen: &mut Vec<Reference>, one: Reference) -> Result<(), AllocError>
-    ensures { OnOk result (places seen.new.items ≡ with_place (places seen.old.items) (place_of one)) }
-{
-    if is_seen(seen, &one) {
-        return Ok(());
-    }
-    seen.push(one)?;
-    Ok(())
-}
-
-// Adds those that are new and refer to something.
-fn add_new(seen: &mut Vec<Reference>, more: Vec<Reference>) -> Result<(), AllocError>
-    ensures { OnOk result (Extends (places seen.old.items) (referring more.items) (places seen.new.items)) }
-{
-    for one in more {
-        if one.index != 0 {
-            add_one(seen, one)?;
+impl Seen {
+    fn new(alloc: Global) -> Seen
+        ensures none { result.references.items ≡ [] }
+        ensures kept { AreKept result }
+    {
+        Seen {
+            references: Vec::new(alloc),
+            keys: BTreeSet::new(alloc),
         }
     }
-    Ok(())
+
+    // Adds a reference, unless its place was seen.
+    fn add(&mut self, alloc: Global, one: Reference) -> Result<(), AllocError>
+        requires kept { AreKept self.old }
+        ensures added { OnOk result (places self.new.references.items ≡ with_place (places self.old.references.items) (place_of one)) }
+        ensures kept { OnOk result (AreKept self.new) }
+    {
+        let handle = Vec::from_slice(alloc, one.name.canon())?;
+        if self.keys.insert((handle, one.index))? {
+            self.references.push(one)?;
+        }
+        Ok(())
+    }
+
+    // Adds those that refer to something.
+    fn extend(&mut self, alloc: Global, more: Vec<Reference>) -> Result<(), AllocError>
+        requires kept { AreKept self.old }
+        ensures extended { OnOk result (Extends (places self.old.references.items) (referring more.items) (places self.new.references.items)) }
+        ensures kept { OnOk result (AreKept self.new) }
+    {
+        for one in more {
+            if one.index != 0 {
+                self.add(alloc, one)?;
+            }
+        }
+        Ok(())
+    }
 }
 
 // The references of a list value, index 0 too; none of another value.
@@ -81,14 +95,6 @@ fn list_at<R: Rows>(
     }
 }
 
-fn only(alloc: Global, start: Reference) -> Result<Vec<Reference>, AllocError>
-    ensures { IfOk result (λ seen. seen.items ≡ start ∷ []) }
-{
-    let mut seen = Vec::new(alloc);
-    seen.push(start)?;
-    Ok(seen)
-}
-
 /// Whether lists lead from one reference to another, over any number of them. Each reference is looked up once.
 pub(crate) fn leads<R: Rows>(
     alloc: Global,
@@ -101,17 +107,18 @@ pub(crate) fn leads<R: Rows>(
     ensures answered { OnOk result (R.refused rows.new ≡ R.refused rows.old) }
     ensures refused { OnErr result ((R.refused rows.new ≡ R.refused rows.old) ⊎ (R.refused rows.new ≡ min (R.refused rows.old + 1) most)) }
 {
-    let Ok(mut seen) = only(alloc, start) else {
+    let mut seen = Seen::new(alloc);
+    let Ok(()) = seen.add(alloc, start) else {
         return Err(Refused);
     };
     let mut next = 0;
-    while next < seen.len() {
-        let here = &seen[next];
+    while next < seen.references.len() {
+        let here = &seen.references[next];
         if is_same(here, end) {
             return Ok(true);
         }
         let more = list_at(alloc, rows, here)?;
-        let Ok(()) = add_new(&mut seen, more) else {
+        let Ok(()) = seen.extend(alloc, more) else {
             return Err(Refused);
         };
         next += 1;
