@@ -14,3 +14,6 @@ mod administrators;
 mod search;
 
 pub use administrators::mask;
+
+#[cfg(test)]
+mod tests;
