@@ -2,3 +2,4 @@ pub mod Members
 pub mod Chains
 pub mod Searches
 pub mod Masks
+pub mod Agreement

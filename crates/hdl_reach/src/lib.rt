@@ -11,9 +11,11 @@
 #![tactic(auto)]
 
 mod administrators;
+mod laws;
 mod search;
 
 pub use administrators::mask;
+pub use laws::{administrators_among, none_at_zero, one_mask, same_chains, same_masks};
 
 #[cfg(test)]
 mod tests;
