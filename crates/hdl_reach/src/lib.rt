@@ -5,7 +5,8 @@
 //! in the whole table. Index 0 refers to nothing. An administrator need not be there.
 //!
 //! [`mask`] gives the union of the masks that lead to a reference, over any [`hdl_rows::Rows`]. It searches list by list and
-//! looks each reference up once, so it ends on lists that refer to each other. It leaves the table as it was.
+//! looks each reference up once in a search, so it ends on lists that refer to each other. It leaves the table as it was.
+//! Five laws say that a reference has one mask, that index 0 has none, and when two tables have the same chains and masks.
 //!
 //! It stands on `hdl_name`, `hdl_value` and the contract of `hdl_rows`.
 #![tactic(auto)]
