@@ -1,0 +1,7 @@
+use Rattle.std.proofs.Common.{◌≡◌, Some, rules}
+use Rattle.hdl_value.specs.Refs.{raws, list_read}
+use Rattle.hdl_reach.proofs.Searches.{as_read}
+use Rattle.hdl_reach.proofs.search.references_of.Goals as goal
+
+pub returns-in-Some : goal.returns-in-Some
+returns-in-Some c = let read : Some (raws c.in-Some.all.items) ≡ list_read c.args.value.now = search rules in as_read c.in-Some.all.items c.args.value.now read
