@@ -8,11 +8,11 @@ use Rattle.hdl_name.specs.Name.{authority}
 use Rattle.hdl_value.specs.Place.{handle_cmp, same_handle}
 use Rattle.hdl_value.specs.declared.value.Value.{Value}
 use Rattle.hdl_rows.specs.declared.row.Row.{Row}
-use Rattle.hdl_rows.specs.Table.{Table, place, has, at, values_of, names_of, created, with_values, without_values, without_handle}
+use Rattle.hdl_rows.specs.Table.{Table, place, has, at, values_of, names_of, HaveTheirIndexes, created, with_values, without_values, without_handle}
 use Rattle.hdl_rows.specs.Write.{Create, Add, Remove, Delete}
 use Rattle.hdl_rows.specs.Shelf.{entry_of, entries_of, by_index, table_of, AreInOrder, put_all}
 use Rattle.hdl_rows.proofs.Writes.{put_at, removed_at}
-use Rattle.hdl_rows.proofs.ShelfLemmas.{at-table, has-table, changed, within, values_there, values_put, values_left, values_of-table, names_of-table}
+use Rattle.hdl_rows.proofs.ShelfLemmas.{indexes_kept, at-table, has-table, changed, within, values_there, values_put, values_left, values_of-table, names_of-table}
 use Rattle.hdl_rows.proofs.RowsLemmas.{row_place, inserted, place_within, IsRowOf, row_at, found_at, replaced, rises_at, not_found, taken_away}
 
 none_of : {A : Type 0} (o : Option A) → is_some o ≡ false → o ≡ None
@@ -39,6 +39,15 @@ pub values_is : {A : Type 0} (t : Table) (rows slice : List Row) (h : List ℕ) 
     → option_map f o ≡ find handle_cmp h (entries_of slice) → values_there (option_map f o) ≡ values_of t h
 values_is t rows slice h f o view order same found =
     ap values_there (found ∙ ap (λ (rs : List Row). find handle_cmp h (entries_of rs)) same) ∙ sym (values_of-table (entries_of rows) h order) ∙ ap (λ (u : Table). values_of u h) view
+
+pub by_index_is : (t : Table) (rows : List Row) (h : List ℕ) (vs : List Value) → table_of (entries_of rows) ≡ t → AreInOrder (entries_of rows) → vs ≡ values_of t h → HaveTheirIndexes t h vs
+by_index_is t rows h vs view order is =
+    let there : values_there (find handle_cmp h (entries_of rows)) ≡ vs = sym (values_of-table (entries_of rows) h order) ∙ ap (λ (u : Table). values_of u h) view ∙ sym is in
+    subst (λ (u : Table). HaveTheirIndexes u h vs) view (subst (HaveTheirIndexes (table_of (entries_of rows)) h) there (indexes_kept (entries_of rows) h order))
+
+pub if_ok_then : {X E : Type 0} (r : Result X E) (P Q : X → Type 0) → ((x : X) → P x → Q x) → IfOk r P → IfOk r Q
+if_ok_then (Ok x) P Q f p = f x p
+if_ok_then (Err e) P Q f p = tt
 
 name_of-entries : (rows : List Row) → map (λ r. r.name) rows ≡ map (λ e. e.0) (entries_of rows)
 name_of-entries [] = refl

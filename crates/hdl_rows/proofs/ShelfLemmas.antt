@@ -12,7 +12,7 @@ use Rattle.hdl_name.specs.Name.{authority}
 use Rattle.hdl_value.specs.Place.{Place, handle_cmp, place_cmp, same_handle}
 use Rattle.hdl_value.specs.declared.value.Value.{Value}
 use Rattle.hdl_value.proofs.Places.{handle_total, handle_antisymmetric, place_total, place_antisymmetric, tied, handles_equal, handle_itself}
-use Rattle.hdl_rows.specs.Table.{place, has, at, values_of, names_of, key}
+use Rattle.hdl_rows.specs.Table.{place, has, at, values_of, names_of, value_with, HaveTheirIndexes, key}
 use Rattle.hdl_rows.specs.Write.{Write, handle_of, written}
 use Rattle.hdl_rows.specs.Shelf.{by_index, by_place, table_of, AreInOrder, put_all}
 use Rattle.hdl_rows.proofs.Writes.{same_look_ups_lem, at-written, has-written, at_place, put_at, removed_at, at_after, has_after, some_none, apart}
@@ -291,3 +291,12 @@ names_of-table es a sorted =
 pub same_test : (b : Bool) (g h : List ℕ) → (IsTrue b ↔ (g ≡ h)) → b ≡ same_handle g h
 same_test true g h e = sym (ap (same_handle g) (sym (e.0 refl)) ∙ handle_itself g)
 same_test false g h e = sym (apart g h (λ same. true≢false (sym (e.1 same))))
+
+-- ---- values by their indexes
+
+with_index : (vs : List Value) (i : ℕ) → value_with i vs ≡ find nat_cmp i (by_index vs)
+with_index [] i = refl
+with_index (v ∷ vs) i = (λ k. cond (sym (index_test i v.index) k) (Some v) (with_index vs i k))
+
+pub indexes_kept : (es : Rows) (h : List ℕ) → AreInOrder es → HaveTheirIndexes (table_of es) h (values_there (find handle_cmp h es))
+indexes_kept es h order = λ i. with_index (values_there (find handle_cmp h es)) i ∙ sym (within-is (find handle_cmp h es) i) ∙ sym (at-table es order.handles (place h i))

@@ -1,5 +1,5 @@
 -- What a table holds, what is read of it, and what each write makes of it.
-use Rattle.std.specs.Prelude.{refl, ℕ, ◌+◌, ◌^◌, ◌-◌, min, List, [], ◌∷◌, Bool, true, not, map, Option, Some, None, Result, Ok, Err, ◌≡◌, ◌≢◌}
+use Rattle.std.specs.Prelude.{refl, ℕ, ◌+◌, ◌^◌, ◌-◌, min, List, [], ◌∷◌, Bool, true, not, ◌==◌, map, find, Option, Some, None, Result, Ok, Err, ◌≡◌, ◌≢◌}
 use Rattle.std.specs.List.{AllByRecursion}
 use Rattle.std.specs.FinMap as map
 use Rattle.std.specs.FinSet as set
@@ -36,6 +36,14 @@ at t p = map.get t.values p
 -- the values of a handle, by rising index
 abbrev pub values_of : Table → List ℕ → List Value
 values_of t h = map.values (map.retain_keys t.values (λ p. same_handle p.handle h))
+
+-- the value of this index among values
+abbrev pub value_with : ℕ → List Value → Option Value
+value_with i vs = find (λ v. v.index == i) vs
+
+-- among these values that of each index is the one that stands there, or there is none in both
+abbrev pub HaveTheirIndexes : Table → List ℕ → List Value → Type 0
+HaveTheirIndexes t h vs = (i : ℕ) → value_with i vs ≡ at t (place h i)
 
 abbrev pub key : List ℕ → List ℕ × Unit {0}
 key h = (h, tt)

@@ -2,7 +2,7 @@
 
 ghost use Rattle.std.specs.Prelude.{◌≡◌, ◌+◌, min, map, true, false, IfOk, OnOk, OnErr};
 ghost use Rattle.hdl_name.specs.Name.{canonical};
-ghost use Rattle.hdl_rows.specs.Table.{most, counted, place_of, has, at, values_of, names_of, created, with_values, without_values, without_handle, AreDistinct, AreAbsent, ArePresent, indexes};
+ghost use Rattle.hdl_rows.specs.Table.{most, counted, place_of, has, at, values_of, names_of, HaveTheirIndexes, created, with_values, without_values, without_handle, AreDistinct, AreAbsent, ArePresent, indexes};
 
 use crate::rows::{Refused, Rows};
 use hdl_name::Name;
@@ -100,6 +100,7 @@ impl<R: Rows> Rows for Fuse<R> {
 
     fn values(&mut self, name: &Name) -> Result<Vec<Value>, Refused>
         ensures found { IfOk result (λ all. all.items ≡ values_of (R.content (inner_of self.old)) (canonical name.now)) }
+        ensures by_index { IfOk result (λ all. HaveTheirIndexes (R.content (inner_of self.old)) (canonical name.now) all.items) }
         ensures unchanged { R.content (inner_of self.new) ≡ R.content (inner_of self.old) }
         ensures count { refusals_of R.refused self.new ≡ counted result (refusals_of R.refused self.old) }
         ensures wire { wire_of self.new ≡ after_call (wire_of self.old) }

@@ -2,7 +2,7 @@
 
 ghost use Rattle.std.specs.Prelude.{◌≡◌, ℕ, map, true, false, IfOk, OnOk, OnErr};
 ghost use Rattle.hdl_name.specs.Name.{canonical};
-ghost use Rattle.hdl_rows.specs.Table.{Table, place_of, has, at, values_of, names_of, created, with_values, without_values, without_handle, AreDistinct, AreAbsent, ArePresent, indexes, counted};
+ghost use Rattle.hdl_rows.specs.Table.{Table, place_of, has, at, values_of, names_of, HaveTheirIndexes, created, with_values, without_values, without_handle, AreDistinct, AreAbsent, ArePresent, indexes, counted};
 
 use hdl_name::Name;
 use hdl_value::{Octets, Reference, Value};
@@ -34,9 +34,10 @@ pub trait Rows {
         ensures unchanged { content self.new ≡ content self.old }
         ensures count { refused self.new ≡ counted result (refused self.old) };
 
-    /// The values of a handle, by rising index; none of an absent one.
+    /// The values of a handle, by rising index, each at the index that it has; none of an absent one.
     fn values(&mut self, name: &Name) -> Result<Vec<Value>, Refused>
         ensures found { IfOk result (λ all. all.items ≡ values_of (content self.old) (canonical name.now)) }
+        ensures by_index { IfOk result (λ all. HaveTheirIndexes (content self.old) (canonical name.now) all.items) }
         ensures unchanged { content self.new ≡ content self.old }
         ensures count { refused self.new ≡ counted result (refused self.old) };
 

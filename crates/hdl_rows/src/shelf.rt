@@ -8,7 +8,7 @@ ghost use Rattle.hdl_rows.specs.Shelf.{entries_of, by_index, put_all};
 ghost use Rattle.hdl_name.specs.Name.{authority, sent_authority, is_slash};
 ghost use Rattle.std.specs.Char.{to_ascii_lowercase};
 ghost use Rattle.hdl_value.specs.Place.{handle_cmp, same_handle};
-ghost use Rattle.hdl_rows.specs.Table.{no_rows, place, has, at, values_of, names_of, created, with_values, without_values, without_handle};
+ghost use Rattle.hdl_rows.specs.Table.{no_rows, place, has, at, values_of, names_of, HaveTheirIndexes, created, with_values, without_values, without_handle};
 
 use crate::row::{Row, copies, put_copies, take_away, value_of};
 use hdl_value::{Octets, Value};
@@ -150,7 +150,8 @@ impl Shelf {
     }
 
     pub(crate) fn values(&self, alloc: Global, name: &[u8]) -> Result<Vec<Value>, AllocError>
-        ensures { IfOk result (λ all. all.items ≡ values_of self.now name.now) }
+        ensures found { IfOk result (λ all. all.items ≡ values_of self.now name.now) }
+        ensures by_index { IfOk result (λ all. HaveTheirIndexes self.now name.now all.items) }
     {
         match row_of(&self.rows, name) {
             Some(row) => copies(alloc, &row.values),
