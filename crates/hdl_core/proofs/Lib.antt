@@ -1,4 +1,3 @@
-pub mod Receiving
 pub mod Places
 pub mod Steps
 pub mod Opened

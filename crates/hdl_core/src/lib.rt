@@ -11,7 +11,11 @@
 //! It stands on `hdl_ops` and `hdl_laws`, and knows no threads, sockets or clocks.
 #![tactic(auto)]
 
+mod answering;
+mod hearing;
 mod lane;
+mod lanes;
+mod letter;
 mod opening;
 mod service;
 mod serving;

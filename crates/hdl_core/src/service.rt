@@ -3,7 +3,7 @@
 ghost use Rattle.std.specs.Prelude.{◌≡◌, IfOk, IfErr, OnErr};
 ghost use Rattle.hdl_laws.specs.Runs.{Run, Steps};
 
-use crate::lane::Lane;
+use crate::lanes::Lanes;
 use crate::serving::serve;
 use hdl_laws::laws::runs_joined;
 use hdl_laws::{Event, Outcome};
@@ -17,7 +17,7 @@ use std::marker::Model;
 pub struct Service<R: Rows + Drop> {
     pub(crate) alloc: Global,
     pub(crate) tenants: Tenants,
-    pub(crate) lanes: Vec<Lane>,
+    pub(crate) lanes: Lanes,
     pub(crate) rows: R,
 }
 
@@ -34,7 +34,7 @@ impl<R: Rows + Drop> Model for Service<R> {
 
     ghost use Rattle.hdl_core.specs.Worlds.{world_of};
 
-    ghost view = { λ s. world_of s.tenants s.lanes.items (R.content s.rows) };
+    ghost view = { λ s. world_of s.tenants s.lanes (R.content s.rows) };
 }
 
 /// Room for a run's outcomes was refused: the events come back as they were, and nothing changed.
@@ -49,16 +49,17 @@ impl<R: Rows + Drop> Service<R> {
     pub fn step(&mut self, event: Event) -> Outcome
         ensures { Steps self.old event result self.new }
     {
-        let place = event.lane as usize;
-        if place >= self.lanes.len() {
+        let Event { lane, what } = event;
+        if lane as usize >= self.lanes.len() {
             return Outcome::Silent;
         }
         serve(
             self.alloc,
             &self.tenants,
             &mut self.rows,
-            &mut self.lanes[place],
-            event.what,
+            &mut self.lanes,
+            lane,
+            what,
         )
     }
 

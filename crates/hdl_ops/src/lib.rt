@@ -13,20 +13,26 @@
 
 mod admit;
 mod anyone;
+mod asked;
 mod change;
 mod deciding;
 mod decision;
+mod keys;
+mod permitted;
+mod proven;
 mod rendering;
 mod requests;
 mod settle;
+mod written;
 
 pub use change::{Change, IndexList, apply};
 pub use deciding::decide;
-pub use decision::Decision;
+pub use decision::{Decision, Level, Proof};
 pub use hdl_msg::{Request, read_request};
 pub use hdl_rows::{Refused, Rows};
 pub use hdl_tenants::Tenants;
-pub use rendering::render;
+pub use rendering::{render, render_challenge};
+pub use requests::{Response, response_of};
 
 #[cfg(test)]
 mod tests;
