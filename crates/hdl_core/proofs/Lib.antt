@@ -1,3 +1,6 @@
+pub mod HeldLanes
+pub mod Heard
+pub mod Received
 pub mod Places
 pub mod Steps
 pub mod Opened

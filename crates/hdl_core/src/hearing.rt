@@ -47,10 +47,10 @@ fn ask<R: Rows>(
     let decision = decide(alloc, tenants, publisher, rows, request, &Level::Anyone)?;
     if decision.code == ResponseCode::AuthenticationNeeded {
         let number = letter.envelope.request;
-        let Ok((octets, digest)) = render_challenge(alloc, next, number, request, &letter.nonce)
-        else {
+        let Ok(sent) = render_challenge(alloc, next, number, request, &letter.nonce) else {
             return Err(Refused);
         };
+        let (octets, digest) = sent;
         return Ok(Asked::Challenged(Octets::new(octets), digest));
     }
     let octets = answer(alloc, rows, letter, request, decision)?;
@@ -148,10 +148,11 @@ pub(crate) fn hear<R: Rows>(
     match ask(alloc, tenants, publisher, rows, letter, next, &request)? {
         Asked::Answered(octets) => Ok(octets),
         Asked::Challenged(octets, digest) => {
+            let nonce = letter.nonce;
             let pending = Pending {
                 peer: letter.peer,
                 moment: letter.moment,
-                nonce: letter.nonce,
+                nonce,
                 digest,
                 message: Octets::new(message),
             };

@@ -77,10 +77,11 @@ impl<R: Rows + Drop> Service<R> {
         let Ok(lanes) = closed_lanes(alloc, &tenants) else {
             return Err(OpenFault::Memory);
         };
+        let opening = tenants.opening();
         let Ok(lanes) = Lanes::new(alloc, lanes) else {
             return Err(OpenFault::Memory);
         };
-        if put_rows(&mut rows, tenants.opening()).is_err() {
+        if put_rows(&mut rows, opening).is_err() {
             return Err(OpenFault::Store);
         }
         Ok(Service {

@@ -1,0 +1,35 @@
+use Rattle.std.proofs.Common.{ℕ, List, ap, sym, ◌∙◌, refl, subst}
+use Rattle.hdl_frame.specs.Frames.{IsFrame}
+use Rattle.hdl_frame.specs.Splitting.{IsFrameOf}
+use Rattle.hdl_tenants.specs.Register.{hosts}
+use Rattle.hdl_laws.specs.declared.events.Outcome.TheVariants.{Busy}
+use Rattle.hdl_laws.specs.Worlds.{Received}
+use Rattle.hdl_core.specs.declared.letter.Letter.{Letter}
+use Rattle.hdl_core.specs.Held.{held_at}
+use Rattle.hdl_core.proofs.Received.{no_frame, piece, heard, refused}
+use Rattle.hdl_core.proofs.serving.receive.Goals as goal
+
+pub returns-in_default : goal.returns-in_default
+returns-in_default g c =
+    let x : Received = record { peer = c.args.peer; moment = c.args.moment; nonce = c.args.nonce; bytes = c.args.octets } in
+    no_frame (hosts c.args.tenants.now (held_at c.args.lanes.now c.args.number).publisher) (g.R.Rows.content c.args.rows.now) c.args.lanes.now c.args.number x
+    (λ is. c.in_default.ensures.refused (subst IsFrame (sym c.as_slice.ensures) is))
+
+pub returns-then-is_truncated : goal.returns-then-is_truncated
+returns-then-is_truncated g c =
+    let x : Received = record { peer = c.args.peer; moment = c.args.moment; nonce = c.args.nonce; bytes = c.args.octets } in
+    piece (hosts c.args.tenants.now (held_at c.args.lanes.now c.args.number).publisher) (g.R.Rows.content c.args.rows.now) c.args.lanes.now c.args.number x c.in-Ok.frame
+    (subst (λ (b : List ℕ). IsFrameOf b c.in-Ok.frame) c.as_slice.ensures c.in-Ok.ensures.ok) (sym c.is_truncated.ensures ∙ c.if-is_truncated.true)
+
+pub returns-in-Ok-hear : goal.returns-in-Ok-hear
+returns-in-Ok-hear g c =
+    let x : Received = record { peer = c.args.peer; moment = c.args.moment; nonce = c.args.nonce; bytes = c.args.octets } in
+    let m : Letter = record { peer = c.args.peer; moment = c.args.moment; nonce = c.args.nonce; envelope = c.in-Ok.frame.envelope } in
+    heard (hosts c.args.tenants.now (held_at c.args.lanes.now c.args.number).publisher) (g.R.Rows.content c.args.rows.now) c.args.lanes.now c.args.number x c.in-Ok.frame m c.message_of-message.result.items c.in-Ok-hear.reply c.hear.new.lanes (g.R.Rows.content c.hear.new.rows)
+    (subst (λ (b : List ℕ). IsFrameOf b c.in-Ok.frame) c.as_slice.ensures c.in-Ok.ensures.ok) (sym c.is_truncated.ensures ∙ c.if-is_truncated.false) c.message_of-message.ensures refl c.in-Ok-hear.ensures.heard
+
+pub returns-in-Err : goal.returns-in-Err
+returns-in-Err g c =
+    let x : Received = record { peer = c.args.peer; moment = c.args.moment; nonce = c.args.nonce; bytes = c.args.octets } in
+    refused (hosts c.args.tenants.now (held_at c.args.lanes.now c.args.number).publisher) (g.R.Rows.content c.args.rows.now) c.args.lanes.now c.args.number x c.in-Ok.frame (Busy c.busy.result) c.hear.new.lanes (g.R.Rows.content c.hear.new.rows)
+    (subst (λ (b : List ℕ). IsFrameOf b c.in-Ok.frame) c.as_slice.ensures c.in-Ok.ensures.ok) (ap Busy c.busy.ensures) c.in-Err.ensures.kept c.in-Err.ensures.undone
