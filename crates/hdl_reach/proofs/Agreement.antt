@@ -3,7 +3,7 @@ use Rattle.std.proofs.Common.{◌≡◌, ◌⊎◌, inl, inr, ℕ, List, [], ◌
 use Rattle.std.specs.List.{AllByRecursion}
 use Rattle.std.proofs.lemmas.Map.Made.{is_member-filter}
 use Rattle.hdl_value.specs.Place.{Place}
-use Rattle.hdl_value.specs.Refs.{granted, granted_by, admin_read, listed, listed_by, list_read, refers, place}
+use Rattle.hdl_value.specs.Refs.{granted, granted_by, admin_read, listed_by, list_read, refers, place}
 use Rattle.hdl_value.specs.declared.references.RawRef.{RawRef}
 use Rattle.hdl_value.specs.declared.value.Value.{Value}
 use Rattle.hdl_value.proofs.Places.{places_equal}

@@ -1,11 +1,8 @@
 -- What a search has seen grows by references, each once.
 use Rattle.std.proofs.Common.{◌≡◌, ℕ, ◌+◌, ◌<◌, take, length, get_or, List, [], ◌∷◌, ◌++◌, append-nil, append_assoc, if◌then◌else◌, Bool, true, false, cond, ◌||◌, refl, sym, ap, subst, ◌∙◌, IsTrue, not}
-use Rattle.std.specs.Prelude.{Vec}
-use Rattle.std.specs.declared.alloc.Global.{Global}
 use Rattle.std.specs.BTreeSet.{BTreeSet, contains, Updates}
-use Rattle.std.specs.List.{AllByRecursion, IsDistinct}
+use Rattle.std.specs.List.{IsDistinct}
 use Rattle.std.proofs.lemmas.List.{map-append}
-use Rattle.hdl_name.specs.Name.{canonical}
 use Rattle.hdl_value.specs.Place.{Place, same_place}
 use Rattle.hdl_value.specs.Refs.{place_of}
 use Rattle.hdl_value.specs.declared.admin.Reference.{Reference}
@@ -78,16 +75,9 @@ pub absent_key : (b c : Bool) → b ≡ not c → b ≡ true → c ≡ false
 absent_key b true is new = absurd (let no : true ≡ false = sym new ∙ is in cc)
 absent_key b false is new = refl
 
-pub present_key : (b c : Bool) → b ≡ not c → b ≡ false → c ≡ true
-present_key b true is old = refl
-present_key b false is old = absurd (let no : true ≡ false = sym is ∙ old in cc)
-
 -- places of references, one more
 pub places_next : (rs : List Reference) (i : ℕ) (r : Reference) → i < length rs → r ≡ get_or rs i r → places (take (i + 1) rs) ≡ places (take i rs) ++ place_of r ∷ []
 places_next rs i r low is = ap places (take_next rs i r low is) ∙ places_more (take i rs) r
-
-pub key_place : (handle : Vec ℕ Global) (one : Reference) → handle.items ≡ canonical one.name → place_at (handle, one.index) ≡ place_of one
-key_place handle one is = λ i. record { handle = is i; index = one.index }
 
 -- what a call made of those seen: one more, unless it was seen
 abbrev pub Adds : Seen → Seen → Reference → Type 0

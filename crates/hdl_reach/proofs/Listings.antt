@@ -1,5 +1,5 @@
 -- Which places lists hold, and the sources of each.
-use Rattle.std.proofs.Common.{◌≡◌, ◌≢◌, ℕ, List, [], ◌∷◌, ◌++◌, if◌then◌else◌, Bool, true, false, cond, ◌||◌, ◌&&◌, Option, Some, None, filter, not, ◌==◌, refl, sym, ap, subst, ◌∙◌, arith, IsTrue}
+use Rattle.std.proofs.Common.{◌≡◌, List, [], ◌∷◌, ◌++◌, if◌then◌else◌, Bool, true, false, cond, ◌||◌, ◌&&◌, Option, Some, None, filter, refl, sym, ap, subst, ◌∙◌, IsTrue}
 use Rattle.std.proofs.Common.{map as map_list}
 use Rattle.std.specs.Prelude.{Vec}
 use Rattle.std.specs.declared.alloc.Global.{Global}
@@ -8,8 +8,6 @@ use Rattle.std.specs.List.{flat_map}
 use Rattle.std.specs.Map.{KeepsOthers, lookup, values_of}
 use Rattle.std.specs.Ordering.{eq_by_cmp}
 use Rattle.std.proofs.lemmas.List.{map-append}
-use Rattle.std.proofs.lemmas.List.Elements.{filter-append}
-use Rattle.std.proofs.lemmas.Bool.Decides.{nat_tests}
 use Rattle.std.specs.FinMap as map
 use Rattle.hdl_value.specs.Place.{Place, place_cmp, same_place}
 use Rattle.hdl_value.specs.Refs.{listed, listed_by, list_read, refers, place, place_of, raws}
@@ -22,31 +20,9 @@ use Rattle.hdl_reach.specs.Reach.{is_among, listed_in, lists}
 use Rattle.hdl_reach.specs.Seen.{places, Key, place_at, key_cmp}
 use Rattle.hdl_reach.specs.Sources.{places_in, sources_of, with_source, HasSources}
 use Rattle.hdl_reach.specs.Search.{onward, reachable, IsReached, IsWalk}
-use Rattle.hdl_reach.proofs.Members.{same_laws, among_append, among_front, among_back, among_first, or_true}
+use Rattle.hdl_reach.proofs.Members.{among_append, among_front, among_back, among_first, or_true}
 
--- ---- those that refer to something
-
-refers_by : (i : ℕ) → i ≢ 0 → not (i == 0) ≡ true
-refers_by i other = grind (arith, nat_tests)
-
-refers_not : (i : ℕ) → i ≡ 0 → not (i == 0) ≡ false
-refers_not i zero = ap (λ n. not (n == 0)) zero
-
-referring_step : (rs : List Reference) (r : Reference) (b : Bool) → refers (place_of r) ≡ b → filter refers (places (rs ++ r ∷ [])) ≡ filter refers (places rs) ++ (if b then place_of r ∷ [] else [])
-referring_step rs r b is =
-    ap (filter refers) (map-append place_of rs (r ∷ [])) ∙ filter-append refers (places rs) (place_of r ∷ []) ∙ ap (λ c. filter refers (places rs) ++ (if c then place_of r ∷ [] else [])) is
-
--- one more that refers to something
-pub referring_more : (rs : List Reference) (r : Reference) → r.index ≢ 0 → filter refers (places (rs ++ r ∷ [])) ≡ filter refers (places rs) ++ place_of r ∷ []
-referring_more rs r other = referring_step rs r true (refers_by r.index other)
-
--- and one more that doesn't
-pub referring_same : (rs : List Reference) (r : Reference) → r.index ≡ 0 → filter refers (places (rs ++ r ∷ [])) ≡ filter refers (places rs)
-referring_same rs r zero = referring_step rs r false (refers_not r.index zero) ∙ append_none _
-  where
-    append_none : (ps : List Place) → ps ++ [] ≡ ps
-    append_none [] = refl
-    append_none (p ∷ ps) = ap (λ qs. p ∷ qs) (append_none ps)
+-- ---- a list as it reads
 
 as_spelt : (rs : List Reference) → places rs ≡ map_list place (raws rs)
 as_spelt [] = refl

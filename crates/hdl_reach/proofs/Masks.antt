@@ -1,25 +1,15 @@
 -- Unions of masks, grant by grant.
-use Rattle.std.proofs.Common.{◌≡◌, inl, inr, ℕ, suc, zero, ◌+◌, ◌<◌, List, [], ◌∷◌, ◌++◌, take, length, get_or, add-one, append-nil, append_assoc, Bool, true, false, if◌then◌else◌, Option, Some, None, refl, sym, ap, subst, ◌∙◌, arith}
+use Rattle.std.proofs.Common.{◌≡◌, inl, inr, ℕ, ◌+◌, ◌<◌, List, [], ◌∷◌, ◌++◌, take, length, get_or, Bool, true, false, if◌then◌else◌, Option, Some, None, refl, sym, ap, ◌∙◌}
 use Rattle.std.specs.Bool.{Decides}
 use Rattle.std.specs.List.{AllByRecursion}
 use Rattle.std.proofs.lemmas.List.{map-append}
 use Rattle.hdl_value.specs.Place.{Place}
-use Rattle.hdl_value.specs.Refs.{granted, place_of}
-use Rattle.hdl_value.specs.declared.value.Value.{Value}
+use Rattle.hdl_value.specs.Refs.{place_of}
 use Rattle.hdl_rows.specs.Table.{Table}
 use Rattle.hdl_reach.specs.declared.grants.Grant.{Grant}
-use Rattle.hdl_reach.specs.Reach.{IsChain, IsUnion, grants, joined}
+use Rattle.hdl_reach.specs.Reach.{IsChain, IsUnion, joined}
 use Rattle.hdl_reach.specs.Views.{grants_in, starts, union_by}
 use Rattle.hdl_reach.proofs.Searches.{take_next}
-
-grants_next : (vs : List Value) (i : ℕ) (v : Value) → i < length vs → v ≡ get_or vs i v → grants (take (suc i) vs) ≡ grants (take i vs) ++ granted v
-grants_next [] i v low is = absurd (omega arith)
-grants_next (w ∷ vs) zero v low is = append-nil (granted w) ∙ ap granted (sym is)
-grants_next (w ∷ vs) (suc i) v low is = ap (λ gs. granted w ++ gs) (grants_next vs i v (omega arith) is) ∙ sym (append_assoc (granted w) (grants (take i vs)) (granted v))
-
--- the grants of one value more
-pub grants_more : (vs : List Value) (i : ℕ) (v : Value) → i < length vs → v ≡ get_or vs i v → grants (take (i + 1) vs) ≡ grants (take i vs) ++ granted v
-grants_more vs i v low is = rw add-one (grants_next vs i v low is)
 
 -- one grant more
 pub granted_next : (gs : List Grant) (i : ℕ) (g : Grant) → i < length gs → g ≡ get_or gs i g → grants_in (take (i + 1) gs) ≡ grants_in (take i gs) ++ (g.mask.0, place_of g.reference) ∷ []

@@ -1,6 +1,6 @@
 -- Lists, the other way round.
 use Rattle.std.specs.Prelude.{Vec, ◌≡◌, List, [], ◌∷◌, ◌++◌, ◌&&◌, Option, Some, None, if◌then◌else◌}
-use Rattle.std.specs.BTreeMap.{BTreeMap, get_by}
+use Rattle.std.specs.BTreeMap.{get_by}
 use Rattle.std.specs.declared.alloc.Global.{Global}
 use Rattle.hdl_value.specs.Place.{Place, place_cmp, same_place}
 use Rattle.hdl_value.specs.declared.admin.Reference.{Reference}

@@ -1,5 +1,5 @@
 -- The code's grants and masks, as the definitions speak of them.
-use Rattle.std.specs.Prelude.{ℕ, List, [], ◌∷◌, Bool, if◌then◌else◌, map, Option, Some, None, option_map}
+use Rattle.std.specs.Prelude.{ℕ, List, [], ◌∷◌, Bool, if◌then◌else◌, map, Option, Some, option_map}
 use Rattle.hdl_value.specs.Place.{Place}
 use Rattle.hdl_value.specs.Refs.{place_of}
 use Rattle.hdl_value.specs.declared.admin.AdminMask.{AdminMask}

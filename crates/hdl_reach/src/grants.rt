@@ -1,6 +1,6 @@
 //! What the HS_ADMIN values of a handle grant, and to whom.
 
-ghost use Rattle.std.specs.Prelude.{◌≡◌, take, option_to_list, IfOk};
+ghost use Rattle.std.specs.Prelude.{◌≡◌, option_to_list, IfOk};
 ghost use Rattle.hdl_value.specs.Refs.{granted};
 ghost use Rattle.hdl_reach.specs.Reach.{grants};
 ghost use Rattle.hdl_reach.specs.Views.{grants_in};

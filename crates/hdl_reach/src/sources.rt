@@ -1,6 +1,6 @@
 //! Lists, the other way round: from a reference to those whose lists hold it.
 
-ghost use Rattle.std.specs.Prelude.{◌≡◌, ◌∷◌, [], ◌++◌, ◌||◌, ◌&&◌, if◌then◌else◌, IfOk, OnOk};
+ghost use Rattle.std.specs.Prelude.{◌≡◌, [], ◌||◌, ◌&&◌, IfOk, OnOk};
 ghost use Rattle.hdl_value.specs.Place.{Place, same_place};
 ghost use Rattle.hdl_value.specs.Refs.{place_of};
 ghost use Rattle.hdl_reach.specs.Reach.{is_among};

@@ -1,5 +1,4 @@
-use Rattle.std.proofs.Common.{◌≡◌, ◌<◌, ◌≤◌, length, take, ◌++◌, ◌∷◌, [], rules, arith, refl, sym, ap, subst, ◌∙◌, IsTrue}
-use Rattle.hdl_value.specs.Place.{Place}
+use Rattle.std.proofs.Common.{◌≡◌, ◌<◌, ◌≤◌, length, take, rules, arith, refl, sym, ap, subst, ◌∙◌, IsTrue}
 use Rattle.hdl_value.specs.Refs.{place_of}
 use Rattle.hdl_rows.specs.Table.{Table}
 use Rattle.hdl_reach.specs.Reach.{is_among}

@@ -1,4 +1,4 @@
-use Rattle.std.proofs.Common.{◌≡◌, ◌∷◌, [], ◌-◌, length}
+use Rattle.std.proofs.Common.{◌∷◌, [], ◌-◌, length}
 use Rattle.hdl_value.specs.Refs.{place_of}
 use Rattle.hdl_reach.specs.Seen.{places, AreKept}
 use Rattle.hdl_reach.specs.Sources.{sources_of}
