@@ -46,4 +46,8 @@ fn main(rt: HostRuntime) -> ExitCode {
 }
 
 #[cfg(test)]
+mod challenge_tests;
+#[cfg(test)]
 mod tests;
+#[cfg(test)]
+mod write_tests;
