@@ -1,5 +1,5 @@
 -- What comes of a message on an open lane.
-use Rattle.std.proofs.Common.{◌≡◌, ℕ, List, [], Bool, true, false, cond, ◌==◌, Option, Some, None, Result, Ok, Err, refl, sym, ap, ◌∙◌, subst}
+use Rattle.std.proofs.Common.{◌≡◌, ℕ, List, [], Bool, true, false, cond, Some, None, Result, Ok, Err, refl, sym, ap, ◌∙◌, subst}
 use Rattle.std.specs.Prelude.{IfOk, OnOk}
 use Rattle.hdl_msg.specs.Message.{Content, SpellsRequest}
 use Rattle.hdl_msg.specs.Reply.{reply_octets, short_reply}
@@ -7,21 +7,19 @@ use Rattle.hdl_msg.specs.declared.replies.ReplyContent.TheVariants.{Empty}
 use Rattle.hdl_rows.specs.Table.{Table}
 use Rattle.hdl_slots.specs.declared.pending.Pending.{Pending}
 use Rattle.hdl_slots.specs.Lanes.{challenge_of, challenged}
-use Rattle.hdl_ops.specs.Decisions.{Decision, Decides, Anyone, Proven, failure}
+use Rattle.hdl_ops.specs.Decisions.{Decision, Decides, Proven, failure}
 use Rattle.hdl_ops.specs.Proven.{Proof}
 use Rattle.hdl_ops.specs.Requests.{Response, response_of}
-use Rattle.hdl_ops.specs.Replies.{digest_of, reply_to, challenge_to}
+use Rattle.hdl_ops.specs.Replies.{reply_to, challenge_to}
 use Rattle.hdl_ops.specs.Tables.{apply_if}
-use Rattle.hdl_laws.specs.declared.events.Outcome.{Outcome}
 use Rattle.hdl_laws.specs.declared.events.Outcome.TheVariants.{Reply}
 use Rattle.hdl_laws.specs.Lanes.{LaneState}
-use Rattle.hdl_laws.specs.Worlds as worlds
-use Rattle.hdl_laws.specs.Worlds.{Effect, Task, Malformed, Unknown, Late, Ask, Redeem, is_late, redeemed, redeem_task, pending, answer_effect, challenge_effect, ask_effect, IsReading, IsResponseTask, IsRequestTask, IsLetterTask, Does}
+use Rattle.hdl_laws.specs.Worlds.{Effect, Task, Malformed, Unknown, Late, Ask, Redeem, is_late, redeemed, redeem_task, pending, answer_effect, challenge_effect, IsResponseTask, IsRequestTask, IsLetterTask, Does}
 use Rattle.hdl_core.specs.declared.letter.Letter.{Letter}
 use Rattle.hdl_core.specs.declared.hearing.Asked.{Asked}
 use Rattle.hdl_core.specs.declared.hearing.Asked.TheVariants.{Answered, Challenged}
 use Rattle.hdl_core.specs.Held.{Held, state_at, with_state}
-use Rattle.hdl_core.specs.Serving.{letter_of, IsAsked, Replies, IsRedeemed, RespondsAt, IsHeard, HearsAt}
+use Rattle.hdl_core.specs.Serving.{letter_of, IsAsked, Replies, IsRedeemed, RespondsAt, HearsAt}
 use Rattle.hdl_core.proofs.HeldLanes.{kept}
 
 pub on_ok : {X E : Type 0} (r : Result X E) (P S : X → Type 0) → ((x : X) → P x → S x) → IfOk r P → IfOk r S
@@ -65,7 +63,7 @@ module _ (hosts : List ℕ → Bool) (t : Table) (m : Letter) where
         Some r,
         spells,
         subst (λ b. Replies hosts t m.moment (cond b (Late (letter_of m message) r s') (Redeem (letter_of m message) r proof s')) octets s' t') (in_time message)
-          (answer_effect s' (letter_of m message) r d, (d, decided, refl), ap Reply (sym is), refl, table),
+            (answer_effect s' (letter_of m message) r d, (d, decided, refl), ap Reply (sym is), refl, table),
       )
 
   module _ (lanes : List Held) (number : ℕ) where

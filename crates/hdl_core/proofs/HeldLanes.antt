@@ -1,6 +1,6 @@
 -- What is held of lanes, and one of them with another state.
-use Rattle.std.proofs.Common.{◌≡◌, ℕ, zero, suc, ◌<◌, ◌≤◌, List, [], ◌∷◌, map, length, set, get_or, replicate, refl, sym, ap, ◌∙◌, arith, subst, Bool, false}
-use Rattle.std.proofs.lemmas.List.{set-get_or, length-set}
+use Rattle.std.proofs.Common.{◌≡◌, ℕ, zero, suc, ◌<◌, ◌≤◌, List, [], ◌∷◌, length, set, get_or, replicate, refl, sym, ap, ◌∙◌, arith, subst, Bool, false}
+use Rattle.std.proofs.lemmas.List.{set-get_or}
 use Rattle.hdl_slots.specs.Lanes as slots
 use Rattle.hdl_slots.specs.Lanes.{lane_at}
 use Rattle.hdl_laws.specs.Lanes.{LaneState, fresh}

@@ -1,5 +1,5 @@
 -- What comes of octets on an open lane, and of an event of a lane.
-use Rattle.std.proofs.Common.{◌≡◌, ℕ, List, Bool, true, false, cond, drop, Option, Some, None, Result, Ok, Err, refl, sym, ap, ◌∙◌, subst, inl, inr, MatchBool}
+use Rattle.std.proofs.Common.{◌≡◌, ℕ, List, Bool, true, false, cond, drop, None, refl, sym, ap, ◌∙◌, subst, inl, inr, MatchBool}
 use Rattle.hdl_frame.specs.declared.envelope.Envelope.{Envelope}
 use Rattle.hdl_frame.specs.declared.frame.Frame.{Frame}
 use Rattle.hdl_frame.specs.Envelope.{envelope_at, is_truncated}
@@ -15,7 +15,7 @@ use Rattle.hdl_laws.specs.Lanes.{LaneState, fresh}
 use Rattle.hdl_laws.specs.Worlds as worlds
 use Rattle.hdl_laws.specs.Worlds.{Received, Task, Ignore, Break, Effect, IsFrameTask, IsOctetsTask, arrived}
 use Rattle.hdl_core.specs.declared.letter.Letter.{Letter}
-use Rattle.hdl_core.specs.Held.{Held, held_at, state_at, with_state}
+use Rattle.hdl_core.specs.Held.{Held, state_at, with_state}
 use Rattle.hdl_core.specs.Serving.{letter_of, HearsAt, ReceivesAt, ServesAt}
 use Rattle.hdl_core.proofs.HeldLanes.{kept}
 

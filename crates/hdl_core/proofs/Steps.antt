@@ -1,5 +1,5 @@
 -- The step that serving an event makes, and a run that goes on by a step.
-use Rattle.std.proofs.Common.{◌≡◌, false, ℕ, ◌<◌, ◌≤◌, List, [], ◌∷◌, ◌++◌, Some, None, length, set, refl, sym, ap, ◌∙◌, subst, inl, inr, option_map, get_or}
+use Rattle.std.proofs.Common.{◌≡◌, false, ℕ, ◌<◌, ◌≤◌, List, [], ◌∷◌, ◌++◌, Some, None, length, refl, sym, ap, ◌∙◌, subst, inl, inr, option_map}
 use Rattle.std.proofs.lemmas.Option.{slice_get-get_or, slice_get_past}
 use Rattle.hdl_frame.specs.Envelope.{envelope_at}
 use Rattle.hdl_msg.specs.Reply.{short_reply}
@@ -13,7 +13,7 @@ use Rattle.hdl_laws.specs.Lanes.{LaneState, fresh}
 use Rattle.hdl_laws.specs.Laws.{JoinsRuns}
 use Rattle.hdl_laws.specs.Runs.{Run, Steps}
 use Rattle.hdl_laws.specs.Worlds.{World, Turn, turn, IsTask, Does, hosts, owner, lane_of, IsAnswerFor}
-use Rattle.hdl_core.specs.Held.{Held, held_at, state_at, with_state}
+use Rattle.hdl_core.specs.Held.{Held, held_at, with_state}
 use Rattle.hdl_core.specs.Worlds.{world_of}
 use Rattle.hdl_core.specs.Serving.{ServesAt}
 use Rattle.hdl_core.proofs.HeldLanes.{kept}

@@ -5,7 +5,8 @@
 //! "One event", or Busy with the world as it was; a run is a list of steps. The laws are the contracts of functions without a
 //! body, which the service calls.
 //!
-//! It stands on `hdl_ops` and has no state: what is said here is said of any service.
+//! What an event comes to before the table is looked at is a `Task`, a challenge and its response among them. It stands on
+//! `hdl_ops` and on `hdl_slots`' definitions of a lane's challenges, and has no state: what is said here is said of any service.
 #![tactic(auto)]
 
 mod events;

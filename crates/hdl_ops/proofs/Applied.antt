@@ -1,13 +1,13 @@
 -- A change that is decided can be applied to the table on which it was decided.
 use Rattle.std.proofs.Common.{◌≡◌, ◌≢◌, ℕ, List, [], ◌∷◌, map, Bool, true, false, cond, not, ◌&&◌, ◌||◌, ◌==◌, Option, Some, None, Result, Ok, Err, refl, sym, ap, ◌∙◌, subst, true≢false, map-id, arith}
-use Rattle.std.specs.Prelude.{IfOk, IfSome, OnOk, is_some, is_none, nat_lt, length, ⊤}
+use Rattle.std.specs.Prelude.{IfOk, IfSome, OnOk, is_some, is_none, nat_lt, length}
 use Rattle.std.specs.List.{AllByRecursion, list_any, list_all}
 use Rattle.std.proofs.lemmas.Bool.{eq-eqb, eqb-true}
 use Rattle.hdl_name.specs.Name.{canonical}
 use Rattle.hdl_value.specs.declared.value.Value.{Value}
 use Rattle.hdl_value.specs.Refs.{is_admin}
 use Rattle.hdl_value.specs.Tests.{is_sound}
-use Rattle.hdl_rows.specs.Table.{Table, place, has, at, value_with, HaveTheirIndexes, AreDistinct, AreAbsent, ArePresent, indexes}
+use Rattle.hdl_rows.specs.Table.{Table, place, at, value_with, HaveTheirIndexes, AreDistinct, indexes}
 use Rattle.hdl_msg.specs.Message.{Content, Operation, resolution, create, delete, add, remove, modify, list, response, other}
 use Rattle.hdl_msg.specs.declared.fields.Header.{Header}
 use Rattle.hdl_ops.specs.First.{first, or_code}
@@ -16,7 +16,7 @@ use Rattle.hdl_ops.specs.Tables.{CanApply}
 use Rattle.hdl_ops.specs.Admission.{refusal, has_twins, is_bad_list, are_bad, is_bad_write}
 use Rattle.hdl_ops.specs.Sights.{Sight, sight, passes, passes_at}
 use Rattle.hdl_ops.specs.Anyone.{is_open, is_open_write, code_for_anyone}
-use Rattle.hdl_ops.specs.Proven.{Proof, misses_at, takes_at, misses, takes, code_before_key, code_behind_key, code_for_key, value_at, key_of, IsCodeBy, IsCodeForKey}
+use Rattle.hdl_ops.specs.Proven.{Proof, misses_at, takes_at, misses, takes, code_before_key, code_behind_key, code_for_key, value_at, key_of, IsCodeBy}
 use Rattle.hdl_ops.specs.Decisions.{Level, Anyone, Proven, Decision, success, failure, carried, change_of, decision, DecidesBy}
 use Rattle.hdl_ops.specs.Replies.{fits}
 use Rattle.hdl_ops.specs.Views.{decision_of, IsAdmitted}
@@ -129,7 +129,7 @@ changes t header (add handle vs) s see by good stands = (
   sym (ap (λ (x : Sight). x.there) see) ∙ not_false s.there stands.1,
   good_values vs good,
   of_keys (λ v. v.index) (λ i. at t (place (canonical handle) i) ≡ None) vs
-    (none_passes (λ n. takes_at s.values n.index) (λ n. at t (place (canonical handle) n.index) ≡ None) (λ n e. absent_by s.values t (canonical handle) n.index by e) vs stands.3),
+      (none_passes (λ n. takes_at s.values n.index) (λ n. at t (place (canonical handle) n.index) ≡ None) (λ n e. absent_by s.values t (canonical handle) n.index by e) vs stands.3),
 )
 changes t header (remove handle is) s see by good stands = (
   sym (ap (λ (x : Sight). x.there) see) ∙ not_false s.there stands.1,
@@ -140,7 +140,7 @@ changes t header (modify handle vs) s see by good stands = (
   sym (ap (λ (x : Sight). x.there) see) ∙ not_false s.there stands.1,
   good_values vs good,
   of_keys (λ v. v.index) (λ i. at t (place (canonical handle) i) ≢ None) vs
-    (none_passes (λ n. misses_at s.values n.index) (λ n. at t (place (canonical handle) n.index) ≢ None) (λ n e. there_by s.values t (canonical handle) n.index by e) vs stands.2),
+      (none_passes (λ n. misses_at s.values n.index) (λ n. at t (place (canonical handle) n.index) ≢ None) (λ n e. there_by s.values t (canonical handle) n.index by e) vs stands.2),
 )
 changes t header (list handle) s see by good stands = tt
 changes t header (response kind handle index answer) s see by good stands = tt
@@ -189,6 +189,7 @@ anyone_stands t header o s see by good one =
     none_of (list handle) h = absurd (true≢false (sym h))
     none_of (response kind handle index answer) h = absurd (true≢false (sym h))
     none_of (other octets) h = absurd (true≢false (sym h))
+
     by_resolving : (b : Bool) → resolves o ≡ b → or_code (first ((b, 1) ∷ (is_open_write o s.values, 1) ∷ [])) 402 ≡ 1 → (creates o && s.there) ≡ false → (not (creates o) && not s.there) ≡ false → IfSome (change_of o) (CanApply t)
     by_resolving true is h there absent = none_of o is
     by_resolving false is h there absent =

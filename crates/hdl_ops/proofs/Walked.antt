@@ -1,5 +1,5 @@
 -- A walk over so many items gives no more of them.
-use Rattle.std.proofs.Common.{◌≤◌, ◌<◌, ◌^◌, ◌≡◌, ℕ, zero, suc, List, [], ◌∷◌, length, Option, Some, None, refl, arith}
+use Rattle.std.proofs.Common.{◌≤◌, ℕ, zero, suc, List, [], ◌∷◌, length, Option, Some, None, arith}
 use Rattle.std.specs.Option.{option_map_or}
 use Rattle.hdl_msg.specs.Reading.{walked}
 

@@ -1,14 +1,16 @@
 //! Decisions: what is answered to a request, and what it changes.
 //!
 //! ```text
-//! request -> admit -> look (the table's one appearance) -> a table of decision -> settle -> Decision { code, content, change }
+//! request -> admit -> look (the table) -> a table of decision (the key's mask and value) -> settle -> Decision { code, content, change }
 //! ```
 //!
-//! The definitions in `specs/Decisions.antt` are the tables of docs/PROTOCOL.md as they are printed: a list of rows, each a
-//! test and a code, of which the first that holds decides. [`decide`] is proved to answer just that, and leaves the table as
-//! it was; [`apply`] does the change, at the moment of its event; [`render`] spells the reply.
+//! The definitions in `specs/` are the tables of docs/PROTOCOL.md as they are printed: `Admission` before the table is looked at,
+//! `Anyone` for a request as it came, `Proven` for one that comes back with a proof. Each is a list of rows, a test and a code,
+//! of which the first that holds decides. [`decide`] is proved to answer just that, leaves the table as it was, and promises
+//! that its change can be written; [`apply`] writes it, at the moment of its event; [`render`] and [`render_challenge`] spell
+//! the replies.
 //!
-//! It stands on `hdl_msg`, `hdl_rows`, `hdl_tenants` and `hdl_auth`, and knows nothing of lanes, events or time.
+//! It stands on `hdl_msg`, `hdl_rows`, `hdl_reach`, `hdl_tenants` and `hdl_auth`, and knows nothing of lanes, events or time.
 #![tactic(auto)]
 
 mod admit;

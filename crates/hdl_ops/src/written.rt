@@ -103,10 +103,7 @@ pub(crate) fn is_bad_write(body: &Body<'_>) -> bool
 }
 
 /// The values, in memory of their own.
-pub(crate) fn copied_values(
-    alloc: Global,
-    mut values: Values<'_>,
-) -> Result<Vec<Value>, AllocError>
+pub(crate) fn copied_values(alloc: Global, mut values: Values<'_>) -> Result<Vec<Value>, AllocError>
     ensures { IfOk result (λ all. all.items ≡ values_of values.entry) }
 {
     let mut all = Vec::new(alloc);

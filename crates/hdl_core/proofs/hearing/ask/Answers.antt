@@ -11,8 +11,7 @@ returns-then-eq-clause-asked g c =
 
 pub returns-clause-asked : goal.returns-clause-asked
 returns-clause-asked g c =
-    let answered : (response_number c.in_ok-decision.decision.code == 402) ≡ false = search rules in
-    (
+    let answered : (response_number c.in_ok-decision.decision.code == 402) ≡ false = search rules in (
       decision_of c.in_ok-decision.decision,
       c.in_ok-decision.ensures.decided,
       answered,

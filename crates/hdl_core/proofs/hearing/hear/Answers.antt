@@ -15,7 +15,7 @@ pub returns-in_default-clause-heard : goal.returns-in_default-clause-heard
 returns-in_default-clause-heard g c =
     on_ok c.malformed.result _ _
     (λ octets is. no_request (hosts c.args.tenants.now (held_at c.args.lanes.now c.args.number).publisher) (g.R.Rows.content c.args.rows.now) c.args.letter.now c.args.lanes.now c.args.number c.args.message.items octets
-      (λ r spells. c.in_default.ensures.malformed r (subst (λ (b : List ℕ). SpellsRequest b r) (sym c.deref.ensures.value) spells)) is)
+    (λ r spells. c.in_default.ensures.malformed r (subst (λ (b : List ℕ). SpellsRequest b r) (sym c.deref.ensures.value) spells)) is)
     c.malformed.ensures
 
 pub returns-in-Some-clause-heard : goal.returns-in-Some-clause-heard
@@ -24,7 +24,7 @@ returns-in-Some-clause-heard g c =
     let is : Some (response_view c.in-Some.response) ≡ response_of r.operation = sym (ap (option_map response_view) c.in-Some.is) ∙ c.response_of.ensures in
     on_ok c.respond.result _ _
     (λ octets responds. responded (hosts c.args.tenants.now (held_at c.args.lanes.now c.args.number).publisher) (g.R.Rows.content c.args.rows.now) c.args.letter.now c.args.lanes.now c.args.number c.args.message.items r (response_view c.in-Some.response) octets c.respond.new.lanes (g.R.Rows.content c.respond.new.rows)
-      (subst (λ (b : List ℕ). SpellsRequest b r) c.deref.ensures.value c.in-Ok.ensures.read) is responds)
+    (subst (λ (b : List ℕ). SpellsRequest b r) c.deref.ensures.value c.in-Ok.ensures.read) is responds)
     c.respond.ensures.responded
 
 pub returns-in-Answered-clause-heard : goal.returns-in-Answered-clause-heard

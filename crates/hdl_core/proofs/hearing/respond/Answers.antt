@@ -12,7 +12,7 @@ pub returns-in_default-clause-responded : goal.returns-in_default-clause-respond
 returns-in_default-clause-responded g c =
     on_ok c.tell.result _ _
     (λ octets is. unknown (hosts c.args.tenants.now (held_at c.args.lanes.now c.args.number).publisher) (g.R.Rows.content c.args.rows.now) c.args.letter.now c.args.lanes.now c.args.number (content_of c.args.request.now) (response_view c.args.response) octets
-      (sym (ap option_copied c.in_default.is) ∙ c.find.ensures) is)
+    (sym (ap option_copied c.in_default.is) ∙ c.find.ensures) is)
     c.tell.ensures.reply
 
 pub returns-clause-responded : goal.returns-clause-responded

@@ -1,8 +1,6 @@
-use Rattle.std.proofs.Common.{inl, arith, refl}
-use Rattle.std.proofs.lemmas.Iterator.Consumers.{count_from_yields_List, YieldsList-from_first}
+use Rattle.std.proofs.Common.{inl, arith}
 use Rattle.std.specs.Int.{w32}
 use Rattle.hdl_value.specs.Reading.{number_at}
-use Rattle.hdl_msg.specs.Views.{numbers_of}
 use Rattle.hdl_ops.proofs.Walked.{length-walked}
 use Rattle.hdl_ops.proofs.written.count_of_indexes.Goals as goal
 

@@ -1,7 +1,5 @@
-use Rattle.std.proofs.Common.{inl, arith, refl}
-use Rattle.std.proofs.lemmas.Iterator.Consumers.{count_from_yields_List, YieldsList-from_first}
+use Rattle.std.proofs.Common.{inl, arith}
 use Rattle.hdl_value.specs.Cut.{value_at}
-use Rattle.hdl_msg.specs.Views.{values_of}
 use Rattle.hdl_ops.proofs.Walked.{length-walked}
 use Rattle.hdl_ops.proofs.written.count_of_values.Goals as goal
 

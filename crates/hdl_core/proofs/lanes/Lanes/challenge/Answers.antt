@@ -1,4 +1,3 @@
-use Rattle.hdl_slots.specs.Lanes as slots
 use Rattle.hdl_slots.specs.Lanes.{challenged}
 use Rattle.hdl_core.proofs.HeldLanes.{within, rewritten}
 use Rattle.hdl_core.proofs.lanes.Lanes.challenge.Goals as goal

@@ -1,5 +1,4 @@
 use Rattle.std.proofs.Common.{◌∙◌, ap, sym, length, arith}
-use Rattle.hdl_core.specs.Held.{Held}
 use Rattle.hdl_core.proofs.HeldLanes.{length-held}
 use Rattle.hdl_core.proofs.lanes.Lanes.len.Goals as goal
 

@@ -1,4 +1,4 @@
-use Rattle.std.proofs.Common.{◌∙◌, ap, arith}
+use Rattle.std.proofs.Common.{◌∙◌, ap}
 use Rattle.hdl_core.specs.Held.{held_lanes}
 use Rattle.hdl_core.proofs.HeldLanes.{closed}
 use Rattle.hdl_core.proofs.lanes.Lanes.new.Goals as goal

@@ -1,4 +1,4 @@
-use Rattle.std.proofs.Common.{arith, ◌∙◌, ap, subst}
+use Rattle.std.proofs.Common.{arith, subst}
 use Rattle.hdl_laws.specs.declared.events.Outcome.TheVariants.{Silent}
 use Rattle.hdl_laws.specs.Runs.{Steps}
 use Rattle.hdl_core.specs.Worlds.{world_of}
