@@ -1,0 +1,5 @@
+pub mod AssemblyLemmas
+pub mod CellLemmas
+pub mod JoinedLemmas
+pub mod PieceLemmas
+pub mod TakenLemmas

@@ -1,0 +1,5 @@
+pub mod Partial
+pub mod Taking
+pub mod Arrival
+pub mod Assembly
+pub mod Cells
