@@ -2,4 +2,5 @@ pub mod AssemblyLemmas
 pub mod CellLemmas
 pub mod JoinedLemmas
 pub mod PieceLemmas
+pub mod StoreLemmas
 pub mod TakenLemmas

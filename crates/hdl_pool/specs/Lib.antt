@@ -3,3 +3,4 @@ pub mod Taking
 pub mod Arrival
 pub mod Assembly
 pub mod Cells
+pub mod Store

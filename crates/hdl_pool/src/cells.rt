@@ -4,6 +4,7 @@ ghost use Rattle.std.specs.Prelude.{◌≡◌, ◌<◌, replicate, slice_set, op
 ghost use Rattle.hdl_pool.specs.Cells.{cells_at, cell_at};
 
 use crate::assembly::Assembly;
+use slab::Slab;
 use std::alloc::{AllocError, Global};
 use std::marker::Model;
 use std::mem;
@@ -14,21 +15,24 @@ pub const LANES: usize = 64;
 /// How many partial messages a lane may have.
 pub(crate) const PARTIAL_MAX: usize = 4;
 
-/// Four cells for each lane, each empty or with a partial message. They are made once and written in place.
+/// Four cells for each lane, each empty or with a partial message. All are slots of one slab, made once and written in place.
 #[derive(Drop)]
 pub(crate) struct Cells {
-    lanes: Vec<[Option<Assembly>; PARTIAL_MAX]>,
+    slab: Slab<Option<Assembly>>,
+    /// The slots' keys, four for each lane, lane by lane.
+    keys: Vec<usize>,
 }
 
 impl Model for Cells {
-    ghost use Rattle.std.specs.Prelude.{◌≡◌, List, Option, length};
+    ghost use Rattle.std.specs.Prelude.{List, Option};
     ghost use Rattle.hdl_pool.specs.Partial.{Partial};
+    ghost use Rattle.hdl_pool.specs.Store.{stored_cells, AreKeys};
 
     ghost Value = { List (List (Option Partial)) };
 
-    ghost view = { λ c. c.lanes.items };
+    ghost view = { λ c. stored_cells c.slab c.keys.items };
 
-    ghost invariant = { λ c. length c.lanes.items ≡ 64 };
+    ghost invariant = { λ c. AreKeys c.slab c.keys.items };
 }
 
 impl Cells {
@@ -36,11 +40,12 @@ impl Cells {
     pub(crate) fn new(alloc: Global) -> Result<Cells, AllocError>
         ensures { IfOk result (λ cells. cells ≡ replicate LANES (replicate PARTIAL_MAX None)) }
     {
-        let mut lanes = Vec::with_capacity(alloc, LANES)?;
-        for _ in 0..LANES {
-            lanes.push([None, None, None, None])?;
+        let mut slab = Slab::with_capacity(alloc, LANES * PARTIAL_MAX)?;
+        let mut keys = Vec::with_capacity(alloc, LANES * PARTIAL_MAX)?;
+        for _ in 0..LANES * PARTIAL_MAX {
+            keys.push(slab.insert(None)?)?;
         }
-        Ok(Cells { lanes })
+        Ok(Cells { slab, keys })
     }
 
     /// What a cell has.
@@ -49,7 +54,8 @@ impl Cells {
         requires place { place < PARTIAL_MAX }
         ensures { option_copied result ≡ cell_at self.now lane place }
     {
-        self.lanes[lane][place].as_ref()
+        let key = self.keys[PARTIAL_MAX * lane + place];
+        self.slab.get(key)?.as_ref()
     }
 
     /// Puts something else, or nothing, into a cell, and gives what it had.
@@ -64,6 +70,10 @@ impl Cells {
         ensures was { result ≡ cell_at self.old lane place }
         ensures cells { self.new ≡ slice_set self.old lane (slice_set (cells_at self.old lane) place content) }
     {
-        mem::replace(&mut self.lanes[lane][place], content)
+        let key = self.keys[PARTIAL_MAX * lane + place];
+        match self.slab.get_mut(key) {
+            Some(cell) => mem::replace(cell, content),
+            None => None,
+        }
     }
 }
