@@ -13,3 +13,6 @@ pub use cells::LANES;
 pub use piece::Key;
 pub use pool::Pool;
 pub use taken::{PoolFault, Taken};
+
+#[cfg(test)]
+mod tests;
