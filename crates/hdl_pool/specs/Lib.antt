@@ -4,3 +4,4 @@ pub mod Arrival
 pub mod Assembly
 pub mod Cells
 pub mod Store
+pub mod Laws

@@ -17,12 +17,7 @@ fn message(alloc: Global, len: usize) -> Result<Vec<u8>, AllocError> {
 }
 
 /// The frame that carries the piece of a message with this number, in SessionId 9.
-fn piece(
-    alloc: Global,
-    request: u32,
-    number: u32,
-    message: &[u8],
-) -> Result<Vec<u8>, AllocError> {
+fn piece(alloc: Global, request: u32, number: u32, message: &[u8]) -> Result<Vec<u8>, AllocError> {
     let len = message.len().min(65536) as u32;
     let mut octets = Vec::new(alloc);
     octets.extend_from_slice(&[2, 1, 0x20, 0, 0, 0, 0, 9])?;
