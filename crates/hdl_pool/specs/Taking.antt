@@ -61,11 +61,11 @@ abbrev pub taken : List Partial → Piece → Fate × List Partial
 taken lane piece = let after = grown (so_far lane piece) piece in settled lane piece.key after.0 after.1
 
 -- the whole message, if the piece makes it whole
-abbrev pub message_of : Fate → Option (List ℕ)
-message_of (made_whole message) = Some message
-message_of kept = None
-message_of ignored = None
-message_of displaced = None
+abbrev pub whole_message : Fate → Option (List ℕ)
+whole_message (made_whole message) = Some message
+whole_message kept = None
+whole_message ignored = None
+whole_message displaced = None
 
 -- the lane without the partial message of this key
 abbrev pub freed : List Partial → Key → List Partial
