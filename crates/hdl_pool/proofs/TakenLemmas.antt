@@ -76,7 +76,7 @@ grown_if : (b : Bool) (p more : Partial) (o : Option (List ℕ)) → (counts b p
 grown_if true p more o other = refl
 grown_if false p more o other = grown_or p more o other
 
-grown_stays : (p : Partial) (piece : Piece) → (grown p piece).0 ≢ kept → (grown p piece).1 ≡ p
+pub grown_stays : (p : Partial) (piece : Piece) → (grown p piece).0 ≢ kept → (grown p piece).1 ≡ p
 grown_stays p piece other = grown_if (is_ignored p piece) p (with_piece p piece) (whole (with_piece p piece)) other
 
 -- ---- a piece of a message that is there
@@ -140,10 +140,10 @@ found_lanes c mid new lane place piece p more lt fours first was out back is =
 
 -- ---- a piece of a message that isn't there
 
-stored_missed : (lane : List Partial) (key : Key) (more : Partial) → find (is_of key) lane ≡ None → stored lane key more ≡ begun lane more
+pub stored_missed : (lane : List Partial) (key : Key) (more : Partial) → find (is_of key) lane ≡ None → stored lane key more ≡ begun lane more
 stored_missed lane key more missed = rw missed refl
 
-taken_missed : (lane : List Partial) (piece : Piece) (first : Partial) → find (is_of piece.key) lane ≡ None → first ≡ nothing_of piece.key piece.length → taken lane piece ≡ settled lane piece.key (grown first piece).0 (grown first piece).1
+pub taken_missed : (lane : List Partial) (piece : Piece) (first : Partial) → find (is_of piece.key) lane ≡ None → first ≡ nothing_of piece.key piece.length → taken lane piece ≡ settled lane piece.key (grown first piece).0 (grown first piece).1
 taken_missed lane piece first missed new = rw (missed, new) refl
 
 pub missed_kept : (c : Lanes) (lane : ℕ) (piece : Piece) (first more : Partial) → lane < 64 → AreFours c → None ≡ position (holds piece.key) (cells_at c lane) → first ≡ nothing_of piece.key piece.length

@@ -1,10 +1,10 @@
 -- What follows from the definitions: a partial message is what came of it, and what makes it whole gives the message of its
 -- pieces (docs/PROTOCOL.md, "Frames and pieces").
-use Rattle.std.specs.Prelude.{◌≡◌, ℕ, ◌≤◌, List, [], ◌∷◌, ◌++◌, length, find, Some, None}
+use Rattle.std.specs.Prelude.{◌≡◌, ◌≢◌, ℕ, ◌≤◌, List, [], ◌∷◌, ◌++◌, length, find, Some, None}
 use Rattle.hdl_frame.specs.Whole.{Piece as Numbered, payload_of, payloads_of, MakeMessage, HaveTheirLength}
 use Rattle.hdl_pool.specs.declared.piece.Key.{Key}
 use Rattle.hdl_pool.specs.Partial.{Piece, Partial, IsPiece, is_of, nothing_of}
-use Rattle.hdl_pool.specs.Taking.{made_whole, kept, ignored, grown, taken, freed}
+use Rattle.hdl_pool.specs.Taking.{made_whole, kept, ignored, displaced, so_far, grown, taken, freed}
 
 -- a piece among those of its message
 abbrev pub numbered : Piece → Numbered
@@ -37,6 +37,14 @@ WholeIsMessage = (pieces : List Numbered) (piece : Piece) (message : List ℕ) �
 abbrev pub MessageIsWhole : Type 0
 MessageIsWhole = (pieces : List Numbered) (piece : Piece) (message : List ℕ) → IsPiece piece → payload_of pieces piece.number ≡ None
     → MakeMessage (pieces ++ numbered piece ∷ []) piece.length message → (grown (collected piece.key piece.length pieces) piece).0 ≡ made_whole message
+
+-- what came of a message is what came before the piece, grown by the piece
+abbrev pub TakenIsSoFar : Type 0
+TakenIsSoFar = (lane : List Partial) (piece : Piece) → so_far (taken lane piece).1 piece ≡ (grown (so_far lane piece) piece).1
+
+-- a piece that displaces nothing changes no other message of its lane
+abbrev pub OthersStay : Type 0
+OthersStay = (lane : List Partial) (piece : Piece) (key : Key) → key ≢ piece.key → (taken lane piece).0 ≢ displaced → find (is_of key) (taken lane piece).1 ≡ find (is_of key) lane
 
 -- what was freed isn't found
 abbrev pub FreedIsGone : Type 0

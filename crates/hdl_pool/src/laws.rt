@@ -1,6 +1,6 @@
 //! Laws over the definitions of partial messages, each the contract of a function without a body.
 
-ghost use Rattle.hdl_pool.specs.Laws.{NothingCame, KeptIsCollected, RepeatedIsIgnored, WholeIsMessage, MessageIsWhole, FreedIsGone, AtMostFour};
+ghost use Rattle.hdl_pool.specs.Laws.{NothingCame, KeptIsCollected, RepeatedIsIgnored, WholeIsMessage, MessageIsWhole, TakenIsSoFar, OthersStay, FreedIsGone, AtMostFour};
 
 /// Before the first piece nothing of a message came.
 pub fn nothing_came()
@@ -25,6 +25,16 @@ pub fn whole_is_message()
 /// The message that the pieces make with a last one is whole.
 pub fn message_is_whole()
     ensures { MessageIsWhole }
+{}
+
+/// What came of a message is what came before the piece, grown by the piece.
+pub fn taken_is_so_far()
+    ensures { TakenIsSoFar }
+{}
+
+/// A piece that displaces nothing changes no other message of its lane.
+pub fn others_stay()
+    ensures { OthersStay }
 {}
 
 /// What was freed isn't found.
