@@ -1,15 +1,15 @@
 -- What becomes of a piece, by where its message stands.
-use Rattle.std.proofs.Common.{◌≡◌, ◌≢◌, ℕ, zero, suc, ◌<◌, Bool, true, false, cond, List, [], ◌∷◌, length, set, get_or, find, Option, Some, None, refl, sym, ap, ◌∙◌, arith}
+use Rattle.std.proofs.Common.{◌≡◌, ◌≢◌, ◌/◌, ℕ, zero, suc, ◌+◌, ◌<◌, ◌≤◌, Bool, true, false, cond, List, [], ◌∷◌, length, set, get_or, find, Option, Some, None, refl, sym, ap, ◌∙◌, arith}
 use Rattle.std.specs.Prelude.{position, Result, Ok, Err, OnOk, OnErr}
 use Rattle.std.specs.Option.{option_map_or}
-use Rattle.std.proofs.lemmas.Bool.{ltb-false}
-use Rattle.std.proofs.lemmas.List.{length-set, get_or-set_same, set-set, set-get_or}
+use Rattle.std.proofs.lemmas.Bool.{eq-eqb, ltb-false}
+use Rattle.std.proofs.lemmas.List.{append-nil, length-set, get_or-set_same, set-set, set-get_or}
 use Rattle.std.proofs.lemmas.List.Quantifiers.{position-Some}
 use Rattle.std.proofs.lemmas.List.Sums.{fails_before_first}
 use Rattle.hdl_pool.specs.declared.piece.Key.{Key}
 use Rattle.hdl_pool.specs.declared.taken.Taken.{Taken}
 use Rattle.hdl_pool.specs.declared.taken.Taken.TheVariants.{Whole, Kept, Ignored, Displaced}
-use Rattle.hdl_pool.specs.Partial.{Piece, Partial, is_of, nothing_of, whole}
+use Rattle.hdl_pool.specs.Partial.{Piece, Partial, IsPiece, is_of, nothing_of, whole}
 use Rattle.hdl_pool.specs.Taking.{Fate, made_whole, kept, ignored, displaced, lane_at, is_ignored, with_piece, grown, replaced, begun, stored, settled, taken, fate_of}
 use Rattle.hdl_pool.specs.Cells.{cells_at, cell_at, contents, lanes_of, AreFours, holds}
 use Rattle.hdl_pool.proofs.CellLemmas.{Cell, Lanes, lane-lanes_of, lanes_of-set, fours_set}
@@ -167,6 +167,18 @@ missed_other c lane piece first fate lt fours none new is other =
     let same : taken (lane_at (lanes_of c) lane) piece ≡ (fate, lane_at (lanes_of c) lane) =
     taken_missed (lane_at (lanes_of c) lane) piece first missed new ∙ rw (← is) (settled_other (lane_at (lanes_of c) lane) piece.key fate (grown first piece).1 other) in
     rw same (refl, sym (set-get_or (lanes_of c) lane []))
+
+-- the one piece of a message is the message
+one_grown : (piece : Piece) → IsPiece piece → piece.length ≤ 492 → made_whole piece.payload ≡ (grown (nothing_of piece.key piece.length) piece).0
+one_grown piece fits short =
+    let first : piece.number ≡ 0 = omega (arith, fits.begins) in
+    let count : (piece.length + 491) / 492 ≡ 1 = omega (arith, fits.begins) in
+    rw (eq-eqb piece.length piece.length refl, count, first, append-nil piece.payload) refl
+
+pub missed_one : (c : Lanes) (lane : ℕ) (piece : Piece) → lane < 64 → AreFours c → None ≡ position (holds piece.key) (cells_at c lane) → IsPiece piece → piece.length ≤ 492
+    → (made_whole piece.payload ≡ (taken (lane_at (lanes_of c) lane) piece).0) × (lanes_of c ≡ set (lanes_of c) lane (taken (lane_at (lanes_of c) lane) piece).1)
+missed_one c lane piece lt fours none fits short =
+    missed_other c lane piece (nothing_of piece.key piece.length) (made_whole piece.payload) lt fours none refl (one_grown piece fits short) (λ e. cc)
 
 pub fate-not_kept : (t : Taken) → t ≢ Kept → fate_of t ≢ kept
 fate-not_kept (Whole message) other e = absurd (cc)

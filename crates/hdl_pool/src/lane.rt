@@ -10,6 +10,7 @@ use crate::assembly::Assembly;
 use crate::cells::{Cells, LANES, PARTIAL_MAX};
 use crate::piece::{Arrival, Key};
 use crate::taken::Taken;
+use hdl_frame::PIECE_LEN;
 use std::alloc::{AllocError, Global};
 
 impl Cells {
@@ -133,6 +134,9 @@ impl Cells {
         ensures unchanged { OnErr result (self.new ≡ self.old) }
         ensures fours { AreFours self.new }
     {
+        if piece.message_len <= PIECE_LEN {
+            return Ok(Taken::Whole(Vec::from_slice(alloc, piece.payload)?));
+        }
         let mut first = Assembly::new(alloc, piece.key, piece.message_len)?;
         match first.take(alloc, piece)? {
             Taken::Kept => Ok(self.store(lane, first)),
