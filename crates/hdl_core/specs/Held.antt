@@ -1,5 +1,6 @@
 -- What is held of all lanes: of each its publisher and its state.
 use Rattle.std.specs.Prelude.{ℕ, List, [], ◌∷◌, false, get_or, set}
+use Rattle.hdl_pool.specs.Partial.{Partial}
 use Rattle.hdl_slots.specs.Lanes as slots
 use Rattle.hdl_laws.specs.Lanes.{LaneState, fresh}
 use Rattle.hdl_core.specs.declared.lane.Lane.{Lane}
@@ -8,14 +9,15 @@ pub record Held : Type 0 where
   pub publisher : ℕ
   pub state : LaneState
 
--- a lane, and its challenges
-abbrev pub held : Lane → slots.LaneState → Held
-held lane challenges = record { publisher = lane.publisher; state = record { is_open = lane.is_open; challenges = challenges } }
+-- a lane, its partial messages and its challenges
+abbrev pub held : Lane → List Partial → slots.LaneState → Held
+held lane partials challenges = record { publisher = lane.publisher; state = record { is_open = lane.is_open; partials = partials; challenges = challenges } }
 
-abbrev pub held_lanes : List Lane → List slots.LaneState → List Held
-held_lanes [] all = []
-held_lanes (lane ∷ lanes) [] = []
-held_lanes (lane ∷ lanes) (challenges ∷ all) = held lane challenges ∷ held_lanes lanes all
+abbrev pub held_lanes : List Lane → List (List Partial) → List slots.LaneState → List Held
+held_lanes [] pool all = []
+held_lanes (lane ∷ lanes) [] all = []
+held_lanes (lane ∷ lanes) (partials ∷ pool) [] = []
+held_lanes (lane ∷ lanes) (partials ∷ pool) (challenges ∷ all) = held lane partials challenges ∷ held_lanes lanes pool all
 
 -- what is held of the lane with this number
 abbrev pub held_at : List Held → ℕ → Held

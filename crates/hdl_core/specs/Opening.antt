@@ -37,6 +37,6 @@ abbrev pub first_lanes : Register → ℕ → List Lane
 first_lanes r zero = []
 first_lanes r (suc n) = first_lanes r n ++ record { publisher = unwrap_or (register.owner r n) 0; is_open = false } ∷ []
 
--- lanes without challenges
+-- lanes without partial messages and challenges
 abbrev pub closed_lanes : List Lane → List Held
-closed_lanes lanes = map (λ lane. held lane slots.fresh) lanes
+closed_lanes lanes = map (λ lane. held lane [] slots.fresh) lanes

@@ -9,6 +9,8 @@ use Rattle.hdl_msg.specs.Message.{Content, SpellsRequest}
 use Rattle.hdl_msg.specs.declared.replies.ReplyContent.TheVariants.{Empty}
 use Rattle.hdl_msg.specs.Reply.{reply_envelope, reply_octets, short_reply}
 use Rattle.hdl_rows.specs.Table.{Table}
+use Rattle.hdl_pool.specs.Partial.{Partial, key_of, piece_of}
+use Rattle.hdl_pool.specs.Taking.{Fate, taken, whole_message, freed}
 use Rattle.hdl_slots.specs.declared.pending.Pending.{Pending}
 use Rattle.hdl_slots.specs.Lanes.{challenged, challenge_of, spent}
 use Rattle.hdl_tenants.specs.Register.{Hosting, hosts_among}
@@ -23,7 +25,7 @@ use Rattle.hdl_laws.specs.declared.events.What.TheVariants.{Open, Bad, Close}
 use Rattle.hdl_laws.specs.declared.events.Event.{Event}
 use Rattle.hdl_laws.specs.declared.events.Outcome.{Outcome}
 use Rattle.hdl_laws.specs.declared.events.Outcome.TheVariants.{Reply, Busy, Silent, CloseAfter}
-use Rattle.hdl_laws.specs.Lanes.{LaneState, fresh}
+use Rattle.hdl_laws.specs.Lanes.{LaneState, fresh, with_partials}
 
 -- what a frame event brings
 pub record Received : Type 0 where
@@ -124,11 +126,20 @@ IsMessageTask s m (Some r) k = IsRequestTask s m r (response_of r.operation) k
 abbrev pub IsLetterTask : LaneState → Letter → Task → Type 0
 IsLetterTask s m k = (o : Option Content) × IsReading (SpellsRequest m.message) o × IsMessageTask s m o k
 
--- a frame, by its message; a piece of a message is not taken yet
+-- a piece, by the message that it makes whole; the lane's partial message of its key is then gone
+abbrev pub IsWholeTask : LaneState → LaneState → Received → Option (List ℕ) → Task → Type 0
+IsWholeTask kept gone x None k = k ≡ Ignore kept
+IsWholeTask kept gone x (Some message) k = IsLetterTask gone (letter x message) k
+
+-- a piece, by what becomes of it
+abbrev pub IsPieceTask : LaneState → Received → Fate × List Partial → Task → Type 0
+IsPieceTask s x after k = IsWholeTask (with_partials s after.1) (with_partials s (freed s.partials (key_of x.peer (envelope_at x.bytes)))) x (whole_message after.0) k
+
+-- a frame, by its message or by the piece of one that it is
 abbrev pub IsFrameTask : LaneState → Received → Task → Type 0
 IsFrameTask s x k =
     MatchBool (is_truncated (envelope_at x.bytes))
-    (k ≡ Ignore s)
+    (IsPieceTask s x (taken s.partials (piece_of x.peer x.bytes)) k)
     (IsLetterTask s (letter x (drop 20 x.bytes)) k)
 
 -- octets, by the frame that they are or are not

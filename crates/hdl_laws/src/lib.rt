@@ -6,7 +6,8 @@
 //! body, which the service calls.
 //!
 //! What an event comes to before the table is looked at is a `Task`, a challenge and its response among them. It stands on
-//! `hdl_ops` and on `hdl_slots`' definitions of a lane's challenges, and has no state: what is said here is said of any service.
+//! `hdl_ops` and on the definitions of `hdl_pool` and `hdl_slots` of a lane's partial messages and challenges, and has no state:
+//! what is said here is said of any service.
 #![tactic(auto)]
 
 mod events;
