@@ -1,10 +1,15 @@
 -- What serving an event does to its lane and the table.
-use Rattle.std.specs.Prelude.{◌≡◌, ℕ, List, Bool, ◌==◌, true, false, ◌⊎◌, Option}
+use Rattle.std.specs.Prelude.{◌≡◌, ℕ, List, Bool, ◌==◌, true, false, ◌⊎◌, Option, Some, None, Result, Ok, Err}
+use Rattle.std.specs.Option.{option_map_or}
+use Rattle.hdl_frame.specs.declared.envelope.Envelope.{Envelope}
 use Rattle.hdl_frame.specs.Envelope.{envelope_at}
 use Rattle.hdl_frame.specs.Frames.{IsFrame}
 use Rattle.hdl_msg.specs.Message.{Content, SpellsRequest}
 use Rattle.hdl_msg.specs.Reply.{reply_octets, short_reply}
+use Rattle.hdl_pool.specs.Partial.{piece_of}
+use Rattle.hdl_pool.specs.Taking.{taken}
 use Rattle.hdl_rows.specs.Table.{Table}
+use Rattle.hdl_rows.specs.declared.rows.Refused.{Refused}
 use Rattle.hdl_ops.specs.Decisions.{Level, Anyone, Decision, Decides}
 use Rattle.hdl_ops.specs.Requests.{Response}
 use Rattle.hdl_slots.specs.declared.pending.Pending.{Pending}
@@ -13,9 +18,9 @@ use Rattle.hdl_ops.specs.Replies.{digest_of, reply_to, challenge_to}
 use Rattle.hdl_ops.specs.Tables.{apply_if}
 use Rattle.hdl_laws.specs.declared.events.What.{What}
 use Rattle.hdl_laws.specs.declared.events.Outcome.{Outcome}
-use Rattle.hdl_laws.specs.declared.events.Outcome.TheVariants.{Reply, Busy}
+use Rattle.hdl_laws.specs.declared.events.Outcome.TheVariants.{Reply, Busy, Silent}
 use Rattle.hdl_laws.specs.Worlds as worlds
-use Rattle.hdl_laws.specs.Worlds.{Effect, Task, IsReading, redeemed, redeem_task, IsResponseTask, IsTask, IsLetterTask, IsOctetsTask, Does, Received, arrived, moment_of}
+use Rattle.hdl_laws.specs.Worlds.{Effect, Task, IsReading, redeemed, redeem_task, IsResponseTask, IsTask, IsLetterTask, IsPieceTask, IsOctetsTask, Does, Received, arrived, moment_of}
 use Rattle.hdl_laws.specs.Lanes.{LaneState}
 use Rattle.hdl_core.specs.declared.letter.Letter.{Letter}
 use Rattle.hdl_core.specs.declared.hearing.Asked.{Asked}
@@ -64,6 +69,19 @@ IsHeard hosts t s m octets s' t' = (k : Task) × IsLetterTask s m k × Replies h
 abbrev pub HearsAt : (List ℕ → Bool) → Table → List Held → ℕ → worlds.Letter → List ℕ → List Held → Table → Type 0
 HearsAt hosts t lanes number m octets lanes' t' =
     (s' : LaneState) × (lanes' ≡ with_state lanes number s') × IsHeard hosts t (state_at lanes number) m octets s' t'
+
+-- the outcome of a frame with this envelope: its reply if it has one, or busy
+abbrev pub outcome_of : Envelope → Result (Option (List ℕ)) Refused → Outcome
+outcome_of e (Ok (Some octets)) = Reply octets
+outcome_of e (Ok None) = Silent
+outcome_of e (Err refused) = Busy (short_reply 3 e)
+
+-- a piece that came on an open lane has this reply, or none yet
+abbrev pub AssemblesAt : (List ℕ → Bool) → Table → List Held → ℕ → Received → Option (List ℕ) → List Held → Table → Type 0
+AssemblesAt hosts t lanes number x reply lanes' t' =
+    (s' : LaneState) × (lanes' ≡ with_state lanes number s')
+    × ((eff : Effect) × (k : Task) × IsPieceTask (state_at lanes number) x (taken (state_at lanes number).partials (piece_of x.peer x.bytes)) k × Does hosts t k eff
+      × (eff.outcome ≡ option_map_or Reply reply Silent) × (eff.state ≡ s') × (t' ≡ apply_if t x.moment eff.change))
 
 -- octets that came on an open lane have this outcome, or are refused and nothing changed
 abbrev pub IsReceived : (List ℕ → Bool) → Table → LaneState → Received → Outcome → LaneState → Table → Type 0

@@ -1,18 +1,21 @@
 //! Serving one event of one lane.
 
-ghost use Rattle.std.specs.Prelude.{◌≡◌, ◌<◌, drop, length};
+ghost use Rattle.std.specs.Prelude.{◌≡◌, ◌<◌, true, drop, length, IfOk, OnErr};
+ghost use Rattle.hdl_frame.specs.Envelope.{envelope_at, is_truncated};
+ghost use Rattle.hdl_frame.specs.Splitting.{IsFrameOf};
 ghost use Rattle.hdl_msg.specs.Reply.{reply_envelope};
 ghost use Rattle.hdl_tenants.specs.Register.{hosts};
 ghost use Rattle.hdl_core.specs.Held.{held_at};
-ghost use Rattle.hdl_core.specs.Serving.{ReceivesAt, ServesAt};
+ghost use Rattle.hdl_core.specs.Serving.{AssemblesAt, outcome_of, ReceivesAt, ServesAt};
 
 use crate::hearing::hear;
 use crate::lanes::Lanes;
 use crate::letter::Letter;
-use hdl_frame::{ENVELOPE_LEN, Envelope, one_datagram};
+use hdl_frame::{ENVELOPE_LEN, Envelope, Frame, one_datagram};
 use hdl_laws::{Octets, Outcome, What};
 use hdl_msg::{busy, refuse};
-use hdl_ops::{Rows, Tenants};
+use hdl_ops::{Refused, Rows, Tenants};
+use hdl_pool::Taken;
 use std::alloc::Global;
 
 /// The message behind an envelope, in the octets' own memory.
@@ -22,6 +25,51 @@ fn message_of(octets: Octets) -> Vec<u8>
     let mut message = octets.into_vec();
     message.drain(..ENVELOPE_LEN.min(message.len()));
     message
+}
+
+/// A piece of a message that came on an open lane. What came of its message before is forgotten once the whole message is
+/// answered; where that is refused it stands as it was.
+fn assemble<R: Rows>(
+    alloc: Global,
+    tenants: &Tenants,
+    rows: &mut R,
+    lanes: &mut Lanes,
+    number: u16,
+    letter: &Letter,
+    frame: &Frame<'_>,
+) -> Result<Option<Octets>, Refused>
+    requires there { number < length lanes.old }
+    requires frame { IsFrameOf frame.now.bytes.now frame.now }
+    requires piece { is_truncated (envelope_at frame.now.bytes.now) ≡ true }
+    requires envelope { letter.now.envelope ≡ envelope_at frame.now.bytes.now }
+    ensures assembled { IfOk result (λ reply. AssemblesAt (hosts tenants.now (held_at lanes.old number).publisher) (R.content rows.old) lanes.old number (record { peer = letter.now.peer; moment = letter.now.moment; nonce = letter.now.nonce; bytes = frame.now.bytes.now }) reply lanes.new (R.content rows.new)) }
+    ensures undone { OnErr result (R.content rows.new ≡ R.content rows.old) }
+    ensures kept { OnErr result (lanes.new ≡ lanes.old) }
+{
+    let Ok(taken) = lanes.take_piece(number, letter.peer, frame) else {
+        return Err(Refused);
+    };
+    match taken {
+        Taken::Whole(message) => {
+            let reply = hear(alloc, tenants, rows, lanes, number, letter, message)?;
+            lanes.free(number, letter.peer, &letter.envelope);
+            Ok(Some(reply))
+        }
+        Taken::Kept => Ok(None),
+        Taken::Ignored => Ok(None),
+        Taken::Displaced => Ok(None),
+    }
+}
+
+/// The outcome of a frame with this envelope.
+fn outcome_of(envelope: &Envelope, reply: Result<Option<Octets>, Refused>) -> Outcome
+    ensures { result ≡ outcome_of envelope.now reply }
+{
+    match reply {
+        Ok(Some(octets)) => Outcome::Reply(octets),
+        Ok(None) => Outcome::Silent,
+        Err(_) => Outcome::Busy(busy(envelope)),
+    }
 }
 
 /// Octets that came on an open lane.
@@ -43,15 +91,16 @@ fn receive<R: Rows>(
         return Outcome::Silent;
     };
     let envelope = frame.envelope;
-    if envelope.is_truncated() {
-        return Outcome::Silent;
-    }
     let letter = Letter {
         peer,
         moment,
         nonce,
         envelope,
     };
+    if envelope.is_truncated() {
+        let reply = assemble(alloc, tenants, rows, lanes, number, &letter, &frame);
+        return outcome_of(&envelope, reply);
+    }
     let message = message_of(octets);
     match hear(alloc, tenants, rows, lanes, number, &letter, message) {
         Ok(reply) => Outcome::Reply(reply),
