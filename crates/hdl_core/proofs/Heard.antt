@@ -1,6 +1,6 @@
 -- What comes of a message on an open lane.
 use Rattle.std.proofs.Common.{◌≡◌, ℕ, List, [], Bool, true, false, cond, Some, None, Result, Ok, Err, refl, sym, ap, ◌∙◌, subst}
-use Rattle.std.specs.Prelude.{IfOk, OnOk}
+use Rattle.std.specs.Prelude.{IfOk, OnOk, OnErr}
 use Rattle.hdl_msg.specs.Message.{Content, SpellsRequest}
 use Rattle.hdl_msg.specs.Reply.{reply_octets, short_reply}
 use Rattle.hdl_msg.specs.declared.replies.ReplyContent.TheVariants.{Empty}
@@ -29,6 +29,10 @@ on_ok (Err e) P S f p = tt
 pub on_both : {X E : Type 0} (r : Result X E) (P S : X → Type 0) (Q : Type 0) → ((x : X) → P x → Q → S x) → IfOk r P → OnOk r Q → IfOk r S
 on_both (Ok x) P S Q f p q = f x p q
 on_both (Err e) P S Q f p q = tt
+
+pub on_any_err : {X E : Type 0} (r : Result X E) (P : Type 0) → P → OnErr r P
+on_any_err (Ok x) P p = tt
+on_any_err (Err e) P p = p
 
 abbrev Tells : Letter → Content → ℕ → List ℕ → Type 0
 Tells m r code octets = octets ≡ reply_octets (reply_to m.envelope.session m.envelope.request r code Empty)
@@ -123,15 +127,15 @@ module _ (hosts : List ℕ → Bool) (t : Table) (m : Letter) where
 
     pub challenges : (message : List ℕ) (r : Content) (octets digest : List ℕ) (t' : Table) (lanes' : List Held) (asked : Asked) (next : ℕ) → SpellsRequest message r → None ≡ response_of r.operation → asked ≡ Challenged octets digest
         → next ≡ (state_at lanes number).challenges.next → IsAsked hosts t m next r asked t'
-        → lanes' ≡ with_state lanes number (record { is_open = (state_at lanes number).is_open; challenges = challenged (state_at lanes number).challenges (record { peer = m.peer; moment = m.moment; nonce = m.nonce; digest = digest; message = message }) })
+        → lanes' ≡ with_state lanes number (record { is_open = (state_at lanes number).is_open; partials = (state_at lanes number).partials; challenges = challenged (state_at lanes number).challenges (record { peer = m.peer; moment = m.moment; nonce = m.nonce; digest = digest; message = message }) })
         → HearsAt hosts t lanes number (letter_of m message) octets lanes' t'
     challenges message r octets digest t' lanes' asked next spells is same numbered done put =
         let d = subst (λ (x : Asked). IsAsked hosts t m next r x t') same done in
         let m' = letter_of m message in
         let here = state_at lanes number in
-        let sent : LaneState = record { is_open = here.is_open; challenges = challenged here.challenges (pending m' r) } in (
+        let sent : LaneState = record { is_open = here.is_open; partials = here.partials; challenges = challenged here.challenges (pending m' r) } in (
           sent,
-          put ∙ ap (λ (x : List ℕ). with_state lanes number (record { is_open = here.is_open; challenges = challenged here.challenges (record { peer = m.peer; moment = m.moment; nonce = m.nonce; digest = x; message = message }) })) d.4,
+          put ∙ ap (λ (x : List ℕ). with_state lanes number (record { is_open = here.is_open; partials = here.partials; challenges = challenged here.challenges (record { peer = m.peer; moment = m.moment; nonce = m.nonce; digest = x; message = message }) })) d.4,
           (
             Ask m' r here,
             asking message r spells is,

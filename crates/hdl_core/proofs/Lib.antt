@@ -1,5 +1,6 @@
 pub mod HeldLanes
 pub mod Heard
+pub mod Assembled
 pub mod Received
 pub mod Places
 pub mod Steps

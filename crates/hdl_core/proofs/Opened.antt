@@ -138,8 +138,8 @@ owner_within (p ∷ ps) l h = elim (cases_lt l p.lanes) [
       (rest.0 + 1, rw fails (ap (option_map (λ (k : ℕ). k + 1)) rest.1))
 ]
 
-within_map : (lanes : List Lane) (l : ℕ) → slice_get (closed_lanes lanes) l ≡ option_map (λ (x : Lane). held x slots.fresh) (slice_get lanes l)
-within_map lanes l = slice_get-map (λ (x : Lane). held x slots.fresh) lanes l
+within_map : (lanes : List Lane) (l : ℕ) → slice_get (closed_lanes lanes) l ≡ option_map (λ (x : Lane). held x [] slots.fresh) (slice_get lanes l)
+within_map lanes l = slice_get-map (λ (x : Lane). held x [] slots.fresh) lanes l
 
 module _ (r : Register) (t : Table) where
   abbrev count : ℕ
@@ -148,11 +148,11 @@ module _ (r : Register) (t : Table) where
   abbrev lanes : List Held
   lanes = closed_lanes (first_lanes r count)
 
-  there : (l : ℕ) → l < count → slice_get lanes l ≡ Some (held (closed r l) slots.fresh)
-  there l within = within_map (first_lanes r count) l ∙ ap (option_map (λ (x : Lane). held x slots.fresh)) (lane_within r count l within)
+  there : (l : ℕ) → l < count → slice_get lanes l ≡ Some (held (closed r l) [] slots.fresh)
+  there l within = within_map (first_lanes r count) l ∙ ap (option_map (λ (x : Lane). held x [] slots.fresh)) (lane_within r count l within)
 
   none : (l : ℕ) → count ≤ l → slice_get lanes l ≡ None
-  none l past = within_map (first_lanes r count) l ∙ ap (option_map (λ (x : Lane). held x slots.fresh)) (lane_past r count l past)
+  none l past = within_map (first_lanes r count) l ∙ ap (option_map (λ (x : Lane). held x [] slots.fresh)) (lane_past r count l past)
 
   owners : (l : ℕ) → owner (world_of r lanes t).site l ≡ register.owner r l
   owners l = owner_of r lanes t l ∙ elim (cases_lt l count) [

@@ -1,5 +1,5 @@
 -- What comes of octets on an open lane, and of an event of a lane.
-use Rattle.std.proofs.Common.{◌≡◌, ℕ, List, Bool, true, false, cond, drop, None, refl, sym, ap, ◌∙◌, subst, inl, inr, MatchBool}
+use Rattle.std.proofs.Common.{◌≡◌, ℕ, List, Bool, true, false, cond, drop, Option, Some, None, Result, Ok, Err, refl, sym, ap, ◌∙◌, subst, inl, inr, MatchBool}
 use Rattle.hdl_frame.specs.declared.envelope.Envelope.{Envelope}
 use Rattle.hdl_frame.specs.declared.frame.Frame.{Frame}
 use Rattle.hdl_frame.specs.Envelope.{envelope_at, is_truncated}
@@ -16,7 +16,10 @@ use Rattle.hdl_laws.specs.Worlds as worlds
 use Rattle.hdl_laws.specs.Worlds.{Received, Task, Ignore, Break, Effect, IsFrameTask, IsOctetsTask, arrived}
 use Rattle.hdl_core.specs.declared.letter.Letter.{Letter}
 use Rattle.hdl_core.specs.Held.{Held, state_at, with_state}
-use Rattle.hdl_core.specs.Serving.{letter_of, HearsAt, ReceivesAt, ServesAt}
+use Rattle.std.specs.Prelude.{IfOk, OnErr}
+use Rattle.std.specs.Option.{option_map_or}
+use Rattle.hdl_rows.specs.declared.rows.Refused.{Refused}
+use Rattle.hdl_core.specs.Serving.{letter_of, outcome_of, AssemblesAt, HearsAt, ReceivesAt, ServesAt}
 use Rattle.hdl_core.proofs.HeldLanes.{kept}
 
 when_true : (b : Bool) (P Q : Type 0) → b ≡ true → P → MatchBool b P Q
@@ -37,8 +40,20 @@ module _ (hosts : List ℕ → Bool) (t : Table) (lanes : List Held) (number : �
     pub no_frame : ¬ IsFrame x.bytes → ReceivesAt hosts t lanes number x Silent lanes t
     no_frame none = ignored (inr (none, refl))
 
-    pub piece : (f : Frame) → IsFrameOf x.bytes f → is_truncated f.envelope ≡ true → ReceivesAt hosts t lanes number x Silent lanes t
-    piece f found e = ignored (inl (found.frame, when_true (is_truncated (envelope_at x.bytes)) _ _ (sym (ap is_truncated found.envelope) ∙ e) refl))
+    pub refused : (f : Frame) (o : Outcome) (lanes' : List Held) (t' : Table) → IsFrameOf x.bytes f → o ≡ Busy (short_reply 3 f.envelope) → lanes' ≡ lanes → t' ≡ t → ReceivesAt hosts t lanes number x o lanes' t'
+    refused f o lanes' t' found busy same table =
+        (state_at lanes number, same ∙ kept lanes number, inr (found.frame, busy ∙ ap (λ (n : Envelope). Busy (short_reply 3 n)) found.envelope, refl, table))
+
+    assembled : (f : Frame) (reply : Option (List ℕ)) (o : Outcome) (lanes' : List Held) (t' : Table) → IsFrameOf x.bytes f → is_truncated f.envelope ≡ true → o ≡ option_map_or Reply reply Silent
+        → AssemblesAt hosts t lanes number x reply lanes' t' → ReceivesAt hosts t lanes number x o lanes' t'
+    assembled f reply o lanes' t' found e is (s', same, (eff, k, task, does, out, state, table)) =
+        (s', same, inl (eff, k, inl (found.frame, when_true (is_truncated (envelope_at x.bytes)) _ _ (sym (ap is_truncated found.envelope) ∙ e) task), does, is ∙ sym out, sym state, table))
+
+    pub piece : (f : Frame) (reply : Result (Option (List ℕ)) Refused) (o : Outcome) (lanes' : List Held) (t' : Table) → IsFrameOf x.bytes f → is_truncated f.envelope ≡ true → o ≡ outcome_of f.envelope reply
+        → IfOk reply (λ octets. AssemblesAt hosts t lanes number x octets lanes' t') → OnErr reply (t' ≡ t) → OnErr reply (lanes' ≡ lanes) → ReceivesAt hosts t lanes number x o lanes' t'
+    piece f (Ok (Some octets)) o lanes' t' found e is done undone kept = assembled f (Some octets) o lanes' t' found e is done
+    piece f (Ok None) o lanes' t' found e is done undone kept = assembled f None o lanes' t' found e is done
+    piece f (Err refusal) o lanes' t' found e is done undone same = refused f o lanes' t' found is same undone
 
     pub heard : (f : Frame) (m : Letter) (message octets : List ℕ) (lanes' : List Held) (t' : Table) → IsFrameOf x.bytes f → is_truncated f.envelope ≡ false → message ≡ drop 20 x.bytes
         → m ≡ record { peer = x.peer; moment = x.moment; nonce = x.nonce; envelope = f.envelope }
@@ -50,10 +65,6 @@ module _ (hosts : List ℕ → Bool) (t : Table) (lanes : List Held) (number : �
           h.1,
           inl (h.2.2.0, h.2.0, inl (found.frame, when_false (is_truncated (envelope_at x.bytes)) _ _ (sym (ap is_truncated found.envelope) ∙ e) h.2.1), h.2.2.1, sym h.2.2.2, sym h.2.2.3, h.2.2.4),
         )
-
-    pub refused : (f : Frame) (o : Outcome) (lanes' : List Held) (t' : Table) → IsFrameOf x.bytes f → o ≡ Busy (short_reply 3 f.envelope) → lanes' ≡ lanes → t' ≡ t → ReceivesAt hosts t lanes number x o lanes' t'
-    refused f o lanes' t' found busy same table =
-        (state_at lanes number, same ∙ kept lanes number, inr (found.frame, busy ∙ ap (λ (n : Envelope). Busy (short_reply 3 n)) found.envelope, refl, table))
 
   -- ---- an event of a lane
 

@@ -44,5 +44,6 @@ returns-in-Challenged-clause-heard g c =
     (subst (λ (b : List ℕ). SpellsRequest b r) c.deref.ensures.value c.in-Ok.ensures.read) is c.in-Challenged.is c.next_number-next.ensures asked
     (c.challenge.ensures ∙ ap (λ (message : List ℕ). with_state c.args.lanes.now c.args.number (record {
       is_open = (state_at c.args.lanes.now c.args.number).is_open;
+      partials = (state_at c.args.lanes.now c.args.number).partials;
       challenges = challenged (state_at c.args.lanes.now c.args.number).challenges (record { peer = c.args.letter.now.peer; moment = c.args.letter.now.moment; nonce = c.args.letter.now.nonce; digest = c.in-Challenged.digest; message = message });
     })) c.new.ensures)

@@ -5,7 +5,9 @@ use Rattle.hdl_tenants.specs.Register.{hosts}
 use Rattle.hdl_laws.specs.declared.events.Outcome.TheVariants.{Busy}
 use Rattle.hdl_laws.specs.Worlds.{Received}
 use Rattle.hdl_core.specs.declared.letter.Letter.{Letter}
+use Rattle.std.specs.Prelude.{IfOk}
 use Rattle.hdl_core.specs.Held.{held_at}
+use Rattle.hdl_core.specs.Serving.{AssemblesAt}
 use Rattle.hdl_core.proofs.Received.{no_frame, piece, heard, refused}
 use Rattle.hdl_core.proofs.serving.receive.Goals as goal
 
@@ -18,8 +20,13 @@ returns-in_default g c =
 pub returns-then-is_truncated : goal.returns-then-is_truncated
 returns-then-is_truncated g c =
     let x : Received = record { peer = c.args.peer; moment = c.args.moment; nonce = c.args.nonce; bytes = c.args.octets } in
-    piece (hosts c.args.tenants.now (held_at c.args.lanes.now c.args.number).publisher) (g.R.Rows.content c.args.rows.now) c.args.lanes.now c.args.number x c.in-Ok.frame
-    (subst (λ (b : List ℕ). IsFrameOf b c.in-Ok.frame) c.as_slice.ensures c.in-Ok.ensures.ok) (sym c.is_truncated.ensures ∙ c.if-is_truncated.true)
+    let found = subst (λ (b : List ℕ). IsFrameOf b c.in-Ok.frame) c.as_slice.ensures c.in-Ok.ensures.ok in
+    let assembled =
+    subst
+    (λ (b : List ℕ). IfOk c.assemble-reply.result (λ reply. AssemblesAt (hosts c.args.tenants.now (held_at c.args.lanes.now c.args.number).publisher) (g.R.Rows.content c.args.rows.now) c.args.lanes.now c.args.number (record { peer = c.args.peer; moment = c.args.moment; nonce = c.args.nonce; bytes = b }) reply c.assemble-reply.new.lanes (g.R.Rows.content c.assemble-reply.new.rows)))
+    found.bytes c.assemble-reply.ensures.assembled in
+    piece (hosts c.args.tenants.now (held_at c.args.lanes.now c.args.number).publisher) (g.R.Rows.content c.args.rows.now) c.args.lanes.now c.args.number x c.in-Ok.frame c.assemble-reply.result c.outcome_of.result c.assemble-reply.new.lanes (g.R.Rows.content c.assemble-reply.new.rows)
+    found (sym c.is_truncated.ensures ∙ c.if-is_truncated.true) c.outcome_of.ensures assembled c.assemble-reply.ensures.undone c.assemble-reply.ensures.kept
 
 pub returns-in-Ok-hear : goal.returns-in-Ok-hear
 returns-in-Ok-hear g c =
