@@ -142,7 +142,7 @@ fn malformed_messages(rt: HostRuntime) -> Result<(), Fail> {
     Ok(())
 }
 
-/// Octets that are not one frame, and a piece of a message.
+/// Octets that are not one frame; and a piece that is a whole message.
 #[test]
 fn silent_frames(rt: HostRuntime) -> Result<(), Fail> {
     let script = behind_tenants(
@@ -155,7 +155,7 @@ fn silent_frames(rt: HostRuntime) -> Result<(), Fail> {
         "silent",
         script.as_bytes(),
         0,
-        "0 silent\n0 silent\n0 silent\n0 silent\n",
+        "0 silent\n0 silent\n0 silent\n0 reply 02010000000000000000000100000000000000200000000100000064000000000000000000000000000000040000000000000000\n",
         "",
     )?;
     Ok(())

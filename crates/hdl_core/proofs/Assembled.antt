@@ -65,12 +65,15 @@ module _ (hosts : List ℕ → Bool) (t : Table) (s : LaneState) (p : List Parti
       outcome_by : (b : Bool) → (cond {A = Effect} b (challenge_effect (with_partials s p) m r) (answer_effect (with_partials s p) m r d)).outcome ≡ (cond {A = Effect} b (challenge_effect s m r) (answer_effect s m r d)).outcome
       outcome_by true = refl
       outcome_by false = refl
+
       state_by : (b : Bool) → (cond {A = Effect} b (challenge_effect (with_partials s p) m r) (answer_effect (with_partials s p) m r d)).state ≡ with_partials (cond {A = Effect} b (challenge_effect s m r) (answer_effect s m r d)).state p
       state_by true = refl
       state_by false = refl
+
       change_by : (b : Bool) → (cond {A = Effect} b (challenge_effect (with_partials s p) m r) (answer_effect (with_partials s p) m r d)).change ≡ (cond {A = Effect} b (challenge_effect s m r) (answer_effect s m r d)).change
       change_by true = refl
       change_by false = refl
+
       same_by : (b : Bool) → (cond {A = Effect} b (challenge_effect s m r) (answer_effect s m r d)).state.partials ≡ s.partials
       same_by true = refl
       same_by false = refl
@@ -95,7 +98,7 @@ module _ (hosts : List ℕ → Bool) (t : Table) (s : LaneState) (p : List Parti
     Some r,
     spells,
     subst (λ x. IsRequestTask (with_partials s p) m r x (redeem_task (with_partials s p) m a c o)) (sym is)
-      (subst (λ x. IsResponseTask (with_partials s p) m r a x (redeem_task (with_partials s p) m a c o)) (sym there) (o, reading, refl)),
+        (subst (λ x. IsResponseTask (with_partials s p) m r a x (redeem_task (with_partials s p) m a c o)) (sym there) (o, reading, refl)),
   )
 
   redeems : (r : Content) (a : Response) (c : Pending) (o : Option Content) → SpellsRequest m.message r → response_of r.operation ≡ Some a → challenge_of s.challenges.challenges m.peer m.envelope.session ≡ Some c
@@ -209,13 +212,13 @@ module _ (hosts : List ℕ → Bool) (t : Table) (lanes : List Held) (number : �
       ap (λ (ls : List Held). (held_at ls number).publisher) same ∙ ap (λ (h : Held). h.publisher) (get_or-set_same lanes number (record { publisher = (held_at lanes number).publisher; state = s' }) (record { publisher = 0; state = fresh false }) there) in (
         with_partials s' gone,
         free
-        ∙ (λ i. set (same i) number (record { publisher = owner i; state = freed_now i }))
-        ∙ set-set lanes number (record { publisher = (held_at lanes number).publisher; state = s' }) (record { publisher = (held_at lanes number).publisher; state = with_partials s' gone }),
+            ∙ (λ i. set (same i) number (record { publisher = owner i; state = freed_now i }))
+            ∙ set-set lanes number (record { publisher = (held_at lanes number).publisher; state = s' }) (record { publisher = (held_at lanes number).publisher; state = with_partials s' gone }),
         (
           mv.effect,
           mv.task,
           subst (λ o. IsWholeTask (with_partials here after.1) (with_partials here gone) x o mv.task) (ap whole_message is)
-            (subst (λ (l : worlds.Letter). IsLetterTask (with_partials here gone) l mv.task) (λ i. record { peer = m.peer; moment = m.moment; nonce = m.nonce; envelope = envelope i; message = message }) mv.is_task),
+              (subst (λ (l : worlds.Letter). IsLetterTask (with_partials here gone) l mv.task) (λ i. record { peer = m.peer; moment = m.moment; nonce = m.nonce; envelope = envelope i; message = message }) mv.is_task),
           mv.does,
           mv.outcome ∙ out,
           mv.state ∙ ap (λ (s : LaneState). with_partials s gone) state,

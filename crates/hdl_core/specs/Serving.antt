@@ -81,7 +81,7 @@ abbrev pub AssemblesAt : (List ℕ → Bool) → Table → List Held → ℕ →
 AssemblesAt hosts t lanes number x reply lanes' t' =
     (s' : LaneState) × (lanes' ≡ with_state lanes number s')
     × ((eff : Effect) × (k : Task) × IsPieceTask (state_at lanes number) x (taken (state_at lanes number).partials (piece_of x.peer x.bytes)) k × Does hosts t k eff
-      × (eff.outcome ≡ option_map_or Reply reply Silent) × (eff.state ≡ s') × (t' ≡ apply_if t x.moment eff.change))
+    × (eff.outcome ≡ option_map_or Reply reply Silent) × (eff.state ≡ s') × (t' ≡ apply_if t x.moment eff.change))
 
 -- octets that came on an open lane have this outcome, or are refused and nothing changed
 abbrev pub IsReceived : (List ℕ → Bool) → Table → LaneState → Received → Outcome → LaneState → Table → Type 0
