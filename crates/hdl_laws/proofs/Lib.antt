@@ -6,3 +6,6 @@ pub mod Writes
 pub mod Steps
 pub mod Restriction
 pub mod Isolation
+pub mod Codes
+pub mod Twins
+pub mod TwinRuns

@@ -1,6 +1,6 @@
 //! Laws over whole runs, each the contract of a function without a body.
 
-ghost use Rattle.hdl_laws.specs.Laws.{JoinsRuns, KeepsCovers, RestrictsRuns, LonelyIsOne, TwoRunsAgree};
+ghost use Rattle.hdl_laws.specs.Laws.{JoinsRuns, KeepsCovers, RestrictsRuns, LonelyIsOne, TwoRunsAgree, TwinsReplyAlike};
 
 /// Two runs in a row are one run of the joined events.
 pub fn runs_joined()
@@ -18,4 +18,10 @@ pub fn restricted()
     ensures alone { RestrictsRuns }
     ensures one { LonelyIsOne }
     ensures two_runs { TwoRunsAgree }
+{}
+
+/// Runs of the same events from twins, with the same codes, have the same octets and end in twins: beyond its code no reply
+/// depends on a value that its caller may not read.
+pub fn twin_replies()
+    ensures { TwinsReplyAlike }
 {}
