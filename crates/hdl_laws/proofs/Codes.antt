@@ -1,7 +1,7 @@
 -- The codes of outcomes: each stands at its place, and no answer has that of busy.
-use Rattle.std.proofs.Common.{◌≡◌, ℕ, List, [], ◌∷◌, Bool, true, false, cond, not, ◌&&◌, ◌==◌, Option, Some, None, refl, sym, ap, ◌∙◌, subst, T, IsTrue, eqb→eq, arith}
+use Rattle.std.proofs.Common.{◌≡◌, ℕ, List, [], ◌∷◌, Bool, true, false, cond, not, ◌&&◌, ◌==◌, Option, Some, None, refl, sym, ap, ◌∙◌, IsTrue, arith}
 use Rattle.std.specs.Prelude.{nat_lt}
-use Rattle.std.proofs.lemmas.Bool.Decides.{nat_tests}
+use Rattle.std.proofs.lemmas.Bool.{eqb-true, ltb-true, not-true, and_parts}
 use Rattle.std.proofs.lemmas.Nat.{from_be_bytes-to_be_bytes_4}
 use Rattle.hdl_frame.specs.declared.envelope.Envelope.{Envelope}
 use Rattle.hdl_frame.specs.Envelope.{envelope_octets}
@@ -30,23 +30,11 @@ use Rattle.hdl_laws.specs.Isolation.{code_of}
 abbrev pub is_answer_code : ℕ → Bool
 is_answer_code c = nat_lt c 1000 && not (c == 3)
 
-first_true : (a b : Bool) → (a && b) ≡ true → a ≡ true
-first_true true b e = refl
-first_true false b e = e
-
-second_false : (a b : Bool) → (a && not b) ≡ true → b ≡ false
-second_false true true e = sym e
-second_false true false e = refl
-second_false false b e = absurd (Rattle.std.proofs.Common.true≢false (sym e))
-
-below : (c : ℕ) → nat_lt c 1000 ≡ true → IsNumber c
-below c e = grind (arith, nat_tests)
-
 code_fits : (c : ℕ) → IsTrue (is_answer_code c) → IsNumber c
-code_fits c e = below c (first_true _ _ e)
+code_fits c e = let low = ltb-true c 1000 (and_parts _ _ e).0 in omega (arith, low)
 
 pub not_busy : (c : ℕ) → IsTrue (is_answer_code c) → (c == 3) ≡ false
-not_busy c e = second_false (nat_lt c 1000) (c == 3) e
+not_busy c e = not-true (c == 3) (and_parts (nat_lt c 1000) _ e).1
 
 -- ---- the tables of decision
 
@@ -115,9 +103,6 @@ short_code : (e : Envelope) → response_code_at (short_reply 4 e) ≡ 4
 unfolding short_reply envelope_octets header_octets
 short_code e = from_be_bytes-to_be_bytes_4 4 (code_fits 4 refl)
 
-same_number : (a b : ℕ) → a == b ≡ true → a ≡ b
-same_number a b e = eqb→eq _ _ (subst T (sym e) tt)
-
 -- the outcome has the decision's code
 pub answer_code : (s : LaneState) (m : Letter) (r : Content) (d : Decision) → IsTrue (is_answer_code d.code) → code_of (answer_effect s m r d).outcome ≡ d.code
 answer_code s m r d e = reply_code m.envelope.session m.envelope.request r d.code d.content e
@@ -126,7 +111,7 @@ pub ask_code : (s : LaneState) (m : Letter) (r : Content) (d : Decision) → IsT
 ask_code s m r d e = pick (d.code == 402) refl
   where
     pick : (b : Bool) → d.code == 402 ≡ b → code_of (cond {A = Effect} b (challenge_effect s m r) (answer_effect s m r d)).outcome ≡ d.code
-    pick true is = challenge_code _ m.envelope.request r m.nonce ∙ sym (same_number d.code 402 is)
+    pick true is = challenge_code _ m.envelope.request r m.nonce ∙ sym (eqb-true d.code 402 is)
     pick false is = answer_code s m r d e
 
 abbrev has_answer_code : Effect → Bool

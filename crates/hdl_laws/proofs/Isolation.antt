@@ -90,4 +90,4 @@ two_runs_agree w w' ts ts' u C rootless rootless' run run' cover cover' quiet qu
     let end = restrict (last w' ts') u C in
     let b' : Lonely (restrict w u C) (events (turns_of w.site u ts)) os end =
     subst (λ v. Lonely v (events (turns_of w.site u ts)) os end) (sym same) (subst (λ x. Lonely (restrict w' u C) x os end) (sym es) b) in
-    (lonely_is_one (restrict w u C) _ _ _ _ _ a b').0
+    lonely_is_one (restrict w u C) (restrict (last w ts) u C) end (events (turns_of w.site u ts)) (outcomes (turns_of w.site u ts)) os a b'

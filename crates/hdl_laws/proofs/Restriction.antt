@@ -1,5 +1,6 @@
 -- A quiet run in which C is a cover, restricted, is a run of the restricted world.
-use Rattle.std.proofs.Common.{◌≡◌, ℕ, List, [], ◌∷◌, ◌++◌, Bool, true, false, cond, not, ◌&&◌, ◌||◌, ◌==◌, inl, inr, T, Option, Some, None, map, filter, refl, sym, ap, ◌∙◌, subst, IsTrue, IsFalse, true≢false, eqb→eq, unwrap_or}
+use Rattle.std.proofs.Common.{◌≡◌, ℕ, List, [], ◌∷◌, ◌++◌, Bool, true, false, cond, not, ◌&&◌, ◌||◌, ◌==◌, inl, inr, Option, Some, None, map, filter, refl, sym, ap, ◌∙◌, subst, IsTrue, IsFalse, true≢false, unwrap_or}
+use Rattle.std.proofs.lemmas.Bool.{eqb-true}
 use Rattle.std.specs.Ordering.{nat_cmp, eq_by_cmp}
 use Rattle.std.specs.Cmp.{nat_cmp_total}
 use Rattle.std.specs.FinMap as map
@@ -21,12 +22,9 @@ use Rattle.hdl_laws.proofs.Steps.{does_agrees, does_change, does_calm}
 
 -- ---- the restricted site
 
-same_number : (a b : ℕ) → a == b ≡ true → a ≡ b
-same_number a b e = eqb→eq _ _ (subst T (sym e) tt)
-
 owner_mine : (o : Option ℕ) (u : ℕ) → IsTrue (is_owned_by o u) → o ≡ Some u
 owner_mine None u e = absurd (true≢false (sym e))
-owner_mine (Some v) u e = ap Some (same_number v u e)
+owner_mine (Some v) u e = ap Some (eqb-true v u e)
 
 owner_restricted : (s : Site) (u lane : ℕ) → IsTrue (owns s u lane) → owner (restrict_site s u) lane ≡ Some u
 owner_restricted s u lane e =

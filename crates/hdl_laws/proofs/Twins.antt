@@ -1,5 +1,5 @@
 -- Tables that are twins: what is read of them, what is decided on them, and what a write makes of them.
-use Rattle.std.proofs.Common.{◌≡◌, ◌⊎◌, inl, inr, ℕ, List, [], ◌∷◌, Bool, true, false, cond, ◌&&◌, ◌||◌, ◌==◌, T, Option, Some, None, map, filter, refl, sym, ap, ◌∙◌, subst, is_eq, IsTrue, true≢false, eqb→eq, option_map}
+use Rattle.std.proofs.Common.{◌≡◌, ◌⊎◌, inl, inr, ℕ, List, [], ◌∷◌, Bool, true, false, cond, ◌&&◌, ◌||◌, ◌==◌, Option, Some, None, map, filter, refl, sym, ap, ◌∙◌, subst, is_eq, IsTrue, true≢false, option_map}
 use Rattle.std.specs.Prelude.{if◌then◌else◌}
 use Rattle.std.specs.Ordering.{nat_cmp}
 use Rattle.std.specs.FinSet as set
@@ -71,9 +71,6 @@ module _ (H : List (List ℕ)) (h : List ℕ) (level : Level) (o : Operation) (r
 gated_map : {X Y : Type 0} (f : X → Y) (b : Bool) (x y : Option X) → (b ≡ true → option_map f x ≡ option_map f y) → option_map f (cond b x None) ≡ option_map f (cond b y None)
 gated_map f true x y e = e refl
 gated_map f false x y e = refl
-
-same_number : (a b : ℕ) → a == b ≡ true → a ≡ b
-same_number a b e = eqb→eq _ _ (subst T (sym e) tt)
 
 -- success, or a failure of another code that says nothing
 abbrev IsFormOf : Sight → Content → Level → Decision → Type 0

@@ -17,7 +17,7 @@ use Rattle.hdl_reach.proofs.Members.{among_first, among_back, or_true}
 use Rattle.hdl_ops.specs.declared.change.Change.{Change}
 use Rattle.hdl_ops.specs.declared.change.Change.TheVariants.{Create, Delete, Add, Remove, Modify}
 use Rattle.hdl_ops.specs.Tables.{write_of, stamped, stamped_write, apply, apply_if}
-use Rattle.hdl_laws.specs.Isolation.{Agrees, IsClosed, Covers, EachCovered, changed_values, values_written, is_kept_at, restrict_table, foreign_handles}
+use Rattle.hdl_laws.specs.Isolation.{Agrees, IsClosed, Covers, EachCovered, changed_values, values_written, is_retained, restrict_table, foreign_handles}
 use Rattle.hdl_laws.proofs.Maps.{get-retained, contains-retained, gated_and}
 
 -- the handle that a change writes
@@ -95,9 +95,9 @@ or_cases true b P f g e = f refl
 or_cases false b P f g e = g e
 
 module _ (hosted : List ℕ → Bool) (C : List Place) where
-  at-restrict_table : (t : Table) (p : Place) → at (restrict_table hosted C t) p ≡ cond (is_kept_at hosted C p) (at t p) None
+  at-restrict_table : (t : Table) (p : Place) → at (restrict_table hosted C t) p ≡ cond (is_retained hosted C p) (at t p) None
   unfolding restrict_table
-  at-restrict_table t p = get-retained place_antisymmetric t.values (is_kept_at hosted C) p
+  at-restrict_table t p = get-retained place_antisymmetric t.values (is_retained hosted C) p
 
   has-restrict_table : (t : Table) (h : List ℕ) → has (restrict_table hosted C t) h ≡ ((has t h && hosted (prefix h)) || list_any (same_handle h) (foreign_handles hosted C t))
   unfolding restrict_table
@@ -145,8 +145,8 @@ module _ (hosted : List ℕ → Bool) (C : List Place) where
       ∙ sym (has-written (restrict_table hosted C t) w h))
       (λ p.
       at-restrict_table (write.written t w) p
-      ∙ ap (λ x. cond (is_kept_at hosted C p) x None) (at-written t w p)
-      ∙ gate_written (same_handle p.handle (handle_of w)) (is_kept_at hosted C p) (at_after w p.index) (at t p) (λ e. ap (λ b. b || is_among p C) (own p.handle e))
+      ∙ ap (λ x. cond (is_retained hosted C p) x None) (at-written t w p)
+      ∙ gate_written (same_handle p.handle (handle_of w)) (is_retained hosted C p) (at_after w p.index) (at t p) (λ e. ap (λ b. b || is_among p C) (own p.handle e))
       ∙ ap (λ x. cond (same_handle p.handle (handle_of w)) (at_after w p.index x) x) (sym (at-restrict_table t p))
       ∙ sym (at-written (restrict_table hosted C t) w p))
 
@@ -165,7 +165,7 @@ module _ (hosted : List ℕ → Bool) (C : List Place) where
       ∙ sym (has-restrict_table u h))
       (λ p.
       at-restrict_table t p
-      ∙ gated (is_kept_at hosted C p) (at t p) (at u p) (or_cases _ _ _ (agree.rows p) (agree.covered p))
+      ∙ gated (is_retained hosted C p) (at t p) (at u p) (or_cases _ _ _ (agree.rows p) (agree.covered p))
       ∙ sym (at-restrict_table u p))
 
   pub restrict_agrees : (t : Table) → Agrees hosted C t (restrict_table hosted C t)

@@ -22,6 +22,7 @@ use Rattle.hdl_laws.specs.declared.events.Outcome.TheVariants.{Reply, Busy, Sile
 use Rattle.hdl_laws.specs.Worlds.{World, Site, Turn, owner, hosts, lane_of, Task, IsTask, Ignore, Break, Malformed, Unknown, Late, Ask, Redeem}
 use Rattle.hdl_laws.specs.Runs.{is_busy}
 
+-- the owner of a lane is u
 abbrev pub is_owned_by : Option ℕ → ℕ → Bool
 is_owned_by None u = false
 is_owned_by (Some v) u = v == u
@@ -41,14 +42,14 @@ abbrev pub foreign_handles : (List ℕ → Bool) → List Place → Table → Li
 foreign_handles hosted C t = map (λ c. c.handle) (filter (λ c. not (hosted (prefix c.handle)) && is_some (at t c)) C)
 
 -- the place is a row's of a hosted prefix, or in C
-abbrev pub is_kept_at : (List ℕ → Bool) → List Place → Place → Bool
-is_kept_at hosted C p = hosted (prefix p.handle) || is_among p C
+abbrev pub is_retained : (List ℕ → Bool) → List Place → Place → Bool
+is_retained hosted C p = hosted (prefix p.handle) || is_among p C
 
 -- the rows of the hosted prefixes and the values at C; a foreign handle is there just where such a value is
 unfoldable pub restrict_table : (List ℕ → Bool) → List Place → Table → Table
 restrict_table hosted C t = record {
   handles = set.union (set.retain t.handles (λ h. hosted (prefix h))) (set.from_list (foreign_handles hosted C t));
-  values = map.retain_keys t.values (is_kept_at hosted C);
+  values = map.retain_keys t.values (is_retained hosted C);
 }
 
 -- u's lanes, and the prefixes hosted for u
@@ -66,13 +67,15 @@ restrict w u C = record {
   lanes = map.retain_keys w.lanes (owns w.site u);
 }
 
--- u's turns that weren't answered busy, in order
+-- the turn is u's, and wasn't answered busy
 abbrev pub is_turn_of : Site → ℕ → Turn → Bool
 is_turn_of s u t = is_mine s u t.event && not (is_busy t.outcome)
 
+-- u's turns that weren't answered busy, in order
 abbrev pub turns_of : Site → ℕ → List Turn → List Turn
 turns_of s u ts = filter (is_turn_of s u) ts
 
+-- the turn, with what u has of the world after it
 abbrev pub restrict_turn : ℕ → List Place → Turn → Turn
 restrict_turn u C t = record { event = t.event; outcome = t.outcome; change = t.change; after = restrict t.after u C }
 
@@ -95,6 +98,7 @@ changed_values (Add name values) = values
 changed_values (Remove name indexes) = []
 changed_values (Modify name values) = values
 
+-- the same where there is a change, and none where there is none
 abbrev pub values_written : Option Change → List Value
 values_written None = []
 values_written (Some c) = changed_values c

@@ -27,7 +27,8 @@ ClosedAlong u C w (t ∷ ts) = IsClosed (hosts w.site u) C w.table × ClosedAlon
 abbrev pub KeepsCovers : Type 0
 KeepsCovers = (w : World) (ts : List Turn) (u : ℕ) (C : List Place) → IsRun w ts → IsCover u C w ts → IsQuiet w.site u C w ts → ClosedAlong u C w ts
 
--- for each publisher u and each cover C of a quiet run: u's outcomes and u's part of the last world are those of the run of u's events alone, from u's rows and the values at C
+-- for each publisher u and each cover C for u, where the run is quiet: u's outcomes and what u has of the last world are those of
+-- u's events alone, none of them answered busy, from what u has of the first world and the values at C
 abbrev pub Isolates : World → List Turn → Type 0
 Isolates w ts =
     (u : ℕ) (C : List Place) → IsCover u C w ts → IsQuiet w.site u C w ts
@@ -45,13 +46,13 @@ RestrictsRuns = (w : World) (ts : List Turn) → HostsNoRoot w.site → IsRun w 
 abbrev pub LonelyIsOne : Type 0
 LonelyIsOne = (w new new' : World) (es : List Event) (os os' : List Outcome) → Lonely w es os new → Lonely w es os' new' → (os ≡ os') × (new ≡ new')
 
--- two quiet runs that agree in u's events and in the restricted worlds give u equal outcomes
+-- two quiet runs that agree in u's events and in the restricted first worlds give u equal outcomes, and end in equal restricted worlds
 abbrev pub TwoRunsAgree : Type 0
 TwoRunsAgree =
     (w w' : World) (ts ts' : List Turn) (u : ℕ) (C : List Place) → HostsNoRoot w.site → HostsNoRoot w'.site → IsRun w ts → IsRun w' ts'
     → IsCover u C w ts → IsCover u C w' ts' → IsQuiet w.site u C w ts → IsQuiet w'.site u C w' ts'
     → restrict w u C ≡ restrict w' u C → events (turns_of w.site u ts) ≡ events (turns_of w'.site u ts')
-    → outcomes (turns_of w.site u ts) ≡ outcomes (turns_of w'.site u ts')
+    → (outcomes (turns_of w.site u ts) ≡ outcomes (turns_of w'.site u ts')) × (restrict (last w ts) u C ≡ restrict (last w' ts') u C)
 
 -- ---- twins
 
