@@ -5,10 +5,10 @@ use Rattle.hdl_laws.specs.declared.events.Event.{Event}
 use Rattle.hdl_laws.specs.declared.events.Outcome.TheVariants.{Silent}
 use Rattle.hdl_laws.specs.Worlds.{World, Turn, hosts, owner, Effect, Task, Does, IsTask, lane_of, turn, IsAnswerFor, IsAnswer}
 use Rattle.hdl_laws.specs.Runs.{IsRun, IsLonelyRun, Lonely, last, events, outcomes}
-use Rattle.hdl_laws.specs.Isolation.{IsCover, IsQuiet, restrict, turns_of, restrict_turn}
+use Rattle.hdl_laws.specs.Isolation.{IsCover, IsQuiet, restrict, turns_of}
 use Rattle.hdl_laws.specs.Laws.{ClosedAlong, KeepsCovers, RestrictsRuns, LonelyIsOne, TwoRunsAgree}
 use Rattle.hdl_laws.proofs.Steps.{task_one, does_one}
-use Rattle.hdl_laws.proofs.Restriction.{Facts, facts_after, restricted_by}
+use Rattle.hdl_laws.proofs.Restriction.{restrict_turn, Facts, facts_after, restricted_by}
 
 -- ---- covers and restriction
 

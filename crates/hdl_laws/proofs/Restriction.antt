@@ -15,7 +15,7 @@ use Rattle.hdl_ops.specs.Tables.{apply_if}
 use Rattle.hdl_laws.specs.Lanes.{LaneState, fresh}
 use Rattle.hdl_laws.specs.Worlds.{World, Site, Does, IsTask, Turn, owner, hosts, lane_of, moment_of, after_effect, IsAnswerFor, IsAnswer, IsBusy, IsStep}
 use Rattle.hdl_laws.specs.Runs.{is_busy, IsRun, last, IsLonelyRun}
-use Rattle.hdl_laws.specs.Isolation.{Agrees, IsClosed, EachCovered, values_written, written, IsQuiet, is_owned_by, owns, is_mine, restrict, restrict_site, restrict_table, restrict_turn, is_turn_of, turns_of}
+use Rattle.hdl_laws.specs.Isolation.{Agrees, IsClosed, EachCovered, values_written, written, IsQuiet, is_owned_by, owns, is_mine, restrict, restrict_site, restrict_table, is_turn_of, turns_of}
 use Rattle.hdl_laws.proofs.Maps.{get-retained}
 use Rattle.hdl_laws.proofs.Writes.{restrict-apply_if, restrict_same, restrict_agrees, closed_after, closed_agrees}
 use Rattle.hdl_laws.proofs.Steps.{does_agrees, does_change, does_calm}
@@ -95,6 +95,10 @@ answer_calm w t a = by_owner (owner w.site t.event.lane) a
     by_owner (Some u) e = ap (λ (z : Turn). is_busy z.outcome) e.4 ∙ does_calm (hosts w.site u) w.table e.1 e.0 e.3
 
 -- ---- one turn
+
+-- the turn, with what u has of the world after it
+abbrev pub restrict_turn : ℕ → List Place → Turn → Turn
+restrict_turn u C t = record { event = t.event; outcome = t.outcome; change = t.change; after = restrict t.after u C }
 
 module _ (u : ℕ) (C : List Place) where
   -- an answer to u is one in the restricted world

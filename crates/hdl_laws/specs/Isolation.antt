@@ -75,10 +75,6 @@ is_turn_of s u t = is_mine s u t.event && not (is_busy t.outcome)
 abbrev pub turns_of : Site → ℕ → List Turn → List Turn
 turns_of s u ts = filter (is_turn_of s u) ts
 
--- the turn, with what u has of the world after it
-abbrev pub restrict_turn : ℕ → List Place → Turn → Turn
-restrict_turn u C t = record { event = t.event; outcome = t.outcome; change = t.change; after = restrict t.after u C }
-
 -- ---- covers
 
 -- each of these places is in C

@@ -46,7 +46,8 @@ RestrictsRuns = (w : World) (ts : List Turn) → HostsNoRoot w.site → IsRun w 
 abbrev pub LonelyIsOne : Type 0
 LonelyIsOne = (w new new' : World) (es : List Event) (os os' : List Outcome) → Lonely w es os new → Lonely w es os' new' → (os ≡ os') × (new ≡ new')
 
--- two quiet runs that agree in u's events and in the restricted first worlds give u equal outcomes, and end in equal restricted worlds
+-- two quiet runs that agree in u's events and in the restricted first worlds give u equal outcomes, and end in equal restricted
+-- worlds
 abbrev pub TwoRunsAgree : Type 0
 TwoRunsAgree =
     (w w' : World) (ts ts' : List Turn) (u : ℕ) (C : List Place) → HostsNoRoot w.site → HostsNoRoot w'.site → IsRun w ts → IsRun w' ts'
