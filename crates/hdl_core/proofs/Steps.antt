@@ -10,7 +10,8 @@ use Rattle.hdl_laws.specs.declared.events.Event.{Event}
 use Rattle.hdl_laws.specs.declared.events.Outcome.{Outcome}
 use Rattle.hdl_laws.specs.declared.events.Outcome.TheVariants.{Busy, Silent}
 use Rattle.hdl_laws.specs.Lanes.{LaneState, fresh}
-use Rattle.hdl_laws.specs.Laws.{JoinsRuns}
+use Rattle.std.specs.Prelude.{IsFalse}
+use Rattle.hdl_laws.specs.Laws.{JoinsRuns, HostsNoRoot}
 use Rattle.hdl_laws.specs.Runs.{Run, Steps}
 use Rattle.hdl_laws.specs.Worlds.{World, Turn, turn, IsTask, Does, hosts, owner, lane_of, IsAnswerFor}
 use Rattle.hdl_core.specs.Held.{Held, held_at, with_state}
@@ -81,3 +82,8 @@ steps_served r lanes lanes' t t' e o h (s', after, inr b) =
 pub run_step : (joins : JoinsRuns) (w mid new : World) (es : List Event) (os : List Outcome) (e : Event) (o : Outcome) → Run w es os mid → Steps mid e o new → Run w (es ++ (e ∷ [])) (os ++ (o ∷ [])) new
 run_step joins w mid new es os e o run s =
     joins w mid new es (e ∷ []) os (o ∷ []) run (s.0 ∷ [], (s.1, tt), ap (λ x. x ∷ []) s.2, ap (λ x. x ∷ []) s.3, s.4)
+
+-- nobody hosts the prefix of the administrative handles
+pub no_root : (r : Register) (lanes : List Held) (t : Table) → ((place : ℕ) → IsFalse (register.hosts r place register.root)) → HostsNoRoot (world_of r lanes t).site
+unfolding world_of
+no_root r lanes t none = none

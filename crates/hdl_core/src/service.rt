@@ -1,13 +1,15 @@
 //! The service over any table.
 
 ghost use Rattle.std.specs.Prelude.{◌≡◌, IfOk, IfErr, OnErr};
+ghost use Rattle.hdl_laws.specs.Laws.{Isolated, Hidden};
 ghost use Rattle.hdl_laws.specs.Runs.{Run, Steps};
 
 use crate::lanes::Lanes;
 use crate::serving::serve;
-use hdl_laws::laws::runs_joined;
+use hdl_laws::laws::{restricted, runs_joined, twin_replies};
 use hdl_laws::{Event, Outcome};
 use hdl_ops::{Rows, Tenants};
+use hdl_tenants::root_is_nobodys;
 use std::alloc::Global;
 use std::marker::Model;
 
@@ -65,8 +67,14 @@ impl<R: Rows + Drop> Service<R> {
 
     /// Serves each event in turn, with one outcome for each. Its room is taken first; where that is refused nothing changed and
     /// the events come back.
+    ///
+    /// Each publisher's outcomes other than Busy are those of a service that holds its rows and the values at a cover alone, and
+    /// serves its events alone, so long as no other publisher changed these (`isolated`). Beyond its code no reply depends on a
+    /// value that its caller may not read (`hidden`).
     pub fn run(&mut self, events: Vec<Event>) -> Result<Vec<Outcome>, Early>
         ensures run { IfOk result (λ outcomes. Run self.old events.items outcomes.items self.new) }
+        ensures isolated { IfOk result (λ outcomes. Isolated self.old events.items outcomes.items) }
+        ensures hidden { IfOk result (λ outcomes. Hidden self.old events.items outcomes.items) }
         ensures early { IfErr result (λ back. back.0.items ≡ events.items) }
         ensures unchanged { OnErr result (self.new ≡ self.old) }
     {
@@ -74,7 +82,11 @@ impl<R: Rows + Drop> Service<R> {
         if outcomes.reserve_exact(events.len()).is_err() {
             return Err(Early(events));
         }
+        let _ = self.tenants.opening();
+        root_is_nobodys();
         runs_joined();
+        restricted();
+        twin_replies();
         for event in events {
             let outcome = self.step(event);
             let pushed = outcomes.push(outcome).is_ok();

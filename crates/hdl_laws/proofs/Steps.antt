@@ -23,8 +23,11 @@ use Rattle.hdl_ops.specs.Proven.{Proof, target, key_of, MaskOf, value_at, code_b
 use Rattle.hdl_ops.specs.Replies.{fits}
 use Rattle.hdl_ops.specs.Decisions.{Level, Anyone, Proven, Decision, DecidesBy, decision, refused, success, failure, carried, change_of}
 use Rattle.hdl_laws.specs.declared.events.What.{What}
-use Rattle.hdl_laws.specs.Lanes.{LaneState}
-use Rattle.hdl_laws.specs.Worlds.{Received, Letter, letter, Effect, Task, Ignore, Break, Malformed, Unknown, Late, Ask, Redeem, Does, IsReading, IsTask, IsResponseTask, IsRequestTask, IsMessageTask, IsLetterTask, IsFrameTask, IsOctetsTask, redeem_task, ask_effect, answer_effect, challenge_effect}
+use Rattle.hdl_pool.specs.Partial as partial
+use Rattle.hdl_pool.specs.Partial.{piece_of}
+use Rattle.hdl_pool.specs.Taking.{taken, whole_message, freed}
+use Rattle.hdl_laws.specs.Lanes.{LaneState, with_partials}
+use Rattle.hdl_laws.specs.Worlds.{Received, Letter, letter, Effect, Task, Ignore, Break, Malformed, Unknown, Late, Ask, Redeem, Does, IsReading, IsTask, IsResponseTask, IsRequestTask, IsMessageTask, IsLetterTask, IsWholeTask, IsPieceTask, IsFrameTask, IsOctetsTask, redeem_task, ask_effect, answer_effect, challenge_effect}
 use Rattle.hdl_laws.specs.Runs.{is_busy}
 use Rattle.hdl_laws.specs.Isolation.{Agrees, IsClosed}
 use Rattle.hdl_laws.proofs.Agreement.{decides_agrees}
@@ -64,9 +67,16 @@ either_one false P Q p q k k' a b = q k k' a b
 same_task : (x k k' : Task) → k ≡ x → k' ≡ x → k ≡ k'
 same_task x k k' a b = a ∙ sym b
 
+whole_task_one : (kept gone : LaneState) (x : Received) (o : Option (List ℕ)) (k k' : Task) → IsWholeTask kept gone x o k → IsWholeTask kept gone x o k' → k ≡ k'
+whole_task_one kept gone x None k k' a b = same_task (Ignore kept) k k' a b
+whole_task_one kept gone x (Some message) k k' a b = letter_task_one gone (letter x message) k k' a b
+
 frame_task_one : (s : LaneState) (x : Received) (k k' : Task) → IsFrameTask s x k → IsFrameTask s x k' → k ≡ k'
 frame_task_one s x k k' a b =
-    either_one (is_truncated (envelope_at x.bytes)) (λ j. j ≡ Ignore s) (λ j. IsLetterTask s (letter x (drop 20 x.bytes)) j) (same_task (Ignore s)) (letter_task_one s (letter x (drop 20 x.bytes))) k k' a b
+    let after = taken s.partials (piece_of x.peer x.bytes) in
+    let gone = with_partials s (freed s.partials (partial.key_of x.peer (envelope_at x.bytes))) in
+    either_one (is_truncated (envelope_at x.bytes)) (λ j. IsPieceTask s x after j) (λ j. IsLetterTask s (letter x (drop 20 x.bytes)) j)
+    (whole_task_one (with_partials s after.1) gone x (whole_message after.0)) (letter_task_one s (letter x (drop 20 x.bytes))) k k' a b
 
 octets_task_one : (s : LaneState) (x : Received) (k k' : Task) → IsOctetsTask s x k → IsOctetsTask s x k' → k ≡ k'
 octets_task_one s x k k' (inl a) (inl b) = frame_task_one s x k k' a.1 b.1
