@@ -48,6 +48,8 @@ fn main(rt: HostRuntime) -> ExitCode {
 #[cfg(test)]
 mod challenge_tests;
 #[cfg(test)]
+mod isolation_tests;
+#[cfg(test)]
 mod piece_tests;
 #[cfg(test)]
 mod tests;
