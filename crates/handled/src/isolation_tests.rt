@@ -7,26 +7,6 @@ use std::test::Fail;
 
 const NONCE: [u8; 16] = [0, 1, 2, 3, 4, 5, 6, 7, 8, 9, 10, 11, 12, 13, 14, 15];
 
-/// Four decimal digits, each as the two hexadecimal digits of its letter.
-fn push_digits(text: &mut String, number: u32) -> Result<(), Fail> {
-    for digit in [
-        number / 1000 % 10,
-        number / 100 % 10,
-        number / 10 % 10,
-        number % 10,
-    ] {
-        text.push_str("3")?;
-        text.push_str(if digit > 9 {
-            "0"
-        } else {
-            DIGITS[digit as usize]
-        })?;
-    }
-    Ok(())
-}
-
-const DIGITS: [&str; 10] = ["0", "1", "2", "3", "4", "5", "6", "7", "8", "9"];
-
 /// Appends the create of a handle under `20` on lane 2, its challenge, the response to that, and the reply.
 fn push_create(
     rt: &HostRuntime,
@@ -34,8 +14,8 @@ fn push_create(
     output: &mut String,
     number: u32,
 ) -> Result<(), Fail> {
-    let mut digits = String::new(rt.alloc());
-    push_digits(&mut digits, number)?;
+    let text = format!(in rt.alloc(); "{number:04}")?;
+    let digits = hex::encode(rt.alloc(), text.as_bytes())?;
 
     let signed = format!(in rt.alloc();
         "0000006400000000000000000000000000000000000000440000000832302f68{digits}00000001000000010000000848535f41444d494e0000000e0fff0000000432302f6b00000001000000000002000000000000000000000000"
