@@ -93,8 +93,7 @@ fn longest_message(rt: HostRuntime) -> Result<(), Fail> {
     let mut output = String::from_str(rt.alloc(), "0 silent\n")?;
     push_piece(&mut script, "0201200000000000000000010000008500010000", 100)?;
     output.push_str("0 silent\n")?;
-    for back in 1..133 {
-        let number = 133 - back;
+    for number in (1..133u32).rev() {
         let head = format!(in rt.alloc(); "020120000000000000000001{number:08x}00010000")?;
         push_piece(&mut script, head.as_str(), 492)?;
         output.push_str("0 silent\n")?;
