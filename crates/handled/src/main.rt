@@ -46,4 +46,12 @@ fn main(rt: HostRuntime) -> ExitCode {
 }
 
 #[cfg(test)]
+mod challenge_tests;
+#[cfg(test)]
+mod isolation_tests;
+#[cfg(test)]
+mod piece_tests;
+#[cfg(test)]
 mod tests;
+#[cfg(test)]
+mod write_tests;

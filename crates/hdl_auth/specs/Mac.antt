@@ -1,5 +1,6 @@
 -- The keyed digest of challenge and response (docs/PROTOCOL.md, "Challenge and response").
-use Rattle.std.specs.Prelude.{◌≡◌, ◌≢◌, ℕ, List, ◌∷◌, ◌++◌, length, slice_get, Some}
+use Rattle.std.specs.Prelude.{◌≡◌, ◌≢◌, ℕ, List, [], ◌∷◌, ◌++◌, Bool, ◌==◌, ◌&&◌, length, slice_get, bytes_eq, Some}
+use Rattle.std.specs.List.{starts_with}
 use Rattle.sha1.specs.Sha1.{sha1}
 use Rattle.hdl_auth.specs.declared.Verdict.{Verdict}
 use Rattle.hdl_auth.specs.declared.Verdict.TheVariants.{Good, BadForm, Wrong}
@@ -16,6 +17,13 @@ right_response key nonce request_digest = 2 ∷ mac_of key nonce request_digest
 pub record IsResponseForm (response : List ℕ) : Type 0 where
   pub begins : slice_get response 0 ≡ Some 2
   pub whole : length response ≡ 21
+
+-- both, as tests that compute: the form, and the right response
+abbrev pub has_response_form : List ℕ → Bool
+has_response_form response = starts_with ◌==◌ response (2 ∷ []) && length response == 21
+
+abbrev pub is_right_response : List ℕ → List ℕ → List ℕ → List ℕ → Bool
+is_right_response key nonce request_digest response = bytes_eq response (right_response key nonce request_digest)
 
 -- what is said of a response string
 abbrev pub IsVerdict : List ℕ → List ℕ → List ℕ → List ℕ → Verdict → Type 0

@@ -13,7 +13,7 @@ mod response;
 ghost use Rattle.std.specs.Prelude.{◌≡◌};
 ghost use Rattle.sha1.specs.Sha1.{sha1};
 
-pub use response::{check, mac};
+pub use response::{check, has_response_form, is_right_response, mac};
 use sha1::Sha1;
 
 /// What a response string is.

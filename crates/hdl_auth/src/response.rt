@@ -1,7 +1,7 @@
 //! The response to a challenge (our profile, after RFC 3652, section 3.5).
 
 ghost use Rattle.std.specs.Prelude.{◌≡◌};
-ghost use Rattle.hdl_auth.specs.Mac.{mac_of, IsVerdict};
+ghost use Rattle.hdl_auth.specs.Mac.{mac_of, IsVerdict, has_response_form, is_right_response};
 
 use crate::Verdict;
 use sha1::Sha1;
@@ -19,6 +19,29 @@ pub fn mac(key: &[u8], nonce: &[u8; 16], request_digest: &[u8; 20]) -> [u8; 20]
     hasher.update(request_digest);
     hasher.update(key);
     hasher.finalize()
+}
+
+/// Whether the octets have the form of a response: octet 2, and 20 octets.
+pub fn has_response_form(response: &[u8]) -> bool
+    ensures { result ≡ has_response_form response.now }
+{
+    response.starts_with(&[SHA1_OCTET]) && response.len() == 21
+}
+
+/// Whether the octets are the right response to the challenge with this nonce, of a request with this digest, under this key.
+pub fn is_right_response(
+    key: &[u8],
+    nonce: &[u8; 16],
+    request_digest: &[u8; 20],
+    response: &[u8],
+) -> bool
+    ensures { result ≡ is_right_response key.now nonce.now request_digest.now response.now }
+{
+    let wanted = mac(key, nonce, request_digest);
+    match response.split_first() {
+        Some((first, rest)) => *first == SHA1_OCTET && rest == wanted.as_slice(),
+        None => false,
+    }
 }
 
 /// What a response string is to the challenge with this nonce, of a request with this digest, under this key.

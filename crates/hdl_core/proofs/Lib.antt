@@ -1,4 +1,7 @@
-pub mod Receiving
+pub mod HeldLanes
+pub mod Heard
+pub mod Assembled
+pub mod Received
 pub mod Places
 pub mod Steps
 pub mod Opened

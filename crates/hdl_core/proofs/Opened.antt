@@ -5,7 +5,7 @@ use Rattle.std.proofs.lemmas.Bool.Decides.{Decides-ltb}
 use Rattle.std.specs.Prelude.{OnOk}
 use Rattle.std.proofs.lemmas.List.{map-append, length-map, length-take, take_more, get_or-map, get_or-take, get_or_default}
 use Rattle.std.proofs.lemmas.List.Sums.{sum_by-cons}
-use Rattle.std.proofs.lemmas.Option.{slice_get_past}
+use Rattle.std.proofs.lemmas.Option.{slice_get_past, slice_get-map}
 use Rattle.std.specs.FinMap as map
 use Rattle.std.specs.FinMap.{find}
 use Rattle.std.specs.FinSet as set
@@ -15,12 +15,14 @@ use Rattle.hdl_value.specs.Place.{Place, handle_cmp, place_cmp, same_handle, sam
 use Rattle.hdl_value.proofs.Places.{handle_total, handle_antisymmetric, place_total, place_antisymmetric, handles_equal, places_equal}
 use Rattle.hdl_rows.specs.Table.{Table, has, at, created, with_values}
 use Rattle.hdl_tenants.specs.Register as register
-use Rattle.hdl_tenants.specs.Register.{Register, Publisher, Row, place, lane_count, owner_among, AreDistinct}
+use Rattle.hdl_tenants.specs.Register.{Register, Publisher, Row, place, lane_count, owner_among, AreDistinct, IsRegister}
 use Rattle.hdl_laws.specs.Lanes.{fresh}
 use Rattle.hdl_laws.specs.Worlds.{owner, lane_of}
 use Rattle.hdl_core.specs.declared.lane.Lane.{Lane}
-use Rattle.hdl_core.specs.Worlds.{state_of, world_of}
-use Rattle.hdl_core.specs.Opening.{entry_of, opening_table, with_row, first_lanes, IsOpening}
+use Rattle.hdl_core.specs.Held.{Held, held}
+use Rattle.hdl_core.specs.Worlds.{world_of}
+use Rattle.hdl_slots.specs.Lanes as slots
+use Rattle.hdl_core.specs.Opening.{entry_of, opening_table, with_row, first_lanes, closed_lanes, IsOpening}
 use Rattle.hdl_core.proofs.Places.{owner_of, lane_of_world}
 
 -- ---- one row
@@ -136,39 +138,52 @@ owner_within (p ∷ ps) l h = elim (cases_lt l p.lanes) [
       (rest.0 + 1, rw fails (ap (option_map (λ (k : ℕ). k + 1)) rest.1))
 ]
 
+within_map : (lanes : List Lane) (l : ℕ) → slice_get (closed_lanes lanes) l ≡ option_map (λ (x : Lane). held x [] slots.fresh) (slice_get lanes l)
+within_map lanes l = slice_get-map (λ (x : Lane). held x [] slots.fresh) lanes l
+
 module _ (r : Register) (t : Table) where
   abbrev count : ℕ
   count = lane_count r.publishers
 
-  abbrev lanes : List Lane
-  lanes = first_lanes r count
+  abbrev lanes : List Held
+  lanes = closed_lanes (first_lanes r count)
+
+  there : (l : ℕ) → l < count → slice_get lanes l ≡ Some (held (closed r l) [] slots.fresh)
+  there l within = within_map (first_lanes r count) l ∙ ap (option_map (λ (x : Lane). held x [] slots.fresh)) (lane_within r count l within)
+
+  none : (l : ℕ) → count ≤ l → slice_get lanes l ≡ None
+  none l past = within_map (first_lanes r count) l ∙ ap (option_map (λ (x : Lane). held x [] slots.fresh)) (lane_past r count l past)
 
   owners : (l : ℕ) → owner (world_of r lanes t).site l ≡ register.owner r l
   owners l = owner_of r lanes t l ∙ elim (cases_lt l count) [
     | inl within ↦
         let u = owner_within r.publishers l within in
-        ap (option_map (λ (x : Lane). x.publisher)) (lane_within r count l within) ∙ ap (λ (o : Option ℕ). Some (unwrap_or o 0)) u.1 ∙ sym u.1
-    | inr past ↦ ap (option_map (λ (x : Lane). x.publisher)) (lane_past r count l past) ∙ sym (owner_past r.publishers l past)
+        ap (option_map (λ (x : Held). x.publisher)) (there l within) ∙ ap (λ (o : Option ℕ). Some (unwrap_or o 0)) u.1 ∙ sym u.1
+    | inr past ↦ ap (option_map (λ (x : Held). x.publisher)) (none l past) ∙ sym (owner_past r.publishers l past)
   ]
 
   all_closed : (l : ℕ) → lane_of (world_of r lanes t) l ≡ fresh false
   all_closed l = lane_of_world r lanes t l ∙ elim (cases_lt l count) [
-    | inl within ↦ ap (λ (o : Option Lane). unwrap_or (option_map state_of o) (fresh false)) (lane_within r count l within)
-    | inr past ↦ ap (λ (o : Option Lane). unwrap_or (option_map state_of o) (fresh false)) (lane_past r count l past)
+    | inl within ↦ ap (λ (o : Option Held). unwrap_or (option_map (λ (x : Held). x.state) o) (fresh false)) (there l within)
+    | inr past ↦ ap (λ (o : Option Held). unwrap_or (option_map (λ (x : Held). x.state) o) (fresh false)) (none l past)
   ]
 
   hosted : (world_of r lanes t).site.hostings ≡ r.hostings
   unfolding world_of
   hosted = refl
 
-  held : (world_of r lanes t).table ≡ t
+  held_table : (world_of r lanes t).table ≡ t
   unfolding world_of
-  held = refl
+  held_table = refl
 
-  pub opens : (all : List Lane) → all ≡ first_lanes r (lane_count r.publishers) → t ≡ opening_table r.opening → IsOpening r (world_of r all t)
-  opens all same rows = subst (λ (ls : List Lane). IsOpening r (world_of r ls t)) (sym same) (record {
+  pub opens : (all : List Held) → all ≡ closed_lanes (first_lanes r (lane_count r.publishers)) → t ≡ opening_table r.opening → IsOpening r (world_of r all t)
+  opens all same rows = subst (λ (ls : List Held). IsOpening r (world_of r ls t)) (sym same) (record {
     owners = owners;
     hostings = hosted;
     closed = all_closed;
-    table = held ∙ rows;
+    table = held_table ∙ rows;
   })
+
+-- a register has few lanes
+pub few_lanes : (r : Register) (lanes : List Lane) → IsRegister r → lanes ≡ first_lanes r (lane_count r.publishers) → length lanes ≤ 64
+few_lanes r lanes kept same = let len = ap length same ∙ length-first_lanes r (lane_count r.publishers) in omega (arith, len, kept.lanes)

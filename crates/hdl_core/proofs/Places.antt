@@ -13,8 +13,8 @@ use Rattle.hdl_ops.specs.Tables.{apply_if}
 use Rattle.hdl_laws.specs.Lanes.{fresh}
 use Rattle.hdl_laws.specs.declared.events.Event.{Event}
 use Rattle.hdl_laws.specs.Worlds.{Effect, owner, lane_of, after_effect, moment_of}
-use Rattle.hdl_core.specs.declared.lane.Lane.{Lane}
-use Rattle.hdl_core.specs.Worlds.{numbered, by_place, state_of, world_of}
+use Rattle.hdl_core.specs.Held.{Held}
+use Rattle.hdl_core.specs.Worlds.{numbered, by_place, world_of}
 
 same_number : (a b : ℕ) → a ≡ b → (a == b) ≡ true
 same_number a b e = grind (arith, nat_tests)
@@ -59,29 +59,29 @@ set_same xs l d h = Rattle.std.proofs.lemmas.List.set-get_or xs l d
 
 -- ---- the world of the lanes
 
-pub owner_of : (r : Register) (lanes : List Lane) (t : Table) (l : ℕ) → owner (world_of r lanes t).site l ≡ option_map (λ (x : Lane). x.publisher) (slice_get lanes l)
+pub owner_of : (r : Register) (lanes : List Held) (t : Table) (l : ℕ) → owner (world_of r lanes t).site l ≡ option_map (λ (x : Held). x.publisher) (slice_get lanes l)
 unfolding world_of
-owner_of r lanes t l = get-by_place (map (λ (x : Lane). x.publisher) lanes) l ∙ slice_get-map _ lanes l
+owner_of r lanes t l = get-by_place (map (λ (x : Held). x.publisher) lanes) l ∙ slice_get-map _ lanes l
 
-pub lane_of_world : (r : Register) (lanes : List Lane) (t : Table) (l : ℕ) → lane_of (world_of r lanes t) l ≡ unwrap_or (option_map state_of (slice_get lanes l)) (fresh false)
+pub lane_of_world : (r : Register) (lanes : List Held) (t : Table) (l : ℕ) → lane_of (world_of r lanes t) l ≡ unwrap_or (option_map (λ (y : Held). y.state) (slice_get lanes l)) (fresh false)
 unfolding world_of
-lane_of_world r lanes t l = ap (λ o. unwrap_or o (fresh false)) (get-by_place (map state_of lanes) l ∙ slice_get-map state_of lanes l)
+lane_of_world r lanes t l = ap (λ o. unwrap_or o (fresh false)) (get-by_place (map (λ (y : Held). y.state) lanes) l ∙ slice_get-map (λ (y : Held). y.state) lanes l)
 
-pub lane_here : (r : Register) (lanes : List Lane) (t : Table) (l : ℕ) (d : Lane) → l < length lanes → lane_of (world_of r lanes t) l ≡ state_of (get_or lanes l d)
-lane_here r lanes t l d h = lane_of_world r lanes t l ∙ ap (λ o. unwrap_or (option_map state_of o) (fresh false)) (slice_get-get_or lanes l d h)
+pub lane_here : (r : Register) (lanes : List Held) (t : Table) (l : ℕ) (d : Held) → l < length lanes → lane_of (world_of r lanes t) l ≡ (get_or lanes l d).state
+lane_here r lanes t l d h = lane_of_world r lanes t l ∙ ap (λ o. unwrap_or (option_map (λ (y : Held). y.state) o) (fresh false)) (slice_get-get_or lanes l d h)
 
 -- a lane that is written, with the table, is the effect
-pub world_after : (r : Register) (lanes : List Lane) (t t' : Table) (e : Event) (x d : Lane) (eff : Effect) → e.lane < length lanes → x.publisher ≡ (get_or lanes e.lane d).publisher → state_of x ≡ eff.state → t' ≡ apply_if t (moment_of e.what) eff.change
+pub world_after : (r : Register) (lanes : List Held) (t t' : Table) (e : Event) (x d : Held) (eff : Effect) → e.lane < length lanes → x.publisher ≡ (get_or lanes e.lane d).publisher → x.state ≡ eff.state → t' ≡ apply_if t (moment_of e.what) eff.change
     → world_of r (set lanes e.lane x) t' ≡ after_effect (world_of r lanes t) e eff
 unfolding world_of
 world_after r lanes t t' e x d eff h same state table =
-    let owners : by_place (map (λ (y : Lane). y.publisher) (set lanes e.lane x)) ≡ by_place (map (λ (y : Lane). y.publisher) lanes) =
-    ap by_place (map-set (λ (y : Lane). y.publisher) lanes e.lane x
-    ∙ ap (set (map (λ (y : Lane). y.publisher) lanes) e.lane) same
-    ∙ sym (map-set (λ (y : Lane). y.publisher) lanes e.lane (get_or lanes e.lane d))
-    ∙ ap (map (λ (y : Lane). y.publisher)) (set_same lanes e.lane d h)) in
-    let states : by_place (map state_of (set lanes e.lane x)) ≡ map.insert (by_place (map state_of lanes)) e.lane eff.state =
-    ap by_place (map-set state_of lanes e.lane x)
-    ∙ by_place-set (map state_of lanes) e.lane (state_of x) (subst (λ n. e.lane < n) (sym (length-map lanes state_of)) h)
-    ∙ ap (map.insert (by_place (map state_of lanes)) e.lane) state in
+    let owners : by_place (map (λ (y : Held). y.publisher) (set lanes e.lane x)) ≡ by_place (map (λ (y : Held). y.publisher) lanes) =
+    ap by_place (map-set (λ (y : Held). y.publisher) lanes e.lane x
+    ∙ ap (set (map (λ (y : Held). y.publisher) lanes) e.lane) same
+    ∙ sym (map-set (λ (y : Held). y.publisher) lanes e.lane (get_or lanes e.lane d))
+    ∙ ap (map (λ (y : Held). y.publisher)) (set_same lanes e.lane d h)) in
+    let states : by_place (map (λ (y : Held). y.state) (set lanes e.lane x)) ≡ map.insert (by_place (map (λ (y : Held). y.state) lanes)) e.lane eff.state =
+    ap by_place (map-set (λ (y : Held). y.state) lanes e.lane x)
+    ∙ by_place-set (map (λ (y : Held). y.state) lanes) e.lane x.state (subst (λ n. e.lane < n) (sym (length-map lanes (λ (y : Held). y.state))) h)
+    ∙ ap (map.insert (by_place (map (λ (y : Held). y.state) lanes)) e.lane) state in
     λ i. record { site = record { owners = owners i; hostings = r.hostings }; table = table i; lanes = states i }

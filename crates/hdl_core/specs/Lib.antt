@@ -1,3 +1,4 @@
+pub mod Held
 pub mod Worlds
 pub mod Serving
 pub mod Opening

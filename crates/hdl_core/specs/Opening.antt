@@ -10,7 +10,9 @@ use Rattle.hdl_tenants.specs.Register as register
 use Rattle.hdl_tenants.specs.Register.{Register, Row, place}
 use Rattle.hdl_laws.specs.Lanes.{fresh}
 use Rattle.hdl_laws.specs.Worlds.{World, owner, lane_of}
+use Rattle.hdl_slots.specs.Lanes as slots
 use Rattle.hdl_core.specs.declared.lane.Lane.{Lane}
+use Rattle.hdl_core.specs.Held.{Held, held}
 
 abbrev pub entry_of : Row → Place × Value
 entry_of row = (place row, row.1)
@@ -34,3 +36,7 @@ pub record IsOpening (r : Register) (w : World) : Type 0 where
 abbrev pub first_lanes : Register → ℕ → List Lane
 first_lanes r zero = []
 first_lanes r (suc n) = first_lanes r n ++ record { publisher = unwrap_or (register.owner r n) 0; is_open = false } ∷ []
+
+-- lanes without partial messages and challenges
+abbrev pub closed_lanes : List Lane → List Held
+closed_lanes lanes = map (λ lane. held lane [] slots.fresh) lanes

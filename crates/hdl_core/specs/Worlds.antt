@@ -4,12 +4,8 @@ use Rattle.std.specs.Ordering.{nat_cmp}
 use Rattle.std.specs.FinMap as map
 use Rattle.hdl_rows.specs.Table.{Table}
 use Rattle.hdl_tenants.specs.Register.{Register}
-use Rattle.hdl_laws.specs.Lanes.{LaneState}
 use Rattle.hdl_laws.specs.Worlds.{World}
-use Rattle.hdl_core.specs.declared.lane.Lane.{Lane}
-
-abbrev pub state_of : Lane → LaneState
-state_of lane = record { is_open = lane.is_open }
+use Rattle.hdl_core.specs.Held.{Held}
 
 -- the entries of a list by their places
 abbrev pub numbered : {X : Type 0} → ℕ → List X → List (ℕ × X)
@@ -20,9 +16,9 @@ abbrev pub by_place : {X : Type 0} → List X → map.FinMap nat_cmp X
 by_place xs = map.from_entries (numbered 0 xs)
 
 -- the world of these publishers and prefixes, lanes and table
-unfoldable pub world_of : Register → List Lane → Table → World
+unfoldable pub world_of : Register → List Held → Table → World
 world_of register lanes table = record {
   site = record { owners = by_place (map (λ lane. lane.publisher) lanes); hostings = register.hostings };
   table = table;
-  lanes = by_place (map state_of lanes);
+  lanes = by_place (map (λ lane. lane.state) lanes);
 }

@@ -1,17 +1,21 @@
 //! The service: a machine that takes one event of one lane at a time, with moments and nonces handed in.
 //!
 //! ```text
-//! Event { lane, what } -> frame -> message -> request -> decision -> change and reply -> Outcome
+//! Event { lane, what } -> frame -> message (or a piece of one) -> request -> decision -> change and reply, or challenge -> Outcome
 //! ```
 //!
 //! [`Service::open`] gives the world of the tenants text, [`Service::step`] is a step of the machine that `hdl_laws` defines,
 //! and [`Service::run`] is a run of it with one outcome for each event, over any table [`Rows`]. Where memory or the table is
 //! refused an event is Busy and the world is as it was; where room for a run's outcomes is refused the events come back.
 //!
-//! It stands on `hdl_ops` and `hdl_laws`, and knows no threads, sockets or clocks.
+//! It stands on `hdl_ops`, `hdl_pool`, `hdl_slots` and `hdl_laws`, and knows no threads, sockets or clocks.
 #![tactic(auto)]
 
+mod answering;
+mod hearing;
 mod lane;
+mod lanes;
+mod letter;
 mod opening;
 mod service;
 mod serving;

@@ -6,6 +6,7 @@ ghost use Rattle.hdl_tenants.specs.Register.{lane_count, place, AreDistinct};
 ghost use Rattle.hdl_core.specs.Opening.{IsOpening, opening_table, with_row, first_lanes};
 
 use crate::lane::Lane;
+use crate::lanes::Lanes;
 use crate::service::Service;
 use hdl_name::Name;
 use hdl_ops::{Refused, Rows, Tenants};
@@ -76,7 +77,11 @@ impl<R: Rows + Drop> Service<R> {
         let Ok(lanes) = closed_lanes(alloc, &tenants) else {
             return Err(OpenFault::Memory);
         };
-        if put_rows(&mut rows, tenants.opening()).is_err() {
+        let opening = tenants.opening();
+        let Ok(lanes) = Lanes::new(alloc, lanes) else {
+            return Err(OpenFault::Memory);
+        };
+        if put_rows(&mut rows, opening).is_err() {
             return Err(OpenFault::Store);
         }
         Ok(Service {

@@ -1,13 +1,15 @@
 //! The service over any table.
 
 ghost use Rattle.std.specs.Prelude.{◌≡◌, IfOk, IfErr, OnErr};
+ghost use Rattle.hdl_laws.specs.Laws.{Isolated, Hidden};
 ghost use Rattle.hdl_laws.specs.Runs.{Run, Steps};
 
-use crate::lane::Lane;
+use crate::lanes::Lanes;
 use crate::serving::serve;
-use hdl_laws::laws::runs_joined;
+use hdl_laws::laws::{restricted, runs_joined, twin_replies};
 use hdl_laws::{Event, Outcome};
 use hdl_ops::{Rows, Tenants};
+use hdl_tenants::root_is_nobodys;
 use std::alloc::Global;
 use std::marker::Model;
 
@@ -17,7 +19,7 @@ use std::marker::Model;
 pub struct Service<R: Rows + Drop> {
     pub(crate) alloc: Global,
     pub(crate) tenants: Tenants,
-    pub(crate) lanes: Vec<Lane>,
+    pub(crate) lanes: Lanes,
     pub(crate) rows: R,
 }
 
@@ -34,7 +36,7 @@ impl<R: Rows + Drop> Model for Service<R> {
 
     ghost use Rattle.hdl_core.specs.Worlds.{world_of};
 
-    ghost view = { λ s. world_of s.tenants s.lanes.items (R.content s.rows) };
+    ghost view = { λ s. world_of s.tenants s.lanes (R.content s.rows) };
 }
 
 /// Room for a run's outcomes was refused: the events come back as they were, and nothing changed.
@@ -49,23 +51,30 @@ impl<R: Rows + Drop> Service<R> {
     pub fn step(&mut self, event: Event) -> Outcome
         ensures { Steps self.old event result self.new }
     {
-        let place = event.lane as usize;
-        if place >= self.lanes.len() {
+        let Event { lane, what } = event;
+        if lane as usize >= self.lanes.len() {
             return Outcome::Silent;
         }
         serve(
             self.alloc,
             &self.tenants,
             &mut self.rows,
-            &mut self.lanes[place],
-            event.what,
+            &mut self.lanes,
+            lane,
+            what,
         )
     }
 
     /// Serves each event in turn, with one outcome for each. Its room is taken first; where that is refused nothing changed and
     /// the events come back.
+    ///
+    /// Each publisher's outcomes other than Busy are those of a service that holds its rows and the values at a cover alone, and
+    /// serves its events alone, so long as no other publisher changed these (`isolated`). Beyond its code no reply depends on a
+    /// value that its caller may not read (`hidden`).
     pub fn run(&mut self, events: Vec<Event>) -> Result<Vec<Outcome>, Early>
         ensures run { IfOk result (λ outcomes. Run self.old events.items outcomes.items self.new) }
+        ensures isolated { IfOk result (λ outcomes. Isolated self.old events.items outcomes.items) }
+        ensures hidden { IfOk result (λ outcomes. Hidden self.old events.items outcomes.items) }
         ensures early { IfErr result (λ back. back.0.items ≡ events.items) }
         ensures unchanged { OnErr result (self.new ≡ self.old) }
     {
@@ -73,7 +82,11 @@ impl<R: Rows + Drop> Service<R> {
         if outcomes.reserve_exact(events.len()).is_err() {
             return Err(Early(events));
         }
+        let _ = self.tenants.opening();
+        root_is_nobodys();
         runs_joined();
+        restricted();
+        twin_replies();
         for event in events {
             let outcome = self.step(event);
             let pushed = outcomes.push(outcome).is_ok();

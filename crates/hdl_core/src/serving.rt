@@ -1,150 +1,110 @@
 //! Serving one event of one lane.
 
-ghost use Rattle.std.specs.Prelude.{◌≡◌, ◌⊎◌, ℕ, List, IfSome, OnOk, OnErr};
-ghost use Rattle.hdl_msg.specs.Bodies.{content_of};
-ghost use Rattle.hdl_msg.specs.Message.{signed_octets};
-ghost use Rattle.hdl_msg.specs.Reply.{short_reply, reply_envelope};
+ghost use Rattle.std.specs.Prelude.{◌≡◌, ◌<◌, true, drop, length, IfOk, OnErr};
+ghost use Rattle.hdl_frame.specs.Envelope.{envelope_at, is_truncated};
+ghost use Rattle.hdl_frame.specs.Splitting.{IsFrameOf};
+ghost use Rattle.hdl_msg.specs.Reply.{reply_envelope};
 ghost use Rattle.hdl_tenants.specs.Register.{hosts};
-ghost use Rattle.hdl_ops.specs.Tables.{apply_if, CanApply};
-ghost use Rattle.hdl_laws.specs.Lanes.{LaneState};
-ghost use Rattle.hdl_core.specs.Serving.{IsDecided, IsReceived, IsServed};
+ghost use Rattle.hdl_core.specs.Held.{held_at};
+ghost use Rattle.hdl_core.specs.Serving.{AssemblesAt, outcome_of, ReceivesAt, ServesAt};
 
-use crate::lane::Lane;
-use hdl_frame::{Envelope, one_datagram};
+use crate::hearing::hear;
+use crate::lanes::Lanes;
+use crate::letter::Letter;
+use hdl_frame::{ENVELOPE_LEN, Envelope, Frame, one_datagram};
 use hdl_laws::{Octets, Outcome, What};
-use hdl_msg::{Request, busy, read_request, refuse};
-use hdl_ops::{Change, Decision, Refused, Rows, Tenants, apply, decide, render};
+use hdl_msg::{busy, refuse};
+use hdl_ops::{Refused, Rows, Tenants};
+use hdl_pool::Taken;
 use std::alloc::Global;
 
-/// Makes the change of a decision, if there is one.
-fn make<R: Rows>(rows: &mut R, change: Option<Change>, moment: u64) -> Result<(), Refused>
-    requires can_apply { IfSome change (λ change. CanApply (R.content rows.old) change) }
-    ensures done { OnOk result (R.content rows.new ≡ apply_if (R.content rows.old) moment change) }
-    ensures undone { OnErr result (R.content rows.new ≡ R.content rows.old) }
+/// The message behind an envelope, in the octets' own memory.
+fn message_of(octets: Octets) -> Vec<u8>
+    ensures { result.items ≡ drop 20 octets }
 {
-    match change {
-        Some(change) => apply(rows, change, moment),
-        None => Ok(()),
-    }
+    let mut message = octets.into_vec();
+    message.drain(..ENVELOPE_LEN.min(message.len()));
+    message
 }
 
-/// Decides the request, makes its change and renders its reply, whose room is taken before anything changes.
-fn answer<R: Rows>(
+/// A piece of a message that came on an open lane. What came of its message before is forgotten once the whole message is
+/// answered; where that is refused it stands as it was.
+fn assemble<R: Rows>(
     alloc: Global,
     tenants: &Tenants,
-    publisher: usize,
     rows: &mut R,
-    envelope: &Envelope,
-    moment: u64,
-    request: &Request<'_>,
-) -> Outcome
-    requires signed { request.now.signed.now ≡ signed_octets (content_of request.now) }
-    ensures { IsDecided (hosts tenants.now publisher) (R.content rows.old) envelope.now moment (content_of request.now) result (R.content rows.new) }
+    lanes: &mut Lanes,
+    number: u16,
+    letter: &Letter,
+    frame: &Frame<'_>,
+) -> Result<Option<Octets>, Refused>
+    requires there { number < length lanes.old }
+    requires frame { IsFrameOf frame.now.bytes.now frame.now }
+    requires piece { is_truncated (envelope_at frame.now.bytes.now) ≡ true }
+    requires envelope { letter.now.envelope ≡ envelope_at frame.now.bytes.now }
+    ensures assembled { IfOk result (λ reply. AssemblesAt (hosts tenants.now (held_at lanes.old number).publisher) (R.content rows.old) lanes.old number (record { peer = letter.now.peer; moment = letter.now.moment; nonce = letter.now.nonce; bytes = frame.now.bytes.now }) reply lanes.new (R.content rows.new)) }
+    ensures undone { OnErr result (R.content rows.new ≡ R.content rows.old) }
+    ensures kept { OnErr result (lanes.new ≡ lanes.old) }
 {
-    let Ok(decision) = decide(alloc, tenants, publisher, rows, request) else {
-        return Outcome::Busy(busy(envelope));
+    let Ok(taken) = lanes.take_piece(number, letter.peer, frame) else {
+        return Err(Refused);
     };
-    let Decision {
-        code,
-        content,
-        change,
-    } = decision;
-    let Ok(octets) = render(
-        alloc,
-        envelope.session,
-        envelope.request,
-        request,
-        code,
-        content,
-    ) else {
-        return Outcome::Busy(busy(envelope));
-    };
-    if make(rows, change, moment).is_err() {
-        return Outcome::Busy(busy(envelope));
+    match taken {
+        Taken::Whole(message) => {
+            let reply = hear(alloc, tenants, rows, lanes, number, letter, message)?;
+            lanes.free(number, letter.peer, &letter.envelope);
+            Ok(Some(reply))
+        }
+        Taken::Kept => Ok(None),
+        Taken::Ignored => Ok(None),
+        Taken::Displaced => Ok(None),
     }
-    Outcome::Reply(Octets::new(octets))
 }
 
-/// The short reply to a message that isn't in the grammar.
-fn malformed(alloc: Global, envelope: &Envelope) -> Outcome
-    ensures { (result ≡ Outcome.Reply (short_reply 4 envelope.now)) ⊎ (result ≡ Outcome.Busy (short_reply 3 envelope.now)) }
+/// The outcome of a frame with this envelope.
+fn outcome_of(envelope: &Envelope, reply: Result<Option<Octets>, Refused>) -> Outcome
+    ensures { result ≡ outcome_of envelope.now reply }
 {
-    match Vec::from_slice(alloc, &refuse(envelope)) {
-        Ok(octets) => Outcome::Reply(Octets::new(octets)),
+    match reply {
+        Ok(Some(octets)) => Outcome::Reply(octets),
+        Ok(None) => Outcome::Silent,
         Err(_) => Outcome::Busy(busy(envelope)),
     }
 }
 
-/// Octets that came on an open lane of the publisher.
+/// Octets that came on an open lane.
 fn receive<R: Rows>(
     alloc: Global,
     tenants: &Tenants,
-    publisher: usize,
     rows: &mut R,
+    lanes: &mut Lanes,
+    number: u16,
+    peer: u16,
     moment: u64,
-    octets: &[u8],
+    nonce: [u8; 16],
+    octets: Octets,
 ) -> Outcome
-    ensures { (s : LaneState) (peer : ℕ) (nonce : List ℕ) → IsReceived (hosts tenants.now publisher) (R.content rows.old) s (record { peer = peer; moment = moment; nonce = nonce; bytes = octets.now }) result (R.content rows.new) }
+    requires there { number < length lanes.old }
+    ensures { ReceivesAt (hosts tenants.now (held_at lanes.old number).publisher) (R.content rows.old) lanes.old number (record { peer = peer; moment = moment; nonce = nonce; bytes = octets }) result lanes.new (R.content rows.new) }
 {
-    let Ok(frame) = one_datagram(octets) else {
+    let Ok(frame) = one_datagram(octets.as_slice()) else {
         return Outcome::Silent;
     };
-    if frame.envelope.is_truncated() {
-        return Outcome::Silent;
-    }
-    let Ok(request) = read_request(frame.payload()) else {
-        return malformed(alloc, &frame.envelope);
-    };
-    answer(
-        alloc,
-        tenants,
-        publisher,
-        rows,
-        &frame.envelope,
+    let envelope = frame.envelope;
+    let letter = Letter {
+        peer,
         moment,
-        &request,
-    )
-}
-
-/// Serves an event of a lane that somebody owns.
-pub(crate) fn serve<R: Rows>(
-    alloc: Global,
-    tenants: &Tenants,
-    rows: &mut R,
-    lane: &mut Lane,
-    what: What,
-) -> Outcome
-    ensures served { IsServed (hosts tenants.now lane.old.publisher) (R.content rows.old) lane.old what result lane.new (R.content rows.new) }
-    ensures publisher { lane.new.publisher ≡ lane.old.publisher }
-{
-    match what {
-        What::Open => {
-            lane.is_open = true;
-            Outcome::Silent
-        }
-        What::Close => {
-            lane.is_open = false;
-            Outcome::Silent
-        }
-        What::Bad { session, request } => {
-            if !lane.is_open {
-                return Outcome::Silent;
-            }
-            Outcome::CloseAfter(refuse(&came(session, request)))
-        }
-        What::Frame { moment, bytes, .. } => {
-            if !lane.is_open {
-                return Outcome::Silent;
-            }
-            receive(
-                alloc,
-                tenants,
-                lane.publisher,
-                rows,
-                moment,
-                bytes.as_slice(),
-            )
-        }
+        nonce,
+        envelope,
+    };
+    if envelope.is_truncated() {
+        let reply = assemble(alloc, tenants, rows, lanes, number, &letter, &frame);
+        return outcome_of(&envelope, reply);
+    }
+    let message = message_of(octets);
+    match hear(alloc, tenants, rows, lanes, number, &letter, message) {
+        Ok(reply) => Outcome::Reply(reply),
+        Err(_) => Outcome::Busy(busy(&envelope)),
     }
 }
 
@@ -160,5 +120,48 @@ fn came(session: u32, request: u32) -> Envelope
         request,
         sequence: 0,
         length: 0,
+    }
+}
+
+/// Serves an event of a lane that somebody owns.
+pub(crate) fn serve<R: Rows>(
+    alloc: Global,
+    tenants: &Tenants,
+    rows: &mut R,
+    lanes: &mut Lanes,
+    number: u16,
+    what: What,
+) -> Outcome
+    requires there { number < length lanes.old }
+    ensures { ServesAt (hosts tenants.now (held_at lanes.old number).publisher) (R.content rows.old) lanes.old number what result lanes.new (R.content rows.new) }
+{
+    match what {
+        What::Open => {
+            lanes.renew(number, true);
+            Outcome::Silent
+        }
+        What::Close => {
+            lanes.renew(number, false);
+            Outcome::Silent
+        }
+        What::Bad { session, request } => {
+            if !lanes.is_open(number) {
+                return Outcome::Silent;
+            }
+            Outcome::CloseAfter(refuse(&came(session, request)))
+        }
+        What::Frame {
+            peer,
+            moment,
+            nonce,
+            bytes,
+        } => {
+            if !lanes.is_open(number) {
+                return Outcome::Silent;
+            }
+            receive(
+                alloc, tenants, rows, lanes, number, peer, moment, nonce, bytes,
+            )
+        }
     }
 }

@@ -1,4 +1,5 @@
 pub mod Lanes
 pub mod Worlds
 pub mod Runs
+pub mod Isolation
 pub mod Laws

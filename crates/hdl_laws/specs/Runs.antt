@@ -1,8 +1,9 @@
 -- Whole runs: one outcome for each event.
-use Rattle.std.specs.Prelude.{◌≡◌, List, [], ◌∷◌, map, ⊤}
+use Rattle.std.specs.Prelude.{◌≡◌, List, [], ◌∷◌, Bool, true, false, map, ⊤}
 use Rattle.hdl_laws.specs.declared.events.Event.{Event}
 use Rattle.hdl_laws.specs.declared.events.Outcome.{Outcome}
-use Rattle.hdl_laws.specs.Worlds.{World, Turn, IsStep}
+use Rattle.hdl_laws.specs.declared.events.Outcome.TheVariants.{Busy}
+use Rattle.hdl_laws.specs.Worlds.{World, Turn, IsStep, IsAnswer}
 
 -- each turn is a step from the world that the one before it left
 abbrev pub IsRun : World → List Turn → Type 0
@@ -27,3 +28,18 @@ Run w es os new = (ts : List Turn) × IsRun w ts × (events ts ≡ es) × (outco
 -- the event has this outcome, and leads from one world to the other
 abbrev pub Steps : World → Event → Outcome → World → Type 0
 Steps w e o new = (t : Turn) × IsStep w t × (t.event ≡ e) × (t.outcome ≡ o) × (t.after ≡ new)
+
+-- ---- runs without Busy
+
+abbrev pub is_busy : Outcome → Bool
+is_busy (Busy octets) = true
+is_busy _ = false
+
+-- each turn is the answer in the world that the one before it left
+abbrev pub IsLonelyRun : World → List Turn → Type 0
+IsLonelyRun w [] = ⊤
+IsLonelyRun w (t ∷ ts) = IsAnswer w t × IsLonelyRun t.after ts
+
+-- the events have these outcomes where none is answered busy, and lead from one world to the other
+abbrev pub Lonely : World → List Event → List Outcome → World → Type 0
+Lonely w es os new = (ts : List Turn) × IsLonelyRun w ts × (events ts ≡ es) × (outcomes ts ≡ os) × (last w ts ≡ new)

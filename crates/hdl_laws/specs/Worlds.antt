@@ -1,24 +1,31 @@
 -- The service as a machine: a world, an event, its outcome, the world after it (docs/PROTOCOL.md, "One event").
-use Rattle.std.specs.Prelude.{◌≡◌, ◌≢◌, ℕ, List, Bool, true, false, Option, Some, None, if◌then◌else◌, ◌⊎◌, drop, unwrap_or, IsTrue, MatchBool}
+use Rattle.std.specs.Prelude.{◌≡◌, ◌≢◌, ℕ, ◌-◌, List, Bool, true, false, ◌==◌, nat_lt, Option, Some, None, if◌then◌else◌, ◌⊎◌, drop, unwrap_or, IsTrue, MatchBool}
 use Rattle.std.specs.Ordering.{nat_cmp}
 use Rattle.std.specs.FinMap as map
 use Rattle.hdl_frame.specs.declared.envelope.Envelope.{Envelope}
 use Rattle.hdl_frame.specs.Envelope.{envelope_at, is_truncated}
 use Rattle.hdl_frame.specs.Frames.{IsFrame}
 use Rattle.hdl_msg.specs.Message.{Content, SpellsRequest}
+use Rattle.hdl_msg.specs.declared.replies.ReplyContent.TheVariants.{Empty}
 use Rattle.hdl_msg.specs.Reply.{reply_envelope, reply_octets, short_reply}
 use Rattle.hdl_rows.specs.Table.{Table}
+use Rattle.hdl_pool.specs.Partial.{Partial, key_of, piece_of}
+use Rattle.hdl_pool.specs.Taking.{Fate, taken, whole_message, freed}
+use Rattle.hdl_slots.specs.declared.pending.Pending.{Pending}
+use Rattle.hdl_slots.specs.Lanes.{challenged, challenge_of, spent}
 use Rattle.hdl_tenants.specs.Register.{Hosting, hosts_among}
 use Rattle.hdl_ops.specs.declared.change.Change.{Change}
-use Rattle.hdl_ops.specs.Decisions.{Decision, Decides}
-use Rattle.hdl_ops.specs.Replies.{reply_to}
+use Rattle.hdl_ops.specs.Decisions.{Decision, Anyone, Proven, failure, Decides}
+use Rattle.hdl_ops.specs.Proven.{Proof}
+use Rattle.hdl_ops.specs.Requests.{Response, response_of}
+use Rattle.hdl_ops.specs.Replies.{digest_of, reply_to, challenge_to}
 use Rattle.hdl_ops.specs.Tables.{apply_if}
 use Rattle.hdl_laws.specs.declared.events.What.{What}
 use Rattle.hdl_laws.specs.declared.events.What.TheVariants.{Open, Bad, Close}
 use Rattle.hdl_laws.specs.declared.events.Event.{Event}
 use Rattle.hdl_laws.specs.declared.events.Outcome.{Outcome}
 use Rattle.hdl_laws.specs.declared.events.Outcome.TheVariants.{Reply, Busy, Silent, CloseAfter}
-use Rattle.hdl_laws.specs.Lanes.{LaneState, fresh}
+use Rattle.hdl_laws.specs.Lanes.{LaneState, fresh, with_partials}
 
 -- what a frame event brings
 pub record Received : Type 0 where
@@ -53,14 +60,16 @@ pub record Effect : Type 0 where
   pub state : LaneState
   pub change : Option Change
 
--- a frame on an open lane, with the message that it brings
+-- a message that a frame on an open lane brings: who sent the frame, when, a nonce for it, and its envelope
 pub record Letter : Type 0 where
-  pub received : Received
+  pub peer : ℕ
+  pub moment : ℕ
+  pub nonce : List ℕ
   pub envelope : Envelope
   pub message : List ℕ
 
-abbrev pub letter : Received → Letter
-letter x = record { received = x; envelope = envelope_at x.bytes; message = drop 20 x.bytes }
+abbrev pub letter : Received → List ℕ → Letter
+letter x message = record { peer = x.peer; moment = x.moment; nonce = x.nonce; envelope = envelope_at x.bytes; message = message }
 
 -- ---- what an event comes to before the table is looked at, with the lane as it then is
 
@@ -68,28 +77,74 @@ pub data Task : Type 0 where
   Ignore : LaneState → Task
   Break : ℕ → ℕ → LaneState → Task
   Malformed : Letter → LaneState → Task
+  Unknown : Letter → Content → LaneState → Task
+  Late : Letter → Content → LaneState → Task
   Ask : Letter → Content → LaneState → Task
+  Redeem : Letter → Content → Proof → LaneState → Task
 
 -- what the octets spell, or that they spell nothing
 abbrev pub IsReading : {A : Type 0} → (A → Type 0) → Option A → Type 0
 IsReading {A} P None = (x : A) → P x → ⊥
 IsReading P (Some x) = P x
 
+-- how long a challenge lives, in milliseconds
+abbrev pub challenge_life : ℕ
+challenge_life = 60000
+
+-- the moment of the letter is later than the challenge's by more than that; an earlier moment counts as none
+abbrev pub is_late : Letter → Pending → Bool
+is_late m p = nat_lt challenge_life (m.moment - p.moment)
+
+-- the lane without the challenge that the letter names
+abbrev pub redeemed : LaneState → Letter → LaneState
+redeemed s m = record s { challenges = spent s.challenges m.peer m.envelope.session }
+
+-- the challenged request, by the reading of its message; its challenge is spent
+abbrev pub redeem_task : LaneState → Letter → Response → Pending → Option Content → Task
+redeem_task s m a p None = Malformed m (redeemed s m)
+redeem_task s m a p (Some r) =
+    if is_late m p
+    then Late m r (redeemed s m)
+    else Redeem m r (record { response = a; nonce = p.nonce; digest = p.digest }) (redeemed s m)
+
+-- a challenge response, by the challenge that it names
+abbrev pub IsResponseTask : LaneState → Letter → Content → Response → Option Pending → Task → Type 0
+IsResponseTask s m r a None k = k ≡ Unknown m r s
+IsResponseTask s m r a (Some p) k = (o : Option Content) × IsReading (SpellsRequest p.message) o × (k ≡ redeem_task s m a p o)
+
+-- a request, by whether it is a challenge response
+abbrev pub IsRequestTask : LaneState → Letter → Content → Option Response → Task → Type 0
+IsRequestTask s m r None k = k ≡ Ask m r s
+IsRequestTask s m r (Some a) k = IsResponseTask s m r a (challenge_of s.challenges.challenges m.peer m.envelope.session) k
+
 -- a message, by its reading
 abbrev pub IsMessageTask : LaneState → Letter → Option Content → Task → Type 0
 IsMessageTask s m None k = k ≡ Malformed m s
-IsMessageTask s m (Some r) k = k ≡ Ask m r s
+IsMessageTask s m (Some r) k = IsRequestTask s m r (response_of r.operation) k
 
--- a frame, by its message; a piece of a message is not taken yet
-abbrev pub IsFrameTask : LaneState → Letter → Task → Type 0
-IsFrameTask s m k =
-    MatchBool (is_truncated m.envelope)
-    (k ≡ Ignore s)
-    ((o : Option Content) × IsReading (SpellsRequest m.message) o × IsMessageTask s m o k)
+-- a letter, by what its message spells
+abbrev pub IsLetterTask : LaneState → Letter → Task → Type 0
+IsLetterTask s m k = (o : Option Content) × IsReading (SpellsRequest m.message) o × IsMessageTask s m o k
+
+-- a piece, by the message that it makes whole; the lane's partial message of its key is then gone
+abbrev pub IsWholeTask : LaneState → LaneState → Received → Option (List ℕ) → Task → Type 0
+IsWholeTask kept gone x None k = k ≡ Ignore kept
+IsWholeTask kept gone x (Some message) k = IsLetterTask gone (letter x message) k
+
+-- a piece, by what becomes of it
+abbrev pub IsPieceTask : LaneState → Received → Fate × List Partial → Task → Type 0
+IsPieceTask s x after k = IsWholeTask (with_partials s after.1) (with_partials s (freed s.partials (key_of x.peer (envelope_at x.bytes)))) x (whole_message after.0) k
+
+-- a frame, by its message or by the piece of one that it is
+abbrev pub IsFrameTask : LaneState → Received → Task → Type 0
+IsFrameTask s x k =
+    MatchBool (is_truncated (envelope_at x.bytes))
+    (IsPieceTask s x (taken s.partials (piece_of x.peer x.bytes)) k)
+    (IsLetterTask s (letter x (drop 20 x.bytes)) k)
 
 -- octets, by the frame that they are or are not
 abbrev pub IsOctetsTask : LaneState → Received → Task → Type 0
-IsOctetsTask s x k = (IsFrame x.bytes × IsFrameTask s (letter x) k) ⊎ ((¬ IsFrame x.bytes) × (k ≡ Ignore s))
+IsOctetsTask s x k = (IsFrame x.bytes × IsFrameTask s x k) ⊎ ((¬ IsFrame x.bytes) × (k ≡ Ignore s))
 
 abbrev pub IsTask : LaneState → What → Task → Type 0
 IsTask s Open k = k ≡ Ignore (fresh true)
@@ -102,20 +157,39 @@ IsTask s (What.Frame peer moment nonce bytes) k =
 
 -- ---- what a task does
 
--- a request decided for anyone
-abbrev pub ask_effect : LaneState → Letter → Content → Decision → Effect
-ask_effect s m r d = record {
+-- the request that waits for its response
+abbrev pub pending : Letter → Content → Pending
+pending m r = record { peer = m.peer; moment = m.moment; nonce = m.nonce; digest = digest_of r; message = m.message }
+
+-- the lane's next number, and the challenge put under it
+abbrev pub challenge_effect : LaneState → Letter → Content → Effect
+challenge_effect s m r = record {
+  outcome = Reply (reply_octets (challenge_to s.challenges.next m.envelope.request r m.nonce));
+  state = record s { challenges = challenged s.challenges (pending m r) };
+  change = None;
+}
+
+-- a reply to the request, with the letter's session and request number
+abbrev pub answer_effect : LaneState → Letter → Content → Decision → Effect
+answer_effect s m r d = record {
   outcome = Reply (reply_octets (reply_to m.envelope.session m.envelope.request r d.code d.content));
   state = s;
   change = d.change;
 }
+
+-- a request decided for anyone: code 402 is a challenge
+abbrev pub ask_effect : LaneState → Letter → Content → Decision → Effect
+ask_effect s m r d = if d.code == 402 then challenge_effect s m r else answer_effect s m r d
 
 -- the effect of a task on this table, for a publisher who hosts these prefixes
 abbrev pub Does : (List ℕ → Bool) → Table → Task → Effect → Type 0
 Does hosted t (Ignore s) eff = eff ≡ record { outcome = Silent; state = s; change = None }
 Does hosted t (Break session request s) eff = eff ≡ record { outcome = CloseAfter (short_reply 4 (reply_envelope session request 0)); state = s; change = None }
 Does hosted t (Malformed m s) eff = eff ≡ record { outcome = Reply (short_reply 4 m.envelope); state = s; change = None }
-Does hosted t (Ask m r s) eff = (d : Decision) × Decides hosted t r d × (eff ≡ ask_effect s m r d)
+Does hosted t (Unknown m r s) eff = eff ≡ answer_effect s m r (failure 4 Empty)
+Does hosted t (Late m r s) eff = eff ≡ answer_effect s m r (failure 405 Empty)
+Does hosted t (Ask m r s) eff = (d : Decision) × Decides hosted t r Anyone d × (eff ≡ ask_effect s m r d)
+Does hosted t (Redeem m r p s) eff = (d : Decision) × Decides hosted t r (Proven p) d × (eff ≡ answer_effect s m r d)
 
 -- ---- steps
 

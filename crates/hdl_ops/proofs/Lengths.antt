@@ -10,7 +10,7 @@ use Rattle.hdl_value.specs.Spelling.{string}
 use Rattle.hdl_msg.specs.Message.{Content, number, signed_octets}
 use Rattle.hdl_msg.specs.declared.replies.Reply.{Reply}
 use Rattle.hdl_msg.specs.declared.replies.ReplyContent.{ReplyContent}
-use Rattle.hdl_msg.specs.declared.replies.ReplyContent.TheVariants.{Empty, Referral}
+use Rattle.hdl_msg.specs.declared.replies.ReplyContent.TheVariants.{Empty, Referral, Nonce}
 use Rattle.hdl_msg.specs.Reply.{most_octets, capped, digest_octets, content_octets, reply_message, reply_body}
 use Rattle.hdl_msg.proofs.Written.{length-reply_message}
 use Rattle.hdl_ops.specs.Requests.{wants_digest}
@@ -40,7 +40,7 @@ content_fits r content reply n is len le =
 
 -- ---- what always fits
 
-length-sha1 : (m : List ℕ) → length (sha1 m) ≡ 20
+pub length-sha1 : (m : List ℕ) → length (sha1 m) ≡ 20
 unfolding sha1 digest_bytes
 length-sha1 m = refl
 
@@ -72,3 +72,11 @@ prefix_short name h = by (is_admin name)
     by : (b : Bool) → length (cond b (sent_local name) (sent_authority name)) ≤ 2048
     by true = let short = h.2.short in let len = length-drop (position_or_len is_slash name + 1) name in omega (arith, short, len)
     by false = let short = h.2.short in let len = length-take (position_or_len is_slash name) name in omega (arith, short, len)
+
+-- a challenge always fits
+pub challenge_short : (y : Reply) (d nonce : List ℕ) → y.digest ≡ Some d → y.content ≡ Nonce nonce → length d ≤ 20 → length nonce ≤ 16 → length (reply_message y) ≤ most_octets
+challenge_short y d nonce digest content short few =
+    let len = length-reply_message y in
+    let front : length (digest_octets y.digest) ≡ length (digest_octets (Some d)) = ap (λ o. length (digest_octets o)) digest in
+    let rest : length (content_octets y.content) ≡ length (content_octets (Nonce nonce)) = ap (λ (c : ReplyContent). length (content_octets c)) content in
+    omega (arith, len, front, rest, short, few)

@@ -1,2 +1,4 @@
 pub mod Stamps
+pub mod Walked
+pub mod Applied
 pub mod Lengths

@@ -1,5 +1,10 @@
+pub mod First
 pub mod Requests
 pub mod Tables
+pub mod Admission
+pub mod Sights
+pub mod Anyone
+pub mod Proven
 pub mod Decisions
 pub mod Replies
 pub mod Views

@@ -4,6 +4,7 @@ use Rattle.sha1.specs.Sha1.{sha1}
 use Rattle.hdl_msg.specs.Message.{Content, signed_octets}
 use Rattle.hdl_msg.specs.declared.replies.Reply.{Reply}
 use Rattle.hdl_msg.specs.declared.replies.ReplyContent.{ReplyContent}
+use Rattle.hdl_msg.specs.declared.replies.ReplyContent.TheVariants.{Nonce}
 use Rattle.hdl_msg.specs.Reply.{most_octets, answer_header, reply_message}
 use Rattle.hdl_ops.specs.Requests.{wants_digest}
 
@@ -22,6 +23,16 @@ reply_to session number r code content = record {
   header = answer_header r.header code;
   digest = asked_digest r;
   content = content;
+}
+
+-- the challenge that is sent in place of an answer: the request's digest, and a nonce
+unfoldable pub challenge_to : ℕ → ℕ → Content → List ℕ → Reply
+challenge_to session number r nonce = record {
+  session = session;
+  request = number;
+  header = answer_header r.header 402;
+  digest = Some (digest_of r);
+  content = Nonce nonce;
 }
 
 -- the message of a reply with this content has at most 65,536 octets, whatever session, request number and code

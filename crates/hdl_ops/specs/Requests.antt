@@ -1,5 +1,5 @@
 -- A request, in the words of the tables of decision.
-use Rattle.std.specs.Prelude.{ℕ, List, [], Bool, true, false}
+use Rattle.std.specs.Prelude.{ℕ, List, [], Bool, true, false, Option, Some, None}
 use Rattle.hdl_name.specs.Name.{canonical}
 use Rattle.hdl_msg.specs.Codes.{has_flag}
 use Rattle.hdl_msg.specs.declared.codes.OpFlag.TheVariants.{PublicOnly, ReturnDigest}
@@ -21,9 +21,30 @@ named (other octets) = []
 unfoldable pub handle_of : Content → List ℕ
 handle_of r = canonical (named r.operation)
 
+-- no operation that is offered, or a challenge response, which is not decided by itself
+abbrev pub is_unused : Operation → Bool
+is_unused (response kind handle index answer) = true
+is_unused (other octets) = true
+is_unused _ = false
+
 abbrev pub resolves : Operation → Bool
 resolves (resolution handle indexes types) = true
 resolves _ = false
+
+abbrev pub creates : Operation → Bool
+creates (create handle values) = true
+creates _ = false
+
+-- it makes a handle or takes one away
+abbrev pub makes_or_ends : Operation → Bool
+makes_or_ends (create handle values) = true
+makes_or_ends (delete handle) = true
+makes_or_ends _ = false
+
+-- it asks for the handles of a naming authority
+abbrev pub is_list : Operation → Bool
+is_list (list handle) = true
+is_list _ = false
 
 -- public values only (PO)
 abbrev pub is_public_only : Content → Bool
@@ -32,3 +53,16 @@ is_public_only r = has_flag r.header.op_flag PublicOnly
 -- return the request's digest (RD)
 abbrev pub wants_digest : Content → Bool
 wants_digest r = has_flag r.header.op_flag ReturnDigest
+
+-- ---- challenge responses
+
+-- the fields of a challenge response: authentication type, key, and the response string
+pub record Response : Type 0 where
+  pub kind : List ℕ
+  pub handle : List ℕ
+  pub index : ℕ
+  pub answer : List ℕ
+
+abbrev pub response_of : Operation → Option Response
+response_of (response kind handle index answer) = Some (record { kind = kind; handle = handle; index = index; answer = answer })
+response_of _ = None

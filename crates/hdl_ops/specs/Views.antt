@@ -5,18 +5,36 @@ use Rattle.hdl_msg.specs.Message.{Content}
 use Rattle.hdl_ops.specs.declared.admit.Admitted.{Admitted}
 use Rattle.hdl_ops.specs.declared.admit.Admitted.TheVariants as admitted
 use Rattle.hdl_ops.specs.declared.decision.Decision.{Decision}
+use Rattle.hdl_ops.specs.declared.decision.Level.{Level}
+use Rattle.hdl_ops.specs.declared.decision.Level.TheVariants as level
+use Rattle.hdl_ops.specs.declared.decision.Proof.{Proof}
 use Rattle.hdl_ops.specs.declared.decision.Sight.{Sight}
+use Rattle.hdl_ops.specs.Admission.{refusal}
 use Rattle.hdl_ops.specs.Decisions as d
+use Rattle.hdl_ops.specs.Proven as proven
 use Rattle.hdl_ops.specs.Replies.{fits}
+use Rattle.hdl_ops.specs.declared.requests.Response.{Response}
+use Rattle.hdl_ops.specs.Requests as requests
 use Rattle.hdl_ops.specs.Requests.{named}
+use Rattle.hdl_ops.specs.Sights as sights
 
 abbrev pub decision_of : Decision → d.Decision
 decision_of x = record { code = response_number x.code; content = x.content; change = x.change }
 
-abbrev pub sight_of : Sight → d.Sight
-sight_of s = record { there = s.there; values = s.values.items }
+abbrev pub sight_of : Sight → sights.Sight
+sight_of s = record { there = s.there; values = s.values.items; names = s.names.items }
+
+abbrev pub response_view : Response → requests.Response
+response_view a = record { kind = a.kind.now; handle = a.handle.now; index = a.index; answer = a.answer.now }
+
+abbrev pub proof_of : Proof → proven.Proof
+proof_of p = record { response = response_view p.response; nonce = p.nonce.now; digest = p.digest.now }
+
+abbrev pub level_of : Level → d.Level
+level_of level.Anyone = d.Anyone
+level_of (level.Proven p) = d.Proven (proof_of p)
 
 -- what comes of the tests before the table is looked at
 abbrev pub IsAdmitted : (List ℕ → Bool) → Content → Admitted → Type 0
-IsAdmitted hosts r (admitted.Refused x) = (d.refusal hosts r ≡ Some (response_number x.code)) × (decision_of x ≡ d.refused r (response_number x.code)) × IsTrue (fits r x.content) × (x.change ≡ None)
-IsAdmitted hosts r (admitted.Passed name) = (d.refusal hosts r ≡ None) × (name ≡ named r.operation)
+IsAdmitted hosts r (admitted.Refused x) = (refusal hosts r ≡ Some (response_number x.code)) × (decision_of x ≡ d.refused r (response_number x.code)) × IsTrue (fits r x.content) × (x.change ≡ None)
+IsAdmitted hosts r (admitted.Passed name) = (refusal hosts r ≡ None) × (name ≡ named r.operation)

@@ -5,11 +5,12 @@ ghost use Rattle.hdl_name.specs.Name.{canonical, sent_prefix};
 ghost use Rattle.hdl_name.specs.Tests.{is_handle};
 ghost use Rattle.hdl_tenants.specs.Register.{hosts};
 ghost use Rattle.hdl_msg.specs.Bodies.{content_of};
-ghost use Rattle.hdl_ops.specs.Decisions.{handle_in};
+ghost use Rattle.hdl_ops.specs.Admission.{handle_in};
 ghost use Rattle.hdl_ops.specs.Views.{IsAdmitted};
 
 use crate::decision::Decision;
-use crate::requests::{named, resolves};
+use crate::requests::{is_list, is_unused, makes_or_ends, named};
+use crate::written::is_bad_write;
 use hdl_msg::{ReplyContent, Request, ResponseCode};
 use hdl_name::{Name, names_decided};
 use hdl_rows::Refused;
@@ -32,8 +33,8 @@ fn is_name(octets: &[u8]) -> bool
 }
 
 /// The name that octets are, if they are one.
-#[tactic(auto, unfolding(crate::specs::Decisions::handle_in))]
-fn read_name(alloc: Global, octets: &[u8]) -> Result<Option<Name>, Refused>
+#[tactic(auto, unfolding(crate::specs::Admission::handle_in))]
+pub(crate) fn read_name(alloc: Global, octets: &[u8]) -> Result<Option<Name>, Refused>
     ensures handle { IfOk result (λ name. option_map canonical name ≡ handle_in octets.now) }
     ensures sent { IfOk result (λ name. IfSome name (λ name. name ≡ octets.now)) }
 {
@@ -65,7 +66,7 @@ fn failed(code: ResponseCode, content: ReplyContent) -> Admitted
 }
 
 /// Tests the request before the table is looked at, and reads its name.
-#[tactic(auto, unfolding(crate::specs::Decisions::first, crate::specs::Decisions::refusal, crate::specs::Decisions::refused), using(crate::proofs::Lengths::empty_fits, crate::proofs::Lengths::referral_fits))]
+#[tactic(auto, unfolding(crate::specs::First::first, crate::specs::Admission::refusal, crate::specs::Decisions::refused), using(crate::proofs::Lengths::empty_fits, crate::proofs::Lengths::referral_fits))]
 pub(crate) fn admit(
     alloc: Global,
     tenants: &Tenants,
@@ -74,18 +75,28 @@ pub(crate) fn admit(
 ) -> Result<Admitted, Refused>
     ensures { IfOk result (λ admitted. IsAdmitted (hosts tenants.now publisher) (content_of request.now) admitted) }
 {
-    if !resolves(&request.body) {
+    let body = &request.body;
+    if is_unused(body) {
         return Ok(failed(ResponseCode::OperationDenied, ReplyContent::Empty));
     }
-    let Some(name) = read_name(alloc, named(&request.body))? else {
+    let Some(name) = read_name(alloc, named(body))? else {
         return Ok(failed(ResponseCode::InvalidHandle, ReplyContent::Empty));
     };
+    if is_list(body) && !name.is_admin_handle() {
+        return Ok(failed(ResponseCode::InvalidHandle, ReplyContent::Empty));
+    }
+    if makes_or_ends(body) && name.is_admin_handle() {
+        return Ok(failed(ResponseCode::OperationDenied, ReplyContent::Empty));
+    }
     if !tenants.hosts(publisher, &name) {
         let Ok(prefix) = sent_prefix(alloc, &name) else {
             return Err(Refused);
         };
         let referral = ReplyContent::Referral { prefix };
         return Ok(failed(ResponseCode::ServiceReferral, referral));
+    }
+    if is_bad_write(body) {
+        return Ok(failed(ResponseCode::ValueInvalid, ReplyContent::Empty));
     }
     Ok(Admitted::Passed(name))
 }

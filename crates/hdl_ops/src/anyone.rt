@@ -1,81 +1,21 @@
-//! Decisions for anyone.
+//! The table of decision for anyone.
 
-ghost use Rattle.std.specs.Prelude.{◌≡◌, ◌==◌, ◌&&◌, [], length};
-ghost use Rattle.std.specs.List.{list_any};
-ghost use Rattle.hdl_value.specs.Permission.{is_public, is_kept};
+ghost use Rattle.std.specs.Prelude.{◌≡◌, ◌&&◌, not};
+ghost use Rattle.std.specs.List.{list_any, list_all};
+ghost use Rattle.hdl_value.specs.Permission.{is_kept};
+ghost use Rattle.hdl_value.specs.Refs.{is_admin};
 ghost use Rattle.hdl_msg.specs.Bodies.{operation_of, content_of};
 ghost use Rattle.hdl_msg.specs.Codes.{response_number};
-ghost use Rattle.hdl_msg.specs.Views.{numbers_of, strings_of};
-ghost use Rattle.hdl_ops.specs.Decisions.{matches, is_named, asks, is_left, code_for_anyone};
+ghost use Rattle.hdl_msg.specs.Views.{numbers_of, values_of};
+ghost use Rattle.hdl_ops.specs.Anyone.{is_left, is_open, is_open_write, code_for_anyone};
+ghost use Rattle.hdl_ops.specs.Sights.{passes_at};
 ghost use Rattle.hdl_ops.specs.Views.{sight_of};
 
+use crate::asked::{asks, is_kept, is_public, value_with};
 use crate::decision::Sight;
-use crate::requests::is_public_only;
-use hdl_msg::{Body, Numbers, Request, ResponseCode, Strings};
-use hdl_value::{Class, Value};
-
-/// A listed type matches the type of a value.
-#[tactic(auto, unfolding(crate::specs::Decisions::matches))]
-fn matches(listed: &[u8], kind: &[u8]) -> bool
-    ensures { result ≡ matches listed.now kind.now }
-{
-    listed == kind || listed.ends_with(b".") && kind.starts_with(listed)
-}
-
-fn lists_index(mut indexes: Numbers<'_>, index: u32) -> bool
-    ensures { result ≡ list_any (λ i. i == index) (numbers_of indexes.entry) }
-{
-    indexes.any(|i| i == index)
-}
-
-fn lists_type(mut types: Strings<'_>, kind: &[u8]) -> bool
-    ensures { result ≡ list_any (λ t. matches t kind.now) (strings_of types.entry) }
-{
-    types.any(|listed| matches(listed, kind))
-}
-
-fn has_no_index(mut indexes: Numbers<'_>) -> bool
-    ensures { result ≡ (length (numbers_of indexes.entry) == 0) }
-{
-    indexes.next().is_none()
-}
-
-fn has_no_type(mut types: Strings<'_>) -> bool
-    ensures { result ≡ (length (strings_of types.entry) == 0) }
-{
-    types.next().is_none()
-}
-
-#[tactic(auto, unfolding(crate::specs::Decisions::is_named))]
-fn is_named(indexes: Numbers<'_>, types: Strings<'_>, value: &Value) -> bool
-    ensures { result ≡ is_named (numbers_of indexes.entry) (strings_of types.entry) value.now }
-{
-    has_no_index(indexes) && has_no_type(types)
-        || lists_index(indexes, value.index)
-        || lists_type(types, value.kind.as_slice())
-}
-
-/// A resolution asks for the value.
-pub(crate) fn asks(body: &Body<'_>, value: &Value) -> bool
-    ensures { result ≡ asks (operation_of body.now) value.now }
-{
-    match body {
-        Body::Resolution { indexes, types, .. } => is_named(*indexes, *types, value),
-        _ => false,
-    }
-}
-
-pub(crate) fn is_public(value: &Value) -> bool
-    ensures { result ≡ is_public value.now }
-{
-    value.class() == Class::Public
-}
-
-fn is_kept(value: &Value) -> bool
-    ensures { result ≡ is_kept value.now }
-{
-    value.class() == Class::Kept
-}
+use crate::requests::{creates, is_public_only, resolves};
+use hdl_msg::{Body, Numbers, Request, ResponseCode, Values};
+use hdl_value::{CutValue, Permission, Value};
 
 /// The value is left of those that are asked for: it isn't hidden, nor kept where only the public are wanted.
 fn is_left(request: &Request<'_>, value: &Value) -> bool
@@ -98,19 +38,70 @@ fn any_kept_left(request: &Request<'_>, values: &[Value]) -> bool
         .any(|value| is_left(request, value) && is_kept(value))
 }
 
+/// Anybody may write the value of this index, and it is no HS_ADMIN value.
+fn is_open_at(values: &[Value], index: u32) -> bool
+    ensures { result ≡ passes_at is_open values.now index }
+{
+    match value_with(index, values) {
+        Some(value) => value.permits(Permission::PublicWrite) && !value.is_admin(),
+        None => false,
+    }
+}
+
+/// Anybody may put the new value in the place of the old one.
+fn is_open_for(values: &[Value], new: &CutValue<'_>) -> bool
+    ensures { result ≡ (not (is_admin new.now) && passes_at is_open values.now new.now.index) }
+{
+    !new.is_admin() && is_open_at(values, new.index())
+}
+
+fn are_open_at(values: &[Value], mut indexes: Numbers<'_>) -> bool
+    ensures { result ≡ list_all (passes_at is_open values.now) (numbers_of indexes.entry) }
+{
+    indexes.all(|index| is_open_at(values, index))
+}
+
+fn are_open_for(values: &[Value], mut news: Values<'_>) -> bool
+    ensures { result ≡ list_all (λ n. not (is_admin n) && passes_at is_open values.now n.index) (values_of news.entry) }
+{
+    news.all(|new| is_open_for(values, &new))
+}
+
+/// Anybody may do the write.
+fn is_open_write(body: &Body<'_>, values: &[Value]) -> bool
+    ensures { result ≡ is_open_write (operation_of body.now) values.now }
+{
+    match body {
+        Body::Remove { indexes, .. } => are_open_at(values, *indexes),
+        Body::Modify { values: news, .. } => are_open_for(values, *news),
+        _ => false,
+    }
+}
+
 /// The code of the table of decision for anyone.
-#[tactic(auto, unfolding(crate::specs::Decisions::code_for_anyone, crate::specs::Decisions::first))]
+#[tactic(auto, unfolding(crate::specs::Anyone::code_for_anyone, crate::specs::First::first))]
 pub(crate) fn code_for_anyone(request: &Request<'_>, sight: &Sight) -> ResponseCode
     ensures { response_number result ≡ code_for_anyone (sight_of sight.now) (content_of request.now) }
 {
-    if !sight.there {
+    let body = &request.body;
+    let values = &sight.values;
+    if creates(body) && sight.there {
+        return ResponseCode::HandleAlreadyExists;
+    }
+    if !creates(body) && !sight.there {
         return ResponseCode::HandleNotFound;
     }
-    if !any_left(request, &sight.values) {
+    if resolves(body) && !any_left(request, values) {
         return ResponseCode::ValueNotFound;
     }
-    if any_kept_left(request, &sight.values) {
-        return ResponseCode::OperationDenied;
+    if resolves(body) && any_kept_left(request, values) {
+        return ResponseCode::AuthenticationNeeded;
     }
-    ResponseCode::Success
+    if resolves(body) {
+        return ResponseCode::Success;
+    }
+    if is_open_write(body, values) {
+        return ResponseCode::Success;
+    }
+    ResponseCode::AuthenticationNeeded
 }

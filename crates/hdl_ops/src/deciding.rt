@@ -1,38 +1,118 @@
 //! Decisions.
 
-ghost use Rattle.std.specs.Prelude.{◌≡◌, ◌+◌, ◌⊎◌, min, IfOk, IfSome, OnErr, OnOk, IsTrue};
+ghost use Rattle.std.specs.Prelude.{◌≡◌, ◌+◌, ◌⊎◌, [], None, min, if◌then◌else◌, IfOk, IfSome, OnErr, OnOk, IsTrue};
+ghost use Rattle.hdl_name.specs.Name.{prefix};
 ghost use Rattle.hdl_tenants.specs.Register.{hosts};
 ghost use Rattle.hdl_msg.specs.Bodies.{content_of};
 ghost use Rattle.hdl_msg.specs.Message.{signed_octets};
-ghost use Rattle.hdl_rows.specs.Table.{most};
-ghost use Rattle.hdl_ops.specs.Decisions.{sight, Decides};
+ghost use Rattle.hdl_rows.specs.Table.{most, names_of, values_of, HaveTheirIndexes};
+ghost use Rattle.hdl_ops.specs.Admission.{refusal};
+ghost use Rattle.hdl_ops.specs.Decisions as decisions;
+ghost use Rattle.hdl_ops.specs.Decisions.{Decides, DecidesBy};
 ghost use Rattle.hdl_ops.specs.Replies.{fits};
-ghost use Rattle.hdl_ops.specs.Requests.{named};
+ghost use Rattle.hdl_ops.specs.Requests.{named, handle_of, is_list};
+ghost use Rattle.hdl_ops.specs.Sights.{sight};
 ghost use Rattle.hdl_ops.specs.Tables.{CanApply};
-ghost use Rattle.hdl_ops.specs.Views.{decision_of, sight_of};
+ghost use Rattle.hdl_ops.specs.Views.{decision_of, level_of, proof_of, sight_of};
 
 use crate::admit::{Admitted, admit};
 use crate::anyone::code_for_anyone;
-use crate::decision::{Decision, Sight};
+use crate::decision::{Decision, Level, Proof, Sight};
+use crate::keys::code_for_proof;
+use crate::requests::is_list;
 use crate::settle::settle;
 use hdl_msg::Request;
 use hdl_name::Name;
 use hdl_rows::{Refused, Rows};
 use hdl_tenants::Tenants;
+use hdl_value::Octets;
 use std::alloc::Global;
 
+/// For a list, the handles of the naming authority.
+fn names<R: Rows>(
+    alloc: Global,
+    rows: &mut R,
+    request: &Request<'_>,
+    name: &Name,
+) -> Result<Vec<Octets>, Refused>
+    ensures unchanged { R.content rows.new ≡ R.content rows.old }
+    ensures names { IfOk result (λ all. all.items ≡ (if is_list (content_of request.now).operation then names_of (R.content rows.old) (prefix name.now) else [])) }
+    ensures answered { OnOk result (R.refused rows.new ≡ R.refused rows.old) }
+    ensures refused { OnErr result (R.refused rows.new ≡ min (R.refused rows.old + 1) most) }
+{
+    if is_list(&request.body) {
+        rows.names(name.prefix())
+    } else {
+        Ok(Vec::new(alloc))
+    }
+}
+
 /// What a decision sees of the table.
-#[tactic(auto, unfolding(crate::specs::Decisions::sight, crate::specs::Requests::handle_of))]
-fn look<R: Rows>(rows: &mut R, request: &Request<'_>, name: &Name) -> Result<Sight, Refused>
+#[tactic(auto, unfolding(crate::specs::Sights::sight, crate::specs::Requests::handle_of))]
+fn look<R: Rows>(
+    alloc: Global,
+    rows: &mut R,
+    request: &Request<'_>,
+    name: &Name,
+) -> Result<Sight, Refused>
     requires named { name.now ≡ named (content_of request.now).operation }
     ensures unchanged { R.content rows.new ≡ R.content rows.old }
     ensures sight { IfOk result (λ s. sight_of s ≡ sight (R.content rows.old) (content_of request.now)) }
+    ensures by_index { OnOk result (HaveTheirIndexes (R.content rows.old) (handle_of (content_of request.now)) (sight (R.content rows.old) (content_of request.now)).values) }
     ensures answered { OnOk result (R.refused rows.new ≡ R.refused rows.old) }
     ensures refused { OnErr result (R.refused rows.new ≡ min (R.refused rows.old + 1) most) }
 {
     let there = rows.exists(name)?;
     let values = rows.values(name)?;
-    Ok(Sight { there, values })
+    let names = names(alloc, rows, request, name)?;
+    Ok(Sight {
+        there,
+        values,
+        names,
+    })
+}
+
+/// The decision about a request that came as it is, and that the tests before the table let pass.
+fn decide_for_anyone<R: Rows>(
+    alloc: Global,
+    rows: &mut R,
+    request: &Request<'_>,
+    name: Name,
+) -> Result<Decision, Refused>
+    requires signed { request.now.signed.now ≡ signed_octets (content_of request.now) }
+    requires named { name ≡ named (content_of request.now).operation }
+    ensures unchanged { R.content rows.new ≡ R.content rows.old }
+    ensures decided { IfOk result (λ d. DecidesBy (R.content rows.old) (content_of request.now) decisions.Anyone None (decision_of d)) }
+    ensures carried { IfOk result (λ d. IsTrue (fits (content_of request.now) d.content)) }
+    ensures by_index { OnOk result (HaveTheirIndexes (R.content rows.old) (handle_of (content_of request.now)) (sight (R.content rows.old) (content_of request.now)).values) }
+    ensures answered { OnOk result (R.refused rows.new ≡ R.refused rows.old) }
+    ensures refused { OnErr result ((R.refused rows.new ≡ R.refused rows.old) ⊎ (R.refused rows.new ≡ min (R.refused rows.old + 1) most)) }
+{
+    let sight = look(alloc, rows, request, &name)?;
+    let code = code_for_anyone(request, &sight);
+    settle(alloc, request, &Level::Anyone, sight, code, name)
+}
+
+/// The decision about a request that came back with a proof.
+fn decide_with_proof<R: Rows>(
+    alloc: Global,
+    rows: &mut R,
+    request: &Request<'_>,
+    name: Name,
+    proof: &Proof<'_>,
+) -> Result<Decision, Refused>
+    requires signed { request.now.signed.now ≡ signed_octets (content_of request.now) }
+    requires named { name ≡ named (content_of request.now).operation }
+    ensures unchanged { R.content rows.new ≡ R.content rows.old }
+    ensures decided { IfOk result (λ d. DecidesBy (R.content rows.old) (content_of request.now) (decisions.Proven (proof_of proof.now)) None (decision_of d)) }
+    ensures carried { IfOk result (λ d. IsTrue (fits (content_of request.now) d.content)) }
+    ensures by_index { OnOk result (HaveTheirIndexes (R.content rows.old) (handle_of (content_of request.now)) (sight (R.content rows.old) (content_of request.now)).values) }
+    ensures answered { OnOk result (R.refused rows.new ≡ R.refused rows.old) }
+    ensures refused { OnErr result ((R.refused rows.new ≡ R.refused rows.old) ⊎ (R.refused rows.new ≡ min (R.refused rows.old + 1) most)) }
+{
+    let sight = look(alloc, rows, request, &name)?;
+    let code = code_for_proof(alloc, rows, request, &sight, &name, proof)?;
+    settle(alloc, request, &Level::Proven(*proof), sight, code, name)
 }
 
 /// The decision about a request on a lane of the publisher. The table stays as it is.
@@ -45,10 +125,11 @@ pub fn decide<R: Rows>(
     publisher: usize,
     rows: &mut R,
     request: &Request<'_>,
+    level: &Level<'_>,
 ) -> Result<Decision, Refused>
     requires signed { request.now.signed.now ≡ signed_octets (content_of request.now) }
     ensures unchanged { R.content rows.new ≡ R.content rows.old }
-    ensures decided { IfOk result (λ d. Decides (hosts tenants.now publisher) (R.content rows.old) (content_of request.now) (decision_of d)) }
+    ensures decided { IfOk result (λ d. Decides (hosts tenants.now publisher) (R.content rows.old) (content_of request.now) (level_of level.now) (decision_of d)) }
     ensures carried { IfOk result (λ d. IsTrue (fits (content_of request.now) d.content)) }
     ensures can_apply { IfOk result (λ d. IfSome d.change (λ change. CanApply (R.content rows.old) change)) }
     ensures answered { OnOk result (R.refused rows.new ≡ R.refused rows.old) }
@@ -56,10 +137,9 @@ pub fn decide<R: Rows>(
 {
     match admit(alloc, tenants, publisher, request)? {
         Admitted::Refused(decision) => Ok(decision),
-        Admitted::Passed(name) => {
-            let sight = look(rows, request, &name)?;
-            let code = code_for_anyone(request, &sight);
-            settle(alloc, request, sight, code)
-        }
+        Admitted::Passed(name) => match level {
+            Level::Anyone => decide_for_anyone(alloc, rows, request, name),
+            Level::Proven(proof) => decide_with_proof(alloc, rows, request, name, proof),
+        },
     }
 }

@@ -5,7 +5,7 @@ ghost use Rattle.hdl_msg.specs.Bodies.{content_of};
 ghost use Rattle.hdl_msg.specs.Codes.{response_number};
 ghost use Rattle.hdl_msg.specs.Message.{signed_octets};
 ghost use Rattle.hdl_msg.specs.Reply.{reply_octets};
-ghost use Rattle.hdl_ops.specs.Replies.{asked_digest, reply_to, fits};
+ghost use Rattle.hdl_ops.specs.Replies.{digest_of, asked_digest, reply_to, challenge_to, fits};
 
 use crate::requests::wants_digest;
 use hdl_auth::digest;
@@ -75,4 +75,29 @@ pub fn render(
 {
     let reply = reply_to(session, number, request, code.number(), content);
     write_reply(alloc, &reply)
+}
+
+/// The octets of a challenge with this session, request number and nonce, and the digest of the request that it stands for.
+#[tactic(auto, unfolding(crate::specs::Replies::challenge_to))]
+pub fn render_challenge(
+    alloc: Global,
+    session: u32,
+    number: u32,
+    request: &Request<'_>,
+    nonce: &[u8; 16],
+) -> Result<(Vec<u8>, [u8; 20]), AllocError>
+    requires signed { request.now.signed.now ≡ signed_octets (content_of request.now) }
+    ensures octets { IfOk result (λ sent. sent.0.items ≡ reply_octets (challenge_to session number (content_of request.now) nonce.now)) }
+    ensures digest { IfOk result (λ sent. sent.1 ≡ digest_of (content_of request.now)) }
+{
+    let request_digest = digest(request.signed);
+    let reply = Reply {
+        session,
+        request: number,
+        header: answer_header(request.header, ResponseCode::AuthenticationNeeded.number()),
+        digest: Some(request_digest),
+        content: ReplyContent::Nonce { nonce: *nonce },
+    };
+    let octets = write_reply(alloc, &reply)?;
+    Ok((octets, request_digest))
 }

@@ -1,37 +1,105 @@
 //! From the code of a table of decision to the whole decision.
 
-ghost use Rattle.std.specs.Prelude.{◌≡◌, ◌&&◌, None, filter, IfOk, IsTrue};
-ghost use Rattle.hdl_value.specs.Permission.{is_public};
+ghost use Rattle.std.specs.Prelude.{◌≡◌, ◌&&◌, filter, IfOk, IsTrue};
 ghost use Rattle.hdl_msg.specs.Bodies.{operation_of, content_of};
 ghost use Rattle.hdl_msg.specs.Codes.{response_number};
 ghost use Rattle.hdl_msg.specs.Message.{signed_octets};
+ghost use Rattle.hdl_msg.specs.Views.{values_of};
 ghost use Rattle.hdl_ops.specs.Decisions as decisions;
-ghost use Rattle.hdl_ops.specs.Decisions.{asks, carried};
+ghost use Rattle.hdl_ops.specs.Decisions.{may_read, carried, change_of};
 ghost use Rattle.hdl_ops.specs.Replies.{fits};
-ghost use Rattle.hdl_ops.specs.Views.{decision_of, sight_of};
+ghost use Rattle.hdl_ops.specs.Requests.{named};
+ghost use Rattle.hdl_ops.specs.Sights.{asks};
+ghost use Rattle.hdl_ops.specs.Views.{decision_of, level_of, sight_of};
 
-use crate::anyone::{asks, is_public};
-use crate::decision::{Decision, Sight};
+use crate::asked::{asks, is_kept, is_public};
+use crate::change::{Change, IndexList};
+use crate::decision::{Decision, Level, Sight};
 use crate::rendering::fitting;
-use crate::requests::named;
-use hdl_msg::{Body, ReplyContent, Request, ResponseCode, ValueList};
+use crate::written::{copied_indexes, copied_values};
+use hdl_msg::{Body, HandleList, ReplyContent, Request, ResponseCode, ValueList, Values};
+use hdl_name::Name;
 use hdl_rows::Refused;
 use hdl_value::{Octets, Value};
 use std::alloc::{AllocError, Global};
 
-fn shown(body: &Body<'_>, mut values: Vec<Value>) -> Vec<Value>
-    ensures { result.items ≡ filter (λ v. asks (operation_of body.now) v && is_public v) values.items }
+fn may_read(level: &Level<'_>, value: &Value) -> bool
+    ensures { result ≡ may_read (level_of level.now) value.now }
 {
-    values.retain(|value| asks(body, value) && is_public(value));
+    match level {
+        Level::Anyone => is_public(value),
+        Level::Proven(_) => is_public(value) || is_kept(value),
+    }
+}
+
+fn shown(body: &Body<'_>, level: &Level<'_>, mut values: Vec<Value>) -> Vec<Value>
+    ensures { result.items ≡ filter (λ v. asks (operation_of body.now) v && may_read (level_of level.now) v) values.items }
+{
+    values.retain(|value| asks(body, value) && may_read(level, value));
     values
 }
 
-fn carried(alloc: Global, request: &Request<'_>, sight: Sight) -> Result<ReplyContent, AllocError>
-    ensures { IfOk result (λ content. content ≡ carried (sight_of sight) (content_of request.now)) }
+/// What the reply carries with code 1.
+fn carried(
+    alloc: Global,
+    request: &Request<'_>,
+    level: &Level<'_>,
+    sight: Sight,
+) -> Result<ReplyContent, AllocError>
+    ensures { IfOk result (λ content. content ≡ carried (sight_of sight) (content_of request.now) (level_of level.now)) }
 {
-    let handle = Octets::new(Vec::from_slice(alloc, named(&request.body))?);
-    let values = ValueList::new(shown(&request.body, sight.values));
-    Ok(ReplyContent::Values { handle, values })
+    match request.body {
+        Body::Resolution { handle, .. } => Ok(ReplyContent::Values {
+            handle: Octets::new(Vec::from_slice(alloc, handle)?),
+            values: ValueList::new(shown(&request.body, level, sight.values)),
+        }),
+        Body::List { .. } => Ok(ReplyContent::Handles {
+            handles: HandleList::new(sight.names),
+        }),
+        Body::Create { .. } => Ok(ReplyContent::Nothing),
+        Body::Delete { .. } => Ok(ReplyContent::Nothing),
+        Body::Add { .. } => Ok(ReplyContent::Nothing),
+        Body::Remove { .. } => Ok(ReplyContent::Nothing),
+        Body::Modify { .. } => Ok(ReplyContent::Nothing),
+        Body::Response { .. } => Ok(ReplyContent::Nothing),
+        Body::Other { .. } => Ok(ReplyContent::Nothing),
+    }
+}
+
+fn value_list(alloc: Global, values: Values<'_>) -> Result<ValueList, AllocError>
+    ensures { IfOk result (λ list. list ≡ values_of values.entry) }
+{
+    Ok(ValueList::new(copied_values(alloc, values)?))
+}
+
+/// The write that the operation asks for.
+fn change_of(alloc: Global, body: &Body<'_>, name: Name) -> Result<Option<Change>, AllocError>
+    requires named { name ≡ named (operation_of body.now) }
+    ensures { IfOk result (λ change. change ≡ change_of (operation_of body.now)) }
+{
+    match body {
+        Body::Create { values, .. } => {
+            let values = value_list(alloc, *values)?;
+            Ok(Some(Change::Create { name, values }))
+        }
+        Body::Delete { .. } => Ok(Some(Change::Delete { name })),
+        Body::Add { values, .. } => {
+            let values = value_list(alloc, *values)?;
+            Ok(Some(Change::Add { name, values }))
+        }
+        Body::Remove { indexes, .. } => {
+            let indexes = IndexList::new(copied_indexes(alloc, *indexes)?);
+            Ok(Some(Change::Remove { name, indexes }))
+        }
+        Body::Modify { values, .. } => {
+            let values = value_list(alloc, *values)?;
+            Ok(Some(Change::Modify { name, values }))
+        }
+        Body::Resolution { .. } => Ok(None),
+        Body::List { .. } => Ok(None),
+        Body::Response { .. } => Ok(None),
+        Body::Other { .. } => Ok(None),
+    }
 }
 
 fn failure(code: ResponseCode) -> Decision
@@ -49,26 +117,31 @@ fn failure(code: ResponseCode) -> Decision
 pub(crate) fn settle(
     alloc: Global,
     request: &Request<'_>,
+    level: &Level<'_>,
     sight: Sight,
     code: ResponseCode,
+    name: Name,
 ) -> Result<Decision, Refused>
     requires signed { request.now.signed.now ≡ signed_octets (content_of request.now) }
+    requires named { name ≡ named (content_of request.now).operation }
     ensures carried { IfOk result (λ d. IsTrue (fits (content_of request.now) d.content)) }
-    ensures unchanging { IfOk result (λ d. d.change ≡ None) }
-    ensures decided { IfOk result (λ d. decision_of d ≡ decisions.decision (sight_of sight) (content_of request.now) (response_number code)) }
+    ensures decided { IfOk result (λ d. decision_of d ≡ decisions.decision (sight_of sight) (content_of request.now) (level_of level.now) (response_number code)) }
 {
     if code != ResponseCode::Success {
         return Ok(failure(code));
     }
-    let Ok(content) = carried(alloc, request, sight) else {
+    let Ok(content) = carried(alloc, request, level, sight) else {
         return Err(Refused);
     };
-    match fitting(request, content) {
-        Some(content) => Ok(Decision {
-            code,
-            content,
-            change: None,
-        }),
-        None => Ok(failure(ResponseCode::Error)),
-    }
+    let Some(content) = fitting(request, content) else {
+        return Ok(failure(ResponseCode::Error));
+    };
+    let Ok(change) = change_of(alloc, &request.body, name) else {
+        return Err(Refused);
+    };
+    Ok(Decision {
+        code,
+        content,
+        change,
+    })
 }

@@ -3,19 +3,14 @@ use Rattle.std.proofs.Common.{◌≡◌, ◌⊎◌, inl, inr, ℕ, List, [], ◌
 use Rattle.std.specs.List.{AllByRecursion}
 use Rattle.std.proofs.lemmas.Map.Made.{is_member-filter}
 use Rattle.hdl_value.specs.Place.{Place}
-use Rattle.hdl_value.specs.Refs.{granted, granted_by, admin_read, listed, listed_by, list_read, refers, place}
+use Rattle.hdl_value.specs.Refs.{granted, granted_by, admin_read, listed_by, list_read, refers, place}
 use Rattle.hdl_value.specs.declared.references.RawRef.{RawRef}
 use Rattle.hdl_value.specs.declared.value.Value.{Value}
 use Rattle.hdl_value.proofs.Places.{places_equal}
 use Rattle.hdl_rows.specs.Table.{Table, at, values_of}
 use Rattle.hdl_reach.specs.Reach.{is_among, listed_in, lists, IsPath, grants, joined, IsUnion, IsMask}
-use Rattle.hdl_reach.specs.Search.{IsClosed}
 use Rattle.hdl_reach.specs.Laws.{IsOnward, AgreeAt, GrantsAmong}
-use Rattle.hdl_reach.proofs.Members.{same_laws, at_among, all_append}
-
--- what a search visited lists no others
-pub closed_onward : (t : Table) (ps : List Place) → IsClosed t ps ps → IsOnward t ps
-closed_onward t ps closed r p here listed = at_among _ (lists t r) p (at_among _ ps r closed here) listed
+use Rattle.hdl_reach.proofs.Members.{same_laws, all_append}
 
 -- ---- one mask
 

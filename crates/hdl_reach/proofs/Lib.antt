@@ -1,5 +1,7 @@
 pub mod Members
-pub mod Chains
+pub mod Growth
+pub mod Listings
 pub mod Searches
+pub mod Chains
 pub mod Masks
 pub mod Agreement

@@ -1,5 +1,5 @@
 -- Places among others.
-use Rattle.std.proofs.Common.{◌≡◌, ◌≢◌, ◌⊎◌, inl, inr, List, [], ◌∷◌, ◌++◌, Bool, true, false, ◌||◌, refl, sym, ap, subst, ◌∙◌, Ordering, Less, Equal, Greater, is_eq, IsTrue}
+use Rattle.std.proofs.Common.{◌≡◌, ◌⊎◌, inl, inr, List, [], ◌∷◌, ◌++◌, Bool, true, false, ◌||◌, refl, sym, ap, subst, ◌∙◌, Ordering, Less, Equal, Greater, is_eq, IsTrue}
 use Rattle.std.specs.Prelude.{bytes_eq}
 use Rattle.std.specs.List.{AllByRecursion}
 use Rattle.std.specs.Ordering.{nat_cmp, ordering_then}
@@ -22,9 +22,6 @@ tied Greater = refl
 pub same_by_handle : (p q : Place) → p.index ≡ q.index → bytes_eq p.handle q.handle ≡ same_place p q
 same_by_handle p q is =
     sym (is_eq-slice_cmp p.handle q.handle) ∙ sym (tied (handle_cmp p.handle q.handle)) ∙ ap (λ o. is_eq (ordering_then (handle_cmp p.handle q.handle) o)) (sym (subst (λ n. nat_cmp p.index n ≡ Equal) is (tied_itself nat_cmp_total p.index)))
-
-pub not_same : (p q : Place) (b : Bool) → b ≡ same_place p q → b ≡ false → p ≢ q
-not_same p q b is differs e = absurd (let a : true ≡ false = sym (place_itself p) ∙ ap (same_place p) e ∙ sym is ∙ differs in cc)
 
 either_true : (a b : Bool) → (a || b) ≡ true → (a ≡ true) ⊎ (b ≡ true)
 either_true true b h = inl refl

@@ -2,30 +2,20 @@
 
 ghost use Rattle.std.specs.Prelude.{◌≡◌, ◌+◌, ◌⊎◌, None, min, take, IfOk, OnOk, OnErr};
 ghost use Rattle.hdl_name.specs.Name.{canonical};
-ghost use Rattle.hdl_value.specs.Refs.{granted, place_of};
+ghost use Rattle.hdl_value.specs.Refs.{place_of};
 ghost use Rattle.hdl_rows.specs.Table.{most};
-ghost use Rattle.hdl_reach.specs.Reach.{grants, IsUnion, IsMask};
+ghost use Rattle.hdl_reach.specs.Reach.{is_among, IsMask};
 ghost use Rattle.hdl_reach.specs.Reach as union;
-ghost use Rattle.hdl_reach.specs.Views.{mask_of, grants_of};
+ghost use Rattle.hdl_reach.specs.Seen.{places, AreKept};
+ghost use Rattle.hdl_reach.specs.Views.{mask_of, grants_in, union_by};
 
-use crate::search::leads;
+use crate::grants::{Grant, grants_of};
+use crate::search::leading_to;
+use crate::seen::Seen;
 use hdl_name::Name;
 use hdl_rows::{Refused, Rows};
-use hdl_value::{AdminMask, Reference, Value, admin_of};
+use hdl_value::{AdminMask, Reference};
 use std::alloc::{AllocError, Global};
-
-// The mask and the reference of an HS_ADMIN value; none where the index is 0.
-fn grant_of(alloc: Global, value: &Value) -> Result<Option<(AdminMask, Reference)>, AllocError>
-    ensures { IfOk result (λ grant. grants_of grant ≡ granted value.now) }
-{
-    let Some((mask, reference)) = admin_of(alloc, value)? else {
-        return Ok(None);
-    };
-    if reference.index == 0 {
-        return Ok(None);
-    }
-    Ok(Some((mask, reference)))
-}
 
 fn joined(so_far: Option<AdminMask>, mask: AdminMask) -> AdminMask
     ensures { result.0 ≡ union.joined (mask_of so_far) mask.0 }
@@ -36,46 +26,20 @@ fn joined(so_far: Option<AdminMask>, mask: AdminMask) -> AdminMask
     }
 }
 
-// Joins the mask of a value that leads to the key.
-fn join<R: Rows>(
+// The union of the masks of those grants whose references are among these.
+fn union_of(
     alloc: Global,
-    rows: &mut R,
-    value: &Value,
-    key: &Reference,
-    so_far: Option<AdminMask>,
-) -> Result<Option<AdminMask>, Refused>
-    ensures unchanged { R.content rows.new ≡ R.content rows.old }
-    ensures found { IfOk result (λ mask. IsUnion (R.content rows.old) (place_of key.now) (mask_of so_far) (granted value.now) (mask_of mask)) }
-    ensures answered { OnOk result (R.refused rows.new ≡ R.refused rows.old) }
-    ensures refused { OnErr result ((R.refused rows.new ≡ R.refused rows.old) ⊎ (R.refused rows.new ≡ min (R.refused rows.old + 1) most)) }
-{
-    let Ok(grant) = grant_of(alloc, value) else {
-        return Err(Refused);
-    };
-    let Some((mask, start)) = grant else {
-        return Ok(so_far);
-    };
-    if leads(alloc, rows, start, key)? {
-        Ok(Some(joined(so_far, mask)))
-    } else {
-        Ok(so_far)
-    }
-}
-
-fn union_of<R: Rows>(
-    alloc: Global,
-    rows: &mut R,
-    values: &[Value],
-    key: &Reference,
-) -> Result<Option<AdminMask>, Refused>
-    ensures unchanged { R.content rows.new ≡ R.content rows.old }
-    ensures found { IfOk result (λ mask. IsUnion (R.content rows.old) (place_of key.now) None (grants values.now) (mask_of mask)) }
-    ensures answered { OnOk result (R.refused rows.new ≡ R.refused rows.old) }
-    ensures refused { OnErr result ((R.refused rows.new ≡ R.refused rows.old) ⊎ (R.refused rows.new ≡ min (R.refused rows.old + 1) most)) }
+    grants: &[Grant],
+    leading: &Seen,
+) -> Result<Option<AdminMask>, AllocError>
+    requires { AreKept leading.now }
+    ensures { IfOk result (λ mask. mask_of mask ≡ union_by (λ p. is_among p (places leading.now.references.items)) None (grants_in grants.now)) }
 {
     let mut mask = None;
-    for value in values {
-        mask = join(alloc, rows, value, key, mask)?;
+    for grant in grants {
+        if leading.has(alloc, &grant.reference)? {
+            mask = Some(joined(mask, grant.mask));
+        }
     }
     Ok(mask)
 }
@@ -98,5 +62,12 @@ pub fn mask<R: Rows>(
     ensures refused { OnErr result ((R.refused rows.new ≡ R.refused rows.old) ⊎ (R.refused rows.new ≡ min (R.refused rows.old + 1) most)) }
 {
     let values = rows.values(name)?;
-    union_of(alloc, rows, &values, key)
+    let Ok(grants) = grants_of(alloc, &values) else {
+        return Err(Refused);
+    };
+    let leading = leading_to(alloc, rows, &grants, key)?;
+    match union_of(alloc, &grants, &leading) {
+        Ok(mask) => Ok(mask),
+        Err(_) => Err(Refused),
+    }
 }

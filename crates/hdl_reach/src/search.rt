@@ -1,17 +1,23 @@
-//! The search from one reference to another, over lists.
+//! The search for the references from which lists lead to one.
 
-ghost use Rattle.std.specs.Prelude.{◌≡◌, ◌+◌, ◌⊎◌, ◌∷◌, [], min, take, length, option_copied, IfOk, OnOk, OnErr};
+ghost use Rattle.std.specs.Prelude.{◌≡◌, ◌+◌, ◌⊎◌, [], min, take, length, option_copied, filter, IfOk, OnOk, OnErr};
 ghost use Rattle.std.specs.Bool.{Decides};
-ghost use Rattle.hdl_value.specs.Place.{same_place};
+ghost use Rattle.std.specs.List.{AllByRecursion};
+ghost use Rattle.hdl_value.specs.Place.{Place, same_place};
 ghost use Rattle.hdl_value.specs.Refs.{listed, refers, place_of};
 ghost use Rattle.hdl_rows.specs.Table.{most};
-ghost use Rattle.hdl_reach.specs.Reach.{lists, IsChain};
-ghost use Rattle.hdl_reach.specs.Search.{places, referring, with_place, AreKept, Extends};
+ghost use Rattle.hdl_reach.specs.Reach.{is_among, lists, IsChain};
+ghost use Rattle.hdl_reach.specs.Seen.{places, AreKept, Extends};
+ghost use Rattle.hdl_reach.specs.Sources.{sources_of};
+ghost use Rattle.hdl_reach.specs.Search.{onward, IsReached, IsGathered};
+ghost use Rattle.hdl_reach.specs.Views.{starts};
 
+use crate::grants::Grant;
+use crate::seen::Seen;
+use crate::sources::Sources;
 use hdl_rows::{Refused, Rows};
 use hdl_value::{Reference, Value, vlist_of};
 use std::alloc::{AllocError, Global};
-use std::collections::BTreeSet;
 
 fn is_same(a: &Reference, b: &Reference) -> bool
     ensures { result ≡ same_place (place_of a.now) (place_of b.now) }
@@ -19,58 +25,25 @@ fn is_same(a: &Reference, b: &Reference) -> bool
     a.index == b.index && a.name.canon() == b.name.canon()
 }
 
-/// References in the order in which they were seen, no place twice, and their places in order.
-#[derive(Drop)]
-struct Seen {
-    references: Vec<Reference>,
-    keys: BTreeSet<(Vec<u8>, u32)>,
+// Those that refer to something.
+fn referring(alloc: Global, all: Vec<Reference>) -> Result<Vec<Reference>, AllocError>
+    ensures { IfOk result (λ some. places some.items ≡ filter refers (places all.items)) }
+{
+    let mut some = Vec::new(alloc);
+    for one in all {
+        if one.index != 0 {
+            some.push(one)?;
+        }
+    }
+    Ok(some)
 }
 
-impl Seen {
-    fn new(alloc: Global) -> Seen
-        ensures none { result.references.items ≡ [] }
-        ensures kept { AreKept result }
-    {
-        Seen {
-            references: Vec::new(alloc),
-            keys: BTreeSet::new(alloc),
-        }
-    }
-
-    // Adds a reference, unless its place was seen.
-    fn add(&mut self, alloc: Global, one: Reference) -> Result<(), AllocError>
-        requires kept { AreKept self.old }
-        ensures added { OnOk result (places self.new.references.items ≡ with_place (places self.old.references.items) (place_of one)) }
-        ensures kept { OnOk result (AreKept self.new) }
-    {
-        let handle = Vec::from_slice(alloc, one.name.canon())?;
-        if self.keys.insert((handle, one.index))? {
-            self.references.push(one)?;
-        }
-        Ok(())
-    }
-
-    // Adds those that refer to something.
-    fn extend(&mut self, alloc: Global, more: Vec<Reference>) -> Result<(), AllocError>
-        requires kept { AreKept self.old }
-        ensures extended { OnOk result (Extends (places self.old.references.items) (referring more.items) (places self.new.references.items)) }
-        ensures kept { OnOk result (AreKept self.new) }
-    {
-        for one in more {
-            if one.index != 0 {
-                self.add(alloc, one)?;
-            }
-        }
-        Ok(())
-    }
-}
-
-// The references of a list value, index 0 too; none of another value.
+// The references of a list value; none of another value.
 fn references_of(alloc: Global, value: &Value) -> Result<Vec<Reference>, AllocError>
-    ensures { IfOk result (λ all. referring all.items ≡ listed value.now) }
+    ensures { IfOk result (λ all. places all.items ≡ listed value.now) }
 {
     match vlist_of(alloc, value)? {
-        Some(all) => Ok(all),
+        Some(all) => referring(alloc, all),
         None => Ok(Vec::new(alloc)),
     }
 }
@@ -82,7 +55,7 @@ fn list_at<R: Rows>(
     here: &Reference,
 ) -> Result<Vec<Reference>, Refused>
     ensures unchanged { R.content rows.new ≡ R.content rows.old }
-    ensures found { IfOk result (λ all. referring all.items ≡ lists (R.content rows.old) (place_of here.now)) }
+    ensures found { IfOk result (λ all. places all.items ≡ lists (R.content rows.old) (place_of here.now)) }
     ensures answered { OnOk result (R.refused rows.new ≡ R.refused rows.old) }
     ensures refused { OnErr result ((R.refused rows.new ≡ R.refused rows.old) ⊎ (R.refused rows.new ≡ min (R.refused rows.old + 1) most)) }
 {
@@ -95,33 +68,101 @@ fn list_at<R: Rows>(
     }
 }
 
-/// Whether lists lead from one reference to another, over any number of them. Each reference is looked up once.
-pub(crate) fn leads<R: Rows>(
+// The same, but that the search goes no further than its end.
+fn list_before<R: Rows>(
     alloc: Global,
     rows: &mut R,
-    start: Reference,
+    here: &Reference,
     end: &Reference,
-) -> Result<bool, Refused>
+) -> Result<Vec<Reference>, Refused>
     ensures unchanged { R.content rows.new ≡ R.content rows.old }
-    ensures found { IfOk result (λ is. Decides is (IsChain (R.content rows.old) (place_of start) (place_of end.now))) }
+    ensures found { IfOk result (λ all. places all.items ≡ onward (R.content rows.old) (place_of end.now) (place_of here.now)) }
     ensures answered { OnOk result (R.refused rows.new ≡ R.refused rows.old) }
     ensures refused { OnErr result ((R.refused rows.new ≡ R.refused rows.old) ⊎ (R.refused rows.new ≡ min (R.refused rows.old + 1) most)) }
 {
+    if is_same(here, end) {
+        return Ok(Vec::new(alloc));
+    }
+    list_at(alloc, rows, here)
+}
+
+// Where the search starts.
+fn started(alloc: Global, grants: &[Grant]) -> Result<Seen, AllocError>
+    ensures seen { IfOk result (λ seen. Extends [] (starts grants.now) (places seen.references.items)) }
+    ensures kept { IfOk result AreKept }
+{
     let mut seen = Seen::new(alloc);
-    let Ok(()) = seen.add(alloc, start) else {
+    for grant in grants {
+        seen.add(alloc, &grant.reference)?;
+    }
+    Ok(seen)
+}
+
+// Looks up, once, each reference to which lists lead from the grants, but for the end, and keeps what its list holds.
+fn gather<R: Rows>(
+    alloc: Global,
+    rows: &mut R,
+    grants: &[Grant],
+    end: &Reference,
+) -> Result<Sources, Refused>
+    ensures unchanged { R.content rows.new ≡ R.content rows.old }
+    ensures found { IfOk result (IsGathered (R.content rows.old) (place_of end.now) (starts grants.now)) }
+    ensures answered { OnOk result (R.refused rows.new ≡ R.refused rows.old) }
+    ensures refused { OnErr result ((R.refused rows.new ≡ R.refused rows.old) ⊎ (R.refused rows.new ≡ min (R.refused rows.old + 1) most)) }
+{
+    let Ok(mut seen) = started(alloc, grants) else {
         return Err(Refused);
     };
+    let mut sources = Sources::new(alloc);
     let mut next = 0;
     while next < seen.references.len() {
         let here = &seen.references[next];
-        if is_same(here, end) {
-            return Ok(true);
-        }
-        let more = list_at(alloc, rows, here)?;
+        let listed = list_before(alloc, rows, here, end)?;
+        let more = listed.as_slice();
+        let Ok(()) = sources.add_all(alloc, here, more) else {
+            return Err(Refused);
+        };
         let Ok(()) = seen.extend(alloc, more) else {
             return Err(Refused);
         };
         next += 1;
     }
-    Ok(false)
+    Ok(sources)
+}
+
+// Goes back from the end, from each list's references to the list.
+fn go_back(alloc: Global, sources: &Sources, end: &Reference) -> Result<Seen, AllocError>
+    ensures found { IfOk result (λ seen. (p : Place) → Decides (is_among p (places seen.references.items)) (IsReached (sources_of sources.now) (place_of end.now) p)) }
+    ensures kept { IfOk result AreKept }
+{
+    let mut seen = Seen::new(alloc);
+    seen.add(alloc, end)?;
+    let mut next = 0;
+    while next < seen.references.len() {
+        let more = sources.of(alloc, &seen.references[next])?;
+        seen.extend(alloc, more)?;
+        next += 1;
+    }
+    Ok(seen)
+}
+
+/// References among which are those of the grants from which lists lead to the end, over any number of them, and no other
+/// grant's. Each reference is looked up once.
+pub(crate) fn leading_to<R: Rows>(
+    alloc: Global,
+    rows: &mut R,
+    grants: &[Grant],
+    end: &Reference,
+) -> Result<Seen, Refused>
+    ensures unchanged { R.content rows.new ≡ R.content rows.old }
+    ensures found { IfOk result (λ seen. AllByRecursion (λ p. Decides (is_among p (places seen.references.items)) (IsChain (R.content rows.old) p (place_of end.now))) (starts grants.now)) }
+    ensures kept { IfOk result AreKept }
+    ensures answered { OnOk result (R.refused rows.new ≡ R.refused rows.old) }
+    ensures refused { OnErr result ((R.refused rows.new ≡ R.refused rows.old) ⊎ (R.refused rows.new ≡ min (R.refused rows.old + 1) most)) }
+{
+    let sources = gather(alloc, rows, grants, end)?;
+    match go_back(alloc, &sources, end) {
+        Ok(seen) => Ok(seen),
+        Err(_) => Err(Refused),
+    }
 }

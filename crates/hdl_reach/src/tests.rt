@@ -334,3 +334,22 @@ fn behind_a_fuse(rt: HostRuntime) -> Result<(), Fail> {
     }
     Ok(())
 }
+
+/// Two administrators that share a list: each reference is looked up once for both, and the key never.
+#[test]
+fn looks_once(rt: HostRuntime) -> Result<(), Fail> {
+    let values: [Row; 4] = [
+        (b"10/c", 1, ADMIN, b"\0\x01\0\0\0\x0410/g\0\0\0\x01"),
+        (b"10/c", 2, ADMIN, b"\0\x02\0\0\0\x0410/g\0\0\0\x02"),
+        (b"10/g", 2, LIST, b"\0\0\0\x01\0\0\0\x0410/g\0\0\0\x01"),
+        (b"10/g", 1, LIST, b"\0\0\0\x01\0\0\0\x0720/keys\0\0\0\x03"),
+    ];
+    let name = Name::read(rt.alloc(), b"10/c")?;
+    let key = reference(rt.alloc(), b"20/keys", 3)?;
+    for (look, want) in [(3, Err(Refused)), (4, Ok(Some(AdminMask(3))))] {
+        let mut rows = Fuse::new(table(&rt, rt.alloc(), &values)?, look, look);
+        let found = mask(rt.alloc(), &mut rows, &name, &key);
+        assert_eq!(rt; found, want, "look {look}");
+    }
+    Ok(())
+}

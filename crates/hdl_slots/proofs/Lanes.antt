@@ -1,17 +1,12 @@
--- The lists of a lane's challenges: what is found, what is taken, and that numbers stay different.
-use Rattle.std.proofs.Common.{◌≡◌, ℕ, zero, suc, ◌<◌, Bool, true, false, not, cond, eqb, ◌&&◌, List, [], ◌∷◌, ◌++◌, length, get_or, drop, Some, None, refl, sym, ap, ◌∙◌, arith}
-use Rattle.std.specs.List.{AllByRecursion, filter, find, position, remove}
-use Rattle.std.proofs.lemmas.List.Quantifiers.{position-Some}
-use Rattle.std.proofs.lemmas.List.Sums.{fails_before_first}
-use Rattle.std.proofs.lemmas.Bool.{and_parts, eqb-true, ltb-false}
-use Rattle.std.proofs.lemmas.List.{get_or_default}
+-- A lane's challenges: their numbers stay different.
+use Rattle.std.proofs.Common.{◌≡◌, ℕ, zero, suc, ◌-◌, Bool, true, false, not, cond, eqb, ◌&&◌, List, [], ◌∷◌, ◌++◌, length, drop, refl}
+use Rattle.std.specs.List.{AllByRecursion, filter}
+use Rattle.std.proofs.lemmas.Bool.{eqb-true}
 use Rattle.hdl_slots.specs.declared.pending.Challenge.{Challenge}
-use Rattle.hdl_slots.specs.Lanes.{NumbersDiffer, without, is_of, challenge_of}
+use Rattle.hdl_slots.specs.Lanes.{NumbersDiffer, without, last_eight}
 
 abbrev pub IsNot : ℕ → Challenge → Type 0
 IsNot n d = eqb d.number n ≡ false
-
--- ---- numbers stay different
 
 all_cond : (P : Challenge → Type 0) (b : Bool) (x : Challenge) (xs : List Challenge) → P x → AllByRecursion P xs → AllByRecursion P (cond b (x ∷ xs) xs)
 all_cond P true x xs p ps = (p, ps)
@@ -33,11 +28,6 @@ differ_drop : (k : ℕ) (xs : List Challenge) → NumbersDiffer xs → NumbersDi
 differ_drop zero xs ps = ps
 differ_drop (suc k) [] ps = tt
 differ_drop (suc k) (x ∷ xs) ps = differ_drop k xs ps.1
-
-all_drop : (P : Challenge → Type 0) (k : ℕ) (xs : List Challenge) → AllByRecursion P xs → AllByRecursion P (drop k xs)
-all_drop P zero xs ps = ps
-all_drop P (suc k) [] ps = tt
-all_drop P (suc k) (x ∷ xs) ps = all_drop P k xs ps.1
 
 all_push : (P : Challenge → Type 0) (xs : List Challenge) (x : Challenge) → AllByRecursion P xs → P x → AllByRecursion P (xs ++ x ∷ [])
 all_push P [] x ps p = (p, tt)
@@ -62,68 +52,11 @@ all_without n [] = tt
 all_without n (x ∷ xs) = without_cond n (eqb x.number n) x (without n xs) refl (all_without n xs)
 
 -- what `put` leaves
-pub differ_put : (k : ℕ) (old kept newest pushed : List Challenge) (x : Challenge) → NumbersDiffer old → kept ≡ without x.number old → newest ≡ drop k kept
-    → pushed ≡ newest ++ x ∷ [] → NumbersDiffer pushed
-differ_put k old kept newest pushed x ps was_kept was_newest was_pushed =
-    rw (was_pushed, was_newest, was_kept)
-    (differ_push (drop k (without x.number old)) x (differ_drop k (without x.number old) (differ-filter (λ c. not (eqb c.number x.number)) old ps))
-    (all_drop (IsNot x.number) k (without x.number old) (all_without x.number old)))
-
--- ---- what is taken
+pub differ_challenged : (xs : List Challenge) (x : Challenge) → NumbersDiffer xs → NumbersDiffer (last_eight (without x.number xs ++ x ∷ []))
+differ_challenged xs x ps =
+    differ_drop (length (without x.number xs ++ x ∷ []) - 8) (without x.number xs ++ x ∷ [])
+    (differ_push (without x.number xs) x (differ-filter (λ c. not (eqb c.number x.number)) xs ps) (all_without x.number xs))
 
 pub and_false : (b c : Bool) → c ≡ false → b && c ≡ false
 and_false true c h = h
 and_false false c h = refl
-
-kept_step : (peer n : ℕ) (y : Challenge) (ys : List Challenge) (b : Bool) → b ≡ false → filter (λ c. not (is_of peer n c)) ys ≡ ys
-    → cond (not b) (y ∷ filter (λ c. not (is_of peer n c)) ys) (filter (λ c. not (is_of peer n c)) ys) ≡ y ∷ ys
-kept_step peer n y ys b failed below = rw failed (ap (λ (t : List Challenge). y ∷ t) below)
-
-all_kept : (peer n : ℕ) (xs : List Challenge) → AllByRecursion (IsNot n) xs → filter (λ c. not (is_of peer n c)) xs ≡ xs
-all_kept peer n [] ps = refl
-all_kept peer n (y ∷ ys) ps =
-    kept_step peer n y ys (is_of peer n y) (and_false (eqb y.pending.peer peer) (eqb y.number n) ps.0) (all_kept peer n ys ps.1)
-
-taken_is : (peer n : ℕ) (xs : List Challenge) (i : ℕ) (x : Challenge) → NumbersDiffer xs → i < length xs → x ≡ get_or xs i x → is_of peer n x ≡ true
-    → ((k : ℕ) (d : Challenge) → k < i → is_of peer n (get_or xs k d) ≡ false)
-    → (find (is_of peer n) xs ≡ Some x) × (remove xs i ≡ filter (λ c. not (is_of peer n c)) xs)
-taken_is peer n [] i x ps lt at test before = absurd (omega arith)
-taken_is peer n (y ∷ ys) zero x ps lt at test before =
-    let here : is_of peer n y ≡ true = rw at at test in
-    let number : y.number ≡ n = eqb-true y.number n (and_parts (eqb y.pending.peer peer) (eqb y.number n) here).1 in
-    let rest : AllByRecursion (IsNot n) ys = rw number at ps.0 in
-    (rw (here, ← at) refl, rw here (sym (all_kept peer n ys rest)))
-taken_is peer n (y ∷ ys) (suc i) x ps lt at test before =
-    let below = taken_is peer n ys i x ps.1 (omega arith) at test (λ k d h. before (suc k) d (omega arith)) in
-    let first : is_of peer n y ≡ false = before 0 y (omega arith) in
-    (rw first below.0, rw first (ap (λ (t : List Challenge). y ∷ t) below.1))
-
-pub take_found : (peer n : ℕ) (xs ys : List Challenge) (i : ℕ) (x : Challenge) → NumbersDiffer xs → position (is_of peer n) xs ≡ Some i
-    → x ≡ get_or xs i x → ys ≡ remove xs i → (Some x.pending ≡ challenge_of xs peer n) × (ys ≡ filter (λ c. not (is_of peer n c)) xs)
-take_found peer n xs ys i x ps p at left =
-    let some = position-Some (is_of peer n) xs i x p in
-    let both = taken_is peer n xs i x ps some.0 at (rw (← at) at some.1) (λ k d h. rw (get_or_default xs k d x (omega (arith, some.0))) (some.2 k h)) in
-    (rw both.0 refl, left ∙ both.1)
-
-not_some : (b : Bool) (i : ℕ) → cond b (Some i) None ≡ None → b ≡ false
-not_some true i e = absurd cc
-not_some false i e = refl
-
-position-None : (p : Challenge → Bool) (xs : List Challenge) (k : ℕ) (d : Challenge) → position p xs ≡ None → k < length xs → p (get_or xs k d) ≡ false
-position-None p xs k d e lt =
-    let past = ltb-false _ _ (not_some _ _ e) in
-    fails_before_first p xs k d (omega (arith, past))
-
-none_taken : (peer n : ℕ) (xs : List Challenge) → ((k : ℕ) (d : Challenge) → k < length xs → is_of peer n (get_or xs k d) ≡ false)
-    → (find (is_of peer n) xs ≡ None) × (filter (λ c. not (is_of peer n c)) xs ≡ xs)
-none_taken peer n [] none = (refl, refl)
-none_taken peer n (y ∷ ys) none =
-    let below = none_taken peer n ys (λ k d h. none (suc k) d (omega arith)) in
-    let first : is_of peer n y ≡ false = none 0 y (omega arith) in
-    (rw first below.0, rw first (ap (λ (t : List Challenge). y ∷ t) below.1))
-
-pub take_none : (peer n : ℕ) (xs : List Challenge) → position (is_of peer n) xs ≡ None
-    → (None ≡ challenge_of xs peer n) × (xs ≡ filter (λ c. not (is_of peer n c)) xs)
-take_none peer n xs p =
-    let both = none_taken peer n xs (λ k d h. position-None (is_of peer n) xs k d p h) in
-    (rw both.0 refl, sym both.1)

@@ -1,2 +1,4 @@
-pub mod Lanes
 pub mod LawLemmas
+pub mod Lanes
+pub mod Places
+pub mod Table

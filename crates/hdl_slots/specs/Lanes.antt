@@ -29,6 +29,10 @@ last_eight xs = drop (length xs - 8) xs
 abbrev pub without : ℕ → List Challenge → List Challenge
 without number = filter (λ c. not (nat_eq c.number number))
 
+-- a challenge of this number
+abbrev pub has_number : ℕ → Challenge → Bool
+has_number number c = nat_eq c.number number
+
 -- a challenge is put under the lane's next number: one that has this number already is dropped first, and then a ninth displaces the oldest
 abbrev pub challenged : LaneState → Pending → LaneState
 challenged lane p = record { next = next_after lane.next; challenges = last_eight (without lane.next lane.challenges ++ (record { number = lane.next; pending = p } ∷ [])) }

@@ -1,2 +1,4 @@
+pub mod Cells
 pub mod Lanes
 pub mod Laws
+pub mod Places

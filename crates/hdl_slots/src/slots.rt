@@ -3,30 +3,31 @@
 ghost use Rattle.std.specs.Prelude.{◌≡◌, ◌<◌, option_copied, replicate, slice_set, IfOk};
 ghost use Rattle.hdl_slots.specs.Lanes.{fresh, lane_at, challenged, challenge_of, spent};
 
-use crate::lane::Lane;
-use crate::pending::Pending;
+use crate::cells::{Cells, LANES};
+use crate::lane;
+use crate::pending::{Challenge, Pending};
 use std::alloc::{AllocError, Global};
 use std::marker::Model;
 
-/// How many lanes there are.
-pub const LANES: usize = 64;
-
-/// Room for eight challenges on each lane, which is taken once and written in place. Contracts see the list of the 64 lanes'
-/// states.
+/// Room for eight challenges on each lane: 512 slots of one slab, which are made once and written in place. Contracts see the
+/// list of the 64 lanes' states.
 #[derive(Drop)]
 pub struct Slots {
-    lanes: Vec<Lane>,
+    // Each lane's next number.
+    numbers: Vec<u32>,
+    cells: Cells,
 }
 
 impl Model for Slots {
-    ghost use Rattle.std.specs.Prelude.{◌≡◌, List, length};
+    ghost use Rattle.std.specs.Prelude.{List};
     ghost use Rattle.hdl_slots.specs.Lanes.{LaneState};
+    ghost use Rattle.hdl_slots.specs.Places.{states, AreLanes};
 
     ghost Value = { List LaneState };
 
-    ghost view = { λ s. s.lanes.items };
+    ghost view = { λ s. states s.numbers.items s.cells };
 
-    ghost invariant = { λ s. length s.lanes.items ≡ 64 };
+    ghost invariant = { λ s. AreLanes s.numbers.items s.cells };
 }
 
 impl Slots {
@@ -34,11 +35,9 @@ impl Slots {
     pub fn new(alloc: Global) -> Result<Slots, AllocError>
         ensures ok { IfOk result (λ slots. slots ≡ replicate LANES fresh) }
     {
-        let mut lanes = Vec::with_capacity(alloc, LANES)?;
-        for _ in 0..LANES {
-            lanes.push(Lane::new(alloc)?)?;
-        }
-        Ok(Slots { lanes })
+        let numbers = vec![in alloc; 1; LANES]?;
+        let cells = Cells::new(alloc)?;
+        Ok(Slots { numbers, cells })
     }
 
     /// The number that the lane's next challenge gets.
@@ -46,7 +45,7 @@ impl Slots {
         requires { lane < LANES }
         ensures number { result ≡ (lane_at self.now lane).next }
     {
-        self.lanes[lane as usize].next_number()
+        self.numbers[lane as usize]
     }
 
     /// Puts a challenge under the lane's next number, and answers that number. A pending challenge of this number is dropped
@@ -56,7 +55,12 @@ impl Slots {
         ensures number { result ≡ (lane_at self.old lane).next }
         ensures slots { self.new ≡ slice_set self.old lane (challenged (lane_at self.old lane) pending) }
     {
-        self.lanes[lane as usize].put(pending)
+        let lane = lane as usize;
+        let number = self.numbers[lane];
+        lane::forget(&mut self.cells, lane, number);
+        lane::push(&mut self.cells, lane, Challenge { number, pending });
+        self.numbers[lane] = lane::next_after(number);
+        number
     }
 
     /// What was sent on the lane to this peer under this number, if it's pending.
@@ -64,7 +68,7 @@ impl Slots {
         requires { lane < LANES }
         ensures found { option_copied result ≡ challenge_of (lane_at self.now lane).challenges peer number }
     {
-        self.lanes[lane as usize].find(peer, number)
+        lane::find(&self.cells, lane as usize, peer, number)
     }
 
     /// Takes out what was sent on the lane to this peer under this number, if it's pending.
@@ -73,7 +77,7 @@ impl Slots {
         ensures found { result ≡ challenge_of (lane_at self.old lane).challenges peer number }
         ensures slots { self.new ≡ slice_set self.old lane (spent (lane_at self.old lane) peer number) }
     {
-        self.lanes[lane as usize].take(peer, number)
+        lane::take(&mut self.cells, lane as usize, peer, number)
     }
 
     /// Forgets the lane's challenges; its numbers begin at 1 again.
@@ -81,7 +85,9 @@ impl Slots {
         requires { lane < LANES }
         ensures slots { self.new ≡ slice_set self.old lane fresh }
     {
-        self.lanes[lane as usize].reset();
+        let lane = lane as usize;
+        lane::clear(&mut self.cells, lane);
+        self.numbers[lane] = 1;
     }
 }
 
@@ -91,6 +97,7 @@ impl Slots {
     pub(crate) fn renumber(&mut self, lane: u16, number: u32)
         requires { lane < LANES }
     {
-        self.lanes[lane as usize].renumber(number);
+        let lane = lane as usize;
+        self.numbers[lane] = number;
     }
 }

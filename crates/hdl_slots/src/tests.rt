@@ -48,6 +48,56 @@ fn nine_challenges_on_one_lane(rt: HostRuntime) -> Result<(), Fail> {
     Ok(())
 }
 
+/// A challenge that was taken leaves room: the next one displaces none, and only the one after it the oldest.
+#[test]
+fn taken_leaves_room(rt: HostRuntime) -> Result<(), Fail> {
+    let mut slots = Slots::new(rt.alloc())?;
+    for k in 1..=8u64 {
+        slots.put(3, challenge(rt.alloc(), 0, k)?);
+    }
+    slots.take(3, 0, 4);
+    slots.put(3, challenge(rt.alloc(), 0, 9)?);
+    assert_eq!(rt; moment(slots.find(3, 0, 1)), Some(1));
+    slots.put(3, challenge(rt.alloc(), 0, 10)?);
+    let cases = [
+        (1, None),
+        (2, Some(2)),
+        (4, None),
+        (8, Some(8)),
+        (9, Some(9)),
+        (10, Some(10)),
+    ];
+    for (number, expected) in cases {
+        assert_eq!(rt;
+            moment(slots.find(3, 0, number)),
+            expected,
+            "number {number}"
+        );
+    }
+    Ok(())
+}
+
+/// With all 512 slots taken each lane holds its own eight.
+#[test]
+fn every_lane_full(rt: HostRuntime) -> Result<(), Fail> {
+    let mut slots = Slots::new(rt.alloc())?;
+    for lane in 0..64u16 {
+        for k in 1..=8u64 {
+            slots.put(lane, challenge(rt.alloc(), lane, k)?);
+        }
+    }
+    for lane in 0..64u16 {
+        for number in 1..=8u32 {
+            assert_eq!(rt;
+                moment(slots.find(lane, lane, number)),
+                Some(number as u64),
+                "lane {lane}, number {number}"
+            );
+        }
+    }
+    Ok(())
+}
+
 /// Two lanes count for themselves, and a lane that is dropped begins at 1 again.
 #[test]
 fn equal_numbers_on_two_lanes(rt: HostRuntime) -> Result<(), Fail> {

@@ -5,6 +5,7 @@ ghost use Rattle.hdl_value.specs.Spelling.{spelling};
 ghost use Rattle.hdl_value.specs.Reading.{Reads, octets_at};
 ghost use Rattle.hdl_value.specs.Cut.{value_at, value_view, IsWhole};
 ghost use Rattle.hdl_value.specs.Fault.{IsSound, IsFirstFault};
+ghost use Rattle.hdl_value.specs.Refs.{is_admin};
 ghost use Rattle.hdl_value.specs.Tests.{is_sound};
 
 use crate::fault::ValueFault;
@@ -106,6 +107,13 @@ impl<'a> CutValue<'a> {
         ensures { result.now ≡ self.now.kind }
     {
         self.fields.kind
+    }
+
+    /// Whether its type is HS_ADMIN.
+    pub fn is_admin(&self) -> bool
+        ensures { result ≡ is_admin self.now }
+    {
+        self.fields.kind == b"HS_ADMIN".as_slice()
     }
 
     /// Whether it keeps the limits and its data is good, or its first fault otherwise. It takes no memory, and never answers

@@ -1,18 +1,18 @@
-use Rattle.std.proofs.Common.{◌∙◌, subst}
-use Rattle.hdl_value.specs.Refs.{granted, place_of}
-use Rattle.hdl_rows.specs.Table.{Table}
-use Rattle.hdl_reach.specs.Reach.{IsUnion}
+use Rattle.std.proofs.Common.{Some, sym, ap, ◌∙◌}
+use Rattle.hdl_value.specs.Place.{Place}
+use Rattle.hdl_reach.specs.Reach.{is_among}
+use Rattle.hdl_reach.specs.Seen.{places}
 use Rattle.hdl_reach.specs.Views.{mask_of}
-use Rattle.hdl_reach.proofs.Masks.{union_next}
+use Rattle.hdl_reach.proofs.Masks.{union_joins, union_passes}
 use Rattle.hdl_reach.proofs.administrators.union_of.Goals as goal
+use Rattle.hdl_reach.proofs.administrators.union_of.Goals.{then-branch, else-branch}
 
-pub loop-value-preserved : goal.loop-value-preserved
-loop-value-preserved g c =
-    let t = g.R.Rows.content c.args.rows.now in
-    let k = place_of c.args.key.now in
-    let more = subst (λ (s : Table). IsUnion s k (mask_of c.loop-value.mask) (granted c.value-item.result) (mask_of c.in_ok-mask.mask)) c.loop-value.invariant.same c.in_ok-mask.ensures.found in
-    record {
-      same = c.join.ensures.unchanged ∙ c.loop-value.invariant.same;
-      answered = c.in_ok-mask.ensures.answered ∙ c.loop-value.invariant.answered;
-      union = union_next t k (mask_of c.loop-value.mask) (mask_of c.in_ok-mask.mask) c.args.values.now c.loop-value.value-index c.value-item.result c.loop-value-test.true c.value-item.is c.loop-value.invariant.union more;
-    }
+pub loop-grant-preserved : goal.loop-grant-preserved
+loop-grant-preserved c =
+    let leads = λ (p : Place). is_among p (places c.args.leading.now.references.items) in
+    elim c.if-branch.branch [
+      | then-branch w ↦ union_joins leads c.args.grants.now c.loop-grant.grant-index c.grant-item.result (mask_of c.loop-grant.mask) (mask_of c.if-branch.mask) c.loop-grant-test.true c.grant-item.is c.loop-grant.invariant
+          (sym c.in_ok-has.ensures ∙ w.if-branch.true) (ap mask_of w.mask-is ∙ ap Some w.joined.ensures)
+      | else-branch w ↦ union_passes leads c.args.grants.now c.loop-grant.grant-index c.grant-item.result (mask_of c.loop-grant.mask) (mask_of c.if-branch.mask) c.loop-grant-test.true c.grant-item.is c.loop-grant.invariant
+          (sym c.in_ok-has.ensures ∙ w.if-branch.false) (ap mask_of w.mask-is)
+    ]

@@ -3,7 +3,8 @@ use Rattle.std.specs.Prelude.{if◌then◌else◌}
 use Rattle.std.proofs.lemmas.Iterator.Adapters.{YieldsList-from_vec}
 use Rattle.std.proofs.lemmas.Iterator.Consumers.{YieldsList-end}
 use Rattle.hdl_laws.specs.Runs.{Run}
-use Rattle.hdl_core.proofs.Steps.{run_step}
+use Rattle.hdl_laws.specs.Laws.{HostsNoRoot}
+use Rattle.hdl_core.proofs.Steps.{run_step, no_root}
 use Rattle.hdl_core.proofs.service.Service.run.Goals as goal
 
 pub loop-event-preserved : goal.loop-event-preserved
@@ -17,3 +18,11 @@ pub returns-clause-run : goal.returns-clause-run
 returns-clause-run g c =
     let all : c.loop-event.yielded ≡ c.args.events.items = sym (map-id c.loop-event.yielded) ∙ (YieldsList-end (YieldsList-from_vec c.args.events.items c.into_iter-event-iterator.ensures.into_iter_gives.0 (c.into_iter-event-iterator.ensures.into_iter_gives.1 ∙ c.args.events.ok.0)) c.loop-event.yielded c.loop-event.event-iterator c.loop-event.yielded_by c.next.result c.next.new.self c.in-None.is c.next.ensures.steps).0 in
     subst (λ es. Run c.args.self.now es c.loop-event.outcomes.items c.loop-event.self) all c.loop-event.invariant.run
+
+pub returns-clause-isolated : goal.returns-clause-isolated
+returns-clause-isolated g c = λ ts run es os.
+    c.restricted.ensures.alone c.args.self.now ts
+    (subst (λ w. HostsNoRoot w.site) c.self.view_is (no_root c.self.inside.tenants c.self.inside.lanes (g.R.Rows.content c.self.inside.rows) (c.root_is_nobodys.ensures c.self.inside.tenants c.opening.ensures.kept))) run
+
+pub returns-clause-hidden : goal.returns-clause-hidden
+returns-clause-hidden g c = λ ts run es os. c.twin_replies.ensures c.args.self.now ts run

@@ -1,0 +1,227 @@
+-- What comes of a piece on an open lane.
+use Rattle.std.proofs.Common.{◌≡◌, ℕ, ◌<◌, List, [], ◌∷◌, ◌++◌, Bool, true, false, cond, ◌==◌, Option, Some, None, length, set, refl, sym, ap, ◌∙◌, subst, true≢false}
+use Rattle.std.proofs.lemmas.List.{get_or-set_same, set-set}
+use Rattle.std.specs.Prelude.{is_none, is_some, nat_lt, find, drop}
+use Rattle.hdl_frame.specs.Envelope.{envelope_at}
+use Rattle.hdl_msg.specs.Message.{Content, SpellsRequest}
+use Rattle.hdl_msg.specs.Reply.{short_reply}
+use Rattle.hdl_pool.specs.declared.piece.Key.{Key}
+use Rattle.hdl_pool.specs.Partial.{Partial, key_of, piece_of, is_of}
+use Rattle.hdl_pool.specs.Taking.{Fate, made_whole, kept, ignored, displaced, so_far, grown, replaced, stored, begun, settled, taken, whole_message, freed}
+use Rattle.hdl_rows.specs.Table.{Table}
+use Rattle.hdl_ops.specs.Decisions.{Decision, failure}
+use Rattle.hdl_ops.specs.Requests.{Response, response_of}
+use Rattle.hdl_slots.specs.declared.pending.Pending.{Pending}
+use Rattle.hdl_slots.specs.Lanes.{challenge_of}
+use Rattle.hdl_msg.specs.declared.replies.ReplyContent.TheVariants.{Empty}
+use Rattle.hdl_laws.specs.declared.events.Outcome.TheVariants.{Reply, Silent}
+use Rattle.hdl_laws.specs.Lanes.{LaneState, fresh, with_partials}
+use Rattle.hdl_laws.specs.Worlds as worlds
+use Rattle.hdl_laws.specs.Worlds.{Received, Effect, Task, Ignore, Malformed, Unknown, Late, Ask, Redeem, is_late, redeemed, redeem_task, answer_effect, challenge_effect, ask_effect, IsReading, IsResponseTask, IsRequestTask, IsMessageTask, IsLetterTask, IsWholeTask, Does}
+use Rattle.hdl_core.specs.declared.letter.Letter.{Letter}
+use Rattle.hdl_core.specs.Held.{Held, held_at, state_at, with_state}
+use Rattle.hdl_core.specs.Serving.{letter_of, HearsAt, AssemblesAt}
+use Rattle.hdl_core.proofs.HeldLanes as held_lanes
+use Rattle.hdl_ops.specs.Tables.{apply_if}
+
+-- ---- a lane whose partial messages are others hears a message as it did
+
+-- the same on a lane with these partial messages
+record Moved (hosts : List ℕ → Bool) (t : Table) (s : LaneState) (p : List Partial) (m : worlds.Letter) (eff : Effect) : Type 0 where
+  task : Task
+  is_task : IsLetterTask (with_partials s p) m task
+  effect : Effect
+  does : Does hosts t task effect
+  outcome : effect.outcome ≡ eff.outcome
+  state : effect.state ≡ with_partials eff.state p
+  change : effect.change ≡ eff.change
+  same : eff.state.partials ≡ s.partials
+
+module _ (hosts : List ℕ → Bool) (t : Table) (s : LaneState) (p : List Partial) (m : worlds.Letter) where
+  garbled : (o : Option Content) → IsReading (SpellsRequest m.message) o → o ≡ None → (eff : Effect) → Does hosts t (Malformed m s) eff → Moved hosts t s p m eff
+  garbled o reading is eff does = record {
+    task = Malformed m (with_partials s p);
+    is_task = (o, reading, subst (λ x. IsMessageTask (with_partials s p) m x (Malformed m (with_partials s p))) (sym is) refl);
+    effect = record { outcome = Reply (short_reply 4 m.envelope); state = with_partials s p; change = None };
+    does = refl;
+    outcome = sym (ap (λ (e : Effect). e.outcome) does);
+    state = sym (ap (λ (e : Effect). with_partials e.state p) does);
+    change = sym (ap (λ (e : Effect). e.change) does);
+    same = ap (λ (e : Effect). e.state.partials) does;
+  }
+
+  asked : (r : Content) → SpellsRequest m.message r → response_of r.operation ≡ None → (eff : Effect) → Does hosts t (Ask m r s) eff → Moved hosts t s p m eff
+  asked r spells is eff (d, decides, does) = record {
+    task = Ask m r (with_partials s p);
+    is_task = (Some r, spells, subst (λ x. IsRequestTask (with_partials s p) m r x (Ask m r (with_partials s p))) (sym is) refl);
+    effect = ask_effect (with_partials s p) m r d;
+    does = (d, decides, refl);
+    outcome = outcome_by (d.code == 402) ∙ sym (ap (λ (e : Effect). e.outcome) does);
+    state = state_by (d.code == 402) ∙ sym (ap (λ (e : Effect). with_partials e.state p) does);
+    change = change_by (d.code == 402) ∙ sym (ap (λ (e : Effect). e.change) does);
+    same = ap (λ (e : Effect). e.state.partials) does ∙ same_by (d.code == 402);
+  }
+    where
+      outcome_by : (b : Bool) → (cond {A = Effect} b (challenge_effect (with_partials s p) m r) (answer_effect (with_partials s p) m r d)).outcome ≡ (cond {A = Effect} b (challenge_effect s m r) (answer_effect s m r d)).outcome
+      outcome_by true = refl
+      outcome_by false = refl
+
+      state_by : (b : Bool) → (cond {A = Effect} b (challenge_effect (with_partials s p) m r) (answer_effect (with_partials s p) m r d)).state ≡ with_partials (cond {A = Effect} b (challenge_effect s m r) (answer_effect s m r d)).state p
+      state_by true = refl
+      state_by false = refl
+
+      change_by : (b : Bool) → (cond {A = Effect} b (challenge_effect (with_partials s p) m r) (answer_effect (with_partials s p) m r d)).change ≡ (cond {A = Effect} b (challenge_effect s m r) (answer_effect s m r d)).change
+      change_by true = refl
+      change_by false = refl
+
+      same_by : (b : Bool) → (cond {A = Effect} b (challenge_effect s m r) (answer_effect s m r d)).state.partials ≡ s.partials
+      same_by true = refl
+      same_by false = refl
+
+  -- an answer that keeps the partial messages
+  replied : (k' : Task) (r : Content) (d : Decision) (here here' : LaneState) (eff : Effect) → IsLetterTask (with_partials s p) m k' → here' ≡ with_partials here p → here.partials ≡ s.partials
+      → eff ≡ answer_effect here m r d → Does hosts t k' (answer_effect here' m r d) → Moved hosts t s p m eff
+  replied k' r d here here' eff task moved same is does = record {
+    task = k';
+    is_task = task;
+    effect = answer_effect here' m r d;
+    does = does;
+    outcome = sym (ap (λ (e : Effect). e.outcome) is);
+    state = moved ∙ sym (ap (λ (e : Effect). with_partials e.state p) is);
+    change = sym (ap (λ (e : Effect). e.change) is);
+    same = ap (λ (e : Effect). e.state.partials) is ∙ same;
+  }
+
+  found : (r : Content) (a : Response) (c : Pending) (o : Option Content) → SpellsRequest m.message r → response_of r.operation ≡ Some a → challenge_of s.challenges.challenges m.peer m.envelope.session ≡ Some c
+      → IsReading (SpellsRequest c.message) o → IsLetterTask (with_partials s p) m (redeem_task (with_partials s p) m a c o)
+  found r a c o spells is there reading = (
+    Some r,
+    spells,
+    subst (λ x. IsRequestTask (with_partials s p) m r x (redeem_task (with_partials s p) m a c o)) (sym is)
+        (subst (λ x. IsResponseTask (with_partials s p) m r a x (redeem_task (with_partials s p) m a c o)) (sym there) (o, reading, refl)),
+  )
+
+  redeems : (r : Content) (a : Response) (c : Pending) (o : Option Content) → SpellsRequest m.message r → response_of r.operation ≡ Some a → challenge_of s.challenges.challenges m.peer m.envelope.session ≡ Some c
+      → IsReading (SpellsRequest c.message) o → (eff : Effect) → Does hosts t (redeem_task s m a c o) eff → Moved hosts t s p m eff
+  redeems r a c None spells is there reading eff does = record {
+    task = Malformed m (redeemed (with_partials s p) m);
+    is_task = found r a c None spells is there reading;
+    effect = record { outcome = Reply (short_reply 4 m.envelope); state = redeemed (with_partials s p) m; change = None };
+    does = refl;
+    outcome = sym (ap (λ (e : Effect). e.outcome) does);
+    state = sym (ap (λ (e : Effect). with_partials e.state p) does);
+    change = sym (ap (λ (e : Effect). e.change) does);
+    same = ap (λ (e : Effect). e.state.partials) does;
+  }
+  redeems r a c (Some q) spells is there reading eff does = by_time (is_late m c) refl does
+    where
+      by_time : (b : Bool) → is_late m c ≡ b → Does hosts t (cond b (Late m q (redeemed s m)) (Redeem m q (record { response = a; nonce = c.nonce; digest = c.digest }) (redeemed s m))) eff → Moved hosts t s p m eff
+      by_time true late does =
+          replied (redeem_task (with_partials s p) m a c (Some q)) q (failure 405 Empty) (redeemed s m) (redeemed (with_partials s p) m) eff (found r a c (Some q) spells is there reading) refl refl does
+          (subst (λ b. Does hosts t (cond b (Late m q (redeemed (with_partials s p) m)) (Redeem m q (record { response = a; nonce = c.nonce; digest = c.digest }) (redeemed (with_partials s p) m))) (answer_effect (redeemed (with_partials s p) m) m q (failure 405 Empty))) (sym late) refl)
+      by_time false late (d, decides, does) =
+          replied (redeem_task (with_partials s p) m a c (Some q)) q d (redeemed s m) (redeemed (with_partials s p) m) eff (found r a c (Some q) spells is there reading) refl refl does
+          (subst (λ b. Does hosts t (cond b (Late m q (redeemed (with_partials s p) m)) (Redeem m q (record { response = a; nonce = c.nonce; digest = c.digest }) (redeemed (with_partials s p) m))) (answer_effect (redeemed (with_partials s p) m) m q d)) (sym late) (d, decides, refl))
+
+  responded : (r : Content) (a : Response) (o : Option Pending) (k : Task) → SpellsRequest m.message r → response_of r.operation ≡ Some a → challenge_of s.challenges.challenges m.peer m.envelope.session ≡ o
+      → IsResponseTask s m r a o k → (eff : Effect) → Does hosts t k eff → Moved hosts t s p m eff
+  responded r a None k spells is there task eff does =
+      replied (Unknown m r (with_partials s p)) r (failure 4 Empty) s (with_partials s p) eff
+      (Some r, spells, subst (λ x. IsRequestTask (with_partials s p) m r x (Unknown m r (with_partials s p))) (sym is) (subst (λ x. IsResponseTask (with_partials s p) m r a x (Unknown m r (with_partials s p))) (sym there) refl))
+      refl refl (subst (λ x. Does hosts t x eff) task does) refl
+  responded r a (Some c) k spells is there (o, reading, task) eff does = redeems r a c o spells is there reading eff (subst (λ x. Does hosts t x eff) task does)
+
+  requested : (r : Content) (o : Option Response) (k : Task) → SpellsRequest m.message r → response_of r.operation ≡ o → IsRequestTask s m r o k → (eff : Effect) → Does hosts t k eff → Moved hosts t s p m eff
+  requested r None k spells is task eff does = asked r spells is eff (subst (λ x. Does hosts t x eff) task does)
+  requested r (Some a) k spells is task eff does = responded r a (challenge_of s.challenges.challenges m.peer m.envelope.session) k spells is refl task eff does
+
+  moved : (k : Task) → IsLetterTask s m k → (eff : Effect) → Does hosts t k eff → Moved hosts t s p m eff
+  moved k (None, reading, task) eff does = garbled None reading refl eff (subst (λ x. Does hosts t x eff) task does)
+  moved k (Some r, reading, task) eff does = requested r (response_of r.operation) k reading refl task eff does
+
+-- ---- a piece that makes its message whole leaves the partial messages as they were
+
+not_whole : (f : Fate) (message : List ℕ) → whole_message f ≡ None → f ≡ made_whole message → ⊥
+not_whole f message none is = true≢false (sym (ap is_none none) ∙ ap (λ x. is_none (whole_message x)) is)
+
+pick : (b : Bool) (x y : Fate × List Partial) → whole_message x.0 ≡ None → whole_message y.0 ≡ None → whole_message (cond b x y).0 ≡ None
+pick true x y h g = h
+pick false x y h g = g
+
+stored_kept : (lane : List Partial) (key : Key) (more : Partial) → whole_message (stored lane key more).0 ≡ None
+stored_kept lane key more =
+    pick (is_some (find (is_of key) lane)) (kept, replaced key more lane) (begun lane more) refl (pick (nat_lt (length lane) 4) (kept, lane ++ more ∷ []) (displaced, drop 1 lane ++ more ∷ []) refl refl)
+
+whole_stays : (lane : List Partial) (key : Key) (f : Fate) (more : Partial) (message : List ℕ) → (settled lane key f more).0 ≡ made_whole message → (settled lane key f more).1 ≡ lane
+whole_stays lane key kept more message is = absurd (not_whole (stored lane key more).0 message (stored_kept lane key more) is)
+whole_stays lane key (made_whole other) more message is = refl
+whole_stays lane key ignored more message is = refl
+whole_stays lane key displaced more message is = refl
+
+-- ---- a piece
+
+module _ (hosts : List ℕ → Bool) (t : Table) (lanes : List Held) (number : ℕ) (m : Letter) (bytes : List ℕ) (envelope : m.envelope ≡ envelope_at bytes) where
+  abbrev x : Received
+  x = record { peer = m.peer; moment = m.moment; nonce = m.nonce; bytes = bytes }
+
+  abbrev here : LaneState
+  here = state_at lanes number
+
+  abbrev after : Fate × List Partial
+  after = taken (state_at lanes number).partials (piece_of m.peer bytes)
+
+  pub waits : (f : Fate) (lanes' : List Held) → whole_message f ≡ None → f ≡ (taken (state_at lanes number).partials (piece_of m.peer bytes)).0
+      → lanes' ≡ with_state lanes number (with_partials (state_at lanes number) (taken (state_at lanes number).partials (piece_of m.peer bytes)).1)
+      → AssemblesAt hosts t lanes number (record { peer = m.peer; moment = m.moment; nonce = m.nonce; bytes = bytes }) None lanes' t
+  waits f lanes' none is same = (
+    with_partials here after.1,
+    same,
+    (
+      record { outcome = Silent; state = with_partials here after.1; change = None },
+      Ignore (with_partials here after.1),
+      subst (λ o. IsWholeTask (with_partials here after.1) (with_partials here (freed here.partials (key_of m.peer (envelope_at bytes)))) x o (Ignore (with_partials here after.1))) (sym none ∙ ap whole_message is) refl,
+      refl,
+      refl,
+      refl,
+      refl,
+    ),
+  )
+
+  -- the lanes are as they were where the piece made its message whole
+  pub unchanged : (message : List ℕ) (lanes' : List Held) → made_whole message ≡ (taken (state_at lanes number).partials (piece_of m.peer bytes)).0
+      → lanes' ≡ with_state lanes number (with_partials (state_at lanes number) (taken (state_at lanes number).partials (piece_of m.peer bytes)).1) → lanes' ≡ lanes
+  unchanged message lanes' is same =
+      let piece = piece_of m.peer bytes in
+      let grew = grown (so_far here.partials piece) piece in
+      let stays : after.1 ≡ here.partials = whole_stays here.partials piece.key grew.0 grew.1 message (sym is) in
+      same ∙ ap (λ p. with_state lanes number (with_partials here p)) stays ∙ sym (held_lanes.kept lanes number)
+
+  pub whole : (message octets : List ℕ) (lanes' lanes'' : List Held) (t' : Table) → number < length lanes → made_whole message ≡ (taken (state_at lanes number).partials (piece_of m.peer bytes)).0
+      → HearsAt hosts t lanes number (letter_of m message) octets lanes' t'
+      → lanes'' ≡ with_state lanes' number (with_partials (state_at lanes' number) (freed (state_at lanes' number).partials (key_of m.peer m.envelope)))
+      → AssemblesAt hosts t lanes number (record { peer = m.peer; moment = m.moment; nonce = m.nonce; bytes = bytes }) (Some octets) lanes'' t'
+  whole message octets lanes' lanes'' t' there is (s', same, (k, task, (eff, does, out, state, table))) free =
+      let key = key_of m.peer (envelope_at bytes) in
+      let gone = freed here.partials key in
+      let mv = moved hosts t here gone (letter_of m message) k task eff does in
+      let now : state_at lanes' number ≡ s' = ap (λ (ls : List Held). state_at ls number) same ∙ ap (λ (h : Held). h.state) (get_or-set_same lanes number (record { publisher = (held_at lanes number).publisher; state = s' }) (record { publisher = 0; state = fresh false }) there) in
+      let kept_partials : (state_at lanes' number).partials ≡ here.partials = ap (λ (s : LaneState). s.partials) (now ∙ sym state) ∙ mv.same in
+      let freed_now : with_partials (state_at lanes' number) (freed (state_at lanes' number).partials (key_of m.peer m.envelope)) ≡ with_partials s' gone =
+      λ i. with_partials (now i) (freed (kept_partials i) (key_of m.peer (envelope i))) in
+      let owner : (held_at lanes' number).publisher ≡ (held_at lanes number).publisher =
+      ap (λ (ls : List Held). (held_at ls number).publisher) same ∙ ap (λ (h : Held). h.publisher) (get_or-set_same lanes number (record { publisher = (held_at lanes number).publisher; state = s' }) (record { publisher = 0; state = fresh false }) there) in (
+        with_partials s' gone,
+        free
+            ∙ (λ i. set (same i) number (record { publisher = owner i; state = freed_now i }))
+            ∙ set-set lanes number (record { publisher = (held_at lanes number).publisher; state = s' }) (record { publisher = (held_at lanes number).publisher; state = with_partials s' gone }),
+        (
+          mv.effect,
+          mv.task,
+          subst (λ o. IsWholeTask (with_partials here after.1) (with_partials here gone) x o mv.task) (ap whole_message is)
+              (subst (λ (l : worlds.Letter). IsLetterTask (with_partials here gone) l mv.task) (λ i. record { peer = m.peer; moment = m.moment; nonce = m.nonce; envelope = envelope i; message = message }) mv.is_task),
+          mv.does,
+          mv.outcome ∙ out,
+          mv.state ∙ ap (λ (s : LaneState). with_partials s gone) state,
+          table ∙ ap (apply_if t m.moment) (sym mv.change),
+        ),
+      )

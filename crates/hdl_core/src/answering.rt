@@ -1,0 +1,93 @@
+//! Replies, each with its room taken before anything changes.
+
+ghost use Rattle.std.specs.Prelude.{◌≡◌, IfOk, IfSome, IsTrue, OnErr, OnOk};
+ghost use Rattle.hdl_msg.specs.Bodies.{content_of};
+ghost use Rattle.hdl_msg.specs.Codes.{response_number};
+ghost use Rattle.hdl_msg.specs.Message.{signed_octets};
+ghost use Rattle.hdl_msg.specs.Reply.{reply_octets, short_reply};
+ghost use Rattle.hdl_msg.specs.declared.replies.ReplyContent.TheVariants as content;
+ghost use Rattle.hdl_ops.specs.Replies.{reply_to, fits};
+ghost use Rattle.hdl_ops.specs.Tables.{apply_if, CanApply};
+
+use crate::letter::Letter;
+use hdl_frame::Envelope;
+use hdl_laws::Octets;
+use hdl_msg::{ReplyContent, Request, ResponseCode, refuse};
+use hdl_ops::{Change, Decision, Refused, Rows, apply, render};
+use std::alloc::Global;
+
+/// Makes the change of a decision, if there is one.
+fn make<R: Rows>(rows: &mut R, change: Option<Change>, moment: u64) -> Result<(), Refused>
+    requires can_apply { IfSome change (λ change. CanApply (R.content rows.old) change) }
+    ensures done { OnOk result (R.content rows.new ≡ apply_if (R.content rows.old) moment change) }
+    ensures undone { OnErr result (R.content rows.new ≡ R.content rows.old) }
+{
+    match change {
+        Some(change) => apply(rows, change, moment),
+        None => Ok(()),
+    }
+}
+
+/// Renders the reply of a decision and makes its change.
+pub(crate) fn answer<R: Rows>(
+    alloc: Global,
+    rows: &mut R,
+    letter: &Letter,
+    request: &Request<'_>,
+    decision: Decision,
+) -> Result<Octets, Refused>
+    requires signed { request.now.signed.now ≡ signed_octets (content_of request.now) }
+    requires fits { IsTrue (fits (content_of request.now) decision.content) }
+    requires can_apply { IfSome decision.change (λ change. CanApply (R.content rows.old) change) }
+    ensures reply { IfOk result (λ octets. octets ≡ reply_octets (reply_to letter.now.envelope.session letter.now.envelope.request (content_of request.now) (response_number decision.code) decision.content)) }
+    ensures done { OnOk result (R.content rows.new ≡ apply_if (R.content rows.old) letter.now.moment decision.change) }
+    ensures undone { OnErr result (R.content rows.new ≡ R.content rows.old) }
+{
+    let Decision {
+        code,
+        content,
+        change,
+    } = decision;
+    let Envelope {
+        session,
+        request: number,
+        ..
+    } = letter.envelope;
+    let Ok(octets) = render(alloc, session, number, request, code, content) else {
+        return Err(Refused);
+    };
+    make(rows, change, letter.moment)?;
+    Ok(Octets::new(octets))
+}
+
+/// The reply to a request that needs no look at the table, with nothing but its code.
+#[tactic(auto, using(hdl_ops::proofs::Lengths::empty_fits))]
+pub(crate) fn tell(
+    alloc: Global,
+    letter: &Letter,
+    request: &Request<'_>,
+    code: ResponseCode,
+) -> Result<Octets, Refused>
+    requires signed { request.now.signed.now ≡ signed_octets (content_of request.now) }
+    ensures reply { IfOk result (λ octets. octets ≡ reply_octets (reply_to letter.now.envelope.session letter.now.envelope.request (content_of request.now) (response_number code) content.Empty)) }
+{
+    let Envelope {
+        session,
+        request: number,
+        ..
+    } = letter.envelope;
+    match render(alloc, session, number, request, code, ReplyContent::Empty) {
+        Ok(octets) => Ok(Octets::new(octets)),
+        Err(_) => Err(Refused),
+    }
+}
+
+/// The short reply to a message that isn't in the grammar.
+pub(crate) fn malformed(alloc: Global, envelope: &Envelope) -> Result<Octets, Refused>
+    ensures { IfOk result (λ octets. octets ≡ short_reply 4 envelope.now) }
+{
+    match Vec::from_slice(alloc, &refuse(envelope)) {
+        Ok(octets) => Ok(Octets::new(octets)),
+        Err(_) => Err(Refused),
+    }
+}

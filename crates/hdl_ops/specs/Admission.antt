@@ -1,0 +1,54 @@
+-- What is tested before the table is looked at.
+use Rattle.std.specs.Prelude.{ℕ, List, [], ◌∷◌, Bool, false, not, ◌==◌, ◌||◌, ◌&&◌, Option, Some, None, if◌then◌else◌, is_none, length, nat_lt}
+use Rattle.std.specs.List.{list_any, list_all}
+use Rattle.hdl_name.specs.Name as name
+use Rattle.hdl_name.specs.Tests.{is_handle}
+use Rattle.hdl_value.specs.declared.value.Value.{Value}
+use Rattle.hdl_value.specs.Refs.{is_admin}
+use Rattle.hdl_value.specs.Tests.{is_sound}
+use Rattle.hdl_msg.specs.Message.{Content, Operation, create, add, remove, modify}
+use Rattle.hdl_ops.specs.First.{first}
+use Rattle.hdl_ops.specs.Requests.{named, is_unused, makes_or_ends, is_list}
+
+-- the canonical handle that octets name
+unfoldable pub handle_in : List ℕ → Option (List ℕ)
+handle_in octets = if is_handle octets then Some (name.canonical octets) else None
+
+-- ---- what a write names
+
+-- a key stands twice
+abbrev pub has_twins : {A : Type 0} → (A → ℕ) → List A → Bool
+has_twins key [] = false
+has_twins key (x ∷ xs) = list_any (λ y. key y == key x) xs || has_twins key xs
+
+-- nothing, more than 256, or one twice
+abbrev pub is_bad_list : {A : Type 0} → (A → ℕ) → List A → Bool
+is_bad_list key xs = length xs == 0 || nat_lt 256 (length xs) || has_twins key xs
+
+-- a bad list of indexes, or a value that breaks the limits or whose data is bad
+unfoldable pub are_bad : List Value → Bool
+are_bad vs = is_bad_list (λ v. v.index) vs || not (list_all is_sound vs)
+
+-- a handle is made with an HS_ADMIN value at least
+abbrev pub is_bad_write : Operation → Bool
+is_bad_write (create handle vs) = are_bad vs || not (list_any is_admin vs)
+is_bad_write (add handle vs) = are_bad vs
+is_bad_write (modify handle vs) = are_bad vs
+is_bad_write (remove handle is) = is_bad_list (λ i. i) is
+is_bad_write _ = false
+
+-- ---- the table
+
+-- an administrative handle is named
+abbrev pub is_under_root : Operation → Bool
+is_under_root o = name.is_admin (named o)
+
+unfoldable pub refusal : (List ℕ → Bool) → Content → Option ℕ
+refusal hosts r = first
+    ((is_unused r.operation, 5)
+    ∷ (is_none (handle_in (named r.operation)), 102)
+    ∷ (is_list r.operation && not (is_under_root r.operation), 102)
+    ∷ (makes_or_ends r.operation && is_under_root r.operation, 5)
+    ∷ (not (hosts (name.prefix (named r.operation))), 302)
+    ∷ (is_bad_write r.operation, 202)
+    ∷ [])

@@ -1,0 +1,93 @@
+//! What a resolution asks for, and values by their index.
+
+ghost use Rattle.std.specs.Prelude.{◌≡◌, ◌==◌, length, option_copied};
+ghost use Rattle.std.specs.List.{list_any};
+ghost use Rattle.hdl_value.specs.Permission.{is_public, is_kept};
+ghost use Rattle.hdl_value.specs.Refs.{is_admin};
+ghost use Rattle.hdl_rows.specs.Table.{value_with};
+ghost use Rattle.hdl_msg.specs.Bodies.{operation_of};
+ghost use Rattle.hdl_msg.specs.Views.{numbers_of, strings_of};
+ghost use Rattle.hdl_ops.specs.Sights.{matches, is_named, asks, passes_at};
+
+use hdl_msg::{Body, Numbers, Strings};
+use hdl_value::{Class, Value};
+
+/// A listed type matches the type of a value.
+#[tactic(auto, unfolding(crate::specs::Sights::matches))]
+fn matches(listed: &[u8], kind: &[u8]) -> bool
+    ensures { result ≡ matches listed.now kind.now }
+{
+    listed == kind || listed.ends_with(b".") && kind.starts_with(listed)
+}
+
+pub(crate) fn lists_index(mut indexes: Numbers<'_>, index: u32) -> bool
+    ensures { result ≡ list_any (λ i. i == index) (numbers_of indexes.entry) }
+{
+    indexes.any(|i| i == index)
+}
+
+fn lists_type(mut types: Strings<'_>, kind: &[u8]) -> bool
+    ensures { result ≡ list_any (λ t. matches t kind.now) (strings_of types.entry) }
+{
+    types.any(|listed| matches(listed, kind))
+}
+
+fn has_no_index(mut indexes: Numbers<'_>) -> bool
+    ensures { result ≡ (length (numbers_of indexes.entry) == 0) }
+{
+    indexes.next().is_none()
+}
+
+fn has_no_type(mut types: Strings<'_>) -> bool
+    ensures { result ≡ (length (strings_of types.entry) == 0) }
+{
+    types.next().is_none()
+}
+
+#[tactic(auto, unfolding(crate::specs::Sights::is_named))]
+fn is_named(indexes: Numbers<'_>, types: Strings<'_>, value: &Value) -> bool
+    ensures { result ≡ is_named (numbers_of indexes.entry) (strings_of types.entry) value.now }
+{
+    has_no_index(indexes) && has_no_type(types)
+        || lists_index(indexes, value.index)
+        || lists_type(types, value.kind.as_slice())
+}
+
+/// A resolution asks for the value.
+pub(crate) fn asks(body: &Body<'_>, value: &Value) -> bool
+    ensures { result ≡ asks (operation_of body.now) value.now }
+{
+    match body {
+        Body::Resolution { indexes, types, .. } => is_named(*indexes, *types, value),
+        _ => false,
+    }
+}
+
+pub(crate) fn is_public(value: &Value) -> bool
+    ensures { result ≡ is_public value.now }
+{
+    value.class() == Class::Public
+}
+
+pub(crate) fn is_kept(value: &Value) -> bool
+    ensures { result ≡ is_kept value.now }
+{
+    value.class() == Class::Kept
+}
+
+/// The value of this index.
+pub(crate) fn value_with(index: u32, values: &[Value]) -> Option<&Value>
+    ensures { option_copied result ≡ value_with index values.now }
+{
+    values.iter().find(|value| value.index == index)
+}
+
+/// The value of this index is there, and is an HS_ADMIN value.
+pub(crate) fn is_admin_at(values: &[Value], index: u32) -> bool
+    ensures { result ≡ passes_at is_admin values.now index }
+{
+    match value_with(index, values) {
+        Some(value) => value.is_admin(),
+        None => false,
+    }
+}

@@ -1,0 +1,127 @@
+//! The key that a proof names, and what it may do.
+
+ghost use Rattle.std.specs.Prelude.{◌≡◌, ◌+◌, ◌⊎◌, Some, min, option_map, IfOk, OnOk, OnErr};
+ghost use Rattle.hdl_name.specs.Name.{canonical, prefix};
+ghost use Rattle.hdl_rows.specs.Table.{most, place_of};
+ghost use Rattle.hdl_reach.specs.Views.{mask_of};
+ghost use Rattle.hdl_msg.specs.Bodies.{operation_of, content_of};
+ghost use Rattle.hdl_msg.specs.Codes.{response_number};
+ghost use Rattle.hdl_ops.specs.Admission.{handle_in};
+ghost use Rattle.hdl_ops.specs.Proven.{admin_octets, target, key_of, MaskOf, IsCodeForKey, IsCodeForProof};
+ghost use Rattle.hdl_ops.specs.Requests.{named};
+ghost use Rattle.hdl_ops.specs.Sights as sights;
+ghost use Rattle.hdl_ops.specs.Views.{sight_of, proof_of};
+
+use crate::admit::read_name;
+use crate::decision::{Proof, Sight};
+use crate::proven::{code_before_key, code_behind_key};
+use crate::requests::creates;
+use hdl_msg::{Body, Request, ResponseCode};
+use hdl_name::Name;
+use hdl_reach::mask;
+use hdl_rows::{Refused, Rows};
+use hdl_value::{AdminMask, Reference};
+use std::alloc::{AllocError, Global};
+
+/// The key's reference, if its handle is a name.
+fn key_of(alloc: Global, proof: &Proof<'_>) -> Result<Option<Reference>, Refused>
+    ensures { IfOk result (λ key. option_map place_of key ≡ key_of (proof_of proof.now)) }
+{
+    match read_name(alloc, proof.response.handle)? {
+        Some(name) => Ok(Some(Reference {
+            name,
+            index: proof.response.index,
+        })),
+        None => Ok(None),
+    }
+}
+
+/// The octets of a prefix's administrative handle.
+fn admin_octets(alloc: Global, prefix: &[u8]) -> Result<Vec<u8>, AllocError>
+    ensures { IfOk result (λ octets. octets.items ≡ admin_octets prefix.now) }
+{
+    let mut octets = Vec::from_slice(alloc, b"0.na/")?;
+    octets.extend_from_slice(prefix)?;
+    Ok(octets)
+}
+
+/// The administrative handle of the prefix of a name, if it isn't too long.
+fn admin_handle(alloc: Global, name: &Name) -> Result<Option<Name>, Refused>
+    ensures { IfOk result (λ admin. option_map canonical admin ≡ handle_in (admin_octets (prefix name.now))) }
+{
+    let Ok(octets) = admin_octets(alloc, name.prefix()) else {
+        return Err(Refused);
+    };
+    read_name(alloc, &octets)
+}
+
+/// What the key may do as an administrator of the request's target.
+#[tactic(auto, unfolding(crate::specs::Proven::target))]
+fn mask_of<R: Rows>(
+    alloc: Global,
+    rows: &mut R,
+    body: &Body<'_>,
+    name: &Name,
+    key: &Reference,
+) -> Result<Option<AdminMask>, Refused>
+    requires named { name.now ≡ named (operation_of body.now) }
+    ensures unchanged { R.content rows.new ≡ R.content rows.old }
+    ensures mask { IfOk result (λ mask. MaskOf (R.content rows.old) (target (operation_of body.now)) (Some (place_of key.now)) (mask_of mask)) }
+    ensures answered { OnOk result (R.refused rows.new ≡ R.refused rows.old) }
+    ensures refused { OnErr result ((R.refused rows.new ≡ R.refused rows.old) ⊎ (R.refused rows.new ≡ min (R.refused rows.old + 1) most)) }
+{
+    if !creates(body) {
+        return mask(alloc, rows, name, key);
+    }
+    match admin_handle(alloc, name)? {
+        Some(target) => mask(alloc, rows, &target, key),
+        None => Ok(None),
+    }
+}
+
+/// The code for the key: its value is looked at only if it is an administrator.
+fn code_for_key<R: Rows>(
+    alloc: Global,
+    rows: &mut R,
+    request: &Request<'_>,
+    sight: &Sight,
+    name: &Name,
+    proof: &Proof<'_>,
+) -> Result<ResponseCode, Refused>
+    requires named { name.now ≡ named (content_of request.now).operation }
+    ensures unchanged { R.content rows.new ≡ R.content rows.old }
+    ensures code { IfOk result (λ code. IsCodeForKey (R.content rows.old) (sight_of sight.now) (content_of request.now) (proof_of proof.now) (response_number code)) }
+    ensures answered { OnOk result (R.refused rows.new ≡ R.refused rows.old) }
+    ensures refused { OnErr result ((R.refused rows.new ≡ R.refused rows.old) ⊎ (R.refused rows.new ≡ min (R.refused rows.old + 1) most)) }
+{
+    let Some(key) = key_of(alloc, proof)? else {
+        return Ok(ResponseCode::NotAuthorized);
+    };
+    let Some(mask) = mask_of(alloc, rows, &request.body, name, &key)? else {
+        return Ok(ResponseCode::NotAuthorized);
+    };
+    let value = rows.at(&key)?;
+    Ok(code_behind_key(request, sight, proof, mask, &value))
+}
+
+/// The code of the table of decision for a request with a proof.
+pub(crate) fn code_for_proof<R: Rows>(
+    alloc: Global,
+    rows: &mut R,
+    request: &Request<'_>,
+    sight: &Sight,
+    name: &Name,
+    proof: &Proof<'_>,
+) -> Result<ResponseCode, Refused>
+    requires named { name.now ≡ named (content_of request.now).operation }
+    requires sight { sight_of sight.now ≡ sights.sight (R.content rows.old) (content_of request.now) }
+    ensures unchanged { R.content rows.new ≡ R.content rows.old }
+    ensures code { IfOk result (λ code. IsCodeForProof (R.content rows.old) (content_of request.now) (proof_of proof.now) (response_number code)) }
+    ensures answered { OnOk result (R.refused rows.new ≡ R.refused rows.old) }
+    ensures refused { OnErr result ((R.refused rows.new ≡ R.refused rows.old) ⊎ (R.refused rows.new ≡ min (R.refused rows.old + 1) most)) }
+{
+    match code_before_key(request, sight, proof) {
+        Some(code) => Ok(code),
+        None => code_for_key(alloc, rows, request, sight, name, proof),
+    }
+}

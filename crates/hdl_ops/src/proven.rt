@@ -1,0 +1,187 @@
+//! The table of decision for a request that comes back with a proof.
+
+ghost use Rattle.std.specs.Prelude.{◌≡◌, option_map};
+ghost use Rattle.std.specs.List.{list_any};
+ghost use Rattle.hdl_value.specs.Refs.{is_secret_key};
+ghost use Rattle.hdl_msg.specs.Bodies.{operation_of, content_of};
+ghost use Rattle.hdl_msg.specs.Codes.{response_number};
+ghost use Rattle.hdl_msg.specs.Views.{numbers_of, values_of};
+ghost use Rattle.hdl_ops.specs.Proven.{is_right, misses_at, takes_at, misses, takes, overfills, is_asked, code_before_key, code_behind_key};
+ghost use Rattle.hdl_ops.specs.Sights.{passes};
+ghost use Rattle.hdl_ops.specs.Views.{sight_of, proof_of};
+
+use crate::asked::{asks, is_kept, is_public, value_with};
+use crate::decision::{Proof, Sight};
+use crate::permitted::{is_allowed, is_locked};
+use crate::requests::{creates, resolves};
+use crate::written::count_of_values;
+use hdl_auth::{has_response_form, is_right_response};
+use hdl_msg::{Body, Numbers, Request, ResponseCode, Values};
+use hdl_value::{AdminMask, Value};
+
+/// The authentication type that is offered, which is also the type of a key's value.
+const SECRET_KEY: &[u8] = b"HS_SECKEY";
+
+/// How many values a handle may have.
+const MOST_VALUES: usize = 1024;
+
+fn is_key(key: &Option<Value>) -> bool
+    ensures { result ≡ passes is_secret_key key.now }
+{
+    match key {
+        Some(value) => value.is_secret_key(),
+        None => false,
+    }
+}
+
+fn is_right(key: &Option<Value>, proof: &Proof<'_>) -> bool
+    ensures { result ≡ is_right key.now (proof_of proof.now) }
+{
+    match key {
+        Some(value) => is_right_response(
+            value.bytes.as_slice(),
+            proof.nonce,
+            proof.digest,
+            proof.response.answer,
+        ),
+        None => false,
+    }
+}
+
+fn misses_at(values: &[Value], index: u32) -> bool
+    ensures { result ≡ misses_at values.now index }
+{
+    value_with(index, values).is_none()
+}
+
+fn takes_at(values: &[Value], index: u32) -> bool
+    ensures { result ≡ takes_at values.now index }
+{
+    value_with(index, values).is_some()
+}
+
+fn any_missing(values: &[Value], mut indexes: Numbers<'_>) -> bool
+    ensures { result ≡ list_any (misses_at values.now) (numbers_of indexes.entry) }
+{
+    indexes.any(|index| misses_at(values, index))
+}
+
+fn any_missing_for(values: &[Value], mut news: Values<'_>) -> bool
+    ensures { result ≡ list_any (λ n. misses_at values.now n.index) (values_of news.entry) }
+{
+    news.any(|new| misses_at(values, new.index()))
+}
+
+fn any_taken_for(values: &[Value], mut news: Values<'_>) -> bool
+    ensures { result ≡ list_any (λ n. takes_at values.now n.index) (values_of news.entry) }
+{
+    news.any(|new| takes_at(values, new.index()))
+}
+
+/// A value that is to be written over or away isn't there.
+fn misses(body: &Body<'_>, values: &[Value]) -> bool
+    ensures { result ≡ misses (operation_of body.now) values.now }
+{
+    match body {
+        Body::Remove { indexes, .. } => any_missing(values, *indexes),
+        Body::Modify { values: news, .. } => any_missing_for(values, *news),
+        _ => false,
+    }
+}
+
+/// A value stands where one is to be added.
+fn takes(body: &Body<'_>, values: &[Value]) -> bool
+    ensures { result ≡ takes (operation_of body.now) values.now }
+{
+    match body {
+        Body::Add { values: news, .. } => any_taken_for(values, *news),
+        _ => false,
+    }
+}
+
+/// The handle would have more values than it may.
+fn overfills(body: &Body<'_>, values: &[Value]) -> bool
+    ensures { result ≡ overfills (operation_of body.now) values.now }
+{
+    match body {
+        Body::Add { values: news, .. } => {
+            let added = count_of_values(*news);
+            added > MOST_VALUES || values.len() > MOST_VALUES - added
+        }
+        _ => false,
+    }
+}
+
+fn is_asked(request: &Request<'_>, value: &Value) -> bool
+    ensures { result ≡ is_asked (content_of request.now) value.now }
+{
+    asks(&request.body, value) && (is_public(value) || is_kept(value))
+}
+
+fn any_asked(request: &Request<'_>, values: &[Value]) -> bool
+    ensures { result ≡ list_any (is_asked (content_of request.now)) values.now }
+{
+    values.iter().any(|value| is_asked(request, value))
+}
+
+/// The tests before administrators are looked for.
+#[tactic(auto, unfolding(crate::specs::Proven::code_before_key, crate::specs::First::first))]
+pub(crate) fn code_before_key(
+    request: &Request<'_>,
+    sight: &Sight,
+    proof: &Proof<'_>,
+) -> Option<ResponseCode>
+    ensures { option_map response_number result ≡ code_before_key (sight_of sight.now) (content_of request.now) (proof_of proof.now) }
+{
+    let body = &request.body;
+    if proof.response.kind != SECRET_KEY {
+        return Some(ResponseCode::UnableToAuthenticate);
+    }
+    if !has_response_form(proof.response.answer) {
+        return Some(ResponseCode::InvalidCredential);
+    }
+    if creates(body) && sight.there {
+        return Some(ResponseCode::HandleAlreadyExists);
+    }
+    if !creates(body) && !sight.there {
+        return Some(ResponseCode::HandleNotFound);
+    }
+    None
+}
+
+/// The tests for an administrator with this mask, and with this value at the key's place.
+#[tactic(auto, unfolding(crate::specs::Proven::code_behind_key, crate::specs::First::first))]
+pub(crate) fn code_behind_key(
+    request: &Request<'_>,
+    sight: &Sight,
+    proof: &Proof<'_>,
+    mask: AdminMask,
+    key: &Option<Value>,
+) -> ResponseCode
+    ensures { response_number result ≡ code_behind_key (sight_of sight.now) (content_of request.now) (proof_of proof.now) mask.0 key.now }
+{
+    let body = &request.body;
+    let values = &sight.values;
+    if !is_key(key) {
+        return ResponseCode::UnableToAuthenticate;
+    }
+    if !is_right(key, proof) {
+        return ResponseCode::AuthenticationFailed;
+    }
+    if misses(body, values) {
+        return ResponseCode::ValueNotFound;
+    }
+    if takes(body, values) {
+        return ResponseCode::ValueAlreadyExists;
+    }
+    if !is_allowed(body, values, mask) || is_locked(body, values) {
+        return ResponseCode::AccessDenied;
+    }
+    if overfills(body, values) {
+        return ResponseCode::ValueInvalid;
+    }
+    if resolves(body) && !any_asked(request, values) {
+        return ResponseCode::ValueNotFound;
+    }
+    ResponseCode::Success
+}

@@ -1,0 +1,131 @@
+//! What a write names: its indexes and its values, tested without memory, and copied once it stands.
+
+ghost use Rattle.std.specs.Prelude.{◌≡◌, ◌==◌, length, IfOk};
+ghost use Rattle.std.specs.List.{list_any, list_all};
+ghost use Rattle.hdl_value.specs.Refs.{is_admin};
+ghost use Rattle.hdl_value.specs.Tests.{is_sound};
+ghost use Rattle.hdl_msg.specs.Bodies.{operation_of};
+ghost use Rattle.hdl_msg.specs.Views.{numbers_of, values_of};
+ghost use Rattle.hdl_ops.specs.Admission.{has_twins, is_bad_list, are_bad, is_bad_write};
+
+use crate::asked::lists_index;
+use hdl_msg::{Body, Numbers, Values};
+use hdl_value::Value;
+use std::alloc::{AllocError, Global};
+
+/// How many values or indexes a write may name.
+const MOST_NAMED: usize = 256;
+
+fn count_of_indexes(indexes: Numbers<'_>) -> usize
+    ensures { result ≡ length (numbers_of indexes.entry) }
+{
+    indexes.count()
+}
+
+pub(crate) fn count_of_values(values: Values<'_>) -> usize
+    ensures { result ≡ length (values_of values.entry) }
+{
+    values.count()
+}
+
+fn has_twin_indexes(mut indexes: Numbers<'_>) -> bool
+    ensures { result ≡ has_twins (λ i. i) (numbers_of indexes.entry) }
+{
+    while let Some(index) = indexes.next() {
+        if lists_index(indexes, index) {
+            return true;
+        }
+    }
+    false
+}
+
+fn has_value_of(mut values: Values<'_>, index: u32) -> bool
+    ensures { result ≡ list_any (λ v. v.index == index) (values_of values.entry) }
+{
+    values.any(|value| value.index() == index)
+}
+
+fn has_twin_values(mut values: Values<'_>) -> bool
+    ensures { result ≡ has_twins (λ v. v.index) (values_of values.entry) }
+{
+    while let Some(value) = values.next() {
+        if has_value_of(values, value.index()) {
+            return true;
+        }
+    }
+    false
+}
+
+fn are_bad_indexes(indexes: Numbers<'_>) -> bool
+    ensures { result ≡ is_bad_list (λ i. i) (numbers_of indexes.entry) }
+{
+    let count = count_of_indexes(indexes);
+    count == 0 || count > MOST_NAMED || has_twin_indexes(indexes)
+}
+
+fn is_bad_value_list(values: Values<'_>) -> bool
+    ensures { result ≡ is_bad_list (λ v. v.index) (values_of values.entry) }
+{
+    let count = count_of_values(values);
+    count == 0 || count > MOST_NAMED || has_twin_values(values)
+}
+
+fn are_sound(mut values: Values<'_>) -> bool
+    ensures { result ≡ list_all is_sound (values_of values.entry) }
+{
+    values.all(|value| value.check().is_ok())
+}
+
+#[tactic(auto, unfolding(crate::specs::Admission::are_bad))]
+fn are_bad(values: Values<'_>) -> bool
+    ensures { result ≡ are_bad (values_of values.entry) }
+{
+    is_bad_value_list(values) || !are_sound(values)
+}
+
+fn has_admin(mut values: Values<'_>) -> bool
+    ensures { result ≡ list_any is_admin (values_of values.entry) }
+{
+    values.any(|value| value.is_admin())
+}
+
+/// What the write names can't be written, whatever the table holds.
+pub(crate) fn is_bad_write(body: &Body<'_>) -> bool
+    ensures { result ≡ is_bad_write (operation_of body.now) }
+{
+    match body {
+        Body::Create { values, .. } => are_bad(*values) || !has_admin(*values),
+        Body::Add { values, .. } => are_bad(*values),
+        Body::Modify { values, .. } => are_bad(*values),
+        Body::Remove { indexes, .. } => are_bad_indexes(*indexes),
+        _ => false,
+    }
+}
+
+/// The values, in memory of their own.
+pub(crate) fn copied_values(alloc: Global, mut values: Values<'_>) -> Result<Vec<Value>, AllocError>
+    ensures { IfOk result (λ all. all.items ≡ values_of values.entry) }
+{
+    let mut all = Vec::new(alloc);
+    while let Some(value) = values.next() {
+        let Ok(value) = value.read(alloc) else {
+            return Err(AllocError);
+        };
+        all.push(value)?;
+    }
+    Ok(all)
+}
+
+/// The indexes, in memory of their own.
+pub(crate) fn copied_indexes(
+    alloc: Global,
+    mut indexes: Numbers<'_>,
+) -> Result<Vec<u32>, AllocError>
+    ensures { IfOk result (λ all. all.items ≡ numbers_of indexes.entry) }
+{
+    let mut all = Vec::new(alloc);
+    while let Some(index) = indexes.next() {
+        all.push(index)?;
+    }
+    Ok(all)
+}

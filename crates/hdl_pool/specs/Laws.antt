@@ -1,0 +1,55 @@
+-- What follows from the definitions: a partial message is what came of it, and what makes it whole gives the message of its
+-- pieces (docs/PROTOCOL.md, "Frames and pieces").
+use Rattle.std.specs.Prelude.{◌≡◌, ◌≢◌, ℕ, ◌≤◌, List, [], ◌∷◌, ◌++◌, length, find, Some, None}
+use Rattle.hdl_frame.specs.Whole.{Piece as Numbered, payload_of, payloads_of, MakeMessage, HaveTheirLength}
+use Rattle.hdl_pool.specs.declared.piece.Key.{Key}
+use Rattle.hdl_pool.specs.Partial.{Piece, Partial, IsPiece, is_of, nothing_of}
+use Rattle.hdl_pool.specs.Taking.{made_whole, kept, ignored, displaced, so_far, grown, taken, freed}
+
+-- a piece among those of its message
+abbrev pub numbered : Piece → Numbered
+numbered piece = record { number = piece.number; payload = piece.payload }
+
+-- the partial message of which these pieces came, in this order
+abbrev pub collected : Key → ℕ → List Numbered → Partial
+collected key len pieces = record { key = key; length = len; pieces = payloads_of pieces len }
+
+-- before the first piece nothing came
+abbrev pub NothingCame : Type 0
+NothingCame = (key : Key) (len : ℕ) → nothing_of key len ≡ collected key len []
+
+-- a kept piece is the last that came
+abbrev pub KeptIsCollected : Type 0
+KeptIsCollected = (pieces : List Numbered) (piece : Piece) → IsPiece piece → (grown (collected piece.key piece.length pieces) piece).0 ≡ kept
+    → (grown (collected piece.key piece.length pieces) piece).1 ≡ collected piece.key piece.length (pieces ++ numbered piece ∷ [])
+
+-- a piece whose number came is ignored, and says nothing new
+abbrev pub RepeatedIsIgnored : Type 0
+RepeatedIsIgnored = (pieces : List Numbered) (piece : Piece) (payload : List ℕ) → IsPiece piece → payload_of pieces piece.number ≡ Some payload
+    → grown (collected piece.key piece.length pieces) piece ≡ (ignored, collected piece.key piece.length (pieces ++ numbered piece ∷ []))
+
+-- a whole message is the one that the pieces make
+abbrev pub WholeIsMessage : Type 0
+WholeIsMessage = (pieces : List Numbered) (piece : Piece) (message : List ℕ) → IsPiece piece → HaveTheirLength (pieces ++ numbered piece ∷ []) piece.length
+    → (grown (collected piece.key piece.length pieces) piece).0 ≡ made_whole message → MakeMessage (pieces ++ numbered piece ∷ []) piece.length message
+
+-- a message that the pieces make with one whose number didn't come is whole
+abbrev pub MessageIsWhole : Type 0
+MessageIsWhole = (pieces : List Numbered) (piece : Piece) (message : List ℕ) → IsPiece piece → payload_of pieces piece.number ≡ None
+    → MakeMessage (pieces ++ numbered piece ∷ []) piece.length message → (grown (collected piece.key piece.length pieces) piece).0 ≡ made_whole message
+
+-- what came of a message is what came before the piece, grown by the piece
+abbrev pub TakenIsSoFar : Type 0
+TakenIsSoFar = (lane : List Partial) (piece : Piece) → so_far (taken lane piece).1 piece ≡ (grown (so_far lane piece) piece).1
+
+-- a piece that displaces nothing changes no other message of its lane
+abbrev pub OthersStay : Type 0
+OthersStay = (lane : List Partial) (piece : Piece) (key : Key) → key ≢ piece.key → (taken lane piece).0 ≢ displaced → find (is_of key) (taken lane piece).1 ≡ find (is_of key) lane
+
+-- what was freed isn't found
+abbrev pub FreedIsGone : Type 0
+FreedIsGone = (lane : List Partial) (key : Key) → find (is_of key) (freed lane key) ≡ None
+
+-- a lane keeps to four
+abbrev pub AtMostFour : Type 0
+AtMostFour = (lane : List Partial) (piece : Piece) → length lane ≤ 4 → length (taken lane piece).1 ≤ 4

@@ -1,0 +1,33 @@
+//! Payloads, one after the other.
+
+ghost use Rattle.std.specs.Prelude.{◌≡◌, slice_set, option_map, Some, IfOk};
+ghost use Rattle.hdl_frame.specs.Whole.{joined};
+ghost use Rattle.hdl_pool.specs.Assembly.{lists};
+
+use std::alloc::{AllocError, Global};
+
+/// The message of these payloads by number, with this one under this number; `None` where another one didn't come. Room for
+/// `message_len` octets is taken at once.
+pub(crate) fn joined_with(
+    alloc: Global,
+    message_len: usize,
+    payloads: &[Option<Vec<u8>>],
+    number: usize,
+    payload: &[u8],
+) -> Result<Option<Vec<u8>>, AllocError>
+    ensures { IfOk result (λ message. option_map (λ v. v.items) message
+        ≡ joined (slice_set (lists payloads.now) number (Some payload.now))) }
+{
+    let mut message = Vec::with_capacity(alloc, message_len)?;
+    for (k, stored) in payloads.iter().enumerate() {
+        if k == number {
+            message.extend_from_slice(payload)?;
+        } else {
+            let Some(stored) = stored else {
+                return Ok(None);
+            };
+            message.extend_from_slice(stored)?;
+        }
+    }
+    Ok(Some(message))
+}

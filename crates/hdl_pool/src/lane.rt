@@ -1,0 +1,168 @@
+//! What is done to the cells of one lane.
+
+ghost use Rattle.std.specs.Prelude.{◌≡◌, ◌<◌, [], position, slice_set, Some, None, OnOk, OnErr, IfOk, IfSome};
+ghost use Rattle.hdl_pool.specs.Partial.{IsPiece};
+ghost use Rattle.hdl_pool.specs.Taking.{lane_at, begun, taken, freed, fate_of};
+ghost use Rattle.hdl_pool.specs.Arrival.{arrived};
+ghost use Rattle.hdl_pool.specs.Cells.{AreFours, cells_at, cell_at, lanes_of, holds};
+
+use crate::assembly::Assembly;
+use crate::cells::{Cells, LANES, PARTIAL_MAX};
+use crate::piece::{Arrival, Key};
+use crate::taken::Taken;
+use hdl_frame::PIECE_LEN;
+use std::alloc::{AllocError, Global};
+
+impl Cells {
+    // Whether a cell has the partial message of this key.
+    fn holds(&self, lane: usize, place: usize, key: Key) -> bool
+        requires lane { lane < LANES }
+        requires place { place < PARTIAL_MAX }
+        ensures { result ≡ holds key (cell_at self.now lane place) }
+    {
+        self.get(lane, place)
+            .is_some_and(|partial| partial.is_of(key))
+    }
+
+    // Puts something else, or nothing, into a cell.
+    fn write(&mut self, lane: usize, place: usize, content: Option<Assembly>)
+        requires lane { lane < LANES }
+        requires place { place < PARTIAL_MAX }
+        ensures { self.new ≡ slice_set self.old lane (slice_set (cells_at self.old lane) place content) }
+    {
+        self.replace(lane, place, content);
+    }
+
+    // Where in its lane the partial message of this key stands.
+    fn find(&self, lane: usize, key: Key) -> Option<usize>
+        requires lane { lane < LANES }
+        requires fours { AreFours self.now }
+        ensures first { result ≡ position (holds key) (cells_at self.now lane) }
+        ensures within { IfSome result (λ place. place < PARTIAL_MAX) }
+    {
+        for place in 0..PARTIAL_MAX {
+            if self.holds(lane, place, key) {
+                return Some(place);
+            }
+        }
+        None
+    }
+
+    /// Empties the cell with the partial message of this key, if there is one.
+    pub(crate) fn free(&mut self, lane: usize, key: Key)
+        requires lane { lane < LANES }
+        requires fours { AreFours self.old }
+        ensures lanes { lanes_of self.new ≡ slice_set (lanes_of self.old) lane (freed (lane_at (lanes_of self.old) lane) key) }
+        ensures fours { AreFours self.new }
+    {
+        for place in 0..PARTIAL_MAX {
+            if self.holds(lane, place, key) {
+                self.write(lane, place, None);
+            }
+        }
+    }
+
+    /// Empties the lane's cells.
+    pub(crate) fn clear(&mut self, lane: usize)
+        requires lane { lane < LANES }
+        requires fours { AreFours self.old }
+        ensures lanes { lanes_of self.new ≡ slice_set (lanes_of self.old) lane [] }
+        ensures fours { AreFours self.new }
+    {
+        for place in 0..PARTIAL_MAX {
+            self.write(lane, place, None);
+        }
+    }
+
+    // Puts a partial message behind the others: each of them moves down, until an empty cell takes one or the oldest falls out.
+    fn store(&mut self, lane: usize, first: Assembly) -> Taken
+        requires lane { lane < LANES }
+        requires fours { AreFours self.old }
+        ensures fate { fate_of result ≡ (begun (lane_at (lanes_of self.old) lane) first).0 }
+        ensures lanes { lanes_of self.new ≡ slice_set (lanes_of self.old) lane (begun (lane_at (lanes_of self.old) lane) first).1 }
+        ensures fours { AreFours self.new }
+    {
+        let mut carried = Some(first);
+        let mut place = PARTIAL_MAX;
+        while place > 0 && carried.is_some() {
+            place -= 1;
+            carried = self.replace(lane, place, carried);
+        }
+        if carried.is_some() {
+            Taken::Displaced
+        } else {
+            Taken::Kept
+        }
+    }
+
+    // A piece of a message of which others came, in this cell.
+    fn grow(
+        &mut self,
+        alloc: Global,
+        lane: usize,
+        place: usize,
+        piece: Arrival<'_>,
+    ) -> Result<Taken, AllocError>
+        requires lane { lane < LANES }
+        requires place { place < PARTIAL_MAX }
+        requires fours { AreFours self.old }
+        requires piece { IsPiece (arrived piece) }
+        requires found { Some place ≡ position (holds piece.key) (cells_at self.old lane) }
+        ensures fate { IfOk result (λ t. fate_of t ≡ (taken (lane_at (lanes_of self.old) lane) (arrived piece.entry)).0) }
+        ensures lanes { OnOk result (lanes_of self.new ≡ slice_set (lanes_of self.old) lane
+            (taken (lane_at (lanes_of self.old) lane) (arrived piece.entry)).1) }
+        ensures unchanged { OnErr result (self.new ≡ self.old) }
+        ensures fours { AreFours self.new }
+    {
+        let Some(mut partial) = self.replace(lane, place, None) else {
+            return Ok(Taken::Ignored);
+        };
+        let taken = partial.take(alloc, piece);
+        self.write(lane, place, Some(partial));
+        taken
+    }
+
+    // A piece of a message of which nothing came.
+    fn begin(&mut self, alloc: Global, lane: usize, piece: Arrival<'_>) -> Result<Taken, AllocError>
+        requires lane { lane < LANES }
+        requires fours { AreFours self.old }
+        requires piece { IsPiece (arrived piece) }
+        requires new { None ≡ position (holds piece.key) (cells_at self.old lane) }
+        ensures fate { IfOk result (λ t. fate_of t ≡ (taken (lane_at (lanes_of self.old) lane) (arrived piece.entry)).0) }
+        ensures lanes { OnOk result (lanes_of self.new ≡ slice_set (lanes_of self.old) lane
+            (taken (lane_at (lanes_of self.old) lane) (arrived piece.entry)).1) }
+        ensures unchanged { OnErr result (self.new ≡ self.old) }
+        ensures fours { AreFours self.new }
+    {
+        if piece.message_len <= PIECE_LEN {
+            return Ok(Taken::Whole(Vec::from_slice(alloc, piece.payload)?));
+        }
+        let mut first = Assembly::new(alloc, piece.key, piece.message_len)?;
+        match first.take(alloc, piece)? {
+            Taken::Kept => Ok(self.store(lane, first)),
+            taken => Ok(taken),
+        }
+    }
+
+    /// Takes a piece. An `Err` changes nothing.
+    pub(crate) fn take(
+        &mut self,
+        alloc: Global,
+        lane: usize,
+        piece: Arrival<'_>,
+    ) -> Result<Taken, AllocError>
+        requires lane { lane < LANES }
+        requires fours { AreFours self.old }
+        requires piece { IsPiece (arrived piece) }
+        ensures fate { IfOk result (λ t. fate_of t ≡ (taken (lane_at (lanes_of self.old) lane) (arrived piece.entry)).0) }
+        ensures lanes { OnOk result (lanes_of self.new ≡ slice_set (lanes_of self.old) lane
+            (taken (lane_at (lanes_of self.old) lane) (arrived piece.entry)).1) }
+        ensures unchanged { OnErr result (self.new ≡ self.old) }
+        ensures fours { AreFours self.new }
+    {
+        match self.find(lane, piece.key) {
+            Some(place) => self.grow(alloc, lane, place, piece),
+            None => self.begin(alloc, lane, piece),
+        }
+    }
+}

@@ -1,0 +1,79 @@
+//! The partial messages of all lanes.
+
+ghost use Rattle.std.specs.Prelude.{◌≡◌, ◌<◌, [], true, replicate, slice_set, OnOk, OnErr, IfOk};
+ghost use Rattle.hdl_frame.specs.Envelope.{envelope_at, is_truncated};
+ghost use Rattle.hdl_frame.specs.Splitting.{IsFrameOf};
+ghost use Rattle.hdl_pool.specs.Partial.{key_of, piece_of};
+ghost use Rattle.hdl_pool.specs.Taking.{lane_at, taken, freed, fate_of};
+
+use crate::cells::{Cells, LANES};
+use crate::piece::{Arrival, Key};
+use crate::taken::{PoolFault, Taken};
+use hdl_frame::{Envelope, Frame};
+use std::alloc::{AllocError, Global};
+use std::marker::Model;
+
+/// The partial messages of all lanes, at most four of each. Contracts see the list of the 64 lanes' partial messages, the oldest
+/// of a lane first.
+#[derive(Drop)]
+pub struct Pool {
+    alloc: Global,
+    cells: Cells,
+}
+
+impl Model for Pool {
+    ghost use Rattle.std.specs.Prelude.{List};
+    ghost use Rattle.hdl_pool.specs.Partial.{Partial};
+    ghost use Rattle.hdl_pool.specs.Cells.{lanes_of, AreFours};
+
+    ghost Value = { List (List Partial) };
+
+    ghost view = { λ p. lanes_of p.cells };
+
+    ghost invariant = { λ p. AreFours p.cells };
+}
+
+impl Pool {
+    /// A pool of empty slots, which are written in place from then on. Refused only for want of memory.
+    pub fn new(alloc: Global) -> Result<Pool, AllocError>
+        ensures ok { IfOk result (λ pool. pool ≡ replicate LANES []) }
+    {
+        let cells = Cells::new(alloc)?;
+        Ok(Pool { alloc, cells })
+    }
+
+    /// Takes a piece, a frame with TC of this lane and peer (RFC 3652, section 2.3, in our profile). Its message is that of the
+    /// lane, the peer, and the envelope's SessionId and RequestId.
+    ///
+    /// Ignored is a piece whose number came before, or whose MessageLength isn't that of the pieces before it. A piece that
+    /// makes its message whole gives a copy of the message, and the pool stays as it was, so that the caller can still give up
+    /// this event; [`Pool::free`] drops what came before it. A message of one piece is whole at once. Where the lane has four
+    /// partial messages, a piece of a fifth displaces the oldest. An `Err` changes nothing, and is only for want of memory.
+    pub fn take(&mut self, lane: u16, peer: u16, frame: &Frame<'_>) -> Result<Taken, PoolFault>
+        requires lane { lane < LANES }
+        requires frame { IsFrameOf frame.now.bytes.now frame.now }
+        requires piece { is_truncated (envelope_at frame.now.bytes.now) ≡ true }
+        ensures fate { IfOk result (λ t. fate_of t ≡ (taken (lane_at self.old lane) (piece_of peer frame.now.bytes.now)).0) }
+        ensures lanes { OnOk result (self.new ≡ slice_set self.old lane (taken (lane_at self.old lane) (piece_of peer frame.now.bytes.now)).1) }
+        ensures unchanged { OnErr result (self.new ≡ self.old) }
+    {
+        let piece = Arrival::of(peer, frame);
+        Ok(self.cells.take(self.alloc, lane as usize, piece)?)
+    }
+
+    /// Drops what came of the message with this peer's envelope, if anything did. It takes no memory.
+    pub fn free(&mut self, lane: u16, peer: u16, envelope: &Envelope)
+        requires { lane < LANES }
+        ensures lanes { self.new ≡ slice_set self.old lane (freed (lane_at self.old lane) (key_of peer envelope.now)) }
+    {
+        self.cells.free(lane as usize, Key::of(peer, envelope));
+    }
+
+    /// Drops all partial messages of the lane. It takes no memory.
+    pub fn drop_lane(&mut self, lane: u16)
+        requires { lane < LANES }
+        ensures lanes { self.new ≡ slice_set self.old lane [] }
+    {
+        self.cells.clear(lane as usize);
+    }
+}

@@ -1,0 +1,45 @@
+-- What a search has seen.
+use Rattle.std.specs.Prelude.{Vec, ◌≡◌, ℕ, List, [], ◌∷◌, ◌++◌, map, IsTrue, if◌then◌else◌}
+use Rattle.std.specs.List.{AllByRecursion, IsDistinct}
+use Rattle.std.specs.BTreeSet.{BTreeSet, contains}
+use Rattle.std.specs.declared.alloc.Global.{Global}
+use Rattle.std.specs.declared.cmp.Ordering.{Ordering}
+use Rattle.hdl_value.specs.Place.{Place, place_cmp, same_place}
+use Rattle.hdl_value.specs.Refs.{place_of}
+use Rattle.hdl_value.specs.declared.admin.Reference.{Reference}
+use Rattle.hdl_reach.specs.declared.seen.Seen.{Seen}
+use Rattle.hdl_reach.specs.Reach.{is_among}
+
+-- where references point
+abbrev pub places : List Reference → List Place
+places rs = map place_of rs
+
+-- the octets of a handle, and an index
+abbrev pub Key : Type 0
+Key = Vec ℕ Global × ℕ
+
+abbrev pub place_at : Key → Place
+place_at k = record { handle = k.0.items; index = k.1 }
+
+abbrev pub key_cmp : Key → Key → Ordering
+key_cmp j k = place_cmp (place_at j) (place_at k)
+
+-- the keys are those of these places
+abbrev pub HasKeys : BTreeSet Key → List Place → Type 0
+HasKeys keys seen = (k : Key) → contains key_cmp keys k ≡ is_among (place_at k) seen
+
+-- the keys are those of the references
+abbrev pub AreKept : Seen → Type 0
+AreKept s = HasKeys s.keys (places s.references.items)
+
+-- seen, with one more unless it was seen
+abbrev pub with_place : List Place → Place → List Place
+with_place seen p = if is_among p seen then seen else seen ++ p ∷ []
+
+-- New has the places of old, and behind them those of more that old lacks, each once.
+pub record Extends (old more new : List Place) : Type 0 where
+  pub tail : List Place
+  pub is : new ≡ old ++ tail
+  pub from : AllByRecursion (λ p. IsTrue (is_among p more)) tail
+  pub all : AllByRecursion (λ p. IsTrue (is_among p new)) more
+  pub distinct : IsDistinct same_place old → IsDistinct same_place new

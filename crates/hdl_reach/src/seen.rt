@@ -1,0 +1,83 @@
+//! The references that a search has seen.
+
+ghost use Rattle.std.specs.Prelude.{◌≡◌, [], IfOk, OnOk};
+ghost use Rattle.hdl_value.specs.Refs.{place_of};
+ghost use Rattle.hdl_reach.specs.Reach.{is_among};
+ghost use Rattle.hdl_reach.specs.Seen.{places, with_place, place_at, AreKept, Extends};
+
+use hdl_name::Name;
+use hdl_value::Reference;
+use std::alloc::{AllocError, Global};
+use std::collections::BTreeSet;
+
+/// The octets of a handle in canonical form, and an index: references of one place have one key.
+pub(crate) type Key = (Vec<u8>, u32);
+
+pub(crate) fn key_of(alloc: Global, one: &Reference) -> Result<Key, AllocError>
+    ensures { IfOk result (λ key. place_at key ≡ place_of one.now) }
+{
+    Ok((Vec::from_slice(alloc, one.name.canon())?, one.index))
+}
+
+pub(crate) fn copy_of(alloc: Global, one: &Reference) -> Result<Reference, AllocError>
+    ensures { IfOk result (λ copy. copy ≡ one.now) }
+{
+    match Name::read(alloc, one.name.sent()) {
+        Ok(name) => Ok(Reference {
+            name,
+            index: one.index,
+        }),
+        Err(_) => Err(AllocError),
+    }
+}
+
+/// References in the order in which they were seen, no place twice, and their keys in order.
+#[derive(Drop)]
+pub(crate) struct Seen {
+    pub(crate) references: Vec<Reference>,
+    keys: BTreeSet<Key>,
+}
+
+impl Seen {
+    pub(crate) fn new(alloc: Global) -> Seen
+        ensures none { result.references.items ≡ [] }
+        ensures kept { AreKept result }
+    {
+        Seen {
+            references: Vec::new(alloc),
+            keys: BTreeSet::new(alloc),
+        }
+    }
+
+    // Adds a reference, unless its place was seen.
+    pub(crate) fn add(&mut self, alloc: Global, one: &Reference) -> Result<(), AllocError>
+        requires kept { AreKept self.old }
+        ensures added { OnOk result (places self.new.references.items ≡ with_place (places self.old.references.items) (place_of one.now)) }
+        ensures kept { OnOk result (AreKept self.new) }
+    {
+        let key = key_of(alloc, one)?;
+        if self.keys.insert(key)? {
+            self.references.push(copy_of(alloc, one)?)?;
+        }
+        Ok(())
+    }
+
+    pub(crate) fn extend(&mut self, alloc: Global, more: &[Reference]) -> Result<(), AllocError>
+        requires kept { AreKept self.old }
+        ensures extended { OnOk result (Extends (places self.old.references.items) (places more.now) (places self.new.references.items)) }
+        ensures kept { OnOk result (AreKept self.new) }
+    {
+        for one in more {
+            self.add(alloc, one)?;
+        }
+        Ok(())
+    }
+
+    pub(crate) fn has(&self, alloc: Global, one: &Reference) -> Result<bool, AllocError>
+        requires { AreKept self.now }
+        ensures { IfOk result (λ is. is ≡ is_among (place_of one.now) (places self.now.references.items)) }
+    {
+        let key = key_of(alloc, one)?;
+        Ok(self.keys.contains(&key))
+    }
+}

@@ -1,0 +1,32 @@
+-- The slab that holds the places of all lanes, and the table of its keys.
+use Rattle.std.specs.Prelude.{◌≡◌, ℕ, ◌<◌, List, [], map, length, Option, Some, None, option_map, slice_index, slice_index_or}
+use Rattle.std.specs.Option.{option_and_then}
+use Rattle.slab.specs.Slab.{Slab, get}
+use Rattle.hdl_slots.specs.declared.cells.Cell.{Cell}
+use Rattle.hdl_slots.specs.declared.pending.Challenge.{Challenge}
+
+-- the challenge that stands in the cell of this key
+abbrev pub held : Slab Cell → ℕ → Option Challenge
+held slab key = option_and_then (λ c. c.challenge) (get slab key)
+
+-- what stands in the cells of these keys
+abbrev pub lanes_held : Slab Cell → List (List ℕ) → List (List (Option Challenge))
+lanes_held slab = map (map (held slab))
+
+-- the key of this place of this lane
+abbrev pub key_at : List (List ℕ) → ℕ → ℕ → ℕ
+key_at keys lane place = slice_index (slice_index_or keys lane []) place
+
+-- the lane and the place that the cell of this key is of
+abbrev pub owner : Slab Cell → ℕ → Option (ℕ × ℕ)
+owner slab key = option_map (λ c. (c.lane, c.place)) (get slab key)
+
+-- a cell in which nothing stands yet
+abbrev pub empty_cell : ℕ → ℕ → Cell
+empty_cell lane place = record { lane = lane; place = place; challenge = None }
+
+-- the key of each place finds the cell of that place, so no two places share a cell
+pub record IsTable (slab : Slab Cell) (keys : List (List ℕ)) : Type 0 where
+  pub lanes : length keys ≡ 64
+  pub places : (lane : ℕ) → lane < 64 → length (slice_index_or keys lane []) ≡ 8
+  pub owned : (lane place : ℕ) → lane < 64 → place < 8 → owner slab (key_at keys lane place) ≡ Some (lane, place)
