@@ -56,7 +56,12 @@ fn verdicts(rt: HostRuntime) -> Result<(), Fail> {
         check(b"k1", &NONCE, &request_digest, &response[..20]),
         Verdict::BadForm
     );
+    assert!(rt; has_response_form(&response));
+    assert!(rt; is_right_response(b"k1", &NONCE, &request_digest, &response));
+    assert!(rt; !is_right_response(b"k2", &NONCE, &request_digest, &response));
+    assert!(rt; !has_response_form(&response[..20]));
     response[0] = 3;
+    assert!(rt; !has_response_form(&response));
     assert_eq!(rt;
         check(b"k1", &NONCE, &request_digest, &response),
         Verdict::BadForm
