@@ -2,7 +2,7 @@
 use Rattle.std.proofs.Common.{◌≡◌, ℕ, List, [], Bool, true, false, cond, Some, None, Result, Ok, Err, refl, sym, ap, ◌∙◌, subst}
 use Rattle.std.specs.Prelude.{IfOk, OnOk, OnErr}
 use Rattle.hdl_msg.specs.Message.{Content, SpellsRequest}
-use Rattle.hdl_msg.specs.Reply.{reply_octets, short_reply}
+use Rattle.hdl_msg.specs.Reply.{short_reply}
 use Rattle.hdl_msg.specs.declared.replies.ReplyContent.TheVariants.{Empty}
 use Rattle.hdl_rows.specs.Table.{Table}
 use Rattle.hdl_slots.specs.declared.pending.Pending.{Pending}
@@ -10,11 +10,10 @@ use Rattle.hdl_slots.specs.Lanes.{challenge_of, challenged}
 use Rattle.hdl_ops.specs.Decisions.{Decision, Decides, Proven, failure}
 use Rattle.hdl_ops.specs.Proven.{Proof}
 use Rattle.hdl_ops.specs.Requests.{Response, response_of}
-use Rattle.hdl_ops.specs.Replies.{reply_to, challenge_to}
 use Rattle.hdl_ops.specs.Tables.{apply_if}
 use Rattle.hdl_laws.specs.declared.events.Outcome.TheVariants.{Reply}
 use Rattle.hdl_laws.specs.Lanes.{LaneState}
-use Rattle.hdl_laws.specs.Worlds.{Effect, Task, Malformed, Unknown, Late, Ask, Redeem, is_late, redeemed, redeem_task, pending, answer_effect, challenge_effect, IsResponseTask, IsRequestTask, IsLetterTask, Does}
+use Rattle.hdl_laws.specs.Worlds.{answer_octets, challenge_octets, Effect, Task, Malformed, Unknown, Late, Ask, Redeem, is_late, redeemed, redeem_task, pending, answer_effect, challenge_effect, IsResponseTask, IsRequestTask, IsLetterTask, Does}
 use Rattle.hdl_core.specs.declared.letter.Letter.{Letter}
 use Rattle.hdl_core.specs.declared.hearing.Asked.{Asked}
 use Rattle.hdl_core.specs.declared.hearing.Asked.TheVariants.{Answered, Challenged}
@@ -34,11 +33,11 @@ pub on_any_err : {X E : Type 0} (r : Result X E) (P : Type 0) → P → OnErr r 
 on_any_err (Ok x) P p = tt
 on_any_err (Err e) P p = p
 
-abbrev Tells : Letter → Content → ℕ → List ℕ → Type 0
-Tells m r code octets = octets ≡ reply_octets (reply_to m.envelope.session m.envelope.request r code Empty)
+abbrev IsTold : Letter → Content → ℕ → List ℕ → Type 0
+IsTold m r code octets = octets ≡ answer_octets m.envelope r code Empty
 
 module _ (hosts : List ℕ → Bool) (t : Table) (m : Letter) where
-  told : (k : Task) (r : Content) (code : ℕ) (s : LaneState) (message octets : List ℕ) → Does hosts t k (answer_effect s (letter_of m message) r (failure code Empty)) → Tells m r code octets → Replies hosts t m.moment k octets s t
+  told : (k : Task) (r : Content) (code : ℕ) (s : LaneState) (message octets : List ℕ) → Does hosts t k (answer_effect s (letter_of m message) r (failure code Empty)) → IsTold m r code octets → Replies hosts t m.moment k octets s t
   told k r code s message octets does is = (answer_effect s (letter_of m message) r (failure code Empty), does, ap Reply (sym is), refl, refl)
 
   garbled : (s : LaneState) (message octets : List ℕ) → octets ≡ short_reply 4 m.envelope → Replies hosts t m.moment (Malformed (letter_of m message) s) octets s t
@@ -49,7 +48,7 @@ module _ (hosts : List ℕ → Bool) (t : Table) (m : Letter) where
   pub unreadable : (a : Response) (p : Pending) (octets : List ℕ) → ((r : Content) → SpellsRequest p.message r → ⊥) → octets ≡ short_reply 4 m.envelope → IsRedeemed hosts t m a p octets t
   unreadable a p octets none is = λ s message. (None, none, garbled (redeemed s (letter_of m message)) message octets is)
 
-  pub late : (a : Response) (p : Pending) (r : Content) (octets : List ℕ) → SpellsRequest p.message r → ((message : List ℕ) → true ≡ is_late (letter_of m message) p) → Tells m r 405 octets → IsRedeemed hosts t m a p octets t
+  pub late : (a : Response) (p : Pending) (r : Content) (octets : List ℕ) → SpellsRequest p.message r → ((message : List ℕ) → true ≡ is_late (letter_of m message) p) → IsTold m r 405 octets → IsRedeemed hosts t m a p octets t
   late a p r octets spells after is = λ s message.
       let s' = redeemed s (letter_of m message) in
       let proof : Proof = record { response = a; nonce = p.nonce; digest = p.digest } in (
@@ -59,7 +58,7 @@ module _ (hosts : List ℕ → Bool) (t : Table) (m : Letter) where
       )
 
   pub proven : (a : Response) (p : Pending) (r : Content) (d : Decision) (octets : List ℕ) (t' : Table) → SpellsRequest p.message r → ((message : List ℕ) → false ≡ is_late (letter_of m message) p)
-      → Decides hosts t r (Proven (record { response = a; nonce = p.nonce; digest = p.digest })) d → octets ≡ reply_octets (reply_to m.envelope.session m.envelope.request r d.code d.content) → t' ≡ apply_if t m.moment d.change
+      → Decides hosts t r (Proven (record { response = a; nonce = p.nonce; digest = p.digest })) d → octets ≡ answer_octets m.envelope r d.code d.content → t' ≡ apply_if t m.moment d.change
       → IsRedeemed hosts t m a p octets t'
   proven a p r d octets t' spells in_time decided is table = λ s message.
       let s' = redeemed s (letter_of m message) in
@@ -74,7 +73,7 @@ module _ (hosts : List ℕ → Bool) (t : Table) (m : Letter) where
     s : LaneState
     s = state_at lanes number
 
-    pub unknown : (r : Content) (a : Response) (octets : List ℕ) → None ≡ challenge_of (state_at lanes number).challenges.challenges m.peer m.envelope.session → Tells m r 4 octets → RespondsAt hosts t lanes number m r a octets lanes t
+    pub unknown : (r : Content) (a : Response) (octets : List ℕ) → None ≡ challenge_of (state_at lanes number).challenges.challenges m.peer m.envelope.session → IsTold m r 4 octets → RespondsAt hosts t lanes number m r a octets lanes t
     unknown r a octets none is = λ message. (
       state_at lanes number,
       kept lanes number,
@@ -142,7 +141,7 @@ module _ (hosts : List ℕ → Bool) (t : Table) (m : Letter) where
             (
               challenge_effect here m' r,
               (d.0, d.1, ap (λ b. cond {A = Effect} b (challenge_effect here m' r) (answer_effect here m' r d.0)) (sym d.2)),
-              ap Reply (ap (λ n. reply_octets (challenge_to n m.envelope.request r m.nonce)) (sym numbered) ∙ sym d.3),
+              ap Reply (ap (λ n. challenge_octets n m.envelope r m.nonce) (sym numbered) ∙ sym d.3),
               refl,
               d.5,
             ),

@@ -5,43 +5,49 @@ use Rattle.hdl_frame.specs.declared.envelope.Envelope.{Envelope}
 use Rattle.hdl_frame.specs.Envelope.{envelope_at}
 use Rattle.hdl_frame.specs.Frames.{IsFrame}
 use Rattle.hdl_msg.specs.Message.{Content, SpellsRequest}
-use Rattle.hdl_msg.specs.Reply.{reply_octets, short_reply}
+use Rattle.hdl_msg.specs.Reply.{short_reply}
 use Rattle.hdl_pool.specs.Partial.{piece_of}
 use Rattle.hdl_pool.specs.Taking.{taken}
 use Rattle.hdl_rows.specs.Table.{Table}
 use Rattle.hdl_rows.specs.declared.rows.Refused.{Refused}
-use Rattle.hdl_ops.specs.Decisions.{Level, Anyone, Decision, Decides}
+use Rattle.hdl_ops.specs.Decisions.{Anyone, Decision, Decides}
 use Rattle.hdl_ops.specs.Requests.{Response}
+use Rattle.hdl_tenants.specs.Register.{hosts}
 use Rattle.hdl_slots.specs.declared.pending.Pending.{Pending}
 use Rattle.hdl_slots.specs.Lanes.{challenge_of}
-use Rattle.hdl_ops.specs.Replies.{digest_of, reply_to, challenge_to}
+use Rattle.hdl_ops.specs.Replies.{digest_of}
 use Rattle.hdl_ops.specs.Tables.{apply_if}
 use Rattle.hdl_laws.specs.declared.events.What.{What}
 use Rattle.hdl_laws.specs.declared.events.Outcome.{Outcome}
 use Rattle.hdl_laws.specs.declared.events.Outcome.TheVariants.{Reply, Busy, Silent}
 use Rattle.hdl_laws.specs.Worlds as worlds
-use Rattle.hdl_laws.specs.Worlds.{Effect, Task, IsReading, redeemed, redeem_task, IsResponseTask, IsTask, IsLetterTask, IsPieceTask, IsOctetsTask, Does, Received, arrived, moment_of}
+use Rattle.hdl_laws.specs.Worlds.{answer_octets, challenge_octets, Effect, Task, IsReading, redeemed, redeem_task, IsResponseTask, IsTask, IsLetterTask, IsPieceTask, IsOctetsTask, Does, Received, arrived, moment_of}
 use Rattle.hdl_laws.specs.Lanes.{LaneState}
+use Rattle.hdl_core.specs.declared.owner.Owner.{Owner}
 use Rattle.hdl_core.specs.declared.letter.Letter.{Letter}
+use Rattle.hdl_core.specs.declared.letter.Received as code
 use Rattle.hdl_core.specs.declared.hearing.Asked.{Asked}
 use Rattle.hdl_core.specs.declared.hearing.Asked.TheVariants.{Answered, Challenged}
 use Rattle.hdl_core.specs.Held.{Held, state_at, with_state}
+
+-- the prefixes that are hosted for the owner
+abbrev pub hosted_by : Owner → List ℕ → Bool
+hosted_by o = hosts o.tenants.now o.publisher
+
+-- what was received, in the words of the laws
+abbrev pub received_of : code.Received → Received
+received_of x = record { peer = x.peer; moment = x.moment; nonce = x.nonce; bytes = x.bytes }
 
 -- a letter with its message
 abbrev pub letter_of : Letter → List ℕ → worlds.Letter
 letter_of m message = record { peer = m.peer; moment = m.moment; nonce = m.nonce; envelope = m.envelope; message = message }
 
--- a request is decided at this level, its change made and its reply given
-abbrev pub IsDecided : (List ℕ → Bool) → Table → Letter → Content → Level → List ℕ → Table → Type 0
-IsDecided hosts t m r level octets t' =
-    (d : Decision) × Decides hosts t r level d × (octets ≡ reply_octets (reply_to m.envelope.session m.envelope.request r d.code d.content)) × (t' ≡ apply_if t m.moment d.change)
-
 -- a request is decided for anyone: it is answered, or challenged under the lane's next number
 abbrev pub IsAsked : (List ℕ → Bool) → Table → Letter → ℕ → Content → Asked → Table → Type 0
 IsAsked hosts t m next r (Answered octets) t' =
-    (d : Decision) × Decides hosts t r Anyone d × ((d.code == 402) ≡ false) × (octets ≡ reply_octets (reply_to m.envelope.session m.envelope.request r d.code d.content)) × (t' ≡ apply_if t m.moment d.change)
+    (d : Decision) × Decides hosts t r Anyone d × ((d.code == 402) ≡ false) × (octets ≡ answer_octets m.envelope r d.code d.content) × (t' ≡ apply_if t m.moment d.change)
 IsAsked hosts t m next r (Challenged octets digest) t' =
-    (d : Decision) × Decides hosts t r Anyone d × ((d.code == 402) ≡ true) × (octets ≡ reply_octets (challenge_to next m.envelope.request r m.nonce)) × (digest ≡ digest_of r) × (t' ≡ t)
+    (d : Decision) × Decides hosts t r Anyone d × ((d.code == 402) ≡ true) × (octets ≡ challenge_octets next m.envelope r m.nonce) × (digest ≡ digest_of r) × (t' ≡ t)
 
 -- the task has this reply, and leaves the lane and the table so
 abbrev pub Replies : (List ℕ → Bool) → Table → ℕ → Task → List ℕ → LaneState → Table → Type 0

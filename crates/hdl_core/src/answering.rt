@@ -4,10 +4,11 @@ ghost use Rattle.std.specs.Prelude.{◌≡◌, IfOk, IfSome, IsTrue, OnErr, OnOk
 ghost use Rattle.hdl_msg.specs.Bodies.{content_of};
 ghost use Rattle.hdl_msg.specs.Codes.{response_number};
 ghost use Rattle.hdl_msg.specs.Message.{signed_octets};
-ghost use Rattle.hdl_msg.specs.Reply.{reply_octets, short_reply};
+ghost use Rattle.hdl_msg.specs.Reply.{short_reply};
 ghost use Rattle.hdl_msg.specs.declared.replies.ReplyContent.TheVariants as content;
-ghost use Rattle.hdl_ops.specs.Replies.{reply_to, fits};
+ghost use Rattle.hdl_ops.specs.Replies.{fits};
 ghost use Rattle.hdl_ops.specs.Tables.{apply_if, CanApply};
+ghost use Rattle.hdl_laws.specs.Worlds.{answer_octets};
 
 use crate::letter::Letter;
 use hdl_frame::Envelope;
@@ -39,7 +40,7 @@ pub(crate) fn answer<R: Rows>(
     requires signed { request.now.signed.now ≡ signed_octets (content_of request.now) }
     requires fits { IsTrue (fits (content_of request.now) decision.content) }
     requires can_apply { IfSome decision.change (λ change. CanApply (R.content rows.old) change) }
-    ensures reply { IfOk result (λ octets. octets ≡ reply_octets (reply_to letter.now.envelope.session letter.now.envelope.request (content_of request.now) (response_number decision.code) decision.content)) }
+    ensures reply { IfOk result (λ octets. octets ≡ answer_octets letter.now.envelope (content_of request.now) (response_number decision.code) decision.content) }
     ensures done { OnOk result (R.content rows.new ≡ apply_if (R.content rows.old) letter.now.moment decision.change) }
     ensures undone { OnErr result (R.content rows.new ≡ R.content rows.old) }
 {
@@ -69,7 +70,7 @@ pub(crate) fn tell(
     code: ResponseCode,
 ) -> Result<Octets, Refused>
     requires signed { request.now.signed.now ≡ signed_octets (content_of request.now) }
-    ensures reply { IfOk result (λ octets. octets ≡ reply_octets (reply_to letter.now.envelope.session letter.now.envelope.request (content_of request.now) (response_number code) content.Empty)) }
+    ensures reply { IfOk result (λ octets. octets ≡ answer_octets letter.now.envelope (content_of request.now) (response_number code) content.Empty) }
 {
     let Envelope {
         session,

@@ -4,21 +4,17 @@ ghost use Rattle.std.specs.Prelude.{◌≡◌, ◌<◌, ℕ, List, length, IfOk,
 ghost use Rattle.hdl_msg.specs.Bodies.{content_of};
 ghost use Rattle.hdl_msg.specs.Message.{signed_octets};
 ghost use Rattle.hdl_ops.specs.Views.{response_view};
-ghost use Rattle.hdl_tenants.specs.Register.{hosts};
 ghost use Rattle.hdl_laws.specs.Worlds.{is_late};
-ghost use Rattle.hdl_core.specs.Held.{held_at};
-ghost use Rattle.hdl_core.specs.Serving.{letter_of, IsAsked, IsRedeemed, RespondsAt, HearsAt};
+ghost use Rattle.hdl_core.specs.Serving.{hosted_by, letter_of, IsAsked, IsRedeemed, RespondsAt, HearsAt};
 
 use crate::answering::{answer, malformed, tell};
 use crate::lanes::Lanes;
 use crate::letter::Letter;
+use crate::owner::Owner;
 use hdl_laws::Octets;
 use hdl_msg::{Request, ResponseCode, read_request};
-use hdl_ops::{
-    Level, Proof, Refused, Response, Rows, Tenants, decide, render_challenge, response_of,
-};
+use hdl_ops::{Level, Proof, Refused, Response, Rows, decide, render_challenge, response_of};
 use hdl_slots::Pending;
-use std::alloc::Global;
 
 /// How long a challenge lives, in milliseconds.
 const CHALLENGE_LIFE: u64 = 60_000;
@@ -32,28 +28,33 @@ pub(crate) enum Asked {
 
 /// Decides a request for anyone. A challenge gets the lane's next number.
 fn ask<R: Rows>(
-    alloc: Global,
-    tenants: &Tenants,
-    publisher: usize,
+    owner: &Owner<'_>,
     rows: &mut R,
     letter: &Letter,
     next: u32,
     request: &Request<'_>,
 ) -> Result<Asked, Refused>
     requires signed { request.now.signed.now ≡ signed_octets (content_of request.now) }
-    ensures asked { IfOk result (λ asked. IsAsked (hosts tenants.now publisher) (R.content rows.old) letter.now next (content_of request.now) asked (R.content rows.new)) }
+    ensures asked { IfOk result (λ asked. IsAsked (hosted_by owner.now) (R.content rows.old) letter.now next (content_of request.now) asked (R.content rows.new)) }
     ensures undone { OnErr result (R.content rows.new ≡ R.content rows.old) }
 {
-    let decision = decide(alloc, tenants, publisher, rows, request, &Level::Anyone)?;
+    let decision = decide(
+        owner.alloc,
+        owner.tenants,
+        owner.publisher,
+        rows,
+        request,
+        &Level::Anyone,
+    )?;
     if decision.code == ResponseCode::AuthenticationNeeded {
         let number = letter.envelope.request;
-        let Ok(sent) = render_challenge(alloc, next, number, request, &letter.nonce) else {
+        let Ok(sent) = render_challenge(owner.alloc, next, number, request, &letter.nonce) else {
             return Err(Refused);
         };
         let (octets, digest) = sent;
         return Ok(Asked::Challenged(Octets::new(octets), digest));
     }
-    let octets = answer(alloc, rows, letter, request, decision)?;
+    let octets = answer(owner.alloc, rows, letter, request, decision)?;
     Ok(Asked::Answered(octets))
 }
 
@@ -66,22 +67,25 @@ fn is_late(letter: &Letter, pending: &Pending) -> bool
 
 /// The reply to a challenge response that names this challenge.
 fn redeem<R: Rows>(
-    alloc: Global,
-    tenants: &Tenants,
-    publisher: usize,
+    owner: &Owner<'_>,
     rows: &mut R,
     letter: &Letter,
     response: Response<'_>,
     pending: &Pending,
 ) -> Result<Octets, Refused>
-    ensures redeemed { IfOk result (λ octets. IsRedeemed (hosts tenants.now publisher) (R.content rows.old) letter.now (response_view response.entry) pending.now octets (R.content rows.new)) }
+    ensures redeemed { IfOk result (λ octets. IsRedeemed (hosted_by owner.now) (R.content rows.old) letter.now (response_view response.entry) pending.now octets (R.content rows.new)) }
     ensures undone { OnErr result (R.content rows.new ≡ R.content rows.old) }
 {
     let Ok(request) = read_request(pending.message.as_slice()) else {
-        return malformed(alloc, &letter.envelope);
+        return malformed(owner.alloc, &letter.envelope);
     };
     if is_late(letter, pending) {
-        return tell(alloc, letter, &request, ResponseCode::AuthenticationTimeout);
+        return tell(
+            owner.alloc,
+            letter,
+            &request,
+            ResponseCode::AuthenticationTimeout,
+        );
     }
     let proof = Proof {
         response,
@@ -89,14 +93,20 @@ fn redeem<R: Rows>(
         digest: &pending.digest,
     };
     let level = Level::Proven(proof);
-    let decision = decide(alloc, tenants, publisher, rows, &request, &level)?;
-    answer(alloc, rows, letter, &request, decision)
+    let decision = decide(
+        owner.alloc,
+        owner.tenants,
+        owner.publisher,
+        rows,
+        &request,
+        &level,
+    )?;
+    answer(owner.alloc, rows, letter, &request, decision)
 }
 
 /// The reply to a challenge response. The challenge that it names is spent, unless the reply is refused.
 fn respond<R: Rows>(
-    alloc: Global,
-    tenants: &Tenants,
+    owner: &Owner<'_>,
     rows: &mut R,
     lanes: &mut Lanes,
     number: u16,
@@ -106,24 +116,22 @@ fn respond<R: Rows>(
 ) -> Result<Octets, Refused>
     requires there { number < length lanes.old }
     requires signed { request.now.signed.now ≡ signed_octets (content_of request.now) }
-    ensures responded { IfOk result (λ octets. RespondsAt (hosts tenants.now (held_at lanes.old number).publisher) (R.content rows.old) lanes.old number letter.now (content_of request.now) (response_view response.entry) octets lanes.new (R.content rows.new)) }
+    ensures responded { IfOk result (λ octets. RespondsAt (hosted_by owner.now) (R.content rows.old) lanes.old number letter.now (content_of request.now) (response_view response.entry) octets lanes.new (R.content rows.new)) }
     ensures undone { OnErr result (R.content rows.new ≡ R.content rows.old) }
     ensures kept { OnErr result (lanes.new ≡ lanes.old) }
 {
     let session = letter.envelope.session;
-    let publisher = lanes.publisher(number);
     let Some(pending) = lanes.find(number, letter.peer, session) else {
-        return tell(alloc, letter, request, ResponseCode::ProtocolError);
+        return tell(owner.alloc, letter, request, ResponseCode::ProtocolError);
     };
-    let octets = redeem(alloc, tenants, publisher, rows, letter, response, pending)?;
+    let octets = redeem(owner, rows, letter, response, pending)?;
     lanes.spend(number, letter.peer, session);
     Ok(octets)
 }
 
 /// Hears a message on a lane. A challenge takes the message with it into the lane's slot, once its reply is written.
 pub(crate) fn hear<R: Rows>(
-    alloc: Global,
-    tenants: &Tenants,
+    owner: &Owner<'_>,
     rows: &mut R,
     lanes: &mut Lanes,
     number: u16,
@@ -131,21 +139,18 @@ pub(crate) fn hear<R: Rows>(
     message: Vec<u8>,
 ) -> Result<Octets, Refused>
     requires there { number < length lanes.old }
-    ensures heard { IfOk result (λ octets. HearsAt (hosts tenants.now (held_at lanes.old number).publisher) (R.content rows.old) lanes.old number (letter_of letter.now message.items) octets lanes.new (R.content rows.new)) }
+    ensures heard { IfOk result (λ octets. HearsAt (hosted_by owner.now) (R.content rows.old) lanes.old number (letter_of letter.now message.items) octets lanes.new (R.content rows.new)) }
     ensures undone { OnErr result (R.content rows.new ≡ R.content rows.old) }
     ensures kept { OnErr result (lanes.new ≡ lanes.old) }
 {
     let Ok(request) = read_request(&message) else {
-        return malformed(alloc, &letter.envelope);
+        return malformed(owner.alloc, &letter.envelope);
     };
     if let Some(response) = response_of(&request.body) {
-        return respond(
-            alloc, tenants, rows, lanes, number, letter, &request, response,
-        );
+        return respond(owner, rows, lanes, number, letter, &request, response);
     }
-    let publisher = lanes.publisher(number);
     let next = lanes.next_number(number);
-    match ask(alloc, tenants, publisher, rows, letter, next, &request)? {
+    match ask(owner, rows, letter, next, &request)? {
         Asked::Answered(octets) => Ok(octets),
         Asked::Challenged(octets, digest) => {
             let nonce = letter.nonce;

@@ -1,8 +1,18 @@
-//! A message that a frame brought, but for its octets.
+//! What came on an open lane.
 
 use hdl_frame::Envelope;
+use hdl_laws::Octets;
 
-/// Who sent the frame, when it came in milliseconds, a nonce for a challenge, and the frame's envelope.
+/// Octets that should be one frame: who sent them, when they came in milliseconds, and a nonce for a challenge.
+pub(crate) struct Received {
+    pub peer: u16,
+    pub moment: u64,
+    pub nonce: [u8; 16],
+    pub bytes: Octets,
+}
+
+/// A message that a frame brought, but for its octets: who sent the frame, when it came in milliseconds, a nonce for a challenge,
+/// and the frame's envelope.
 #[derive(Clone, Copy)]
 pub(crate) struct Letter {
     pub peer: u16,

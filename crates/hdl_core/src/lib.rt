@@ -17,6 +17,7 @@ mod lane;
 mod lanes;
 mod letter;
 mod opening;
+mod owner;
 mod service;
 mod serving;
 

@@ -3,10 +3,12 @@
 ghost use Rattle.std.specs.Prelude.{◌≡◌, IfOk, IfErr, OnErr};
 ghost use Rattle.hdl_laws.specs.Laws.{Isolated, Hidden};
 ghost use Rattle.hdl_laws.specs.Runs.{Run, Steps};
+ghost use Rattle.hdl_laws.specs.Told.{Tells};
 
 use crate::lanes::Lanes;
+use crate::owner::Owner;
 use crate::serving::serve;
-use hdl_laws::laws::{restricted, runs_joined, twin_replies};
+use hdl_laws::laws::{reply_told, restricted, runs_joined, twin_replies};
 use hdl_laws::{Event, Outcome};
 use hdl_ops::{Rows, Tenants};
 use hdl_tenants::root_is_nobodys;
@@ -48,21 +50,24 @@ impl<R: Rows + Drop> Service<R> {
     ///
     /// On a lane that nobody owns, and of everything but Open on a lane that isn't open, the outcome is Silent. A Frame whose
     /// octets aren't one frame is Silent; a message out of the grammar gets the short reply with code 4; a request is decided.
+    ///
+    /// A reply holds nothing of the table but what is told with its code: with code 1 the values that its caller may read, or
+    /// the handles of the prefix that is listed (`told`).
     pub fn step(&mut self, event: Event) -> Outcome
-        ensures { Steps self.old event result self.new }
+        ensures step { Steps self.old event result self.new }
+        ensures told { Tells self.old event result }
     {
+        reply_told();
         let Event { lane, what } = event;
         if lane as usize >= self.lanes.len() {
             return Outcome::Silent;
         }
-        serve(
-            self.alloc,
-            &self.tenants,
-            &mut self.rows,
-            &mut self.lanes,
-            lane,
-            what,
-        )
+        let owner = Owner {
+            alloc: self.alloc,
+            tenants: &self.tenants,
+            publisher: self.lanes.publisher(lane),
+        };
+        serve(&owner, &mut self.rows, &mut self.lanes, lane, what)
     }
 
     /// Serves each event in turn, with one outcome for each. Its room is taken first; where that is refused nothing changed and

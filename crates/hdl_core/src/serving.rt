@@ -4,19 +4,17 @@ ghost use Rattle.std.specs.Prelude.{◌≡◌, ◌<◌, true, drop, length, IfOk
 ghost use Rattle.hdl_frame.specs.Envelope.{envelope_at, is_truncated};
 ghost use Rattle.hdl_frame.specs.Splitting.{IsFrameOf};
 ghost use Rattle.hdl_msg.specs.Reply.{reply_envelope};
-ghost use Rattle.hdl_tenants.specs.Register.{hosts};
-ghost use Rattle.hdl_core.specs.Held.{held_at};
-ghost use Rattle.hdl_core.specs.Serving.{AssemblesAt, outcome_of, ReceivesAt, ServesAt};
+ghost use Rattle.hdl_core.specs.Serving.{AssemblesAt, hosted_by, outcome_of, received_of, ReceivesAt, ServesAt};
 
 use crate::hearing::hear;
 use crate::lanes::Lanes;
-use crate::letter::Letter;
+use crate::letter::{Letter, Received};
+use crate::owner::Owner;
 use hdl_frame::{ENVELOPE_LEN, Envelope, Frame, one_datagram};
 use hdl_laws::{Octets, Outcome, What};
 use hdl_msg::{busy, refuse};
-use hdl_ops::{Refused, Rows, Tenants};
+use hdl_ops::{Refused, Rows};
 use hdl_pool::Taken;
-use std::alloc::Global;
 
 /// The message behind an envelope, in the octets' own memory.
 fn message_of(octets: Octets) -> Vec<u8>
@@ -30,8 +28,7 @@ fn message_of(octets: Octets) -> Vec<u8>
 /// A piece of a message that came on an open lane. What came of its message before is forgotten once the whole message is
 /// answered; where that is refused it stands as it was.
 fn assemble<R: Rows>(
-    alloc: Global,
-    tenants: &Tenants,
+    owner: &Owner<'_>,
     rows: &mut R,
     lanes: &mut Lanes,
     number: u16,
@@ -42,7 +39,7 @@ fn assemble<R: Rows>(
     requires frame { IsFrameOf frame.now.bytes.now frame.now }
     requires piece { is_truncated (envelope_at frame.now.bytes.now) ≡ true }
     requires envelope { letter.now.envelope ≡ envelope_at frame.now.bytes.now }
-    ensures assembled { IfOk result (λ reply. AssemblesAt (hosts tenants.now (held_at lanes.old number).publisher) (R.content rows.old) lanes.old number (record { peer = letter.now.peer; moment = letter.now.moment; nonce = letter.now.nonce; bytes = frame.now.bytes.now }) reply lanes.new (R.content rows.new)) }
+    ensures assembled { IfOk result (λ reply. AssemblesAt (hosted_by owner.now) (R.content rows.old) lanes.old number (record { peer = letter.now.peer; moment = letter.now.moment; nonce = letter.now.nonce; bytes = frame.now.bytes.now }) reply lanes.new (R.content rows.new)) }
     ensures undone { OnErr result (R.content rows.new ≡ R.content rows.old) }
     ensures kept { OnErr result (lanes.new ≡ lanes.old) }
 {
@@ -51,7 +48,7 @@ fn assemble<R: Rows>(
     };
     match taken {
         Taken::Whole(message) => {
-            let reply = hear(alloc, tenants, rows, lanes, number, letter, message)?;
+            let reply = hear(owner, rows, lanes, number, letter, message)?;
             lanes.free(number, letter.peer, &letter.envelope);
             Ok(Some(reply))
         }
@@ -74,20 +71,22 @@ fn outcome_of(envelope: &Envelope, reply: Result<Option<Octets>, Refused>) -> Ou
 
 /// Octets that came on an open lane.
 fn receive<R: Rows>(
-    alloc: Global,
-    tenants: &Tenants,
+    owner: &Owner<'_>,
     rows: &mut R,
     lanes: &mut Lanes,
     number: u16,
-    peer: u16,
-    moment: u64,
-    nonce: [u8; 16],
-    octets: Octets,
+    received: Received,
 ) -> Outcome
     requires there { number < length lanes.old }
-    ensures { ReceivesAt (hosts tenants.now (held_at lanes.old number).publisher) (R.content rows.old) lanes.old number (record { peer = peer; moment = moment; nonce = nonce; bytes = octets }) result lanes.new (R.content rows.new) }
+    ensures { ReceivesAt (hosted_by owner.now) (R.content rows.old) lanes.old number (received_of received) result lanes.new (R.content rows.new) }
 {
-    let Ok(frame) = one_datagram(octets.as_slice()) else {
+    let Received {
+        peer,
+        moment,
+        nonce,
+        bytes,
+    } = received;
+    let Ok(frame) = one_datagram(bytes.as_slice()) else {
         return Outcome::Silent;
     };
     let envelope = frame.envelope;
@@ -98,11 +97,11 @@ fn receive<R: Rows>(
         envelope,
     };
     if envelope.is_truncated() {
-        let reply = assemble(alloc, tenants, rows, lanes, number, &letter, &frame);
+        let reply = assemble(owner, rows, lanes, number, &letter, &frame);
         return outcome_of(&envelope, reply);
     }
-    let message = message_of(octets);
-    match hear(alloc, tenants, rows, lanes, number, &letter, message) {
+    let message = message_of(bytes);
+    match hear(owner, rows, lanes, number, &letter, message) {
         Ok(reply) => Outcome::Reply(reply),
         Err(_) => Outcome::Busy(busy(&envelope)),
     }
@@ -125,15 +124,14 @@ fn came(session: u32, request: u32) -> Envelope
 
 /// Serves an event of a lane that somebody owns.
 pub(crate) fn serve<R: Rows>(
-    alloc: Global,
-    tenants: &Tenants,
+    owner: &Owner<'_>,
     rows: &mut R,
     lanes: &mut Lanes,
     number: u16,
     what: What,
 ) -> Outcome
     requires there { number < length lanes.old }
-    ensures { ServesAt (hosts tenants.now (held_at lanes.old number).publisher) (R.content rows.old) lanes.old number what result lanes.new (R.content rows.new) }
+    ensures { ServesAt (hosted_by owner.now) (R.content rows.old) lanes.old number what result lanes.new (R.content rows.new) }
 {
     match what {
         What::Open => {
@@ -159,9 +157,13 @@ pub(crate) fn serve<R: Rows>(
             if !lanes.is_open(number) {
                 return Outcome::Silent;
             }
-            receive(
-                alloc, tenants, rows, lanes, number, peer, moment, nonce, bytes,
-            )
+            let received = Received {
+                peer,
+                moment,
+                nonce,
+                bytes,
+            };
+            receive(owner, rows, lanes, number, received)
         }
     }
 }

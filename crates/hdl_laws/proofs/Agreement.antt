@@ -23,9 +23,10 @@ use Rattle.hdl_ops.specs.Sights.{Sight, sight}
 use Rattle.hdl_ops.specs.Anyone.{code_for_anyone}
 use Rattle.hdl_ops.specs.Proven.{Proof, target, key_of, MaskOf, value_at, code_before_key, code_for_key, IsCodeBy}
 use Rattle.hdl_ops.specs.Decisions.{Level, Anyone, Proven, Decision, Decides, DecidesBy, decision}
+use Rattle.hdl_ops.proofs.Passed.{Passes, passes_unless_refused, handle_is_hosted, target_is_hosted}
 use Rattle.hdl_laws.specs.Isolation.{Agrees, IsClosed, Covers}
 use Rattle.hdl_laws.proofs.Maps.{get-retained, contains-retained, gated_and, each_value}
-use Rattle.hdl_laws.proofs.Names.{Passes, passes_unless_refused, handle_is_hosted, target_is_hosted, prefix_by_authority}
+use Rattle.hdl_laws.proofs.Names.{prefix_by_authority}
 
 -- ---- what is seen of the hosted rows
 

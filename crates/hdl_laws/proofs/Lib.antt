@@ -7,5 +7,6 @@ pub mod Steps
 pub mod Restriction
 pub mod Isolation
 pub mod Codes
+pub mod Told
 pub mod Twins
 pub mod TwinRuns

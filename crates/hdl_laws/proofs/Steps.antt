@@ -4,10 +4,8 @@ use Rattle.std.proofs.Common.{◌≡◌, inl, inr, ℕ, List, Bool, true, false,
 use Rattle.std.specs.Prelude.{drop}
 use Rattle.hdl_name.specs.Name.{prefix, canonical}
 use Rattle.hdl_value.specs.Place.{Place}
-use Rattle.hdl_rows.specs.Table.{Table, values_of}
+use Rattle.hdl_rows.specs.Table.{Table}
 use Rattle.hdl_rows.proofs.Writes.{some_none}
-use Rattle.hdl_reach.specs.Reach.{grants}
-use Rattle.hdl_reach.proofs.Agreement.{one_union}
 use Rattle.hdl_tenants.specs.Register.{root}
 use Rattle.hdl_frame.specs.Envelope.{envelope_at, is_truncated}
 use Rattle.hdl_msg.specs.Message.{Content, SpellsRequest, Operation, resolution, create, delete, add, remove, modify, list, response, other}
@@ -19,9 +17,10 @@ use Rattle.hdl_ops.specs.declared.change.Change.TheVariants.{Create, Delete, Add
 use Rattle.hdl_ops.specs.Admission.{refusal}
 use Rattle.hdl_ops.specs.Requests.{Response, named, response_of}
 use Rattle.hdl_ops.specs.Sights.{Sight, sight}
-use Rattle.hdl_ops.specs.Proven.{Proof, target, key_of, MaskOf, value_at, code_before_key, code_for_key, IsCodeBy}
 use Rattle.hdl_ops.specs.Replies.{fits}
 use Rattle.hdl_ops.specs.Decisions.{Level, Anyone, Proven, Decision, DecidesBy, decision, refused, success, failure, carried, change_of}
+use Rattle.hdl_ops.proofs.Passed.{Passes, passes_unless_refused, canonical_is_hosted}
+use Rattle.hdl_ops.proofs.Decided.{one_decision_lem}
 use Rattle.hdl_laws.specs.declared.events.What.{What}
 use Rattle.hdl_pool.specs.Partial as partial
 use Rattle.hdl_pool.specs.Partial.{piece_of}
@@ -31,7 +30,6 @@ use Rattle.hdl_laws.specs.Worlds.{Received, Letter, letter, Effect, Task, Ignore
 use Rattle.hdl_laws.specs.Runs.{is_busy}
 use Rattle.hdl_laws.specs.Isolation.{Agrees, IsClosed}
 use Rattle.hdl_laws.proofs.Agreement.{decides_agrees}
-use Rattle.hdl_laws.proofs.Names.{Passes, passes_unless_refused, canonical_is_hosted}
 use Rattle.hdl_laws.proofs.Writes.{written_handle}
 
 -- ---- a task is one
@@ -179,25 +177,11 @@ module _ (hosted : List ℕ → Bool) (t : Table) where
 
 -- ---- what a task does is one
 
-mask_one : (t : Table) (h : Option (List ℕ)) (k : Option Place) (m n : Option ℕ) → MaskOf t h k m → MaskOf t h k n → m ≡ n
-mask_one t None k m n a b = a ∙ sym b
-mask_one t (Some h) None m n a b = a ∙ sym b
-mask_one t (Some h) (Some k) m n a b = one_union t k None (grants (values_of t h)) m n a b
-
-code_one : (t : Table) (r : Content) (p : Proof) (early : Option ℕ) (c c' : ℕ) → IsCodeBy t r p early c → IsCodeBy t r p early c' → c ≡ c'
-code_one t r p (Some e) c c' a b = a ∙ sym b
-code_one t r p None c c' a b = a.2 ∙ ap (λ m. code_for_key (sight t r) r p m (value_at t (key_of p))) (mask_one t (target r.operation) (key_of p) a.0 b.0 a.1 b.1) ∙ sym b.2
-
-decides_one : (t : Table) (r : Content) (level : Level) (c : Option ℕ) (d d' : Decision) → DecidesBy t r level c d → DecidesBy t r level c d' → d ≡ d'
-decides_one t r level (Some c) d d' a b = a ∙ sym b
-decides_one t r Anyone None d d' a b = a ∙ sym b
-decides_one t r (Proven p) None d d' a b = a.2 ∙ ap (decision (sight t r) r (Proven p)) (code_one t r p (code_before_key (sight t r) r p) a.0 b.0 a.1 b.1) ∙ sym b.2
-
 pub does_one : (hosted : List ℕ → Bool) (t : Table) (k : Task) (x y : Effect) → Does hosted t k x → Does hosted t k y → x ≡ y
 does_one hosted t (Ignore s) x y a b = a ∙ sym b
 does_one hosted t (Break session request s) x y a b = a ∙ sym b
 does_one hosted t (Malformed m s) x y a b = a ∙ sym b
 does_one hosted t (Unknown m r s) x y a b = a ∙ sym b
 does_one hosted t (Late m r s) x y a b = a ∙ sym b
-does_one hosted t (Ask m r s) x y a b = a.2 ∙ ap (ask_effect s m r) (decides_one t r Anyone (refusal hosted r) a.0 b.0 a.1 b.1) ∙ sym b.2
-does_one hosted t (Redeem m r p s) x y a b = a.2 ∙ ap (answer_effect s m r) (decides_one t r (Proven p) (refusal hosted r) a.0 b.0 a.1 b.1) ∙ sym b.2
+does_one hosted t (Ask m r s) x y a b = a.2 ∙ ap (ask_effect s m r) (one_decision_lem hosted t r Anyone a.0 b.0 a.1 b.1) ∙ sym b.2
+does_one hosted t (Redeem m r p s) x y a b = a.2 ∙ ap (answer_effect s m r) (one_decision_lem hosted t r (Proven p) a.0 b.0 a.1 b.1) ∙ sym b.2

@@ -3,13 +3,14 @@ use Rattle.std.proofs.Common.{◌≡◌, ℕ, List, [], ◌∷◌, false, ◌==�
 use Rattle.hdl_frame.specs.Envelope.{envelope_at}
 use Rattle.hdl_rows.specs.Table.{Table}
 use Rattle.hdl_msg.specs.Reply.{short_reply}
+use Rattle.hdl_ops.proofs.Codes.{not_busy}
 use Rattle.hdl_laws.specs.declared.events.Event.{Event}
 use Rattle.hdl_laws.specs.declared.events.Outcome.TheVariants.{Busy}
 use Rattle.hdl_laws.specs.Worlds.{World, Received, arrived, Turn, hosts, owner, Effect, Does, lane_of, IsBusy, IsStep, moment_of, after_effect}
 use Rattle.hdl_laws.specs.Runs.{IsRun, last, events, outcomes}
 use Rattle.hdl_laws.specs.Isolation.{AreTwins, AreTwinWorlds, code_of, AllowsTurn, Allows}
 use Rattle.hdl_laws.specs.Laws.{TwinsReplyAlike}
-use Rattle.hdl_laws.proofs.Codes.{not_busy, does_code}
+use Rattle.hdl_laws.proofs.Codes.{does_code}
 use Rattle.hdl_laws.proofs.Isolation.{AnswersFor, at_event, head_same, tail_same, no_cons}
 use Rattle.hdl_laws.proofs.Steps.{task_one}
 use Rattle.hdl_laws.proofs.Twins.{does_twin, apply_twin}

@@ -23,10 +23,11 @@ use Rattle.hdl_ops.specs.Proven.{Proof}
 use Rattle.hdl_ops.specs.Replies.{fits}
 use Rattle.hdl_ops.specs.Decisions.{Level, Anyone, Proven, Decision, DecidesBy, decision, success, failure, show, carried, carried_by, may_read, change_of}
 use Rattle.hdl_ops.specs.Tables.{write_of, stamped_write, apply_if}
+use Rattle.hdl_ops.proofs.Codes.{decides_code}
 use Rattle.hdl_laws.specs.Worlds.{Effect, Task, Ignore, Break, Malformed, Unknown, Late, Ask, Redeem, Does, ask_effect, answer_effect}
 use Rattle.hdl_laws.specs.Isolation.{is_held, may_be_read, without_content, readable, AreTwins, code_of, proven_request}
 use Rattle.hdl_laws.proofs.Maps.{get-retained, alike_values}
-use Rattle.hdl_laws.proofs.Codes.{decides_code, answer_code, ask_code}
+use Rattle.hdl_laws.proofs.Codes.{answer_code, ask_code}
 
 -- ---- what may be read is the same
 
@@ -150,12 +151,12 @@ module _ (H : List (List ℕ)) (t t' : Table) (twins : AreTwins H t t') where
   does_twin hosted (Unknown m r s) x y a b e f = a ∙ sym b
   does_twin hosted (Late m r s) x y a b e f = a ∙ sym b
   does_twin hosted (Ask m r s) x y a b e f =
-      let here : code_of x.outcome ≡ a.0.code = ap effect_code a.2 ∙ ask_code s m r a.0 (decides_code hosted t r Anyone a.0 (refusal hosted r) refl a.1) in
-      let there : code_of y.outcome ≡ b.0.code = ap effect_code b.2 ∙ ask_code s m r b.0 (decides_code hosted t' r Anyone b.0 (refusal hosted r) refl b.1) in
+      let here : code_of x.outcome ≡ a.0.code = ap effect_code a.2 ∙ ask_code s m r a.0 (decides_code hosted t r Anyone a.0 a.1) in
+      let there : code_of y.outcome ≡ b.0.code = ap effect_code b.2 ∙ ask_code s m r b.0 (decides_code hosted t' r Anyone b.0 b.1) in
       a.2 ∙ ap (ask_effect s m r) (decides_twin r Anyone a.0 b.0 (refusal hosted r) a.1 b.1 (sym here ∙ e ∙ there) (λ is res. reads_public (is_held H (requests.handle_of r)))) ∙ sym b.2
   does_twin hosted (Redeem m r p s) x y a b e f =
-      let here : code_of x.outcome ≡ a.0.code = ap effect_code a.2 ∙ answer_code s m r a.0 (decides_code hosted t r (Proven p) a.0 (refusal hosted r) refl a.1) in
-      let there : code_of y.outcome ≡ b.0.code = ap effect_code b.2 ∙ answer_code s m r b.0 (decides_code hosted t' r (Proven p) b.0 (refusal hosted r) refl b.1) in
+      let here : code_of x.outcome ≡ a.0.code = ap effect_code a.2 ∙ answer_code s m r a.0 (decides_code hosted t r (Proven p) a.0 a.1) in
+      let there : code_of y.outcome ≡ b.0.code = ap effect_code b.2 ∙ answer_code s m r b.0 (decides_code hosted t' r (Proven p) b.0 b.1) in
       a.2 ∙ ap (answer_effect s m r) (decides_twin r (Proven p) a.0 b.0 (refusal hosted r) a.1 b.1 (sym here ∙ e ∙ there) (λ is res. reads_kept (is_held H (requests.handle_of r)) p (f r refl res (here ∙ is)))) ∙ sym b.2
 
   -- ---- writes of twins

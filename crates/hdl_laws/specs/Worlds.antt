@@ -6,6 +6,7 @@ use Rattle.hdl_frame.specs.declared.envelope.Envelope.{Envelope}
 use Rattle.hdl_frame.specs.Envelope.{envelope_at, is_truncated}
 use Rattle.hdl_frame.specs.Frames.{IsFrame}
 use Rattle.hdl_msg.specs.Message.{Content, SpellsRequest}
+use Rattle.hdl_msg.specs.declared.replies.ReplyContent.{ReplyContent}
 use Rattle.hdl_msg.specs.declared.replies.ReplyContent.TheVariants.{Empty}
 use Rattle.hdl_msg.specs.Reply.{reply_envelope, reply_octets, short_reply}
 use Rattle.hdl_rows.specs.Table.{Table}
@@ -157,6 +158,14 @@ IsTask s (What.Frame peer moment nonce bytes) k =
 
 -- ---- what a task does
 
+-- a reply to the request, with the envelope's session and request number
+abbrev pub answer_octets : Envelope → Content → ℕ → ReplyContent → List ℕ
+answer_octets e r code content = reply_octets (reply_to e.session e.request r code content)
+
+-- a challenge under this number, with the envelope's request number
+abbrev pub challenge_octets : ℕ → Envelope → Content → List ℕ → List ℕ
+challenge_octets number e r nonce = reply_octets (challenge_to number e.request r nonce)
+
 -- the request that waits for its response
 abbrev pub pending : Letter → Content → Pending
 pending m r = record { peer = m.peer; moment = m.moment; nonce = m.nonce; digest = digest_of r; message = m.message }
@@ -164,15 +173,15 @@ pending m r = record { peer = m.peer; moment = m.moment; nonce = m.nonce; digest
 -- the lane's next number, and the challenge put under it
 abbrev pub challenge_effect : LaneState → Letter → Content → Effect
 challenge_effect s m r = record {
-  outcome = Reply (reply_octets (challenge_to s.challenges.next m.envelope.request r m.nonce));
+  outcome = Reply (challenge_octets s.challenges.next m.envelope r m.nonce);
   state = record s { challenges = challenged s.challenges (pending m r) };
   change = None;
 }
 
--- a reply to the request, with the letter's session and request number
+-- the reply to the request, and the change
 abbrev pub answer_effect : LaneState → Letter → Content → Decision → Effect
 answer_effect s m r d = record {
-  outcome = Reply (reply_octets (reply_to m.envelope.session m.envelope.request r d.code d.content));
+  outcome = Reply (answer_octets m.envelope r d.code d.content);
   state = s;
   change = d.change;
 }

@@ -1,6 +1,7 @@
 //! Laws over whole runs, each the contract of a function without a body.
 
 ghost use Rattle.hdl_laws.specs.Laws.{JoinsRuns, KeepsCovers, RestrictsRuns, LonelyIsOne, TwoRunsAgree, TwinsReplyAlike};
+ghost use Rattle.hdl_laws.specs.Told.{StepsTell};
 
 /// Two runs in a row are one run of the joined events.
 pub fn runs_joined()
@@ -24,4 +25,10 @@ pub fn restricted()
 /// depends on a value that its caller may not read.
 pub fn twin_replies()
     ensures { TwinsReplyAlike }
+{}
+
+/// The reply to one event is the rendering of its code, the request that it answers, the event's envelope and nonce, the lane's
+/// next number, and with code 1 of what the caller's level may see.
+pub fn reply_told()
+    ensures { StepsTell }
 {}

@@ -3,19 +3,24 @@ use Rattle.std.proofs.Common.{◌≡◌, ℕ, List, [], ◌++◌, take, drop, re
 use Rattle.std.specs.Int.{w32, from_be_bytes}
 use Rattle.std.proofs.lemmas.List.{length-append}
 use Rattle.std.proofs.lemmas.Nat.{from_be_bytes-to_be_bytes_4}
+use Rattle.hdl_frame.specs.declared.envelope.Envelope.{Envelope}
 use Rattle.hdl_frame.specs.Envelope.{envelope_octets}
 use Rattle.hdl_value.specs.Spelling.{string}
 use Rattle.hdl_value.proofs.Codecs.{prefix_free}
 use Rattle.hdl_msg.specs.declared.replies.Reply.{Reply}
 use Rattle.hdl_msg.specs.Message.{header_octets, IsNumber}
 use Rattle.hdl_msg.specs.Reading.{message_at}
-use Rattle.hdl_msg.specs.Reply.{reply_body, reply_message, reply_octets}
+use Rattle.hdl_msg.specs.Reply.{reply_body, reply_message, reply_octets, short_reply}
 use Rattle.hdl_msg.specs.Laws.{response_code_at, ReplyFits}
 use Rattle.hdl_msg.proofs.Codecs.{Message, message_spelling, MessageFits, message_codec}
 
 pub code_at_its_place_lem : (y : Reply) → IsNumber y.header.response_code → response_code_at (reply_octets y) ≡ y.header.response_code
 unfolding reply_octets envelope_octets reply_message header_octets
 code_at_its_place_lem y fits = from_be_bytes-to_be_bytes_4 y.header.response_code fits
+
+pub code-short_reply : (code : ℕ) (e : Envelope) → IsNumber code → response_code_at (short_reply code e) ≡ code
+unfolding short_reply envelope_octets header_octets
+code-short_reply code e fits = from_be_bytes-to_be_bytes_4 code fits
 
 session_of : (y : Reply) → IsNumber y.session → from_be_bytes w32 (take 4 (drop 4 (reply_octets y))) ≡ y.session
 unfolding reply_octets envelope_octets

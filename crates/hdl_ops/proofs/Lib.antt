@@ -1,4 +1,6 @@
 pub mod Stamps
-pub mod Walked
 pub mod Applied
 pub mod Lengths
+pub mod Passed
+pub mod Decided
+pub mod Codes

@@ -8,3 +8,4 @@ pub mod Proven
 pub mod Decisions
 pub mod Replies
 pub mod Views
+pub mod Laws

@@ -20,6 +20,7 @@ mod change;
 mod deciding;
 mod decision;
 mod keys;
+pub mod laws;
 mod permitted;
 mod proven;
 mod rendering;

@@ -1,7 +1,7 @@
 use Rattle.std.proofs.Common.{inl, arith}
 use Rattle.std.specs.Int.{w32}
 use Rattle.hdl_value.specs.Reading.{number_at}
-use Rattle.hdl_ops.proofs.Walked.{length-walked}
+use Rattle.hdl_msg.proofs.Walks.{length-walked}
 use Rattle.hdl_ops.proofs.written.count_of_indexes.Goals as goal
 
 pub count-requires-clause-fits : goal.count-requires-clause-fits

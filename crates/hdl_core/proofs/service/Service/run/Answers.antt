@@ -10,7 +10,7 @@ use Rattle.hdl_core.proofs.service.Service.run.Goals as goal
 pub loop-event-preserved : goal.loop-event-preserved
 loop-event-preserved g c = record {
   run = subst (λ os. Run c.args.self.now (c.loop-event.yielded ++ (c.in-Some.event ∷ [])) os c.step-outcome.new.self) (sym (c.push.ensures.items ∙ ap (λ b. if b then c.loop-event.outcomes.items ++ (c.step-outcome.result ∷ []) else c.loop-event.outcomes.items) (sym c.is_ok-pushed.ensures.value ∙ c.if-prove.false)))
-      (run_step c.runs_joined.ensures _ _ _ _ _ _ _ c.loop-event.invariant.run c.step-outcome.ensures);
+      (run_step c.runs_joined.ensures _ _ _ _ _ _ _ c.loop-event.invariant.run c.step-outcome.ensures.step);
   room = omega (arith, c.loop-event.invariant.room, c.push.ensures.capacity);
 }
 

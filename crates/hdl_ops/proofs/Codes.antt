@@ -1,0 +1,116 @@
+-- The codes of decisions, and what is told with each.
+use Rattle.std.proofs.Common.{◌≡◌, ℕ, List, [], ◌∷◌, Bool, true, false, cond, not, ◌&&◌, ◌==◌, Option, Some, None, refl, sym, ap, ◌∙◌, subst, IsTrue, arith}
+use Rattle.std.specs.Prelude.{nat_lt}
+use Rattle.std.proofs.lemmas.Bool.{ltb-true, not-true, and_parts}
+use Rattle.hdl_name.specs.Name.{sent_prefix}
+use Rattle.hdl_value.specs.declared.value.Value.{Value}
+use Rattle.hdl_rows.specs.Table.{Table}
+use Rattle.hdl_msg.specs.Message.{Content, IsNumber}
+use Rattle.hdl_msg.specs.declared.replies.ReplyContent.TheVariants.{Referral, Empty}
+use Rattle.hdl_ops.specs.First.{first, or_code}
+use Rattle.hdl_ops.specs.Admission.{refusal}
+use Rattle.hdl_ops.specs.Requests.{named}
+use Rattle.hdl_ops.specs.Sights.{Sight, sight}
+use Rattle.hdl_ops.specs.Anyone.{code_for_anyone}
+use Rattle.hdl_ops.specs.Proven.{Proof, key_of, value_at, code_before_key, code_behind_key, code_for_key, IsCodeBy}
+use Rattle.hdl_ops.specs.Replies.{fits}
+use Rattle.hdl_ops.specs.Decisions.{Level, Anyone, Proven, Decision, Decides, DecidesBy, decision, refused, success, failure, carried}
+use Rattle.hdl_ops.specs.Laws.{told}
+
+-- a code of at most three digits that isn't busy's
+abbrev pub is_answer_code : ℕ → Bool
+is_answer_code c = nat_lt c 1000 && not (c == 3)
+
+-- one of the tests before the table is looked at: no success
+abbrev is_refusal_code : ℕ → Bool
+is_refusal_code c = is_answer_code c && not (c == 1)
+
+-- one of the tests on the table: no referral
+abbrev is_table_code : ℕ → Bool
+is_table_code c = is_answer_code c && not (c == 302)
+
+pub code_fits : (c : ℕ) → IsTrue (is_answer_code c) → IsNumber c
+code_fits c e = let low = ltb-true c 1000 (and_parts _ _ e).0 in omega (arith, low)
+
+pub not_busy : (c : ℕ) → IsTrue (is_answer_code c) → (c == 3) ≡ false
+not_busy c e = not-true (c == 3) (and_parts (nat_lt c 1000) _ e).1
+
+-- ---- the tables of decision
+
+module _ (P : ℕ → Bool) where
+  row_walk : (b : Bool) (c : ℕ) (rows : List (Bool × ℕ)) (end : ℕ) → IsTrue (P c) → IsTrue (P (or_code (first rows) end)) → IsTrue (P (or_code (first ((b, c) ∷ rows)) end))
+  unfolding first
+  row_walk true c rows end p q = p
+  row_walk false c rows end p q = q
+
+  row_end : (end : ℕ) → IsTrue (P end) → IsTrue (P (or_code (first []) end))
+  unfolding first
+  row_end end p = p
+
+anyone_code : (s : Sight) (r : Content) → IsTrue (is_table_code (code_for_anyone s r))
+unfolding code_for_anyone
+anyone_code s r =
+    let row = row_walk is_table_code in
+    row _ 101 _ 402 refl (row _ 100 _ 402 refl (row _ 200 _ 402 refl (row _ 402 _ 402 refl (row _ 1 _ 402 refl (row _ 1 _ 402 refl (row_end is_table_code 402 refl))))))
+
+before_code : (s : Sight) (r : Content) (p : Proof) → IsTrue (is_table_code (or_code (code_before_key s r p) 0))
+unfolding code_before_key
+before_code s r p =
+    let row = row_walk is_table_code in
+    row _ 406 _ 0 refl (row _ 404 _ 0 refl (row _ 101 _ 0 refl (row _ 100 _ 0 refl (row_end is_table_code 0 refl))))
+
+key_code : (s : Sight) (r : Content) (p : Proof) (m : Option ℕ) (k : Option Value) → IsTrue (is_table_code (code_for_key s r p m k))
+unfolding code_behind_key
+key_code s r p None k = refl
+key_code s r p (Some m) k =
+    let row = row_walk is_table_code in
+    row _ 406 _ 1 refl (row _ 403 _ 1 refl (row _ 200 _ 1 refl (row _ 201 _ 1 refl (row _ 401 _ 1 refl (row _ 202 _ 1 refl (row _ 200 _ 1 refl (row_end is_table_code 1 refl)))))))
+
+proof_code : (t : Table) (r : Content) (p : Proof) (early : Option ℕ) (c : ℕ) → IsTrue (is_table_code (or_code early 0)) → IsCodeBy t r p early c → IsTrue (is_table_code c)
+proof_code t r p (Some e) c f is = ap is_table_code is ∙ f
+proof_code t r p None c f is = ap is_table_code is.2 ∙ key_code (sight t r) r p is.0 (value_at t (key_of p))
+
+refusal_code : (hosts : List ℕ → Bool) (r : Content) → IsTrue (is_refusal_code (or_code (refusal hosts r) 0))
+unfolding refusal
+refusal_code hosts r =
+    let row = row_walk is_refusal_code in
+    row _ 5 _ 0 refl (row _ 102 _ 0 refl (row _ 102 _ 0 refl (row _ 5 _ 0 refl (row _ 302 _ 0 refl (row _ 202 _ 0 refl (row_end is_refusal_code 0 refl))))))
+
+-- ---- what is told with a code
+
+module _ (t : Table) (r : Content) (level : Level) where
+  -- the decision has the code of an answer, and tells what its code says
+  abbrev TellsOnly : Decision → Type 0
+  TellsOnly d = IsTrue (is_answer_code d.code) × (d.content ≡ told t r level d.code)
+
+  decision_tells : (c : ℕ) → IsTrue (is_table_code c) → TellsOnly (decision (sight t r) r level c)
+  unfolding decision
+  decision_tells c e = pick (c == 1) refl (fits r (carried (sight t r) r level))
+    where
+      pick : (a : Bool) → c == 1 ≡ a → (b : Bool) → TellsOnly (cond {A = Decision} a (cond {A = Decision} b (success (sight t r) r level) (failure 2 Empty)) (failure c Empty))
+      pick true is true = (refl, refl)
+      pick true is false = (refl, refl)
+      pick false is b =
+          let parts = and_parts (is_answer_code c) _ e in (
+            parts.0,
+            sym (ap (λ x. cond x (carried (sight t r) r level) (cond (c == 302) (Referral (sent_prefix (named r.operation))) Empty)) is ∙ ap (λ x. cond x (Referral (sent_prefix (named r.operation))) Empty) (not-true (c == 302) parts.1)),
+          )
+
+  refused_tells : (c : ℕ) → IsTrue (is_refusal_code c) → TellsOnly (refused r c)
+  unfolding refused
+  refused_tells c e =
+      let parts = and_parts (is_answer_code c) _ e in
+      (parts.0, sym (ap (λ x. cond x (carried (sight t r) r level) (cond (c == 302) (Referral (sent_prefix (named r.operation))) Empty)) (not-true (c == 1) parts.1)))
+
+tells_by : (hosts : List ℕ → Bool) (t : Table) (r : Content) (level : Level) (d : Decision) (c : Option ℕ) → refusal hosts r ≡ c → DecidesBy t r level c d → TellsOnly t r level d
+tells_by hosts t r level d (Some c) e is =
+    subst (TellsOnly t r level) (sym is) (refused_tells t r level c (ap (λ o. is_refusal_code (or_code o 0)) (sym e) ∙ refusal_code hosts r))
+tells_by hosts t r Anyone d None e is = subst (TellsOnly t r Anyone) (sym is) (decision_tells t r Anyone _ (anyone_code (sight t r) r))
+tells_by hosts t r (Proven p) d None e is =
+    subst (TellsOnly t r (Proven p)) (sym is.2) (decision_tells t r (Proven p) is.0 (proof_code t r p (code_before_key (sight t r) r p) is.0 (before_code (sight t r) r p) is.1))
+
+pub decides_code : (hosts : List ℕ → Bool) (t : Table) (r : Content) (level : Level) (d : Decision) → Decides hosts t r level d → IsTrue (is_answer_code d.code)
+decides_code hosts t r level d is = (tells_by hosts t r level d (refusal hosts r) refl is).0
+
+pub tells_by_code_lem : (hosts : List ℕ → Bool) (t : Table) (r : Content) (level : Level) (d : Decision) → Decides hosts t r level d → d.content ≡ told t r level d.code
+tells_by_code_lem hosts t r level d is = (tells_by hosts t r level d (refusal hosts r) refl is).1
