@@ -52,6 +52,8 @@ mod isolation_tests;
 #[cfg(test)]
 mod piece_tests;
 #[cfg(test)]
+mod program_tests;
+#[cfg(test)]
 mod tests;
 #[cfg(test)]
 mod write_tests;
