@@ -12,7 +12,7 @@ use Rattle.hdl_rows.specs.Table.{Table, place, has, at, values_of, names_of, Hav
 use Rattle.hdl_rows.specs.Write.{Create, Add, Remove, Delete}
 use Rattle.hdl_rows.specs.Shelf.{entry_of, entries_of, by_index, table_of, AreInOrder, put_all}
 use Rattle.hdl_rows.proofs.Writes.{put_at, removed_at}
-use Rattle.hdl_rows.proofs.ShelfLemmas.{indexes_kept, at-table, has-table, changed, within, values_there, values_put, values_left, values_of-table, names_of-table}
+use Rattle.hdl_rows.proofs.ShelfLemmas.{found_sorted, indexes_kept, at-table, has-table, changed, within, values_there, values_put, values_left, values_of-table, names_of-table}
 use Rattle.hdl_rows.proofs.RowsLemmas.{row_place, inserted, place_within, IsRowOf, row_at, found_at, replaced, rises_at, not_found, taken_away}
 use Rattle.hdl_rows.proofs.Searches.{without_row, without_none}
 
@@ -40,6 +40,12 @@ pub values_is : {A : Type 0} (t : Table) (rows slice : List Row) (h : List ℕ) 
     → option_map f o ≡ find handle_cmp h (entries_of slice) → values_there (option_map f o) ≡ values_of t h
 values_is t rows slice h f o view order same found =
     ap values_there (found ∙ ap (λ (rs : List Row). find handle_cmp h (entries_of rs)) same) ∙ sym (values_of-table (entries_of rows) h order) ∙ ap (λ (u : Table). values_of u h) view
+
+-- the values of a row that was found rise
+pub found_rises : {A : Type 0} (rows slice : List Row) (h : List ℕ) (f : A → List Value) (o : Option A) (x : A) → AreInOrder (entries_of rows) → slice ≡ rows
+    → option_map f o ≡ find handle_cmp h (entries_of slice) → o ≡ Some x → IsTrue (is_sorted nat_cmp (by_index (f x)))
+found_rises rows slice h f o x order same found is =
+    found_sorted h (entries_of rows) (f x) order.values (ap (λ (rs : List Row). find handle_cmp h (entries_of rs)) (sym same) ∙ sym found ∙ ap (option_map f) is)
 
 pub by_index_is : (t : Table) (rows : List Row) (h : List ℕ) (vs : List Value) → table_of (entries_of rows) ≡ t → AreInOrder (entries_of rows) → vs ≡ values_of t h → HaveTheirIndexes t h vs
 by_index_is t rows h vs view order is =
@@ -96,7 +102,7 @@ at_row t rows h i old new c = row_at rows h i new c.place
 old_is : (t : Table) (rows : List Row) (h : List ℕ) (i : ℕ) (old new : Row) → Changes t rows h i old new → get_or rows i new ≡ old
 old_is t rows h i old new c = get_or_default rows i new old (at_row t rows h i old new c).inside ∙ sym c.was
 
-old_rises : (t : Table) (rows : List Row) (h : List ℕ) (i : ℕ) (old new : Row) → Changes t rows h i old new → IsTrue (is_sorted nat_cmp (by_index old.values.items))
+pub old_rises : (t : Table) (rows : List Row) (h : List ℕ) (i : ℕ) (old new : Row) → Changes t rows h i old new → IsTrue (is_sorted nat_cmp (by_index old.values.items))
 old_rises t rows h i old new c = ap (λ (r : Row). is_sorted nat_cmp (by_index r.values.items)) (sym (old_is t rows h i old new c)) ∙ rises_at rows i new (at_row t rows h i old new c).inside c.order.values
 
 old_found : (t : Table) (rows : List Row) (h : List ℕ) (i : ℕ) (old new : Row) → Changes t rows h i old new → find handle_cmp h (entries_of rows) ≡ Some old.values.items

@@ -68,14 +68,14 @@ after rows h k d order other le inside =
           ap (λ (n : ℕ). same_handle h (get_or rows n d).name) (sym is) ∙ other
     ]
 
-position_is : (rows : List Row) (h : List ℕ) (n m : ℕ) → position_or_len (λ r. same_handle h r.name) rows ≡ n → length rows ≡ m → position (λ r. same_handle h r.name) rows ≡ cond (nat_lt n m) (Some n) None
-position_is rows h n m at long = λ k. cond (nat_lt (at k) (long k)) (Some (at k)) None
+position_is : (rows : List Row) (h : List ℕ) (n : ℕ) → position_or_len (λ r. same_handle h r.name) rows ≡ n → position (λ r. same_handle h r.name) rows ≡ cond (nat_lt n (length rows)) (Some n) None
+position_is rows h n at = ap (λ (k : ℕ). cond (nat_lt k (length rows)) (Some k) None) at
 
 pub placed : (rows : List Row) (h : List ℕ) (n : ℕ) (d : Row) → n ≡ row_place rows h → n < length rows → same_handle h (get_or rows n d).name ≡ true → Some n ≡ position (λ r. same_handle h r.name) rows
 placed rows h n d at inside same =
     let first_at : position_or_len (λ (r : Row). same_handle h r.name) rows ≡ n = prefix_len_is (λ (r : Row). not (same_handle h r.name)) rows n d (omega arith) (λ k lt. ap not (before rows h k d (omega arith))) (λ lt. ap not same) in
     let low : nat_lt n (length rows) ≡ true = grind (arith, nat_tests) in
-    sym (position_is rows h n (length rows) first_at refl ∙ ap (λ b. cond b (Some n) None) low)
+    sym (position_is rows h n first_at ∙ ap (λ b. cond b (Some n) None) low)
 
 pub unplaced : (rows : List Row) (h : List ℕ) (n : ℕ) → Rise rows → n ≡ row_place rows h → ((d : Row) → n < length rows → same_handle h (get_or rows n d).name ≡ false) → None ≡ position (λ r. same_handle h r.name) rows
 unplaced [] h n order at other = refl
@@ -87,7 +87,7 @@ unplaced (s ∷ rows) h n order at other =
     ] in
     let past : position_or_len (λ (r : Row). same_handle h r.name) all ≡ length all = prefix_len_is (λ (r : Row). not (same_handle h r.name)) all (length all) s (omega arith) (λ k lt. ap not (each k lt)) (λ lt. absurd (omega arith)) in
     let high : nat_lt (length all) (length all) ≡ false = grind (arith, nat_tests) in
-    sym (position_is all h (length all) (length all) past refl ∙ ap (λ b. cond b (Some (length all)) None) high)
+    sym (position_is all h (length all) past ∙ ap (λ b. cond b (Some (length all)) None) high)
 
 -- ---- the row itself
 

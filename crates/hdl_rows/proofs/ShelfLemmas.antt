@@ -185,7 +185,7 @@ values_left ws old is e sorted =
 
 -- ---- what the rows of a handle answer when read
 
-found_sorted : (h : List ℕ) (es : Rows) (vs : List Value) → AllByRecursion (λ e. IsTrue (is_sorted nat_cmp (by_index e.1))) es → find handle_cmp h es ≡ Some vs → IsTrue (is_sorted nat_cmp (by_index vs))
+pub found_sorted : (h : List ℕ) (es : Rows) (vs : List Value) → AllByRecursion (λ e. IsTrue (is_sorted nat_cmp (by_index e.1))) es → find handle_cmp h es ≡ Some vs → IsTrue (is_sorted nat_cmp (by_index vs))
 found_sorted h [] vs all e = absurd (some_none vs (sym e))
 found_sorted h (f ∷ es) vs all e = by_test (same_handle h f.0) e (found_sorted h es vs all.1)
   where
