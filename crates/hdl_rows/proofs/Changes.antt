@@ -1,5 +1,5 @@
 -- What the calls of a shelf make of its rows, and so of its table.
-use Rattle.std.proofs.Common.{◌≡◌, ℕ, zero, suc, ◌≤◌, List, [], ◌∷◌, map, filter, length, get_or, set, take, insert, position, Bool, true, false, cond, not, Option, Some, None, option_map, Result, Ok, Err, OnOk, OnErr, IfOk, IsTrue, is_some, refl, sym, ap, ◌∙◌, subst, true≢false, ◌==◌}
+use Rattle.std.proofs.Common.{◌≡◌, ℕ, zero, suc, ◌≤◌, List, [], ◌∷◌, map, filter, length, get_or, set, take, insert, remove, position, Bool, true, false, cond, not, Option, Some, None, option_map, Result, Ok, Err, OnOk, OnErr, IfOk, IsTrue, is_some, refl, sym, ap, ◌∙◌, subst, true≢false, ◌==◌}
 use Rattle.std.specs.List.{list_any}
 use Rattle.std.specs.Ordering.{nat_cmp}
 use Rattle.std.specs.FinMap.{find, is_sorted}
@@ -12,8 +12,9 @@ use Rattle.hdl_rows.specs.Table.{Table, place, has, at, values_of, names_of, Hav
 use Rattle.hdl_rows.specs.Write.{Create, Add, Remove, Delete}
 use Rattle.hdl_rows.specs.Shelf.{entry_of, entries_of, by_index, table_of, AreInOrder, put_all}
 use Rattle.hdl_rows.proofs.Writes.{put_at, removed_at}
-use Rattle.hdl_rows.proofs.ShelfLemmas.{indexes_kept, at-table, has-table, changed, within, values_there, values_put, values_left, values_of-table, names_of-table}
+use Rattle.hdl_rows.proofs.ShelfLemmas.{found_sorted, indexes_kept, at-table, has-table, changed, within, values_there, values_put, values_left, values_of-table, names_of-table}
 use Rattle.hdl_rows.proofs.RowsLemmas.{row_place, inserted, place_within, IsRowOf, row_at, found_at, replaced, rises_at, not_found, taken_away}
+use Rattle.hdl_rows.proofs.Searches.{without_row, without_none}
 
 none_of : {A : Type 0} (o : Option A) → is_some o ≡ false → o ≡ None
 none_of None e = refl
@@ -39,6 +40,12 @@ pub values_is : {A : Type 0} (t : Table) (rows slice : List Row) (h : List ℕ) 
     → option_map f o ≡ find handle_cmp h (entries_of slice) → values_there (option_map f o) ≡ values_of t h
 values_is t rows slice h f o view order same found =
     ap values_there (found ∙ ap (λ (rs : List Row). find handle_cmp h (entries_of rs)) same) ∙ sym (values_of-table (entries_of rows) h order) ∙ ap (λ (u : Table). values_of u h) view
+
+-- the values of a row that was found rise
+pub found_rises : {A : Type 0} (rows slice : List Row) (h : List ℕ) (f : A → List Value) (o : Option A) (x : A) → AreInOrder (entries_of rows) → slice ≡ rows
+    → option_map f o ≡ find handle_cmp h (entries_of slice) → o ≡ Some x → IsTrue (is_sorted nat_cmp (by_index (f x)))
+found_rises rows slice h f o x order same found is =
+    found_sorted h (entries_of rows) (f x) order.values (ap (λ (rs : List Row). find handle_cmp h (entries_of rs)) (sym same) ∙ sym found ∙ ap (option_map f) is)
 
 pub by_index_is : (t : Table) (rows : List Row) (h : List ℕ) (vs : List Value) → table_of (entries_of rows) ≡ t → AreInOrder (entries_of rows) → vs ≡ values_of t h → HaveTheirIndexes t h vs
 by_index_is t rows h vs view order is =
@@ -95,7 +102,7 @@ at_row t rows h i old new c = row_at rows h i new c.place
 old_is : (t : Table) (rows : List Row) (h : List ℕ) (i : ℕ) (old new : Row) → Changes t rows h i old new → get_or rows i new ≡ old
 old_is t rows h i old new c = get_or_default rows i new old (at_row t rows h i old new c).inside ∙ sym c.was
 
-old_rises : (t : Table) (rows : List Row) (h : List ℕ) (i : ℕ) (old new : Row) → Changes t rows h i old new → IsTrue (is_sorted nat_cmp (by_index old.values.items))
+pub old_rises : (t : Table) (rows : List Row) (h : List ℕ) (i : ℕ) (old new : Row) → Changes t rows h i old new → IsTrue (is_sorted nat_cmp (by_index old.values.items))
 old_rises t rows h i old new c = ap (λ (r : Row). is_sorted nat_cmp (by_index r.values.items)) (sym (old_is t rows h i old new c)) ∙ rises_at rows i new (at_row t rows h i old new c).inside c.order.values
 
 old_found : (t : Table) (rows : List Row) (h : List ℕ) (i : ℕ) (old new : Row) → Changes t rows h i old new → find handle_cmp h (entries_of rows) ≡ Some old.values.items
@@ -150,11 +157,22 @@ removed_is t rows h i old new is c left =
           (λ j. values.1 j ∙ ap (λ x. removed_at is j (within x j)) (sym found)) ∙ ap (λ (u : Table). without_values u h is) c.view,
     )
 
-pub deleted_is : (t : Table) (rows next : List Row) (h : List ℕ) → table_of (entries_of rows) ≡ t → AreInOrder (entries_of rows) → next ≡ filter (λ r. not (same_handle h r.name)) rows
+deleted_is : (t : Table) (rows next : List Row) (h : List ℕ) → table_of (entries_of rows) ≡ t → AreInOrder (entries_of rows) → next ≡ filter (λ r. not (same_handle h r.name)) rows
     → AreInOrder (entries_of next) × (table_of (entries_of next) ≡ without_handle t h)
 deleted_is t rows next h view order is =
     let step = taken_away rows next h order is in
     (step.0, changed (entries_of rows) (entries_of next) (Delete h) None order.handles step.0.handles step.1 refl (λ i. refl) ∙ ap (λ (u : Table). without_handle u h) view)
+
+-- the row of a handle taken out
+pub deleted_row : (t : Table) (rows next slice : List Row) (h : List ℕ) (i : ℕ) (d : Row) → table_of (entries_of rows) ≡ t → AreInOrder (entries_of rows) → slice ≡ rows
+    → position (λ r. same_handle h r.name) slice ≡ Some i → next ≡ remove rows i → AreInOrder (entries_of next) × (table_of (entries_of next) ≡ without_handle t h)
+deleted_row t rows next slice h i d view order same place is =
+    deleted_is t rows next h view order (without_row rows next h i d order.handles (ap (λ (rs : List Row). position (λ r. same_handle h r.name) rs) (sym same) ∙ place) is)
+
+-- and a handle that has none
+pub deleted_none : (t : Table) (rows slice : List Row) (h : List ℕ) → table_of (entries_of rows) ≡ t → AreInOrder (entries_of rows) → slice ≡ rows → position (λ r. same_handle h r.name) slice ≡ None → t ≡ without_handle t h
+deleted_none t rows slice h view order same none =
+    sym view ∙ (deleted_is t rows rows h view order (without_none rows h (ap (λ (rs : List Row). position (λ r. same_handle h r.name) rs) (sym same) ∙ none))).1
 
 -- a handle that is there has a row
 pub has_row : (t : Table) (rows slice : List Row) (h : List ℕ) → table_of (entries_of rows) ≡ t → slice ≡ rows → has t h ≡ true → position (λ r. same_handle h r.name) slice ≡ None → ⊥

@@ -1,14 +1,18 @@
 -- Values in order: what a put and a removal make of them.
-use Rattle.std.proofs.Common.{◌≡◌, ◌≢◌, ℕ, suc, ◌+◌, ◌<◌, ◌≤◌, List, [], ◌∷◌, ◌++◌, length, get_or, set, insert, Bool, true, false, cond, ltb, refl, sym, ap, ◌∙◌, Less, Equal, Greater, arith}
+use Rattle.std.proofs.Common.{◌≡◌, ◌≢◌, ℕ, zero, suc, T, IsTrue, Some, None, is_eq, ◌+◌, ◌<◌, ◌≤◌, List, [], ◌∷◌, ◌++◌, length, get_or, set, insert, Bool, true, false, cond, ltb, refl, sym, ap, ◌∙◌, Less, Equal, Greater, arith}
 use Rattle.std.specs.Ordering.{nat_cmp}
 use Rattle.std.specs.List.{prefix_len}
-use Rattle.std.specs.FinMap.{put}
-use Rattle.std.specs.FinMap.Entries.{by_order}
+use Rattle.std.specs.Cmp.{nat_cmp_total}
+use Rattle.std.specs.List.Sorted.{IsNonDecreasingBy, IsPartitionedBy, IsPartitionPoint}
+use Rattle.std.specs.FinMap.{put, find, is_sorted}
+use Rattle.std.specs.FinMap.Entries.{by_order, below_all}
 use Rattle.std.proofs.lemmas.Bool.Decides.{nat_tests}
 use Rattle.std.proofs.lemmas.List.{get_or_default}
-use Rattle.std.proofs.lemmas.List.Sums.{prefix_len-le-length}
+use Rattle.std.proofs.lemmas.List.Sums.{prefix_len-le-length, prefix_len_is}
+use Rattle.std.proofs.lemmas.List.Sorted.{IsPartitionedBy-ltb}
 use Rattle.hdl_value.specs.declared.value.Value.{Value}
 use Rattle.hdl_rows.specs.Shelf.{by_index, put_all}
+use Rattle.hdl_rows.proofs.ShelfLemmas.{to_T, first, second, less}
 
 above : (i j : ℕ) → ltb j i ≡ true → nat_cmp i j ≡ Greater
 above i j lt = grind (arith, nat_tests)
@@ -101,3 +105,69 @@ pub place_of_count : (slice vs : List Value) (n i : ℕ) → slice ≡ vs → n 
 place_of_count slice vs n i same count =
     let at : n ≡ place_in vs i = count ∙ ap (λ (xs : List Value). place_in xs i) same in
     (at, omega (arith, at, prefix_len-le-length (λ (w : Value). ltb w.index i) vs))
+
+-- ---- where a search for an index ends, and which value stands there
+
+abbrev Rise : List Value → Type 0
+Rise vs = IsTrue (is_sorted nat_cmp (by_index vs))
+
+under_is_less : (i j : ℕ) → nat_cmp i j ≡ Less → i < j
+under_is_less i j e = grind (arith, nat_tests)
+
+under_value : (i : ℕ) (vs : List Value) (k : ℕ) (d : Value) → T (below_all nat_cmp i (by_index vs)) → k < length vs → i < (get_or vs k d).index
+under_value i [] k d all lt = absurd (omega arith)
+under_value i (w ∷ ws) zero d all lt = under_is_less i w.index (less _ (first _ _ all))
+under_value i (w ∷ ws) (suc k) d all lt = under_value i ws k d (second _ _ all) (omega arith)
+
+indexes_rise : (vs : List Value) → T (is_sorted nat_cmp (by_index vs)) → IsNonDecreasingBy (λ v. v.index) vs
+indexes_rise [] order i j d le lt = absurd (omega arith)
+indexes_rise (w ∷ ws) order zero zero d le lt = omega arith
+indexes_rise (w ∷ ws) order (suc i) zero d le lt = absurd (omega arith)
+indexes_rise (w ∷ ws) order zero (suc j) d le lt = omega (arith, under_value w.index ws j d (first _ _ order) (omega arith))
+indexes_rise (w ∷ ws) order (suc i) (suc j) d le lt = indexes_rise ws (second _ _ order) i j d (omega arith) (omega arith)
+
+pub values_parted : (vs : List Value) (i : ℕ) → Rise vs → IsPartitionedBy (λ v. ltb v.index i) vs
+values_parted vs i order = IsPartitionedBy-ltb (λ (v : Value). v.index) vs i (indexes_rise vs (to_T _ order))
+
+pub values_counted : (vs : List Value) (i n : ℕ) → n ≤ length vs → IsPartitionPoint (λ v. ltb v.index i ≡ true) (λ v. ltb v.index i ≡ false) vs n → n ≡ place_in vs i
+values_counted [] i n bound point = omega arith
+values_counted (w ∷ ws) i n bound point = sym (prefix_len_is (λ (v : Value). ltb v.index i) (w ∷ ws) n w bound (λ k lt. point.0 k w (omega arith) lt) (λ lt. point.1 n w (omega arith) lt))
+
+none_under : (i j : ℕ) (vs : List Value) → nat_cmp i j ≡ Less → T (below_all nat_cmp j (by_index vs)) → find nat_cmp i (by_index vs) ≡ None
+none_under i j [] e all = refl
+none_under i j (w ∷ ws) e all = ap (λ o. cond (is_eq o) (Some w) (find nat_cmp i (by_index ws))) (nat_cmp_total.trans i j w.index e (less _ (first _ _ all))) ∙ none_under i j ws e (second _ _ all)
+
+found_here : (vs : List Value) (i : ℕ) (d : Value) → place_in vs i < length vs → (get_or vs (place_in vs i) d).index ≡ i → find nat_cmp i (by_index vs) ≡ Some (get_or vs (place_in vs i) d)
+found_here [] i d inside same = absurd (omega arith)
+found_here (w ∷ ws) i d inside same = by_test (ltb w.index i) refl (found_here ws i d) inside same
+  where
+    by_test : (b : Bool) → ltb w.index i ≡ b → (place_in ws i < length ws → (get_or ws (place_in ws i) d).index ≡ i → find nat_cmp i (by_index ws) ≡ Some (get_or ws (place_in ws i) d))
+        → cond b (1 + place_in ws i) 0 < length (w ∷ ws) → (get_or (w ∷ ws) (cond b (1 + place_in ws i) 0) d).index ≡ i → find nat_cmp i (by_index (w ∷ ws)) ≡ Some (get_or (w ∷ ws) (cond b (1 + place_in ws i) 0) d)
+    by_test true lt rest inside same =
+        let on = one_more (place_in ws i) in
+        ap (λ o. cond (is_eq o) (Some w) (find nat_cmp i (by_index ws))) (above i w.index lt)
+        ∙ rest (omega arith) (ap (λ (n : ℕ). (get_or (w ∷ ws) n d).index) (sym on) ∙ same) ∙ ap (λ (n : ℕ). Some (get_or (w ∷ ws) n d)) (sym on)
+    by_test false past rest inside same = ap (λ o. cond (is_eq o) (Some w) (find nat_cmp i (by_index ws))) (tie i w.index same)
+
+none_here : (vs : List Value) (i : ℕ) → T (is_sorted nat_cmp (by_index vs)) → ((d : Value) → place_in vs i < length vs → (get_or vs (place_in vs i) d).index ≢ i) → find nat_cmp i (by_index vs) ≡ None
+none_here [] i order other = refl
+none_here (w ∷ ws) i order other = by_test (ltb w.index i) refl (none_here ws i (second _ _ order)) other
+  where
+    by_test : (b : Bool) → ltb w.index i ≡ b → (((d : Value) → place_in ws i < length ws → (get_or ws (place_in ws i) d).index ≢ i) → find nat_cmp i (by_index ws) ≡ None)
+        → ((d : Value) → cond b (1 + place_in ws i) 0 < length (w ∷ ws) → (get_or (w ∷ ws) (cond b (1 + place_in ws i) 0) d).index ≢ i) → find nat_cmp i (by_index (w ∷ ws)) ≡ None
+    by_test true lt rest other =
+        let on = one_more (place_in ws i) in
+        ap (λ o. cond (is_eq o) (Some w) (find nat_cmp i (by_index ws))) (above i w.index lt)
+        ∙ rest (λ d inside same. other d (omega arith) (ap (λ (n : ℕ). (get_or (w ∷ ws) n d).index) on ∙ same))
+    by_test false past rest other =
+        let under = below i w.index past (other w (omega arith)) in
+        ap (λ o. cond (is_eq o) (Some w) (find nat_cmp i (by_index ws))) under ∙ none_under i w.index ws under (first _ _ order)
+
+-- the same, at a number that a call gave
+pub value_found : (vs : List Value) (i n : ℕ) (d : Value) → n ≡ place_in vs i → n < length vs → d ≡ get_or vs n d → d.index ≡ i → Some d ≡ find nat_cmp i (by_index vs)
+value_found vs i n d at inside is same =
+    let there : d ≡ get_or vs (place_in vs i) d = is ∙ ap (λ (k : ℕ). get_or vs k d) at in
+    ap Some there ∙ sym (found_here vs i d (omega arith) (ap (λ (v : Value). v.index) (sym there) ∙ same))
+
+pub value_missing : (vs : List Value) (i n : ℕ) → Rise vs → n ≡ place_in vs i → ((d : Value) → n < length vs → (get_or vs n d).index ≢ i) → None ≡ find nat_cmp i (by_index vs)
+value_missing vs i n order at other = sym (none_here vs i (to_T _ order) (λ d inside same. other d (omega arith) (ap (λ (k : ℕ). (get_or vs k d).index) at ∙ same)))

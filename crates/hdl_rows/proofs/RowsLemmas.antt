@@ -27,7 +27,7 @@ one_more n = omega arith
 later_insert : (s r : Row) (rows : List Row) (n : ℕ) → entries_of (insert (s ∷ rows) (1 + n) r) ≡ entry_of s ∷ entries_of (insert rows n r)
 later_insert s r rows n = rw (one_more n) refl
 
-reversed : (g h : List ℕ) (o : Ordering) → handle_cmp g h ≡ o → handle_cmp h g ≡ ordering_reverse o
+pub reversed : (g h : List ℕ) (o : Ordering) → handle_cmp g h ≡ o → handle_cmp h g ≡ ordering_reverse o
 reversed g h o e = handle_total.antisymm h g ∙ ap ordering_reverse e
 
 row_new : (rows : List Row) (r : Row) → find handle_cmp r.name (entries_of rows) ≡ None → entries_of (insert rows (row_place rows r.name) r) ≡ put handle_cmp r.name r.values.items (entries_of rows)
@@ -92,10 +92,10 @@ row_at rows h i d e =
     let all = position-Some (λ (r : Row). same_handle h r.name) rows i d e in
     record { inside = all.0; same = all.1; first = all.2 }
 
-later_row : (s d : Row) (rows : List Row) (h : List ℕ) (i : ℕ) → IsRowOf (s ∷ rows) h (suc i) d → IsRowOf rows h i d
+pub later_row : (s d : Row) (rows : List Row) (h : List ℕ) (i : ℕ) → IsRowOf (s ∷ rows) h (suc i) d → IsRowOf rows h i d
 later_row s d rows h i at = record { inside = omega (arith, at.inside); same = at.same; first = λ k lt. at.first (suc k) (omega arith) }
 
-passed : (s d : Row) (rows : List Row) (h : List ℕ) (i : ℕ) → IsRowOf (s ∷ rows) h (suc i) d → same_handle h s.name ≡ false
+pub passed : (s d : Row) (rows : List Row) (h : List ℕ) (i : ℕ) → IsRowOf (s ∷ rows) h (suc i) d → same_handle h s.name ≡ false
 passed s d rows h i at = at.first 0 (omega arith)
 
 pub found_at : (rows : List Row) (h : List ℕ) (i : ℕ) (d : Row) → IsRowOf rows h i d → find handle_cmp h (entries_of rows) ≡ Some (get_or rows i d).values.items
@@ -193,7 +193,7 @@ rises-kept p (e ∷ es) all = pick (p e.0) (rises-kept p es all.1)
     pick true rest = (all.0, rest)
     pick false rest = rest
 
-symmetric : (q h : List ℕ) → same_handle h q ≡ same_handle q h
+pub symmetric : (q h : List ℕ) → same_handle h q ≡ same_handle q h
 symmetric q h = ap is_eq (reversed q h (handle_cmp q h) refl) ∙ unturned (handle_cmp q h)
   where
     unturned : (o : Ordering) → is_eq (ordering_reverse o) ≡ is_eq o

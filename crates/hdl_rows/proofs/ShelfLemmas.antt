@@ -27,11 +27,11 @@ both : (a b : Bool) → T a → T b → T (a && b)
 both true b p q = q
 both false b p q = p
 
-first : (a b : Bool) → T (a && b) → T a
+pub first : (a b : Bool) → T (a && b) → T a
 first true b p = tt
 first false b p = p
 
-second : (a b : Bool) → T (a && b) → T b
+pub second : (a b : Bool) → T (a && b) → T b
 second true b p = p
 second false b p = absurd p
 
@@ -39,13 +39,13 @@ pub holds : (b : Bool) → T b → b ≡ true
 holds true p = refl
 holds false p = absurd p
 
-less : (o : Ordering) → T (is_lt o) → o ≡ Less
+pub less : (o : Ordering) → T (is_lt o) → o ≡ Less
 less Less p = refl
 less Equal p = absurd p
 less Greater p = absurd p
 
 -- a key that ties with one below all is not found
-none_below : (h g : List ℕ) (es : Rows) → same_handle h g ≡ true → T (below_all handle_cmp g es) → find handle_cmp h es ≡ None
+pub none_below : (h g : List ℕ) (es : Rows) → same_handle h g ≡ true → T (below_all handle_cmp g es) → find handle_cmp h es ≡ None
 none_below h g [] e below = refl
 none_below h g (f ∷ es) e below =
     ap (λ o. cond (is_eq o) (Some f.1) (find handle_cmp h es)) (handle_total.congr h g f.0 (tied _ e) ∙ less _ (first _ _ below)) ∙ none_below h g es e (second _ _ below)
@@ -185,7 +185,7 @@ values_left ws old is e sorted =
 
 -- ---- what the rows of a handle answer when read
 
-found_sorted : (h : List ℕ) (es : Rows) (vs : List Value) → AllByRecursion (λ e. IsTrue (is_sorted nat_cmp (by_index e.1))) es → find handle_cmp h es ≡ Some vs → IsTrue (is_sorted nat_cmp (by_index vs))
+pub found_sorted : (h : List ℕ) (es : Rows) (vs : List Value) → AllByRecursion (λ e. IsTrue (is_sorted nat_cmp (by_index e.1))) es → find handle_cmp h es ≡ Some vs → IsTrue (is_sorted nat_cmp (by_index vs))
 found_sorted h [] vs all e = absurd (some_none vs (sym e))
 found_sorted h (f ∷ es) vs all e = by_test (same_handle h f.0) e (found_sorted h es vs all.1)
   where

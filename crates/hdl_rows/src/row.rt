@@ -1,8 +1,8 @@
 //! One handle with its values.
 
-ghost use Rattle.std.specs.Prelude.{◌≡◌, ◌≤◌, ◌<◌, ◌+◌, ◌==◌, not, filter, nat_lt, option_copied, vec_len, vec_capacity, IfOk, OnOk, OnErr};
+ghost use Rattle.std.specs.Prelude.{◌≡◌, IsTrue, ◌≤◌, ◌<◌, ◌+◌, ◌==◌, not, filter, nat_lt, option_copied, vec_len, vec_capacity, IfOk, OnOk, OnErr};
 ghost use Rattle.std.specs.List.{list_any, prefix_len};
-ghost use Rattle.std.specs.FinMap.{find, put};
+ghost use Rattle.std.specs.FinMap.{find, put, is_sorted};
 ghost use Rattle.std.specs.Ordering.{nat_cmp};
 ghost use Rattle.hdl_rows.specs.Shelf.{by_index, put_all};
 
@@ -16,16 +16,25 @@ pub(crate) struct Row {
     pub(crate) values: Vec<Value>,
 }
 
+// How many values at the front have an index below.
+fn count_below(values: &[Value], index: u32) -> usize
+    requires ordered { IsTrue (is_sorted nat_cmp (by_index values.now)) }
+    ensures { result ≡ prefix_len (λ v. nat_lt v.index index) values.now }
+{
+    values.partition_point(|value| value.index < index)
+}
+
 /// The value with this index.
 pub(crate) fn value_of(values: &[Value], index: u32) -> Option<&Value>
+    requires ordered { IsTrue (is_sorted nat_cmp (by_index values.now)) }
     ensures { option_copied result ≡ find nat_cmp index (by_index values.now) }
 {
-    for value in values {
-        if value.index == index {
-            return Some(value);
-        }
+    let at = count_below(values, index);
+    if at < values.len() && values[at].index == index {
+        Some(&values[at])
+    } else {
+        None
     }
-    None
 }
 
 pub(crate) fn copies(alloc: Global, values: &[Value]) -> Result<Vec<Value>, AllocError>
@@ -38,18 +47,9 @@ pub(crate) fn copies(alloc: Global, values: &[Value]) -> Result<Vec<Value>, Allo
     Ok(all)
 }
 
-// How many values at the front have an index below.
-fn count_below(values: &[Value], index: u32) -> usize
-    ensures { result ≡ prefix_len (λ v. nat_lt v.index index) values.now }
-{
-    values
-        .iter()
-        .take_while(|value| value.index < index)
-        .count()
-}
-
 // Puts a value in its place, over the one with its index if there is one.
 fn put_value(values: &mut Vec<Value>, value: Value)
+    requires ordered { IsTrue (is_sorted nat_cmp (by_index values.old.items)) }
     requires room { vec_len values.old < vec_capacity values.old }
     ensures put { by_index values.new.items ≡ put nat_cmp value.index value (by_index values.old.items) }
     ensures len { vec_len values.new ≤ vec_len values.old + 1 }
@@ -72,6 +72,7 @@ pub(crate) fn put_copies(
     values: &mut Vec<Value>,
     others: &[Value],
 ) -> Result<(), AllocError>
+    requires ordered { IsTrue (is_sorted nat_cmp (by_index values.old.items)) }
     ensures done { OnOk result (by_index values.new.items ≡ put_all (by_index values.old.items) others.now) }
     ensures undone { OnErr result (values.new.items ≡ values.old.items) }
 {

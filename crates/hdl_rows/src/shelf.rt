@@ -3,7 +3,7 @@
 ghost use Rattle.std.specs.Prelude.{◌≡◌, ◌≤◌, ◌<◌, ◌↔◌, IsTrue, not, map, true, false, option_copied, filter, position, option_map, [], IfOk, OnOk, OnErr};
 ghost use Rattle.std.specs.List.{prefix_len, position_or_len};
 ghost use Rattle.std.specs.Ordering.{is_lt};
-ghost use Rattle.std.specs.FinMap.{find};
+ghost use Rattle.std.specs.FinMap.{find, is_sorted};
 ghost use Rattle.hdl_rows.specs.Shelf.{entries_of, by_index, put_all};
 ghost use Rattle.hdl_name.specs.Name.{authority, sent_authority, is_slash};
 ghost use Rattle.std.specs.Char.{to_ascii_lowercase};
@@ -84,32 +84,36 @@ fn is_of(handle: &[u8], prefix: &[u8]) -> bool
     lowers_to(front_of(handle), prefix)
 }
 
-// The handle's row.
-fn row_of<'a>(rows: &'a [Row], name: &[u8]) -> Option<&'a Row>
-    ensures { option_map (λ r. r.now.values.items) result ≡ find handle_cmp name.now (entries_of rows.now) }
+// How many rows at the front have a handle below.
+fn count_below(rows: &[Row], name: &[u8]) -> usize
+    requires ordered { IsTrue (is_sorted handle_cmp (entries_of rows.now)) }
+    ensures { result ≡ prefix_len (λ r. is_lt (handle_cmp r.name name.now)) rows.now }
 {
-    for row in rows {
-        if same(name, row.name.as_slice()) {
-            return Some(row);
-        }
-    }
-    None
+    rows.partition_point(|row| is_below(row.name.as_slice(), name))
 }
 
 // The place of the handle's row.
 fn position_of(rows: &[Row], name: &[u8]) -> Option<usize>
+    requires ordered { IsTrue (is_sorted handle_cmp (entries_of rows.now)) }
     ensures { result ≡ position (λ r. same_handle name.now r.name) rows.now }
 {
-    rows.iter().position(|row| same(name, row.name.as_slice()))
+    let at = count_below(rows, name);
+    if at < rows.len() && same(name, rows[at].name.as_slice()) {
+        Some(at)
+    } else {
+        None
+    }
 }
 
-// How many rows at the front have a handle below.
-fn count_below(rows: &[Row], name: &[u8]) -> usize
-    ensures { result ≡ prefix_len (λ r. is_lt (handle_cmp r.name name.now)) rows.now }
+// The handle's row.
+fn row_of<'a>(rows: &'a [Row], name: &[u8]) -> Option<&'a Row>
+    requires ordered { IsTrue (is_sorted handle_cmp (entries_of rows.now)) }
+    ensures { option_map (λ r. r.now.values.items) result ≡ find handle_cmp name.now (entries_of rows.now) }
 {
-    rows.iter()
-        .take_while(|row| is_below(row.name.as_slice(), name))
-        .count()
+    match position_of(rows, name) {
+        Some(at) => Some(&rows[at]),
+        None => None,
+    }
 }
 
 fn new_row(alloc: Global, name: &[u8], values: &[Value]) -> Result<Row, AllocError>
@@ -224,6 +228,8 @@ impl Shelf {
     pub(crate) fn delete(&mut self, name: &[u8])
         ensures { self.new ≡ without_handle self.old name.now }
     {
-        self.rows.retain(|row| !same(name, row.name.as_slice()));
+        if let Some(at) = position_of(&self.rows, name) {
+            self.rows.remove(at);
+        }
     }
 }

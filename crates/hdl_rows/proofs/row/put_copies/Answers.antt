@@ -1,10 +1,16 @@
 use Rattle.std.proofs.Common.{◌∷◌, [], ◌∙◌, ap, sym, length-append, arith, List, ℕ}
 use Rattle.std.specs.Ordering.{nat_cmp}
-use Rattle.std.specs.FinMap.{put}
+use Rattle.std.specs.FinMap.{put, is_sorted}
 use Rattle.hdl_value.specs.declared.value.Value.{Value}
 use Rattle.hdl_rows.specs.Shelf.{by_index}
 use Rattle.hdl_rows.proofs.RowLemmas.{put_all-push}
+use Rattle.hdl_rows.proofs.ShelfLemmas.{values_put}
 use Rattle.hdl_rows.proofs.row.put_copies.Goals as goal
+
+pub put_value-requires-clause-ordered : goal.put_value-requires-clause-ordered
+put_value-requires-clause-ordered c =
+    let rises = ap (λ (vs : List Value). is_sorted nat_cmp (by_index vs)) c.reserve.ensures.items ∙ c.requires.ordered in
+    (values_put c.loop-value.values.items c.reserve.new.self.items c.loop-value.yielded c.loop-value.invariant.0 rises).0
 
 pub loop-value-preserved : goal.loop-value-preserved
 loop-value-preserved c =

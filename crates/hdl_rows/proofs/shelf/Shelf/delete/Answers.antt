@@ -1,16 +1,14 @@
-use Rattle.std.proofs.Common.{◌≡◌, filter, not, rules}
-use Rattle.std.proofs.lemmas.Fn.{filter_same}
-use Rattle.hdl_value.specs.Place.{same_handle}
-use Rattle.hdl_rows.specs.declared.row.Row.{Row}
-use Rattle.hdl_rows.proofs.Changes.{deleted_is}
+use Rattle.std.proofs.Common.{sym, ◌∙◌}
+use Rattle.hdl_rows.proofs.Changes.{deleted_row, deleted_none}
 use Rattle.hdl_rows.proofs.shelf.Shelf.delete.Goals as goal
 
 pub invariant_of-self : goal.invariant_of-self
 invariant_of-self c =
-    let kept : c.retain.new.self.items ≡ filter (λ (r : Row). not (same_handle c.args.name.now r.name)) c.self.inside.rows.items = filter_same _ _ _ (λ x b f' k. search rules) _ _ c.retain.ensures.filtered in
-    (deleted_is c.args.self.now c.self.inside.rows.items c.retain.new.self.items c.args.name.now c.self.view_is c.self.invariant kept).0
+    (deleted_row c.args.self.now c.self.inside.rows.items c.remove.new.self.items c.deref.result.now c.args.name.now c.in-Some.at c.remove.result c.self.view_is c.self.invariant c.deref.ensures.value (sym c.position_of.ensures ∙ c.in-Some.is) c.remove.ensures.items).0
 
-pub returns : goal.returns
-returns c =
-    let kept : c.retain.new.self.items ≡ filter (λ (r : Row). not (same_handle c.args.name.now r.name)) c.self.inside.rows.items = filter_same _ _ _ (λ x b f' k. search rules) _ _ c.retain.ensures.filtered in
-    (deleted_is c.args.self.now c.self.inside.rows.items c.retain.new.self.items c.args.name.now c.self.view_is c.self.invariant kept).1
+pub returns-in-Some : goal.returns-in-Some
+returns-in-Some c =
+    (deleted_row c.args.self.now c.self.inside.rows.items c.remove.new.self.items c.deref.result.now c.args.name.now c.in-Some.at c.remove.result c.self.view_is c.self.invariant c.deref.ensures.value (sym c.position_of.ensures ∙ c.in-Some.is) c.remove.ensures.items).1
+
+pub returns-in_default : goal.returns-in_default
+returns-in_default c = deleted_none c.args.self.now c.self.inside.rows.items c.deref.result.now c.args.name.now c.self.view_is c.self.invariant c.deref.ensures.value (sym c.position_of.ensures ∙ c.in_default.is)
