@@ -1,5 +1,5 @@
 -- The keyed digest of challenge and response (docs/PROTOCOL.md, "Challenge and response").
-use Rattle.std.specs.Prelude.{◌≡◌, ◌≢◌, ℕ, List, [], ◌∷◌, ◌++◌, Bool, ◌==◌, ◌&&◌, length, slice_get, bytes_eq, Some}
+use Rattle.std.specs.Prelude.{ℕ, List, [], ◌∷◌, ◌++◌, Bool, ◌==◌, ◌&&◌, if◌then◌else◌, length, bytes_eq}
 use Rattle.std.specs.List.{starts_with}
 use Rattle.sha1.specs.Sha1.{sha1}
 use Rattle.hdl_auth.specs.declared.Verdict.{Verdict}
@@ -14,21 +14,15 @@ abbrev pub right_response : List ℕ → List ℕ → List ℕ → List ℕ
 right_response key nonce request_digest = 2 ∷ mac_of key nonce request_digest
 
 -- 21 octets that begin with octet 2
-pub record IsResponseForm (response : List ℕ) : Type 0 where
-  pub begins : slice_get response 0 ≡ Some 2
-  pub whole : length response ≡ 21
-
--- both, as tests that compute: the form, and the right response
 abbrev pub has_response_form : List ℕ → Bool
 has_response_form response = starts_with ◌==◌ response (2 ∷ []) && length response == 21
 
 abbrev pub is_right_response : List ℕ → List ℕ → List ℕ → List ℕ → Bool
 is_right_response key nonce request_digest response = bytes_eq response (right_response key nonce request_digest)
 
--- what is said of a response string
-abbrev pub IsVerdict : List ℕ → List ℕ → List ℕ → List ℕ → Verdict → Type 0
-IsVerdict key nonce request_digest response Good =
-    response ≡ right_response key nonce request_digest
-IsVerdict key nonce request_digest response BadForm = ¬ (IsResponseForm response)
-IsVerdict key nonce request_digest response Wrong =
-    IsResponseForm response × (response ≢ right_response key nonce request_digest)
+-- what a response string is to a challenge
+abbrev pub verdict : List ℕ → List ℕ → List ℕ → List ℕ → Verdict
+verdict key nonce request_digest response =
+    if has_response_form response
+    then (if is_right_response key nonce request_digest response then Good else Wrong)
+    else BadForm

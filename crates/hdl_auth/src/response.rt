@@ -1,7 +1,7 @@
 //! The response to a challenge (our profile, after RFC 3652, section 3.5).
 
 ghost use Rattle.std.specs.Prelude.{◌≡◌};
-ghost use Rattle.hdl_auth.specs.Mac.{mac_of, IsVerdict, has_response_form, is_right_response};
+ghost use Rattle.hdl_auth.specs.Mac.{mac_of, has_response_form, is_right_response, verdict};
 
 use crate::Verdict;
 use sha1::Sha1;
@@ -46,16 +46,12 @@ pub fn is_right_response(
 
 /// What a response string is to the challenge with this nonce, of a request with this digest, under this key.
 pub fn check(key: &[u8], nonce: &[u8; 16], request_digest: &[u8; 20], response: &[u8]) -> Verdict
-    ensures { IsVerdict key.now nonce.now request_digest.now response.now result }
+    ensures { result ≡ verdict key.now nonce.now request_digest.now response.now }
 {
-    let Some((first, rest)) = response.split_first() else {
-        return Verdict::BadForm;
-    };
-    if *first != SHA1_OCTET || rest.len() != 20 {
+    if !has_response_form(response) {
         return Verdict::BadForm;
     }
-    let wanted = mac(key, nonce, request_digest);
-    if rest == wanted.as_slice() {
+    if is_right_response(key, nonce, request_digest, response) {
         Verdict::Good
     } else {
         Verdict::Wrong

@@ -20,7 +20,7 @@ use Rattle.hdl_laws.specs.Worlds as worlds
 use Rattle.hdl_laws.specs.Worlds.{Received, Effect, Task, Ignore, Malformed, Unknown, Late, Ask, Redeem, is_late, redeemed, redeem_task, answer_effect, challenge_effect, ask_effect, IsReading, IsResponseTask, IsRequestTask, IsMessageTask, IsLetterTask, IsWholeTask, Does}
 use Rattle.hdl_core.specs.declared.letter.Letter.{Letter}
 use Rattle.hdl_core.specs.Held.{Held, held_at, state_at, with_state}
-use Rattle.hdl_core.specs.Serving.{letter_of, HearsAt, AssemblesAt}
+use Rattle.hdl_core.specs.Serving.{received_as, letter_of, HearsAt, AssemblesAt}
 use Rattle.hdl_core.proofs.HeldLanes as held_lanes
 use Rattle.hdl_ops.specs.Tables.{apply_if}
 
@@ -162,7 +162,7 @@ whole_stays lane key displaced more message is = refl
 
 module _ (hosts : List ℕ → Bool) (t : Table) (lanes : List Held) (number : ℕ) (m : Letter) (bytes : List ℕ) (envelope : m.envelope ≡ envelope_at bytes) where
   abbrev x : Received
-  x = record { peer = m.peer; moment = m.moment; nonce = m.nonce; bytes = bytes }
+  x = received_as m bytes
 
   abbrev here : LaneState
   here = state_at lanes number
@@ -172,7 +172,7 @@ module _ (hosts : List ℕ → Bool) (t : Table) (lanes : List Held) (number : �
 
   pub waits : (f : Fate) (lanes' : List Held) → whole_message f ≡ None → f ≡ (taken (state_at lanes number).partials (piece_of m.peer bytes)).0
       → lanes' ≡ with_state lanes number (with_partials (state_at lanes number) (taken (state_at lanes number).partials (piece_of m.peer bytes)).1)
-      → AssemblesAt hosts t lanes number (record { peer = m.peer; moment = m.moment; nonce = m.nonce; bytes = bytes }) None lanes' t
+      → AssemblesAt hosts t lanes number (received_as m bytes) None lanes' t
   waits f lanes' none is same = (
     with_partials here after.1,
     same,
@@ -199,7 +199,7 @@ module _ (hosts : List ℕ → Bool) (t : Table) (lanes : List Held) (number : �
   pub whole : (message octets : List ℕ) (lanes' lanes'' : List Held) (t' : Table) → number < length lanes → made_whole message ≡ (taken (state_at lanes number).partials (piece_of m.peer bytes)).0
       → HearsAt hosts t lanes number (letter_of m message) octets lanes' t'
       → lanes'' ≡ with_state lanes' number (with_partials (state_at lanes' number) (freed (state_at lanes' number).partials (key_of m.peer m.envelope)))
-      → AssemblesAt hosts t lanes number (record { peer = m.peer; moment = m.moment; nonce = m.nonce; bytes = bytes }) (Some octets) lanes'' t'
+      → AssemblesAt hosts t lanes number (received_as m bytes) (Some octets) lanes'' t'
   whole message octets lanes' lanes'' t' there is (s', same, (k, task, (eff, does, out, state, table))) free =
       let key = key_of m.peer (envelope_at bytes) in
       let gone = freed here.partials key in

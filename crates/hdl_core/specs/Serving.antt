@@ -38,6 +38,10 @@ hosted_by o = hosts o.tenants.now o.publisher
 abbrev pub received_of : code.Received → Received
 received_of x = record { peer = x.peer; moment = x.moment; nonce = x.nonce; bytes = x.bytes }
 
+-- what was received, where the letter came as these octets
+abbrev pub received_as : Letter → List ℕ → Received
+received_as m bytes = record { peer = m.peer; moment = m.moment; nonce = m.nonce; bytes = bytes }
+
 -- a letter with its message
 abbrev pub letter_of : Letter → List ℕ → worlds.Letter
 letter_of m message = record { peer = m.peer; moment = m.moment; nonce = m.nonce; envelope = m.envelope; message = message }
