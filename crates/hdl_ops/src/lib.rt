@@ -8,7 +8,7 @@
 //! `Anyone` for a request as it came, `Proven` for one that comes back with a proof. Each is a list of rows, a test and a code,
 //! of which the first that holds decides. [`decide`] is proved to answer just that, leaves the table as it was, and promises
 //! that its change can be written; [`apply`] writes it, at the moment of its event; [`render`] and [`render_challenge`] spell
-//! the replies.
+//! the replies. The laws in [`laws`] say that a request is decided in one way, and what a decision tells.
 //!
 //! It stands on `hdl_msg`, `hdl_rows`, `hdl_reach`, `hdl_tenants` and `hdl_auth`, and knows nothing of lanes, events or time.
 #![tactic(auto)]
