@@ -48,11 +48,15 @@ fn main(rt: HostRuntime) -> ExitCode {
 #[cfg(test)]
 mod challenge_tests;
 #[cfg(test)]
+mod hash_tests;
+#[cfg(test)]
 mod isolation_tests;
 #[cfg(test)]
 mod piece_tests;
 #[cfg(test)]
 mod program_tests;
+#[cfg(test)]
+mod shared_tests;
 #[cfg(test)]
 mod tests;
 #[cfg(test)]

@@ -1,28 +1,30 @@
 -- The keyed digest of challenge and response (docs/PROTOCOL.md, "Challenge and response").
-use Rattle.std.specs.Prelude.{ℕ, List, [], ◌∷◌, ◌++◌, Bool, ◌==◌, ◌&&◌, if◌then◌else◌, length, bytes_eq}
+use Rattle.std.specs.Prelude.{ℕ, List, [], ◌∷◌, ◌++◌, ◌+◌, Bool, ◌==◌, ◌&&◌, if◌then◌else◌, length, bytes_eq}
 use Rattle.std.specs.List.{starts_with}
-use Rattle.sha1.specs.Sha1.{sha1}
 use Rattle.hdl_auth.specs.declared.Verdict.{Verdict}
 use Rattle.hdl_auth.specs.declared.Verdict.TheVariants.{Good, BadForm, Wrong}
+use Rattle.hdl_auth.specs.declared.algorithm.Algorithm.{Algorithm}
+use Rattle.hdl_auth.specs.declared.algorithm.Digest.{Digest}
+use Rattle.hdl_auth.specs.Digest.{octet_of, size_of, digest_of, algorithm_of, octets_of, spelt}
 
--- SHA1(key ++ nonce ++ digest ++ key)
-abbrev pub mac_of : List ℕ → List ℕ → List ℕ → List ℕ
-mac_of key nonce request_digest = sha1 (key ++ nonce ++ request_digest ++ key)
+-- H(key ++ nonce ++ digest ++ key), by the digest's hash function
+abbrev pub mac_of : List ℕ → List ℕ → Digest → Digest
+mac_of key nonce d = digest_of (algorithm_of d) (key ++ nonce ++ octets_of d ++ key)
 
--- the response string that answers a challenge: octet 2 and the keyed digest
-abbrev pub right_response : List ℕ → List ℕ → List ℕ → List ℕ
-right_response key nonce request_digest = 2 ∷ mac_of key nonce request_digest
+-- the response string that answers a challenge: the keyed digest as it is spelt
+abbrev pub right_response : List ℕ → List ℕ → Digest → List ℕ
+right_response key nonce d = spelt (mac_of key nonce d)
 
--- 21 octets that begin with octet 2
-abbrev pub has_response_form : List ℕ → Bool
-has_response_form response = starts_with ◌==◌ response (2 ∷ []) && length response == 21
+-- the octet of the hash function, and as many octets as its digests have
+abbrev pub has_response_form : Algorithm → List ℕ → Bool
+has_response_form algorithm response = starts_with ◌==◌ response (octet_of algorithm ∷ []) && length response == size_of algorithm + 1
 
-abbrev pub is_right_response : List ℕ → List ℕ → List ℕ → List ℕ → Bool
-is_right_response key nonce request_digest response = bytes_eq response (right_response key nonce request_digest)
+abbrev pub is_right_response : List ℕ → List ℕ → Digest → List ℕ → Bool
+is_right_response key nonce d response = bytes_eq response (right_response key nonce d)
 
 -- what a response string is to a challenge
-abbrev pub verdict : List ℕ → List ℕ → List ℕ → List ℕ → Verdict
-verdict key nonce request_digest response =
-    if has_response_form response
-    then (if is_right_response key nonce request_digest response then Good else Wrong)
+abbrev pub verdict : List ℕ → List ℕ → Digest → List ℕ → Verdict
+verdict key nonce d response =
+    if has_response_form (algorithm_of d) response
+    then (if is_right_response key nonce d response then Good else Wrong)
     else BadForm

@@ -1,54 +1,77 @@
-//! The response to a challenge (our profile, after RFC 3652, section 3.5).
+//! The digest of a request, and the response to its challenge (our profile, after RFC 3652, section 3.5).
 
 ghost use Rattle.std.specs.Prelude.{◌≡◌};
+ghost use Rattle.hdl_auth.specs.Digest.{digest_of};
 ghost use Rattle.hdl_auth.specs.Mac.{mac_of, has_response_form, is_right_response, verdict};
 
 use crate::Verdict;
+use crate::algorithm::{Algorithm, Digest};
 use sha1::Sha1;
+use sha2::{Digest as _, Sha256};
 
-/// The octet that names SHA-1 before a digest.
-const SHA1_OCTET: u8 = 2;
-
-/// The keyed digest of a challenge: the SHA-1 of the key, the nonce, the challenged request's digest and the key again.
-pub fn mac(key: &[u8], nonce: &[u8; 16], request_digest: &[u8; 20]) -> [u8; 20]
-    ensures { result ≡ mac_of key.now nonce.now request_digest.now }
+/// The digest of these octets by this function: of a request those of its header and body.
+pub fn digest(algorithm: Algorithm, octets: &[u8]) -> Digest
+    ensures { result ≡ digest_of algorithm octets.now }
 {
-    let mut hasher = Sha1::new();
-    hasher.update(key);
-    hasher.update(nonce);
-    hasher.update(request_digest);
-    hasher.update(key);
-    hasher.finalize()
+    match algorithm {
+        Algorithm::Sha1 => Digest::Sha1(Sha1::digest(octets)),
+        Algorithm::Sha256 => Digest::Sha256(Sha256::digest(octets)),
+    }
 }
 
-/// Whether the octets have the form of a response: octet 2, and 20 octets.
-pub fn has_response_form(response: &[u8]) -> bool
-    ensures { result ≡ has_response_form response.now }
+/// The keyed digest of a challenge: by the function of the challenged request's digest, that of the key, the nonce, this digest
+/// and the key again.
+pub fn mac(key: &[u8], nonce: &[u8; 16], request_digest: &Digest) -> Digest
+    ensures { result ≡ mac_of key.now nonce.now request_digest.now }
 {
-    response.starts_with(&[SHA1_OCTET]) && response.len() == 21
+    match request_digest {
+        Digest::Sha1(octets) => {
+            let mut hasher = Sha1::new();
+            hasher.update(key);
+            hasher.update(nonce);
+            hasher.update(octets);
+            hasher.update(key);
+            Digest::Sha1(hasher.finalize())
+        }
+        Digest::Sha256(octets) => {
+            let mut hasher = Sha256::new();
+            hasher.update(key);
+            hasher.update(nonce.as_slice());
+            hasher.update(octets.as_slice());
+            hasher.update(key);
+            Digest::Sha256(hasher.finalize())
+        }
+    }
+}
+
+/// Whether the octets have the form of a response by this function: its octet, and as many octets as its digests have.
+pub fn has_response_form(algorithm: Algorithm, response: &[u8]) -> bool
+    ensures { result ≡ has_response_form algorithm response.now }
+{
+    response.starts_with(&[algorithm.octet()]) && response.len() == algorithm.size() + 1
 }
 
 /// Whether the octets are the right response to the challenge with this nonce, of a request with this digest, under this key.
 pub fn is_right_response(
     key: &[u8],
     nonce: &[u8; 16],
-    request_digest: &[u8; 20],
+    request_digest: &Digest,
     response: &[u8],
 ) -> bool
     ensures { result ≡ is_right_response key.now nonce.now request_digest.now response.now }
 {
     let wanted = mac(key, nonce, request_digest);
     match response.split_first() {
-        Some((first, rest)) => *first == SHA1_OCTET && rest == wanted.as_slice(),
+        Some((first, rest)) => *first == wanted.algorithm().octet() && rest == wanted.as_slice(),
         None => false,
     }
 }
 
 /// What a response string is to the challenge with this nonce, of a request with this digest, under this key.
-pub fn check(key: &[u8], nonce: &[u8; 16], request_digest: &[u8; 20], response: &[u8]) -> Verdict
+pub fn check(key: &[u8], nonce: &[u8; 16], request_digest: &Digest, response: &[u8]) -> Verdict
     ensures { result ≡ verdict key.now nonce.now request_digest.now response.now }
 {
-    if !has_response_form(response) {
+    if !has_response_form(request_digest.algorithm(), response) {
         return Verdict::BadForm;
     }
     if is_right_response(key, nonce, request_digest, response) {

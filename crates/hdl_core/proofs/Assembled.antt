@@ -2,6 +2,9 @@
 use Rattle.std.proofs.Common.{◌≡◌, ℕ, ◌<◌, List, [], ◌∷◌, ◌++◌, Bool, true, false, cond, ◌==◌, Option, Some, None, length, set, refl, sym, ap, ◌∙◌, subst, true≢false}
 use Rattle.std.proofs.lemmas.List.{get_or-set_same, set-set}
 use Rattle.std.specs.Prelude.{is_none, is_some, nat_lt, find, drop}
+use Rattle.hdl_auth.specs.declared.algorithm.Algorithm.{Algorithm}
+use Rattle.hdl_auth.specs.declared.algorithm.Algorithm.TheVariants.{Sha1}
+use Rattle.hdl_auth.specs.Digest.{algorithm_of}
 use Rattle.hdl_frame.specs.Envelope.{envelope_at}
 use Rattle.hdl_msg.specs.Message.{Content, SpellsRequest}
 use Rattle.hdl_msg.specs.Reply.{short_reply}
@@ -9,6 +12,7 @@ use Rattle.hdl_pool.specs.declared.piece.Key.{Key}
 use Rattle.hdl_pool.specs.Partial.{Partial, key_of, piece_of, is_of}
 use Rattle.hdl_pool.specs.Taking.{Fate, made_whole, kept, ignored, displaced, so_far, grown, replaced, stored, begun, settled, taken, whole_message, freed}
 use Rattle.hdl_rows.specs.Table.{Table}
+use Rattle.hdl_ops.specs.Admission.{request_algorithm}
 use Rattle.hdl_ops.specs.Decisions.{Decision, failure}
 use Rattle.hdl_ops.specs.Requests.{Response, response_of}
 use Rattle.hdl_slots.specs.declared.pending.Pending.{Pending}
@@ -27,18 +31,18 @@ use Rattle.hdl_ops.specs.Tables.{apply_if}
 -- ---- a lane whose partial messages are others hears a message as it did
 
 -- the same on a lane with these partial messages
-record Moved (hosts : List ℕ → Bool) (t : Table) (s : LaneState) (p : List Partial) (m : worlds.Letter) (eff : Effect) : Type 0 where
+record Moved (hosts : List ℕ → Bool) (algorithms : List ℕ → Algorithm) (t : Table) (s : LaneState) (p : List Partial) (m : worlds.Letter) (eff : Effect) : Type 0 where
   task : Task
   is_task : IsLetterTask (with_partials s p) m task
   effect : Effect
-  does : Does hosts t task effect
+  does : Does hosts algorithms t task effect
   outcome : effect.outcome ≡ eff.outcome
   state : effect.state ≡ with_partials eff.state p
   change : effect.change ≡ eff.change
   same : eff.state.partials ≡ s.partials
 
-module _ (hosts : List ℕ → Bool) (t : Table) (s : LaneState) (p : List Partial) (m : worlds.Letter) where
-  garbled : (o : Option Content) → IsReading (SpellsRequest m.message) o → o ≡ None → (eff : Effect) → Does hosts t (Malformed m s) eff → Moved hosts t s p m eff
+module _ (hosts : List ℕ → Bool) (algorithms : List ℕ → Algorithm) (t : Table) (s : LaneState) (p : List Partial) (m : worlds.Letter) where
+  garbled : (o : Option Content) → IsReading (SpellsRequest m.message) o → o ≡ None → (eff : Effect) → Does hosts algorithms t (Malformed m s) eff → Moved hosts algorithms t s p m eff
   garbled o reading is eff does = record {
     task = Malformed m (with_partials s p);
     is_task = (o, reading, subst (λ x. IsMessageTask (with_partials s p) m x (Malformed m (with_partials s p))) (sym is) refl);
@@ -50,11 +54,11 @@ module _ (hosts : List ℕ → Bool) (t : Table) (s : LaneState) (p : List Parti
     same = ap (λ (e : Effect). e.state.partials) does;
   }
 
-  asked : (r : Content) → SpellsRequest m.message r → response_of r.operation ≡ None → (eff : Effect) → Does hosts t (Ask m r s) eff → Moved hosts t s p m eff
+  asked : (r : Content) → SpellsRequest m.message r → response_of r.operation ≡ None → (eff : Effect) → Does hosts algorithms t (Ask m r s) eff → Moved hosts algorithms t s p m eff
   asked r spells is eff (d, decides, does) = record {
     task = Ask m r (with_partials s p);
     is_task = (Some r, spells, subst (λ x. IsRequestTask (with_partials s p) m r x (Ask m r (with_partials s p))) (sym is) refl);
-    effect = ask_effect (with_partials s p) m r d;
+    effect = ask_effect alg (with_partials s p) m r d;
     does = (d, decides, refl);
     outcome = outcome_by (d.code == 402) ∙ sym (ap (λ (e : Effect). e.outcome) does);
     state = state_by (d.code == 402) ∙ sym (ap (λ (e : Effect). with_partials e.state p) does);
@@ -62,29 +66,32 @@ module _ (hosts : List ℕ → Bool) (t : Table) (s : LaneState) (p : List Parti
     same = ap (λ (e : Effect). e.state.partials) does ∙ same_by (d.code == 402);
   }
     where
-      outcome_by : (b : Bool) → (cond {A = Effect} b (challenge_effect (with_partials s p) m r) (answer_effect (with_partials s p) m r d)).outcome ≡ (cond {A = Effect} b (challenge_effect s m r) (answer_effect s m r d)).outcome
+      alg : Algorithm
+      alg = request_algorithm algorithms r
+
+      outcome_by : (b : Bool) → (cond {A = Effect} b (challenge_effect alg (with_partials s p) m r) (answer_effect alg (with_partials s p) m r d)).outcome ≡ (cond {A = Effect} b (challenge_effect alg s m r) (answer_effect alg s m r d)).outcome
       outcome_by true = refl
       outcome_by false = refl
 
-      state_by : (b : Bool) → (cond {A = Effect} b (challenge_effect (with_partials s p) m r) (answer_effect (with_partials s p) m r d)).state ≡ with_partials (cond {A = Effect} b (challenge_effect s m r) (answer_effect s m r d)).state p
+      state_by : (b : Bool) → (cond {A = Effect} b (challenge_effect alg (with_partials s p) m r) (answer_effect alg (with_partials s p) m r d)).state ≡ with_partials (cond {A = Effect} b (challenge_effect alg s m r) (answer_effect alg s m r d)).state p
       state_by true = refl
       state_by false = refl
 
-      change_by : (b : Bool) → (cond {A = Effect} b (challenge_effect (with_partials s p) m r) (answer_effect (with_partials s p) m r d)).change ≡ (cond {A = Effect} b (challenge_effect s m r) (answer_effect s m r d)).change
+      change_by : (b : Bool) → (cond {A = Effect} b (challenge_effect alg (with_partials s p) m r) (answer_effect alg (with_partials s p) m r d)).change ≡ (cond {A = Effect} b (challenge_effect alg s m r) (answer_effect alg s m r d)).change
       change_by true = refl
       change_by false = refl
 
-      same_by : (b : Bool) → (cond {A = Effect} b (challenge_effect s m r) (answer_effect s m r d)).state.partials ≡ s.partials
+      same_by : (b : Bool) → (cond {A = Effect} b (challenge_effect alg s m r) (answer_effect alg s m r d)).state.partials ≡ s.partials
       same_by true = refl
       same_by false = refl
 
   -- an answer that keeps the partial messages
-  replied : (k' : Task) (r : Content) (d : Decision) (here here' : LaneState) (eff : Effect) → IsLetterTask (with_partials s p) m k' → here' ≡ with_partials here p → here.partials ≡ s.partials
-      → eff ≡ answer_effect here m r d → Does hosts t k' (answer_effect here' m r d) → Moved hosts t s p m eff
-  replied k' r d here here' eff task moved same is does = record {
+  replied : (k' : Task) (a : Algorithm) (r : Content) (d : Decision) (here here' : LaneState) (eff : Effect) → IsLetterTask (with_partials s p) m k' → here' ≡ with_partials here p → here.partials ≡ s.partials
+      → eff ≡ answer_effect a here m r d → Does hosts algorithms t k' (answer_effect a here' m r d) → Moved hosts algorithms t s p m eff
+  replied k' a r d here here' eff task moved same is does = record {
     task = k';
     is_task = task;
-    effect = answer_effect here' m r d;
+    effect = answer_effect a here' m r d;
     does = does;
     outcome = sym (ap (λ (e : Effect). e.outcome) is);
     state = moved ∙ sym (ap (λ (e : Effect). with_partials e.state p) is);
@@ -102,7 +109,7 @@ module _ (hosts : List ℕ → Bool) (t : Table) (s : LaneState) (p : List Parti
   )
 
   redeems : (r : Content) (a : Response) (c : Pending) (o : Option Content) → SpellsRequest m.message r → response_of r.operation ≡ Some a → challenge_of s.challenges.challenges m.peer m.envelope.session ≡ Some c
-      → IsReading (SpellsRequest c.message) o → (eff : Effect) → Does hosts t (redeem_task s m a c o) eff → Moved hosts t s p m eff
+      → IsReading (SpellsRequest c.message) o → (eff : Effect) → Does hosts algorithms t (redeem_task s m a c o) eff → Moved hosts algorithms t s p m eff
   redeems r a c None spells is there reading eff does = record {
     task = Malformed m (redeemed (with_partials s p) m);
     is_task = found r a c None spells is there reading;
@@ -115,28 +122,28 @@ module _ (hosts : List ℕ → Bool) (t : Table) (s : LaneState) (p : List Parti
   }
   redeems r a c (Some q) spells is there reading eff does = by_time (is_late m c) refl does
     where
-      by_time : (b : Bool) → is_late m c ≡ b → Does hosts t (cond b (Late m q (redeemed s m)) (Redeem m q (record { response = a; nonce = c.nonce; digest = c.digest }) (redeemed s m))) eff → Moved hosts t s p m eff
+      by_time : (b : Bool) → is_late m c ≡ b → Does hosts algorithms t (cond b (Late m q (algorithm_of c.digest) (redeemed s m)) (Redeem m q (record { response = a; nonce = c.nonce; digest = c.digest }) (redeemed s m))) eff → Moved hosts algorithms t s p m eff
       by_time true late does =
-          replied (redeem_task (with_partials s p) m a c (Some q)) q (failure 405 Empty) (redeemed s m) (redeemed (with_partials s p) m) eff (found r a c (Some q) spells is there reading) refl refl does
-          (subst (λ b. Does hosts t (cond b (Late m q (redeemed (with_partials s p) m)) (Redeem m q (record { response = a; nonce = c.nonce; digest = c.digest }) (redeemed (with_partials s p) m))) (answer_effect (redeemed (with_partials s p) m) m q (failure 405 Empty))) (sym late) refl)
+          replied (redeem_task (with_partials s p) m a c (Some q)) (algorithm_of c.digest) q (failure 405 Empty) (redeemed s m) (redeemed (with_partials s p) m) eff (found r a c (Some q) spells is there reading) refl refl does
+          (subst (λ b. Does hosts algorithms t (cond b (Late m q (algorithm_of c.digest) (redeemed (with_partials s p) m)) (Redeem m q (record { response = a; nonce = c.nonce; digest = c.digest }) (redeemed (with_partials s p) m))) (answer_effect (algorithm_of c.digest) (redeemed (with_partials s p) m) m q (failure 405 Empty))) (sym late) refl)
       by_time false late (d, decides, does) =
-          replied (redeem_task (with_partials s p) m a c (Some q)) q d (redeemed s m) (redeemed (with_partials s p) m) eff (found r a c (Some q) spells is there reading) refl refl does
-          (subst (λ b. Does hosts t (cond b (Late m q (redeemed (with_partials s p) m)) (Redeem m q (record { response = a; nonce = c.nonce; digest = c.digest }) (redeemed (with_partials s p) m))) (answer_effect (redeemed (with_partials s p) m) m q d)) (sym late) (d, decides, refl))
+          replied (redeem_task (with_partials s p) m a c (Some q)) (algorithm_of c.digest) q d (redeemed s m) (redeemed (with_partials s p) m) eff (found r a c (Some q) spells is there reading) refl refl does
+          (subst (λ b. Does hosts algorithms t (cond b (Late m q (algorithm_of c.digest) (redeemed (with_partials s p) m)) (Redeem m q (record { response = a; nonce = c.nonce; digest = c.digest }) (redeemed (with_partials s p) m))) (answer_effect (algorithm_of c.digest) (redeemed (with_partials s p) m) m q d)) (sym late) (d, decides, refl))
 
   responded : (r : Content) (a : Response) (o : Option Pending) (k : Task) → SpellsRequest m.message r → response_of r.operation ≡ Some a → challenge_of s.challenges.challenges m.peer m.envelope.session ≡ o
-      → IsResponseTask s m r a o k → (eff : Effect) → Does hosts t k eff → Moved hosts t s p m eff
+      → IsResponseTask s m r a o k → (eff : Effect) → Does hosts algorithms t k eff → Moved hosts algorithms t s p m eff
   responded r a None k spells is there task eff does =
-      replied (Unknown m r (with_partials s p)) r (failure 4 Empty) s (with_partials s p) eff
+      replied (Unknown m r (with_partials s p)) Sha1 r (failure 4 Empty) s (with_partials s p) eff
       (Some r, spells, subst (λ x. IsRequestTask (with_partials s p) m r x (Unknown m r (with_partials s p))) (sym is) (subst (λ x. IsResponseTask (with_partials s p) m r a x (Unknown m r (with_partials s p))) (sym there) refl))
-      refl refl (subst (λ x. Does hosts t x eff) task does) refl
-  responded r a (Some c) k spells is there (o, reading, task) eff does = redeems r a c o spells is there reading eff (subst (λ x. Does hosts t x eff) task does)
+      refl refl (subst (λ x. Does hosts algorithms t x eff) task does) refl
+  responded r a (Some c) k spells is there (o, reading, task) eff does = redeems r a c o spells is there reading eff (subst (λ x. Does hosts algorithms t x eff) task does)
 
-  requested : (r : Content) (o : Option Response) (k : Task) → SpellsRequest m.message r → response_of r.operation ≡ o → IsRequestTask s m r o k → (eff : Effect) → Does hosts t k eff → Moved hosts t s p m eff
-  requested r None k spells is task eff does = asked r spells is eff (subst (λ x. Does hosts t x eff) task does)
+  requested : (r : Content) (o : Option Response) (k : Task) → SpellsRequest m.message r → response_of r.operation ≡ o → IsRequestTask s m r o k → (eff : Effect) → Does hosts algorithms t k eff → Moved hosts algorithms t s p m eff
+  requested r None k spells is task eff does = asked r spells is eff (subst (λ x. Does hosts algorithms t x eff) task does)
   requested r (Some a) k spells is task eff does = responded r a (challenge_of s.challenges.challenges m.peer m.envelope.session) k spells is refl task eff does
 
-  moved : (k : Task) → IsLetterTask s m k → (eff : Effect) → Does hosts t k eff → Moved hosts t s p m eff
-  moved k (None, reading, task) eff does = garbled None reading refl eff (subst (λ x. Does hosts t x eff) task does)
+  moved : (k : Task) → IsLetterTask s m k → (eff : Effect) → Does hosts algorithms t k eff → Moved hosts algorithms t s p m eff
+  moved k (None, reading, task) eff does = garbled None reading refl eff (subst (λ x. Does hosts algorithms t x eff) task does)
   moved k (Some r, reading, task) eff does = requested r (response_of r.operation) k reading refl task eff does
 
 -- ---- a piece that makes its message whole leaves the partial messages as they were
@@ -160,7 +167,7 @@ whole_stays lane key displaced more message is = refl
 
 -- ---- a piece
 
-module _ (hosts : List ℕ → Bool) (t : Table) (lanes : List Held) (number : ℕ) (m : Letter) (bytes : List ℕ) (envelope : m.envelope ≡ envelope_at bytes) where
+module _ (hosts : List ℕ → Bool) (algorithms : List ℕ → Algorithm) (t : Table) (lanes : List Held) (number : ℕ) (m : Letter) (bytes : List ℕ) (envelope : m.envelope ≡ envelope_at bytes) where
   abbrev x : Received
   x = received_as m bytes
 
@@ -172,7 +179,7 @@ module _ (hosts : List ℕ → Bool) (t : Table) (lanes : List Held) (number : �
 
   pub waits : (f : Fate) (lanes' : List Held) → whole_message f ≡ None → f ≡ (taken (state_at lanes number).partials (piece_of m.peer bytes)).0
       → lanes' ≡ with_state lanes number (with_partials (state_at lanes number) (taken (state_at lanes number).partials (piece_of m.peer bytes)).1)
-      → AssemblesAt hosts t lanes number (received_as m bytes) None lanes' t
+      → AssemblesAt hosts algorithms t lanes number (received_as m bytes) None lanes' t
   waits f lanes' none is same = (
     with_partials here after.1,
     same,
@@ -197,13 +204,13 @@ module _ (hosts : List ℕ → Bool) (t : Table) (lanes : List Held) (number : �
       same ∙ ap (λ p. with_state lanes number (with_partials here p)) stays ∙ sym (held_lanes.kept lanes number)
 
   pub whole : (message octets : List ℕ) (lanes' lanes'' : List Held) (t' : Table) → number < length lanes → made_whole message ≡ (taken (state_at lanes number).partials (piece_of m.peer bytes)).0
-      → HearsAt hosts t lanes number (letter_of m message) octets lanes' t'
+      → HearsAt hosts algorithms t lanes number (letter_of m message) octets lanes' t'
       → lanes'' ≡ with_state lanes' number (with_partials (state_at lanes' number) (freed (state_at lanes' number).partials (key_of m.peer m.envelope)))
-      → AssemblesAt hosts t lanes number (received_as m bytes) (Some octets) lanes'' t'
+      → AssemblesAt hosts algorithms t lanes number (received_as m bytes) (Some octets) lanes'' t'
   whole message octets lanes' lanes'' t' there is (s', same, (k, task, (eff, does, out, state, table))) free =
       let key = key_of m.peer (envelope_at bytes) in
       let gone = freed here.partials key in
-      let mv = moved hosts t here gone (letter_of m message) k task eff does in
+      let mv = moved hosts algorithms t here gone (letter_of m message) k task eff does in
       let now : state_at lanes' number ≡ s' = ap (λ (ls : List Held). state_at ls number) same ∙ ap (λ (h : Held). h.state) (get_or-set_same lanes number (record { publisher = (held_at lanes number).publisher; state = s' }) (record { publisher = 0; state = fresh false }) there) in
       let kept_partials : (state_at lanes' number).partials ≡ here.partials = ap (λ (s : LaneState). s.partials) (now ∙ sym state) ∙ mv.same in
       let freed_now : with_partials (state_at lanes' number) (freed (state_at lanes' number).partials (key_of m.peer m.envelope)) ≡ with_partials s' gone =

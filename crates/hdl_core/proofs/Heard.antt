@@ -1,12 +1,17 @@
 -- What comes of a message on an open lane.
 use Rattle.std.proofs.Common.{◌≡◌, ℕ, List, [], Bool, true, false, cond, Some, None, Result, Ok, Err, refl, sym, ap, ◌∙◌, subst}
 use Rattle.std.specs.Prelude.{IfOk, OnOk, OnErr}
+use Rattle.hdl_auth.specs.declared.algorithm.Algorithm.{Algorithm}
+use Rattle.hdl_auth.specs.declared.algorithm.Algorithm.TheVariants.{Sha1}
+use Rattle.hdl_auth.specs.Digest.{algorithm_of}
+use Rattle.hdl_auth.specs.declared.algorithm.Digest.{Digest}
 use Rattle.hdl_msg.specs.Message.{Content, SpellsRequest}
 use Rattle.hdl_msg.specs.Reply.{short_reply}
 use Rattle.hdl_msg.specs.declared.replies.ReplyContent.TheVariants.{Empty}
 use Rattle.hdl_rows.specs.Table.{Table}
 use Rattle.hdl_slots.specs.declared.pending.Pending.{Pending}
 use Rattle.hdl_slots.specs.Lanes.{challenge_of, challenged}
+use Rattle.hdl_ops.specs.Admission.{request_algorithm}
 use Rattle.hdl_ops.specs.Decisions.{Decision, Decides, Proven, failure}
 use Rattle.hdl_ops.specs.Proven.{Proof}
 use Rattle.hdl_ops.specs.Requests.{Response, response_of}
@@ -33,57 +38,58 @@ pub on_any_err : {X E : Type 0} (r : Result X E) (P : Type 0) → P → OnErr r 
 on_any_err (Ok x) P p = tt
 on_any_err (Err e) P p = p
 
-abbrev IsTold : Letter → Content → ℕ → List ℕ → Type 0
-IsTold m r code octets = octets ≡ answer_octets m.envelope r code Empty
+abbrev IsTold : Algorithm → Letter → Content → ℕ → List ℕ → Type 0
+IsTold a m r code octets = octets ≡ answer_octets a m.envelope r code Empty
 
-module _ (hosts : List ℕ → Bool) (t : Table) (m : Letter) where
-  told : (k : Task) (r : Content) (code : ℕ) (s : LaneState) (message octets : List ℕ) → Does hosts t k (answer_effect s (letter_of m message) r (failure code Empty)) → IsTold m r code octets → Replies hosts t m.moment k octets s t
-  told k r code s message octets does is = (answer_effect s (letter_of m message) r (failure code Empty), does, ap Reply (sym is), refl, refl)
+module _ (hosts : List ℕ → Bool) (algorithms : List ℕ → Algorithm) (t : Table) (m : Letter) where
+  told : (k : Task) (a : Algorithm) (r : Content) (code : ℕ) (s : LaneState) (message octets : List ℕ) → Does hosts algorithms t k (answer_effect a s (letter_of m message) r (failure code Empty)) → IsTold a m r code octets
+      → Replies hosts algorithms t m.moment k octets s t
+  told k a r code s message octets does is = (answer_effect a s (letter_of m message) r (failure code Empty), does, ap Reply (sym is), refl, refl)
 
-  garbled : (s : LaneState) (message octets : List ℕ) → octets ≡ short_reply 4 m.envelope → Replies hosts t m.moment (Malformed (letter_of m message) s) octets s t
+  garbled : (s : LaneState) (message octets : List ℕ) → octets ≡ short_reply 4 m.envelope → Replies hosts algorithms t m.moment (Malformed (letter_of m message) s) octets s t
   garbled s message octets is = (record { outcome = Reply (short_reply 4 m.envelope); state = s; change = None }, refl, ap Reply (sym is), refl, refl)
 
   -- ---- a challenge response
 
-  pub unreadable : (a : Response) (p : Pending) (octets : List ℕ) → ((r : Content) → SpellsRequest p.message r → ⊥) → octets ≡ short_reply 4 m.envelope → IsRedeemed hosts t m a p octets t
+  pub unreadable : (a : Response) (p : Pending) (octets : List ℕ) → ((r : Content) → SpellsRequest p.message r → ⊥) → octets ≡ short_reply 4 m.envelope → IsRedeemed hosts algorithms t m a p octets t
   unreadable a p octets none is = λ s message. (None, none, garbled (redeemed s (letter_of m message)) message octets is)
 
-  pub late : (a : Response) (p : Pending) (r : Content) (octets : List ℕ) → SpellsRequest p.message r → ((message : List ℕ) → true ≡ is_late (letter_of m message) p) → IsTold m r 405 octets → IsRedeemed hosts t m a p octets t
-  late a p r octets spells after is = λ s message.
+  pub late : (a : Response) (p : Pending) (r : Content) (g : Algorithm) (octets : List ℕ) → g ≡ algorithm_of p.digest → SpellsRequest p.message r → ((message : List ℕ) → true ≡ is_late (letter_of m message) p) → IsTold g m r 405 octets → IsRedeemed hosts algorithms t m a p octets t
+  late a p r g octets hash spells after is = λ s message.
       let s' = redeemed s (letter_of m message) in
       let proof : Proof = record { response = a; nonce = p.nonce; digest = p.digest } in (
         Some r,
         spells,
-        subst (λ b. Replies hosts t m.moment (cond b (Late (letter_of m message) r s') (Redeem (letter_of m message) r proof s')) octets s' t) (after message) (told (Late (letter_of m message) r s') r 405 s' message octets refl is),
+        subst (λ b. Replies hosts algorithms t m.moment (cond b (Late (letter_of m message) r (algorithm_of p.digest) s') (Redeem (letter_of m message) r proof s')) octets s' t) (after message) (told (Late (letter_of m message) r (algorithm_of p.digest) s') (algorithm_of p.digest) r 405 s' message octets refl (subst (λ h. IsTold h m r 405 octets) hash is)),
       )
 
-  pub proven : (a : Response) (p : Pending) (r : Content) (d : Decision) (octets : List ℕ) (t' : Table) → SpellsRequest p.message r → ((message : List ℕ) → false ≡ is_late (letter_of m message) p)
-      → Decides hosts t r (Proven (record { response = a; nonce = p.nonce; digest = p.digest })) d → octets ≡ answer_octets m.envelope r d.code d.content → t' ≡ apply_if t m.moment d.change
-      → IsRedeemed hosts t m a p octets t'
-  proven a p r d octets t' spells in_time decided is table = λ s message.
+  pub proven : (a : Response) (p : Pending) (r : Content) (g : Algorithm) (d : Decision) (octets : List ℕ) (t' : Table) → g ≡ algorithm_of p.digest → SpellsRequest p.message r → ((message : List ℕ) → false ≡ is_late (letter_of m message) p)
+      → Decides hosts g t r (Proven (record { response = a; nonce = p.nonce; digest = p.digest })) d → octets ≡ answer_octets g m.envelope r d.code d.content → t' ≡ apply_if t m.moment d.change
+      → IsRedeemed hosts algorithms t m a p octets t'
+  proven a p r g d octets t' hash spells in_time decided is table = λ s message.
       let s' = redeemed s (letter_of m message) in
       let proof : Proof = record { response = a; nonce = p.nonce; digest = p.digest } in (
         Some r,
         spells,
-        subst (λ b. Replies hosts t m.moment (cond b (Late (letter_of m message) r s') (Redeem (letter_of m message) r proof s')) octets s' t') (in_time message)
-            (answer_effect s' (letter_of m message) r d, (d, decided, refl), ap Reply (sym is), refl, table),
+        subst (λ b. Replies hosts algorithms t m.moment (cond b (Late (letter_of m message) r (algorithm_of p.digest) s') (Redeem (letter_of m message) r proof s')) octets s' t') (in_time message)
+            (answer_effect (algorithm_of p.digest) s' (letter_of m message) r d, (d, subst (λ h. Decides hosts h t r (Proven proof) d) hash decided, refl), ap Reply (sym (subst (λ h. octets ≡ answer_octets h m.envelope r d.code d.content) hash is)), refl, table),
       )
 
   module _ (lanes : List Held) (number : ℕ) where
     s : LaneState
     s = state_at lanes number
 
-    pub unknown : (r : Content) (a : Response) (octets : List ℕ) → None ≡ challenge_of (state_at lanes number).challenges.challenges m.peer m.envelope.session → IsTold m r 4 octets → RespondsAt hosts t lanes number m r a octets lanes t
+    pub unknown : (r : Content) (a : Response) (octets : List ℕ) → None ≡ challenge_of (state_at lanes number).challenges.challenges m.peer m.envelope.session → IsTold Sha1 m r 4 octets → RespondsAt hosts algorithms t lanes number m r a octets lanes t
     unknown r a octets none is = λ message. (
       state_at lanes number,
       kept lanes number,
       Unknown (letter_of m message) r (state_at lanes number),
       subst (λ o. IsResponseTask (state_at lanes number) (letter_of m message) r a o (Unknown (letter_of m message) r (state_at lanes number))) none refl,
-      told (Unknown (letter_of m message) r (state_at lanes number)) r 4 (state_at lanes number) message octets refl is,
+      told (Unknown (letter_of m message) r (state_at lanes number)) Sha1 r 4 (state_at lanes number) message octets refl is,
     )
 
     pub known : (r : Content) (a : Response) (p : Pending) (octets : List ℕ) (lanes' : List Held) (t' : Table) → Some p ≡ challenge_of (state_at lanes number).challenges.challenges m.peer m.envelope.session
-        → IsRedeemed hosts t m a p octets t' → lanes' ≡ with_state lanes number (redeemed (state_at lanes number) (letter_of m [])) → RespondsAt hosts t lanes number m r a octets lanes' t'
+        → IsRedeemed hosts algorithms t m a p octets t' → lanes' ≡ with_state lanes number (redeemed (state_at lanes number) (letter_of m [])) → RespondsAt hosts algorithms t lanes number m r a octets lanes' t'
     known r a p octets lanes' t' found redeem spent = λ message.
         let done = redeem (state_at lanes number) message in
         let k = redeem_task (state_at lanes number) (letter_of m message) a p done.0 in (
@@ -96,12 +102,12 @@ module _ (hosts : List ℕ → Bool) (t : Table) (m : Letter) where
 
     -- ---- a message
 
-    pub no_request : (message octets : List ℕ) → ((r : Content) → SpellsRequest message r → ⊥) → octets ≡ short_reply 4 m.envelope → HearsAt hosts t lanes number (letter_of m message) octets lanes t
+    pub no_request : (message octets : List ℕ) → ((r : Content) → SpellsRequest message r → ⊥) → octets ≡ short_reply 4 m.envelope → HearsAt hosts algorithms t lanes number (letter_of m message) octets lanes t
     no_request message octets none is =
         (state_at lanes number, kept lanes number, (Malformed (letter_of m message) (state_at lanes number), (None, none, refl), garbled (state_at lanes number) message octets is))
 
     pub responded : (message : List ℕ) (r : Content) (a : Response) (octets : List ℕ) (lanes' : List Held) (t' : Table) → SpellsRequest message r → Some a ≡ response_of r.operation
-        → RespondsAt hosts t lanes number m r a octets lanes' t' → HearsAt hosts t lanes number (letter_of m message) octets lanes' t'
+        → RespondsAt hosts algorithms t lanes number m r a octets lanes' t' → HearsAt hosts algorithms t lanes number (letter_of m message) octets lanes' t'
     responded message r a octets lanes' t' spells is responds =
         let done = responds message in
         (done.0, done.1, (done.2, (Some r, spells, subst (λ o. IsRequestTask (state_at lanes number) (letter_of m message) r o done.2) is done.3), done.4))
@@ -110,9 +116,9 @@ module _ (hosts : List ℕ → Bool) (t : Table) (m : Letter) where
     asking message r spells is = (Some r, spells, subst (λ o. IsRequestTask (state_at lanes number) (letter_of m message) r o (Ask (letter_of m message) r (state_at lanes number))) is refl)
 
     pub answered : (message : List ℕ) (r : Content) (octets : List ℕ) (t' : Table) (asked : Asked) (next : ℕ) → SpellsRequest message r → None ≡ response_of r.operation → asked ≡ Answered octets
-        → IsAsked hosts t m next r asked t' → HearsAt hosts t lanes number (letter_of m message) octets lanes t'
+        → IsAsked hosts (request_algorithm algorithms r) t m next r asked t' → HearsAt hosts algorithms t lanes number (letter_of m message) octets lanes t'
     answered message r octets t' asked next spells is same done =
-        let d = subst (λ (x : Asked). IsAsked hosts t m next r x t') same done in
+        let d = subst (λ (x : Asked). IsAsked hosts (request_algorithm algorithms r) t m next r x t') same done in
         let m' = letter_of m message in
         let here = state_at lanes number in (
           here,
@@ -120,28 +126,28 @@ module _ (hosts : List ℕ → Bool) (t : Table) (m : Letter) where
           (
             Ask m' r here,
             asking message r spells is,
-            (answer_effect here m' r d.0, (d.0, d.1, ap (λ b. cond {A = Effect} b (challenge_effect here m' r) (answer_effect here m' r d.0)) (sym d.2)), ap Reply (sym d.3), refl, d.4),
+            (answer_effect (request_algorithm algorithms r) here m' r d.0, (d.0, d.1, ap (λ b. cond {A = Effect} b (challenge_effect (request_algorithm algorithms r) here m' r) (answer_effect (request_algorithm algorithms r) here m' r d.0)) (sym d.2)), ap Reply (sym d.3), refl, d.4),
           ),
         )
 
-    pub challenges : (message : List ℕ) (r : Content) (octets digest : List ℕ) (t' : Table) (lanes' : List Held) (asked : Asked) (next : ℕ) → SpellsRequest message r → None ≡ response_of r.operation → asked ≡ Challenged octets digest
-        → next ≡ (state_at lanes number).challenges.next → IsAsked hosts t m next r asked t'
+    pub challenges : (message : List ℕ) (r : Content) (octets : List ℕ) (digest : Digest) (t' : Table) (lanes' : List Held) (asked : Asked) (next : ℕ) → SpellsRequest message r → None ≡ response_of r.operation → asked ≡ Challenged octets digest
+        → next ≡ (state_at lanes number).challenges.next → IsAsked hosts (request_algorithm algorithms r) t m next r asked t'
         → lanes' ≡ with_state lanes number (record { is_open = (state_at lanes number).is_open; partials = (state_at lanes number).partials; challenges = challenged (state_at lanes number).challenges (record { peer = m.peer; moment = m.moment; nonce = m.nonce; digest = digest; message = message }) })
-        → HearsAt hosts t lanes number (letter_of m message) octets lanes' t'
+        → HearsAt hosts algorithms t lanes number (letter_of m message) octets lanes' t'
     challenges message r octets digest t' lanes' asked next spells is same numbered done put =
-        let d = subst (λ (x : Asked). IsAsked hosts t m next r x t') same done in
+        let d = subst (λ (x : Asked). IsAsked hosts (request_algorithm algorithms r) t m next r x t') same done in
         let m' = letter_of m message in
         let here = state_at lanes number in
-        let sent : LaneState = record { is_open = here.is_open; partials = here.partials; challenges = challenged here.challenges (pending m' r) } in (
+        let sent : LaneState = record { is_open = here.is_open; partials = here.partials; challenges = challenged here.challenges (pending (request_algorithm algorithms r) m' r) } in (
           sent,
-          put ∙ ap (λ (x : List ℕ). with_state lanes number (record { is_open = here.is_open; partials = here.partials; challenges = challenged here.challenges (record { peer = m.peer; moment = m.moment; nonce = m.nonce; digest = x; message = message }) })) d.4,
+          put ∙ ap (λ (x : Digest). with_state lanes number (record { is_open = here.is_open; partials = here.partials; challenges = challenged here.challenges (record { peer = m.peer; moment = m.moment; nonce = m.nonce; digest = x; message = message }) })) d.4,
           (
             Ask m' r here,
             asking message r spells is,
             (
-              challenge_effect here m' r,
-              (d.0, d.1, ap (λ b. cond {A = Effect} b (challenge_effect here m' r) (answer_effect here m' r d.0)) (sym d.2)),
-              ap Reply (ap (λ n. challenge_octets n m.envelope r m.nonce) (sym numbered) ∙ sym d.3),
+              challenge_effect (request_algorithm algorithms r) here m' r,
+              (d.0, d.1, ap (λ b. cond {A = Effect} b (challenge_effect (request_algorithm algorithms r) here m' r) (answer_effect (request_algorithm algorithms r) here m' r d.0)) (sym d.2)),
+              ap Reply (ap (λ n. challenge_octets (request_algorithm algorithms r) n m.envelope r m.nonce) (sym numbered) ∙ sym d.3),
               refl,
               d.5,
             ),

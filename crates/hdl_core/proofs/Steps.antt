@@ -13,7 +13,7 @@ use Rattle.hdl_laws.specs.Lanes.{LaneState, fresh}
 use Rattle.std.specs.Prelude.{IsFalse}
 use Rattle.hdl_laws.specs.Laws.{JoinsRuns, HostsNoRoot}
 use Rattle.hdl_laws.specs.Runs.{Run, Steps}
-use Rattle.hdl_laws.specs.Worlds.{World, Turn, turn, IsTask, Does, hosts, owner, lane_of, IsAnswerFor}
+use Rattle.hdl_laws.specs.Worlds.{World, Turn, turn, IsTask, Does, hosts, algorithms, owner, lane_of, IsAnswerFor}
 use Rattle.hdl_core.specs.Held.{Held, held_at, with_state}
 use Rattle.hdl_core.specs.Worlds.{world_of}
 use Rattle.hdl_core.specs.Serving.{ServesAt}
@@ -28,6 +28,10 @@ hosted_in_world : (r : Register) (lanes : List Held) (t : Table) (u : ℕ) → r
 unfolding world_of
 hosted_in_world r lanes t u = refl
 
+algorithms_in_world : (r : Register) (lanes : List Held) (t : Table) (u : ℕ) → register.algorithm r u ≡ algorithms (world_of r lanes t).site u
+unfolding world_of
+algorithms_in_world r lanes t u = refl
+
 table_of : (r : Register) (lanes : List Held) (t : Table) (P : Table → Type 0) → P t → P (world_of r lanes t).table
 unfolding world_of
 table_of r lanes t P p = p
@@ -39,15 +43,17 @@ steps_alone r lanes t e past =
     (it, inl (subst (λ o. IsAnswerFor w o it) (sym (owner_of r lanes t e.lane ∙ ap (option_map (λ (x : Held). x.publisher)) (slice_get_past lanes e.lane past))) refl), refl, refl, refl)
 
 pub steps_served : (r : Register) (lanes lanes' : List Held) (t t' : Table) (e : Event) (o : Outcome) → e.lane < length lanes
-    → ServesAt (register.hosts r (held_at lanes e.lane).publisher) t lanes e.lane e.what o lanes' t'
+    → ServesAt (register.hosts r (held_at lanes e.lane).publisher) (register.algorithm r (held_at lanes e.lane).publisher) t lanes e.lane e.what o lanes' t'
     → Steps (world_of r lanes t) e o (world_of r lanes' t')
 steps_served r lanes lanes' t t' e o h (s', after, inl a) =
     let w = world_of r lanes t in
     let here = held_at lanes e.lane in
     let owned : owner w.site e.lane ≡ Some here.publisher = owner_of r lanes t e.lane ∙ ap (option_map (λ (x : Held). x.publisher)) (slice_get-get_or lanes e.lane nobody h) in
     let task : IsTask (lane_of w e.lane) e.what a.1 = subst (λ s. IsTask s e.what a.1) (sym (lane_here r lanes t e.lane nobody h)) a.2 in
-    let does : Does (hosts w.site here.publisher) w.table a.1 a.0 =
-    table_of r lanes t (λ x. Does (hosts w.site here.publisher) x a.1 a.0) (subst (λ f. Does f t a.1 a.0) (hosted_in_world r lanes t here.publisher) a.3) in (
+    let does : Does (hosts w.site here.publisher) (algorithms w.site here.publisher) w.table a.1 a.0 =
+    table_of r lanes t (λ x. Does (hosts w.site here.publisher) (algorithms w.site here.publisher) x a.1 a.0)
+    (subst (λ g. Does (hosts w.site here.publisher) g t a.1 a.0) (algorithms_in_world r lanes t here.publisher)
+    (subst (λ f. Does f (register.algorithm r here.publisher) t a.1 a.0) (hosted_in_world r lanes t here.publisher) a.3)) in (
       turn w e a.0,
       inl (subst (λ x. IsAnswerFor w x (turn w e a.0)) (sym owned) (a.0, a.1, task, does, refl)),
       refl,

@@ -1,6 +1,7 @@
 -- What serving an event does to its lane and the table.
 use Rattle.std.specs.Prelude.{◌≡◌, ℕ, List, Bool, ◌==◌, true, false, ◌⊎◌, Option, Some, None, Result, Ok, Err}
 use Rattle.std.specs.Option.{option_map_or}
+use Rattle.hdl_auth.specs.declared.algorithm.Algorithm.{Algorithm}
 use Rattle.hdl_frame.specs.declared.envelope.Envelope.{Envelope}
 use Rattle.hdl_frame.specs.Envelope.{envelope_at}
 use Rattle.hdl_frame.specs.Frames.{IsFrame}
@@ -12,7 +13,7 @@ use Rattle.hdl_rows.specs.Table.{Table}
 use Rattle.hdl_rows.specs.declared.rows.Refused.{Refused}
 use Rattle.hdl_ops.specs.Decisions.{Anyone, Decision, Decides}
 use Rattle.hdl_ops.specs.Requests.{Response}
-use Rattle.hdl_tenants.specs.Register.{hosts}
+use Rattle.hdl_tenants.specs.Register.{hosts, algorithm}
 use Rattle.hdl_slots.specs.declared.pending.Pending.{Pending}
 use Rattle.hdl_slots.specs.Lanes.{challenge_of}
 use Rattle.hdl_ops.specs.Replies.{digest_of}
@@ -34,6 +35,10 @@ use Rattle.hdl_core.specs.Held.{Held, state_at, with_state}
 abbrev pub hosted_by : Owner → List ℕ → Bool
 hosted_by o = hosts o.tenants.now o.publisher
 
+-- the hash functions of prefixes on the owner's lanes
+abbrev pub algorithms_by : Owner → List ℕ → Algorithm
+algorithms_by o = algorithm o.tenants.now o.publisher
+
 -- what was received, in the words of the laws
 abbrev pub received_of : code.Received → Received
 received_of x = record { peer = x.peer; moment = x.moment; nonce = x.nonce; bytes = x.bytes }
@@ -46,39 +51,39 @@ received_as m bytes = record { peer = m.peer; moment = m.moment; nonce = m.nonce
 abbrev pub letter_of : Letter → List ℕ → worlds.Letter
 letter_of m message = record { peer = m.peer; moment = m.moment; nonce = m.nonce; envelope = m.envelope; message = message }
 
--- a request is decided for anyone: it is answered, or challenged under the lane's next number
-abbrev pub IsAsked : (List ℕ → Bool) → Table → Letter → ℕ → Content → Asked → Table → Type 0
-IsAsked hosts t m next r (Answered octets) t' =
-    (d : Decision) × Decides hosts t r Anyone d × ((d.code == 402) ≡ false) × (octets ≡ answer_octets m.envelope r d.code d.content) × (t' ≡ apply_if t m.moment d.change)
-IsAsked hosts t m next r (Challenged octets digest) t' =
-    (d : Decision) × Decides hosts t r Anyone d × ((d.code == 402) ≡ true) × (octets ≡ challenge_octets next m.envelope r m.nonce) × (digest ≡ digest_of r) × (t' ≡ t)
+-- a request of this algorithm is decided for anyone: it is answered, or challenged under the lane's next number
+abbrev pub IsAsked : (List ℕ → Bool) → Algorithm → Table → Letter → ℕ → Content → Asked → Table → Type 0
+IsAsked hosts a t m next r (Answered octets) t' =
+    (d : Decision) × Decides hosts a t r Anyone d × ((d.code == 402) ≡ false) × (octets ≡ answer_octets a m.envelope r d.code d.content) × (t' ≡ apply_if t m.moment d.change)
+IsAsked hosts a t m next r (Challenged octets digest) t' =
+    (d : Decision) × Decides hosts a t r Anyone d × ((d.code == 402) ≡ true) × (octets ≡ challenge_octets a next m.envelope r m.nonce) × (digest ≡ digest_of a r) × (t' ≡ t)
 
 -- the task has this reply, and leaves the lane and the table so
-abbrev pub Replies : (List ℕ → Bool) → Table → ℕ → Task → List ℕ → LaneState → Table → Type 0
-Replies hosts t moment k octets s' t' =
-    (eff : Effect) × Does hosts t k eff × (eff.outcome ≡ Reply octets) × (eff.state ≡ s') × (t' ≡ apply_if t moment eff.change)
+abbrev pub Replies : (List ℕ → Bool) → (List ℕ → Algorithm) → Table → ℕ → Task → List ℕ → LaneState → Table → Type 0
+Replies hosts algorithms t moment k octets s' t' =
+    (eff : Effect) × Does hosts algorithms t k eff × (eff.outcome ≡ Reply octets) × (eff.state ≡ s') × (t' ≡ apply_if t moment eff.change)
 
 -- a challenge response that names this challenge has this reply, whatever else the lane holds
-abbrev pub IsRedeemed : (List ℕ → Bool) → Table → Letter → Response → Pending → List ℕ → Table → Type 0
-IsRedeemed hosts t m a p octets t' =
+abbrev pub IsRedeemed : (List ℕ → Bool) → (List ℕ → Algorithm) → Table → Letter → Response → Pending → List ℕ → Table → Type 0
+IsRedeemed hosts algorithms t m a p octets t' =
     (s : LaneState) (message : List ℕ) → (o : Option Content) × IsReading (SpellsRequest p.message) o
-    × Replies hosts t m.moment (redeem_task s (letter_of m message) a p o) octets (redeemed s (letter_of m message)) t'
+    × Replies hosts algorithms t m.moment (redeem_task s (letter_of m message) a p o) octets (redeemed s (letter_of m message)) t'
 
 -- a challenge response on a lane has this reply
-abbrev pub RespondsAt : (List ℕ → Bool) → Table → List Held → ℕ → Letter → Content → Response → List ℕ → List Held → Table → Type 0
-RespondsAt hosts t lanes number m r a octets lanes' t' =
+abbrev pub RespondsAt : (List ℕ → Bool) → (List ℕ → Algorithm) → Table → List Held → ℕ → Letter → Content → Response → List ℕ → List Held → Table → Type 0
+RespondsAt hosts algorithms t lanes number m r a octets lanes' t' =
     (message : List ℕ) → (s' : LaneState) × (lanes' ≡ with_state lanes number s') × (k : Task)
     × IsResponseTask (state_at lanes number) (letter_of m message) r a (challenge_of (state_at lanes number).challenges.challenges m.peer m.envelope.session) k
-    × Replies hosts t m.moment k octets s' t'
+    × Replies hosts algorithms t m.moment k octets s' t'
 
 -- a letter on a lane has this reply
-abbrev pub IsHeard : (List ℕ → Bool) → Table → LaneState → worlds.Letter → List ℕ → LaneState → Table → Type 0
-IsHeard hosts t s m octets s' t' = (k : Task) × IsLetterTask s m k × Replies hosts t m.moment k octets s' t'
+abbrev pub IsHeard : (List ℕ → Bool) → (List ℕ → Algorithm) → Table → LaneState → worlds.Letter → List ℕ → LaneState → Table → Type 0
+IsHeard hosts algorithms t s m octets s' t' = (k : Task) × IsLetterTask s m k × Replies hosts algorithms t m.moment k octets s' t'
 
 -- the lanes after that
-abbrev pub HearsAt : (List ℕ → Bool) → Table → List Held → ℕ → worlds.Letter → List ℕ → List Held → Table → Type 0
-HearsAt hosts t lanes number m octets lanes' t' =
-    (s' : LaneState) × (lanes' ≡ with_state lanes number s') × IsHeard hosts t (state_at lanes number) m octets s' t'
+abbrev pub HearsAt : (List ℕ → Bool) → (List ℕ → Algorithm) → Table → List Held → ℕ → worlds.Letter → List ℕ → List Held → Table → Type 0
+HearsAt hosts algorithms t lanes number m octets lanes' t' =
+    (s' : LaneState) × (lanes' ≡ with_state lanes number s') × IsHeard hosts algorithms t (state_at lanes number) m octets s' t'
 
 -- the outcome of a frame with this envelope: its reply if it has one, or busy
 abbrev pub outcome_of : Envelope → Result (Option (List ℕ)) Refused → Outcome
@@ -87,26 +92,26 @@ outcome_of e (Ok None) = Silent
 outcome_of e (Err refused) = Busy (short_reply 3 e)
 
 -- a piece that came on an open lane has this reply, or none yet
-abbrev pub AssemblesAt : (List ℕ → Bool) → Table → List Held → ℕ → Received → Option (List ℕ) → List Held → Table → Type 0
-AssemblesAt hosts t lanes number x reply lanes' t' =
+abbrev pub AssemblesAt : (List ℕ → Bool) → (List ℕ → Algorithm) → Table → List Held → ℕ → Received → Option (List ℕ) → List Held → Table → Type 0
+AssemblesAt hosts algorithms t lanes number x reply lanes' t' =
     (s' : LaneState) × (lanes' ≡ with_state lanes number s')
-    × ((eff : Effect) × (k : Task) × IsPieceTask (state_at lanes number) x (taken (state_at lanes number).partials (piece_of x.peer x.bytes)) k × Does hosts t k eff
+    × ((eff : Effect) × (k : Task) × IsPieceTask (state_at lanes number) x (taken (state_at lanes number).partials (piece_of x.peer x.bytes)) k × Does hosts algorithms t k eff
     × (eff.outcome ≡ option_map_or Reply reply Silent) × (eff.state ≡ s') × (t' ≡ apply_if t x.moment eff.change))
 
 -- octets that came on an open lane have this outcome, or are refused and nothing changed
-abbrev pub IsReceived : (List ℕ → Bool) → Table → LaneState → Received → Outcome → LaneState → Table → Type 0
-IsReceived hosts t s x o s' t' =
-    ((eff : Effect) × (k : Task) × IsOctetsTask s x k × Does hosts t k eff × (o ≡ eff.outcome) × (s' ≡ eff.state) × (t' ≡ apply_if t x.moment eff.change))
+abbrev pub IsReceived : (List ℕ → Bool) → (List ℕ → Algorithm) → Table → LaneState → Received → Outcome → LaneState → Table → Type 0
+IsReceived hosts algorithms t s x o s' t' =
+    ((eff : Effect) × (k : Task) × IsOctetsTask s x k × Does hosts algorithms t k eff × (o ≡ eff.outcome) × (s' ≡ eff.state) × (t' ≡ apply_if t x.moment eff.change))
     ⊎ (IsFrame x.bytes × (o ≡ Busy (short_reply 3 (envelope_at x.bytes))) × (s' ≡ s) × (t' ≡ t))
 
-abbrev pub ReceivesAt : (List ℕ → Bool) → Table → List Held → ℕ → Received → Outcome → List Held → Table → Type 0
-ReceivesAt hosts t lanes number x o lanes' t' =
-    (s' : LaneState) × (lanes' ≡ with_state lanes number s') × IsReceived hosts t (state_at lanes number) x o s' t'
+abbrev pub ReceivesAt : (List ℕ → Bool) → (List ℕ → Algorithm) → Table → List Held → ℕ → Received → Outcome → List Held → Table → Type 0
+ReceivesAt hosts algorithms t lanes number x o lanes' t' =
+    (s' : LaneState) × (lanes' ≡ with_state lanes number s') × IsReceived hosts algorithms t (state_at lanes number) x o s' t'
 
 -- an event of the lane has this outcome, and leaves the lane and the table so
-abbrev pub IsAnswered : (List ℕ → Bool) → Table → LaneState → What → Outcome → LaneState → Table → Type 0
-IsAnswered hosts t s what o s' t' =
-    (eff : Effect) × (k : Task) × IsTask s what k × Does hosts t k eff × (o ≡ eff.outcome) × (s' ≡ eff.state) × (t' ≡ apply_if t (moment_of what) eff.change)
+abbrev pub IsAnswered : (List ℕ → Bool) → (List ℕ → Algorithm) → Table → LaneState → What → Outcome → LaneState → Table → Type 0
+IsAnswered hosts algorithms t s what o s' t' =
+    (eff : Effect) × (k : Task) × IsTask s what k × Does hosts algorithms t k eff × (o ≡ eff.outcome) × (s' ≡ eff.state) × (t' ≡ apply_if t (moment_of what) eff.change)
 
 -- a frame on the open lane is refused, and the lane stays
 pub record IsTurnedDown (t : Table) (s : LaneState) (what : What) (o : Outcome) (s' : LaneState) (t' : Table) : Type 0 where
@@ -118,9 +123,9 @@ pub record IsTurnedDown (t : Table) (s : LaneState) (what : What) (o : Outcome) 
   pub lane_stays : s' ≡ s
   pub table_stays : t' ≡ t
 
-abbrev pub IsServed : (List ℕ → Bool) → Table → LaneState → What → Outcome → LaneState → Table → Type 0
-IsServed hosts t s what o s' t' = IsAnswered hosts t s what o s' t' ⊎ IsTurnedDown t s what o s' t'
+abbrev pub IsServed : (List ℕ → Bool) → (List ℕ → Algorithm) → Table → LaneState → What → Outcome → LaneState → Table → Type 0
+IsServed hosts algorithms t s what o s' t' = IsAnswered hosts algorithms t s what o s' t' ⊎ IsTurnedDown t s what o s' t'
 
-abbrev pub ServesAt : (List ℕ → Bool) → Table → List Held → ℕ → What → Outcome → List Held → Table → Type 0
-ServesAt hosts t lanes number what o lanes' t' =
-    (s' : LaneState) × (lanes' ≡ with_state lanes number s') × IsServed hosts t (state_at lanes number) what o s' t'
+abbrev pub ServesAt : (List ℕ → Bool) → (List ℕ → Algorithm) → Table → List Held → ℕ → What → Outcome → List Held → Table → Type 0
+ServesAt hosts algorithms t lanes number what o lanes' t' =
+    (s' : LaneState) × (lanes' ≡ with_state lanes number s') × IsServed hosts algorithms t (state_at lanes number) what o s' t'

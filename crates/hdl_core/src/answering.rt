@@ -11,6 +11,7 @@ ghost use Rattle.hdl_ops.specs.Tables.{apply_if, CanApply};
 ghost use Rattle.hdl_laws.specs.Worlds.{answer_octets};
 
 use crate::letter::Letter;
+use hdl_auth::algorithm::Algorithm;
 use hdl_frame::Envelope;
 use hdl_laws::Octets;
 use hdl_msg::{ReplyContent, Request, ResponseCode, refuse};
@@ -32,15 +33,16 @@ fn make<R: Rows>(rows: &mut R, change: Option<Change>, moment: u64) -> Result<()
 /// Renders the reply of a decision and makes its change.
 pub(crate) fn answer<R: Rows>(
     alloc: Global,
+    algorithm: Algorithm,
     rows: &mut R,
     letter: &Letter,
     request: &Request<'_>,
     decision: Decision,
 ) -> Result<Octets, Refused>
     requires signed { request.now.signed.now ≡ signed_octets (content_of request.now) }
-    requires fits { IsTrue (fits (content_of request.now) decision.content) }
+    requires fits { IsTrue (fits algorithm (content_of request.now) decision.content) }
     requires can_apply { IfSome decision.change (λ change. CanApply (R.content rows.old) change) }
-    ensures reply { IfOk result (λ octets. octets ≡ answer_octets letter.now.envelope (content_of request.now) (response_number decision.code) decision.content) }
+    ensures reply { IfOk result (λ octets. octets ≡ answer_octets algorithm letter.now.envelope (content_of request.now) (response_number decision.code) decision.content) }
     ensures done { OnOk result (R.content rows.new ≡ apply_if (R.content rows.old) letter.now.moment decision.change) }
     ensures undone { OnErr result (R.content rows.new ≡ R.content rows.old) }
 {
@@ -54,7 +56,7 @@ pub(crate) fn answer<R: Rows>(
         request: number,
         ..
     } = letter.envelope;
-    let Ok(octets) = render(alloc, session, number, request, code, content) else {
+    let Ok(octets) = render(alloc, algorithm, session, number, request, code, content) else {
         return Err(Refused);
     };
     make(rows, change, letter.moment)?;
@@ -65,19 +67,21 @@ pub(crate) fn answer<R: Rows>(
 #[tactic(auto, using(hdl_ops::proofs::Lengths::empty_fits))]
 pub(crate) fn tell(
     alloc: Global,
+    algorithm: Algorithm,
     letter: &Letter,
     request: &Request<'_>,
     code: ResponseCode,
 ) -> Result<Octets, Refused>
     requires signed { request.now.signed.now ≡ signed_octets (content_of request.now) }
-    ensures reply { IfOk result (λ octets. octets ≡ answer_octets letter.now.envelope (content_of request.now) (response_number code) content.Empty) }
+    ensures reply { IfOk result (λ octets. octets ≡ answer_octets algorithm letter.now.envelope (content_of request.now) (response_number code) content.Empty) }
 {
     let Envelope {
         session,
         request: number,
         ..
     } = letter.envelope;
-    match render(alloc, session, number, request, code, ReplyContent::Empty) {
+    let empty = ReplyContent::Empty;
+    match render(alloc, algorithm, session, number, request, code, empty) {
         Ok(octets) => Ok(Octets::new(octets)),
         Err(_) => Err(Refused),
     }

@@ -3,17 +3,21 @@
 ghost use Rattle.std.specs.Prelude.{◌≡◌, ◌<◌, ℕ, List, length, IfOk, OnErr};
 ghost use Rattle.hdl_msg.specs.Bodies.{content_of};
 ghost use Rattle.hdl_msg.specs.Message.{signed_octets};
+ghost use Rattle.hdl_ops.specs.Admission.{request_algorithm};
 ghost use Rattle.hdl_ops.specs.Views.{response_view};
 ghost use Rattle.hdl_laws.specs.Worlds.{is_late};
-ghost use Rattle.hdl_core.specs.Serving.{hosted_by, letter_of, IsAsked, IsRedeemed, RespondsAt, HearsAt};
+ghost use Rattle.hdl_core.specs.Serving.{hosted_by, algorithms_by, letter_of, IsAsked, IsRedeemed, RespondsAt, HearsAt};
 
 use crate::answering::{answer, malformed, tell};
 use crate::lanes::Lanes;
 use crate::letter::Letter;
 use crate::owner::Owner;
+use hdl_auth::algorithm::{Algorithm, Digest};
 use hdl_laws::Octets;
 use hdl_msg::{Request, ResponseCode, read_request};
-use hdl_ops::{Level, Proof, Refused, Response, Rows, decide, render_challenge, response_of};
+use hdl_ops::{
+    Level, Proof, Refused, Response, Rows, decide, render_challenge, request_algorithm, response_of,
+};
 use hdl_slots::Pending;
 
 /// How long a challenge lives, in milliseconds.
@@ -23,7 +27,7 @@ const CHALLENGE_LIFE: u64 = 60_000;
 #[derive(Drop)]
 pub(crate) enum Asked {
     Answered(Octets),
-    Challenged(Octets, [u8; 20]),
+    Challenged(Octets, Digest),
 }
 
 /// Decides a request for anyone. A challenge gets the lane's next number.
@@ -35,11 +39,13 @@ fn ask<R: Rows>(
     request: &Request<'_>,
 ) -> Result<Asked, Refused>
     requires signed { request.now.signed.now ≡ signed_octets (content_of request.now) }
-    ensures asked { IfOk result (λ asked. IsAsked (hosted_by owner.now) (R.content rows.old) letter.now next (content_of request.now) asked (R.content rows.new)) }
+    ensures asked { IfOk result (λ asked. IsAsked (hosted_by owner.now) (request_algorithm (algorithms_by owner.now) (content_of request.now)) (R.content rows.old) letter.now next (content_of request.now) asked (R.content rows.new)) }
     ensures undone { OnErr result (R.content rows.new ≡ R.content rows.old) }
 {
+    let algorithm = request_algorithm(owner.alloc, owner.tenants, owner.publisher, request)?;
     let decision = decide(
         owner.alloc,
+        algorithm,
         owner.tenants,
         owner.publisher,
         rows,
@@ -48,13 +54,20 @@ fn ask<R: Rows>(
     )?;
     if decision.code == ResponseCode::AuthenticationNeeded {
         let number = letter.envelope.request;
-        let Ok(sent) = render_challenge(owner.alloc, next, number, request, &letter.nonce) else {
+        let Ok(sent) = render_challenge(
+            owner.alloc,
+            algorithm,
+            next,
+            number,
+            request,
+            &letter.nonce,
+        ) else {
             return Err(Refused);
         };
         let (octets, digest) = sent;
         return Ok(Asked::Challenged(Octets::new(octets), digest));
     }
-    let octets = answer(owner.alloc, rows, letter, request, decision)?;
+    let octets = answer(owner.alloc, algorithm, rows, letter, request, decision)?;
     Ok(Asked::Answered(octets))
 }
 
@@ -73,15 +86,17 @@ fn redeem<R: Rows>(
     response: Response<'_>,
     pending: &Pending,
 ) -> Result<Octets, Refused>
-    ensures redeemed { IfOk result (λ octets. IsRedeemed (hosted_by owner.now) (R.content rows.old) letter.now (response_view response.entry) pending.now octets (R.content rows.new)) }
+    ensures redeemed { IfOk result (λ octets. IsRedeemed (hosted_by owner.now) (algorithms_by owner.now) (R.content rows.old) letter.now (response_view response.entry) pending.now octets (R.content rows.new)) }
     ensures undone { OnErr result (R.content rows.new ≡ R.content rows.old) }
 {
     let Ok(request) = read_request(pending.message.as_slice()) else {
         return malformed(owner.alloc, &letter.envelope);
     };
+    let algorithm = pending.digest.algorithm();
     if is_late(letter, pending) {
         return tell(
             owner.alloc,
+            algorithm,
             letter,
             &request,
             ResponseCode::AuthenticationTimeout,
@@ -95,13 +110,14 @@ fn redeem<R: Rows>(
     let level = Level::Proven(proof);
     let decision = decide(
         owner.alloc,
+        algorithm,
         owner.tenants,
         owner.publisher,
         rows,
         &request,
         &level,
     )?;
-    answer(owner.alloc, rows, letter, &request, decision)
+    answer(owner.alloc, algorithm, rows, letter, &request, decision)
 }
 
 /// The reply to a challenge response. The challenge that it names is spent, unless the reply is refused.
@@ -116,13 +132,19 @@ fn respond<R: Rows>(
 ) -> Result<Octets, Refused>
     requires there { number < length lanes.old }
     requires signed { request.now.signed.now ≡ signed_octets (content_of request.now) }
-    ensures responded { IfOk result (λ octets. RespondsAt (hosted_by owner.now) (R.content rows.old) lanes.old number letter.now (content_of request.now) (response_view response.entry) octets lanes.new (R.content rows.new)) }
+    ensures responded { IfOk result (λ octets. RespondsAt (hosted_by owner.now) (algorithms_by owner.now) (R.content rows.old) lanes.old number letter.now (content_of request.now) (response_view response.entry) octets lanes.new (R.content rows.new)) }
     ensures undone { OnErr result (R.content rows.new ≡ R.content rows.old) }
     ensures kept { OnErr result (lanes.new ≡ lanes.old) }
 {
     let session = letter.envelope.session;
     let Some(pending) = lanes.find(number, letter.peer, session) else {
-        return tell(owner.alloc, letter, request, ResponseCode::ProtocolError);
+        return tell(
+            owner.alloc,
+            Algorithm::Sha1,
+            letter,
+            request,
+            ResponseCode::ProtocolError,
+        );
     };
     let octets = redeem(owner, rows, letter, response, pending)?;
     lanes.spend(number, letter.peer, session);
@@ -139,7 +161,7 @@ pub(crate) fn hear<R: Rows>(
     message: Vec<u8>,
 ) -> Result<Octets, Refused>
     requires there { number < length lanes.old }
-    ensures heard { IfOk result (λ octets. HearsAt (hosted_by owner.now) (R.content rows.old) lanes.old number (letter_of letter.now message.items) octets lanes.new (R.content rows.new)) }
+    ensures heard { IfOk result (λ octets. HearsAt (hosted_by owner.now) (algorithms_by owner.now) (R.content rows.old) lanes.old number (letter_of letter.now message.items) octets lanes.new (R.content rows.new)) }
     ensures undone { OnErr result (R.content rows.new ≡ R.content rows.old) }
     ensures kept { OnErr result (lanes.new ≡ lanes.old) }
 {

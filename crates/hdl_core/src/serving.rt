@@ -4,7 +4,7 @@ ghost use Rattle.std.specs.Prelude.{◌≡◌, ◌<◌, true, drop, length, IfOk
 ghost use Rattle.hdl_frame.specs.Envelope.{envelope_at, is_truncated};
 ghost use Rattle.hdl_frame.specs.Splitting.{IsFrameOf};
 ghost use Rattle.hdl_msg.specs.Reply.{reply_envelope};
-ghost use Rattle.hdl_core.specs.Serving.{AssemblesAt, hosted_by, outcome_of, received_as, received_of, ReceivesAt, ServesAt};
+ghost use Rattle.hdl_core.specs.Serving.{AssemblesAt, algorithms_by, hosted_by, outcome_of, received_as, received_of, ReceivesAt, ServesAt};
 
 use crate::hearing::hear;
 use crate::lanes::Lanes;
@@ -39,7 +39,7 @@ fn assemble<R: Rows>(
     requires frame { IsFrameOf frame.now.bytes.now frame.now }
     requires piece { is_truncated (envelope_at frame.now.bytes.now) ≡ true }
     requires envelope { letter.now.envelope ≡ envelope_at frame.now.bytes.now }
-    ensures assembled { IfOk result (λ reply. AssemblesAt (hosted_by owner.now) (R.content rows.old) lanes.old number (received_as letter.now frame.now.bytes.now) reply lanes.new (R.content rows.new)) }
+    ensures assembled { IfOk result (λ reply. AssemblesAt (hosted_by owner.now) (algorithms_by owner.now) (R.content rows.old) lanes.old number (received_as letter.now frame.now.bytes.now) reply lanes.new (R.content rows.new)) }
     ensures undone { OnErr result (R.content rows.new ≡ R.content rows.old) }
     ensures kept { OnErr result (lanes.new ≡ lanes.old) }
 {
@@ -78,7 +78,7 @@ fn receive<R: Rows>(
     received: Received,
 ) -> Outcome
     requires there { number < length lanes.old }
-    ensures { ReceivesAt (hosted_by owner.now) (R.content rows.old) lanes.old number (received_of received) result lanes.new (R.content rows.new) }
+    ensures { ReceivesAt (hosted_by owner.now) (algorithms_by owner.now) (R.content rows.old) lanes.old number (received_of received) result lanes.new (R.content rows.new) }
 {
     let Received {
         peer,
@@ -131,7 +131,7 @@ pub(crate) fn serve<R: Rows>(
     what: What,
 ) -> Outcome
     requires there { number < length lanes.old }
-    ensures { ServesAt (hosted_by owner.now) (R.content rows.old) lanes.old number what result lanes.new (R.content rows.new) }
+    ensures { ServesAt (hosted_by owner.now) (algorithms_by owner.now) (R.content rows.old) lanes.old number what result lanes.new (R.content rows.new) }
 {
     match what {
         What::Open => {

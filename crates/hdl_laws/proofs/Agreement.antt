@@ -22,6 +22,7 @@ use Rattle.hdl_ops.specs.Requests.{named, handle_of, is_list}
 use Rattle.hdl_ops.specs.Sights.{Sight, sight}
 use Rattle.hdl_ops.specs.Anyone.{code_for_anyone}
 use Rattle.hdl_ops.specs.Proven.{Proof, target, key_of, MaskOf, value_at, code_before_key, code_for_key, IsCodeBy}
+use Rattle.hdl_auth.specs.declared.algorithm.Algorithm.{Algorithm}
 use Rattle.hdl_ops.specs.Decisions.{Level, Anyone, Proven, Decision, Decides, DecidesBy, decision}
 use Rattle.hdl_ops.proofs.Passed.{Passes, passes_unless_refused, handle_is_hosted, target_is_hosted}
 use Rattle.hdl_laws.specs.Isolation.{Agrees, IsClosed, Covers}
@@ -113,16 +114,16 @@ module _ (hosted : List ℕ → Bool) (C : List Place) (t t' : Table) (agree : A
           is.2 ∙ key_agrees (sight t r) r p (target r.operation) k is.0 own is.1 ∙ ap (λ s. code_for_key s r p is.0 (value_at t' k)) (sight_agrees r passes rootless),
         )
 
-    decides_agrees_by : IsFalse (hosted root) → (r : Content) (level : Level) (d : Decision) (c : Option ℕ) → refusal hosted r ≡ c → DecidesBy t r level c d → DecidesBy t' r level c d
-    decides_agrees_by rootless r level d (Some code) e is = is
-    decides_agrees_by rootless r Anyone d None e is =
-        is ∙ ap (λ s. decision s r Anyone (code_for_anyone s r)) (sight_agrees r (passes_unless_refused hosted r e) rootless)
-    decides_agrees_by rootless r (Proven p) d None e is =
+    decides_agrees_by : IsFalse (hosted root) → (a : Algorithm) (r : Content) (level : Level) (d : Decision) (c : Option ℕ) → refusal hosted r ≡ c → DecidesBy a t r level c d → DecidesBy a t' r level c d
+    decides_agrees_by rootless a r level d (Some code) e is = is
+    decides_agrees_by rootless a r Anyone d None e is =
+        is ∙ ap (λ s. decision a s r Anyone (code_for_anyone s r)) (sight_agrees r (passes_unless_refused hosted r e) rootless)
+    decides_agrees_by rootless a r (Proven p) d None e is =
         let passes = passes_unless_refused hosted r e in (
           is.0,
           subst (λ s. IsCodeBy t' r p (code_before_key s r p) is.0) (sight_agrees r passes rootless) (code_agrees_by r p passes rootless (code_before_key (sight t r) r p) is.0 is.1),
-          is.2 ∙ ap (λ s. decision s r (Proven p) is.0) (sight_agrees r passes rootless),
+          is.2 ∙ ap (λ s. decision a s r (Proven p) is.0) (sight_agrees r passes rootless),
         )
 
-    pub decides_agrees : IsFalse (hosted root) → (r : Content) (level : Level) (d : Decision) → Decides hosted t r level d → Decides hosted t' r level d
-    decides_agrees rootless r level d is = decides_agrees_by rootless r level d (refusal hosted r) refl is
+    pub decides_agrees : IsFalse (hosted root) → (a : Algorithm) (r : Content) (level : Level) (d : Decision) → Decides hosted a t r level d → Decides hosted a t' r level d
+    decides_agrees rootless a r level d is = decides_agrees_by rootless a r level d (refusal hosted r) refl is

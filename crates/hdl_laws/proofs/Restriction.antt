@@ -6,14 +6,18 @@ use Rattle.std.specs.Cmp.{nat_cmp_total}
 use Rattle.std.specs.FinMap as map
 use Rattle.std.specs.FinMap.{nat_cmp-IsAntisymmetric}
 use Rattle.std.specs.Str.{bytes_eq}
+use Rattle.std.specs.Prelude.{find}
+use Rattle.std.specs.Option.{option_map_or}
+use Rattle.hdl_auth.specs.declared.algorithm.Algorithm.{Algorithm}
+use Rattle.hdl_auth.specs.declared.algorithm.Algorithm.TheVariants.{Sha1}
 use Rattle.hdl_value.specs.Place.{Place}
 use Rattle.hdl_value.specs.declared.value.Value.{Value}
 use Rattle.hdl_value.proofs.Places.{tied}
 use Rattle.hdl_rows.specs.Table.{Table}
-use Rattle.hdl_tenants.specs.Register.{Hosting, root, hosts_among}
+use Rattle.hdl_tenants.specs.Register.{Hosting, root, hosts_among, algorithm_among}
 use Rattle.hdl_ops.specs.Tables.{apply_if}
 use Rattle.hdl_laws.specs.Lanes.{LaneState, fresh}
-use Rattle.hdl_laws.specs.Worlds.{World, Site, Does, IsTask, Turn, owner, hosts, lane_of, moment_of, after_effect, IsAnswerFor, IsAnswer, IsBusy, IsStep}
+use Rattle.hdl_laws.specs.Worlds.{World, Site, Does, IsTask, Turn, owner, hosts, algorithms, lane_of, moment_of, after_effect, IsAnswerFor, IsAnswer, IsBusy, IsStep}
 use Rattle.hdl_laws.specs.Runs.{is_busy, IsRun, last, IsLonelyRun}
 use Rattle.hdl_laws.specs.Isolation.{Agrees, IsClosed, EachCovered, values_written, written, IsQuiet, is_owned_by, owns, is_mine, restrict, restrict_site, restrict_table, is_turn_of, turns_of}
 use Rattle.hdl_laws.proofs.Maps.{get-retained}
@@ -41,6 +45,28 @@ hosts_filtered (h ∷ hs) u p = pick (h.publisher == u) refl (hosts_filtered hs 
 
 hosts_restricted : (s : Site) (u : ℕ) → hosts (restrict_site s u) u ≡ hosts s u
 hosts_restricted s u = λ i p. hosts_filtered s.hostings u p i
+
+algorithms_filtered : (hs : List Hosting) (u : ℕ) (p : List ℕ) → algorithm_among (filter (λ h. h.publisher == u) hs) u p ≡ algorithm_among hs u p
+algorithms_filtered [] u p = refl
+algorithms_filtered (h ∷ hs) u p = pick (h.publisher == u) refl (algorithms_filtered hs u p)
+  where
+    hash_of : Option Hosting → Algorithm
+    hash_of o = option_map_or (λ x. x.algorithm) o Sha1
+
+    found : List Hosting → Option Hosting
+    found xs = find (λ x. (x.publisher == u) && bytes_eq p x.prefix) xs
+
+    pick : (b : Bool) → h.publisher == u ≡ b → algorithm_among (filter (λ h. h.publisher == u) hs) u p ≡ algorithm_among hs u p
+        → algorithm_among (cond b (h ∷ filter (λ h. h.publisher == u) hs) (filter (λ h. h.publisher == u) hs)) u p ≡ hash_of (cond (b && bytes_eq p h.prefix) (Some h) (found hs))
+    pick true e rest = either (bytes_eq p h.prefix) refl
+      where
+        either : (c : Bool) → bytes_eq p h.prefix ≡ c → hash_of (found (h ∷ filter (λ h. h.publisher == u) hs)) ≡ hash_of (cond c (Some h) (found hs))
+        either true f = λ i. hash_of (cond (e i && f i) (Some h) (found (filter (λ h. h.publisher == u) hs)))
+        either false f = (λ i. hash_of (cond (e i && f i) (Some h) (found (filter (λ h. h.publisher == u) hs)))) ∙ rest
+    pick false e rest = rest
+
+algorithms_restricted : (s : Site) (u : ℕ) → algorithms (restrict_site s u) u ≡ algorithms s u
+algorithms_restricted s u = λ i p. algorithms_filtered s.hostings u p i
 
 -- ---- lanes
 
@@ -92,7 +118,7 @@ answer_calm w t a = by_owner (owner w.site t.event.lane) a
   where
     by_owner : (o : Option ℕ) → IsAnswerFor w o t → is_busy t.outcome ≡ false
     by_owner None e = ap (λ (z : Turn). is_busy z.outcome) e
-    by_owner (Some u) e = ap (λ (z : Turn). is_busy z.outcome) e.4 ∙ does_calm (hosts w.site u) w.table e.1 e.0 e.3
+    by_owner (Some u) e = ap (λ (z : Turn). is_busy z.outcome) e.4 ∙ does_calm (hosts w.site u) (algorithms w.site u) w.table e.1 e.0 e.3
 
 -- ---- one turn
 
@@ -107,11 +133,12 @@ module _ (u : ℕ) (C : List Place) where
       let eff = a.0 in
       let hosted = hosts w.site u in
       let task : IsTask (lane_of (restrict w u C) t.event.lane) t.event.what a.1 = subst (λ s. IsTask s t.event.what a.1) (sym (lane_restricted w u C t.event.lane mine)) a.2 in
-      let does : Does (hosts (restrict_site w.site u) u) (restrict_table hosted C w.table) a.1 eff =
-      subst (λ f. Does f (restrict_table hosted C w.table) a.1 eff) (sym (hosts_restricted w.site u))
-      (does_agrees hosted C w.table (restrict_table hosted C w.table) (restrict_agrees hosted C w.table) closed rootless a.1 eff a.3) in
+      let does : Does (hosts (restrict_site w.site u) u) (algorithms (restrict_site w.site u) u) (restrict_table hosted C w.table) a.1 eff =
+      subst (λ g. Does (hosts (restrict_site w.site u) u) g (restrict_table hosted C w.table) a.1 eff) (sym (algorithms_restricted w.site u))
+      (subst (λ f. Does f (algorithms w.site u) (restrict_table hosted C w.table) a.1 eff) (sym (hosts_restricted w.site u))
+      (does_agrees hosted (algorithms w.site u) C w.table (restrict_table hosted C w.table) (restrict_agrees hosted C w.table) closed rootless a.1 eff a.3)) in
       let table : restrict_table hosted C (apply_if w.table (moment_of t.event.what) eff.change) ≡ apply_if (restrict_table hosted C w.table) (moment_of t.event.what) eff.change =
-      restrict-apply_if hosted C w.table (moment_of t.event.what) eff.change (does_change hosted w.table a.1 eff a.3) in
+      restrict-apply_if hosted C w.table (moment_of t.event.what) eff.change (does_change hosted w.table (algorithms w.site u) a.1 eff a.3) in
       let lanes : map.retain_keys (map.insert w.lanes t.event.lane eff.state) (owns w.site u) ≡ map.insert (map.retain_keys w.lanes (owns w.site u)) t.event.lane eff.state =
       lanes_kept w.lanes (owns w.site u) t.event.lane eff.state mine in
       let after : restrict (after_effect w t.event eff) u C ≡ after_effect (restrict w u C) t.event eff =

@@ -7,6 +7,8 @@ use Rattle.hdl_value.specs.Place.{Place}
 use Rattle.hdl_rows.specs.Table.{Table}
 use Rattle.hdl_rows.proofs.Writes.{some_none}
 use Rattle.hdl_tenants.specs.Register.{root}
+use Rattle.hdl_auth.specs.declared.algorithm.Algorithm.{Algorithm}
+use Rattle.hdl_auth.specs.Digest.{algorithm_of}
 use Rattle.hdl_frame.specs.Envelope.{envelope_at, is_truncated}
 use Rattle.hdl_msg.specs.Message.{Content, SpellsRequest, Operation, resolution, create, delete, add, remove, modify, list, response, other}
 use Rattle.hdl_msg.specs.declared.replies.ReplyContent.TheVariants.{Empty}
@@ -14,7 +16,7 @@ use Rattle.hdl_msg.proofs.Requests.{one_request_lem}
 use Rattle.hdl_slots.specs.declared.pending.Pending.{Pending}
 use Rattle.hdl_ops.specs.declared.change.Change.{Change}
 use Rattle.hdl_ops.specs.declared.change.Change.TheVariants.{Create, Delete, Add, Remove, Modify}
-use Rattle.hdl_ops.specs.Admission.{refusal}
+use Rattle.hdl_ops.specs.Admission.{refusal, request_algorithm}
 use Rattle.hdl_ops.specs.Requests.{Response, named, response_of}
 use Rattle.hdl_ops.specs.Sights.{Sight, sight}
 use Rattle.hdl_ops.specs.Replies.{fits}
@@ -92,14 +94,14 @@ task_one s (What.Frame peer moment nonce bytes) k k' a b =
 
 -- ---- on tables that agree a task does the same
 
-pub does_agrees : (hosted : List ℕ → Bool) (C : List Place) (t t' : Table) → Agrees hosted C t t' → IsClosed hosted C t → IsFalse (hosted root) → (k : Task) (eff : Effect) → Does hosted t k eff → Does hosted t' k eff
-does_agrees hosted C t t' agree closed rootless (Ignore s) eff is = is
-does_agrees hosted C t t' agree closed rootless (Break session request s) eff is = is
-does_agrees hosted C t t' agree closed rootless (Malformed m s) eff is = is
-does_agrees hosted C t t' agree closed rootless (Unknown m r s) eff is = is
-does_agrees hosted C t t' agree closed rootless (Late m r s) eff is = is
-does_agrees hosted C t t' agree closed rootless (Ask m r s) eff is = (is.0, decides_agrees hosted C t t' agree closed rootless r Anyone is.0 is.1, is.2)
-does_agrees hosted C t t' agree closed rootless (Redeem m r p s) eff is = (is.0, decides_agrees hosted C t t' agree closed rootless r (Proven p) is.0 is.1, is.2)
+pub does_agrees : (hosted : List ℕ → Bool) (algorithms : List ℕ → Algorithm) (C : List Place) (t t' : Table) → Agrees hosted C t t' → IsClosed hosted C t → IsFalse (hosted root) → (k : Task) (eff : Effect) → Does hosted algorithms t k eff → Does hosted algorithms t' k eff
+does_agrees hosted algorithms C t t' agree closed rootless (Ignore s) eff is = is
+does_agrees hosted algorithms C t t' agree closed rootless (Break session request s) eff is = is
+does_agrees hosted algorithms C t t' agree closed rootless (Malformed m s) eff is = is
+does_agrees hosted algorithms C t t' agree closed rootless (Unknown m r s) eff is = is
+does_agrees hosted algorithms C t t' agree closed rootless (Late m r a s) eff is = is
+does_agrees hosted algorithms C t t' agree closed rootless (Ask m r s) eff is = (is.0, decides_agrees hosted C t t' agree closed rootless (request_algorithm algorithms r) r Anyone is.0 is.1, is.2)
+does_agrees hosted algorithms C t t' agree closed rootless (Redeem m r p s) eff is = (is.0, decides_agrees hosted C t t' agree closed rootless (algorithm_of p.digest) r (Proven p) is.0 is.1, is.2)
 
 -- ---- an answer is never busy
 
@@ -110,14 +112,14 @@ either_calm false x y p q = q
 abbrev calm : Effect → Bool
 calm eff = is_busy eff.outcome
 
-pub does_calm : (hosted : List ℕ → Bool) (t : Table) (k : Task) (eff : Effect) → Does hosted t k eff → is_busy eff.outcome ≡ false
-does_calm hosted t (Ignore s) eff is = ap calm is
-does_calm hosted t (Break session request s) eff is = ap calm is
-does_calm hosted t (Malformed m s) eff is = ap calm is
-does_calm hosted t (Unknown m r s) eff is = ap calm is
-does_calm hosted t (Late m r s) eff is = ap calm is
-does_calm hosted t (Ask m r s) eff is = ap calm is.2 ∙ either_calm (is.0.code == 402) (challenge_effect s m r) (answer_effect s m r is.0) refl refl
-does_calm hosted t (Redeem m r p s) eff is = ap calm is.2
+pub does_calm : (hosted : List ℕ → Bool) (algorithms : List ℕ → Algorithm) (t : Table) (k : Task) (eff : Effect) → Does hosted algorithms t k eff → is_busy eff.outcome ≡ false
+does_calm hosted algorithms t (Ignore s) eff is = ap calm is
+does_calm hosted algorithms t (Break session request s) eff is = ap calm is
+does_calm hosted algorithms t (Malformed m s) eff is = ap calm is
+does_calm hosted algorithms t (Unknown m r s) eff is = ap calm is
+does_calm hosted algorithms t (Late m r a s) eff is = ap calm is
+does_calm hosted algorithms t (Ask m r s) eff is = ap calm is.2 ∙ either_calm (is.0.code == 402) (challenge_effect (request_algorithm algorithms r) s m r) (answer_effect (request_algorithm algorithms r) s m r is.0) refl refl
+does_calm hosted algorithms t (Redeem m r p s) eff is = ap calm is.2
 
 -- ---- a task changes hosted rows alone
 
@@ -142,9 +144,9 @@ asked_change hosted (response kind handle index answer) mine = changes_none host
 asked_change hosted (other octets) mine = changes_none hosted
 
 module _ (hosted : List ℕ → Bool) (t : Table) where
-  decision_change : (s : Sight) (r : Content) (level : Level) (code : ℕ) → Passes hosted r → ChangesHosted hosted (decision s r level code).change
+  decision_change : (a : Algorithm) (s : Sight) (r : Content) (level : Level) (code : ℕ) → Passes hosted r → ChangesHosted hosted (decision a s r level code).change
   unfolding decision
-  decision_change s r level code passes = pick (code == 1) (fits r (carried s r level))
+  decision_change a s r level code passes = pick (code == 1) (fits a r (carried s r level))
     where
       pick : (b c : Bool) → ChangesHosted hosted (cond {A = Decision} b (cond {A = Decision} c (success s r level) (failure 2 Empty)) (failure code Empty)).change
       pick true true = asked_change hosted r.operation (canonical_is_hosted hosted r passes)
@@ -155,33 +157,33 @@ module _ (hosted : List ℕ → Bool) (t : Table) where
   unfolding refused
   refused_change r code = refl
 
-  decided_change : (r : Content) (level : Level) (d : Decision) (c : Option ℕ) → refusal hosted r ≡ c → DecidesBy t r level c d → ChangesHosted hosted d.change
-  decided_change r level d (Some code) e is x k = absurd (some_none x (sym k ∙ ap (λ (z : Decision). z.change) is ∙ refused_change r code))
-  decided_change r Anyone d None e is x k = decision_change (sight t r) r Anyone _ (passes_unless_refused hosted r e) x (sym (ap (λ (z : Decision). z.change) is) ∙ k)
-  decided_change r (Proven p) d None e is x k = decision_change (sight t r) r (Proven p) is.0 (passes_unless_refused hosted r e) x (sym (ap (λ (z : Decision). z.change) is.2) ∙ k)
+  decided_change : (a : Algorithm) (r : Content) (level : Level) (d : Decision) (c : Option ℕ) → refusal hosted r ≡ c → DecidesBy a t r level c d → ChangesHosted hosted d.change
+  decided_change a r level d (Some code) e is x k = absurd (some_none x (sym k ∙ ap (λ (z : Decision). z.change) is ∙ refused_change r code))
+  decided_change a r Anyone d None e is x k = decision_change a (sight t r) r Anyone _ (passes_unless_refused hosted r e) x (sym (ap (λ (z : Decision). z.change) is) ∙ k)
+  decided_change a r (Proven p) d None e is x k = decision_change a (sight t r) r (Proven p) is.0 (passes_unless_refused hosted r e) x (sym (ap (λ (z : Decision). z.change) is.2) ∙ k)
 
   asked_effect : (b : Bool) (x y : Effect) → x.change ≡ None → ChangesHosted hosted y.change → ChangesHosted hosted (cond b x y).change
   asked_effect true x y none f z e = absurd (some_none z (sym e ∙ none))
   asked_effect false x y none f z e = f z e
 
-  pub does_change : (k : Task) (eff : Effect) → Does hosted t k eff → ChangesHosted hosted eff.change
-  does_change (Ignore s) eff is x e = absurd (some_none x (sym e ∙ ap (λ (y : Effect). y.change) is))
-  does_change (Break session request s) eff is x e = absurd (some_none x (sym e ∙ ap (λ (y : Effect). y.change) is))
-  does_change (Malformed m s) eff is x e = absurd (some_none x (sym e ∙ ap (λ (y : Effect). y.change) is))
-  does_change (Unknown m r s) eff is x e = absurd (some_none x (sym e ∙ ap (λ (y : Effect). y.change) is))
-  does_change (Late m r s) eff is x e = absurd (some_none x (sym e ∙ ap (λ (y : Effect). y.change) is))
-  does_change (Ask m r s) eff is x e =
-      asked_effect (is.0.code == 402) (challenge_effect s m r) (answer_effect s m r is.0) refl (decided_change r Anyone is.0 (refusal hosted r) refl is.1) x (sym (ap (λ (y : Effect). y.change) is.2) ∙ e)
-  does_change (Redeem m r p s) eff is x e =
-      decided_change r (Proven p) is.0 (refusal hosted r) refl is.1 x (sym (ap (λ (y : Effect). y.change) is.2) ∙ e)
+  pub does_change : (algorithms : List ℕ → Algorithm) (k : Task) (eff : Effect) → Does hosted algorithms t k eff → ChangesHosted hosted eff.change
+  does_change algorithms (Ignore s) eff is x e = absurd (some_none x (sym e ∙ ap (λ (y : Effect). y.change) is))
+  does_change algorithms (Break session request s) eff is x e = absurd (some_none x (sym e ∙ ap (λ (y : Effect). y.change) is))
+  does_change algorithms (Malformed m s) eff is x e = absurd (some_none x (sym e ∙ ap (λ (y : Effect). y.change) is))
+  does_change algorithms (Unknown m r s) eff is x e = absurd (some_none x (sym e ∙ ap (λ (y : Effect). y.change) is))
+  does_change algorithms (Late m r a s) eff is x e = absurd (some_none x (sym e ∙ ap (λ (y : Effect). y.change) is))
+  does_change algorithms (Ask m r s) eff is x e =
+      asked_effect (is.0.code == 402) (challenge_effect (request_algorithm algorithms r) s m r) (answer_effect (request_algorithm algorithms r) s m r is.0) refl (decided_change (request_algorithm algorithms r) r Anyone is.0 (refusal hosted r) refl is.1) x (sym (ap (λ (y : Effect). y.change) is.2) ∙ e)
+  does_change algorithms (Redeem m r p s) eff is x e =
+      decided_change (algorithm_of p.digest) r (Proven p) is.0 (refusal hosted r) refl is.1 x (sym (ap (λ (y : Effect). y.change) is.2) ∙ e)
 
 -- ---- what a task does is one
 
-pub does_one : (hosted : List ℕ → Bool) (t : Table) (k : Task) (x y : Effect) → Does hosted t k x → Does hosted t k y → x ≡ y
-does_one hosted t (Ignore s) x y a b = a ∙ sym b
-does_one hosted t (Break session request s) x y a b = a ∙ sym b
-does_one hosted t (Malformed m s) x y a b = a ∙ sym b
-does_one hosted t (Unknown m r s) x y a b = a ∙ sym b
-does_one hosted t (Late m r s) x y a b = a ∙ sym b
-does_one hosted t (Ask m r s) x y a b = a.2 ∙ ap (ask_effect s m r) (one_decision_lem hosted t r Anyone a.0 b.0 a.1 b.1) ∙ sym b.2
-does_one hosted t (Redeem m r p s) x y a b = a.2 ∙ ap (answer_effect s m r) (one_decision_lem hosted t r (Proven p) a.0 b.0 a.1 b.1) ∙ sym b.2
+pub does_one : (hosted : List ℕ → Bool) (algorithms : List ℕ → Algorithm) (t : Table) (k : Task) (x y : Effect) → Does hosted algorithms t k x → Does hosted algorithms t k y → x ≡ y
+does_one hosted algorithms t (Ignore s) x y a b = a ∙ sym b
+does_one hosted algorithms t (Break session request s) x y a b = a ∙ sym b
+does_one hosted algorithms t (Malformed m s) x y a b = a ∙ sym b
+does_one hosted algorithms t (Unknown m r s) x y a b = a ∙ sym b
+does_one hosted algorithms t (Late m r c s) x y a b = a ∙ sym b
+does_one hosted algorithms t (Ask m r s) x y a b = a.2 ∙ ap (ask_effect (request_algorithm algorithms r) s m r) (one_decision_lem hosted (request_algorithm algorithms r) t r Anyone a.0 b.0 a.1 b.1) ∙ sym b.2
+does_one hosted algorithms t (Redeem m r p s) x y a b = a.2 ∙ ap (answer_effect (algorithm_of p.digest) s m r) (one_decision_lem hosted (algorithm_of p.digest) t r (Proven p) a.0 b.0 a.1 b.1) ∙ sym b.2

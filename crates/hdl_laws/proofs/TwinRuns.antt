@@ -6,7 +6,7 @@ use Rattle.hdl_msg.specs.Reply.{short_reply}
 use Rattle.hdl_ops.proofs.Codes.{not_busy}
 use Rattle.hdl_laws.specs.declared.events.Event.{Event}
 use Rattle.hdl_laws.specs.declared.events.Outcome.TheVariants.{Busy}
-use Rattle.hdl_laws.specs.Worlds.{World, Received, arrived, Turn, hosts, owner, Effect, Does, lane_of, IsBusy, IsStep, moment_of, after_effect}
+use Rattle.hdl_laws.specs.Worlds.{World, Received, arrived, Turn, hosts, algorithms, owner, Effect, Does, lane_of, IsBusy, IsStep, moment_of, after_effect}
 use Rattle.hdl_laws.specs.Runs.{IsRun, last, events, outcomes}
 use Rattle.hdl_laws.specs.Isolation.{AreTwins, AreTwinWorlds, code_of, AllowsTurn, Allows}
 use Rattle.hdl_laws.specs.Laws.{TwinsReplyAlike}
@@ -17,7 +17,7 @@ use Rattle.hdl_laws.proofs.Twins.{does_twin, apply_twin}
 
 answers_code : (w : World) (e : Event) (o : Option ℕ) (t : Turn) → AnswersFor w e o t → (code_of t.outcome == 3) ≡ false
 answers_code w e None t a = ap (λ (z : Turn). code_of z.outcome == 3) a
-answers_code w e (Some u) t a = ap (λ (z : Turn). code_of z.outcome == 3) a.4 ∙ not_busy (code_of a.0.outcome) (does_code (hosts w.site u) w.table a.1 a.0 a.3)
+answers_code w e (Some u) t a = ap (λ (z : Turn). code_of z.outcome == 3) a.4 ∙ not_busy (code_of a.0.outcome) (does_code (hosts w.site u) (algorithms w.site u) w.table a.1 a.0 a.3)
 
 not_busy_code : (w v : World) (t t' : Turn) (e : Event) → code_of t.outcome ≡ code_of t'.outcome → AnswersFor w e (owner w.site e.lane) t → IsBusy v t' → ⊥
 not_busy_code w v t t' e codes a b =
@@ -51,8 +51,8 @@ module _ (H : List (List ℕ)) where
       let out : t.outcome ≡ a.0.outcome = ap (λ (z : Turn). z.outcome) a.4 in
       let out' : t'.outcome ≡ b.0.outcome = ap (λ (z : Turn). z.outcome) b.4 in
       let task : a.1 ≡ b.1 = task_one (lane_of w t.event.lane) t.event.what a.1 b.1 a.2 b.2 in
-      let does : Does (hosts w.site u) u2 a.1 b.0 = subst (λ k. Does (hosts w.site u) u2 k b.0) (sym task) b.3 in
-      let same : a.0 ≡ b.0 = does_twin H w.table u2 twins (hosts w.site u) a.1 a.0 b.0 a.3 does (sym (ap code_of out) ∙ codes ∙ ap code_of out') (λ r k res one. allows a.1 r a.2 k res (ap code_of out ∙ one)) in
+      let does : Does (hosts w.site u) (algorithms w.site u) u2 a.1 b.0 = subst (λ k. Does (hosts w.site u) (algorithms w.site u) u2 k b.0) (sym task) b.3 in
+      let same : a.0 ≡ b.0 = does_twin H w.table u2 twins (hosts w.site u) (algorithms w.site u) a.1 a.0 b.0 a.3 does (sym (ap code_of out) ∙ codes ∙ ap code_of out') (λ r k res one. allows a.1 r a.2 k res (ap code_of out ∙ one)) in
       alike_by t t' (after_effect w t.event a.0) (after_effect (with_table w u2) t.event a.0)
       (out ∙ ap (λ (z : Effect). z.outcome) same ∙ sym out')
       (ap (λ (z : Turn). z.after) a.4)

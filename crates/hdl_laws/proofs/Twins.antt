@@ -12,10 +12,12 @@ use Rattle.hdl_rows.specs.Table.{Table, at, values_of, names_of, in_order}
 use Rattle.hdl_rows.specs.Write as write
 use Rattle.hdl_rows.specs.Write.{Write, handle_of}
 use Rattle.hdl_rows.proofs.Writes.{put_at, removed_at, at_after, at-written}
+use Rattle.hdl_auth.specs.declared.algorithm.Algorithm.{Algorithm}
+use Rattle.hdl_auth.specs.Digest.{algorithm_of}
 use Rattle.hdl_msg.specs.Message.{Content, Operation, resolution, create, delete, add, remove, modify, list, response, other}
 use Rattle.hdl_msg.specs.declared.replies.ReplyContent.TheVariants.{Values, Handles, Empty}
 use Rattle.hdl_ops.specs.declared.change.Change.{Change}
-use Rattle.hdl_ops.specs.Admission.{refusal}
+use Rattle.hdl_ops.specs.Admission.{refusal, request_algorithm}
 use Rattle.hdl_ops.specs.Requests as requests
 use Rattle.hdl_ops.specs.Requests.{named, resolves, is_list}
 use Rattle.hdl_ops.specs.Sights.{Sight, sight, asks}
@@ -77,9 +79,9 @@ gated_map f false x y e = refl
 abbrev IsFormOf : Sight → Content → Level → Decision → Type 0
 IsFormOf s r level d = (d ≡ success s r level) ⊎ ((n : ℕ) × ((n == 1) ≡ false) × (d ≡ failure n Empty))
 
-decision_form : (s : Sight) (r : Content) (level : Level) (code : ℕ) → IsFormOf s r level (decision s r level code)
+decision_form : (a : Algorithm) (s : Sight) (r : Content) (level : Level) (code : ℕ) → IsFormOf s r level (decision a s r level code)
 unfolding decision
-decision_form s r level code = pick (code == 1) refl (fits r (carried s r level))
+decision_form a s r level code = pick (code == 1) refl (fits a r (carried s r level))
   where
     pick : (b : Bool) → code == 1 ≡ b → (c : Bool) → IsFormOf s r level (cond {A = Decision} b (cond {A = Decision} c (success s r level) (failure 2 Empty)) (failure code Empty))
     pick true e true = inl refl
@@ -132,32 +134,32 @@ module _ (H : List (List ℕ)) (t t' : Table) (twins : AreTwins H t t') where
   success_twin r level f = λ i. record { code = 1; content = carried_twin r.operation r level f i; change = change_of r.operation }
 
   -- decisions of one code are one
-  decides_twin : (r : Content) (level : Level) (d d' : Decision) (c : Option ℕ) → DecidesBy t r level c d → DecidesBy t' r level c d' → d.code ≡ d'.code → (d.code ≡ 1 → IsTrue (resolves r.operation) → Reads (is_held H (requests.handle_of r)) level) → d ≡ d'
-  decides_twin r level d d' (Some c) a b e f = a ∙ sym b
-  decides_twin r Anyone d d' None a b e f =
-      forms_twin (sight t r) (sight t' r) r Anyone d d' (subst (IsFormOf (sight t r) r Anyone) (sym a) (decision_form (sight t r) r Anyone _)) (subst (IsFormOf (sight t' r) r Anyone) (sym b) (decision_form (sight t' r) r Anyone _)) e (λ is. success_twin r Anyone (f is))
-  decides_twin r (Proven p) d d' None a b e f =
-      forms_twin (sight t r) (sight t' r) r (Proven p) d d' (subst (IsFormOf (sight t r) r (Proven p)) (sym a.2) (decision_form (sight t r) r (Proven p) a.0)) (subst (IsFormOf (sight t' r) r (Proven p)) (sym b.2) (decision_form (sight t' r) r (Proven p) b.0)) e (λ is. success_twin r (Proven p) (f is))
+  decides_twin : (g : Algorithm) (r : Content) (level : Level) (d d' : Decision) (c : Option ℕ) → DecidesBy g t r level c d → DecidesBy g t' r level c d' → d.code ≡ d'.code → (d.code ≡ 1 → IsTrue (resolves r.operation) → Reads (is_held H (requests.handle_of r)) level) → d ≡ d'
+  decides_twin g r level d d' (Some c) a b e f = a ∙ sym b
+  decides_twin g r Anyone d d' None a b e f =
+      forms_twin (sight t r) (sight t' r) r Anyone d d' (subst (IsFormOf (sight t r) r Anyone) (sym a) (decision_form g (sight t r) r Anyone _)) (subst (IsFormOf (sight t' r) r Anyone) (sym b) (decision_form g (sight t' r) r Anyone _)) e (λ is. success_twin r Anyone (f is))
+  decides_twin g r (Proven p) d d' None a b e f =
+      forms_twin (sight t r) (sight t' r) r (Proven p) d d' (subst (IsFormOf (sight t r) r (Proven p)) (sym a.2) (decision_form g (sight t r) r (Proven p) a.0)) (subst (IsFormOf (sight t' r) r (Proven p)) (sym b.2) (decision_form g (sight t' r) r (Proven p) b.0)) e (λ is. success_twin r (Proven p) (f is))
 
   abbrev effect_code : Effect → ℕ
   effect_code x = code_of x.outcome
 
   -- effects of one code are one
-  pub does_twin : (hosted : List ℕ → Bool) (k : Task) (x y : Effect) → Does hosted t k x → Does hosted t' k y → code_of x.outcome ≡ code_of y.outcome
+  pub does_twin : (hosted : List ℕ → Bool) (algorithms : List ℕ → Algorithm) (k : Task) (x y : Effect) → Does hosted algorithms t k x → Does hosted algorithms t' k y → code_of x.outcome ≡ code_of y.outcome
       → ((r : Content) → proven_request k ≡ Some r → IsTrue (resolves r.operation) → code_of x.outcome ≡ 1 → IsTrue (is_held H (requests.handle_of r))) → x ≡ y
-  does_twin hosted (Ignore s) x y a b e f = a ∙ sym b
-  does_twin hosted (Break session request s) x y a b e f = a ∙ sym b
-  does_twin hosted (Malformed m s) x y a b e f = a ∙ sym b
-  does_twin hosted (Unknown m r s) x y a b e f = a ∙ sym b
-  does_twin hosted (Late m r s) x y a b e f = a ∙ sym b
-  does_twin hosted (Ask m r s) x y a b e f =
-      let here : code_of x.outcome ≡ a.0.code = ap effect_code a.2 ∙ ask_code s m r a.0 (decides_code hosted t r Anyone a.0 a.1) in
-      let there : code_of y.outcome ≡ b.0.code = ap effect_code b.2 ∙ ask_code s m r b.0 (decides_code hosted t' r Anyone b.0 b.1) in
-      a.2 ∙ ap (ask_effect s m r) (decides_twin r Anyone a.0 b.0 (refusal hosted r) a.1 b.1 (sym here ∙ e ∙ there) (λ is res. reads_public (is_held H (requests.handle_of r)))) ∙ sym b.2
-  does_twin hosted (Redeem m r p s) x y a b e f =
-      let here : code_of x.outcome ≡ a.0.code = ap effect_code a.2 ∙ answer_code s m r a.0 (decides_code hosted t r (Proven p) a.0 a.1) in
-      let there : code_of y.outcome ≡ b.0.code = ap effect_code b.2 ∙ answer_code s m r b.0 (decides_code hosted t' r (Proven p) b.0 b.1) in
-      a.2 ∙ ap (answer_effect s m r) (decides_twin r (Proven p) a.0 b.0 (refusal hosted r) a.1 b.1 (sym here ∙ e ∙ there) (λ is res. reads_kept (is_held H (requests.handle_of r)) p (f r refl res (here ∙ is)))) ∙ sym b.2
+  does_twin hosted algorithms (Ignore s) x y a b e f = a ∙ sym b
+  does_twin hosted algorithms (Break session request s) x y a b e f = a ∙ sym b
+  does_twin hosted algorithms (Malformed m s) x y a b e f = a ∙ sym b
+  does_twin hosted algorithms (Unknown m r s) x y a b e f = a ∙ sym b
+  does_twin hosted algorithms (Late m r g s) x y a b e f = a ∙ sym b
+  does_twin hosted algorithms (Ask m r s) x y a b e f =
+      let here : code_of x.outcome ≡ a.0.code = ap effect_code a.2 ∙ ask_code (request_algorithm algorithms r) s m r a.0 (decides_code hosted (request_algorithm algorithms r) t r Anyone a.0 a.1) in
+      let there : code_of y.outcome ≡ b.0.code = ap effect_code b.2 ∙ ask_code (request_algorithm algorithms r) s m r b.0 (decides_code hosted (request_algorithm algorithms r) t' r Anyone b.0 b.1) in
+      a.2 ∙ ap (ask_effect (request_algorithm algorithms r) s m r) (decides_twin (request_algorithm algorithms r) r Anyone a.0 b.0 (refusal hosted r) a.1 b.1 (sym here ∙ e ∙ there) (λ is res. reads_public (is_held H (requests.handle_of r)))) ∙ sym b.2
+  does_twin hosted algorithms (Redeem m r p s) x y a b e f =
+      let here : code_of x.outcome ≡ a.0.code = ap effect_code a.2 ∙ answer_code (algorithm_of p.digest) s m r a.0 (decides_code hosted (algorithm_of p.digest) t r (Proven p) a.0 a.1) in
+      let there : code_of y.outcome ≡ b.0.code = ap effect_code b.2 ∙ answer_code (algorithm_of p.digest) s m r b.0 (decides_code hosted (algorithm_of p.digest) t' r (Proven p) b.0 b.1) in
+      a.2 ∙ ap (answer_effect (algorithm_of p.digest) s m r) (decides_twin (algorithm_of p.digest) r (Proven p) a.0 b.0 (refusal hosted r) a.1 b.1 (sym here ∙ e ∙ there) (λ is res. reads_kept (is_held H (requests.handle_of r)) p (f r refl res (here ∙ is)))) ∙ sym b.2
 
   -- ---- writes of twins
 

@@ -170,7 +170,7 @@ proven_request (Ignore s) = None
 proven_request (Break session request s) = None
 proven_request (Malformed m s) = None
 proven_request (Unknown m r s) = None
-proven_request (Late m r s) = None
+proven_request (Late m r a s) = None
 proven_request (Ask m r s) = None
 
 -- if the event's task decides a challenged resolution, and its outcome has code 1, then H holds the resolution's handle

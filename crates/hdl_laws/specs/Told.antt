@@ -1,31 +1,47 @@
 -- What one reply tells: its octets by its code, what it answers, and what may be read.
 use Rattle.std.specs.Prelude.{◌≡◌, ℕ, ◌==◌, List, if◌then◌else◌}
+use Rattle.hdl_auth.specs.declared.algorithm.Algorithm.{Algorithm}
+use Rattle.hdl_auth.specs.declared.algorithm.Algorithm.TheVariants.{Sha1}
+use Rattle.hdl_auth.specs.Digest.{algorithm_of}
 use Rattle.hdl_rows.specs.Table.{Table}
+use Rattle.hdl_msg.specs.Message.{Content}
 use Rattle.hdl_msg.specs.Laws.{response_code_at}
 use Rattle.hdl_msg.specs.Reply.{short_reply}
 use Rattle.hdl_msg.specs.declared.replies.ReplyContent.TheVariants.{Empty}
+use Rattle.hdl_ops.specs.Admission.{request_algorithm}
 use Rattle.hdl_ops.specs.Decisions.{Anyone, Proven}
 use Rattle.hdl_ops.specs.Laws.{told}
 use Rattle.hdl_laws.specs.declared.events.Event.{Event}
 use Rattle.hdl_laws.specs.declared.events.Outcome.{Outcome}
 use Rattle.hdl_laws.specs.declared.events.Outcome.TheVariants.{Reply}
-use Rattle.hdl_laws.specs.Worlds.{World, lane_of, Task, Ignore, Break, Malformed, Unknown, Late, Ask, Redeem, IsTask, answer_octets, challenge_octets}
+use Rattle.hdl_laws.specs.Lanes.{LaneState}
+use Rattle.hdl_laws.specs.Worlds.{World, owner, algorithms_for, lane_of, Letter, Task, Ignore, Break, Malformed, Unknown, Late, Ask, Redeem, IsTask, answer_octets, challenge_octets}
 use Rattle.hdl_laws.specs.Runs.{Steps}
 
--- The octets are the reply with this code to what the event comes to. Of the table they hold what is told with the code at the
--- level of the caller, and nothing else.
-abbrev pub IsReplyTo : Table → Task → ℕ → List ℕ → Type 0
-IsReplyTo t (Ignore s) code octets = ⊥
-IsReplyTo t (Break session request s) code octets = ⊥
-IsReplyTo t (Malformed m s) code octets = octets ≡ short_reply code m.envelope
-IsReplyTo t (Unknown m r s) code octets = octets ≡ answer_octets m.envelope r code Empty
-IsReplyTo t (Late m r s) code octets = octets ≡ answer_octets m.envelope r code Empty
-IsReplyTo t (Ask m r s) code octets = octets ≡ (if code == 402 then challenge_octets s.challenges.next m.envelope r m.nonce else answer_octets m.envelope r code (told t r Anyone code))
-IsReplyTo t (Redeem m r p s) code octets = octets ≡ answer_octets m.envelope r code (told t r (Proven p) code)
+-- the reply with this code to a request that came as it is
+abbrev pub asked_octets : Algorithm → Table → Letter → Content → LaneState → ℕ → List ℕ
+asked_octets a t m r s code =
+    if code == 402 then challenge_octets a s.challenges.next m.envelope r m.nonce
+    else answer_octets a m.envelope r code (told t r Anyone code)
+
+-- The octets are the reply with this code to what the event comes to, where prefixes have these hash functions. Of the table they
+-- hold what is told with the code at the level of the caller, and nothing else.
+abbrev pub IsReplyBy : (List ℕ → Algorithm) → Table → Task → ℕ → List ℕ → Type 0
+IsReplyBy algorithms t (Ignore s) code octets = ⊥
+IsReplyBy algorithms t (Break session request s) code octets = ⊥
+IsReplyBy algorithms t (Malformed m s) code octets = octets ≡ short_reply code m.envelope
+IsReplyBy algorithms t (Unknown m r s) code octets = octets ≡ answer_octets Sha1 m.envelope r code Empty
+IsReplyBy algorithms t (Late m r a s) code octets = octets ≡ answer_octets a m.envelope r code Empty
+IsReplyBy algorithms t (Ask m r s) code octets = octets ≡ asked_octets (request_algorithm algorithms r) t m r s code
+IsReplyBy algorithms t (Redeem m r p s) code octets = octets ≡ answer_octets (algorithm_of p.digest) m.envelope r code (told t r (Proven p) code)
+
+-- the same in this world and on this lane
+abbrev pub IsReplyTo : World → ℕ → Task → ℕ → List ℕ → Type 0
+IsReplyTo w lane k code octets = IsReplyBy (algorithms_for w.site (owner w.site lane)) w.table k code octets
 
 -- if the outcome is a reply, it is the one with its code to what the event comes to
 abbrev pub Tells : World → Event → Outcome → Type 0
-Tells w e o = (octets : List ℕ) → o ≡ Reply octets → (k : Task) × IsTask (lane_of w e.lane) e.what k × IsReplyTo w.table k (response_code_at octets) octets
+Tells w e o = (octets : List ℕ) → o ≡ Reply octets → (k : Task) × IsTask (lane_of w e.lane) e.what k × IsReplyTo w e.lane k (response_code_at octets) octets
 
 -- each step does
 abbrev pub StepsTell : Type 0

@@ -2,6 +2,9 @@
 use Rattle.std.specs.Prelude.{◌≡◌, ◌≢◌, ℕ, ◌-◌, List, Bool, true, false, ◌==◌, nat_lt, Option, Some, None, if◌then◌else◌, ◌⊎◌, drop, unwrap_or, IsTrue, MatchBool}
 use Rattle.std.specs.Ordering.{nat_cmp}
 use Rattle.std.specs.FinMap as map
+use Rattle.hdl_auth.specs.declared.algorithm.Algorithm.{Algorithm}
+use Rattle.hdl_auth.specs.declared.algorithm.Algorithm.TheVariants.{Sha1}
+use Rattle.hdl_auth.specs.Digest.{algorithm_of}
 use Rattle.hdl_frame.specs.declared.envelope.Envelope.{Envelope}
 use Rattle.hdl_frame.specs.Envelope.{envelope_at, is_truncated}
 use Rattle.hdl_frame.specs.Frames.{IsFrame}
@@ -14,8 +17,9 @@ use Rattle.hdl_pool.specs.Partial.{Partial, key_of, piece_of}
 use Rattle.hdl_pool.specs.Taking.{Fate, taken, whole_message, freed}
 use Rattle.hdl_slots.specs.declared.pending.Pending.{Pending}
 use Rattle.hdl_slots.specs.Lanes.{challenged, challenge_of, spent}
-use Rattle.hdl_tenants.specs.Register.{Hosting, hosts_among}
+use Rattle.hdl_tenants.specs.Register.{Hosting, hosts_among, algorithm_among}
 use Rattle.hdl_ops.specs.declared.change.Change.{Change}
+use Rattle.hdl_ops.specs.Admission.{request_algorithm}
 use Rattle.hdl_ops.specs.Decisions.{Decision, Anyone, Proven, failure, Decides}
 use Rattle.hdl_ops.specs.Proven.{Proof}
 use Rattle.hdl_ops.specs.Requests.{Response, response_of}
@@ -35,7 +39,7 @@ pub record Received : Type 0 where
   pub nonce : List ℕ
   pub bytes : List ℕ
 
--- which publisher owns a lane, and which prefixes are hosted for whom
+-- which publisher owns a lane, and which prefixes are hosted for whom, each with its hash function
 pub record Site : Type 0 where
   pub owners : map.FinMap nat_cmp ℕ
   pub hostings : List Hosting
@@ -50,6 +54,15 @@ owner s lane = map.get s.owners lane
 
 abbrev pub hosts : Site → ℕ → List ℕ → Bool
 hosts s publisher prefix = hosts_among s.hostings publisher prefix
+
+-- the hash function of a prefix on the publisher's lanes
+abbrev pub algorithms : Site → ℕ → List ℕ → Algorithm
+algorithms s publisher prefix = algorithm_among s.hostings publisher prefix
+
+-- the same by a lane's owner
+abbrev pub algorithms_for : Site → Option ℕ → List ℕ → Algorithm
+algorithms_for s None prefix = Sha1
+algorithms_for s (Some publisher) prefix = algorithms s publisher prefix
 
 -- a lane of which nothing is kept is closed
 abbrev pub lane_of : World → ℕ → LaneState
@@ -79,7 +92,7 @@ pub data Task : Type 0 where
   Break : ℕ → ℕ → LaneState → Task
   Malformed : Letter → LaneState → Task
   Unknown : Letter → Content → LaneState → Task
-  Late : Letter → Content → LaneState → Task
+  Late : Letter → Content → Algorithm → LaneState → Task
   Ask : Letter → Content → LaneState → Task
   Redeem : Letter → Content → Proof → LaneState → Task
 
@@ -105,7 +118,7 @@ abbrev pub redeem_task : LaneState → Letter → Response → Pending → Optio
 redeem_task s m a p None = Malformed m (redeemed s m)
 redeem_task s m a p (Some r) =
     if is_late m p
-    then Late m r (redeemed s m)
+    then Late m r (algorithm_of p.digest) (redeemed s m)
     else Redeem m r (record { response = a; nonce = p.nonce; digest = p.digest }) (redeemed s m)
 
 -- a challenge response, by the challenge that it names
@@ -158,47 +171,56 @@ IsTask s (What.Frame peer moment nonce bytes) k =
 
 -- ---- what a task does
 
--- a reply to the request, with the envelope's session and request number
-abbrev pub answer_octets : Envelope → Content → ℕ → ReplyContent → List ℕ
-answer_octets e r code content = reply_octets (reply_to e.session e.request r code content)
+-- a reply to the request of this algorithm, with the envelope's session and request number
+abbrev pub answer_octets : Algorithm → Envelope → Content → ℕ → ReplyContent → List ℕ
+answer_octets a e r code content = reply_octets (reply_to a e.session e.request r code content)
 
 -- a challenge under this number, with the envelope's request number
-abbrev pub challenge_octets : ℕ → Envelope → Content → List ℕ → List ℕ
-challenge_octets number e r nonce = reply_octets (challenge_to number e.request r nonce)
+abbrev pub challenge_octets : Algorithm → ℕ → Envelope → Content → List ℕ → List ℕ
+challenge_octets a number e r nonce = reply_octets (challenge_to a number e.request r nonce)
 
 -- the request that waits for its response
-abbrev pub pending : Letter → Content → Pending
-pending m r = record { peer = m.peer; moment = m.moment; nonce = m.nonce; digest = digest_of r; message = m.message }
+abbrev pub pending : Algorithm → Letter → Content → Pending
+pending a m r = record { peer = m.peer; moment = m.moment; nonce = m.nonce; digest = digest_of a r; message = m.message }
 
 -- the lane's next number, and the challenge put under it
-abbrev pub challenge_effect : LaneState → Letter → Content → Effect
-challenge_effect s m r = record {
-  outcome = Reply (challenge_octets s.challenges.next m.envelope r m.nonce);
-  state = record s { challenges = challenged s.challenges (pending m r) };
+abbrev pub challenge_effect : Algorithm → LaneState → Letter → Content → Effect
+challenge_effect a s m r = record {
+  outcome = Reply (challenge_octets a s.challenges.next m.envelope r m.nonce);
+  state = record s { challenges = challenged s.challenges (pending a m r) };
   change = None;
 }
 
 -- the reply to the request, and the change
-abbrev pub answer_effect : LaneState → Letter → Content → Decision → Effect
-answer_effect s m r d = record {
-  outcome = Reply (answer_octets m.envelope r d.code d.content);
+abbrev pub answer_effect : Algorithm → LaneState → Letter → Content → Decision → Effect
+answer_effect a s m r d = record {
+  outcome = Reply (answer_octets a m.envelope r d.code d.content);
   state = s;
   change = d.change;
 }
 
 -- a request decided for anyone: code 402 is a challenge
-abbrev pub ask_effect : LaneState → Letter → Content → Decision → Effect
-ask_effect s m r d = if d.code == 402 then challenge_effect s m r else answer_effect s m r d
+abbrev pub ask_effect : Algorithm → LaneState → Letter → Content → Decision → Effect
+ask_effect a s m r d = if d.code == 402 then challenge_effect a s m r else answer_effect a s m r d
 
--- the effect of a task on this table, for a publisher who hosts these prefixes
-abbrev pub Does : (List ℕ → Bool) → Table → Task → Effect → Type 0
-Does hosted t (Ignore s) eff = eff ≡ record { outcome = Silent; state = s; change = None }
-Does hosted t (Break session request s) eff = eff ≡ record { outcome = CloseAfter (short_reply 4 (reply_envelope session request 0)); state = s; change = None }
-Does hosted t (Malformed m s) eff = eff ≡ record { outcome = Reply (short_reply 4 m.envelope); state = s; change = None }
-Does hosted t (Unknown m r s) eff = eff ≡ answer_effect s m r (failure 4 Empty)
-Does hosted t (Late m r s) eff = eff ≡ answer_effect s m r (failure 405 Empty)
-Does hosted t (Ask m r s) eff = (d : Decision) × Decides hosted t r Anyone d × (eff ≡ ask_effect s m r d)
-Does hosted t (Redeem m r p s) eff = (d : Decision) × Decides hosted t r (Proven p) d × (eff ≡ answer_effect s m r d)
+-- a request that came as it is, of this algorithm
+abbrev pub DoesAsk : (List ℕ → Bool) → Algorithm → Table → Letter → Content → LaneState → Effect → Type 0
+DoesAsk hosted a t m r s eff = (d : Decision) × Decides hosted a t r Anyone d × (eff ≡ ask_effect a s m r d)
+
+-- a challenged request, of this algorithm, with its proof
+abbrev pub DoesRedeem : (List ℕ → Bool) → Algorithm → Table → Letter → Content → Proof → LaneState → Effect → Type 0
+DoesRedeem hosted a t m r p s eff = (d : Decision) × Decides hosted a t r (Proven p) d × (eff ≡ answer_effect a s m r d)
+
+-- the effect of a task on this table, for a publisher who hosts these prefixes with these algorithms: a request has that of its
+-- prefix, a challenged one that of its challenge's digest
+abbrev pub Does : (List ℕ → Bool) → (List ℕ → Algorithm) → Table → Task → Effect → Type 0
+Does hosted algorithms t (Ignore s) eff = eff ≡ record { outcome = Silent; state = s; change = None }
+Does hosted algorithms t (Break session request s) eff = eff ≡ record { outcome = CloseAfter (short_reply 4 (reply_envelope session request 0)); state = s; change = None }
+Does hosted algorithms t (Malformed m s) eff = eff ≡ record { outcome = Reply (short_reply 4 m.envelope); state = s; change = None }
+Does hosted algorithms t (Unknown m r s) eff = eff ≡ answer_effect Sha1 s m r (failure 4 Empty)
+Does hosted algorithms t (Late m r a s) eff = eff ≡ answer_effect a s m r (failure 405 Empty)
+Does hosted algorithms t (Ask m r s) eff = DoesAsk hosted (request_algorithm algorithms r) t m r s eff
+Does hosted algorithms t (Redeem m r p s) eff = DoesRedeem hosted (algorithm_of p.digest) t m r p s eff
 
 -- ---- steps
 
@@ -233,7 +255,7 @@ turn w e eff = record { event = e; outcome = eff.outcome; change = eff.change; a
 -- the turn is the answer, by the lane's owner: nobody's lane is silent
 abbrev pub IsAnswerFor : World → Option ℕ → Turn → Type 0
 IsAnswerFor w None t = t ≡ record { event = t.event; outcome = Silent; change = None; after = w }
-IsAnswerFor w (Some u) t = (eff : Effect) × (k : Task) × IsTask (lane_of w t.event.lane) t.event.what k × Does (hosts w.site u) w.table k eff × (t ≡ turn w t.event eff)
+IsAnswerFor w (Some u) t = (eff : Effect) × (k : Task) × IsTask (lane_of w t.event.lane) t.event.what k × Does (hosts w.site u) (algorithms w.site u) w.table k eff × (t ≡ turn w t.event eff)
 
 abbrev pub IsAnswer : World → Turn → Type 0
 IsAnswer w t = IsAnswerFor w (owner w.site t.event.lane) t

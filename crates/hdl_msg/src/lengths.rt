@@ -6,6 +6,7 @@ ghost use Rattle.hdl_msg.specs.Message.{counted};
 ghost use Rattle.hdl_msg.specs.Reply.{capped, content_octets, digest_octets, reply_message};
 
 use crate::replies::{Reply, ReplyContent};
+use hdl_auth::algorithm::Digest;
 use hdl_value::{Octets, RawRef, Value};
 
 /// Octets of a message beside its body: the header's 24, and the credential's length.
@@ -61,7 +62,7 @@ fn handles_len(handles: &[Octets]) -> usize
     total
 }
 
-fn digest_len(digest: Option<[u8; 20]>) -> usize
+fn digest_len(digest: Option<Digest>) -> usize
     ensures { result ≡ capped (length (digest_octets digest)) }
 {
     match digest {

@@ -126,7 +126,7 @@ fn refers_with_a_digest(rt: HostRuntime) -> Result<(), Fail> {
         content,
     );
     referral.header.op_flag = OpFlag::ReturnDigest.bit();
-    referral.digest = Some([0xdd; 20]);
+    referral.digest = Some(Digest::Sha1([0xdd; 20]));
     let printed =
         "02010000 00000000 00000002 00000000 00000040 00000001 0000012e 00800000 00000000 00000000 00000024 02 dddddddddddddddddddddddddddddddddddddddd 00000007 302e4e412f3230 00000000 00000000";
     assert!(rt; is_written(rt.alloc(), &referral, printed)?);
@@ -144,9 +144,13 @@ fn challenges(rt: HostRuntime) -> Result<(), Fail> {
         content,
     );
     challenge.session = 1;
-    challenge.digest = Some([0xdd; 20]);
+    challenge.digest = Some(Digest::Sha1([0xdd; 20]));
     let printed =
         "02010000 00000001 00000007 00000000 00000045 00000001 00000192 00000000 00000000 00000000 00000029 02 dddddddddddddddddddddddddddddddddddddddd 00000010 000102030405060708090a0b0c0d0e0f 00000000";
+    assert!(rt; is_written(rt.alloc(), &challenge, printed)?);
+    challenge.digest = Some(Digest::Sha256([0xee; 32]));
+    let printed =
+        "02010000 00000001 00000007 00000000 00000051 00000001 00000192 00000000 00000000 00000000 00000035 03 eeeeeeeeeeeeeeeeeeeeeeeeeeeeeeeeeeeeeeeeeeeeeeeeeeeeeeeeeeeeeeee 00000010 000102030405060708090a0b0c0d0e0f 00000000";
     assert!(rt; is_written(rt.alloc(), &challenge, printed)?);
     Ok(())
 }

@@ -18,6 +18,7 @@ use Rattle.hdl_ops.specs.Sights.{Sight, sight, passes, passes_at}
 use Rattle.hdl_ops.specs.Anyone.{is_open, is_open_write, code_for_anyone}
 use Rattle.hdl_ops.specs.Proven.{Proof, misses_at, takes_at, misses, takes, code_before_key, code_behind_key, code_for_key, value_at, key_of, IsCodeBy}
 use Rattle.hdl_ops.specs.Decisions.{Level, Anyone, Proven, Decision, success, failure, carried, change_of, decision, DecidesBy}
+use Rattle.hdl_auth.specs.declared.algorithm.Algorithm.{Algorithm}
 use Rattle.hdl_ops.specs.Replies.{fits}
 use Rattle.hdl_ops.specs.Views.{decision_of, IsAdmitted}
 use Rattle.hdl_ops.specs.declared.admit.Admitted.{Admitted}
@@ -239,9 +240,9 @@ key_stands t s r p None code e see is one = by_mask is.0 (sym is.2 ∙ one)
 
 -- ---- the decision
 
-by_code : (t : Table) (s : Sight) (r : Content) (level : Level) (code : ℕ) → (code ≡ 1 → IfSome (change_of r.operation) (CanApply t)) → IfSome (decision s r level code).change (CanApply t)
+by_code : (a : Algorithm) (t : Table) (s : Sight) (r : Content) (level : Level) (code : ℕ) → (code ≡ 1 → IfSome (change_of r.operation) (CanApply t)) → IfSome (decision a s r level code).change (CanApply t)
 unfolding decision
-by_code t s r level code f = by_test (code == 1) refl (fits r (carried s r level))
+by_code a t s r level code f = by_test (code == 1) refl (fits a r (carried s r level))
   where
     by_test : (b : Bool) → (code == 1) ≡ b → (fit : Bool) → IfSome (cond {A = Decision} b (cond fit (success s r level) (failure 2 Empty)) (failure code Empty)).change (CanApply t)
     by_test true is true = f (eqb-true code 1 is)
@@ -258,18 +259,18 @@ admitted hosts r none =
     let hosted = no_row _ 302 _ made.1 in
     (no_row (is_bad_write r.operation) 202 _ hosted.1).0
 
-decided : (hosts : List ℕ → Bool) (t : Table) (r : Content) (level : Level) (d : Decision) → refusal hosts r ≡ None → HaveTheirIndexes t (handle_of r) (sight t r).values → DecidesBy t r level None d → IfSome d.change (CanApply t)
-decided hosts t r Anyone d none by is =
+decided : (hosts : List ℕ → Bool) (a : Algorithm) (t : Table) (r : Content) (level : Level) (d : Decision) → refusal hosts r ≡ None → HaveTheirIndexes t (handle_of r) (sight t r).values → DecidesBy a t r level None d → IfSome d.change (CanApply t)
+decided hosts a t r Anyone d none by is =
     subst (λ (x : Decision). IfSome x.change (CanApply t)) (sym is)
-    (by_code t (sight t r) r Anyone (code_for_anyone (sight t r) r) (λ one. anyone_stands t r.header r.operation (sight t r) refl by (admitted hosts r none) one))
-decided hosts t r (Proven p) d none by is =
+    (by_code a t (sight t r) r Anyone (code_for_anyone (sight t r) r) (λ one. anyone_stands t r.header r.operation (sight t r) refl by (admitted hosts r none) one))
+decided hosts a t r (Proven p) d none by is =
     subst (λ (x : Decision). IfSome x.change (CanApply t)) (sym is.2)
-    (by_code t (sight t r) r (Proven p) is.0 (λ one. changes t r.header r.operation (sight t r) refl by (admitted hosts r none) (key_stands t (sight t r) r p (code_before_key (sight t r) r p) is.0 refl refl is.1 one)))
+    (by_code a t (sight t r) r (Proven p) is.0 (λ one. changes t r.header r.operation (sight t r) refl by (admitted hosts r none) (key_stands t (sight t r) r p (code_before_key (sight t r) r p) is.0 refl refl is.1 one)))
 
 pub passed : (hosts : List ℕ → Bool) (r : Content) (a : Admitted) (name : List ℕ) → a ≡ Passed name → IsAdmitted hosts r a → refusal hosts r ≡ None
 passed hosts r a name is admitted = (subst (IsAdmitted hosts r) is admitted).0
 
-pub can_apply : {E : Type 0} (hosts : List ℕ → Bool) (t : Table) (r : Content) (level : Level) (result : Result code.Decision E) → refusal hosts r ≡ None → IfOk result (λ d. DecidesBy t r level None (decision_of d))
+pub can_apply : {E : Type 0} (hosts : List ℕ → Bool) (a : Algorithm) (t : Table) (r : Content) (level : Level) (result : Result code.Decision E) → refusal hosts r ≡ None → IfOk result (λ d. DecidesBy a t r level None (decision_of d))
     → OnOk result (HaveTheirIndexes t (handle_of r) (sight t r).values) → IfOk result (λ d. IfSome d.change (CanApply t))
-can_apply hosts t r level (Ok d) none is by = decided hosts t r level (decision_of d) none by is
-can_apply hosts t r level (Err e) none is by = tt
+can_apply hosts a t r level (Ok d) none is by = decided hosts a t r level (decision_of d) none by is
+can_apply hosts a t r level (Err e) none is by = tt

@@ -13,6 +13,7 @@ use Rattle.hdl_ops.specs.Requests.{named}
 use Rattle.hdl_ops.specs.Sights.{Sight, sight}
 use Rattle.hdl_ops.specs.Anyone.{code_for_anyone}
 use Rattle.hdl_ops.specs.Proven.{Proof, key_of, value_at, code_before_key, code_behind_key, code_for_key, IsCodeBy}
+use Rattle.hdl_auth.specs.declared.algorithm.Algorithm.{Algorithm}
 use Rattle.hdl_ops.specs.Replies.{fits}
 use Rattle.hdl_ops.specs.Decisions.{Level, Anyone, Proven, Decision, Decides, DecidesBy, decision, refused, success, failure, carried}
 use Rattle.hdl_ops.specs.Laws.{told}
@@ -78,16 +79,16 @@ refusal_code hosts r =
 
 -- ---- what is told with a code
 
-module _ (t : Table) (r : Content) (level : Level) where
+module _ (a : Algorithm) (t : Table) (r : Content) (level : Level) where
   -- the decision has the code of an answer, and tells what its code says
   abbrev TellsOnly : Decision → Type 0
   TellsOnly d = IsTrue (is_answer_code d.code) × (d.content ≡ told t r level d.code)
 
-  decision_tells : (c : ℕ) → IsTrue (is_table_code c) → TellsOnly (decision (sight t r) r level c)
+  decision_tells : (c : ℕ) → IsTrue (is_table_code c) → TellsOnly (decision a (sight t r) r level c)
   unfolding decision
-  decision_tells c e = pick (c == 1) refl (fits r (carried (sight t r) r level))
+  decision_tells c e = pick (c == 1) refl (fits a r (carried (sight t r) r level))
     where
-      pick : (a : Bool) → c == 1 ≡ a → (b : Bool) → TellsOnly (cond {A = Decision} a (cond {A = Decision} b (success (sight t r) r level) (failure 2 Empty)) (failure c Empty))
+      pick : (x : Bool) → c == 1 ≡ x → (b : Bool) → TellsOnly (cond {A = Decision} x (cond {A = Decision} b (success (sight t r) r level) (failure 2 Empty)) (failure c Empty))
       pick true is true = (refl, refl)
       pick true is false = (refl, refl)
       pick false is b =
@@ -102,15 +103,15 @@ module _ (t : Table) (r : Content) (level : Level) where
       let parts = and_parts (is_answer_code c) _ e in
       (parts.0, sym (ap (λ x. cond x (carried (sight t r) r level) (cond (c == 302) (Referral (sent_prefix (named r.operation))) Empty)) (not-true (c == 1) parts.1)))
 
-tells_by : (hosts : List ℕ → Bool) (t : Table) (r : Content) (level : Level) (d : Decision) (c : Option ℕ) → refusal hosts r ≡ c → DecidesBy t r level c d → TellsOnly t r level d
-tells_by hosts t r level d (Some c) e is =
-    subst (TellsOnly t r level) (sym is) (refused_tells t r level c (ap (λ o. is_refusal_code (or_code o 0)) (sym e) ∙ refusal_code hosts r))
-tells_by hosts t r Anyone d None e is = subst (TellsOnly t r Anyone) (sym is) (decision_tells t r Anyone _ (anyone_code (sight t r) r))
-tells_by hosts t r (Proven p) d None e is =
-    subst (TellsOnly t r (Proven p)) (sym is.2) (decision_tells t r (Proven p) is.0 (proof_code t r p (code_before_key (sight t r) r p) is.0 (before_code (sight t r) r p) is.1))
+tells_by : (hosts : List ℕ → Bool) (a : Algorithm) (t : Table) (r : Content) (level : Level) (d : Decision) (c : Option ℕ) → refusal hosts r ≡ c → DecidesBy a t r level c d → TellsOnly a t r level d
+tells_by hosts a t r level d (Some c) e is =
+    subst (TellsOnly a t r level) (sym is) (refused_tells a t r level c (ap (λ o. is_refusal_code (or_code o 0)) (sym e) ∙ refusal_code hosts r))
+tells_by hosts a t r Anyone d None e is = subst (TellsOnly a t r Anyone) (sym is) (decision_tells a t r Anyone _ (anyone_code (sight t r) r))
+tells_by hosts a t r (Proven p) d None e is =
+    subst (TellsOnly a t r (Proven p)) (sym is.2) (decision_tells a t r (Proven p) is.0 (proof_code t r p (code_before_key (sight t r) r p) is.0 (before_code (sight t r) r p) is.1))
 
-pub decides_code : (hosts : List ℕ → Bool) (t : Table) (r : Content) (level : Level) (d : Decision) → Decides hosts t r level d → IsTrue (is_answer_code d.code)
-decides_code hosts t r level d is = (tells_by hosts t r level d (refusal hosts r) refl is).0
+pub decides_code : (hosts : List ℕ → Bool) (a : Algorithm) (t : Table) (r : Content) (level : Level) (d : Decision) → Decides hosts a t r level d → IsTrue (is_answer_code d.code)
+decides_code hosts a t r level d is = (tells_by hosts a t r level d (refusal hosts r) refl is).0
 
-pub tells_by_code_lem : (hosts : List ℕ → Bool) (t : Table) (r : Content) (level : Level) (d : Decision) → Decides hosts t r level d → d.content ≡ told t r level d.code
-tells_by_code_lem hosts t r level d is = (tells_by hosts t r level d (refusal hosts r) refl is).1
+pub tells_by_code_lem : (hosts : List ℕ → Bool) (a : Algorithm) (t : Table) (r : Content) (level : Level) (d : Decision) → Decides hosts a t r level d → d.content ≡ told t r level d.code
+tells_by_code_lem hosts a t r level d is = (tells_by hosts a t r level d (refusal hosts r) refl is).1

@@ -1,6 +1,7 @@
 -- A request is decided in one way.
 use Rattle.std.proofs.Common.{◌≡◌, ℕ, List, Bool, Option, Some, None, sym, ap, ◌∙◌}
 use Rattle.hdl_value.specs.Place.{Place}
+use Rattle.hdl_auth.specs.declared.algorithm.Algorithm.{Algorithm}
 use Rattle.hdl_rows.specs.Table.{Table, values_of}
 use Rattle.hdl_reach.specs.Reach.{grants}
 use Rattle.hdl_reach.proofs.Agreement.{one_union}
@@ -19,10 +20,10 @@ code_one : (t : Table) (r : Content) (p : Proof) (early : Option ℕ) (c c' : �
 code_one t r p (Some e) c c' a b = a ∙ sym b
 code_one t r p None c c' a b = a.2 ∙ ap (λ m. code_for_key (sight t r) r p m (value_at t (key_of p))) (mask_one t (target r.operation) (key_of p) a.0 b.0 a.1 b.1) ∙ sym b.2
 
-one_by : (t : Table) (r : Content) (level : Level) (c : Option ℕ) (d d' : Decision) → DecidesBy t r level c d → DecidesBy t r level c d' → d ≡ d'
-one_by t r level (Some c) d d' a b = a ∙ sym b
-one_by t r Anyone None d d' a b = a ∙ sym b
-one_by t r (Proven p) None d d' a b = a.2 ∙ ap (decision (sight t r) r (Proven p)) (code_one t r p (code_before_key (sight t r) r p) a.0 b.0 a.1 b.1) ∙ sym b.2
+one_by : (a : Algorithm) (t : Table) (r : Content) (level : Level) (c : Option ℕ) (d d' : Decision) → DecidesBy a t r level c d → DecidesBy a t r level c d' → d ≡ d'
+one_by g t r level (Some c) d d' a b = a ∙ sym b
+one_by g t r Anyone None d d' a b = a ∙ sym b
+one_by g t r (Proven p) None d d' a b = a.2 ∙ ap (decision g (sight t r) r (Proven p)) (code_one t r p (code_before_key (sight t r) r p) a.0 b.0 a.1 b.1) ∙ sym b.2
 
-pub one_decision_lem : (hosts : List ℕ → Bool) (t : Table) (r : Content) (level : Level) (d d' : Decision) → Decides hosts t r level d → Decides hosts t r level d' → d ≡ d'
-one_decision_lem hosts t r level d d' a b = one_by t r level (refusal hosts r) d d' a b
+pub one_decision_lem : (hosts : List ℕ → Bool) (a : Algorithm) (t : Table) (r : Content) (level : Level) (d d' : Decision) → Decides hosts a t r level d → Decides hosts a t r level d' → d ≡ d'
+one_decision_lem hosts g t r level d d' a b = one_by g t r level (refusal hosts r) d d' a b

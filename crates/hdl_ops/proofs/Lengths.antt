@@ -4,7 +4,10 @@ use Rattle.std.specs.Prelude.{IsTrue, codes}
 use Rattle.std.specs.List.{position_or_len}
 use Rattle.std.proofs.lemmas.Bool.{leb-true, le-leb}
 use Rattle.std.proofs.lemmas.List.{length-take, length-drop}
-use Rattle.sha1.specs.Sha1.{sha1, digest_bytes}
+use Rattle.hdl_auth.specs.declared.algorithm.Algorithm.{Algorithm}
+use Rattle.hdl_auth.specs.declared.algorithm.Digest.{Digest}
+use Rattle.hdl_auth.specs.Digest.{spelt, digest_of}
+use Rattle.hdl_auth.proofs.Digests.{digest_short}
 use Rattle.hdl_name.specs.Name.{IsHandle, is_slash, is_admin, sent_authority, sent_local, sent_prefix}
 use Rattle.hdl_value.specs.Spelling.{string}
 use Rattle.hdl_msg.specs.Message.{Content, number, signed_octets}
@@ -16,54 +19,50 @@ use Rattle.hdl_msg.proofs.Written.{length-reply_message}
 use Rattle.hdl_ops.specs.Requests.{wants_digest}
 use Rattle.hdl_ops.specs.Replies.{reply_to, fits}
 
-same_length : (session number : ℕ) (r : Content) (code : ℕ) (content : ReplyContent)
-    → length (reply_message (reply_to session number r code content)) ≡ length (reply_message (reply_to 0 0 r 0 content))
+same_length : (a : Algorithm) (session number : ℕ) (r : Content) (code : ℕ) (content : ReplyContent)
+    → length (reply_message (reply_to a session number r code content)) ≡ length (reply_message (reply_to a 0 0 r 0 content))
 unfolding reply_to reply_body
-same_length session number r code content = length-reply_message (reply_to session number r code content) ∙ sym (length-reply_message (reply_to 0 0 r 0 content))
+same_length a session number r code content = length-reply_message (reply_to a session number r code content) ∙ sym (length-reply_message (reply_to a 0 0 r 0 content))
 
-pub fits_anywhere : (session number : ℕ) (r : Content) (code : ℕ) (content : ReplyContent) → IsTrue (fits r content)
-    → length (reply_message (reply_to session number r code content)) ≤ most_octets
+pub fits_anywhere : (a : Algorithm) (session number : ℕ) (r : Content) (code : ℕ) (content : ReplyContent) → IsTrue (fits a r content)
+    → length (reply_message (reply_to a session number r code content)) ≤ most_octets
 unfolding fits
-fits_anywhere session number r code content h =
-    let le = leb-true (length (reply_message (reply_to 0 0 r 0 content))) most_octets h in
-    let same = same_length session number r code content in
+fits_anywhere a session number r code content h =
+    let le = leb-true (length (reply_message (reply_to a 0 0 r 0 content))) most_octets h in
+    let same = same_length a session number r code content in
     omega (arith, le, same)
 
 -- a reply that was measured and is short enough gives its content back
-pub content_fits : (r : Content) (content : ReplyContent) (reply : Reply) (n : ℕ) → reply ≡ reply_to 0 0 r 0 content → n ≡ capped (length (reply_message reply)) → n ≤ most_octets
-    → Some reply.content ≡ cond (fits r content) (Some content) None
+pub content_fits : (a : Algorithm) (r : Content) (content : ReplyContent) (reply : Reply) (n : ℕ) → reply ≡ reply_to a 0 0 r 0 content → n ≡ capped (length (reply_message reply)) → n ≤ most_octets
+    → Some reply.content ≡ cond (fits a r content) (Some content) None
 unfolding fits reply_to
-content_fits r content reply n is len le =
-    let short : length (reply_message (reply_to 0 0 r 0 content)) ≤ most_octets =
+content_fits a r content reply n is len le =
+    let short : length (reply_message (reply_to a 0 0 r 0 content)) ≤ most_octets =
     subst (λ (y : Reply). length (reply_message y) ≤ most_octets) is (omega (arith, len, le)) in
-    ap (λ (y : Reply). Some y.content) is ∙ ap (λ (b : Bool). cond b (Some content) None) (sym (le-leb (length (reply_message (reply_to 0 0 r 0 content))) most_octets short))
+    ap (λ (y : Reply). Some y.content) is ∙ ap (λ (b : Bool). cond b (Some content) None) (sym (le-leb (length (reply_message (reply_to a 0 0 r 0 content))) most_octets short))
 
 -- ---- what always fits
 
-pub length-sha1 : (m : List ℕ) → length (sha1 m) ≡ 20
-unfolding sha1 digest_bytes
-length-sha1 m = refl
+asked_short : (a : Algorithm) (b : Bool) (m : List ℕ) → length (digest_octets (cond b (Some (digest_of a m)) None)) ≤ 33
+asked_short a true m = digest_short a m
+asked_short a false m = omega arith
 
-digest_short : (b : Bool) (m : List ℕ) → length (digest_octets (cond b (Some (sha1 m)) None)) ≤ 21
-digest_short true m = let len = length-sha1 m in omega (arith, len)
-digest_short false m = omega arith
-
-short_fits : (r : Content) (content : ReplyContent) → length (content_octets content) ≤ 60000 → IsTrue (fits r content)
+short_fits : (a : Algorithm) (r : Content) (content : ReplyContent) → length (content_octets content) ≤ 60000 → IsTrue (fits a r content)
 unfolding fits reply_to
-short_fits r content h =
-    let y = reply_to 0 0 r 0 content in
+short_fits a r content h =
+    let y = reply_to a 0 0 r 0 content in
     let len = length-reply_message y in
-    let digest = digest_short (wants_digest r) (signed_octets r) in
+    let digest = asked_short a (wants_digest r) (signed_octets r) in
     le-leb (length (reply_message y)) most_octets (omega (arith, len, digest, h))
 
-pub empty_fits : (r : Content) → IsTrue (fits r Empty)
-empty_fits r = short_fits r Empty (omega arith)
+pub empty_fits : (a : Algorithm) (r : Content) → IsTrue (fits a r Empty)
+empty_fits a r = short_fits a r Empty (omega arith)
 
-pub referral_fits : (r : Content) (prefix : List ℕ) → length prefix ≤ 2048 → IsTrue (fits r (Referral prefix))
-referral_fits r prefix h =
+pub referral_fits : (a : Algorithm) (r : Content) (prefix : List ℕ) → length prefix ≤ 2048 → IsTrue (fits a r (Referral prefix))
+referral_fits a r prefix h =
     let front = length-append (codes "0.NA/") prefix in
     let all = length-append (string (codes "0.NA/" ++ prefix)) (number 0) in
-    short_fits r (Referral prefix) (omega (arith, front, all, h))
+    short_fits a r (Referral prefix) (omega (arith, front, all, h))
 
 -- a name's prefix is no longer than the name
 pub prefix_short : (name : List ℕ) → IsHandle name → length (sent_prefix name) ≤ 2048
@@ -74,7 +73,7 @@ prefix_short name h = by (is_admin name)
     by false = let short = h.2.short in let len = length-take (position_or_len is_slash name) name in omega (arith, short, len)
 
 -- a challenge always fits
-pub challenge_short : (y : Reply) (d nonce : List ℕ) → y.digest ≡ Some d → y.content ≡ Nonce nonce → length d ≤ 20 → length nonce ≤ 16 → length (reply_message y) ≤ most_octets
+pub challenge_short : (y : Reply) (d : Digest) (nonce : List ℕ) → y.digest ≡ Some d → y.content ≡ Nonce nonce → length (spelt d) ≤ 33 → length nonce ≤ 16 → length (reply_message y) ≤ most_octets
 challenge_short y d nonce digest content short few =
     let len = length-reply_message y in
     let front : length (digest_octets y.digest) ≡ length (digest_octets (Some d)) = ap (λ o. length (digest_octets o)) digest in

@@ -6,6 +6,8 @@ use Rattle.hdl_name.specs.Tests.{is_handle}
 use Rattle.hdl_value.specs.declared.value.Value.{Value}
 use Rattle.hdl_value.specs.Refs.{is_admin}
 use Rattle.hdl_value.specs.Tests.{is_sound}
+use Rattle.hdl_auth.specs.declared.algorithm.Algorithm.{Algorithm}
+use Rattle.hdl_auth.specs.declared.algorithm.Algorithm.TheVariants.{Sha1}
 use Rattle.hdl_msg.specs.Message.{Content, Operation, create, add, remove, modify}
 use Rattle.hdl_ops.specs.First.{first}
 use Rattle.hdl_ops.specs.Requests.{named, is_unused, makes_or_ends, is_list}
@@ -36,6 +38,12 @@ is_bad_write (add handle vs) = are_bad vs
 is_bad_write (modify handle vs) = are_bad vs
 is_bad_write (remove handle is) = is_bad_list (λ i. i) is
 is_bad_write _ = false
+
+-- ---- the hash function
+
+-- the hash function of a request, where prefixes have these: that of the prefix of the handle that it names
+abbrev pub request_algorithm : (List ℕ → Algorithm) → Content → Algorithm
+request_algorithm algorithms r = if is_handle (named r.operation) then algorithms (name.prefix (named r.operation)) else Sha1
 
 -- ---- the table
 

@@ -4,6 +4,7 @@ use Rattle.std.specs.Prelude.{◌≡◌, ℕ, List, Bool, ◌==◌, ◌&&◌, �
 use Rattle.hdl_name.specs.Name as name
 use Rattle.hdl_value.specs.declared.value.Value.{Value}
 use Rattle.hdl_value.specs.Permission.{is_public, is_kept}
+use Rattle.hdl_auth.specs.declared.algorithm.Algorithm.{Algorithm}
 use Rattle.hdl_rows.specs.Table.{Table}
 use Rattle.hdl_msg.specs.Message.{Content, Operation, resolution, create, delete, add, remove, modify, list}
 use Rattle.hdl_msg.specs.declared.replies.ReplyContent.{ReplyContent}
@@ -64,19 +65,19 @@ abbrev pub failure : ℕ → ReplyContent → Decision
 failure code content = record { code = code; content = content; change = None }
 
 -- by the code of the table of decision; where code 1 would need too long a message, the code is 2
-unfoldable pub decision : Sight → Content → Level → ℕ → Decision
-decision s r level code =
-    if code == 1 then (if fits r (carried s r level) then success s r level else failure 2 Empty)
+unfoldable pub decision : Algorithm → Sight → Content → Level → ℕ → Decision
+decision a s r level code =
+    if code == 1 then (if fits a r (carried s r level) then success s r level else failure 2 Empty)
     else failure code Empty
 
 unfoldable pub refused : Content → ℕ → Decision
 refused r code = failure code (if code == 302 then Referral (name.sent_prefix (named r.operation)) else Empty)
 
-abbrev pub DecidesBy : Table → Content → Level → Option ℕ → Decision → Type 0
-DecidesBy t r level (Some code) d = d ≡ refused r code
-DecidesBy t r Anyone None d = d ≡ decision (sight t r) r Anyone (code_for_anyone (sight t r) r)
-DecidesBy t r (Proven p) None d = (code : ℕ) × IsCodeForProof t r p code × (d ≡ decision (sight t r) r (Proven p) code)
+abbrev pub DecidesBy : Algorithm → Table → Content → Level → Option ℕ → Decision → Type 0
+DecidesBy a t r level (Some code) d = d ≡ refused r code
+DecidesBy a t r Anyone None d = d ≡ decision a (sight t r) r Anyone (code_for_anyone (sight t r) r)
+DecidesBy a t r (Proven p) None d = (code : ℕ) × IsCodeForProof t r p code × (d ≡ decision a (sight t r) r (Proven p) code)
 
--- the decision about the request on this table, for a publisher who hosts these prefixes
-abbrev pub Decides : (List ℕ → Bool) → Table → Content → Level → Decision → Type 0
-Decides hosts t r level d = DecidesBy t r level (refusal hosts r) d
+-- the decision about the request of this algorithm on this table, for a publisher who hosts these prefixes
+abbrev pub Decides : (List ℕ → Bool) → Algorithm → Table → Content → Level → Decision → Type 0
+Decides hosts a t r level d = DecidesBy a t r level (refusal hosts r) d

@@ -1,6 +1,7 @@
 -- Laws over decisions.
 use Rattle.std.specs.Prelude.{◌≡◌, ℕ, ◌==◌, List, Bool, if◌then◌else◌}
 use Rattle.hdl_name.specs.Name.{sent_prefix}
+use Rattle.hdl_auth.specs.declared.algorithm.Algorithm.{Algorithm}
 use Rattle.hdl_rows.specs.Table.{Table}
 use Rattle.hdl_msg.specs.Message.{Content}
 use Rattle.hdl_msg.specs.declared.replies.ReplyContent.{ReplyContent}
@@ -11,7 +12,7 @@ use Rattle.hdl_ops.specs.Sights.{sight}
 
 -- a request is decided in one way
 abbrev pub OneDecision : Type 0
-OneDecision = (hosts : List ℕ → Bool) (t : Table) (r : Content) (level : Level) (d d' : Decision) → Decides hosts t r level d → Decides hosts t r level d' → d ≡ d'
+OneDecision = (hosts : List ℕ → Bool) (a : Algorithm) (t : Table) (r : Content) (level : Level) (d d' : Decision) → Decides hosts a t r level d → Decides hosts a t r level d' → d ≡ d'
 
 -- what is told with a code: with 1 the values that are asked for and that the level may read, or the handles of the prefix that is
 -- listed; with 302 the prefix that was named; nothing with another
@@ -22,4 +23,4 @@ told t r level code =
 
 -- a decision tells what its code says, and no more
 abbrev pub TellsByCode : Type 0
-TellsByCode = (hosts : List ℕ → Bool) (t : Table) (r : Content) (level : Level) (d : Decision) → Decides hosts t r level d → d.content ≡ told t r level d.code
+TellsByCode = (hosts : List ℕ → Bool) (a : Algorithm) (t : Table) (r : Content) (level : Level) (d : Decision) → Decides hosts a t r level d → d.content ≡ told t r level d.code

@@ -12,6 +12,8 @@ use Rattle.hdl_value.specs.Place.{Place}
 use Rattle.hdl_value.specs.Refs.{is_admin, is_secret_key}
 use Rattle.hdl_rows.specs.Table.{Table, place, at, value_with}
 use Rattle.hdl_reach.specs.Reach.{IsMask}
+use Rattle.hdl_auth.specs.declared.algorithm.Digest.{Digest}
+use Rattle.hdl_auth.specs.Digest.{algorithm_of}
 use Rattle.hdl_auth.specs.Mac.{has_response_form, is_right_response}
 use Rattle.hdl_msg.specs.Message.{Content, Operation, resolution, create, delete, add, remove, modify, list}
 use Rattle.hdl_ops.specs.First.{first, or_code}
@@ -23,14 +25,14 @@ use Rattle.hdl_ops.specs.Sights.{Sight, sight, asks, passes, passes_at}
 pub record Proof : Type 0 where
   pub response : Response
   pub nonce : List ℕ
-  pub digest : List ℕ
+  pub digest : Digest
 
 -- ---- before administrators are looked for
 
 unfoldable pub code_before_key : Sight → Content → Proof → Option ℕ
 code_before_key s r p = first
     ((not (bytes_eq p.response.kind secret_key_kind), 406)
-    ∷ (not (has_response_form p.response.answer), 404)
+    ∷ (not (has_response_form (algorithm_of p.digest) p.response.answer), 404)
     ∷ (creates r.operation && s.there, 101)
     ∷ (not (creates r.operation) && not s.there, 100)
     ∷ [])

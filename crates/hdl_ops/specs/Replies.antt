@@ -1,6 +1,8 @@
 -- The reply to a request: its digest where the request asks for it, and its content.
 use Rattle.std.specs.Prelude.{ℕ, List, Bool, Option, Some, None, if◌then◌else◌, length, nat_le}
-use Rattle.sha1.specs.Sha1.{sha1}
+use Rattle.hdl_auth.specs.declared.algorithm.Algorithm.{Algorithm}
+use Rattle.hdl_auth.specs.declared.algorithm.Digest.{Digest}
+use Rattle.hdl_auth.specs.Digest as auth
 use Rattle.hdl_msg.specs.Message.{Content, signed_octets}
 use Rattle.hdl_msg.specs.declared.replies.Reply.{Reply}
 use Rattle.hdl_msg.specs.declared.replies.ReplyContent.{ReplyContent}
@@ -8,33 +10,33 @@ use Rattle.hdl_msg.specs.declared.replies.ReplyContent.TheVariants.{Nonce}
 use Rattle.hdl_msg.specs.Reply.{most_octets, answer_header, reply_message}
 use Rattle.hdl_ops.specs.Requests.{wants_digest}
 
--- the digest of a request: the SHA-1 of its header and body
-abbrev pub digest_of : Content → List ℕ
-digest_of r = sha1 (signed_octets r)
+-- the digest of a request by its algorithm: that of its header and body
+abbrev pub digest_of : Algorithm → Content → Digest
+digest_of a r = auth.digest_of a (signed_octets r)
 
-abbrev pub asked_digest : Content → Option (List ℕ)
-asked_digest r = if wants_digest r then Some (digest_of r) else None
+abbrev pub asked_digest : Algorithm → Content → Option Digest
+asked_digest a r = if wants_digest r then Some (digest_of a r) else None
 
 -- the reply with this session, request number and code
-unfoldable pub reply_to : ℕ → ℕ → Content → ℕ → ReplyContent → Reply
-reply_to session number r code content = record {
+unfoldable pub reply_to : Algorithm → ℕ → ℕ → Content → ℕ → ReplyContent → Reply
+reply_to a session number r code content = record {
   session = session;
   request = number;
   header = answer_header r.header code;
-  digest = asked_digest r;
+  digest = asked_digest a r;
   content = content;
 }
 
 -- the challenge that is sent in place of an answer: the request's digest, and a nonce
-unfoldable pub challenge_to : ℕ → ℕ → Content → List ℕ → Reply
-challenge_to session number r nonce = record {
+unfoldable pub challenge_to : Algorithm → ℕ → ℕ → Content → List ℕ → Reply
+challenge_to a session number r nonce = record {
   session = session;
   request = number;
   header = answer_header r.header 402;
-  digest = Some (digest_of r);
+  digest = Some (digest_of a r);
   content = Nonce nonce;
 }
 
 -- the message of a reply with this content has at most 65,536 octets, whatever session, request number and code
-unfoldable pub fits : Content → ReplyContent → Bool
-fits r content = nat_le (length (reply_message (reply_to 0 0 r 0 content))) most_octets
+unfoldable pub fits : Algorithm → Content → ReplyContent → Bool
+fits a r content = nat_le (length (reply_message (reply_to a 0 0 r 0 content))) most_octets

@@ -1,5 +1,6 @@
 -- What the code's types are in the words of the definitions.
 use Rattle.std.specs.Prelude.{◌≡◌, ℕ, Bool, List, Some, None, IsTrue}
+use Rattle.hdl_auth.specs.declared.algorithm.Algorithm.{Algorithm}
 use Rattle.hdl_msg.specs.Codes.{response_number}
 use Rattle.hdl_msg.specs.Message.{Content}
 use Rattle.hdl_ops.specs.declared.admit.Admitted.{Admitted}
@@ -36,5 +37,5 @@ level_of (level.Proven p) = d.Proven (proof_of p)
 
 -- what comes of the tests before the table is looked at
 abbrev pub IsAdmitted : (List ℕ → Bool) → Content → Admitted → Type 0
-IsAdmitted hosts r (admitted.Refused x) = (refusal hosts r ≡ Some (response_number x.code)) × (decision_of x ≡ d.refused r (response_number x.code)) × IsTrue (fits r x.content) × (x.change ≡ None)
+IsAdmitted hosts r (admitted.Refused x) = (refusal hosts r ≡ Some (response_number x.code)) × (decision_of x ≡ d.refused r (response_number x.code)) × ((a : Algorithm) → IsTrue (fits a r x.content)) × (x.change ≡ None)
 IsAdmitted hosts r (admitted.Passed name) = (refusal hosts r ≡ None) × (name ≡ named r.operation)

@@ -3,14 +3,15 @@
 ghost use Rattle.std.specs.Prelude.{◌≡◌, ◌≤◌, length, option_map, IfOk, IfSome};
 ghost use Rattle.hdl_name.specs.Name.{canonical, sent_prefix};
 ghost use Rattle.hdl_name.specs.Tests.{is_handle};
-ghost use Rattle.hdl_tenants.specs.Register.{hosts};
+ghost use Rattle.hdl_tenants.specs.Register.{algorithm, hosts};
 ghost use Rattle.hdl_msg.specs.Bodies.{content_of};
-ghost use Rattle.hdl_ops.specs.Admission.{handle_in};
+ghost use Rattle.hdl_ops.specs.Admission.{handle_in, request_algorithm};
 ghost use Rattle.hdl_ops.specs.Views.{IsAdmitted};
 
 use crate::decision::Decision;
 use crate::requests::{is_list, is_unused, makes_or_ends, named};
 use crate::written::is_bad_write;
+use hdl_auth::algorithm::Algorithm;
 use hdl_msg::{ReplyContent, Request, ResponseCode};
 use hdl_name::{Name, names_decided};
 use hdl_rows::Refused;
@@ -43,6 +44,26 @@ pub(crate) fn read_name(alloc: Global, octets: &[u8]) -> Result<Option<Name>, Re
     }
     match Name::read(alloc, octets) {
         Ok(name) => Ok(Some(name)),
+        Err(_) => Err(Refused),
+    }
+}
+
+/// The hash function of a request on a lane of the publisher: that of the prefix of the handle that it names, where this is
+/// hosted for the publisher, else SHA-1.
+pub fn request_algorithm(
+    alloc: Global,
+    tenants: &Tenants,
+    publisher: usize,
+    request: &Request<'_>,
+) -> Result<Algorithm, Refused>
+    ensures { IfOk result (λ a. a ≡ request_algorithm (algorithm tenants.now publisher) (content_of request.now)) }
+{
+    let octets = named(&request.body);
+    if !is_name(octets) {
+        return Ok(Algorithm::Sha1);
+    }
+    match Name::read(alloc, octets) {
+        Ok(name) => Ok(tenants.algorithm(publisher, &name)),
         Err(_) => Err(Refused),
     }
 }

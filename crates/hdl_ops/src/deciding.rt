@@ -21,6 +21,7 @@ use crate::decision::{Decision, Level, Proof, Sight};
 use crate::keys::code_for_proof;
 use crate::requests::is_list;
 use crate::settle::settle;
+use hdl_auth::algorithm::Algorithm;
 use hdl_msg::Request;
 use hdl_name::Name;
 use hdl_rows::{Refused, Rows};
@@ -75,6 +76,7 @@ fn look<R: Rows>(
 /// The decision about a request that came as it is, and that the tests before the table let pass.
 fn decide_for_anyone<R: Rows>(
     alloc: Global,
+    algorithm: Algorithm,
     rows: &mut R,
     request: &Request<'_>,
     name: Name,
@@ -82,20 +84,21 @@ fn decide_for_anyone<R: Rows>(
     requires signed { request.now.signed.now ≡ signed_octets (content_of request.now) }
     requires named { name ≡ named (content_of request.now).operation }
     ensures unchanged { R.content rows.new ≡ R.content rows.old }
-    ensures decided { IfOk result (λ d. DecidesBy (R.content rows.old) (content_of request.now) decisions.Anyone None (decision_of d)) }
-    ensures carried { IfOk result (λ d. IsTrue (fits (content_of request.now) d.content)) }
+    ensures decided { IfOk result (λ d. DecidesBy algorithm (R.content rows.old) (content_of request.now) decisions.Anyone None (decision_of d)) }
+    ensures carried { IfOk result (λ d. IsTrue (fits algorithm (content_of request.now) d.content)) }
     ensures by_index { OnOk result (HaveTheirIndexes (R.content rows.old) (handle_of (content_of request.now)) (sight (R.content rows.old) (content_of request.now)).values) }
     ensures answered { OnOk result (R.refused rows.new ≡ R.refused rows.old) }
     ensures refused { OnErr result ((R.refused rows.new ≡ R.refused rows.old) ⊎ (R.refused rows.new ≡ min (R.refused rows.old + 1) most)) }
 {
     let sight = look(alloc, rows, request, &name)?;
     let code = code_for_anyone(request, &sight);
-    settle(alloc, request, &Level::Anyone, sight, code, name)
+    settle(alloc, algorithm, request, &Level::Anyone, sight, code, name)
 }
 
 /// The decision about a request that came back with a proof.
 fn decide_with_proof<R: Rows>(
     alloc: Global,
+    algorithm: Algorithm,
     rows: &mut R,
     request: &Request<'_>,
     name: Name,
@@ -104,15 +107,23 @@ fn decide_with_proof<R: Rows>(
     requires signed { request.now.signed.now ≡ signed_octets (content_of request.now) }
     requires named { name ≡ named (content_of request.now).operation }
     ensures unchanged { R.content rows.new ≡ R.content rows.old }
-    ensures decided { IfOk result (λ d. DecidesBy (R.content rows.old) (content_of request.now) (decisions.Proven (proof_of proof.now)) None (decision_of d)) }
-    ensures carried { IfOk result (λ d. IsTrue (fits (content_of request.now) d.content)) }
+    ensures decided { IfOk result (λ d. DecidesBy algorithm (R.content rows.old) (content_of request.now) (decisions.Proven (proof_of proof.now)) None (decision_of d)) }
+    ensures carried { IfOk result (λ d. IsTrue (fits algorithm (content_of request.now) d.content)) }
     ensures by_index { OnOk result (HaveTheirIndexes (R.content rows.old) (handle_of (content_of request.now)) (sight (R.content rows.old) (content_of request.now)).values) }
     ensures answered { OnOk result (R.refused rows.new ≡ R.refused rows.old) }
     ensures refused { OnErr result ((R.refused rows.new ≡ R.refused rows.old) ⊎ (R.refused rows.new ≡ min (R.refused rows.old + 1) most)) }
 {
     let sight = look(alloc, rows, request, &name)?;
     let code = code_for_proof(alloc, rows, request, &sight, &name, proof)?;
-    settle(alloc, request, &Level::Proven(*proof), sight, code, name)
+    settle(
+        alloc,
+        algorithm,
+        request,
+        &Level::Proven(*proof),
+        sight,
+        code,
+        name,
+    )
 }
 
 /// The decision about a request on a lane of the publisher. The table stays as it is.
@@ -121,6 +132,7 @@ fn decide_with_proof<R: Rows>(
 /// it was. What is carried fits into the message of a reply, and a change meets the conditions of its write.
 pub fn decide<R: Rows>(
     alloc: Global,
+    algorithm: Algorithm,
     tenants: &Tenants,
     publisher: usize,
     rows: &mut R,
@@ -129,8 +141,8 @@ pub fn decide<R: Rows>(
 ) -> Result<Decision, Refused>
     requires signed { request.now.signed.now ≡ signed_octets (content_of request.now) }
     ensures unchanged { R.content rows.new ≡ R.content rows.old }
-    ensures decided { IfOk result (λ d. Decides (hosts tenants.now publisher) (R.content rows.old) (content_of request.now) (level_of level.now) (decision_of d)) }
-    ensures carried { IfOk result (λ d. IsTrue (fits (content_of request.now) d.content)) }
+    ensures decided { IfOk result (λ d. Decides (hosts tenants.now publisher) algorithm (R.content rows.old) (content_of request.now) (level_of level.now) (decision_of d)) }
+    ensures carried { IfOk result (λ d. IsTrue (fits algorithm (content_of request.now) d.content)) }
     ensures can_apply { IfOk result (λ d. IfSome d.change (λ change. CanApply (R.content rows.old) change)) }
     ensures answered { OnOk result (R.refused rows.new ≡ R.refused rows.old) }
     ensures refused { OnErr result ((R.refused rows.new ≡ R.refused rows.old) ⊎ (R.refused rows.new ≡ min (R.refused rows.old + 1) most)) }
@@ -138,8 +150,8 @@ pub fn decide<R: Rows>(
     match admit(alloc, tenants, publisher, request)? {
         Admitted::Refused(decision) => Ok(decision),
         Admitted::Passed(name) => match level {
-            Level::Anyone => decide_for_anyone(alloc, rows, request, name),
-            Level::Proven(proof) => decide_with_proof(alloc, rows, request, name, proof),
+            Level::Anyone => decide_for_anyone(alloc, algorithm, rows, request, name),
+            Level::Proven(proof) => decide_with_proof(alloc, algorithm, rows, request, name, proof),
         },
     }
 }

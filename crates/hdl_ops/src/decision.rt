@@ -2,6 +2,7 @@
 
 use crate::change::Change;
 use crate::requests::Response;
+use hdl_auth::algorithm::Digest;
 use hdl_msg::{ReplyContent, ResponseCode};
 use hdl_value::{Octets, Value};
 
@@ -19,7 +20,7 @@ pub(crate) struct Sight {
 pub struct Proof<'a> {
     pub response: Response<'a>,
     pub nonce: &'a [u8; 16],
-    pub digest: &'a [u8; 20],
+    pub digest: &'a Digest,
 }
 
 /// At what level a request is decided.

@@ -28,6 +28,7 @@ mod requests;
 mod settle;
 mod written;
 
+pub use admit::request_algorithm;
 pub use change::{Change, IndexList, apply};
 pub use deciding::decide;
 pub use decision::{Decision, Level, Proof};

@@ -137,7 +137,7 @@ pub(crate) fn code_before_key(
     if proof.response.kind != SECRET_KEY {
         return Some(ResponseCode::UnableToAuthenticate);
     }
-    if !has_response_form(proof.response.answer) {
+    if !has_response_form(proof.digest.algorithm(), proof.response.answer) {
         return Some(ResponseCode::InvalidCredential);
     }
     if creates(body) && sight.there {

@@ -8,19 +8,20 @@ ghost use Rattle.hdl_msg.specs.Reply.{reply_octets};
 ghost use Rattle.hdl_ops.specs.Replies.{digest_of, asked_digest, reply_to, challenge_to, fits};
 
 use crate::requests::wants_digest;
+use hdl_auth::algorithm::{Algorithm, Digest};
 use hdl_auth::digest;
 use hdl_msg::{
     MESSAGE_MOST, Reply, ReplyContent, Request, ResponseCode, answer_header, reply_len, write_reply,
 };
 use std::alloc::{AllocError, Global};
 
-/// The digest of the request, where it asks for it.
-fn asked_digest(request: &Request<'_>) -> Option<[u8; 20]>
+/// The digest of the request by its algorithm, where it asks for it.
+fn asked_digest(algorithm: Algorithm, request: &Request<'_>) -> Option<Digest>
     requires signed { request.now.signed.now ≡ signed_octets (content_of request.now) }
-    ensures { result ≡ asked_digest (content_of request.now) }
+    ensures { result ≡ asked_digest algorithm (content_of request.now) }
 {
     if wants_digest(request) {
-        Some(digest(request.signed))
+        Some(digest(algorithm, request.signed))
     } else {
         None
     }
@@ -28,6 +29,7 @@ fn asked_digest(request: &Request<'_>) -> Option<[u8; 20]>
 
 #[tactic(auto, unfolding(crate::specs::Replies::reply_to))]
 fn reply_to(
+    algorithm: Algorithm,
     session: u32,
     number: u32,
     request: &Request<'_>,
@@ -35,24 +37,28 @@ fn reply_to(
     content: ReplyContent,
 ) -> Reply
     requires signed { request.now.signed.now ≡ signed_octets (content_of request.now) }
-    ensures { result ≡ reply_to session number (content_of request.now) code content }
+    ensures { result ≡ reply_to algorithm session number (content_of request.now) code content }
 {
     Reply {
         session,
         request: number,
         header: answer_header(request.header, code),
-        digest: asked_digest(request),
+        digest: asked_digest(algorithm, request),
         content,
     }
 }
 
 /// The content, if the message of a reply with it isn't too long.
 #[tactic(auto, unfolding(crate::specs::Replies::fits))]
-pub(crate) fn fitting(request: &Request<'_>, content: ReplyContent) -> Option<ReplyContent>
+pub(crate) fn fitting(
+    algorithm: Algorithm,
+    request: &Request<'_>,
+    content: ReplyContent,
+) -> Option<ReplyContent>
     requires signed { request.now.signed.now ≡ signed_octets (content_of request.now) }
-    ensures { result ≡ (if fits (content_of request.now) content then Some content else None) }
+    ensures { result ≡ (if fits algorithm (content_of request.now) content then Some content else None) }
 {
-    let reply = reply_to(0, 0, request, 0, content);
+    let reply = reply_to(algorithm, 0, 0, request, 0, content);
     if reply_len(&reply) > MESSAGE_MOST {
         return None;
     }
@@ -63,6 +69,7 @@ pub(crate) fn fitting(request: &Request<'_>, content: ReplyContent) -> Option<Re
 /// The octets of the reply with this session and request number, code and content.
 pub fn render(
     alloc: Global,
+    algorithm: Algorithm,
     session: u32,
     number: u32,
     request: &Request<'_>,
@@ -70,10 +77,10 @@ pub fn render(
     content: ReplyContent,
 ) -> Result<Vec<u8>, AllocError>
     requires signed { request.now.signed.now ≡ signed_octets (content_of request.now) }
-    requires fits { IsTrue (fits (content_of request.now) content) }
-    ensures { IfOk result (λ octets. octets.items ≡ reply_octets (reply_to session number (content_of request.now) (response_number code) content)) }
+    requires fits { IsTrue (fits algorithm (content_of request.now) content) }
+    ensures { IfOk result (λ octets. octets.items ≡ reply_octets (reply_to algorithm session number (content_of request.now) (response_number code) content)) }
 {
-    let reply = reply_to(session, number, request, code.number(), content);
+    let reply = reply_to(algorithm, session, number, request, code.number(), content);
     write_reply(alloc, &reply)
 }
 
@@ -81,16 +88,17 @@ pub fn render(
 #[tactic(auto, unfolding(crate::specs::Replies::challenge_to))]
 pub fn render_challenge(
     alloc: Global,
+    algorithm: Algorithm,
     session: u32,
     number: u32,
     request: &Request<'_>,
     nonce: &[u8; 16],
-) -> Result<(Vec<u8>, [u8; 20]), AllocError>
+) -> Result<(Vec<u8>, Digest), AllocError>
     requires signed { request.now.signed.now ≡ signed_octets (content_of request.now) }
-    ensures octets { IfOk result (λ sent. sent.0.items ≡ reply_octets (challenge_to session number (content_of request.now) nonce.now)) }
-    ensures digest { IfOk result (λ sent. sent.1 ≡ digest_of (content_of request.now)) }
+    ensures octets { IfOk result (λ sent. sent.0.items ≡ reply_octets (challenge_to algorithm session number (content_of request.now) nonce.now)) }
+    ensures digest { IfOk result (λ sent. sent.1 ≡ digest_of algorithm (content_of request.now)) }
 {
-    let request_digest = digest(request.signed);
+    let request_digest = digest(algorithm, request.signed);
     let reply = Reply {
         session,
         request: number,

@@ -17,6 +17,7 @@ use crate::change::{Change, IndexList};
 use crate::decision::{Decision, Level, Sight};
 use crate::rendering::fitting;
 use crate::written::{copied_indexes, copied_values};
+use hdl_auth::algorithm::Algorithm;
 use hdl_msg::{Body, HandleList, ReplyContent, Request, ResponseCode, ValueList, Values};
 use hdl_name::Name;
 use hdl_rows::Refused;
@@ -116,6 +117,7 @@ fn failure(code: ResponseCode) -> Decision
 #[tactic(auto, unfolding(crate::specs::Decisions::decision), using(crate::proofs::Lengths::empty_fits))]
 pub(crate) fn settle(
     alloc: Global,
+    algorithm: Algorithm,
     request: &Request<'_>,
     level: &Level<'_>,
     sight: Sight,
@@ -124,8 +126,8 @@ pub(crate) fn settle(
 ) -> Result<Decision, Refused>
     requires signed { request.now.signed.now ≡ signed_octets (content_of request.now) }
     requires named { name ≡ named (content_of request.now).operation }
-    ensures carried { IfOk result (λ d. IsTrue (fits (content_of request.now) d.content)) }
-    ensures decided { IfOk result (λ d. decision_of d ≡ decisions.decision (sight_of sight) (content_of request.now) (level_of level.now) (response_number code)) }
+    ensures carried { IfOk result (λ d. IsTrue (fits algorithm (content_of request.now) d.content)) }
+    ensures decided { IfOk result (λ d. decision_of d ≡ decisions.decision algorithm (sight_of sight) (content_of request.now) (level_of level.now) (response_number code)) }
 {
     if code != ResponseCode::Success {
         return Ok(failure(code));
@@ -133,7 +135,7 @@ pub(crate) fn settle(
     let Ok(content) = carried(alloc, request, level, sight) else {
         return Err(Refused);
     };
-    let Some(content) = fitting(request, content) else {
+    let Some(content) = fitting(algorithm, request, content) else {
         return Ok(failure(ResponseCode::Error));
     };
     let Ok(change) = change_of(alloc, &request.body, name) else {

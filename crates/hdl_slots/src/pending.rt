@@ -1,5 +1,6 @@
 //! A challenge that waits for its response.
 
+use hdl_auth::algorithm::Digest;
 use hdl_name::Octets;
 
 /// A challenge as it was sent, and the request that it stands before.
@@ -11,8 +12,8 @@ pub struct Pending {
     pub moment: u64,
     /// The challenge's nonce.
     pub nonce: [u8; 16],
-    /// The SHA-1 of the request's header and body.
-    pub digest: [u8; 20],
+    /// The digest of the request's header and body.
+    pub digest: Digest,
     /// The request's message.
     pub message: Octets,
 }

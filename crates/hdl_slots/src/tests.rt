@@ -4,13 +4,15 @@ use std::test::Fail;
 
 const NONCE: [u8; 16] = [0, 1, 2, 3, 4, 5, 6, 7, 8, 9, 10, 11, 12, 13, 14, 15];
 
+const DIGEST: Digest = Digest::Sha256([7; 32]);
+
 /// A challenge to this peer, told from others by its moment.
 fn challenge(alloc: Global, peer: u16, moment: u64) -> Result<Pending, AllocError> {
     Ok(Pending {
         peer,
         moment,
         nonce: NONCE,
-        digest: [7; 20],
+        digest: DIGEST,
         message: Octets::new(vec![in alloc; 1, 2, 3]?),
     })
 }
@@ -145,7 +147,7 @@ fn taken_as_it_was_put(rt: HostRuntime) -> Result<(), Fail> {
         return Err(Fail::from("nothing was taken"));
     };
     assert_eq!(rt; (taken.peer, taken.moment), (7, 1000));
-    assert_eq!(rt; (taken.nonce, taken.digest), (NONCE, [7; 20]));
+    assert_eq!(rt; (taken.nonce, taken.digest), (NONCE, DIGEST));
     assert_eq!(rt; taken.message.as_slice(), [1, 2, 3].as_slice());
     Ok(())
 }

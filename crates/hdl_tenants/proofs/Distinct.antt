@@ -1,13 +1,14 @@
 -- Lists without an element twice, and whether a prefix is hosted.
-use Rattle.std.proofs.Common.{◌≡◌, ◌≢◌, ◌++◌, ◌∷◌, [], List, ℕ, ◌+◌, ◌<◌, ◌==◌, ◌&&◌, ◌||◌, Bool, true, false, length, get_or, map, Contains, Some, arith, sym, ap, ◌∙◌, true≢false, refl, subst, add-one, All, IsTrue, eqb-true, ◌⊎◌, inl, inr}
+use Rattle.std.proofs.Common.{◌≡◌, ◌≢◌, ◌++◌, ◌∷◌, [], List, ℕ, ◌+◌, ◌<◌, ◌==◌, ◌&&◌, ◌||◌, Bool, true, false, length, get_or, map, Contains, arith, sym, ap, ◌∙◌, true≢false, refl, add-one, All, IsTrue, eqb-true, ◌⊎◌, inl, inr}
 use Rattle.std.specs.Str.{bytes_eq}
-use Rattle.std.specs.Map.{lookup}
 use Rattle.std.proofs.lemmas.List.{get_or_default, get_or-map, length-map}
 use Rattle.std.proofs.lemmas.List.Folds.{list_any_at}
 use Rattle.std.proofs.lemmas.Bool.Decides.{Decides-eqb}
 use Rattle.std.proofs.lemmas.List.Quantifiers.{all_pairs_push}
 use Rattle.std.proofs.lemmas.Slice.Eq.{bytes_eq-Decides}
-use Rattle.hdl_tenants.specs.Register.{Publisher, Hosting, IsHosting, AreDistinct, prefixes_of, hosts_among}
+use Rattle.std.proofs.lemmas.List.Elements.{Contains-append_cases, Contains-push_cases}
+use Rattle.hdl_auth.specs.declared.algorithm.Algorithm.TheVariants.{Sha1}
+use Rattle.hdl_tenants.specs.Register.{Publisher, Hosting, IsHosting, AreDistinct, prefixes_of, hosts_among, algorithm_among, given}
 
 pub distinct_push : {A : Type 0} (xs : List A) (y : A) → AreDistinct xs → (Contains xs y → ⊥) → AreDistinct (xs ++ y ∷ [])
 distinct_push xs y distinct new = all_pairs_push (λ a b. a ≢ b) xs y distinct (λ k d inside same. new (k, inside, get_or_default xs k y d inside ∙ same))
@@ -18,7 +19,7 @@ distinct_head x xs distinct there = distinct 0 (there.0 + 1) x (omega arith) (om
 pub distinct_tail : {A : Type 0} (x : A) (xs : List A) → AreDistinct (x ∷ xs) → AreDistinct xs
 distinct_tail x xs distinct i j d below inside same = distinct (i + 1) (j + 1) d (omega arith) (omega arith) (rw (add-one, add-one) same)
 
-Contains-later : {A : Type 0} (x : A) (xs : List A) (y : A) → Contains xs y → Contains (x ∷ xs) y
+pub Contains-later : {A : Type 0} (x : A) (xs : List A) (y : A) → Contains xs y → Contains (x ∷ xs) y
 Contains-later x xs y there = (there.0 + 1, omega (arith, there.1), rw add-one there.2)
 
 and_true : (b : Bool) → ((b && true) || false) ≡ b
@@ -39,24 +40,6 @@ module _ (publisher : ℕ) (prefix : List ℕ) where
       by true t rest = absurd (absent (0, omega arith, sym ((bytes_eq-Decides prefix h.prefix).0 t)))
       by false t rest = rw (t, rest) (and_false (h.publisher == publisher) false)
 
-  -- else it is so for the publisher that a look-up of it gives
-  pub hosts-found : {K : Type 0} (test : K → Bool) (shown : K × ℕ → Hosting) → ((e : K × ℕ) → test e.0 ≡ bytes_eq prefix (shown e).prefix) → ((e : K × ℕ) → (shown e).publisher ≡ e.1)
-      → (es : List (K × ℕ)) (v : ℕ) → AreDistinct (prefixes_of (map shown es)) → lookup test es ≡ Some v → hosts_among (map shown es) publisher prefix ≡ (v == publisher)
-  hosts-found test shown says gives [] v distinct found = cc
-  hosts-found test shown says gives (e ∷ es) v distinct found = by (test e.0) refl (hosts-found test shown says gives es v (distinct_tail (shown e).prefix (prefixes_of (map shown es)) distinct))
-    where
-      by : (b : Bool) → test e.0 ≡ b → (lookup test es ≡ Some v → hosts_among (map shown es) publisher prefix ≡ (v == publisher)) → hosts_among (map shown (e ∷ es)) publisher prefix ≡ (v == publisher)
-      by true t rest =
-          let first : Some e.1 ≡ Some v = rw t at found in
-          let value : e.1 ≡ v = cc in
-          let passes : bytes_eq prefix (shown e).prefix ≡ true = sym (says e) ∙ t in
-          let own : prefix ≡ (shown e).prefix = (bytes_eq-Decides prefix (shown e).prefix).0 passes in
-          let others = hosts-absent (map shown es) (λ there. distinct_head (shown e).prefix (prefixes_of (map shown es)) distinct (subst (Contains (prefixes_of (map shown es))) own there)) in
-          rw (passes, others) (and_true ((shown e).publisher == publisher) ∙ ap (λ n. n == publisher) (gives e ∙ value))
-      by false t rest =
-          let fails : bytes_eq prefix (shown e).prefix ≡ false = sym (says e) ∙ t in
-          rw fails (and_false ((shown e).publisher == publisher) (hosts_among (map shown es) publisher prefix) ∙ rest (rw t at found))
-
 -- ---- hosting
 
 test_parts : (a b : Bool) → (a && b) ≡ true → (a ≡ true) × (b ≡ true)
@@ -68,33 +51,64 @@ or_parts : (a b : Bool) → (a || b) ≡ true → (a ≡ true) ⊎ (b ≡ true)
 or_parts true b t = inl refl
 or_parts false b t = inr t
 
-hosted-there : (hs : List Hosting) (u : ℕ) (prefix : List ℕ) → hosts_among hs u prefix ≡ true → Contains (prefixes_of hs) prefix
-hosted-there [] u prefix t = absurd (true≢false (sym t))
-hosted-there (h ∷ hs) u prefix t = elim (or_parts ((h.publisher == u) && bytes_eq prefix h.prefix) (hosts_among hs u prefix) t) [
-  | inl here ↦ (0, omega arith, sym ((bytes_eq-Decides prefix h.prefix).0 (test_parts (h.publisher == u) (bytes_eq prefix h.prefix) here).1))
-  | inr later ↦ Contains-later h.prefix (prefixes_of hs) prefix (hosted-there hs u prefix later)
+-- a prefix is hosted for a publisher where a hosting says so
+pub hosted_given : (hs : List Hosting) (u : ℕ) (prefix : List ℕ) → hosts_among hs u prefix ≡ true → Contains (map given hs) (prefix, u)
+hosted_given [] u prefix t = absurd (true≢false (sym t))
+hosted_given (h ∷ hs) u prefix t = elim (or_parts ((h.publisher == u) && bytes_eq prefix h.prefix) (hosts_among hs u prefix) t) [
+  | inl here ↦
+      let parts = test_parts (h.publisher == u) (bytes_eq prefix h.prefix) here in
+      let prefixes : h.prefix ≡ prefix = sym ((bytes_eq-Decides prefix h.prefix).0 parts.1) in
+      let publishers : h.publisher ≡ u = eqb-true h.publisher u parts.0 in
+      (0, omega arith, λ i. (prefixes i, publishers i))
+  | inr later ↦ Contains-later (given h) (map given hs) _ (hosted_given hs u prefix later)
 ]
 
--- a prefix that stands once is hosted for one publisher
-pub one_host : (hs : List Hosting) (u w : ℕ) (prefix : List ℕ) → AreDistinct (prefixes_of hs) → hosts_among hs u prefix ≡ true → hosts_among hs w prefix ≡ true → u ≡ w
-one_host [] u w prefix distinct t s = absurd (true≢false (sym t))
-one_host (h ∷ hs) u w prefix distinct t s =
-    let only : bytes_eq prefix h.prefix ≡ true → Contains (prefixes_of hs) prefix → ⊥ = λ same there. distinct_head h.prefix (prefixes_of hs) distinct (subst (Contains (prefixes_of hs)) ((bytes_eq-Decides prefix h.prefix).0 same) there) in
-    elim (or_parts ((h.publisher == u) && bytes_eq prefix h.prefix) (hosts_among hs u prefix) t) [
-      | inl a ↦ elim (or_parts ((h.publisher == w) && bytes_eq prefix h.prefix) (hosts_among hs w prefix) s) [
-        | inl b ↦ sym (eqb-true h.publisher u (test_parts (h.publisher == u) (bytes_eq prefix h.prefix) a).0) ∙ eqb-true h.publisher w (test_parts (h.publisher == w) (bytes_eq prefix h.prefix) b).0
-        | inr b ↦ absurd (only (test_parts (h.publisher == u) (bytes_eq prefix h.prefix) a).1 (hosted-there hs w prefix b))
+pub given_hosts : (hs : List Hosting) (u : ℕ) (prefix : List ℕ) → Contains (map given hs) (prefix, u) → hosts_among hs u prefix ≡ true
+given_hosts hs u prefix there =
+    let none : Hosting = record { prefix = prefix; publisher = u; algorithm = Sha1 } in
+    let inside : there.0 < length hs = omega (arith, there.1, length-map hs given) in
+    let h : Hosting = get_or hs there.0 none in
+    let same : given h ≡ (prefix, u) = sym (get_or-map given hs there.0 none (prefix, u) inside) ∙ there.2 in
+    let publishers : h.publisher ≡ u = ap (λ (x : List ℕ × ℕ). x.1) same in
+    let prefixes : h.prefix ≡ prefix = ap (λ (x : List ℕ × ℕ). x.0) same in
+    let test : ((h.publisher == u) && bytes_eq prefix h.prefix) ≡ true = rw ((Decides-eqb h.publisher u).1 publishers, (bytes_eq-Decides prefix h.prefix).1 (sym prefixes)) refl in
+    list_any_at (λ x. (x.publisher == u) && bytes_eq prefix x.prefix) hs there.0 none inside test
+
+-- the first hosting of a prefix for a publisher is the only one
+pub hashed_given : (hs : List Hosting) (h : Hosting) → AreDistinct (map given hs) → Contains hs h → algorithm_among hs h.publisher h.prefix ≡ h.algorithm
+hashed_given [] h distinct there = absurd (omega (arith, there.1))
+hashed_given (g ∷ hs) h distinct there = by (g.publisher == h.publisher) refl (bytes_eq h.prefix g.prefix) refl (hashed_given hs h (distinct_tail (given g) (map given hs) distinct))
+  where
+    Rest : Type 0
+    Rest = Contains hs h → algorithm_among hs h.publisher h.prefix ≡ h.algorithm
+
+    later : (given g ≡ given h → ⊥) → Contains hs h
+    later other = elim (Contains-append_cases (g ∷ []) hs h there) [
+      | inl first ↦ elim (Contains-push_cases [] g h first) [
+        | inl none ↦ absurd (omega (arith, none.1))
+        | inr same ↦ absurd (other (ap given same))
       ]
-      | inr a ↦ elim (or_parts ((h.publisher == w) && bytes_eq prefix h.prefix) (hosts_among hs w prefix) s) [
-        | inl b ↦ absurd (only (test_parts (h.publisher == w) (bytes_eq prefix h.prefix) b).1 (hosted-there hs u prefix a))
-        | inr b ↦ one_host hs u w prefix (distinct_tail h.prefix (prefixes_of hs) distinct) a b
-      ]
+      | inr inside ↦ inside
     ]
+
+    only : given g ≡ given h → g.algorithm ≡ h.algorithm
+    only same = elim (Contains-append_cases (g ∷ []) hs h there) [
+      | inl first ↦ elim (Contains-push_cases [] g h first) [
+        | inl none ↦ absurd (omega (arith, none.1))
+        | inr one ↦ ap (λ (x : Hosting). x.algorithm) one
+      ]
+      | inr inside ↦ absurd (distinct_head (given g) (map given hs) distinct (inside.0, omega (arith, inside.1, length-map hs given), get_or-map given hs inside.0 h (given g) inside.1 ∙ ap given inside.2 ∙ sym same))
+    ]
+
+    by : (b : Bool) → (g.publisher == h.publisher) ≡ b → (c : Bool) → bytes_eq h.prefix g.prefix ≡ c → Rest → algorithm_among (g ∷ hs) h.publisher h.prefix ≡ h.algorithm
+    by true e true f rest = rw (e, f) (only (λ i. (sym ((bytes_eq-Decides h.prefix g.prefix).0 f) i, eqb-true g.publisher h.publisher e i)))
+    by true e false f rest = rw (e, f) (rest (later (λ same. true≢false (sym ((bytes_eq-Decides h.prefix g.prefix).1 (sym (ap (λ (x : List ℕ × ℕ). x.0) same))) ∙ f))))
+    by false e c f rest = rw e (rest (later (λ same. true≢false (sym ((Decides-eqb g.publisher h.publisher).1 (ap (λ (x : List ℕ × ℕ). x.1) same)) ∙ e))))
 
 -- a prefix that is there is hosted for somebody
 pub host_of : (publishers : List Publisher) (hs : List Hosting) (prefix : List ℕ) → All (IsHosting publishers) hs → Contains (prefixes_of hs) prefix → (u : ℕ) × (u < length publishers) × IsTrue (hosts_among hs u prefix)
 host_of publishers hs prefix sound there =
-    let none : Hosting = record { prefix = prefix; publisher = 0 } in
+    let none : Hosting = record { prefix = prefix; publisher = 0; algorithm = Sha1 } in
     let inside : there.0 < length hs = omega (arith, there.1, length-map hs (λ (x : Hosting). x.prefix)) in
     let h : Hosting = get_or hs there.0 none in
     let same : h.prefix ≡ prefix = sym (get_or-map (λ (x : Hosting). x.prefix) hs there.0 none prefix inside) ∙ there.2 in

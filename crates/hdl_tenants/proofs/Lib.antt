@@ -6,5 +6,6 @@ pub mod Lanes
 pub mod Registers
 pub mod Sayings
 pub mod Places
+pub mod Hosts
 pub mod Opened
 pub mod Uniqueness

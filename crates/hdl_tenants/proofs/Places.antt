@@ -97,7 +97,7 @@ module _ {K : Type 0} (text : K → List ℕ) (handle : List ℕ) where
   twice false u v w = refl
 
   -- what is found after a count is written
-  pub lookup-insert : (k : K) (n : ℕ) (es : List (K × ℕ)) → lookup (λ x. bytes_eq handle (text x)) (insert_entry (λ a b. bytes_eq (text a) (text b)) es k n) ≡ cond (bytes_eq handle (text k)) (Some n) (lookup (λ x. bytes_eq handle (text x)) es)
+  pub lookup-insert : {X : Type 0} (k : K) (n : X) (es : List (K × X)) → lookup (λ x. bytes_eq handle (text x)) (insert_entry (λ a b. bytes_eq (text a) (text b)) es k n) ≡ cond (bytes_eq handle (text k)) (Some n) (lookup (λ x. bytes_eq handle (text x)) es)
   lookup-insert k n [] = refl
   lookup-insert k n (e ∷ es) = by (bytes_eq (text k) (text e.0)) refl (lookup-insert k n es)
     where

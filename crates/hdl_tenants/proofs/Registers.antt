@@ -5,14 +5,15 @@ use Rattle.std.proofs.lemmas.List.{map-append}
 use Rattle.std.proofs.lemmas.List.Elements.{All-push, All-nil, All-weaker, Contains-append_left, Contains-append_cases, Contains-push_cases}
 use Rattle.std.proofs.lemmas.List.Sums.{sum_by-append}
 use Rattle.std.proofs.lemmas.Slice.Eq.{bytes_eq-Decides}
+use Rattle.hdl_auth.specs.declared.algorithm.Algorithm.{Algorithm}
 use Rattle.hdl_name.specs.Name.{IsHandle, canonical, prefix}
 use Rattle.hdl_value.specs.declared.value.Value.{Value}
 use Rattle.hdl_value.specs.Spelling.{Fits}
 use Rattle.hdl_value.specs.Fault.{IsSound}
 use Rattle.hdl_value.proofs.Whole.{can_be_spelt}
-use Rattle.hdl_tenants.specs.Register.{Publisher, Hosting, Row, Register, empty, names_of, prefixes_of, place, value_count, most_values, IsPublisher, IsPrefix, IsHosting, IsOpening, IsRegister}
+use Rattle.hdl_tenants.specs.Register.{Publisher, Hosting, Row, Register, empty, names_of, prefixes_of, given, place, value_count, most_values, IsPublisher, IsPrefix, IsHosting, IsOpening, IsRegister}
 use Rattle.hdl_tenants.specs.Text.{Line, skipped, publisher, hosted, opened, IsLine, place_of, added, IsKnownRow, IsAllowed, Adds, AddsAll}
-use Rattle.hdl_tenants.proofs.Distinct.{distinct_push}
+use Rattle.hdl_tenants.proofs.Distinct.{distinct_push, given_hosts}
 
 -- who is named has a place
 pub place_within : (publishers : List Publisher) (name : List ℕ) → Contains (names_of publishers) name → place_of name publishers < length publishers
@@ -35,7 +36,7 @@ publisher_added r p is sound allowed = record {
   names = rw (map-append {A = Publisher} {B = List ℕ} (λ q. q.name) r.publishers (p ∷ [])) (distinct_push (names_of r.publishers) p.name is.names allowed.0);
   lanes = rw (sum_by-append (λ (q : Publisher). q.lanes) r.publishers (p ∷ [])) (omega (arith, allowed.1));
   hostings = All-weaker (IsHosting r.publishers) (IsHosting (r.publishers ++ p ∷ [])) (λ h old. record { sound = old.sound; publisher = omega (arith, old.publisher, length-append r.publishers (p ∷ [])) }) r.hostings is.hostings;
-  prefixes = is.prefixes;
+  once = is.once;
   opening = is.opening;
   places = is.places;
   few = is.few;
@@ -44,15 +45,15 @@ publisher_added r p is sound allowed = record {
 prefixes-push : (hs : List Hosting) (h : Hosting) → prefixes_of (hs ++ h ∷ []) ≡ prefixes_of hs ++ h.prefix ∷ []
 prefixes-push hs h = map-append {A = Hosting} {B = List ℕ} (λ x. x.prefix) hs (h ∷ [])
 
-pub hosted_added : (r : Register) (prefix name : List ℕ) → IsRegister r → IsPrefix prefix → IsAllowed r (hosted prefix name) → IsRegister (added r (hosted prefix name))
-hosted_added r prefix name is sound allowed =
-    let h : Hosting = record { prefix = prefix; publisher = place_of name r.publishers } in
+pub hosted_added : (r : Register) (prefix name : List ℕ) (a : Algorithm) → IsRegister r → IsPrefix prefix → IsAllowed r (hosted prefix name a) → IsRegister (added r (hosted prefix name a))
+hosted_added r prefix name a is sound allowed =
+    let h : Hosting = record { prefix = prefix; publisher = place_of name r.publishers; algorithm = a } in
     record {
       publishers = is.publishers;
       names = is.names;
       lanes = is.lanes;
       hostings = All-push (IsHosting r.publishers) r.hostings h is.hostings (record { sound = sound; publisher = place_within r.publishers name allowed.0 });
-      prefixes = rw (prefixes-push r.hostings h) (distinct_push (prefixes_of r.hostings) prefix is.prefixes allowed.1);
+      once = rw (map-append {A = Hosting} {B = List ℕ × ℕ} given r.hostings (h ∷ [])) (distinct_push (map given r.hostings) (given h) is.once (λ there. true≢false (sym (given_hosts r.hostings (place_of name r.publishers) prefix there) ∙ allowed.1)));
       opening = All-weaker (IsOpening r.hostings) (IsOpening (r.hostings ++ h ∷ [])) (λ row old. record { handle = old.handle; hosted = rw (prefixes-push r.hostings h) (Contains-append_left (prefixes_of r.hostings) (prefix ∷ []) _ old.hosted); sound = old.sound; fits = old.fits; spelt = old.spelt }) r.opening is.opening;
       places = is.places;
       few = is.few;
@@ -66,7 +67,7 @@ opened_added r handle v is named sound fits known =
       names = is.names;
       lanes = is.lanes;
       hostings = is.hostings;
-      prefixes = is.prefixes;
+      once = is.once;
       opening = All-push (IsOpening r.hostings) r.opening row is.opening (record { handle = named; hosted = known.hosted; sound = sound; fits = fits; spelt = can_be_spelt v fits });
       places = rw (map-append place r.opening (row ∷ [])) (distinct_push (map place r.opening) (place row) is.places known.once);
       few = λ h. rw (sum_by-append (λ (x : Row). cond (bytes_eq (canonical x.0) h) 1 0) r.opening (row ∷ [])) (one_more h (bytes_eq (canonical handle) h) refl);
@@ -82,7 +83,7 @@ opened_added r handle v is named sound fits known =
 pub line_added : (r : Register) (text : List ℕ) (line : Line) → IsRegister r → IsLine text line → IsAllowed r line → IsRegister (added r line)
 line_added r text skipped is says allowed = is
 line_added r text (publisher p) is says allowed = publisher_added r p is says.sound allowed
-line_added r text (hosted prefix name) is says allowed = hosted_added r prefix name is says.sound allowed
+line_added r text (hosted prefix name a) is says allowed = hosted_added r prefix name a is says.sound allowed
 line_added r text (opened handle v) is says allowed = opened_added r handle v is says.named says.value.sound says.value.spelt.fits allowed
 
 pub empty_is : IsRegister empty
@@ -91,7 +92,7 @@ empty_is = record {
   names = λ i j d below inside. absurd (omega arith);
   lanes = omega arith;
   hostings = All-nil (IsHosting []);
-  prefixes = λ i j d below inside. absurd (omega arith);
+  once = λ i j d below inside. absurd (omega arith);
   opening = All-nil (IsOpening []);
   places = λ i j d below inside. absurd (omega arith);
   few = λ h. omega arith;

@@ -1,13 +1,14 @@
 -- What a line says, from what its fields say.
-use Rattle.std.proofs.Common.{◌≡◌, ◌≢◌, ◌∷◌, [], List, ℕ, Contains, Result, Ok, Err, OnOk, IfErr, codes, length, arith, sym, ap, subst, ◌∙◌}
+use Rattle.std.proofs.Common.{◌≡◌, ◌≢◌, ◌∷◌, [], List, ℕ, Contains, Result, Ok, Err, OnOk, IfErr, IsTrue, codes, length, arith, sym, ap, subst, ◌∙◌}
+use Rattle.hdl_auth.specs.declared.algorithm.Algorithm.{Algorithm}
 use Rattle.hdl_name.specs.Name.{IsHandle}
 use Rattle.hdl_value.specs.declared.value.Value.{Value}
 use Rattle.hdl_tenants.specs.declared.fault.TenantFault.{TenantFault}
 use Rattle.hdl_tenants.specs.declared.fault.TenantFault.TheVariants.{BadLine, TwicePrefix, TwicePublisher, TooMany, Memory}
-use Rattle.hdl_tenants.specs.Register.{Publisher, Register, names_of}
+use Rattle.hdl_tenants.specs.Register.{Publisher, Register, names_of, hosts}
 use Rattle.hdl_tenants.specs.Lines.{fields_of, IsPublisherLine, IsPrefixLine, IsValueLine, IsValueText}
-use Rattle.hdl_tenants.specs.Text.{Line, skipped, publisher, hosted, opened, IsLine, IsSkipped, IsKnown, IsKnownRow, HasFault, Adds}
-use Rattle.hdl_tenants.specs.Steps.{IsPublisherFault, IsDigitsFault, IsHostedFault, IsOpenedFault, Opens}
+use Rattle.hdl_tenants.specs.Text.{Line, skipped, publisher, hosted, opened, place_of, IsLine, IsSkipped, IsKnown, IsKnownRow, HasFault, Adds}
+use Rattle.hdl_tenants.specs.Steps.{IsPublisherFault, IsPrefixFault, IsDigitsFault, IsHostedFault, IsOpenedFault, Opens}
 
 pub both_ok : {A E : Type 0} (P Q R : Type 0) (r : Result A E) → OnOk r P → OnOk r Q → (P → Q → R) → OnOk r R
 both_ok P Q R (Ok x) p q f = f p q
@@ -28,6 +29,14 @@ from_digits r handle digits TwicePrefix f = absurd f
 from_digits r handle digits TwicePublisher f = absurd f
 from_digits r handle digits TooMany f = absurd f
 
+-- a prefix that the named publisher has
+pub from_prefix : (r : Register) (prefix name : List ℕ) (u : ℕ) → u ≡ place_of name r.publishers → Contains (names_of r.publishers) name → (e : TenantFault) → IsPrefixFault r.hostings u prefix e → IsHostedFault r prefix name e
+from_prefix r prefix name u is there BadLine f = absurd f
+from_prefix r prefix name u is there TwicePrefix f = (there, subst (λ v. IsTrue (hosts r v prefix)) is f)
+from_prefix r prefix name u is there TwicePublisher f = absurd f
+from_prefix r prefix name u is there TooMany f = absurd f
+from_prefix r prefix name u is there Memory f = tt
+
 -- fields are those of one value line
 one_value_line : (fields : List (List ℕ)) (handle digits h : List ℕ) (v : Value) → fields ≡ codes "value" ∷ handle ∷ digits ∷ [] → IsValueLine fields h v → (h ≡ handle) × IsHandle handle × IsValueText digits v
 one_value_line fields handle digits h v is line =
@@ -36,15 +45,15 @@ one_value_line fields handle digits h v is line =
     let texts : line.digits ≡ digits = cc in
     (handles, subst IsHandle handles line.named, subst (λ d. IsValueText d v) texts line.value)
 
-one_name : (fields : List (List ℕ)) (q n prefix name : List ℕ) → IsPrefixLine fields q n → IsPrefixLine fields prefix name → n ≡ name
-one_name fields q n prefix name says line =
-    let same : codes "prefix" ∷ q ∷ n ∷ [] ≡ codes "prefix" ∷ prefix ∷ name ∷ [] = sym says.split ∙ line.split in
+one_name : (fields : List (List ℕ)) (q n prefix name : List ℕ) (a b : Algorithm) → IsPrefixLine fields q n a → IsPrefixLine fields prefix name b → n ≡ name
+one_name fields q n prefix name a b says line =
+    let same : codes "prefix" ∷ q ∷ n ∷ says.more ≡ codes "prefix" ∷ prefix ∷ name ∷ line.more = sym says.split ∙ line.split in
     cc
 
 -- a line of one kind is of no other
-pub prefix_or_value : (fields : List (List ℕ)) (prefix name h : List ℕ) (v : Value) → IsPrefixLine fields prefix name → IsValueLine fields h v → ⊥
-prefix_or_value fields prefix name h v line says =
-    let same : codes "value" ∷ h ∷ says.digits ∷ [] ≡ codes "prefix" ∷ prefix ∷ name ∷ [] = sym says.split ∙ line.split in
+pub prefix_or_value : (fields : List (List ℕ)) (prefix name : List ℕ) (a : Algorithm) (h : List ℕ) (v : Value) → IsPrefixLine fields prefix name a → IsValueLine fields h v → ⊥
+prefix_or_value fields prefix name a h v line says =
+    let same : codes "value" ∷ h ∷ says.digits ∷ [] ≡ codes "prefix" ∷ prefix ∷ name ∷ line.more = sym says.split ∙ line.split in
     let words : codes "value" ≡ codes "prefix" = cc in
     absurd (omega (arith, ap length words))
 
@@ -57,24 +66,24 @@ module _ (r : Register) (text : List ℕ) (shown : ¬ (IsSkipped text)) where
   publisher_fault p line Memory f = shown
 
   module _ (no_publisher : (p : Publisher) → ¬ (IsPublisherLine (fields_of text) p)) where
-    pub hosted_fault : (prefix name : List ℕ) → IsPrefixLine (fields_of text) prefix name → (e : TenantFault) → IsHostedFault r prefix name e → HasFault r text e
-    hosted_fault prefix name line BadLine f = bad
+    pub hosted_fault : (prefix name : List ℕ) (a : Algorithm) → IsPrefixLine (fields_of text) prefix name a → (e : TenantFault) → IsHostedFault r prefix name e → HasFault r text e
+    hosted_fault prefix name a line BadLine f = bad
       where
         bad : (said : Line) → IsLine text said → ¬ (IsKnown r said)
         bad skipped says known = shown says
         bad (publisher p) says known = no_publisher p says
-        bad (hosted q n) says known = f (subst (Contains (names_of r.publishers)) (one_name (fields_of text) q n prefix name says line) known)
-        bad (opened h v) says known = prefix_or_value (fields_of text) prefix name h v line says
-    hosted_fault prefix name line TwicePrefix f = (prefix, name, line, f.0, f.1)
-    hosted_fault prefix name line TwicePublisher f = absurd f
-    hosted_fault prefix name line TooMany f = absurd f
-    hosted_fault prefix name line Memory f = shown
+        bad (hosted q n b) says known = f (subst (Contains (names_of r.publishers)) (one_name (fields_of text) q n prefix name b a says line) known)
+        bad (opened h v) says known = prefix_or_value (fields_of text) prefix name a h v line says
+    hosted_fault prefix name a line TwicePrefix f = (prefix, name, a, line, f.0, f.1)
+    hosted_fault prefix name a line TwicePublisher f = absurd f
+    hosted_fault prefix name a line TooMany f = absurd f
+    hosted_fault prefix name a line Memory f = shown
 
-    module _ (no_prefix : (prefix name : List ℕ) → ¬ (IsPrefixLine (fields_of text) prefix name)) where
+    module _ (no_prefix : (prefix name : List ℕ) (a : Algorithm) → ¬ (IsPrefixLine (fields_of text) prefix name a)) where
       pub bad_line : ((h : List ℕ) (v : Value) → IsValueLine (fields_of text) h v → ¬ (IsKnownRow r (h, v))) → HasFault r text BadLine
       bad_line unknown skipped says known = shown says
       bad_line unknown (publisher p) says known = no_publisher p says
-      bad_line unknown (hosted prefix name) says known = no_prefix prefix name says
+      bad_line unknown (hosted prefix name a) says known = no_prefix prefix name a says
       bad_line unknown (opened h v) says known = unknown h v says known
 
       pub opened_fault : (handle digits : List ℕ) → fields_of text ≡ codes "value" ∷ handle ∷ digits ∷ [] → (e : TenantFault) → IsOpenedFault r handle digits e → HasFault r text e

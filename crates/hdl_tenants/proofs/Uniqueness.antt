@@ -1,13 +1,14 @@
 -- A line says one thing, and so does a text.
-use Rattle.std.proofs.Common.{◌≡◌, ◌≢◌, ◌++◌, ◌∷◌, [], List, ℕ, ◌==◌, false, length, codes, Contains, arith, sym, ap, subst, ◌∙◌, refl, inl, inr}
+use Rattle.std.proofs.Common.{◌≡◌, ◌≢◌, ◌++◌, ◌∷◌, [], List, ℕ, ◌==◌, false, true≢false, length, codes, Contains, Some, arith, sym, ap, subst, ◌∙◌, refl, inl, inr}
 use Rattle.std.specs.List.{onto_first}
 use Rattle.std.specs.Str.Parse.{digits_value}
 use Rattle.std.proofs.lemmas.List.Splits.{slice_split-cons_no}
+use Rattle.hdl_auth.specs.declared.algorithm.Algorithm.{Algorithm}
 use Rattle.hdl_value.specs.declared.value.Value.{Value}
 use Rattle.hdl_tenants.specs.declared.fault.TenantFault.{TenantFault}
 use Rattle.hdl_tenants.specs.declared.fault.TenantFault.TheVariants.{BadLine, TwicePrefix, TwicePublisher, TooMany, Memory}
 use Rattle.hdl_tenants.specs.Register.{Publisher, Register, names_of}
-use Rattle.hdl_tenants.specs.Lines.{fields_of, IsPublisherLine, IsPrefixLine, IsValueLine, IsValueText}
+use Rattle.hdl_tenants.specs.Lines.{fields_of, algorithm_in, IsPublisherLine, IsPrefixLine, IsValueLine, IsValueText}
 use Rattle.hdl_tenants.specs.Text.{Line, skipped, publisher, hosted, opened, IsLine, IsSkipped, IsKnown, IsAllowed, HasFault, Adds, AddsAll, added}
 use Rattle.hdl_tenants.proofs.Texts.{one_text}
 use Rattle.hdl_tenants.proofs.Sayings.{prefix_or_value}
@@ -35,12 +36,17 @@ one_publisher fields p q a b =
     let ports : p.port ≡ q.port = a.port_read.value ∙ ap (digits_value 10) port_texts ∙ sym b.port_read.value in
     λ i. record { name = names i; lanes = lanes i; port = ports i }
 
-one_prefix : (fields : List (List ℕ)) (p n q m : List ℕ) → IsPrefixLine fields p n → IsPrefixLine fields q m → hosted p n ≡ hosted q m
-one_prefix fields p n q m a b =
-    let same : codes "prefix" ∷ p ∷ n ∷ [] ≡ codes "prefix" ∷ q ∷ m ∷ [] = sym a.split ∙ b.split in
+one_hash : (a b : Algorithm) → Some a ≡ Some b → a ≡ b
+one_hash a b e = cc
+
+one_prefix : (fields : List (List ℕ)) (p n q m : List ℕ) (c d : Algorithm) → IsPrefixLine fields p n c → IsPrefixLine fields q m d → hosted p n c ≡ hosted q m d
+one_prefix fields p n q m c d a b =
+    let same : codes "prefix" ∷ p ∷ n ∷ a.more ≡ codes "prefix" ∷ q ∷ m ∷ b.more = sym a.split ∙ b.split in
     let prefixes : p ≡ q = cc in
     let names : n ≡ m = cc in
-    λ i. hosted (prefixes i) (names i)
+    let others : a.more ≡ b.more = cc in
+    let hashes : c ≡ d = one_hash c d (sym a.hash ∙ ap algorithm_in others ∙ b.hash) in
+    λ i. hosted (prefixes i) (names i) (hashes i)
 
 one_value_said : (fields : List (List ℕ)) (h g : List ℕ) (v w : Value) → IsValueLine fields h v → IsValueLine fields g w → opened h v ≡ opened g w
 one_value_said fields h g v w a b =
@@ -50,13 +56,14 @@ one_value_said fields h g v w a b =
     let values : v ≡ w = one_text a.digits v w a.value (subst (λ d. IsValueText d w) digits b.value) in
     λ i. opened (handles i) (values i)
 
--- four fields are not three
-publisher_or_prefix : (fields : List (List ℕ)) (p : Publisher) (q n : List ℕ) → IsPublisherLine fields p → IsPrefixLine fields q n → ⊥
-publisher_or_prefix fields p q n a b =
-    let four : length fields ≡ 4 = ap length a.split in
-    let three : length fields ≡ 3 = ap length b.split in
-    absurd (omega arith)
+-- the first words differ
+publisher_or_prefix : (fields : List (List ℕ)) (p : Publisher) (q n : List ℕ) (c : Algorithm) → IsPublisherLine fields p → IsPrefixLine fields q n c → ⊥
+publisher_or_prefix fields p q n c a b =
+    let same : codes "publisher" ∷ p.name ∷ a.lanes_text ∷ a.port_text ∷ [] ≡ codes "prefix" ∷ q ∷ n ∷ b.more = sym a.split ∙ b.split in
+    let words : codes "publisher" ≡ codes "prefix" = cc in
+    absurd (omega (arith, ap length words))
 
+-- four fields are not three
 publisher_or_value : (fields : List (List ℕ)) (p : Publisher) (h : List ℕ) (v : Value) → IsPublisherLine fields p → IsValueLine fields h v → ⊥
 publisher_or_value fields p h v a b =
     let four : length fields ≡ 4 = ap length a.split in
@@ -67,22 +74,22 @@ publisher_or_value fields p h v a b =
 skipped_or : (text : List ℕ) (line : Line) → IsSkipped text → IsLine text line → line ≡ skipped
 skipped_or text skipped s says = refl
 skipped_or text (publisher p) s says = absurd (omega (arith, skipped_first text _ _ _ s says.split))
-skipped_or text (hosted prefix name) s says = absurd (omega (arith, skipped_first text _ _ _ s says.split))
+skipped_or text (hosted prefix name a) s says = absurd (omega (arith, skipped_first text _ _ _ s says.split))
 skipped_or text (opened handle v) s says = absurd (omega (arith, skipped_first text _ _ _ s says.split))
 
 pub one_line : (text : List ℕ) (a b : Line) → IsLine text a → IsLine text b → a ≡ b
 one_line text skipped b s says = sym (skipped_or text b s says)
 one_line text (publisher p) skipped says s = skipped_or text (publisher p) s says
 one_line text (publisher p) (publisher q) a b = ap publisher (one_publisher (fields_of text) p q a b)
-one_line text (publisher p) (hosted q n) a b = absurd (publisher_or_prefix (fields_of text) p q n a b)
+one_line text (publisher p) (hosted q n c) a b = absurd (publisher_or_prefix (fields_of text) p q n c a b)
 one_line text (publisher p) (opened h v) a b = absurd (publisher_or_value (fields_of text) p h v a b)
-one_line text (hosted p n) skipped says s = skipped_or text (hosted p n) s says
-one_line text (hosted p n) (publisher q) a b = absurd (publisher_or_prefix (fields_of text) q p n b a)
-one_line text (hosted p n) (hosted q m) a b = one_prefix (fields_of text) p n q m a b
-one_line text (hosted p n) (opened h v) a b = absurd (prefix_or_value (fields_of text) p n h v a b)
+one_line text (hosted p n c) skipped says s = skipped_or text (hosted p n c) s says
+one_line text (hosted p n c) (publisher q) a b = absurd (publisher_or_prefix (fields_of text) q p n c b a)
+one_line text (hosted p n c) (hosted q m d) a b = one_prefix (fields_of text) p n q m c d a b
+one_line text (hosted p n c) (opened h v) a b = absurd (prefix_or_value (fields_of text) p n c h v a b)
 one_line text (opened h v) skipped says s = skipped_or text (opened h v) s says
 one_line text (opened h v) (publisher q) a b = absurd (publisher_or_value (fields_of text) q h v b a)
-one_line text (opened h v) (hosted q m) a b = absurd (prefix_or_value (fields_of text) q m h v b a)
+one_line text (opened h v) (hosted q m c) a b = absurd (prefix_or_value (fields_of text) q m c h v b a)
 one_line text (opened h v) (opened g w) a b = one_value_said (fields_of text) h g v w a b
 
 one_step : (before : Register) (text : List ℕ) (a b : Register) → Adds before text a → Adds before text b → a ≡ b
@@ -99,13 +106,13 @@ one_register before (text ∷ texts) a b p q =
 known : (r : Register) (line : Line) → IsAllowed r line → IsKnown r line
 known r skipped allowed = tt
 known r (publisher p) allowed = tt
-known r (hosted prefix name) allowed = allowed.0
+known r (hosted prefix name a) allowed = allowed.0
 known r (opened handle v) allowed = allowed
 
 -- a line that is allowed has no fault
 pub no_fault : (r : Register) (text : List ℕ) (line : Line) → IsLine text line → IsAllowed r line → (e : TenantFault) → HasFault r text e → e ≡ Memory
 no_fault r text line says allowed BadLine f = absurd (f line says (known r line allowed))
-no_fault r text line says allowed TwicePrefix f = absurd ((subst (IsAllowed r) (one_line text line (hosted f.0 f.1) says f.2) allowed).1 f.4)
+no_fault r text line says allowed TwicePrefix f = absurd (true≢false (sym f.5 ∙ (subst (IsAllowed r) (one_line text line (hosted f.0 f.1 f.2) says f.3) allowed).1))
 no_fault r text line says allowed TwicePublisher f = absurd ((subst (IsAllowed r) (one_line text line (publisher f.0) says f.1) allowed).0 f.2)
 no_fault r text line says allowed TooMany f =
     let room = (subst (IsAllowed r) (one_line text line (publisher f.0) says f.1) allowed).1 in
@@ -115,19 +122,19 @@ no_fault r text line says allowed Memory f = refl
 -- a line has one fault at most
 pub one_fault : (r : Register) (text : List ℕ) (e f : TenantFault) → HasFault r text e → HasFault r text f → e ≢ Memory → f ≢ Memory → e ≡ f
 one_fault r text BadLine BadLine a b x y = refl
-one_fault r text BadLine TwicePrefix a b x y = absurd (a (hosted b.0 b.1) b.2 b.3)
+one_fault r text BadLine TwicePrefix a b x y = absurd (a (hosted b.0 b.1 b.2) b.3 b.4)
 one_fault r text BadLine TwicePublisher a b x y = absurd (a (publisher b.0) b.1 tt)
 one_fault r text BadLine TooMany a b x y = absurd (a (publisher b.0) b.1 tt)
-one_fault r text TwicePrefix BadLine a b x y = absurd (b (hosted a.0 a.1) a.2 a.3)
+one_fault r text TwicePrefix BadLine a b x y = absurd (b (hosted a.0 a.1 a.2) a.3 a.4)
 one_fault r text TwicePrefix TwicePrefix a b x y = refl
-one_fault r text TwicePrefix TwicePublisher a b x y = absurd (publisher_or_prefix (fields_of text) b.0 a.0 a.1 b.1 a.2)
-one_fault r text TwicePrefix TooMany a b x y = absurd (publisher_or_prefix (fields_of text) b.0 a.0 a.1 b.1 a.2)
+one_fault r text TwicePrefix TwicePublisher a b x y = absurd (publisher_or_prefix (fields_of text) b.0 a.0 a.1 a.2 b.1 a.3)
+one_fault r text TwicePrefix TooMany a b x y = absurd (publisher_or_prefix (fields_of text) b.0 a.0 a.1 a.2 b.1 a.3)
 one_fault r text TwicePublisher BadLine a b x y = absurd (b (publisher a.0) a.1 tt)
-one_fault r text TwicePublisher TwicePrefix a b x y = absurd (publisher_or_prefix (fields_of text) a.0 b.0 b.1 a.1 b.2)
+one_fault r text TwicePublisher TwicePrefix a b x y = absurd (publisher_or_prefix (fields_of text) a.0 b.0 b.1 b.2 a.1 b.3)
 one_fault r text TwicePublisher TwicePublisher a b x y = refl
 one_fault r text TwicePublisher TooMany a b x y = absurd (b.2 (subst (λ (p : Publisher). Contains (names_of r.publishers) p.name) (one_publisher (fields_of text) a.0 b.0 a.1 b.1) a.2))
 one_fault r text TooMany BadLine a b x y = absurd (b (publisher a.0) a.1 tt)
-one_fault r text TooMany TwicePrefix a b x y = absurd (publisher_or_prefix (fields_of text) a.0 b.0 b.1 a.1 b.2)
+one_fault r text TooMany TwicePrefix a b x y = absurd (publisher_or_prefix (fields_of text) a.0 b.0 b.1 b.2 a.1 b.3)
 one_fault r text TooMany TwicePublisher a b x y = absurd (a.2 (subst (λ (p : Publisher). Contains (names_of r.publishers) p.name) (one_publisher (fields_of text) b.0 a.0 b.1 a.1) b.2))
 one_fault r text TooMany TooMany a b x y = refl
 one_fault r text e Memory a b x y = absurd (y refl)

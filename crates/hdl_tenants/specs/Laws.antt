@@ -1,9 +1,9 @@
 -- What registers and accepted texts promise.
-use Rattle.std.specs.Prelude.{◌≡◌, ◌≢◌, ◌<◌, ◌≤◌, ◌+◌, ◌↔◌, ℕ, List, length, All, IsTrue, IsFalse, Some}
+use Rattle.std.specs.Prelude.{◌≡◌, ◌≢◌, ◌<◌, ◌≤◌, ◌+◌, ◌↔◌, ℕ, List, length, map, All, Contains, IsTrue, IsFalse, Some}
 use Rattle.hdl_name.specs.Name.{prefix}
 use Rattle.hdl_tenants.specs.declared.fault.TenantFault.{TenantFault}
 use Rattle.hdl_tenants.specs.declared.fault.TenantFault.TheVariants.{Memory}
-use Rattle.hdl_tenants.specs.Register.{Register, root, owner, first_lane, hosts, IsRegister}
+use Rattle.hdl_tenants.specs.Register.{Hosting, Register, root, owner, first_lane, hosts, algorithm, given, IsRegister}
 use Rattle.hdl_tenants.specs.Text.{IsAccepted, IsFirstFault}
 
 -- lines without a fault say one thing
@@ -26,9 +26,13 @@ LanesByRange = (r : Register) (place lane : ℕ) → (owner r lane ≡ Some plac
 abbrev pub RootIsNobodys : Type 0
 RootIsNobodys = (r : Register) → IsRegister r → (place : ℕ) → IsFalse (hosts r place root)
 
--- a prefix is hosted for one publisher at most
-abbrev pub OneHost : Type 0
-OneHost = (r : Register) → IsRegister r → (u w : ℕ) (prefix : List ℕ) → IsTrue (hosts r u prefix) → IsTrue (hosts r w prefix) → u ≡ w
+-- a prefix is hosted for a publisher where a line gives it so
+abbrev pub HostedAsGiven : Type 0
+HostedAsGiven = (r : Register) (u : ℕ) (prefix : List ℕ) → IsTrue (hosts r u prefix) ↔ Contains (map given r.hostings) (prefix, u)
+
+-- the hash function of a prefix on a publisher's lanes is the one that its line gives
+abbrev pub HashedAsGiven : Type 0
+HashedAsGiven = (r : Register) → IsRegister r → (h : Hosting) → Contains r.hostings h → algorithm r h.publisher h.prefix ≡ h.algorithm
 
 -- the prefix of each handle to open with is hosted for a publisher
 abbrev pub OpeningIsHosted : Type 0

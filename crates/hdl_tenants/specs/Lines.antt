@@ -1,8 +1,11 @@
 -- The three kinds of line of a tenants text, by their fields.
-use Rattle.std.specs.Prelude.{◌≡◌, ◌<◌, ◌^◌, ◌==◌, ℕ, List, [], ◌∷◌, codes, Ok}
+use Rattle.std.specs.Prelude.{◌≡◌, ◌<◌, ◌^◌, ◌==◌, ℕ, List, [], ◌∷◌, codes, Ok, Option, Some, None, if◌then◌else◌}
 use Rattle.std.specs.List.{slice_split}
+use Rattle.std.specs.Str.{bytes_eq}
 use Rattle.std.specs.Str.Parse.{IsNumeral, digits_value}
 use Rattle.hex.specs.Hex.{decode_of}
+use Rattle.hdl_auth.specs.declared.algorithm.Algorithm.{Algorithm}
+use Rattle.hdl_auth.specs.declared.algorithm.Algorithm.TheVariants.{Sha1, Sha256}
 use Rattle.hdl_name.specs.Name.{IsHandle}
 use Rattle.hdl_value.specs.declared.value.Value.{Value}
 use Rattle.hdl_value.specs.Fault.{Begins, IsSound}
@@ -27,9 +30,21 @@ pub record IsPublisherLine (fields : List (List ℕ)) (p : Publisher) : Type 0 w
   pub port_read : IsDecimal port_text p.port
   pub sound : IsPublisher p
 
--- `prefix PREFIX NAME`
-pub record IsPrefixLine (fields : List (List ℕ)) (prefix name : List ℕ) : Type 0 where
-  pub split : fields ≡ codes "prefix" ∷ prefix ∷ name ∷ []
+-- the hash function that one field names: its octet in decimal
+abbrev pub algorithm_named : List ℕ → Option Algorithm
+algorithm_named field = if bytes_eq field (codes "2") then Some Sha1 else (if bytes_eq field (codes "3") then Some Sha256 else None)
+
+-- the hash function by the fields behind a prefix and its publisher: SHA-1 where there are none
+abbrev pub algorithm_in : List (List ℕ) → Option Algorithm
+algorithm_in [] = Some Sha1
+algorithm_in (field ∷ []) = algorithm_named field
+algorithm_in (field ∷ _ ∷ _) = None
+
+-- `prefix PREFIX NAME`, or with a field more for the hash function
+pub record IsPrefixLine (fields : List (List ℕ)) (prefix name : List ℕ) (algorithm : Algorithm) : Type 0 where
+  pub more : List (List ℕ)
+  pub split : fields ≡ codes "prefix" ∷ prefix ∷ name ∷ more
+  pub hash : algorithm_in more ≡ Some algorithm
   pub sound : IsPrefix prefix
 
 -- hexadecimal digits of either case that spell this value, which keeps the limits, and nothing behind it

@@ -1,9 +1,11 @@
 -- What a tenants text says as a whole: publishers, hosted prefixes and opening rows, each in the text's order.
-use Rattle.std.specs.Prelude.{◌≡◌, ◌≢◌, ◌≤◌, ◌<◌, ◌^◌, ◌==◌, ◌&&◌, ◌||◌, ◌-◌, ◌+◌, ℕ, Bool, List, [], ◌∷◌, length, take, codes, map, sum_by, count_by, All, AllPairs, Contains, Option, Some, None, nat_lt, if◌then◌else◌}
+use Rattle.std.specs.Prelude.{◌≡◌, ◌≢◌, ◌≤◌, ◌<◌, ◌^◌, ◌==◌, ◌&&◌, ◌||◌, ◌-◌, ◌+◌, ℕ, Bool, List, [], ◌∷◌, length, take, codes, map, sum_by, count_by, All, AllPairs, Contains, Option, Some, None, nat_lt, if◌then◌else◌, find}
 use Rattle.std.specs.List.{AllPass, list_any}
-use Rattle.std.specs.Option.{option_map}
+use Rattle.std.specs.Option.{option_map, option_map_or}
 use Rattle.std.specs.Char.{is_ascii_digit, is_ascii_lowercase}
 use Rattle.std.specs.Str.{bytes_eq, str_to_ascii_lowercase}
+use Rattle.hdl_auth.specs.declared.algorithm.Algorithm.{Algorithm}
+use Rattle.hdl_auth.specs.declared.algorithm.Algorithm.TheVariants.{Sha1}
 use Rattle.hdl_name.specs.Name.{IsHandle, IsAuthority, canonical, prefix}
 use Rattle.hdl_value.specs.declared.value.Value.{Value}
 use Rattle.hdl_value.specs.Place.{Place}
@@ -16,10 +18,11 @@ pub record Publisher : Type 0 where
   pub lanes : ℕ
   pub port : ℕ
 
--- a prefix in canonical form, and the place of its publisher among the publishers
+-- a prefix in canonical form, the place of its publisher among the publishers, and its hash function on that publisher's lanes
 pub record Hosting : Type 0 where
   pub prefix : List ℕ
   pub publisher : ℕ
+  pub algorithm : Algorithm
 
 -- a handle's name, and a value of that handle
 abbrev pub Row : Type 0
@@ -66,6 +69,14 @@ hosts_among hostings publisher prefix = list_any (λ h. (h.publisher == publishe
 abbrev pub hosts : Register → ℕ → List ℕ → Bool
 hosts r publisher prefix = hosts_among r.hostings publisher prefix
 
+-- the hash function of the first of these that gives the prefix to the publisher, SHA-1 where none does
+abbrev pub algorithm_among : List Hosting → ℕ → List ℕ → Algorithm
+algorithm_among hostings publisher prefix = option_map_or (λ h. h.algorithm) (find (λ h. (h.publisher == publisher) && bytes_eq prefix h.prefix) hostings) Sha1
+
+-- the hash function of a prefix on the lanes of the publisher at this place
+abbrev pub algorithm : Register → ℕ → List ℕ → Algorithm
+algorithm r publisher prefix = algorithm_among r.hostings publisher prefix
+
 -- ---- what is kept
 
 -- the names of the publishers
@@ -75,6 +86,10 @@ names_of publishers = map (λ p. p.name) publishers
 -- the prefixes that are hosted
 abbrev pub prefixes_of : List Hosting → List (List ℕ)
 prefixes_of hostings = map (λ h. h.prefix) hostings
+
+-- the prefix, and the place of the publisher that has it
+abbrev pub given : Hosting → List ℕ × ℕ
+given h = (h.prefix, h.publisher)
 
 -- where a row stands: its canonical handle and its value's index
 abbrev pub place : Row → Place
@@ -137,7 +152,7 @@ pub record IsRegister (r : Register) : Type 0 where
   pub names : AreDistinct (names_of r.publishers)
   pub lanes : lane_count r.publishers ≤ most_lanes
   pub hostings : All (IsHosting r.publishers) r.hostings
-  pub prefixes : AreDistinct (prefixes_of r.hostings)
+  pub once : AreDistinct (map given r.hostings)
   pub opening : All (IsOpening r.hostings) r.opening
   pub places : AreDistinct (map place r.opening)
   pub few : (handle : List ℕ) → value_count handle r.opening ≤ most_values

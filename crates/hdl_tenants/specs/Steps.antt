@@ -1,14 +1,14 @@
 -- What adding a line tells, where its kind is known: why it isn't taken, or what is there then.
-use Rattle.std.specs.Prelude.{◌≡◌, ◌≤◌, ◌⊎◌, ◌<◌, ◌+◌, ℕ, List, Contains, ⊤}
+use Rattle.std.specs.Prelude.{◌≡◌, ◌≤◌, ◌⊎◌, ◌<◌, ◌+◌, ℕ, List, Contains, IsTrue, ⊤}
 use Rattle.hdl_name.specs.Name.{IsHandle}
 use Rattle.hdl_value.specs.declared.value.Value.{Value}
 use Rattle.hdl_tenants.specs.declared.fault.TenantFault.{TenantFault}
 use Rattle.hdl_tenants.specs.declared.fault.TenantFault.TheVariants.{BadLine, TwicePrefix, TwicePublisher, TooMany, Memory}
-use Rattle.hdl_tenants.specs.Register.{Publisher, Hosting, Register, names_of, prefixes_of, lane_count, most_lanes, most_values}
+use Rattle.hdl_tenants.specs.Register.{Publisher, Hosting, Register, names_of, hosts_among, lane_count, most_lanes, most_values}
 use Rattle.hdl_tenants.specs.Taken.{count_at}
 use Rattle.hdl_value.specs.Place.{Place}
 use Rattle.hdl_tenants.specs.Lines.{IsValueText}
-use Rattle.hdl_tenants.specs.Text.{opened, added, IsKnownRow}
+use Rattle.hdl_tenants.specs.Text.{opened, added, hosts_named, IsKnownRow}
 
 -- a publisher whose name is there, or for which no lanes are left
 abbrev pub IsPublisherFault : List Publisher → Publisher → TenantFault → Type 0
@@ -18,13 +18,13 @@ IsPublisherFault publishers p Memory = ⊤
 IsPublisherFault publishers p BadLine = ⊥
 IsPublisherFault publishers p TwicePrefix = ⊥
 
--- a prefix that is there
-abbrev pub IsPrefixFault : List Hosting → List ℕ → TenantFault → Type 0
-IsPrefixFault hostings prefix TwicePrefix = Contains (prefixes_of hostings) prefix
-IsPrefixFault hostings prefix Memory = ⊤
-IsPrefixFault hostings prefix BadLine = ⊥
-IsPrefixFault hostings prefix TwicePublisher = ⊥
-IsPrefixFault hostings prefix TooMany = ⊥
+-- a prefix that is hosted for the publisher
+abbrev pub IsPrefixFault : List Hosting → ℕ → List ℕ → TenantFault → Type 0
+IsPrefixFault hostings publisher prefix TwicePrefix = IsTrue (hosts_among hostings publisher prefix)
+IsPrefixFault hostings publisher prefix Memory = ⊤
+IsPrefixFault hostings publisher prefix BadLine = ⊥
+IsPrefixFault hostings publisher prefix TwicePublisher = ⊥
+IsPrefixFault hostings publisher prefix TooMany = ⊥
 
 -- a handle that is no name
 abbrev pub IsNameFault : List ℕ → TenantFault → Type 0
@@ -42,10 +42,10 @@ IsDigitsFault digits TwicePrefix = ⊥
 IsDigitsFault digits TwicePublisher = ⊥
 IsDigitsFault digits TooMany = ⊥
 
--- a prefix of a publisher that isn't there, or a prefix that is
+-- a prefix of a publisher that isn't there, or one that is hosted for it
 abbrev pub IsHostedFault : Register → List ℕ → List ℕ → TenantFault → Type 0
 IsHostedFault r prefix name BadLine = ¬ (Contains (names_of r.publishers) name)
-IsHostedFault r prefix name TwicePrefix = Contains (names_of r.publishers) name × Contains (prefixes_of r.hostings) prefix
+IsHostedFault r prefix name TwicePrefix = Contains (names_of r.publishers) name × IsTrue (hosts_named r prefix name)
 IsHostedFault r prefix name Memory = ⊤
 IsHostedFault r prefix name TwicePublisher = ⊥
 IsHostedFault r prefix name TooMany = ⊥

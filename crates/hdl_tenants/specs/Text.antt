@@ -1,19 +1,20 @@
 -- The tenants text: which texts are accepted, what they say, and which line of another is the first faulty one.
-use Rattle.std.specs.Prelude.{◌≡◌, ◌≤◌, ◌<◌, ◌+◌, ◌⊎◌, ℕ, List, [], ◌∷◌, ◌++◌, length, map, slice_get, Some, Contains, ⊤}
+use Rattle.std.specs.Prelude.{◌≡◌, ◌≤◌, ◌<◌, ◌+◌, ◌⊎◌, ℕ, Bool, List, [], ◌∷◌, ◌++◌, length, map, slice_get, Some, Contains, IsTrue, IsFalse, ⊤}
 use Rattle.std.specs.List.{position_or_len}
 use Rattle.std.specs.Str.{bytes_eq}
+use Rattle.hdl_auth.specs.declared.algorithm.Algorithm.{Algorithm}
 use Rattle.hdl_name.specs.Name.{canonical, prefix}
 use Rattle.hdl_value.specs.declared.value.Value.{Value}
 use Rattle.hdl_tenants.specs.declared.fault.TenantFault.{TenantFault}
 use Rattle.hdl_tenants.specs.declared.fault.TenantFault.TheVariants.{BadLine, TwicePrefix, TwicePublisher, TooMany, Memory}
-use Rattle.hdl_tenants.specs.Register.{Publisher, Register, Row, empty, names_of, prefixes_of, lane_count, most_lanes, place, value_count, most_values}
+use Rattle.hdl_tenants.specs.Register.{Publisher, Register, Row, empty, names_of, prefixes_of, hosts, lane_count, most_lanes, place, value_count, most_values}
 use Rattle.hdl_tenants.specs.Lines.{fields_of, IsPublisherLine, IsPrefixLine, IsValueLine}
 
 -- what one line says
 pub data Line : Type 0 where
   skipped : Line
   publisher : Publisher → Line
-  hosted : (prefix name : List ℕ) → Line
+  hosted : (prefix name : List ℕ) → Algorithm → Line
   opened : (handle : List ℕ) → Value → Line
 
 -- an empty line, or one that begins with '#'
@@ -24,18 +25,22 @@ IsSkipped text = (text ≡ []) ⊎ (slice_get text 0 ≡ Some 35)
 abbrev pub IsLine : List ℕ → Line → Type 0
 IsLine text skipped = IsSkipped text
 IsLine text (publisher p) = IsPublisherLine (fields_of text) p
-IsLine text (hosted prefix name) = IsPrefixLine (fields_of text) prefix name
+IsLine text (hosted prefix name a) = IsPrefixLine (fields_of text) prefix name a
 IsLine text (opened handle v) = IsValueLine (fields_of text) handle v
 
 -- the place of the publisher with this name
 abbrev pub place_of : List ℕ → List Publisher → ℕ
 place_of name publishers = position_or_len (λ p. bytes_eq name p.name) publishers
 
+-- whether the prefix is hosted for the publisher with this name
+abbrev pub hosts_named : Register → List ℕ → List ℕ → Bool
+hosts_named r prefix name = hosts r (place_of name r.publishers) prefix
+
 -- the register with what one more line says
 abbrev pub added : Register → Line → Register
 added r skipped = r
 added r (publisher p) = record r { publishers = r.publishers ++ p ∷ [] }
-added r (hosted prefix name) = record r { hostings = r.hostings ++ record { prefix = prefix; publisher = place_of name r.publishers } ∷ [] }
+added r (hosted prefix name a) = record r { hostings = r.hostings ++ record { prefix = prefix; publisher = place_of name r.publishers; algorithm = a } ∷ [] }
 added r (opened handle v) = record r { opening = r.opening ++ (handle, v) ∷ [] }
 
 -- a value may follow what stands before it
@@ -48,20 +53,20 @@ pub record IsKnownRow (r : Register) (row : Row) : Type 0 where
 abbrev pub IsKnown : Register → Line → Type 0
 IsKnown r skipped = ⊤
 IsKnown r (publisher p) = ⊤
-IsKnown r (hosted prefix name) = Contains (names_of r.publishers) name
+IsKnown r (hosted prefix name a) = Contains (names_of r.publishers) name
 IsKnown r (opened handle v) = IsKnownRow r (handle, v)
 
 -- nothing is wrong with a line that says this
 abbrev pub IsAllowed : Register → Line → Type 0
 IsAllowed r skipped = ⊤
 IsAllowed r (publisher p) = ¬ (Contains (names_of r.publishers) p.name) × (lane_count r.publishers + p.lanes ≤ most_lanes)
-IsAllowed r (hosted prefix name) = Contains (names_of r.publishers) name × ¬ (Contains (prefixes_of r.hostings) prefix)
+IsAllowed r (hosted prefix name a) = Contains (names_of r.publishers) name × IsFalse (hosts_named r prefix name)
 IsAllowed r (opened handle v) = IsKnownRow r (handle, v)
 
 -- what is wrong with a line; a line that is skipped needs no memory
 abbrev pub HasFault : Register → List ℕ → TenantFault → Type 0
 HasFault r text BadLine = (line : Line) → IsLine text line → ¬ (IsKnown r line)
-HasFault r text TwicePrefix = (prefix : List ℕ) × (name : List ℕ) × IsLine text (hosted prefix name) × Contains (names_of r.publishers) name × Contains (prefixes_of r.hostings) prefix
+HasFault r text TwicePrefix = (prefix : List ℕ) × (name : List ℕ) × (a : Algorithm) × IsLine text (hosted prefix name a) × Contains (names_of r.publishers) name × IsTrue (hosts_named r prefix name)
 HasFault r text TwicePublisher = (p : Publisher) × IsLine text (publisher p) × Contains (names_of r.publishers) p.name
 HasFault r text TooMany = (p : Publisher) × IsLine text (publisher p) × ¬ (Contains (names_of r.publishers) p.name) × (most_lanes < lane_count r.publishers + p.lanes)
 HasFault r text Memory = ¬ (IsSkipped text)

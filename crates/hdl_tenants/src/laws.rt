@@ -1,6 +1,6 @@
 //! Laws over tenants texts, each the contract of a function without a body.
 
-ghost use Rattle.hdl_tenants.specs.Laws.{OneRegister, AcceptedHasNoFault, OneFirstFault, LanesByRange, RootIsNobodys, OneHost, OpeningIsHosted};
+ghost use Rattle.hdl_tenants.specs.Laws.{OneRegister, AcceptedHasNoFault, OneFirstFault, LanesByRange, RootIsNobodys, HostedAsGiven, HashedAsGiven, OpeningIsHosted};
 
 /// An accepted text says one thing.
 pub fn one_register()
@@ -27,9 +27,14 @@ pub fn root_is_nobodys()
     ensures { RootIsNobodys }
 {}
 
-/// A prefix is hosted for one publisher at most.
-pub fn one_host()
-    ensures { OneHost }
+/// A prefix is hosted for a publisher just where a line gives it so.
+pub fn hosted_as_given()
+    ensures { HostedAsGiven }
+{}
+
+/// The hash function of a prefix on a publisher's lanes is the one that its line gives.
+pub fn hashed_as_given()
+    ensures { HashedAsGiven }
 {}
 
 /// Each handle to open with has a prefix that is hosted for a publisher.

@@ -2,17 +2,19 @@
 
 ghost use Rattle.std.specs.Prelude.{◌≡◌, ◌≢◌, ◌↔◌, ℕ, List, [], ◌∷◌, codes, map, IsTrue, IfOk, IfErr, MatchOption};
 ghost use Rattle.std.specs.Str.{str_to_ascii_lowercase};
+ghost use Rattle.hdl_auth.specs.declared.algorithm.Algorithm.{Algorithm};
 ghost use Rattle.hdl_name.specs.Name.{IsHandle};
 ghost use Rattle.hdl_value.specs.declared.value.Value.{Value};
 ghost use Rattle.hdl_tenants.specs.Register as register;
 ghost use Rattle.hdl_tenants.specs.Register.{IsPublisherName, IsPrefix};
 ghost use Rattle.hdl_tenants.specs.Lines as lines;
-ghost use Rattle.hdl_tenants.specs.Lines.{IsPublisherLine, IsPrefixLine, IsValueText};
+ghost use Rattle.hdl_tenants.specs.Lines.{IsPublisherLine, IsPrefixLine, IsValueText, algorithm_in, algorithm_named};
 ghost use Rattle.hdl_tenants.specs.Text.{IsSkipped};
 ghost use Rattle.hdl_tenants.specs.Steps.{IsNameFault, IsDigitsFault};
 
 use crate::fault::TenantFault;
 use crate::numerals::decimal_u16;
+use hdl_auth::algorithm::Algorithm;
 use hdl_name::{Name, is_authority, is_name};
 use hdl_value::{Value, ValueFault, read_value};
 use hex::FromHexError;
@@ -31,11 +33,12 @@ pub struct PublisherLine<'a> {
     pub port: u16,
 }
 
-/// A prefix and the name of its publisher.
+/// A prefix, the name of its publisher, and its hash function on that publisher's lanes.
 #[derive(Clone, Copy, Debug)]
 pub struct PrefixLine<'a> {
     pub prefix: &'a str,
     pub name: &'a str,
+    pub algorithm: Algorithm,
 }
 
 /// A handle and the hexadecimal digits of a value.
@@ -91,18 +94,47 @@ pub fn publisher_of<'a>(fields: &[&'a str]) -> Option<PublisherLine<'a>>
     Some(PublisherLine { name, lanes, port })
 }
 
-/// What the fields of a line `prefix PREFIX NAME` say.
-pub fn prefix_of<'a>(fields: &[&'a str]) -> Option<PrefixLine<'a>>
-    ensures { MatchOption result ((prefix name : List ℕ) → ¬ IsPrefixLine (map (λ field. field.now) fields.now) prefix name)
-        (λ p. IsPrefixLine (map (λ field. field.now) fields.now) p.prefix.now p.name.now) }
+/// The hash function that a field names: `2` or `3`.
+fn algorithm_named(field: &str) -> Option<Algorithm>
+    ensures { result ≡ algorithm_named field.now }
 {
-    let [word, prefix, name] = fields else {
+    if field == "2" {
+        Some(Algorithm::Sha1)
+    } else if field == "3" {
+        Some(Algorithm::Sha256)
+    } else {
+        None
+    }
+}
+
+/// The hash function by the fields behind a prefix and its publisher.
+fn algorithm_in(fields: &[&str]) -> Option<Algorithm>
+    ensures { result ≡ algorithm_in (map (λ field. field.now) fields.now) }
+{
+    match fields {
+        [] => Some(Algorithm::Sha1),
+        [field] => algorithm_named(field),
+        _ => None,
+    }
+}
+
+/// What the fields of a line `prefix PREFIX NAME`, or of one with a field more, say.
+pub fn prefix_of<'a>(fields: &[&'a str]) -> Option<PrefixLine<'a>>
+    ensures { MatchOption result ((prefix name : List ℕ) (a : Algorithm) → ¬ IsPrefixLine (map (λ field. field.now) fields.now) prefix name a)
+        (λ p. IsPrefixLine (map (λ field. field.now) fields.now) p.prefix.now p.name.now p.algorithm) }
+{
+    let [word, prefix, name, more @ ..] = fields else {
         return None;
     };
     if *word != "prefix" || !is_prefix(prefix) {
         return None;
     }
-    Some(PrefixLine { prefix, name })
+    let algorithm = algorithm_in(more)?;
+    Some(PrefixLine {
+        prefix,
+        name,
+        algorithm,
+    })
 }
 
 /// The second and third field of a line `value HANDLE HEX`.

@@ -1,30 +1,54 @@
 //! The hosted prefixes of a tenants text, in its order.
 
-ghost use Rattle.std.specs.Prelude.{◌≡◌, ◌↔◌, [], ◌∷◌, ◌++◌, Contains, IsTrue, IfErr, OnOk, OnErr};
-ghost use Rattle.hdl_tenants.specs.Register.{prefixes_of, hosts_among};
+ghost use Rattle.std.specs.Prelude.{◌≡◌, ◌==◌, ◌↔◌, [], ◌∷◌, ◌++◌, find, option_copied, Contains, IsTrue, IsFalse, IfOk, IfErr, OnOk, OnErr};
+ghost use Rattle.hdl_tenants.specs.Register.{prefixes_of, hosts_among, algorithm_among};
+ghost use Rattle.hdl_tenants.specs.Kept.{hosts_of};
 ghost use Rattle.hdl_tenants.specs.Steps.{IsPrefixFault};
 
 use crate::fault::TenantFault;
+use hdl_auth::algorithm::Algorithm;
 use indexmap::IndexMap;
-use std::alloc::Global;
+use std::alloc::{AllocError, Global};
 use std::marker::Model;
 
-/// Prefixes in the order of their lines, each with the place of its publisher.
+/// The place of a publisher for whom a prefix is hosted, and the prefix's hash function on its lanes.
+#[derive(Clone, Copy, Drop)]
+pub struct Host {
+    pub publisher: usize,
+    pub algorithm: Algorithm,
+}
+
+/// A prefix, and a publisher for whom it is hosted.
+#[derive(Drop)]
+pub struct HostedPrefix {
+    prefix: Vec<u8>,
+    host: Host,
+}
+
+/// Prefixes in the order of their lines, and the publishers of each, to be asked for each request.
 #[derive(Drop)]
 pub struct Prefixes {
-    by_prefix: IndexMap<Vec<u8>, usize>,
+    hosted: Vec<HostedPrefix>,
+    by_prefix: IndexMap<Vec<u8>, Vec<Host>>,
+}
+
+/// The publisher at this place among those of a prefix.
+fn host_among(publisher: usize, hosts: &[Host]) -> Option<&Host>
+    ensures { option_copied result ≡ find (λ h. h.publisher == publisher) hosts.now }
+{
+    hosts.iter().find(|host| host.publisher == publisher)
 }
 
 impl Model for Prefixes {
     ghost use Rattle.std.specs.Prelude.{List};
-    ghost use Rattle.hdl_tenants.specs.Register.{Hosting, AreDistinct, prefixes_of};
-    ghost use Rattle.hdl_tenants.specs.Kept.{hostings_in};
+    ghost use Rattle.hdl_tenants.specs.Register.{Hosting};
+    ghost use Rattle.hdl_tenants.specs.Kept.{hostings_in, KeepsHostings};
 
     ghost Value = { List Hosting };
 
-    ghost view = { λ a. hostings_in a.by_prefix.entries };
+    ghost view = { λ a. hostings_in a.hosted.items };
 
-    ghost invariant = { λ a. AreDistinct (prefixes_of (hostings_in a.by_prefix.entries)) };
+    ghost invariant = { λ a. KeepsHostings a.by_prefix.entries (hostings_in a.hosted.items) };
 }
 
 impl Prefixes {
@@ -33,43 +57,92 @@ impl Prefixes {
         ensures { result ≡ [] }
     {
         Prefixes {
+            hosted: Vec::new(alloc),
             by_prefix: IndexMap::new(alloc),
         }
     }
 
-    /// Adds a prefix behind the others, if it isn't there. Else nothing changes.
-    pub fn add(&mut self, alloc: Global, prefix: &[u8], publisher: usize) -> Result<(), TenantFault>
-        ensures ok { OnOk result (self.new ≡ self.old ++ record { prefix = prefix.now; publisher = publisher } ∷ []) }
-        ensures absent { OnOk result (¬ (Contains (prefixes_of self.old) prefix.now)) }
-        ensures fault { IfErr result (λ e. IsPrefixFault self.old prefix.now e) }
+    /// Adds a prefix of a publisher behind the others, if the publisher doesn't have it. Else nothing changes.
+    pub fn add(&mut self, alloc: Global, host: Host, prefix: &[u8]) -> Result<(), TenantFault>
+        ensures ok { OnOk result (self.new ≡ self.old ++ record { prefix = prefix.now; publisher = host.publisher; algorithm = host.algorithm } ∷ []) }
+        ensures absent { OnOk result (IsFalse (hosts_among self.old host.publisher prefix.now)) }
+        ensures fault { IfErr result (λ e. IsPrefixFault self.old host.publisher prefix.now e) }
         ensures unchanged { OnErr result (self.new ≡ self.old) }
     {
-        if self.by_prefix.contains_key(prefix) {
+        if self.hosts(host.publisher, prefix) {
             return Err(TenantFault::TwicePrefix);
         }
-        let Ok(key) = Vec::from_slice(alloc, prefix) else {
+        let Ok(hosts) = self.hosts_and(alloc, host, prefix) else {
             return Err(TenantFault::Memory);
         };
-        let Ok(_) = self.by_prefix.insert(key, publisher) else {
+        let (Ok(key), Ok(octets)) = (
+            Vec::from_slice(alloc, prefix),
+            Vec::from_slice(alloc, prefix),
+        ) else {
             return Err(TenantFault::Memory);
+        };
+        let Ok(()) = self.hosted.reserve(1) else {
+            return Err(TenantFault::Memory);
+        };
+        let Ok(_) = self.by_prefix.insert(key, hosts) else {
+            return Err(TenantFault::Memory);
+        };
+        let added = HostedPrefix {
+            prefix: octets,
+            host,
+        };
+        let Ok(()) = self.hosted.push(added) else {
+            unreachable!()
         };
         Ok(())
+    }
+
+    /// The publishers of the prefix, and this one behind them.
+    fn hosts_and(&self, alloc: Global, host: Host, prefix: &[u8]) -> Result<Vec<Host>, AllocError>
+        ensures { IfOk result (λ hosts. hosts.items ≡ hosts_of prefix.now self.now ++ host ∷ []) }
+    {
+        let mut hosts = match self.by_prefix.get(prefix) {
+            Some(hosts) => Vec::from_slice(alloc, hosts)?,
+            None => Vec::new(alloc),
+        };
+        hosts.push(host)?;
+        Ok(hosts)
     }
 
     /// Whether the prefix is hosted for somebody.
     pub fn contains(&self, prefix: &[u8]) -> bool
         ensures { IsTrue result ↔ Contains (prefixes_of self.now) prefix.now }
     {
-        self.by_prefix.contains_key(prefix)
+        match self.by_prefix.get(prefix) {
+            Some(hosts) => !hosts.is_empty(),
+            None => false,
+        }
+    }
+
+    /// The publisher at this place, if the prefix is hosted for it.
+    fn host(&self, publisher: usize, prefix: &[u8]) -> Option<&Host>
+        ensures { option_copied result ≡ find (λ h. h.publisher == publisher) (hosts_of prefix.now self.now) }
+    {
+        match self.by_prefix.get(prefix) {
+            Some(hosts) => host_among(publisher, hosts),
+            None => None,
+        }
     }
 
     /// Whether the prefix is hosted for the publisher at this place.
     pub fn hosts(&self, publisher: usize, prefix: &[u8]) -> bool
         ensures { result ≡ hosts_among self.now publisher prefix.now }
     {
-        match self.by_prefix.get(prefix) {
-            Some(owner) => *owner == publisher,
-            None => false,
+        self.host(publisher, prefix).is_some()
+    }
+
+    /// The hash function of the prefix on the lanes of the publisher at this place, SHA-1 where it isn't hosted for it.
+    pub fn algorithm(&self, publisher: usize, prefix: &[u8]) -> Algorithm
+        ensures { result ≡ algorithm_among self.now publisher prefix.now }
+    {
+        match self.host(publisher, prefix) {
+            Some(host) => host.algorithm,
+            None => Algorithm::Sha1,
         }
     }
 }

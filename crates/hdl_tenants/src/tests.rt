@@ -1,4 +1,5 @@
 use super::*;
+use hdl_auth::algorithm::Algorithm;
 use hdl_name::Name;
 use std::test::Fail;
 
@@ -68,6 +69,61 @@ fn hosting(rt: HostRuntime) -> Result<(), Fail> {
 }
 
 #[test]
+fn a_prefix_of_two_publishers(rt: HostRuntime) -> Result<(), Fail> {
+    let tenants = read(
+        &rt,
+        "publisher a 2 1\npublisher b 2 2\npublisher c 2 3\nprefix 10 c\nprefix 10 a\nprefix 20 b\n",
+    )?;
+    for (text, expected) in [
+        ("10/x", [true, false, true]),
+        ("0.na/10", [true, false, true]),
+        ("20/x", [false, true, false]),
+    ] {
+        let name = name(&rt, text)?;
+        for (place, hosts) in expected.into_iter().enumerate() {
+            assert_eq!(rt; tenants.hosts(place, &name), hosts, "{text} {place}");
+        }
+    }
+    Ok(())
+}
+
+#[test]
+fn hash_functions(rt: HostRuntime) -> Result<(), Fail> {
+    let tenants = read(
+        &rt,
+        "publisher a 2 1\npublisher b 2 2\nprefix 10 a\nprefix 20 a 3\nprefix 10 b 3\nprefix 30 b 2\n",
+    )?;
+    for (text, expected) in [
+        ("10/x", [Algorithm::Sha1, Algorithm::Sha256]),
+        ("0.na/10", [Algorithm::Sha1, Algorithm::Sha256]),
+        ("20/x", [Algorithm::Sha256, Algorithm::Sha1]),
+        ("30/x", [Algorithm::Sha1, Algorithm::Sha1]),
+        ("20.1/x", [Algorithm::Sha1, Algorithm::Sha1]),
+    ] {
+        let name = name(&rt, text)?;
+        for (place, algorithm) in expected.into_iter().enumerate() {
+            assert_eq!(rt;
+                tenants.algorithm(place, &name),
+                algorithm,
+                "{text} {place}"
+            );
+        }
+    }
+    for text in [
+        "publisher a 2 1\nprefix 10 a 1\n",
+        "publisher a 2 1\nprefix 10 a 03\n",
+        "publisher a 2 1\nprefix 10 a \n",
+        "publisher a 2 1\nprefix 10 a 3 \n",
+        "publisher a 2 1\nprefix 10 a 3 3\n",
+    ] {
+        assert_eq!(rt; fault(&rt, text), Some((2, TenantFault::BadLine)), "{text}");
+    }
+    let twice = "publisher a 2 1\nprefix 10 a\nprefix 10 a 3\n";
+    assert_eq!(rt; fault(&rt, twice), Some((3, TenantFault::TwicePrefix)));
+    Ok(())
+}
+
+#[test]
 fn opening(rt: HostRuntime) -> Result<(), Fail> {
     let text = "publisher acme 2 2641
 prefix 10 acme
@@ -89,7 +145,7 @@ value 10/a 000000010000000355524C00000009687474703a2f2f612f000001518006000000000
 fn twice(rt: HostRuntime) {
     let rows = [
         (
-            "publisher a 2 1\npublisher b 2 2\nprefix 10 a\nprefix 20 b\n\nprefix 10 b\n",
+            "publisher a 2 1\npublisher b 2 2\nprefix 10 a\nprefix 10 b\n\nprefix 10 a\n",
             (6, TenantFault::TwicePrefix),
         ),
         (
@@ -122,6 +178,7 @@ fn accepted_lines(rt: HostRuntime) {
         "publisher a-0 2 00001\r\n",
         "publisher abcdefghijklmnopqrstuvwxyz012345 064 65535",
         "publisher a 62 1\npublisher b 2 1\nprefix 10 b\nprefix 20 a\nprefix 0.na.x b",
+        "publisher a 2 1\npublisher b 2 2\nprefix 10 a\nprefix 20 b\n\nprefix 10 b\n",
     ];
     for text in texts {
         assert_eq!(rt; fault(&rt, text), None, "{text}");
@@ -166,7 +223,7 @@ fn bad_prefixes(rt: HostRuntime) {
         "publisher a 2 1\nprefix",
         "publisher a 2 1\nprefix 10",
         "publisher a 2 1\nprefix 10 a ",
-        "publisher a 2 1\nprefix 10 a 2",
+        "publisher a 2 1\nprefix 10 a 4",
         "publisher a 2 1\nprefix  a",
         "publisher a 2 1\nprefix 10 b",
         "publisher a 2 1\nprefix 10.A a",

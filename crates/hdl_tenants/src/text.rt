@@ -15,9 +15,10 @@ use crate::lines::{
     PrefixLine, PublisherLine, ValueLine, fields_of, is_skipped, name_of, prefix_of, publisher_of,
     value_of, value_text,
 };
-use crate::prefixes::Prefixes;
+use crate::prefixes::{Host, Prefixes};
 use crate::publishers::Publishers;
 use crate::taken::TakenPlaces;
+use hdl_auth::algorithm::Algorithm;
 use hdl_name::Name;
 use hdl_value::Value;
 use std::alloc::Global;
@@ -68,14 +69,18 @@ impl Tenants {
     /// Adds a prefix for a publisher that is there.
     fn add_prefix(&mut self, alloc: Global, line: &PrefixLine<'_>) -> Result<(), TenantFault>
         requires { IsPrefix line.now.prefix.now }
-        ensures allowed { OnOk result (IsAllowed self.old (hosted line.now.prefix.now line.now.name.now)) }
-        ensures added { OnOk result (self.new ≡ added self.old (hosted line.now.prefix.now line.now.name.now)) }
+        ensures allowed { OnOk result (IsAllowed self.old (hosted line.now.prefix.now line.now.name.now line.now.algorithm)) }
+        ensures added { OnOk result (self.new ≡ added self.old (hosted line.now.prefix.now line.now.name.now line.now.algorithm)) }
         ensures fault { IfErr result (λ e. IsHostedFault self.old line.now.prefix.now line.now.name.now e) }
     {
         let Some(publisher) = self.publishers.place(line.name) else {
             return Err(TenantFault::BadLine);
         };
-        self.prefixes.add(alloc, line.prefix.as_bytes(), publisher)?;
+        let host = Host {
+            publisher,
+            algorithm: line.algorithm,
+        };
+        self.prefixes.add(alloc, host, line.prefix.as_bytes())?;
         Ok(())
     }
 
@@ -138,12 +143,15 @@ impl Tenants {
     ///
     /// ```text
     /// publisher NAME LANES PORT    NAME is 1 to 32 of a-z, 0-9 and -; LANES is 2 to 64; PORT is 1 to 65535
-    /// prefix PREFIX NAME           PREFIX is a naming authority in canonical form, other than 0.na; NAME stands before
+    /// prefix PREFIX NAME           PREFIX is a naming authority in canonical form, other than 0.na; NAME stands before;
+    /// prefix PREFIX NAME HASH      several publishers may have one prefix. HASH is 2 for SHA-1, as where there is none, or 3
+    ///                              for SHA-256: the hash function of the prefix on the lanes of NAME
     /// value HANDLE HEX             HEX spells one value within its limits; the prefix of HANDLE stands before
     /// ```
     ///
     /// Refuses the first faulty line, counted from 1 over all lines: BadLine for any other line, an index twice in a handle and
-    /// more than 1,024 values of one; then, in this order, TwicePrefix, TwicePublisher, TooMany for more than 64 lanes together;
+    /// more than 1,024 values of one; then, in this order, TwicePrefix for a prefix that its publisher has, TwicePublisher, TooMany for more than 64
+    /// lanes together;
     /// Memory where room for the line was refused. Nothing is left of a text that is refused.
     pub fn read(alloc: Global, text: &str) -> Result<Tenants, (usize, TenantFault)>
         ensures accepted { IfOk result (λ tenants. IsAccepted (lines text.now) tenants) }
@@ -181,6 +189,13 @@ impl Tenants {
         ensures { result ≡ register.hosts self.now publisher (prefix name.now) }
     {
         self.prefixes.hosts(publisher, name.prefix())
+    }
+
+    /// The hash function of the name's prefix on the lanes of the publisher at this place: SHA-1 where it isn't hosted for it.
+    pub fn algorithm(&self, publisher: usize, name: &Name) -> Algorithm
+        ensures { result ≡ register.algorithm self.now publisher (prefix name.now) }
+    {
+        self.prefixes.algorithm(publisher, name.prefix())
     }
 
     /// Name, number of lanes and port of the publisher at this place, if there is one.

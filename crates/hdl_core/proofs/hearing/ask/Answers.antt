@@ -1,20 +1,34 @@
-use Rattle.std.proofs.Common.{◌≡◌, ◌==◌, true, false, ◌∙◌, ap, rules}
+use Rattle.std.proofs.Common.{◌≡◌, ◌==◌, true, false, ◌∙◌, ap, subst, rules}
+use Rattle.hdl_msg.specs.Bodies.{content_of}
 use Rattle.hdl_msg.specs.Codes.{response_number}
+use Rattle.hdl_ops.specs.Decisions.{Decides, Anyone}
+use Rattle.hdl_ops.specs.Replies.{digest_of}
 use Rattle.hdl_ops.specs.Tables.{apply_if}
 use Rattle.hdl_ops.specs.Views.{decision_of}
+use Rattle.hdl_laws.specs.Worlds.{answer_octets, challenge_octets}
+use Rattle.hdl_core.specs.Serving.{hosted_by}
 use Rattle.hdl_core.proofs.hearing.ask.Goals as goal
 
 pub returns-then-eq-clause-asked : goal.returns-then-eq-clause-asked
 returns-then-eq-clause-asked g c =
-    let needed : (response_number c.in_ok-decision.decision.code == 402) ≡ true = search rules in
-    (decision_of c.in_ok-decision.decision, c.in_ok-decision.ensures.decided, needed, c.new.ensures ∙ c.in-Ok.ensures.octets, c.in-Ok.ensures.digest, c.decide.ensures.unchanged)
+    let r = content_of c.args.request.now in
+    let needed : (response_number c.in_ok-decision.decision.code == 402) ≡ true = search rules in (
+      decision_of c.in_ok-decision.decision,
+      subst (λ a. Decides (hosted_by c.args.owner.now) a (g.R.Rows.content c.args.rows.now) r Anyone (decision_of c.in_ok-decision.decision)) c.in_ok-algorithm.ensures c.in_ok-decision.ensures.decided,
+      needed,
+      c.new.ensures ∙ c.in-Ok.ensures.octets ∙ ap (λ a. challenge_octets a c.args.next c.args.letter.now.envelope r c.args.letter.now.nonce) c.in_ok-algorithm.ensures,
+      c.in-Ok.ensures.digest ∙ ap (λ a. digest_of a r) c.in_ok-algorithm.ensures,
+      c.decide.ensures.unchanged,
+    )
 
 pub returns-clause-asked : goal.returns-clause-asked
 returns-clause-asked g c =
+    let r = content_of c.args.request.now in
+    let d = decision_of c.in_ok-decision.decision in
     let answered : (response_number c.in_ok-decision.decision.code == 402) ≡ false = search rules in (
-      decision_of c.in_ok-decision.decision,
-      c.in_ok-decision.ensures.decided,
+      d,
+      subst (λ a. Decides (hosted_by c.args.owner.now) a (g.R.Rows.content c.args.rows.now) r Anyone d) c.in_ok-algorithm.ensures c.in_ok-decision.ensures.decided,
       answered,
-      c.in_ok-octets.ensures.reply,
+      c.in_ok-octets.ensures.reply ∙ ap (λ a. answer_octets a c.args.letter.now.envelope r d.code d.content) c.in_ok-algorithm.ensures,
       c.in_ok-octets.ensures.done ∙ ap (λ t. apply_if t c.args.letter.now.moment c.in_ok-decision.decision.change) c.decide.ensures.unchanged,
     )

@@ -15,7 +15,7 @@ pub returns-in-Some-prefix_of-clause-ok : goal.returns-in-Some-prefix_of-clause-
 returns-in-Some-prefix_of-clause-ok c =
     let line = c.in-Some-prefix_of.line in
     let fields = rw (c.deref-2.ensures.value, c.in-Ok.ensures) at c.in-Some-prefix_of.ensures in
-    both_ok _ _ _ c.add_prefix.result c.add_prefix.ensures.allowed c.add_prefix.ensures.added (λ allowed added. (hosted line.prefix.now line.name.now, fields, allowed, added))
+    both_ok _ _ _ c.add_prefix.result c.add_prefix.ensures.allowed c.add_prefix.ensures.added (λ allowed added. (hosted line.prefix.now line.name.now line.algorithm, fields, allowed, added))
 
 pub returns-in-Some-value_of-clause-ok : goal.returns-in-Some-value_of-clause-ok
 returns-in-Some-value_of-clause-ok c =
