@@ -6,6 +6,7 @@ ghost use Rattle.hdl_tenants.specs.Register.{hosts};
 ghost use Rattle.hdl_msg.specs.Bodies.{content_of};
 ghost use Rattle.hdl_msg.specs.Message.{signed_octets};
 ghost use Rattle.hdl_rows.specs.Table.{most, names_of, values_of, HaveTheirIndexes};
+ghost use Rattle.hdl_cache.specs.Kept.{AreTrue};
 ghost use Rattle.hdl_ops.specs.Admission.{refusal};
 ghost use Rattle.hdl_ops.specs.Decisions as decisions;
 ghost use Rattle.hdl_ops.specs.Decisions.{Decides, DecidesBy};
@@ -21,6 +22,7 @@ use crate::decision::{Decision, Level, Proof, Sight};
 use crate::keys::code_for_proof;
 use crate::requests::is_list;
 use crate::settle::settle;
+use hdl_cache::Masks;
 use hdl_msg::Request;
 use hdl_name::Name;
 use hdl_rows::{Refused, Rows};
@@ -97,13 +99,16 @@ fn decide_for_anyone<R: Rows>(
 fn decide_with_proof<R: Rows>(
     alloc: Global,
     rows: &mut R,
+    masks: &mut Masks,
     request: &Request<'_>,
     name: Name,
     proof: &Proof<'_>,
 ) -> Result<Decision, Refused>
     requires signed { request.now.signed.now ≡ signed_octets (content_of request.now) }
     requires named { name ≡ named (content_of request.now).operation }
+    requires kept { AreTrue (R.content rows.old) masks.old }
     ensures unchanged { R.content rows.new ≡ R.content rows.old }
+    ensures kept { AreTrue (R.content rows.new) masks.new }
     ensures decided { IfOk result (λ d. DecidesBy (R.content rows.old) (content_of request.now) (decisions.Proven (proof_of proof.now)) None (decision_of d)) }
     ensures carried { IfOk result (λ d. IsTrue (fits (content_of request.now) d.content)) }
     ensures by_index { OnOk result (HaveTheirIndexes (R.content rows.old) (handle_of (content_of request.now)) (sight (R.content rows.old) (content_of request.now)).values) }
@@ -111,11 +116,12 @@ fn decide_with_proof<R: Rows>(
     ensures refused { OnErr result ((R.refused rows.new ≡ R.refused rows.old) ⊎ (R.refused rows.new ≡ min (R.refused rows.old + 1) most)) }
 {
     let sight = look(alloc, rows, request, &name)?;
-    let code = code_for_proof(alloc, rows, request, &sight, &name, proof)?;
+    let code = code_for_proof(alloc, rows, masks, request, &sight, &name, proof)?;
     settle(alloc, request, &Level::Proven(*proof), sight, code, name)
 }
 
-/// The decision about a request on a lane of the publisher. The table stays as it is.
+/// The decision about a request on a lane of the publisher. The table stays as it is. What is kept is the table's, before and
+/// after; a mask that is kept isn't looked for again.
 ///
 /// Refused: the table refused a look, and its count rose by one; or memory for the decision was refused, and the count is as
 /// it was. What is carried fits into the message of a reply, and a change meets the conditions of its write.
@@ -124,11 +130,14 @@ pub fn decide<R: Rows>(
     tenants: &Tenants,
     publisher: usize,
     rows: &mut R,
+    masks: &mut Masks,
     request: &Request<'_>,
     level: &Level<'_>,
 ) -> Result<Decision, Refused>
     requires signed { request.now.signed.now ≡ signed_octets (content_of request.now) }
+    requires kept { AreTrue (R.content rows.old) masks.old }
     ensures unchanged { R.content rows.new ≡ R.content rows.old }
+    ensures kept { AreTrue (R.content rows.new) masks.new }
     ensures decided { IfOk result (λ d. Decides (hosts tenants.now publisher) (R.content rows.old) (content_of request.now) (level_of level.now) (decision_of d)) }
     ensures carried { IfOk result (λ d. IsTrue (fits (content_of request.now) d.content)) }
     ensures can_apply { IfOk result (λ d. IfSome d.change (λ change. CanApply (R.content rows.old) change)) }
@@ -139,7 +148,7 @@ pub fn decide<R: Rows>(
         Admitted::Refused(decision) => Ok(decision),
         Admitted::Passed(name) => match level {
             Level::Anyone => decide_for_anyone(alloc, rows, request, name),
-            Level::Proven(proof) => decide_with_proof(alloc, rows, request, name, proof),
+            Level::Proven(proof) => { decide_with_proof(alloc, rows, masks, request, name, proof) },
         },
     }
 }
