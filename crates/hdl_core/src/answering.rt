@@ -6,6 +6,7 @@ ghost use Rattle.hdl_msg.specs.Codes.{response_number};
 ghost use Rattle.hdl_msg.specs.Message.{signed_octets};
 ghost use Rattle.hdl_msg.specs.Reply.{short_reply};
 ghost use Rattle.hdl_msg.specs.declared.replies.ReplyContent.TheVariants as content;
+ghost use Rattle.hdl_cache.specs.Kept.{AreTrue};
 ghost use Rattle.hdl_ops.specs.Replies.{fits};
 ghost use Rattle.hdl_ops.specs.Tables.{apply_if, CanApply};
 ghost use Rattle.hdl_laws.specs.Worlds.{answer_octets};
@@ -15,17 +16,28 @@ use hdl_auth::algorithm::Algorithm;
 use hdl_frame::Envelope;
 use hdl_laws::Octets;
 use hdl_msg::{ReplyContent, Request, ResponseCode, refuse};
-use hdl_ops::{Change, Decision, Refused, Rows, apply, render};
+use hdl_ops::{Change, Decision, Masks, Refused, Rows, apply, render};
 use std::alloc::Global;
 
-/// Makes the change of a decision, if there is one.
-fn make<R: Rows>(rows: &mut R, change: Option<Change>, moment: u64) -> Result<(), Refused>
+/// Makes the change of a decision, if there is one. No mask of the table before it is kept then.
+fn make<R: Rows>(
+    rows: &mut R,
+    masks: &mut Masks,
+    change: Option<Change>,
+    moment: u64,
+) -> Result<(), Refused>
     requires can_apply { IfSome change (λ change. CanApply (R.content rows.old) change) }
+    requires true_masks { AreTrue (R.content rows.old) masks.old }
     ensures done { OnOk result (R.content rows.new ≡ apply_if (R.content rows.old) moment change) }
     ensures undone { OnErr result (R.content rows.new ≡ R.content rows.old) }
+    ensures true_masks { AreTrue (R.content rows.new) masks.new }
 {
     match change {
-        Some(change) => apply(rows, change, moment),
+        Some(change) => {
+            apply(rows, change, moment)?;
+            masks.clear();
+            Ok(())
+        }
         None => Ok(()),
     }
 }
@@ -35,6 +47,7 @@ pub(crate) fn answer<R: Rows>(
     alloc: Global,
     algorithm: Algorithm,
     rows: &mut R,
+    masks: &mut Masks,
     letter: &Letter,
     request: &Request<'_>,
     decision: Decision,
@@ -42,9 +55,11 @@ pub(crate) fn answer<R: Rows>(
     requires signed { request.now.signed.now ≡ signed_octets (content_of request.now) }
     requires fits { IsTrue (fits algorithm (content_of request.now) decision.content) }
     requires can_apply { IfSome decision.change (λ change. CanApply (R.content rows.old) change) }
+    requires true_masks { AreTrue (R.content rows.old) masks.old }
     ensures reply { IfOk result (λ octets. octets ≡ answer_octets algorithm letter.now.envelope (content_of request.now) (response_number decision.code) decision.content) }
     ensures done { OnOk result (R.content rows.new ≡ apply_if (R.content rows.old) letter.now.moment decision.change) }
     ensures undone { OnErr result (R.content rows.new ≡ R.content rows.old) }
+    ensures true_masks { AreTrue (R.content rows.new) masks.new }
 {
     let Decision {
         code,
@@ -59,7 +74,7 @@ pub(crate) fn answer<R: Rows>(
     let Ok(octets) = render(alloc, algorithm, session, number, request, code, content) else {
         return Err(Refused);
     };
-    make(rows, change, letter.moment)?;
+    make(rows, masks, change, letter.moment)?;
     Ok(Octets::new(octets))
 }
 

@@ -3,6 +3,7 @@
 ghost use Rattle.std.specs.Prelude.{◌≡◌, ◌<◌, ℕ, List, length, IfOk, OnErr};
 ghost use Rattle.hdl_msg.specs.Bodies.{content_of};
 ghost use Rattle.hdl_msg.specs.Message.{signed_octets};
+ghost use Rattle.hdl_cache.specs.Kept.{AreTrue};
 ghost use Rattle.hdl_ops.specs.Admission.{request_algorithm};
 ghost use Rattle.hdl_ops.specs.Views.{response_view};
 ghost use Rattle.hdl_laws.specs.Worlds.{is_late};
@@ -16,7 +17,8 @@ use hdl_auth::algorithm::{Algorithm, Digest};
 use hdl_laws::Octets;
 use hdl_msg::{Request, ResponseCode, read_request};
 use hdl_ops::{
-    Level, Proof, Refused, Response, Rows, decide, render_challenge, request_algorithm, response_of,
+    Level, Masks, Proof, Refused, Response, Rows, decide, render_challenge, request_algorithm,
+    response_of,
 };
 use hdl_slots::Pending;
 
@@ -34,13 +36,16 @@ pub(crate) enum Asked {
 fn ask<R: Rows>(
     owner: &Owner<'_>,
     rows: &mut R,
+    masks: &mut Masks,
     letter: &Letter,
     next: u32,
     request: &Request<'_>,
 ) -> Result<Asked, Refused>
     requires signed { request.now.signed.now ≡ signed_octets (content_of request.now) }
+    requires true_masks { AreTrue (R.content rows.old) masks.old }
     ensures asked { IfOk result (λ asked. IsAsked (hosted_by owner.now) (request_algorithm (algorithms_by owner.now) (content_of request.now)) (R.content rows.old) letter.now next (content_of request.now) asked (R.content rows.new)) }
     ensures undone { OnErr result (R.content rows.new ≡ R.content rows.old) }
+    ensures true_masks { AreTrue (R.content rows.new) masks.new }
 {
     let algorithm = request_algorithm(owner.alloc, owner.tenants, owner.publisher, request)?;
     let decision = decide(
@@ -49,6 +54,7 @@ fn ask<R: Rows>(
         owner.tenants,
         owner.publisher,
         rows,
+        masks,
         request,
         &Level::Anyone,
     )?;
@@ -67,7 +73,7 @@ fn ask<R: Rows>(
         let (octets, digest) = sent;
         return Ok(Asked::Challenged(Octets::new(octets), digest));
     }
-    let octets = answer(owner.alloc, algorithm, rows, letter, request, decision)?;
+    let octets = answer(owner.alloc, algorithm, rows, masks, letter, request, decision)?;
     Ok(Asked::Answered(octets))
 }
 
@@ -82,12 +88,15 @@ fn is_late(letter: &Letter, pending: &Pending) -> bool
 fn redeem<R: Rows>(
     owner: &Owner<'_>,
     rows: &mut R,
+    masks: &mut Masks,
     letter: &Letter,
     response: Response<'_>,
     pending: &Pending,
 ) -> Result<Octets, Refused>
+    requires true_masks { AreTrue (R.content rows.old) masks.old }
     ensures redeemed { IfOk result (λ octets. IsRedeemed (hosted_by owner.now) (algorithms_by owner.now) (R.content rows.old) letter.now (response_view response.entry) pending.now octets (R.content rows.new)) }
     ensures undone { OnErr result (R.content rows.new ≡ R.content rows.old) }
+    ensures true_masks { AreTrue (R.content rows.new) masks.new }
 {
     let Ok(request) = read_request(pending.message.as_slice()) else {
         return malformed(owner.alloc, &letter.envelope);
@@ -114,16 +123,18 @@ fn redeem<R: Rows>(
         owner.tenants,
         owner.publisher,
         rows,
+        masks,
         &request,
         &level,
     )?;
-    answer(owner.alloc, algorithm, rows, letter, &request, decision)
+    answer(owner.alloc, algorithm, rows, masks, letter, &request, decision)
 }
 
 /// The reply to a challenge response. The challenge that it names is spent, unless the reply is refused.
 fn respond<R: Rows>(
     owner: &Owner<'_>,
     rows: &mut R,
+    masks: &mut Masks,
     lanes: &mut Lanes,
     number: u16,
     letter: &Letter,
@@ -132,9 +143,11 @@ fn respond<R: Rows>(
 ) -> Result<Octets, Refused>
     requires there { number < length lanes.old }
     requires signed { request.now.signed.now ≡ signed_octets (content_of request.now) }
+    requires true_masks { AreTrue (R.content rows.old) masks.old }
     ensures responded { IfOk result (λ octets. RespondsAt (hosted_by owner.now) (algorithms_by owner.now) (R.content rows.old) lanes.old number letter.now (content_of request.now) (response_view response.entry) octets lanes.new (R.content rows.new)) }
     ensures undone { OnErr result (R.content rows.new ≡ R.content rows.old) }
     ensures kept { OnErr result (lanes.new ≡ lanes.old) }
+    ensures true_masks { AreTrue (R.content rows.new) masks.new }
 {
     let session = letter.envelope.session;
     let Some(pending) = lanes.find(number, letter.peer, session) else {
@@ -146,7 +159,7 @@ fn respond<R: Rows>(
             ResponseCode::ProtocolError,
         );
     };
-    let octets = redeem(owner, rows, letter, response, pending)?;
+    let octets = redeem(owner, rows, masks, letter, response, pending)?;
     lanes.spend(number, letter.peer, session);
     Ok(octets)
 }
@@ -155,24 +168,29 @@ fn respond<R: Rows>(
 pub(crate) fn hear<R: Rows>(
     owner: &Owner<'_>,
     rows: &mut R,
+    masks: &mut Masks,
     lanes: &mut Lanes,
     number: u16,
     letter: &Letter,
     message: Vec<u8>,
 ) -> Result<Octets, Refused>
     requires there { number < length lanes.old }
+    requires true_masks { AreTrue (R.content rows.old) masks.old }
     ensures heard { IfOk result (λ octets. HearsAt (hosted_by owner.now) (algorithms_by owner.now) (R.content rows.old) lanes.old number (letter_of letter.now message.items) octets lanes.new (R.content rows.new)) }
     ensures undone { OnErr result (R.content rows.new ≡ R.content rows.old) }
     ensures kept { OnErr result (lanes.new ≡ lanes.old) }
+    ensures true_masks { AreTrue (R.content rows.new) masks.new }
 {
     let Ok(request) = read_request(&message) else {
         return malformed(owner.alloc, &letter.envelope);
     };
     if let Some(response) = response_of(&request.body) {
-        return respond(owner, rows, lanes, number, letter, &request, response);
+        return respond(
+            owner, rows, masks, lanes, number, letter, &request, response,
+        );
     }
     let next = lanes.next_number(number);
-    match ask(owner, rows, letter, next, &request)? {
+    match ask(owner, rows, masks, letter, next, &request)? {
         Asked::Answered(octets) => Ok(octets),
         Asked::Challenged(octets, digest) => {
             let nonce = letter.nonce;

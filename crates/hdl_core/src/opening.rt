@@ -9,7 +9,7 @@ use crate::lane::Lane;
 use crate::lanes::Lanes;
 use crate::service::Service;
 use hdl_name::Name;
-use hdl_ops::{Refused, Rows, Tenants};
+use hdl_ops::{Masks, Refused, Rows, Tenants};
 use hdl_value::Value;
 use std::alloc::{AllocError, Global};
 use std::slice;
@@ -18,7 +18,7 @@ use thiserror::Error;
 /// Why a service can't be opened.
 #[derive(Clone, Copy, Debug, PartialEq, Eq, Error)]
 pub enum OpenFault {
-    /// Room for the lanes was refused.
+    /// Room for the lanes, or for the masks that are kept, was refused.
     #[error("no memory")]
     Memory,
     /// The table refused an opening row.
@@ -69,7 +69,7 @@ fn put_rows<R: Rows>(rows: &mut R, opening: &[(Name, Value)]) -> Result<(), Refu
 impl<R: Rows + Drop> Service<R> {
     /// The service of a tenants text over an empty table: every lane closed, and the opening rows in the table.
     ///
-    /// Refused: `Memory` for the lanes, `Store` where the table refused a row. The table is dropped then.
+    /// Refused: `Memory` for the lanes or the masks that are kept, `Store` where the table refused a row. The table is dropped then.
     pub fn open(alloc: Global, tenants: Tenants, mut rows: R) -> Result<Service<R>, OpenFault>
         requires empty { R.content rows ≡ no_rows }
         ensures opening { IfOk result (λ service. IsOpening tenants service) }
@@ -81,6 +81,9 @@ impl<R: Rows + Drop> Service<R> {
         let Ok(lanes) = Lanes::new(alloc, lanes) else {
             return Err(OpenFault::Memory);
         };
+        let Ok(masks) = Masks::new(alloc) else {
+            return Err(OpenFault::Memory);
+        };
         if put_rows(&mut rows, opening).is_err() {
             return Err(OpenFault::Store);
         }
@@ -89,6 +92,7 @@ impl<R: Rows + Drop> Service<R> {
             tenants,
             lanes,
             rows,
+            masks,
         })
     }
 }

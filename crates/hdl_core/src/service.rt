@@ -10,7 +10,7 @@ use crate::owner::Owner;
 use crate::serving::serve;
 use hdl_laws::laws::{reply_told, restricted, runs_joined, twin_replies};
 use hdl_laws::{Event, Outcome};
-use hdl_ops::{Rows, Tenants};
+use hdl_ops::{Masks, Rows, Tenants};
 use hdl_tenants::root_is_nobodys;
 use std::alloc::Global;
 use std::marker::Model;
@@ -23,6 +23,7 @@ pub struct Service<R: Rows + Drop> {
     pub(crate) tenants: Tenants,
     pub(crate) lanes: Lanes,
     pub(crate) rows: R,
+    pub(crate) masks: Masks,
 }
 
 impl<R: Rows + Drop> Model for Service<R> {
@@ -39,6 +40,10 @@ impl<R: Rows + Drop> Model for Service<R> {
     ghost use Rattle.hdl_core.specs.Worlds.{world_of};
 
     ghost view = { λ s. world_of s.tenants s.lanes (R.content s.rows) };
+
+    ghost use Rattle.hdl_cache.specs.Kept.{AreTrue};
+
+    ghost invariant = { λ s. AreTrue (R.content s.rows) s.masks };
 }
 
 /// Room for a run's outcomes was refused: the events come back as they were, and nothing changed.
@@ -67,7 +72,14 @@ impl<R: Rows + Drop> Service<R> {
             tenants: &self.tenants,
             publisher: self.lanes.publisher(lane),
         };
-        serve(&owner, &mut self.rows, &mut self.lanes, lane, what)
+        serve(
+            &owner,
+            &mut self.rows,
+            &mut self.masks,
+            &mut self.lanes,
+            lane,
+            what,
+        )
     }
 
     /// Serves each event in turn, with one outcome for each. Its room is taken first; where that is refused nothing changed and

@@ -4,6 +4,7 @@ ghost use Rattle.std.specs.Prelude.{◌≡◌, ◌<◌, true, drop, length, IfOk
 ghost use Rattle.hdl_frame.specs.Envelope.{envelope_at, is_truncated};
 ghost use Rattle.hdl_frame.specs.Splitting.{IsFrameOf};
 ghost use Rattle.hdl_msg.specs.Reply.{reply_envelope};
+ghost use Rattle.hdl_cache.specs.Kept.{AreTrue};
 ghost use Rattle.hdl_core.specs.Serving.{AssemblesAt, algorithms_by, hosted_by, outcome_of, received_as, received_of, ReceivesAt, ServesAt};
 
 use crate::hearing::hear;
@@ -13,7 +14,7 @@ use crate::owner::Owner;
 use hdl_frame::{ENVELOPE_LEN, Envelope, Frame, one_datagram};
 use hdl_laws::{Octets, Outcome, What};
 use hdl_msg::{busy, refuse};
-use hdl_ops::{Refused, Rows};
+use hdl_ops::{Masks, Refused, Rows};
 use hdl_pool::Taken;
 
 /// The message behind an envelope, in the octets' own memory.
@@ -30,6 +31,7 @@ fn message_of(octets: Octets) -> Vec<u8>
 fn assemble<R: Rows>(
     owner: &Owner<'_>,
     rows: &mut R,
+    masks: &mut Masks,
     lanes: &mut Lanes,
     number: u16,
     letter: &Letter,
@@ -39,16 +41,18 @@ fn assemble<R: Rows>(
     requires frame { IsFrameOf frame.now.bytes.now frame.now }
     requires piece { is_truncated (envelope_at frame.now.bytes.now) ≡ true }
     requires envelope { letter.now.envelope ≡ envelope_at frame.now.bytes.now }
+    requires true_masks { AreTrue (R.content rows.old) masks.old }
     ensures assembled { IfOk result (λ reply. AssemblesAt (hosted_by owner.now) (algorithms_by owner.now) (R.content rows.old) lanes.old number (received_as letter.now frame.now.bytes.now) reply lanes.new (R.content rows.new)) }
     ensures undone { OnErr result (R.content rows.new ≡ R.content rows.old) }
     ensures kept { OnErr result (lanes.new ≡ lanes.old) }
+    ensures true_masks { AreTrue (R.content rows.new) masks.new }
 {
     let Ok(taken) = lanes.take_piece(number, letter.peer, frame) else {
         return Err(Refused);
     };
     match taken {
         Taken::Whole(message) => {
-            let reply = hear(owner, rows, lanes, number, letter, message)?;
+            let reply = hear(owner, rows, masks, lanes, number, letter, message)?;
             lanes.free(number, letter.peer, &letter.envelope);
             Ok(Some(reply))
         }
@@ -73,12 +77,15 @@ fn outcome_of(envelope: &Envelope, reply: Result<Option<Octets>, Refused>) -> Ou
 fn receive<R: Rows>(
     owner: &Owner<'_>,
     rows: &mut R,
+    masks: &mut Masks,
     lanes: &mut Lanes,
     number: u16,
     received: Received,
 ) -> Outcome
     requires there { number < length lanes.old }
-    ensures { ReceivesAt (hosted_by owner.now) (algorithms_by owner.now) (R.content rows.old) lanes.old number (received_of received) result lanes.new (R.content rows.new) }
+    requires true_masks { AreTrue (R.content rows.old) masks.old }
+    ensures received { ReceivesAt (hosted_by owner.now) (algorithms_by owner.now) (R.content rows.old) lanes.old number (received_of received) result lanes.new (R.content rows.new) }
+    ensures true_masks { AreTrue (R.content rows.new) masks.new }
 {
     let Received {
         peer,
@@ -97,11 +104,11 @@ fn receive<R: Rows>(
         envelope,
     };
     if envelope.is_truncated() {
-        let reply = assemble(owner, rows, lanes, number, &letter, &frame);
+        let reply = assemble(owner, rows, masks, lanes, number, &letter, &frame);
         return outcome_of(&envelope, reply);
     }
     let message = message_of(bytes);
-    match hear(owner, rows, lanes, number, &letter, message) {
+    match hear(owner, rows, masks, lanes, number, &letter, message) {
         Ok(reply) => Outcome::Reply(reply),
         Err(_) => Outcome::Busy(busy(&envelope)),
     }
@@ -126,12 +133,15 @@ fn came(session: u32, request: u32) -> Envelope
 pub(crate) fn serve<R: Rows>(
     owner: &Owner<'_>,
     rows: &mut R,
+    masks: &mut Masks,
     lanes: &mut Lanes,
     number: u16,
     what: What,
 ) -> Outcome
     requires there { number < length lanes.old }
-    ensures { ServesAt (hosted_by owner.now) (algorithms_by owner.now) (R.content rows.old) lanes.old number what result lanes.new (R.content rows.new) }
+    requires true_masks { AreTrue (R.content rows.old) masks.old }
+    ensures served { ServesAt (hosted_by owner.now) (algorithms_by owner.now) (R.content rows.old) lanes.old number what result lanes.new (R.content rows.new) }
+    ensures true_masks { AreTrue (R.content rows.new) masks.new }
 {
     match what {
         What::Open => {
@@ -163,7 +173,7 @@ pub(crate) fn serve<R: Rows>(
                 nonce,
                 bytes,
             };
-            receive(owner, rows, lanes, number, received)
+            receive(owner, rows, masks, lanes, number, received)
         }
     }
 }

@@ -6,6 +6,7 @@ ghost use Rattle.hdl_tenants.specs.Register.{hosts};
 ghost use Rattle.hdl_msg.specs.Bodies.{content_of};
 ghost use Rattle.hdl_msg.specs.Message.{signed_octets};
 ghost use Rattle.hdl_rows.specs.Table.{most, names_of, values_of, HaveTheirIndexes};
+ghost use Rattle.hdl_cache.specs.Kept.{AreTrue};
 ghost use Rattle.hdl_ops.specs.Admission.{refusal};
 ghost use Rattle.hdl_ops.specs.Decisions as decisions;
 ghost use Rattle.hdl_ops.specs.Decisions.{Decides, DecidesBy};
@@ -22,6 +23,7 @@ use crate::keys::code_for_proof;
 use crate::requests::is_list;
 use crate::settle::settle;
 use hdl_auth::algorithm::Algorithm;
+use hdl_cache::Masks;
 use hdl_msg::Request;
 use hdl_name::Name;
 use hdl_rows::{Refused, Rows};
@@ -100,13 +102,16 @@ fn decide_with_proof<R: Rows>(
     alloc: Global,
     algorithm: Algorithm,
     rows: &mut R,
+    masks: &mut Masks,
     request: &Request<'_>,
     name: Name,
     proof: &Proof<'_>,
 ) -> Result<Decision, Refused>
     requires signed { request.now.signed.now ≡ signed_octets (content_of request.now) }
     requires named { name ≡ named (content_of request.now).operation }
+    requires true_masks { AreTrue (R.content rows.old) masks.old }
     ensures unchanged { R.content rows.new ≡ R.content rows.old }
+    ensures true_masks { AreTrue (R.content rows.new) masks.new }
     ensures decided { IfOk result (λ d. DecidesBy algorithm (R.content rows.old) (content_of request.now) (decisions.Proven (proof_of proof.now)) None (decision_of d)) }
     ensures carried { IfOk result (λ d. IsTrue (fits algorithm (content_of request.now) d.content)) }
     ensures by_index { OnOk result (HaveTheirIndexes (R.content rows.old) (handle_of (content_of request.now)) (sight (R.content rows.old) (content_of request.now)).values) }
@@ -114,7 +119,7 @@ fn decide_with_proof<R: Rows>(
     ensures refused { OnErr result ((R.refused rows.new ≡ R.refused rows.old) ⊎ (R.refused rows.new ≡ min (R.refused rows.old + 1) most)) }
 {
     let sight = look(alloc, rows, request, &name)?;
-    let code = code_for_proof(alloc, rows, request, &sight, &name, proof)?;
+    let code = code_for_proof(alloc, rows, masks, request, &sight, &name, proof)?;
     settle(
         alloc,
         algorithm,
@@ -126,7 +131,8 @@ fn decide_with_proof<R: Rows>(
     )
 }
 
-/// The decision about a request on a lane of the publisher. The table stays as it is.
+/// The decision about a request on a lane of the publisher. The table stays as it is. What is kept is the table's, before and
+/// after; a mask that is kept isn't looked for again.
 ///
 /// Refused: the table refused a look, and its count rose by one; or memory for the decision was refused, and the count is as
 /// it was. What is carried fits into the message of a reply, and a change meets the conditions of its write.
@@ -136,11 +142,14 @@ pub fn decide<R: Rows>(
     tenants: &Tenants,
     publisher: usize,
     rows: &mut R,
+    masks: &mut Masks,
     request: &Request<'_>,
     level: &Level<'_>,
 ) -> Result<Decision, Refused>
     requires signed { request.now.signed.now ≡ signed_octets (content_of request.now) }
+    requires true_masks { AreTrue (R.content rows.old) masks.old }
     ensures unchanged { R.content rows.new ≡ R.content rows.old }
+    ensures true_masks { AreTrue (R.content rows.new) masks.new }
     ensures decided { IfOk result (λ d. Decides (hosts tenants.now publisher) algorithm (R.content rows.old) (content_of request.now) (level_of level.now) (decision_of d)) }
     ensures carried { IfOk result (λ d. IsTrue (fits algorithm (content_of request.now) d.content)) }
     ensures can_apply { IfOk result (λ d. IfSome d.change (λ change. CanApply (R.content rows.old) change)) }
@@ -151,7 +160,7 @@ pub fn decide<R: Rows>(
         Admitted::Refused(decision) => Ok(decision),
         Admitted::Passed(name) => match level {
             Level::Anyone => decide_for_anyone(alloc, algorithm, rows, request, name),
-            Level::Proven(proof) => decide_with_proof(alloc, algorithm, rows, request, name, proof),
+            Level::Proven(proof) => { decide_with_proof(alloc, algorithm, rows, masks, request, name, proof) },
         },
     }
 }

@@ -3,7 +3,9 @@
 ghost use Rattle.std.specs.Prelude.{◌≡◌, ◌+◌, ◌⊎◌, Some, min, option_map, IfOk, OnOk, OnErr};
 ghost use Rattle.hdl_name.specs.Name.{canonical, prefix};
 ghost use Rattle.hdl_rows.specs.Table.{most, place_of};
+ghost use Rattle.hdl_reach.specs.Reach.{IsMask};
 ghost use Rattle.hdl_reach.specs.Views.{mask_of};
+ghost use Rattle.hdl_cache.specs.Kept.{AreTrue};
 ghost use Rattle.hdl_msg.specs.Bodies.{operation_of, content_of};
 ghost use Rattle.hdl_msg.specs.Codes.{response_number};
 ghost use Rattle.hdl_ops.specs.Admission.{handle_in};
@@ -16,6 +18,7 @@ use crate::admit::read_name;
 use crate::decision::{Proof, Sight};
 use crate::proven::{code_before_key, code_behind_key};
 use crate::requests::creates;
+use hdl_cache::Masks;
 use hdl_msg::{Body, Request, ResponseCode};
 use hdl_name::Name;
 use hdl_reach::mask;
@@ -55,26 +58,52 @@ fn admin_handle(alloc: Global, name: &Name) -> Result<Option<Name>, Refused>
     read_name(alloc, &octets)
 }
 
+/// What the key may do as an administrator of the handle: as it is kept, or as the table has it, and then it is kept.
+fn mask_for<R: Rows>(
+    alloc: Global,
+    rows: &mut R,
+    masks: &mut Masks,
+    name: &Name,
+    key: &Reference,
+) -> Result<Option<AdminMask>, Refused>
+    requires true_masks { AreTrue (R.content rows.old) masks.old }
+    ensures unchanged { R.content rows.new ≡ R.content rows.old }
+    ensures true_masks { AreTrue (R.content rows.new) masks.new }
+    ensures mask { IfOk result (λ mask. IsMask (R.content rows.old) (canonical name.now) (place_of key.now) (mask_of mask)) }
+    ensures answered { OnOk result (R.refused rows.new ≡ R.refused rows.old) }
+    ensures refused { OnErr result ((R.refused rows.new ≡ R.refused rows.old) ⊎ (R.refused rows.new ≡ min (R.refused rows.old + 1) most)) }
+{
+    if let Ok(Some(kept)) = masks.find(name, key) {
+        return Ok(kept);
+    }
+    let found = mask(alloc, rows, name, key)?;
+    masks.keep(name, key, found);
+    Ok(found)
+}
+
 /// What the key may do as an administrator of the request's target.
 #[tactic(auto, unfolding(crate::specs::Proven::target))]
 fn mask_of<R: Rows>(
     alloc: Global,
     rows: &mut R,
+    masks: &mut Masks,
     body: &Body<'_>,
     name: &Name,
     key: &Reference,
 ) -> Result<Option<AdminMask>, Refused>
     requires named { name.now ≡ named (operation_of body.now) }
+    requires true_masks { AreTrue (R.content rows.old) masks.old }
     ensures unchanged { R.content rows.new ≡ R.content rows.old }
+    ensures true_masks { AreTrue (R.content rows.new) masks.new }
     ensures mask { IfOk result (λ mask. MaskOf (R.content rows.old) (target (operation_of body.now)) (Some (place_of key.now)) (mask_of mask)) }
     ensures answered { OnOk result (R.refused rows.new ≡ R.refused rows.old) }
     ensures refused { OnErr result ((R.refused rows.new ≡ R.refused rows.old) ⊎ (R.refused rows.new ≡ min (R.refused rows.old + 1) most)) }
 {
     if !creates(body) {
-        return mask(alloc, rows, name, key);
+        return mask_for(alloc, rows, masks, name, key);
     }
     match admin_handle(alloc, name)? {
-        Some(target) => mask(alloc, rows, &target, key),
+        Some(target) => mask_for(alloc, rows, masks, &target, key),
         None => Ok(None),
     }
 }
@@ -83,13 +112,16 @@ fn mask_of<R: Rows>(
 fn code_for_key<R: Rows>(
     alloc: Global,
     rows: &mut R,
+    masks: &mut Masks,
     request: &Request<'_>,
     sight: &Sight,
     name: &Name,
     proof: &Proof<'_>,
 ) -> Result<ResponseCode, Refused>
     requires named { name.now ≡ named (content_of request.now).operation }
+    requires true_masks { AreTrue (R.content rows.old) masks.old }
     ensures unchanged { R.content rows.new ≡ R.content rows.old }
+    ensures true_masks { AreTrue (R.content rows.new) masks.new }
     ensures code { IfOk result (λ code. IsCodeForKey (R.content rows.old) (sight_of sight.now) (content_of request.now) (proof_of proof.now) (response_number code)) }
     ensures answered { OnOk result (R.refused rows.new ≡ R.refused rows.old) }
     ensures refused { OnErr result ((R.refused rows.new ≡ R.refused rows.old) ⊎ (R.refused rows.new ≡ min (R.refused rows.old + 1) most)) }
@@ -97,7 +129,7 @@ fn code_for_key<R: Rows>(
     let Some(key) = key_of(alloc, proof)? else {
         return Ok(ResponseCode::NotAuthorized);
     };
-    let Some(mask) = mask_of(alloc, rows, &request.body, name, &key)? else {
+    let Some(mask) = mask_of(alloc, rows, masks, &request.body, name, &key)? else {
         return Ok(ResponseCode::NotAuthorized);
     };
     let value = rows.at(&key)?;
@@ -108,6 +140,7 @@ fn code_for_key<R: Rows>(
 pub(crate) fn code_for_proof<R: Rows>(
     alloc: Global,
     rows: &mut R,
+    masks: &mut Masks,
     request: &Request<'_>,
     sight: &Sight,
     name: &Name,
@@ -115,13 +148,15 @@ pub(crate) fn code_for_proof<R: Rows>(
 ) -> Result<ResponseCode, Refused>
     requires named { name.now ≡ named (content_of request.now).operation }
     requires sight { sight_of sight.now ≡ sights.sight (R.content rows.old) (content_of request.now) }
+    requires true_masks { AreTrue (R.content rows.old) masks.old }
     ensures unchanged { R.content rows.new ≡ R.content rows.old }
+    ensures true_masks { AreTrue (R.content rows.new) masks.new }
     ensures code { IfOk result (λ code. IsCodeForProof (R.content rows.old) (content_of request.now) (proof_of proof.now) (response_number code)) }
     ensures answered { OnOk result (R.refused rows.new ≡ R.refused rows.old) }
     ensures refused { OnErr result ((R.refused rows.new ≡ R.refused rows.old) ⊎ (R.refused rows.new ≡ min (R.refused rows.old + 1) most)) }
 {
     match code_before_key(request, sight, proof) {
         Some(code) => Ok(code),
-        None => code_for_key(alloc, rows, request, sight, name, proof),
+        None => code_for_key(alloc, rows, masks, request, sight, name, proof),
     }
 }

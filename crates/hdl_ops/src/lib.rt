@@ -10,7 +10,7 @@
 //! that its change can be written; [`apply`] writes it, at the moment of its event; [`render`] and [`render_challenge`] spell
 //! the replies. The laws in [`laws`] say that a request is decided in one way, and what a decision tells.
 //!
-//! It stands on `hdl_msg`, `hdl_rows`, `hdl_reach`, `hdl_tenants` and `hdl_auth`, and knows nothing of lanes, events or time.
+//! It stands on `hdl_msg`, `hdl_rows`, `hdl_reach`, `hdl_cache`, `hdl_tenants` and `hdl_auth`, and knows nothing of lanes, events or time.
 #![tactic(auto)]
 
 mod admit;
@@ -32,6 +32,7 @@ pub use admit::request_algorithm;
 pub use change::{Change, IndexList, apply};
 pub use deciding::decide;
 pub use decision::{Decision, Level, Proof};
+pub use hdl_cache::Masks;
 pub use hdl_msg::{Request, read_request};
 pub use hdl_rows::{Refused, Rows};
 pub use hdl_tenants::Tenants;

@@ -16,7 +16,7 @@ pub returns : goal.returns
 returns g c =
     let table = g.R.Rows.content c.self.inside.rows in
     let new = world_of c.self.inside.tenants c.serve.new.lanes (g.R.Rows.content c.serve.new.rows) in
-    let served = subst (λ u. ServesAt (hosts c.self.inside.tenants u) (algorithm c.self.inside.tenants u) table c.self.inside.lanes c.args.event.lane c.args.event.what c.serve.result c.serve.new.lanes (g.R.Rows.content c.serve.new.rows)) c.publisher.ensures c.serve.ensures in
+    let served = subst (λ u. ServesAt (hosts c.self.inside.tenants u) (algorithm c.self.inside.tenants u) table c.self.inside.lanes c.args.event.lane c.args.event.what c.serve.result c.serve.new.lanes (g.R.Rows.content c.serve.new.rows)) c.publisher.ensures c.serve.ensures.served in
     let done : Steps c.args.self.now c.args.event c.serve.result new =
     subst (λ w. Steps w c.args.event c.serve.result new) c.self.view_is
     (steps_served c.self.inside.tenants c.self.inside.lanes c.serve.new.lanes table (g.R.Rows.content c.serve.new.rows) c.args.event c.serve.result (omega (arith, c.len.ensures, c.if-lane-len.false)) served) in

@@ -1,0 +1,31 @@
+-- The code's entries and what is seen of them, through each call of the map.
+use Rattle.std.proofs.Common.{refl, ◌≡◌, ℕ, Bool, List, Option, Result, Ok, Err, OnOk, OnErr, ◌⊎◌, inl, inr, sym, ap, ◌∙◌}
+use Rattle.std.specs.Prelude.{option_map}
+use Rattle.std.specs.Map.{lookup}
+use Rattle.hdl_value.specs.declared.admin.AdminMask.{AdminMask}
+use Rattle.hdl_reach.specs.Views.{mask_of}
+use Rattle.lru.specs.LruCache.{LruCache, lru_cache, promoted, put_entries}
+use Rattle.hdl_cache.specs.declared.pair.Pair.{Pair}
+use Rattle.hdl_cache.specs.Kept.{Asked, Kept, same_asked, with_mask, asked_of, kept_in}
+use Rattle.hdl_cache.proofs.Entries.{lookup-seen, promoted-seen, put-seen}
+
+-- the derived equality of pairs
+abbrev pub same_pair : Pair → Pair → Bool
+same_pair p q = same_asked (asked_of p) (asked_of q)
+
+module _ (kept : List Kept) (p : Pair) (a : Asked) (is : asked_of p ≡ a) where
+  pub found : (es : List (Pair × Option AdminMask)) (o : Option (Option AdminMask)) → kept_in es ≡ kept → o ≡ lookup (same_pair p) es → option_map mask_of o ≡ lookup (same_asked a) kept
+  found es o view e = ap (option_map mask_of) e ∙ sym (lookup-seen asked_of mask_of (same_pair p) (same_asked (asked_of p)) (λ q. refl) es) ∙ (λ i. lookup (same_asked (is i)) (view i))
+
+  pub used : (es : List (Pair × Option AdminMask)) → kept_in es ≡ kept → kept_in (promoted (same_pair p) es) ≡ promoted (same_asked a) kept
+  used es view = sym (promoted-seen asked_of mask_of (same_pair p) (same_asked (asked_of p)) (λ q. refl) es) ∙ (λ i. promoted (same_asked (is i)) (view i))
+
+  put : (es : List (Pair × Option AdminMask)) (cap : ℕ) (m : Option AdminMask) → kept_in es ≡ kept → cap ≡ 256 → kept_in (put_entries same_pair (lru_cache es cap) p m) ≡ with_mask kept a (mask_of m)
+  put es cap m view most = sym (put-seen asked_of mask_of same_pair same_asked p m (λ q. refl) es cap) ∙ (λ i. put_entries same_asked (lru_cache (view i) (most i)) (is i) (mask_of m))
+
+  -- what is kept after a mask was put, or after that was refused
+  pub kept_or_not : {X E : Type 0} (r : Result X E) (old new : LruCache Pair (Option AdminMask)) (m : Option AdminMask)
+      → OnOk r (new ≡ lru_cache (put_entries same_pair old p m) old.cap) → OnErr r (new ≡ old) → kept_in old.entries ≡ kept → old.cap ≡ 256
+      → (kept_in new.entries ≡ kept) ⊎ (kept_in new.entries ≡ with_mask kept a (mask_of m))
+  kept_or_not (Ok x) old new m done undone view most = inr (ap (λ (c : LruCache Pair (Option AdminMask)). kept_in c.entries) done ∙ put old.entries old.cap m view most)
+  kept_or_not (Err x) old new m done undone view most = inl (ap (λ (c : LruCache Pair (Option AdminMask)). kept_in c.entries) undone ∙ view)

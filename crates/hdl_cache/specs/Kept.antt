@@ -1,0 +1,44 @@
+-- Masks that are kept, and when they are a table's.
+use Rattle.std.specs.Prelude.{ℕ, List, Bool, ◌&&◌, bytes_eq, nat_eq, map, Option, Contains}
+use Rattle.hdl_value.specs.Place.{Place}
+use Rattle.hdl_value.specs.declared.admin.AdminMask.{AdminMask}
+use Rattle.hdl_rows.specs.Table.{Table}
+use Rattle.hdl_reach.specs.Reach.{IsMask}
+use Rattle.hdl_reach.specs.Views.{mask_of}
+use Rattle.lru.specs.LruCache.{lru_cache, put_entries}
+use Rattle.hdl_cache.specs.declared.pair.Pair.{Pair}
+
+-- the key whose mask is kept, and the handle for which
+pub record Asked : Type 0 where
+  pub handle : List ℕ
+  pub key : Place
+
+abbrev pub asked_for : List ℕ → Place → Asked
+asked_for h k = record { handle = h; key = k }
+
+-- a mask that is kept, or that there is none
+abbrev pub Kept : Type 0
+Kept = Asked × Option ℕ
+
+-- the same handle and the same key
+abbrev pub same_asked : Asked → Asked → Bool
+same_asked a b = bytes_eq a.handle b.handle && (bytes_eq a.key.handle b.key.handle && nat_eq a.key.index b.key.index)
+
+abbrev pub is_asked : List ℕ → Place → Asked → Bool
+is_asked h k = same_asked (asked_for h k)
+
+-- one more, the most recently used; of 256 others the least recently used is gone
+abbrev pub with_mask : List Kept → Asked → Option ℕ → List Kept
+with_mask kept a m = put_entries same_asked (lru_cache kept 256) a m
+
+-- what is kept is the table's
+abbrev pub AreTrue : Table → List Kept → Type 0
+AreTrue t kept = (e : Kept) → Contains kept e → IsMask t e.0.handle e.0.key e.1
+
+-- ---- the code's entries, as they are seen
+
+abbrev pub asked_of : Pair → Asked
+asked_of p = asked_for p.handle.items (record { handle = p.key.items; index = p.index })
+
+abbrev pub kept_in : List (Pair × Option AdminMask) → List Kept
+kept_in es = map (λ e. (asked_of e.0, mask_of e.1)) es

@@ -1,0 +1,30 @@
+//! What a mask is kept under.
+
+ghost use Rattle.std.specs.Prelude.{◌≡◌, IfOk};
+ghost use Rattle.hdl_name.specs.Name.{canonical};
+ghost use Rattle.hdl_value.specs.Refs.{place_of};
+ghost use Rattle.hdl_cache.specs.Kept.{asked_for, asked_of};
+
+use hdl_name::Name;
+use hdl_value::Reference;
+use std::alloc::{AllocError, Global};
+
+/// A handle and a key, both in canonical form.
+#[derive(PartialEq, Eq, Hash, Drop)]
+pub(crate) struct Pair {
+    handle: Vec<u8>,
+    key: Vec<u8>,
+    index: u32,
+}
+
+impl Pair {
+    pub(crate) fn new(alloc: Global, name: &Name, key: &Reference) -> Result<Pair, AllocError>
+        ensures { IfOk result (λ pair. asked_of pair ≡ asked_for (canonical name.now) (place_of key.now)) }
+    {
+        Ok(Pair {
+            handle: Vec::from_slice(alloc, name.canon())?,
+            key: Vec::from_slice(alloc, key.name.canon())?,
+            index: key.index,
+        })
+    }
+}
