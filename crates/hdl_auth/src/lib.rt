@@ -24,6 +24,3 @@ pub enum Verdict {
     /// Of the right form, with another keyed digest.
     Wrong,
 }
-
-#[cfg(test)]
-mod tests;

@@ -12,6 +12,3 @@ mod masks;
 mod pair;
 
 pub use masks::Masks;
-
-#[cfg(test)]
-mod tests;

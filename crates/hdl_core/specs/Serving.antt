@@ -13,7 +13,6 @@ use Rattle.hdl_rows.specs.Table.{Table}
 use Rattle.hdl_rows.specs.declared.rows.Refused.{Refused}
 use Rattle.hdl_ops.specs.Decisions.{Anyone, Decision, Decides}
 use Rattle.hdl_ops.specs.Requests.{Response}
-use Rattle.hdl_tenants.specs.Register.{hosts, algorithm}
 use Rattle.hdl_slots.specs.declared.pending.Pending.{Pending}
 use Rattle.hdl_slots.specs.Lanes.{challenge_of}
 use Rattle.hdl_ops.specs.Replies.{digest_of}
@@ -24,20 +23,11 @@ use Rattle.hdl_laws.specs.declared.events.Outcome.TheVariants.{Reply, Busy, Sile
 use Rattle.hdl_laws.specs.Worlds as worlds
 use Rattle.hdl_laws.specs.Worlds.{answer_octets, challenge_octets, Effect, Task, IsReading, redeemed, redeem_task, IsResponseTask, IsTask, IsLetterTask, IsPieceTask, IsOctetsTask, Does, Received, arrived, moment_of}
 use Rattle.hdl_laws.specs.Lanes.{LaneState}
-use Rattle.hdl_core.specs.declared.owner.Owner.{Owner}
 use Rattle.hdl_core.specs.declared.letter.Letter.{Letter}
 use Rattle.hdl_core.specs.declared.letter.Received as code
 use Rattle.hdl_core.specs.declared.hearing.Asked.{Asked}
 use Rattle.hdl_core.specs.declared.hearing.Asked.TheVariants.{Answered, Challenged}
 use Rattle.hdl_core.specs.Held.{Held, state_at, with_state}
-
--- the prefixes that are hosted for the owner
-abbrev pub hosted_by : Owner → List ℕ → Bool
-hosted_by o = hosts o.tenants.now o.publisher
-
--- the hash functions of prefixes on the owner's lanes
-abbrev pub algorithms_by : Owner → List ℕ → Algorithm
-algorithms_by o = algorithm o.tenants.now o.publisher
 
 -- what was received, in the words of the laws
 abbrev pub received_of : code.Received → Received

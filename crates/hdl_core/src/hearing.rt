@@ -5,20 +5,19 @@ ghost use Rattle.hdl_msg.specs.Bodies.{content_of};
 ghost use Rattle.hdl_msg.specs.Message.{signed_octets};
 ghost use Rattle.hdl_cache.specs.Kept.{AreTrue};
 ghost use Rattle.hdl_ops.specs.Admission.{request_algorithm};
-ghost use Rattle.hdl_ops.specs.Views.{response_view};
+ghost use Rattle.hdl_ops.specs.Views.{algorithms_by, hosted_by, response_view};
 ghost use Rattle.hdl_laws.specs.Worlds.{is_late};
-ghost use Rattle.hdl_core.specs.Serving.{hosted_by, algorithms_by, letter_of, IsAsked, IsRedeemed, RespondsAt, HearsAt};
+ghost use Rattle.hdl_core.specs.Serving.{letter_of, IsAsked, IsRedeemed, RespondsAt, HearsAt};
 
 use crate::answering::{answer, malformed, tell};
 use crate::lanes::Lanes;
 use crate::letter::Letter;
-use crate::owner::Owner;
 use hdl_auth::algorithm::{Algorithm, Digest};
 use hdl_laws::Octets;
 use hdl_msg::{Request, ResponseCode, read_request};
 use hdl_ops::{
-    Level, Masks, Proof, Refused, Response, Rows, decide, render_challenge, request_algorithm,
-    response_of,
+    Level, Masks, Owner, Proof, Refused, Response, Rows, decide, render_challenge,
+    request_algorithm, response_of,
 };
 use hdl_slots::Pending;
 
@@ -47,17 +46,8 @@ fn ask<R: Rows>(
     ensures undone { OnErr result (R.content rows.new ≡ R.content rows.old) }
     ensures true_masks { AreTrue (R.content rows.new) masks.new }
 {
-    let algorithm = request_algorithm(owner.alloc, owner.tenants, owner.publisher, request)?;
-    let decision = decide(
-        owner.alloc,
-        algorithm,
-        owner.tenants,
-        owner.publisher,
-        rows,
-        masks,
-        request,
-        &Level::Anyone,
-    )?;
+    let algorithm = request_algorithm(owner, request)?;
+    let decision = decide(owner, algorithm, rows, masks, request, &Level::Anyone)?;
     if decision.code == ResponseCode::AuthenticationNeeded {
         let number = letter.envelope.request;
         let Ok(sent) = render_challenge(
@@ -73,7 +63,15 @@ fn ask<R: Rows>(
         let (octets, digest) = sent;
         return Ok(Asked::Challenged(Octets::new(octets), digest));
     }
-    let octets = answer(owner.alloc, algorithm, rows, masks, letter, request, decision)?;
+    let octets = answer(
+        owner.alloc,
+        algorithm,
+        rows,
+        masks,
+        letter,
+        request,
+        decision,
+    )?;
     Ok(Asked::Answered(octets))
 }
 
@@ -117,17 +115,16 @@ fn redeem<R: Rows>(
         digest: &pending.digest,
     };
     let level = Level::Proven(proof);
-    let decision = decide(
+    let decision = decide(owner, algorithm, rows, masks, &request, &level)?;
+    answer(
         owner.alloc,
         algorithm,
-        owner.tenants,
-        owner.publisher,
         rows,
         masks,
+        letter,
         &request,
-        &level,
-    )?;
-    answer(owner.alloc, algorithm, rows, masks, letter, &request, decision)
+        decision,
+    )
 }
 
 /// The reply to a challenge response. The challenge that it names is spent, unless the reply is refused.

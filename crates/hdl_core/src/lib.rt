@@ -17,7 +17,6 @@ mod lane;
 mod lanes;
 mod letter;
 mod opening;
-mod owner;
 mod service;
 mod serving;
 

@@ -1,16 +1,15 @@
 //! The service over any table.
 
 ghost use Rattle.std.specs.Prelude.{◌≡◌, IfOk, IfErr, OnErr};
-ghost use Rattle.hdl_laws.specs.Laws.{Isolated, Hidden};
+ghost use Rattle.hdl_laws.specs.Laws.{Hidden, HostsNoRoot, Isolated};
 ghost use Rattle.hdl_laws.specs.Runs.{Run, Steps};
 ghost use Rattle.hdl_laws.specs.Told.{Tells};
 
 use crate::lanes::Lanes;
-use crate::owner::Owner;
 use crate::serving::serve;
 use hdl_laws::laws::{reply_told, restricted, runs_joined, twin_replies};
 use hdl_laws::{Event, Outcome};
-use hdl_ops::{Masks, Rows, Tenants};
+use hdl_ops::{Masks, Owner, Rows, Tenants};
 use hdl_tenants::root_is_nobodys;
 use std::alloc::Global;
 use std::marker::Model;
@@ -80,6 +79,15 @@ impl<R: Rows + Drop> Service<R> {
             lane,
             what,
         )
+    }
+
+    /// Nobody hosts the prefix of the administrative handles. Whoever joins runs of a service needs it to isolate publishers in the
+    /// whole.
+    pub fn root_is_unhosted(&self)
+        ensures { HostsNoRoot self.now.site }
+    {
+        let _ = self.tenants.opening();
+        root_is_nobodys();
     }
 
     /// Serves each event in turn, with one outcome for each. Its room is taken first; where that is refused nothing changed and

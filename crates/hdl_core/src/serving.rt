@@ -5,16 +5,16 @@ ghost use Rattle.hdl_frame.specs.Envelope.{envelope_at, is_truncated};
 ghost use Rattle.hdl_frame.specs.Splitting.{IsFrameOf};
 ghost use Rattle.hdl_msg.specs.Reply.{reply_envelope};
 ghost use Rattle.hdl_cache.specs.Kept.{AreTrue};
-ghost use Rattle.hdl_core.specs.Serving.{AssemblesAt, algorithms_by, hosted_by, outcome_of, received_as, received_of, ReceivesAt, ServesAt};
+ghost use Rattle.hdl_ops.specs.Views.{algorithms_by, hosted_by};
+ghost use Rattle.hdl_core.specs.Serving.{AssemblesAt, outcome_of, received_as, received_of, ReceivesAt, ServesAt};
 
 use crate::hearing::hear;
 use crate::lanes::Lanes;
 use crate::letter::{Letter, Received};
-use crate::owner::Owner;
 use hdl_frame::{ENVELOPE_LEN, Envelope, Frame, one_datagram};
 use hdl_laws::{Octets, Outcome, What};
 use hdl_msg::{busy, refuse};
-use hdl_ops::{Masks, Refused, Rows};
+use hdl_ops::{Masks, Owner, Refused, Rows};
 use hdl_pool::Taken;
 
 /// The message behind an envelope, in the octets' own memory.

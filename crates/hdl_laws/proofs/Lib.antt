@@ -10,3 +10,5 @@ pub mod Codes
 pub mod Told
 pub mod Twins
 pub mod TwinRuns
+mod Covers
+mod Calm

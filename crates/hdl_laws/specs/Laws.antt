@@ -1,12 +1,12 @@
 -- The laws over whole runs.
-use Rattle.std.specs.Prelude.{◌≡◌, ℕ, List, [], ◌∷◌, ◌++◌, map, IsFalse}
+use Rattle.std.specs.Prelude.{◌≡◌, ℕ, List, [], ◌∷◌, ◌++◌, map, IsFalse, ⊤}
 use Rattle.hdl_value.specs.Place.{Place}
 use Rattle.hdl_tenants.specs.Register.{root}
 use Rattle.hdl_laws.specs.declared.events.Event.{Event}
 use Rattle.hdl_laws.specs.declared.events.Outcome.{Outcome}
 use Rattle.hdl_laws.specs.Worlds.{World, Site, Turn, hosts}
 use Rattle.hdl_laws.specs.Runs.{IsRun, Run, Lonely, last, events, outcomes}
-use Rattle.hdl_laws.specs.Isolation.{IsClosed, IsCover, IsQuiet, restrict, turns_of, AreTwinWorlds, Allows, code_of}
+use Rattle.hdl_laws.specs.Isolation.{IsClosed, IsCover, IsQuiet, is_mine, restrict, turns_of, AreTwinWorlds, Allows, code_of}
 
 -- two runs in a row are one run
 abbrev pub JoinsRuns : Type 0
@@ -70,3 +70,16 @@ Hidden w es os = (ts : List Turn) → IsRun w ts → events ts ≡ es → outcom
 -- each run hides what may not be read
 abbrev pub TwinsReplyAlike : Type 0
 TwinsReplyAlike = (w : World) (ts : List Turn) → IsRun w ts → HidesUnread w ts
+
+-- each run has a cover for each publisher
+abbrev pub HasCover : Type 0
+HasCover = (w : World) (ts : List Turn) (u : ℕ) → (C : List Place) × IsCover u C w ts
+
+-- no event of another lane changes the table
+abbrev pub IsCalm : Site → ℕ → World → List Turn → Type 0
+IsCalm s u w [] = ⊤
+IsCalm s u w (t ∷ ts) = (IsFalse (is_mine s u t.event) → t.after.table ≡ w.table) × IsCalm s u t.after ts
+
+-- such a run is quiet for every C
+abbrev pub CalmIsQuiet : Type 0
+CalmIsQuiet = (s : Site) (u : ℕ) (C : List Place) (w : World) (ts : List Turn) → IsCalm s u w ts → IsQuiet s u C w ts

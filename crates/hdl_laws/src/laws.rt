@@ -1,6 +1,6 @@
 //! Laws over whole runs, each the contract of a function without a body.
 
-ghost use Rattle.hdl_laws.specs.Laws.{JoinsRuns, KeepsCovers, RestrictsRuns, LonelyIsOne, TwoRunsAgree, TwinsReplyAlike};
+ghost use Rattle.hdl_laws.specs.Laws.{CalmIsQuiet, HasCover, JoinsRuns, KeepsCovers, LonelyIsOne, RestrictsRuns, TwinsReplyAlike, TwoRunsAgree};
 ghost use Rattle.hdl_laws.specs.Told.{StepsTell};
 
 /// Two runs in a row are one run of the joined events.
@@ -31,4 +31,16 @@ pub fn twin_replies()
 /// next number, and with code 1 of what the caller's level may see.
 pub fn reply_told()
     ensures { StepsTell }
+{}
+
+/// Each run has a cover for each publisher: what the first table's values refer to, and what the values refer to that the publisher
+/// writes. So the premise of a cover can be met in every run.
+pub fn has_cover()
+    ensures { HasCover }
+{}
+
+/// A run in which no event of another publisher changes the table is quiet, whatever the cover. So the premise of quiet can be
+/// met.
+pub fn calm_is_quiet()
+    ensures { CalmIsQuiet }
 {}

@@ -3,6 +3,7 @@ use Rattle.std.specs.Prelude.{◌≡◌, ℕ, Bool, List, Some, None, IsTrue}
 use Rattle.hdl_auth.specs.declared.algorithm.Algorithm.{Algorithm}
 use Rattle.hdl_msg.specs.Codes.{response_number}
 use Rattle.hdl_msg.specs.Message.{Content}
+use Rattle.hdl_tenants.specs.Register.{algorithm, hosts}
 use Rattle.hdl_ops.specs.declared.admit.Admitted.{Admitted}
 use Rattle.hdl_ops.specs.declared.admit.Admitted.TheVariants as admitted
 use Rattle.hdl_ops.specs.declared.decision.Decision.{Decision}
@@ -10,6 +11,7 @@ use Rattle.hdl_ops.specs.declared.decision.Level.{Level}
 use Rattle.hdl_ops.specs.declared.decision.Level.TheVariants as level
 use Rattle.hdl_ops.specs.declared.decision.Proof.{Proof}
 use Rattle.hdl_ops.specs.declared.decision.Sight.{Sight}
+use Rattle.hdl_ops.specs.declared.owner.Owner.{Owner}
 use Rattle.hdl_ops.specs.Admission.{refusal}
 use Rattle.hdl_ops.specs.Decisions as d
 use Rattle.hdl_ops.specs.Proven as proven
@@ -18,6 +20,14 @@ use Rattle.hdl_ops.specs.declared.requests.Response.{Response}
 use Rattle.hdl_ops.specs.Requests as requests
 use Rattle.hdl_ops.specs.Requests.{named}
 use Rattle.hdl_ops.specs.Sights as sights
+
+-- the prefixes that are hosted for the owner
+abbrev pub hosted_by : Owner → List ℕ → Bool
+hosted_by o = hosts o.tenants.now o.publisher
+
+-- the hash functions of prefixes on the owner's lanes
+abbrev pub algorithms_by : Owner → List ℕ → Algorithm
+algorithms_by o = algorithm o.tenants.now o.publisher
 
 abbrev pub decision_of : Decision → d.Decision
 decision_of x = record { code = response_number x.code; content = x.content; change = x.change }
@@ -37,5 +47,5 @@ level_of (level.Proven p) = d.Proven (proof_of p)
 
 -- what comes of the tests before the table is looked at
 abbrev pub IsAdmitted : (List ℕ → Bool) → Content → Admitted → Type 0
-IsAdmitted hosts r (admitted.Refused x) = (refusal hosts r ≡ Some (response_number x.code)) × (decision_of x ≡ d.refused r (response_number x.code)) × ((a : Algorithm) → IsTrue (fits a r x.content)) × (x.change ≡ None)
-IsAdmitted hosts r (admitted.Passed name) = (refusal hosts r ≡ None) × (name ≡ named r.operation)
+IsAdmitted hosted r (admitted.Refused x) = (refusal hosted r ≡ Some (response_number x.code)) × (decision_of x ≡ d.refused r (response_number x.code)) × ((a : Algorithm) → IsTrue (fits a r x.content)) × (x.change ≡ None)
+IsAdmitted hosted r (admitted.Passed name) = (refusal hosted r ≡ None) × (name ≡ named r.operation)

@@ -3,19 +3,18 @@
 ghost use Rattle.std.specs.Prelude.{◌≡◌, ◌≤◌, length, option_map, IfOk, IfSome};
 ghost use Rattle.hdl_name.specs.Name.{canonical, sent_prefix};
 ghost use Rattle.hdl_name.specs.Tests.{is_handle};
-ghost use Rattle.hdl_tenants.specs.Register.{algorithm, hosts};
 ghost use Rattle.hdl_msg.specs.Bodies.{content_of};
 ghost use Rattle.hdl_ops.specs.Admission.{handle_in, request_algorithm};
-ghost use Rattle.hdl_ops.specs.Views.{IsAdmitted};
+ghost use Rattle.hdl_ops.specs.Views.{algorithms_by, hosted_by, IsAdmitted};
 
 use crate::decision::Decision;
+use crate::owner::Owner;
 use crate::requests::{is_list, is_unused, makes_or_ends, named};
 use crate::written::is_bad_write;
 use hdl_auth::algorithm::Algorithm;
 use hdl_msg::{ReplyContent, Request, ResponseCode};
 use hdl_name::{Name, names_decided};
 use hdl_rows::Refused;
-use hdl_tenants::Tenants;
 use hdl_value::Octets;
 use std::alloc::{AllocError, Global};
 
@@ -50,20 +49,15 @@ pub(crate) fn read_name(alloc: Global, octets: &[u8]) -> Result<Option<Name>, Re
 
 /// The hash function of a request on a lane of the publisher: that of the prefix of the handle that it names, where this is
 /// hosted for the publisher, else SHA-1.
-pub fn request_algorithm(
-    alloc: Global,
-    tenants: &Tenants,
-    publisher: usize,
-    request: &Request<'_>,
-) -> Result<Algorithm, Refused>
-    ensures { IfOk result (λ a. a ≡ request_algorithm (algorithm tenants.now publisher) (content_of request.now)) }
+pub fn request_algorithm(owner: &Owner<'_>, request: &Request<'_>) -> Result<Algorithm, Refused>
+    ensures { IfOk result (λ a. a ≡ request_algorithm (algorithms_by owner.now) (content_of request.now)) }
 {
     let octets = named(&request.body);
     if !is_name(octets) {
         return Ok(Algorithm::Sha1);
     }
-    match Name::read(alloc, octets) {
-        Ok(name) => Ok(tenants.algorithm(publisher, &name)),
+    match Name::read(owner.alloc, octets) {
+        Ok(name) => Ok(owner.tenants.algorithm(owner.publisher, &name)),
         Err(_) => Err(Refused),
     }
 }
@@ -88,19 +82,14 @@ fn failed(code: ResponseCode, content: ReplyContent) -> Admitted
 
 /// Tests the request before the table is looked at, and reads its name.
 #[tactic(auto, unfolding(crate::specs::First::first, crate::specs::Admission::refusal, crate::specs::Decisions::refused), using(crate::proofs::Lengths::empty_fits, crate::proofs::Lengths::referral_fits))]
-pub(crate) fn admit(
-    alloc: Global,
-    tenants: &Tenants,
-    publisher: usize,
-    request: &Request<'_>,
-) -> Result<Admitted, Refused>
-    ensures { IfOk result (λ admitted. IsAdmitted (hosts tenants.now publisher) (content_of request.now) admitted) }
+pub(crate) fn admit(owner: &Owner<'_>, request: &Request<'_>) -> Result<Admitted, Refused>
+    ensures { IfOk result (λ admitted. IsAdmitted (hosted_by owner.now) (content_of request.now) admitted) }
 {
     let body = &request.body;
     if is_unused(body) {
         return Ok(failed(ResponseCode::OperationDenied, ReplyContent::Empty));
     }
-    let Some(name) = read_name(alloc, named(body))? else {
+    let Some(name) = read_name(owner.alloc, named(body))? else {
         return Ok(failed(ResponseCode::InvalidHandle, ReplyContent::Empty));
     };
     if is_list(body) && !name.is_admin_handle() {
@@ -109,8 +98,8 @@ pub(crate) fn admit(
     if makes_or_ends(body) && name.is_admin_handle() {
         return Ok(failed(ResponseCode::OperationDenied, ReplyContent::Empty));
     }
-    if !tenants.hosts(publisher, &name) {
-        let Ok(prefix) = sent_prefix(alloc, &name) else {
+    if !owner.tenants.hosts(owner.publisher, &name) {
+        let Ok(prefix) = sent_prefix(owner.alloc, &name) else {
             return Err(Refused);
         };
         let referral = ReplyContent::Referral { prefix };

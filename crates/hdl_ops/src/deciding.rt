@@ -2,7 +2,6 @@
 
 ghost use Rattle.std.specs.Prelude.{◌≡◌, ◌+◌, ◌⊎◌, [], None, min, if◌then◌else◌, IfOk, IfSome, OnErr, OnOk, IsTrue};
 ghost use Rattle.hdl_name.specs.Name.{prefix};
-ghost use Rattle.hdl_tenants.specs.Register.{hosts};
 ghost use Rattle.hdl_msg.specs.Bodies.{content_of};
 ghost use Rattle.hdl_msg.specs.Message.{signed_octets};
 ghost use Rattle.hdl_rows.specs.Table.{most, names_of, values_of, HaveTheirIndexes};
@@ -14,12 +13,13 @@ ghost use Rattle.hdl_ops.specs.Replies.{fits};
 ghost use Rattle.hdl_ops.specs.Requests.{named, handle_of, is_list};
 ghost use Rattle.hdl_ops.specs.Sights.{sight};
 ghost use Rattle.hdl_ops.specs.Tables.{CanApply};
-ghost use Rattle.hdl_ops.specs.Views.{decision_of, level_of, proof_of, sight_of};
+ghost use Rattle.hdl_ops.specs.Views.{decision_of, hosted_by, level_of, proof_of, sight_of};
 
 use crate::admit::{Admitted, admit};
 use crate::anyone::code_for_anyone;
 use crate::decision::{Decision, Level, Proof, Sight};
 use crate::keys::code_for_proof;
+use crate::owner::Owner;
 use crate::requests::is_list;
 use crate::settle::settle;
 use hdl_auth::algorithm::Algorithm;
@@ -27,7 +27,6 @@ use hdl_cache::Masks;
 use hdl_msg::Request;
 use hdl_name::Name;
 use hdl_rows::{Refused, Rows};
-use hdl_tenants::Tenants;
 use hdl_value::Octets;
 use std::alloc::Global;
 
@@ -131,16 +130,14 @@ fn decide_with_proof<R: Rows>(
     )
 }
 
-/// The decision about a request on a lane of the publisher. The table stays as it is. What is kept is the table's, before and
+/// The decision about a request on a lane of its owner. The table stays as it is. What is kept is the table's, before and
 /// after; a mask that is kept isn't looked for again.
 ///
 /// Refused: the table refused a look, and its count rose by one; or memory for the decision was refused, and the count is as
 /// it was. What is carried fits into the message of a reply, and a change meets the conditions of its write.
 pub fn decide<R: Rows>(
-    alloc: Global,
+    owner: &Owner<'_>,
     algorithm: Algorithm,
-    tenants: &Tenants,
-    publisher: usize,
     rows: &mut R,
     masks: &mut Masks,
     request: &Request<'_>,
@@ -150,17 +147,20 @@ pub fn decide<R: Rows>(
     requires true_masks { AreTrue (R.content rows.old) masks.old }
     ensures unchanged { R.content rows.new ≡ R.content rows.old }
     ensures true_masks { AreTrue (R.content rows.new) masks.new }
-    ensures decided { IfOk result (λ d. Decides (hosts tenants.now publisher) algorithm (R.content rows.old) (content_of request.now) (level_of level.now) (decision_of d)) }
+    ensures decided { IfOk result (λ d. Decides (hosted_by owner.now) algorithm (R.content rows.old) (content_of request.now) (level_of level.now) (decision_of d)) }
     ensures carried { IfOk result (λ d. IsTrue (fits algorithm (content_of request.now) d.content)) }
     ensures can_apply { IfOk result (λ d. IfSome d.change (λ change. CanApply (R.content rows.old) change)) }
     ensures answered { OnOk result (R.refused rows.new ≡ R.refused rows.old) }
     ensures refused { OnErr result ((R.refused rows.new ≡ R.refused rows.old) ⊎ (R.refused rows.new ≡ min (R.refused rows.old + 1) most)) }
 {
-    match admit(alloc, tenants, publisher, request)? {
+    let alloc = owner.alloc;
+    match admit(owner, request)? {
         Admitted::Refused(decision) => Ok(decision),
         Admitted::Passed(name) => match level {
             Level::Anyone => decide_for_anyone(alloc, algorithm, rows, request, name),
-            Level::Proven(proof) => { decide_with_proof(alloc, algorithm, rows, masks, request, name, proof) },
+            Level::Proven(proof) => {
+                decide_with_proof(alloc, algorithm, rows, masks, request, name, proof)
+            },
         },
     }
 }

@@ -21,6 +21,7 @@ mod deciding;
 mod decision;
 mod keys;
 pub mod laws;
+mod owner;
 mod permitted;
 mod proven;
 mod rendering;
@@ -36,8 +37,6 @@ pub use hdl_cache::Masks;
 pub use hdl_msg::{Request, read_request};
 pub use hdl_rows::{Refused, Rows};
 pub use hdl_tenants::Tenants;
+pub use owner::Owner;
 pub use rendering::{render, render_challenge};
 pub use requests::{Response, response_of};
-
-#[cfg(test)]
-mod tests;

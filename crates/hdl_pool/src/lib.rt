@@ -35,6 +35,3 @@ pub use laws::{
 pub use piece::Key;
 pub use pool::Pool;
 pub use taken::{PoolFault, Taken};
-
-#[cfg(test)]
-mod tests;

@@ -21,6 +21,3 @@ mod sources;
 
 pub use administrators::mask;
 pub use laws::{administrators_among, none_at_zero, one_mask, same_chains, same_masks};
-
-#[cfg(test)]
-mod tests;

@@ -17,13 +17,13 @@ use Rattle.hdl_rows.specs.Write.{Write, handle_of, written}
 use Rattle.hdl_rows.specs.Shelf.{by_index, by_place, table_of, AreInOrder, put_all}
 use Rattle.hdl_rows.proofs.Writes.{same_look_ups_lem, at-written, has-written, at_place, put_at, removed_at, at_after, has_after, some_none, apart}
 
-index_test : (i j : ℕ) → is_eq (nat_cmp i j) ≡ (j == i)
+pub index_test : (i j : ℕ) → is_eq (nat_cmp i j) ≡ (j == i)
 index_test i j = grind (arith, nat_tests)
 
 abbrev Rows : Type 0
 Rows = List (List ℕ × List Value)
 
-both : (a b : Bool) → T a → T b → T (a && b)
+pub both : (a b : Bool) → T a → T b → T (a && b)
 both true b p q = q
 both false b p q = p
 
@@ -244,10 +244,10 @@ sorted-names : (es : Rows) → is_sorted handle_cmp (map key (names es)) ≡ is_
 sorted-names [] = refl
 sorted-names (e ∷ es) = λ k. below-names e.0 es k && sorted-names es k
 
-abbrev nothing : Unit {0}
+abbrev pub nothing : Unit {0}
 nothing = tt
 
-find-keys : (q : List ℕ) (hs : List (List ℕ)) → find handle_cmp q (map key hs) ≡ cond (list_any (same_handle q) hs) (Some nothing) None
+pub find-keys : (q : List ℕ) (hs : List (List ℕ)) → find handle_cmp q (map key hs) ≡ cond (list_any (same_handle q) hs) (Some nothing) None
 find-keys q [] = refl
 find-keys q (h ∷ hs) = ap (cond (same_handle q h) (Some nothing)) (find-keys q hs) ∙ join (same_handle q h) (list_any (same_handle q) hs)
   where

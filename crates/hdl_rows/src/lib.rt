@@ -21,6 +21,3 @@ pub use fuse::Fuse;
 pub use hdl_value::Octets;
 pub use plain::PlainRows;
 pub use rows::{Refused, Rows};
-
-#[cfg(test)]
-mod tests;

@@ -30,6 +30,3 @@ pub use laws::{
 };
 pub use numerals::{decimal, decimal_u16};
 pub use text::Tenants;
-
-#[cfg(test)]
-mod tests;

@@ -37,9 +37,6 @@ pub use laws::{
 };
 pub use permission::{AdminPermission, Class, Permission};
 pub use read::read_value;
-pub use references::{RawRef, RawRefs};
+pub use references::{RawRef, RawRefs, put_references, read_references};
 pub use value::Value;
 pub use write::{put_value, write_value};
-
-#[cfg(test)]
-mod tests;

@@ -4,7 +4,7 @@ ghost use Rattle.std.specs.Prelude.{◌≡◌, ◌++◌, ◌<◌, ◌^◌, lengt
 ghost use Rattle.std.specs.List.{AllByRecursion};
 ghost use Rattle.std.specs.Option.{option_map};
 ghost use Rattle.hdl_value.specs.Spelling.{reference, references};
-ghost use Rattle.hdl_value.specs.Reading.{Reads, many_at};
+ghost use Rattle.hdl_value.specs.Reading.{Reads, many_at, whole_of};
 ghost use Rattle.hdl_value.specs.Cut.{ref_at, refs_at, ref_view, refs_view, IsWhole};
 
 use crate::fields::{put_string, put_u32, string_at, u32_at};
@@ -133,6 +133,17 @@ pub(crate) fn copied_references(
     Ok(references)
 }
 
+/// The references that the octets spell, if they spell a count and that many and nothing else.
+#[tactic(auto, unfolding(crate::specs::Reading::whole_of))]
+pub fn read_references(alloc: Global, octets: &[u8]) -> Result<Option<Vec<RawRef>>, AllocError>
+    ensures { IfOk result (λ o. option_map (λ v. v.items) o ≡ whole_of refs_at octets.now) }
+{
+    match references_at(octets) {
+        Some((refs, rest)) if rest.is_empty() => Ok(Some(copied_references(alloc, &refs)?)),
+        _ => Ok(None),
+    }
+}
+
 fn put_reference(out: &mut Vec<u8>, r: &RawRef) -> Result<(), AllocError>
     requires { length r.now.handle < 2 ^ 32 }
     ensures { OnOk result (out.new.items ≡ out.old.items ++ reference r.now) }
@@ -141,7 +152,8 @@ fn put_reference(out: &mut Vec<u8>, r: &RawRef) -> Result<(), AllocError>
     put_u32(out, r.index)
 }
 
-pub(crate) fn put_references(out: &mut Vec<u8>, refs: &[RawRef]) -> Result<(), AllocError>
+/// Puts the count and the references at the end. After a refusal a part may stand there.
+pub fn put_references(out: &mut Vec<u8>, refs: &[RawRef]) -> Result<(), AllocError>
     requires count { length refs.now < 2 ^ 32 }
     requires handles { AllByRecursion (λ r. length r.handle < 2 ^ 32) refs.now }
     ensures { OnOk result (out.new.items ≡ out.old.items ++ references refs.now) }

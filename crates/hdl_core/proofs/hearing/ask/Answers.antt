@@ -4,9 +4,8 @@ use Rattle.hdl_msg.specs.Codes.{response_number}
 use Rattle.hdl_ops.specs.Decisions.{Decides, Anyone}
 use Rattle.hdl_ops.specs.Replies.{digest_of}
 use Rattle.hdl_ops.specs.Tables.{apply_if}
-use Rattle.hdl_ops.specs.Views.{decision_of}
+use Rattle.hdl_ops.specs.Views.{decision_of, hosted_by}
 use Rattle.hdl_laws.specs.Worlds.{answer_octets, challenge_octets}
-use Rattle.hdl_core.specs.Serving.{hosted_by}
 use Rattle.hdl_core.proofs.hearing.ask.Goals as goal
 
 pub returns-then-eq-clause-asked : goal.returns-then-eq-clause-asked

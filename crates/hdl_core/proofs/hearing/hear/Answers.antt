@@ -3,10 +3,9 @@ use Rattle.std.specs.Prelude.{option_map}
 use Rattle.hdl_msg.specs.Bodies.{content_of}
 use Rattle.hdl_msg.specs.Message.{SpellsRequest}
 use Rattle.hdl_ops.specs.Requests.{response_of}
-use Rattle.hdl_ops.specs.Views.{response_view}
+use Rattle.hdl_ops.specs.Views.{algorithms_by, hosted_by, response_view}
 use Rattle.hdl_slots.specs.Lanes.{challenged}
 use Rattle.hdl_core.specs.Held.{state_at, with_state}
-use Rattle.hdl_core.specs.Serving.{hosted_by, algorithms_by}
 use Rattle.hdl_core.proofs.Heard.{on_ok, no_request, responded, answered, challenges}
 use Rattle.hdl_core.proofs.hearing.hear.Goals as goal
 

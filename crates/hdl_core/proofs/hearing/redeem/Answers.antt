@@ -2,8 +2,7 @@ use Rattle.std.proofs.Common.{ℕ, List, sym, ap, ◌∙◌, subst}
 use Rattle.hdl_msg.specs.Bodies.{content_of}
 use Rattle.hdl_msg.specs.Message.{SpellsRequest}
 use Rattle.hdl_ops.specs.Tables.{apply_if}
-use Rattle.hdl_ops.specs.Views.{response_view, decision_of}
-use Rattle.hdl_core.specs.Serving.{hosted_by, algorithms_by}
+use Rattle.hdl_ops.specs.Views.{algorithms_by, decision_of, hosted_by, response_view}
 use Rattle.hdl_core.proofs.Heard.{on_ok, on_both, unreadable, late, proven}
 use Rattle.hdl_core.proofs.hearing.redeem.Goals as goal
 

@@ -1,8 +1,7 @@
 use Rattle.std.proofs.Common.{sym, ap, ◌∙◌}
 use Rattle.std.specs.Prelude.{option_copied}
 use Rattle.hdl_msg.specs.Bodies.{content_of}
-use Rattle.hdl_ops.specs.Views.{response_view}
-use Rattle.hdl_core.specs.Serving.{hosted_by, algorithms_by}
+use Rattle.hdl_ops.specs.Views.{algorithms_by, hosted_by, response_view}
 use Rattle.hdl_core.proofs.Heard.{on_ok, unknown, known}
 use Rattle.hdl_core.proofs.hearing.respond.Goals as goal
 

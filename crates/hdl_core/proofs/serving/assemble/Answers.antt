@@ -1,7 +1,8 @@
 use Rattle.std.proofs.Common.{List, refl, sym, ap, ◌∙◌, subst}
 use Rattle.hdl_pool.specs.Taking.{kept, ignored, displaced, fate_of}
 use Rattle.hdl_core.specs.Held.{Held}
-use Rattle.hdl_core.specs.Serving.{hosted_by, algorithms_by, letter_of, HearsAt}
+use Rattle.hdl_ops.specs.Views.{algorithms_by, hosted_by}
+use Rattle.hdl_core.specs.Serving.{letter_of, HearsAt}
 use Rattle.hdl_core.proofs.Assembled.{waits, unchanged, whole}
 use Rattle.hdl_core.proofs.Heard.{on_any_err}
 use Rattle.hdl_core.proofs.serving.assemble.Goals as goal

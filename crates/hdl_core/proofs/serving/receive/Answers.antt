@@ -4,7 +4,8 @@ use Rattle.hdl_frame.specs.Splitting.{IsFrameOf}
 use Rattle.hdl_laws.specs.declared.events.Outcome.TheVariants.{Busy}
 use Rattle.hdl_core.specs.declared.letter.Letter.{Letter}
 use Rattle.std.specs.Prelude.{IfOk}
-use Rattle.hdl_core.specs.Serving.{hosted_by, algorithms_by, received_of, AssemblesAt}
+use Rattle.hdl_ops.specs.Views.{algorithms_by, hosted_by}
+use Rattle.hdl_core.specs.Serving.{received_of, AssemblesAt}
 use Rattle.hdl_core.proofs.Received.{no_frame, piece, heard, refused}
 use Rattle.hdl_core.proofs.serving.receive.Goals as goal
 

@@ -1,0 +1,135 @@
+//! Listening, and the service on the calling thread.
+
+ghost use Rattle.std.specs.Prelude.{◌≡◌};
+ghost use Rattle.hdl_rows.specs.Table.{no_rows};
+
+use crate::lanes::lanes_of;
+use crate::sockets::MachineClock;
+use crate::workers::{join_all, start};
+use hdl_core::{Rows, Service, Tenants};
+use hdl_replay::{Fault, put_all};
+use hdl_serve::serve;
+use hdl_sqlrows::SqlRows;
+use std::alloc::Global;
+use std::io::{self, Write};
+use std::net::{IpAddr, Ipv4Addr, Net, SocketAddr, TcpListener, TcpStream, UdpSocket};
+use std::random::RandomSource;
+use std::rt::Clock;
+use std::thread::Threads;
+use std::time::Duration;
+
+/// A publisher's sockets, and how many lanes share them.
+#[derive(Drop)]
+pub struct Place {
+    pub listener: TcpListener,
+    pub socket: UdpSocket,
+    pub lanes: u16,
+}
+
+/// What the machine doesn't give is a device fault.
+pub fn had<T: Drop>(gained: io::Result<T>) -> Result<T, Fault> {
+    match gained {
+        Ok(value) => Ok(value),
+        Err(_) => Err(Fault::Device),
+    }
+}
+
+/// Listens on loopback, so that `accept` doesn't wait and `recv_from` waits a millisecond at most.
+fn listen<R: Net<Listener = TcpListener, Stream = TcpStream>>(
+    rt: &R,
+    lanes: u16,
+    port: u16,
+) -> io::Result<Place> {
+    let addr = SocketAddr::new(IpAddr::V4(Ipv4Addr::LOCALHOST), port);
+    let listener = TcpListener::bind(rt, addr)?;
+    listener.set_nonblocking(true)?;
+    let socket = UdpSocket::bind(rt, addr)?;
+    socket.set_read_timeout(Some(Duration::from_millis(1)))?;
+    Ok(Place {
+        listener,
+        socket,
+        lanes,
+    })
+}
+
+/// The sockets of each publisher, and the lines that tell where they are.
+fn places_of<R: Net<Listener = TcpListener, Stream = TcpStream>>(
+    rt: &R,
+    alloc: Global,
+    tenants: &Tenants,
+) -> Result<(Vec<Place>, String), Fault> {
+    let mut places = Vec::new(alloc);
+    let mut lines = String::new(alloc);
+    for i in 0..usize::from(tenants.lanes()) {
+        let Some((name, lanes, port)) = tenants.publisher(i) else {
+            break;
+        };
+        places.push(had(listen(rt, lanes, port))?)?;
+        let line = format!(in alloc; "{name} 127.0.0.1:{port}\n")?;
+        lines.push_str(line.as_str())?;
+    }
+    Ok((places, lines))
+}
+
+/// Serves the tenants of the text over an empty table. The lines that tell where are written once all sockets listen, and before
+/// a worker starts. Each worker and the service have so many turns.
+///
+/// Refusals: the tenants text's first fault, memory, the table's refusal of an opening row, and `Device` where a socket, a
+/// thread or a random source isn't to be had (at once, with nothing joined), or where a worker's device failed.
+pub fn hosted<
+    R: Net<Listener = TcpListener, Stream = TcpStream>
+        + Threads
+        + Clock
+        + RandomSource
+        + Copy
+        + Send
+        + Drop
+        + 'static,
+    T: Rows + Drop,
+    W: Write,
+>(rt: &R, alloc: Global, rows: T, text: &str, turns: u64, output: &mut W) -> Result<(), Fault>
+    requires empty { T.content rows ≡ no_rows }
+{
+    let tenants = match Tenants::read(alloc, text) {
+        Ok(tenants) => tenants,
+        Err((line, fault)) => return Err(Fault::Tenants(line, fault)),
+    };
+    let (ends, far) = lanes_of(alloc, tenants.lanes())?;
+    let (places, lines) = places_of(rt, alloc, &tenants)?;
+    let service = Service::open(alloc, tenants, rows)?;
+    put_all(output, lines.as_bytes())?;
+    let workers = start(rt, alloc, places, far, turns)?;
+    let mut clock = MachineClock::new(*rt);
+    drop(serve(alloc, service, ends, &mut clock, turns));
+    join_all(rt, workers)
+}
+
+/// Serves the tenants of the text over TCP and UDP on loopback, over a table in SQL, until each worker ended or the turns are
+/// spent. Writes `NAME 127.0.0.1:PORT` for each publisher to the output once all of them listen, and a fault line to the faults.
+/// Answers the exit status (docs/PROTOCOL.md, "The tenants text and scripts"); a fault line that can't be written changes none.
+pub fn host<
+    R: Net<Listener = TcpListener, Stream = TcpStream>
+        + Threads
+        + Clock
+        + RandomSource
+        + AllocGlobal
+        + Copy
+        + Send
+        + Drop
+        + 'static,
+    W: Write,
+    F: Write,
+>(rt: &R, text: &str, turns: u64, output: &mut W, faults: &mut F) -> u8 {
+    let alloc = rt.alloc();
+    let served = match SqlRows::new(alloc) {
+        Ok(rows) => hosted(rt, alloc, rows, text, turns, output),
+        Err(_) => Err(Fault::StoreRefused),
+    };
+    match served {
+        Ok(()) => 0,
+        Err(fault) => {
+            let _ = writeln!(faults, "{fault}");
+            fault.status()
+        }
+    }
+}

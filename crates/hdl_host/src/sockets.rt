@@ -1,0 +1,240 @@
+//! The machine's sockets, clock and random numbers as doors, a clock and nonces. They tell nothing.
+
+use hdl_serve::{Clock, Door, DoorFault, Nonces, Packets};
+use rand::RngExt;
+use rand::rngs::StdRng;
+use std::io::{ErrorKind, Read, Write};
+use std::net::{SocketAddr, TcpListener, TcpStream, UdpSocket};
+use std::thread;
+use std::time::{Duration, SystemTime};
+
+/// The most peers that a datagram socket numbers.
+const PEERS: usize = 1024;
+
+/// Whether a call that failed says only that nothing came: it would wait or was interrupted, or the peer gave up before it was
+/// accepted.
+fn nothing_came(kind: ErrorKind) -> bool {
+    matches!(
+        kind,
+        ErrorKind::WouldBlock
+            | ErrorKind::TimedOut
+            | ErrorKind::Interrupted
+            | ErrorKind::ConnectionAborted
+    )
+}
+
+/// A listener that several workers share, and the connection of this one. Where no connection came `accept` answers after a
+/// millisecond, so that a worker without a connection costs little.
+#[derive(Drop)]
+pub struct SocketDoor<R> {
+    rt: R,
+    listener: TcpListener,
+    stream: Option<TcpStream>,
+    faults: u64,
+}
+
+impl<R> SocketDoor<R> {
+    pub fn new(rt: R, listener: TcpListener) -> SocketDoor<R> {
+        SocketDoor {
+            rt,
+            listener,
+            stream: None,
+            faults: 0,
+        }
+    }
+}
+
+impl<R: std::rt::Clock> Door for SocketDoor<R> {
+    ghost use Rattle.std.specs.Prelude.{false, true, []};
+    ghost use Rattle.hdl_serve.specs.Door.{fresh};
+
+    ghost tells = { false };
+
+    ghost ended = { λ _. [] };
+
+    ghost current = { λ _. fresh };
+
+    ghost is_open = { λ _. true };
+
+    ghost fault_count = { λ d. d.faults };
+
+    fn accept(&mut self) -> Result<bool, DoorFault> {
+        match self.listener.accept() {
+            Ok((stream, _)) => {
+                let _ = stream.set_nodelay(true);
+                self.stream = Some(stream);
+                Ok(true)
+            }
+            Err(e) if nothing_came(e.kind()) => {
+                thread::sleep(&self.rt, Duration::from_millis(1));
+                Ok(false)
+            }
+            Err(_) => {
+                self.faults = self.faults.saturating_add(1);
+                Err(DoorFault)
+            }
+        }
+    }
+
+    fn read(&mut self, buffer: &mut [u8]) -> Result<usize, DoorFault> {
+        if let Some(stream) = &mut self.stream {
+            if let Ok(count) = stream.read(buffer) {
+                return Ok(count);
+            }
+        }
+        self.faults = self.faults.saturating_add(1);
+        Err(DoorFault)
+    }
+
+    fn write(&mut self, octets: &[u8]) -> Result<usize, DoorFault> {
+        if let Some(stream) = &mut self.stream {
+            if let Ok(count) = stream.write(octets) {
+                return Ok(count);
+            }
+        }
+        self.faults = self.faults.saturating_add(1);
+        Err(DoorFault)
+    }
+
+    fn leave(&mut self) {
+        self.stream = None;
+    }
+
+    fn faults(&self) -> u64 {
+        self.faults
+    }
+}
+
+/// A datagram socket, whose peers are numbered from 1 as they come.
+#[derive(Drop)]
+pub struct SocketPackets {
+    socket: UdpSocket,
+    peers: Vec<SocketAddr>,
+    faults: u64,
+}
+
+impl SocketPackets {
+    ghost use Rattle.std.specs.Prelude.{◌≡◌};
+
+    pub fn new(socket: UdpSocket, peers: Vec<SocketAddr>) -> SocketPackets {
+        SocketPackets {
+            socket,
+            peers,
+            faults: 0,
+        }
+    }
+
+    /// The number of a peer, if it has one or gets one.
+    fn number(&mut self, peer: SocketAddr) -> Option<u16>
+        ensures { self.new.faults ≡ self.old.faults }
+    {
+        if let Some(at) = self.peers.iter().position(|known| *known == peer) {
+            return u16::try_from(at + 1).ok();
+        }
+        if self.peers.len() >= PEERS || self.peers.push(peer).is_err() {
+            return None;
+        }
+        u16::try_from(self.peers.len()).ok()
+    }
+}
+
+impl Packets for SocketPackets {
+    ghost use Rattle.std.specs.Prelude.{false, []};
+
+    ghost tells = { false };
+
+    ghost received = { λ _. [] };
+
+    ghost sent = { λ _. [] };
+
+    ghost fault_count = { λ p. p.faults };
+
+    fn receive(&mut self, buffer: &mut [u8]) -> Result<Option<(u16, usize)>, DoorFault> {
+        match self.socket.recv_from(buffer) {
+            Ok((length, from)) => Ok(
+                self.number(from)
+                    .filter(|peer| 0 < *peer && *peer as usize <= PEERS)
+                    .map(|peer| (peer, length)),
+            ),
+            Err(e) if nothing_came(e.kind()) => Ok(None),
+            Err(_) => {
+                self.faults = self.faults.saturating_add(1);
+                Err(DoorFault)
+            }
+        }
+    }
+
+    fn send(&mut self, peer: u16, octets: &[u8]) -> Result<(), DoorFault> {
+        if let Some(to) = self.peers.get((peer as usize).saturating_sub(1)) {
+            if self.socket.send_to(octets, *to).is_ok() {
+                return Ok(());
+            }
+        }
+        self.faults = self.faults.saturating_add(1);
+        Err(DoorFault)
+    }
+
+    fn faults(&self) -> u64 {
+        self.faults
+    }
+}
+
+/// The machine's clock in milliseconds, and sleep.
+#[derive(Drop)]
+pub struct MachineClock<R> {
+    rt: R,
+    last: u64,
+}
+
+impl<R> MachineClock<R> {
+    pub fn new(rt: R) -> MachineClock<R> {
+        MachineClock { rt, last: 0 }
+    }
+}
+
+impl<R: std::rt::Clock> Clock for MachineClock<R> {
+    ghost use Rattle.std.specs.Prelude.{false, []};
+
+    ghost tells = { false };
+
+    ghost answers = { λ _. [] };
+
+    fn now(&mut self) -> u64 {
+        if let Ok(now) = SystemTime::now(&self.rt) {
+            if let Ok(since) = now.duration_since(SystemTime::UNIX_EPOCH) {
+                if let Ok(moment) = u64::try_from(since.as_millis()) {
+                    self.last = moment;
+                }
+            }
+        }
+        self.last
+    }
+
+    fn pause(&mut self) {
+        thread::sleep(&self.rt, Duration::from_micros(100));
+    }
+}
+
+/// Nonces of a generator that the machine's random source seeded.
+#[derive(Drop)]
+pub struct MachineNonces {
+    rng: StdRng,
+}
+
+impl MachineNonces {
+    pub fn new(rng: StdRng) -> MachineNonces {
+        MachineNonces { rng }
+    }
+}
+
+impl Nonces for MachineNonces {
+    ghost use Rattle.std.specs.Prelude.{false, []};
+
+    ghost tells = { false };
+
+    ghost answers = { λ _. [] };
+
+    fn next(&mut self) -> [u8; 16] {
+        self.rng.random()
+    }
+}

@@ -1,0 +1,124 @@
+//! A thread for each lane, with its worker.
+
+ghost use Rattle.std.specs.Prelude.{◌≡◌, []};
+ghost use Rattle.hdl_lanes.specs.Lane.{put_into, taken_from};
+
+use crate::host::{Place, had};
+use crate::lanes::Far;
+use crate::sockets::{MachineClock, MachineNonces, SocketDoor, SocketPackets};
+use hdl_replay::Fault;
+use hdl_serve::{Why, WorkerEnd, packet_worker, stream_worker};
+use rand::make_rng;
+use std::alloc::Global;
+use std::net::{TcpListener, UdpSocket};
+use std::random::RandomSource;
+use std::rt::Clock;
+use std::thread;
+use std::thread::{JoinHandle, Threads};
+
+/// Starts the worker of a stream lane.
+fn start_stream<R: Threads + Clock + RandomSource + Copy + Send + Drop + 'static>(
+    rt: &R,
+    alloc: Global,
+    listener: TcpListener,
+    far: Far,
+    turns: u64,
+) -> Result<JoinHandle<WorkerEnd>, Fault> {
+    let Far { inlet, outcomes } = far;
+    let rng = had(make_rng(rt))?;
+    let theirs = *rt;
+    let spawned = thread::spawn(
+        rt,
+        move ||
+            requires { (put_into inlet ≡ []) × (taken_from outcomes ≡ []) }
+        {
+            let mut door = SocketDoor::new(theirs, listener);
+            let mut clock = MachineClock::new(theirs);
+            let mut nonces = MachineNonces::new(rng);
+            stream_worker(
+                alloc,
+                &mut door,
+                &mut clock,
+                &mut nonces,
+                inlet,
+                outcomes,
+                turns,
+            )
+        },
+    );
+    match spawned {
+        Ok(worker) => Ok(worker),
+        Err(_) => Err(Fault::Device),
+    }
+}
+
+/// Starts the worker of a datagram lane.
+fn start_packets<R: Threads + Clock + RandomSource + Copy + Send + Drop + 'static>(
+    rt: &R,
+    alloc: Global,
+    socket: UdpSocket,
+    far: Far,
+    turns: u64,
+) -> Result<JoinHandle<WorkerEnd>, Fault> {
+    let Far { inlet, outcomes } = far;
+    let rng = had(make_rng(rt))?;
+    let theirs = *rt;
+    let spawned = thread::spawn(
+        rt,
+        move ||
+            requires { (put_into inlet ≡ []) × (taken_from outcomes ≡ []) }
+        {
+            let mut packets = SocketPackets::new(socket, Vec::new(alloc));
+            let mut clock = MachineClock::new(theirs);
+            let mut nonces = MachineNonces::new(rng);
+            packet_worker(
+                alloc,
+                &mut packets,
+                &mut clock,
+                &mut nonces,
+                inlet,
+                outcomes,
+                turns,
+            )
+        },
+    );
+    match spawned {
+        Ok(worker) => Ok(worker),
+        Err(_) => Err(Fault::Device),
+    }
+}
+
+/// Starts a worker for each lane: a publisher's last is that of its datagrams.
+pub fn start<R: Threads + Clock + RandomSource + Copy + Send + Drop + 'static>(
+    rt: &R,
+    alloc: Global,
+    places: Vec<Place>,
+    far: Vec<Far>,
+    turns: u64,
+) -> Result<Vec<JoinHandle<WorkerEnd>>, Fault> {
+    let mut workers = Vec::with_capacity(alloc, far.len())?;
+    let mut far = far.into_iter();
+    for place in places {
+        for _ in 1..place.lanes {
+            if let Some(side) = far.next() {
+                let listener = had(place.listener.try_clone())?;
+                workers.push(start_stream(rt, alloc, listener, side, turns)?)?;
+            }
+        }
+        if let Some(side) = far.next() {
+            workers.push(start_packets(rt, alloc, place.socket, side, turns)?)?;
+        }
+    }
+    Ok(workers)
+}
+
+/// Joins each worker. A device fault where a device ended one.
+pub fn join_all<R: Threads>(rt: &R, workers: Vec<JoinHandle<WorkerEnd>>) -> Result<(), Fault> {
+    let mut ended = Ok(());
+    for worker in workers {
+        if worker.join(rt).why == Why::Device {
+            ended = Err(Fault::Device);
+        }
+    }
+    ended
+}
