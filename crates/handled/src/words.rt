@@ -1,8 +1,10 @@
 //! The words of the command line.
 
-use crate::fault::Fault;
+ghost use Rattle.std.specs.Prelude.{◌≡◌, if◌then◌else◌};
+
 use clap::error::ErrorKind;
-use clap::{Command, Error};
+use clap::{Arg, ArgAction, Command, Error, value_parser};
+use hdl_replay::Fault;
 use std::alloc::{AllocError, Global};
 use std::{env, io};
 
@@ -11,24 +13,54 @@ use std::{env, io};
 pub enum Asked {
     /// A script on standard input.
     Replay,
+    /// The tenants text is on standard input, and each worker and the service have so many turns.
+    Serve { turns: u64 },
     /// Nothing: help or a fault was printed, and this is the exit status.
     Ended(u8),
 }
 
+fn serve_command<'a>(alloc: Global) -> Result<Command<'a>, AllocError> {
+    Command::new(alloc, "serve")
+        .about("Serves the tenants text on standard input over TCP and UDP, on 127.0.0.1")
+        .arg(
+            Arg::new(alloc, "turns")
+                .long("turns")
+                .value_name("N")
+                .help("Ends after N turns of each worker and of the service")
+                .action(ArgAction::Set)
+                .value_parser(value_parser!(u64).range(1..)),
+        )
+}
+
 fn command<'a>(alloc: Global) -> Result<Command<'a>, AllocError> {
     Command::new(alloc, "handled")
-        .about("A local handle service")
-        .subcommand(Command::new(alloc, "replay").about("Runs a script"))
+        .about(
+            "A local handle service; with no word, as with replay, it runs the script on standard input",
+        )
+        .subcommand(Command::new(alloc, "replay").about("Runs the script on standard input"))?
+        .subcommand(serve_command(alloc)?)
 }
 
 fn parsed(alloc: Global, words: &[String]) -> Result<Asked, Error> {
-    let _ = command(alloc)?.try_get_matches_from(words)?;
-    Ok(Asked::Replay)
+    let matches = command(alloc)?.try_get_matches_from(words)?;
+    match matches.subcommand_matches("serve") {
+        Some(found) => Ok(Asked::Serve {
+            turns: found.get_one::<u64>("turns").unwrap_or(u64::MAX),
+        }),
+        None => Ok(Asked::Replay),
+    }
 }
 
 fn words_of(rt: &HostRuntime) -> io::Result<Vec<String>> {
     let words = env::args(rt)?.collect(rt.alloc())?;
     Ok(words)
+}
+
+/// The exit status where nothing is left to do: 0 behind help that was asked for, 2 behind a fault of the command line.
+fn status(is_help: bool) -> u8
+    ensures { result ≡ (if is_help then 0 else 2) }
+{
+    if is_help { 0 } else { 2 }
 }
 
 /// Reads the command line, and prints what `clap` has to say of it.
@@ -46,7 +78,7 @@ pub fn read_words(rt: &HostRuntime) -> Result<Asked, Fault> {
                 let is_help = !error.use_stderr();
                 match error.print(rt) {
                     Err(_) if is_help => Err(Fault::Device),
-                    _ => Ok(Asked::Ended(if is_help { 0 } else { 2 })),
+                    _ => Ok(Asked::Ended(status(is_help))),
                 }
             }
         },

@@ -5,3 +5,4 @@ pub mod Received
 pub mod Places
 pub mod Steps
 pub mod Opened
+pub mod Ordered

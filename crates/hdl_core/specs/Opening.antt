@@ -1,5 +1,6 @@
 -- The world with which a service opens.
 use Rattle.std.specs.Prelude.{◌≡◌, ℕ, zero, suc, List, [], ◌∷◌, ◌++◌, false, map, unwrap_or}
+use Rattle.std.specs.Borrow.{Bor}
 use Rattle.std.specs.FinMap as map
 use Rattle.std.specs.FinSet as set
 use Rattle.hdl_name.specs.Name.{canonical}
@@ -20,6 +21,10 @@ entry_of row = (place row, row.1)
 -- the table of the opening rows: their handles, and their values at their places
 abbrev pub opening_table : List Row → Table
 opening_table rows = record { handles = set.from_list (map (λ row. canonical row.0) rows); values = map.from_entries (map entry_of rows) }
+
+-- what a reference to a row shows
+abbrev pub row_at : Bor Row → Row
+row_at r = r.now
 
 -- the table with one more row
 abbrev pub with_row : Table → Row → Table

@@ -5,8 +5,9 @@ ghost use Rattle.hdl_msg.specs.Bodies.{content_of};
 ghost use Rattle.hdl_msg.specs.Message.{signed_octets};
 ghost use Rattle.hdl_cache.specs.Kept.{AreTrue};
 ghost use Rattle.hdl_ops.specs.Admission.{request_algorithm};
+ghost use Rattle.hdl_ops.specs.Replies.{digest_of};
 ghost use Rattle.hdl_ops.specs.Views.{algorithms_by, hosted_by, response_view};
-ghost use Rattle.hdl_laws.specs.Worlds.{is_late};
+ghost use Rattle.hdl_laws.specs.Worlds.{challenge_octets, is_late};
 ghost use Rattle.hdl_core.specs.Serving.{letter_of, IsAsked, IsRedeemed, RespondsAt, HearsAt};
 
 use crate::answering::{answer, malformed, tell};
@@ -20,6 +21,7 @@ use hdl_ops::{
     request_algorithm, response_of,
 };
 use hdl_slots::Pending;
+use std::alloc::Global;
 
 /// How long a challenge lives, in milliseconds.
 const CHALLENGE_LIFE: u64 = 60_000;
@@ -29,6 +31,27 @@ const CHALLENGE_LIFE: u64 = 60_000;
 pub(crate) enum Asked {
     Answered(Octets),
     Challenged(Octets, Digest),
+}
+
+/// The challenge of a request under this number, with the request's digest.
+fn challenge(
+    alloc: Global,
+    algorithm: Algorithm,
+    letter: &Letter,
+    next: u32,
+    request: &Request<'_>,
+) -> Result<(Octets, Digest), Refused>
+    requires signed { request.now.signed.now ≡ signed_octets (content_of request.now) }
+    ensures octets { IfOk result (λ sent. sent.0 ≡ challenge_octets algorithm next letter.now.envelope (content_of request.now) letter.now.nonce) }
+    ensures digest { IfOk result (λ sent. sent.1 ≡ digest_of algorithm (content_of request.now)) }
+{
+    let number = letter.envelope.request;
+    let nonce = &letter.nonce;
+    let Ok(sent) = render_challenge(alloc, algorithm, next, number, request, nonce) else {
+        return Err(Refused);
+    };
+    let (octets, digest) = sent;
+    Ok((Octets::new(octets), digest))
 }
 
 /// Decides a request for anyone. A challenge gets the lane's next number.
@@ -49,19 +72,9 @@ fn ask<R: Rows>(
     let algorithm = request_algorithm(owner, request)?;
     let decision = decide(owner, algorithm, rows, masks, request, &Level::Anyone)?;
     if decision.code == ResponseCode::AuthenticationNeeded {
-        let number = letter.envelope.request;
-        let Ok(sent) = render_challenge(
-            owner.alloc,
-            algorithm,
-            next,
-            number,
-            request,
-            &letter.nonce,
-        ) else {
-            return Err(Refused);
-        };
+        let sent = challenge(owner.alloc, algorithm, letter, next, request)?;
         let (octets, digest) = sent;
-        return Ok(Asked::Challenged(Octets::new(octets), digest));
+        return Ok(Asked::Challenged(octets, digest));
     }
     let octets = answer(
         owner.alloc,

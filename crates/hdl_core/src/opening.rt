@@ -1,9 +1,10 @@
 //! Opening a service from a tenants text.
 
 ghost use Rattle.std.specs.Prelude.{◌≡◌, None, map, IfOk, OnOk};
+ghost use Rattle.std.specs.List.Sorted.{IsPermutation};
 ghost use Rattle.hdl_rows.specs.Table.{no_rows, at};
 ghost use Rattle.hdl_tenants.specs.Register.{lane_count, place, AreDistinct};
-ghost use Rattle.hdl_core.specs.Opening.{IsOpening, opening_table, with_row, first_lanes};
+ghost use Rattle.hdl_core.specs.Opening.{IsOpening, opening_table, with_row, row_at, first_lanes};
 
 use crate::lane::Lane;
 use crate::lanes::Lanes;
@@ -18,7 +19,7 @@ use thiserror::Error;
 /// Why a service can't be opened.
 #[derive(Clone, Copy, Debug, PartialEq, Eq, Error)]
 pub enum OpenFault {
-    /// Room for the lanes, or for the masks that are kept, was refused.
+    /// Room for the lanes, for the masks that are kept, or for the order of the opening rows was refused.
     #[error("no memory")]
     Memory,
     /// The table refused an opening row.
@@ -54,22 +55,55 @@ fn put_row<R: Rows>(rows: &mut R, name: &Name, value: &Value) -> Result<(), Refu
     }
 }
 
-/// Puts all opening rows into an empty table.
-fn put_rows<R: Rows>(rows: &mut R, opening: &[(Name, Value)]) -> Result<(), Refused>
+/// The opening rows by rising handle, and by rising index in each. Tables keep their rows in order, so that one which isn't the
+/// last moves all behind it.
+fn in_order<'a>(
+    alloc: Global,
+    opening: &'a [(Name, Value)],
+) -> Result<Vec<&'a (Name, Value)>, AllocError>
+    ensures { IfOk result (λ rows. IsPermutation opening.now (map row_at rows.items)) }
+{
+    let mut rows = Vec::new(alloc);
+    for row in opening {
+        rows.push(row)?;
+    }
+    rows.sort_by_key(|row| (row.0.canon(), row.1.index))?;
+    Ok(rows)
+}
+
+/// Puts rows into an empty table.
+fn put_rows<R: Rows>(rows: &mut R, opening: &[&(Name, Value)]) -> Result<(), Refused>
     requires empty { R.content rows.old ≡ no_rows }
-    requires distinct { AreDistinct (map place opening.now) }
-    ensures { OnOk result (R.content rows.new ≡ opening_table opening.now) }
+    requires distinct { AreDistinct (map place (map row_at opening.now)) }
+    ensures { OnOk result (R.content rows.new ≡ opening_table (map row_at opening.now)) }
 {
     for row in opening {
+        let row = *row;
         put_row(rows, &row.0, &row.1)?;
     }
     Ok(())
 }
 
+/// Puts all opening rows into an empty table, whatever their order.
+fn load<R: Rows>(alloc: Global, rows: &mut R, opening: &[(Name, Value)]) -> Result<(), OpenFault>
+    requires empty { R.content rows.old ≡ no_rows }
+    requires distinct { AreDistinct (map place opening.now) }
+    ensures { OnOk result (R.content rows.new ≡ opening_table opening.now) }
+{
+    let Ok(order) = in_order(alloc, opening) else {
+        return Err(OpenFault::Memory);
+    };
+    match put_rows(rows, &order) {
+        Ok(()) => Ok(()),
+        Err(_) => Err(OpenFault::Store),
+    }
+}
+
 impl<R: Rows + Drop> Service<R> {
     /// The service of a tenants text over an empty table: every lane closed, and the opening rows in the table.
     ///
-    /// Refused: `Memory` for the lanes or the masks that are kept, `Store` where the table refused a row. The table is dropped then.
+    /// Refused: `Memory` for the lanes, the masks that are kept or the order of the rows, `Store` where the table refused a row. The
+    /// table is dropped then.
     pub fn open(alloc: Global, tenants: Tenants, mut rows: R) -> Result<Service<R>, OpenFault>
         requires empty { R.content rows ≡ no_rows }
         ensures opening { IfOk result (λ service. IsOpening tenants service) }
@@ -84,9 +118,7 @@ impl<R: Rows + Drop> Service<R> {
         let Ok(masks) = Masks::new(alloc) else {
             return Err(OpenFault::Memory);
         };
-        if put_rows(&mut rows, opening).is_err() {
-            return Err(OpenFault::Store);
-        }
+        load(alloc, &mut rows, opening)?;
         Ok(Service {
             alloc,
             tenants,

@@ -15,14 +15,18 @@ use std::time::Duration;
 const TENANTS: &str = "publisher acme 2 2641\nprefix 10 acme\nprefix 10.abc acme\n";
 
 /// A resolution of `10/a`, which is absent, and its reply.
-const FRAME: &str = "020100000000000000000001000000000000002c0000000100000000000000000000000000000000000000100000000431302f61000000000000000000000000";
-const REPLY: &str = "02010000000000000000000100000000000000200000000100000064000000000000000000000000000000040000000000000000";
+const FRAME: &str =
+    "020100000000000000000001000000000000002c0000000100000000000000000000000000000000000000100000000431302f61000000000000000000000000";
+
+const REPLY: &str =
+    "02010000000000000000000100000000000000200000000100000064000000000000000000000000000000040000000000000000";
 
 /// The octets of a message's envelope that stand before its sequence number, for a piece.
 const PIECE: &str = "020120000000000000000001";
 
 /// The handle of the long message has `10/` and so many times `a`, its message 985 octets.
 const LONG: usize = 942;
+
 const LONG_MESSAGE: u32 = 985;
 
 /// An output that says when something was written to it.
@@ -162,9 +166,9 @@ fn sockets(rt: HostRuntime) -> Result<(), Fail> {
     let alloc = rt.alloc();
     let told = Arc::new(alloc, AtomicBool::new(false))?;
     let ended = Arc::new(alloc, AtomicBool::new(false))?;
-    let begins = told.clone();
+    let begins = told.clone()?;
     let streams = thread::spawn(&rt, move || ask_streams(&rt, alloc, &begins))?;
-    let (begins, ends) = (told.clone(), ended.clone());
+    let (begins, ends) = (told.clone()?, ended.clone()?);
     let datagrams = thread::spawn(&rt, move || ask_datagrams(&rt, alloc, &begins, &ends))?;
     let mut output = Told {
         octets: Vec::new(alloc),
@@ -176,7 +180,10 @@ fn sockets(rt: HostRuntime) -> Result<(), Fail> {
     let (whole, others) = streams.join(&rt)?;
     let reply = datagrams.join(&rt)?;
     assert_eq!(rt; status, 0);
-    assert_eq!(rt; output.octets.as_slice(), b"acme 127.0.0.1:2641\n".as_slice());
+    assert_eq!(rt;
+        output.octets.as_slice(),
+        b"acme 127.0.0.1:2641\n".as_slice()
+    );
     assert_eq!(rt; faults.as_slice(), b"".as_slice());
     assert_eq!(rt; others, 0);
     assert!(rt; whole > 0);

@@ -15,8 +15,8 @@ returns-then-eq-clause-asked g c =
       decision_of c.in_ok-decision.decision,
       subst (λ a. Decides (hosted_by c.args.owner.now) a (g.R.Rows.content c.args.rows.now) r Anyone (decision_of c.in_ok-decision.decision)) c.in_ok-algorithm.ensures c.in_ok-decision.ensures.decided,
       needed,
-      c.new.ensures ∙ c.in-Ok.ensures.octets ∙ ap (λ a. challenge_octets a c.args.next c.args.letter.now.envelope r c.args.letter.now.nonce) c.in_ok-algorithm.ensures,
-      c.in-Ok.ensures.digest ∙ ap (λ a. digest_of a r) c.in_ok-algorithm.ensures,
+      c.in_ok-sent.ensures.octets ∙ ap (λ a. challenge_octets a c.args.next c.args.letter.now.envelope r c.args.letter.now.nonce) c.in_ok-algorithm.ensures,
+      c.in_ok-sent.ensures.digest ∙ ap (λ a. digest_of a r) c.in_ok-algorithm.ensures,
       c.decide.ensures.unchanged,
     )
 

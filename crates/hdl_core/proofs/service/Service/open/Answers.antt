@@ -8,5 +8,5 @@ new-requires g c = record { few = few_lanes c.args.tenants c.in-Ok.lanes.items c
 
 pub returns : goal.returns
 returns g c =
-    let held : g.R.Rows.content c.put_rows.new.rows ≡ opening_table c.opening-opening.result.now = search rules in
-    record { opening = opens c.args.tenants (g.R.Rows.content c.put_rows.new.rows) c.in-Ok-new.lanes (c.in-Ok-new.ensures ∙ ap closed_lanes c.in-Ok.ensures) (held ∙ ap opening_table c.opening-opening.ensures.rows) }
+    let held : g.R.Rows.content c.load.new.rows ≡ opening_table c.opening-opening.result.now = search rules in
+    record { opening = opens c.args.tenants (g.R.Rows.content c.load.new.rows) c.in-Ok-new.lanes (c.in-Ok-new.ensures ∙ ap closed_lanes c.in-Ok.ensures) (held ∙ ap opening_table c.opening-opening.ensures.rows) }

@@ -1,0 +1,52 @@
+//! The end at which items are taken.
+
+ghost use Rattle.std.specs.Prelude.{◌≡◌, ◌≤◌, [], length, vec_capacity};
+ghost use Rattle.rtrb.specs.Ring.{known_items, consumer_capacity};
+
+use crate::Ended;
+use rtrb::Consumer;
+
+/// The end at which items are taken, and room for what is left once the inlet has ended.
+#[derive(Drop)]
+pub struct Outlet<T> {
+    pub(crate) consumer: Consumer<T>,
+    pub(crate) left: Vec<T>,
+    ghost room: { (left.items ≡ []) × (consumer_capacity consumer ≤ vec_capacity left) },
+}
+
+impl<T: Drop> Outlet<T> {
+    ghost use Rattle.std.specs.Prelude.{◌≡◌, ◌++◌, ◌∷◌, [], MatchOption};
+    ghost use Rattle.rtrb.specs.Ring.{IsPair, received, sent, consumer_capacity};
+    ghost use Rattle.hdl_lanes.specs.Lane.{taken_from, all_put, AreEnded, SameOutlet};
+
+    /// Takes the oldest item, or nothing where none was seen.
+    pub fn take(&mut self) -> Option<T>
+        ensures lane { SameOutlet self.old self.new }
+        ensures taken { MatchOption result (taken_from self.new ≡ taken_from self.old) (λ item. taken_from self.new ≡ taken_from self.old ++ item ∷ []) }
+    {
+        self.consumer.pop().ok()
+    }
+
+    /// What is left of a lane whose inlet has ended, in order. It takes no memory.
+    pub fn settle(self, ended: Ended<T>) -> Vec<T>
+        requires { AreEnded ended self }
+        ensures { all_put ended ≡ taken_from self ++ result.items }
+    {
+        let Outlet { mut consumer, left } = self;
+        let Ended { mut producer } = ended;
+        consumer.slots_beside(&mut producer);
+        pop_known(&mut consumer, left)
+    }
+}
+
+/// Moves the items that are known to be in the ring into a `Vec` that has room for them.
+fn pop_known<T: Drop>(consumer: &mut Consumer<T>, left: Vec<T>) -> Vec<T>
+    requires { (left.items ≡ []) × (length (known_items consumer.old) ≤ vec_capacity left) }
+    ensures { result.items ≡ known_items consumer.old }
+{
+    let mut left = left;
+    for _ in 0..consumer.cached_slots() {
+        left.push_reserved(consumer.pop_known());
+    }
+    left
+}

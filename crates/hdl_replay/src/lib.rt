@@ -1,0 +1,21 @@
+//! One run of a script: the octets of an input to printed lines, a fault line and an exit status.
+//!
+//! ```text
+//! input -> read_input -> script (tenants text, events) -> Service::open, Service::run -> lines -> output
+//! ```
+//!
+//! The script, the printed lines, the fault lines and the exit statuses are those of docs/PROTOCOL.md, "The tenants text and
+//! scripts". All lines are made before the first is written, so a fault other than that of a device prints nothing.
+//! [`replay`] does all of it over any table, a reader and two writers, and knows neither a command line nor a file.
+//!
+//! It stands on `hdl_core` and the contract of `hdl_rows`.
+#![tactic(auto)]
+
+mod fault;
+mod input;
+mod replaying;
+mod script;
+
+pub use fault::Fault;
+pub use input::{INPUT_LIMIT, read_input};
+pub use replaying::{put_all, replay, replayed};

@@ -1,0 +1,158 @@
+//! One run of a script.
+
+ghost use Rattle.std.specs.Prelude.{◌≡◌, ◌≢◌, OnOk, IfErr};
+ghost use Rattle.std.specs.Io.KnownBytes.{Appends, Keeps};
+ghost use Rattle.hdl_rows.specs.Table.{no_rows};
+
+use crate::fault::Fault;
+use crate::input::read_input;
+use crate::script::{events_of, parts_of};
+use hdl_core::{Event, Outcome, Rows, Service, Tenants};
+use std::alloc::Global;
+use std::io::{Read, Write};
+
+/// Writes all octets. A write that fails, an interrupted one too, is a device fault.
+pub fn put_all<O: Write>(output: &mut O, octets: &[u8]) -> Result<(), Fault>
+    ensures ok { OnOk result (Appends (O.contents output.old) (O.contents output.new) octets.now) }
+    ensures err { IfErr result (λ e. e ≡ Fault.Device) }
+{
+    let mut rest = octets;
+    while !rest.is_empty() {
+        match output.write(rest) {
+            Ok(0) => return Err(Fault::Device),
+            Ok(count) => rest = &rest[count..],
+            Err(_) => return Err(Fault::Device),
+        }
+    }
+    Ok(())
+}
+
+/// The line that tells octets.
+fn octets_line(alloc: Global, lane: u16, word: &str, octets: &[u8]) -> Result<String, Fault> {
+    let digits = hex::encode(alloc, octets)?;
+    Ok(format!(in alloc; "{lane} {word} {digits}\n")?)
+}
+
+/// The line that tells one outcome.
+fn line_of(alloc: Global, lane: u16, outcome: &Outcome) -> Result<String, Fault> {
+    match outcome {
+        Outcome::Reply(octets) => octets_line(alloc, lane, "reply", octets.as_slice()),
+        Outcome::Busy(octets) => octets_line(alloc, lane, "busy", octets.as_slice()),
+        Outcome::Silent => Ok(format!(in alloc; "{lane} silent\n")?),
+        Outcome::CloseAfter(octets) => octets_line(alloc, lane, "close", octets.as_slice()),
+    }
+}
+
+/// The lines of all outcomes, as one text.
+fn lines_of(alloc: Global, lanes: &[u16], outcomes: &[Outcome]) -> Result<String, Fault> {
+    let mut text = String::new(alloc);
+    for (lane, outcome) in lanes.iter().zip(outcomes) {
+        let line = line_of(alloc, *lane, outcome)?;
+        text.push_str(line.as_str())?;
+    }
+    Ok(text)
+}
+
+/// The lane of each event.
+fn lanes_of(alloc: Global, events: &[Event]) -> Result<Vec<u16>, Fault> {
+    let mut lanes = Vec::with_capacity(alloc, events.len())?;
+    for event in events {
+        lanes.push(event.lane)?;
+    }
+    Ok(lanes)
+}
+
+/// The tenants that the text gives.
+fn tenants_of(alloc: Global, text: &str) -> Result<Tenants, Fault> {
+    match Tenants::read(alloc, text) {
+        Ok(tenants) => Ok(tenants),
+        Err((line, fault)) => Err(Fault::Tenants(line, fault)),
+    }
+}
+
+/// The outcomes of the events.
+fn served<R: Rows + Drop>(
+    service: &mut Service<R>,
+    events: Vec<Event>,
+) -> Result<Vec<Outcome>, Fault> {
+    match service.run(events) {
+        Ok(outcomes) => Ok(outcomes),
+        Err(_) => Err(Fault::NoMemory),
+    }
+}
+
+/// The outcomes of the events, over an empty table.
+fn outcomes_of<R: Rows + Drop>(
+    alloc: Global,
+    rows: R,
+    tenants: Tenants,
+    events: Vec<Event>,
+) -> Result<Vec<Outcome>, Fault>
+    requires empty { R.content rows ≡ no_rows }
+{
+    let mut service = Service::open(alloc, tenants, rows)?;
+    served(&mut service, events)
+}
+
+/// The lines of the events' outcomes, over an empty table.
+fn told<R: Rows + Drop>(
+    alloc: Global,
+    rows: R,
+    tenants: Tenants,
+    events: Vec<Event>,
+) -> Result<String, Fault>
+    requires empty { R.content rows ≡ no_rows }
+{
+    let lanes = lanes_of(alloc, events.as_slice())?;
+    let outcomes = outcomes_of(alloc, rows, tenants, events)?;
+    lines_of(alloc, lanes.as_slice(), outcomes.as_slice())
+}
+
+/// What a script prints, over an empty table.
+fn printed<R: Rows + Drop>(alloc: Global, rows: R, text: &[u8]) -> Result<String, Fault>
+    requires empty { R.content rows ≡ no_rows }
+{
+    let Ok(text) = str::from_utf8(text) else {
+        return Err(Fault::InputNotUtf8);
+    };
+    let parts = parts_of(text);
+    let tenants = tenants_of(alloc, parts.tenants)?;
+    let events = events_of(alloc, parts.script, parts.run_line)?;
+    told(alloc, rows, tenants, events)
+}
+
+/// Runs the script on the input over an empty table, and writes the outcomes to the output. After any fault but that of a
+/// device nothing is written.
+pub fn replayed<R: Rows + Drop, I: Read, O: Write>(
+    alloc: Global,
+    rows: R,
+    input: &mut I,
+    output: &mut O,
+) -> Result<(), Fault>
+    requires empty { R.content rows ≡ no_rows }
+    ensures silent { IfErr result (λ e. e ≢ Fault.Device → Keeps (O.contents output.old) (O.contents output.new)) }
+{
+    let text = read_input(alloc, input)?;
+    let lines = printed(alloc, rows, text.as_slice())?;
+    put_all(output, lines.as_bytes())
+}
+
+/// Runs the script as [`replayed`] does, and writes a fault line to the faults.
+/// Answers the exit status. A fault line that can't be written changes no status.
+pub fn replay<R: Rows + Drop, I: Read, O: Write, F: Write>(
+    alloc: Global,
+    rows: R,
+    input: &mut I,
+    output: &mut O,
+    faults: &mut F,
+) -> u8
+    requires empty { R.content rows ≡ no_rows }
+{
+    match replayed(alloc, rows, input, output) {
+        Ok(()) => 0,
+        Err(fault) => {
+            let _ = writeln!(faults, "{fault}");
+            fault.status()
+        }
+    }
+}

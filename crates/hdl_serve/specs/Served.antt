@@ -1,0 +1,71 @@
+-- What a serving loop does with its lanes.
+use Rattle.std.specs.Prelude.{◌≡◌, ◌≢◌, ◌≤◌, ℕ, List, [], ◌∷◌, ◌++◌, ◌==◌, if◌then◌else◌, Option, Some, None, length, map, filter_map, AllPairs}
+use Rattle.std.specs.List.{AllZip}
+use Rattle.hdl_lanes.specs.Lane.{put_into, taken_from, SameInlet, SameOutlet}
+use Rattle.hdl_laws.specs.declared.events.What.{What}
+use Rattle.hdl_laws.specs.declared.events.Event.{Event}
+use Rattle.hdl_laws.specs.declared.events.Outcome.{Outcome}
+use Rattle.hdl_laws.specs.Worlds.{World}
+use Rattle.hdl_laws.specs.Runs.{Run}
+use Rattle.hdl_laws.specs.Laws.{Isolated, Hidden}
+use Rattle.hdl_serve.specs.Sign.{WithEnd}
+use Rattle.hdl_serve.specs.declared.item.Item.{Item}
+use Rattle.hdl_serve.specs.declared.ends.LaneEnds.{LaneEnds}
+
+-- what happened, if the item isn't End
+abbrev pub event_of : Item → Option What
+event_of (Item.Event what) = Some what
+event_of Item.End = None
+
+-- the events among items, in order
+abbrev pub events_in : List Item → List What
+events_in items = filter_map event_of items
+
+-- events as items
+abbrev pub items_of : List What → List Item
+items_of whats = map (λ what. Item.Event what) whats
+
+-- the entries beside the number n, in order
+abbrev pub beside : {X : Type 0} → ℕ → List ℕ → List X → List X
+beside n [] xs = []
+beside n (m ∷ ms) [] = []
+beside n (m ∷ ms) (x ∷ xs) = if m == n then x ∷ beside n ms xs else beside n ms xs
+
+abbrev pub lanes_of : List Event → List ℕ
+lanes_of es = map (λ e. e.lane) es
+
+abbrev pub whats_of : List Event → List What
+whats_of es = map (λ e. e.what) es
+
+-- what happened on the lane n, in order
+abbrev pub events_on : ℕ → List Event → List What
+events_on n es = beside n (lanes_of es) (whats_of es)
+
+-- what came of the events of the lane n, in order
+abbrev pub outcomes_on : ℕ → List Event → List Outcome → List Outcome
+outcomes_on n es os = beside n (lanes_of es) os
+
+-- no two lanes have one number
+abbrev pub AreDistinct : List LaneEnds → Type 0
+AreDistinct lanes = AllPairs (λ a b. a.lane ≢ b.lane) lanes
+
+-- the same lane's ends, before and after: what was taken is, End aside, its events and then its kept ones, of which there is at
+-- most one; behind an End nothing was taken; what was put is its events' outcomes
+pub record LaneServed (events : List Event) (outcomes : List Outcome) (kept : List Event) (a b : LaneEnds) : Type 0 where
+  pub lane : b.lane ≡ a.lane
+  pub outlet : SameOutlet a.items b.items
+  pub inlet : SameInlet a.outcomes b.outcomes
+  pub taken : events_in (taken_from b.items) ≡ events_in (taken_from a.items) ++ events_on a.lane events ++ events_on a.lane kept
+  pub one_kept : length (events_on a.lane kept) ≤ 1
+  pub end_last : WithEnd (taken_from a.items ++ items_of (events_on a.lane events ++ events_on a.lane kept)) (taken_from b.items)
+  pub put : put_into b.outcomes ≡ put_into a.outcomes ++ outcomes_on a.lane events outcomes
+
+-- there are one list of events and one of outcomes that are a run from one world to the other, isolate each publisher and hide what
+-- may not be read; and each lane gave its events of that list, and was given their outcomes
+pub record IsServed (w : World) (before : List LaneEnds) (new : World) (after : List LaneEnds) (kept : List Event) : Type 0 where
+  pub events : List Event
+  pub outcomes : List Outcome
+  pub run : Run w events outcomes new
+  pub isolated : Isolated w events outcomes
+  pub hidden : Hidden w events outcomes
+  pub lanes : AllZip (LaneServed events outcomes kept) before after

@@ -1,0 +1,126 @@
+//! A table in SQL.
+
+ghost use Rattle.std.specs.Prelude.{◌≡◌, IfOk, MatchResult, IsErr, Ok};
+ghost use Rattle.hdl_rows.specs.Table.{no_rows, counted};
+
+use crate::fault::Fault;
+use crate::layout::make_tables;
+use crate::{queries, writes};
+use hdl_name::Name;
+use hdl_rows::{Refused, Rows};
+use hdl_value::{Octets, Reference, Value};
+use sqlite::{Connection, MemStore};
+use std::alloc::Global;
+use std::marker::Model;
+
+/// A table in SQL, in memory, which refuses a call where the store does: for want of memory, or of a list of references that
+/// four octets can't count. Contracts see what it holds and how many calls were refused.
+#[derive(Drop)]
+pub struct SqlRows {
+    alloc: Global,
+    conn: Connection<MemStore>,
+    refusals: u64,
+}
+
+impl Model for SqlRows {
+    ghost use Rattle.hdl_rows.specs.Table.{Held, held_code, IsPlaced};
+    ghost use Rattle.hdl_sqlrows.specs.Kept.{IsSettled, seen, shown};
+
+    ghost Value = { Held };
+
+    ghost coded = { held_code };
+
+    ghost view = { λ s. record { table = shown s.conn; refused = s.refusals } };
+
+    ghost invariant = { λ s. IsSettled (seen s.conn) × IsPlaced (shown s.conn) };
+}
+
+impl SqlRows {
+    /// An empty table. Refused where memory for its two tables is: no table counts that refusal.
+    pub fn new(alloc: Global) -> Result<SqlRows, Refused>
+        ensures empty { IfOk result (λ rows. rows ≡ record { table = no_rows; refused = 0 }) }
+    {
+        let Ok(mut conn) = Connection::open_in_memory(alloc) else {
+            return Err(Refused);
+        };
+        match make_tables(&mut conn) {
+            Ok(()) => Ok(SqlRows {
+                alloc,
+                conn,
+                refusals: 0,
+            }),
+            Err(_) => Err(Refused),
+        }
+    }
+}
+
+// Counts a call that was refused.
+fn tally<T>(refusals: &mut u64, outcome: Result<T, Fault>) -> Result<T, Refused>
+    ensures count { refusals.new ≡ counted outcome refusals.old }
+    ensures same { MatchResult outcome (λ x. result ≡ Ok x) (λ _. IsErr result) }
+{
+    match outcome {
+        Ok(value) => Ok(value),
+        Err(_) => {
+            *refusals = refusals.saturating_add(1);
+            Err(Refused)
+        }
+    }
+}
+
+impl Rows for SqlRows {
+    ghost content = { λ s. s.table };
+
+    ghost refused = { λ s. s.refused };
+
+    fn exists(&mut self, name: &Name) -> Result<bool, Refused> {
+        let found = queries::has_handle(&mut self.conn, name.canon());
+        tally(&mut self.refusals, found)
+    }
+
+    fn at(&mut self, reference: &Reference) -> Result<Option<Value>, Refused> {
+        let name = reference.name.canon();
+        let found = queries::value_at(&mut self.conn, self.alloc, name, reference.index);
+        tally(&mut self.refusals, found)
+    }
+
+    fn values(&mut self, name: &Name) -> Result<Vec<Value>, Refused> {
+        let found = queries::values_of(&mut self.conn, self.alloc, name.canon());
+        tally(&mut self.refusals, found)
+    }
+
+    fn names(&mut self, authority: &[u8]) -> Result<Vec<Octets>, Refused> {
+        let found = queries::names_of(&mut self.conn, self.alloc, authority);
+        tally(&mut self.refusals, found)
+    }
+
+    fn create(&mut self, name: &Name, values: &[Value]) -> Result<(), Refused> {
+        let authority = name.authority();
+        let done = writes::create(&mut self.conn, self.alloc, name.canon(), authority, values);
+        tally(&mut self.refusals, done)
+    }
+
+    fn add(&mut self, name: &Name, values: &[Value]) -> Result<(), Refused> {
+        let done = writes::add(&mut self.conn, self.alloc, name.canon(), values);
+        tally(&mut self.refusals, done)
+    }
+
+    fn modify(&mut self, name: &Name, values: &[Value]) -> Result<(), Refused> {
+        let done = writes::modify(&mut self.conn, self.alloc, name.canon(), values);
+        tally(&mut self.refusals, done)
+    }
+
+    fn remove(&mut self, name: &Name, indexes: &[u32]) -> Result<(), Refused> {
+        let done = writes::remove(&mut self.conn, name.canon(), indexes);
+        tally(&mut self.refusals, done)
+    }
+
+    fn delete(&mut self, name: &Name) -> Result<(), Refused> {
+        let done = writes::delete(&mut self.conn, name.canon());
+        tally(&mut self.refusals, done)
+    }
+
+    fn refusals(&self) -> u64 {
+        self.refusals
+    }
+}

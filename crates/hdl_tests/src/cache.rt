@@ -1,0 +1,60 @@
+use hdl_cache::Masks;
+use hdl_name::Name;
+use hdl_value::{AdminMask, Reference};
+use std::alloc::Global;
+use std::test::Fail;
+
+fn key(alloc: Global, index: u32) -> Result<Reference, Fail> {
+    Ok(Reference {
+        name: Name::read(alloc, b"20/keys")?,
+        index,
+    })
+}
+
+#[test]
+fn what_is_kept_is_found(rt: HostRuntime) -> Result<(), Fail> {
+    let mut masks = Masks::new(rt.alloc())?;
+    let name = Name::read(rt.alloc(), b"10.ABC/c")?;
+    let key = key(rt.alloc(), 3)?;
+    assert_eq!(rt; masks.find(&name, &key)?, None);
+    masks.keep(&name, &key, Some(AdminMask(0x0fff)));
+    let same = Name::read(rt.alloc(), b"10.abc/c")?;
+    assert_eq!(rt; masks.find(&same, &key)?, Some(Some(AdminMask(0x0fff))));
+    masks.clear();
+    assert_eq!(rt; masks.find(&name, &key)?, None);
+    Ok(())
+}
+
+#[test]
+fn that_there_is_no_mask_is_kept(rt: HostRuntime) -> Result<(), Fail> {
+    let mut masks = Masks::new(rt.alloc())?;
+    let name = Name::read(rt.alloc(), b"10/c")?;
+    let other = Name::read(rt.alloc(), b"10/d")?;
+    let key = key(rt.alloc(), 3)?;
+    masks.keep(&name, &key, None);
+    assert_eq!(rt; masks.find(&name, &key)?, Some(None));
+    assert_eq!(rt; masks.find(&other, &key)?, None);
+    Ok(())
+}
+
+/// Of 257 masks the one that was used least recently isn't kept.
+#[test]
+fn the_least_recently_used_goes(rt: HostRuntime) -> Result<(), Fail> {
+    let mut masks = Masks::new(rt.alloc())?;
+    let name = Name::read(rt.alloc(), b"10/c")?;
+    for index in 1..=256 {
+        masks.keep(&name, &key(rt.alloc(), index)?, Some(AdminMask(1)));
+    }
+    assert_eq!(rt;
+        masks.find(&name, &key(rt.alloc(), 1)?)?,
+        Some(Some(AdminMask(1)))
+    );
+    masks.keep(&name, &key(rt.alloc(), 257)?, None);
+    assert_eq!(rt;
+        masks.find(&name, &key(rt.alloc(), 1)?)?,
+        Some(Some(AdminMask(1)))
+    );
+    assert_eq!(rt; masks.find(&name, &key(rt.alloc(), 2)?)?, None);
+    assert_eq!(rt; masks.find(&name, &key(rt.alloc(), 257)?)?, Some(None));
+    Ok(())
+}

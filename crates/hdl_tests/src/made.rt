@@ -1,0 +1,21 @@
+//! Values that the tests of several crates put into tables.
+
+ghost use Rattle.std.specs.Prelude.{◌≡◌, IfOk};
+
+use hdl_value::{Octets, RawRefs, Value};
+use std::alloc::{AllocError, Global};
+
+/// A value of this index, type and data that anybody may read, without a timestamp and references.
+pub fn value(alloc: Global, index: u32, kind: &[u8], bytes: &[u8]) -> Result<Value, AllocError>
+    ensures { IfOk result (λ v. v.index ≡ index) }
+{
+    Ok(Value {
+        index,
+        kind: Octets::new(Vec::from_slice(alloc, kind)?),
+        bytes: Octets::new(Vec::from_slice(alloc, bytes)?),
+        ttl: [0; 5],
+        perm: 6,
+        stamp: 0,
+        refs: RawRefs::new(Vec::new(alloc)),
+    })
+}

@@ -1,0 +1,338 @@
+//! Masks over tables in memory, and behind a fuse.
+
+ghost use Rattle.std.specs.Prelude.{◌≡◌, IfOk};
+
+use crate::made::value;
+use hdl_name::Name;
+use hdl_reach::mask;
+use hdl_rows::{Fuse, PlainRows, Refused, Rows};
+use hdl_value::{AdminMask, Reference, Value, put_string, put_u32};
+use std::alloc::{AllocError, Global};
+use std::process::Abort;
+use std::test::Fail;
+
+const ADMIN: &[u8] = b"HS_ADMIN";
+
+const LIST: &[u8] = b"HS_VLIST";
+
+const SECRET_KEY: &[u8] = b"HS_SECKEY";
+
+/// A handle, and of one value of it the index, the type and the data.
+type Row = (&'static [u8], u32, &'static [u8], &'static [u8]);
+
+fn reference(alloc: Global, handle: &[u8], index: u32) -> Result<Reference, Fail>
+    ensures { IfOk result (λ r. r.index ≡ index) }
+{
+    Ok(Reference {
+        name: Name::read(alloc, handle)?,
+        index,
+    })
+}
+
+/// Puts a value where none stands, of a handle that is made where it is absent.
+fn put(
+    rt: &impl Abort,
+    alloc: Global,
+    rows: &mut PlainRows,
+    handle: &[u8],
+    value: Value,
+) -> Result<(), Fail> {
+    let place = reference(alloc, handle, value.index)?;
+    if !rows.exists(&place.name)? {
+        rows.create(&place.name, &[value])?;
+        return Ok(());
+    }
+    assert!(rt; rows.at(&place)?.is_none());
+    rows.add(&place.name, &[value])?;
+    Ok(())
+}
+
+fn table(rt: &impl Abort, alloc: Global, values: &[Row]) -> Result<PlainRows, Fail> {
+    let mut rows = PlainRows::new(alloc);
+    for (handle, index, kind, bytes) in values {
+        put(
+            rt,
+            alloc,
+            &mut rows,
+            handle,
+            value(alloc, *index, kind, bytes)?,
+        )?;
+    }
+    Ok(rows)
+}
+
+/// Whether these are the masks of the references for a handle.
+fn are_masks<R: Rows>(
+    rt: &impl Abort,
+    alloc: Global,
+    rows: &mut R,
+    handle: &[u8],
+    wanted: &[(&[u8], u32, Option<AdminMask>)],
+) -> Result<(), Fail> {
+    let name = Name::read(alloc, handle)?;
+    for (key, index, want) in wanted {
+        let key = reference(alloc, key, *index)?;
+        assert_eq!(rt; mask(alloc, rows, &name, &key)?, *want, "index {index}");
+    }
+    Ok(())
+}
+
+/// The administrator of `10/c` is a list, which leads to a second one, and that to a key.
+const TWO_LISTS: [Row; 4] = [
+    (b"10/c", 100, ADMIN, b"\x0f\xff\0\0\0\x0410/g\0\0\0\x01"),
+    (b"10/g", 1, LIST, b"\0\0\0\x01\0\0\0\x0410/g\0\0\0\x02"),
+    (b"10/g", 2, LIST, b"\0\0\0\x01\0\0\0\x0720/keys\0\0\0\x03"),
+    (b"20/keys", 3, SECRET_KEY, b"k1"),
+];
+
+#[test]
+fn lists_lead_to_the_key(rt: HostRuntime) -> Result<(), Fail> {
+    let mut rows = table(&rt, rt.alloc(), &TWO_LISTS)?;
+    let wanted: [(&[u8], u32, Option<AdminMask>); 6] = [
+        (b"10/g", 1, Some(AdminMask(0x0fff))),
+        (b"10/g", 2, Some(AdminMask(0x0fff))),
+        (b"20/keys", 3, Some(AdminMask(0x0fff))),
+        (b"20/keys", 2, None),
+        (b"20/Keys", 3, None),
+        (b"10/c", 100, None),
+    ];
+    are_masks(&rt, rt.alloc(), &mut rows, b"10/c", &wanted)?;
+    are_masks(
+        &rt,
+        rt.alloc(),
+        &mut rows,
+        b"10/g",
+        &[(b"20/keys", 3, None)],
+    )
+}
+
+/// Two lists that refer to each other lead to themselves and to nothing else.
+#[test]
+fn circle_of_two(rt: HostRuntime) -> Result<(), Fail> {
+    let mut rows = table(
+        &rt,
+        rt.alloc(),
+        &[
+            TWO_LISTS[0],
+            TWO_LISTS[1],
+            TWO_LISTS[3],
+            (b"10/g", 2, LIST, b"\0\0\0\x01\0\0\0\x0410/g\0\0\0\x01"),
+        ],
+    )?;
+    let wanted: [(&[u8], u32, Option<AdminMask>); 3] = [
+        (b"10/g", 1, Some(AdminMask(0x0fff))),
+        (b"10/g", 2, Some(AdminMask(0x0fff))),
+        (b"20/keys", 3, None),
+    ];
+    are_masks(&rt, rt.alloc(), &mut rows, b"10/c", &wanted)
+}
+
+/// Three lists in a circle, the last of which lists a key, itself and nothing.
+#[test]
+fn circle_of_three(rt: HostRuntime) -> Result<(), Fail> {
+    let mut rows = table(
+        &rt,
+        rt.alloc(),
+        &[
+            (b"10/c", 1, ADMIN, b"\0\x10\0\0\0\x0410/g\0\0\0\x02"),
+            (b"10/g", 1, LIST, b"\0\0\0\x01\0\0\0\x0410/g\0\0\0\x02"),
+            (b"10/g", 2, LIST, b"\0\0\0\x01\0\0\0\x0410/G\0\0\0\x03"),
+            (
+                b"10/G",
+                3,
+                LIST,
+                b"\0\0\0\x04\0\0\0\x0410/G\0\0\0\x03\0\0\0\x0410/g\0\0\0\x01\0\0\0\x0410/g\0\0\0\0\0\0\0\x0420/k\0\0\0\x01",
+            ),
+        ],
+    )?;
+    let wanted: [(&[u8], u32, Option<AdminMask>); 4] = [
+        (b"10/g", 1, Some(AdminMask(0x0010))),
+        (b"10/G", 3, Some(AdminMask(0x0010))),
+        (b"20/k", 1, Some(AdminMask(0x0010))),
+        (b"10/g", 0, None),
+    ];
+    are_masks(&rt, rt.alloc(), &mut rows, b"10/c", &wanted)
+}
+
+/// Two administrators of one handle for one key, which is absent, and one for another.
+#[test]
+fn union_of_masks(rt: HostRuntime) -> Result<(), Fail> {
+    let mut rows = table(
+        &rt,
+        rt.alloc(),
+        &[
+            (b"10/c", 1, ADMIN, b"\0\x03\0\0\0\x0720/keys\0\0\0\x03"),
+            (b"10/c", 2, ADMIN, b"\0\x50\0\0\0\x0720/keys\0\0\0\x03"),
+            (b"10/c", 3, ADMIN, b"\x08\0\0\0\0\x0720/keys\0\0\0\x04"),
+            (b"10/c", 4, ADMIN, b"\0\0\0\0\0\x0720/keys\0\0\0\x05"),
+        ],
+    )?;
+    let wanted: [(&[u8], u32, Option<AdminMask>); 4] = [
+        (b"20/keys", 3, Some(AdminMask(0x0053))),
+        (b"20/keys", 4, Some(AdminMask(0x0800))),
+        (b"20/keys", 5, Some(AdminMask(0))),
+        (b"20/keys", 6, None),
+    ];
+    are_masks(&rt, rt.alloc(), &mut rows, b"10/c", &wanted)
+}
+
+/// An absent list lists nothing, and is an administrator itself.
+#[test]
+fn absent_list(rt: HostRuntime) -> Result<(), Fail> {
+    let mut rows = table(&rt, rt.alloc(), &[TWO_LISTS[0], TWO_LISTS[1], TWO_LISTS[3]])?;
+    let wanted: [(&[u8], u32, Option<AdminMask>); 2] = [
+        (b"10/g", 2, Some(AdminMask(0x0fff))),
+        (b"20/keys", 3, None),
+    ];
+    are_masks(&rt, rt.alloc(), &mut rows, b"10/c", &wanted)
+}
+
+/// Index 0 refers to nothing, in HS_ADMIN and HS_VLIST values and where it is asked for.
+#[test]
+fn index_zero(rt: HostRuntime) -> Result<(), Fail> {
+    let mut rows = table(
+        &rt,
+        rt.alloc(),
+        &[
+            (b"10/c", 1, ADMIN, b"\0\x03\0\0\0\x0420/k\0\0\0\0"),
+            (b"10/c", 2, ADMIN, b"\0\x50\0\0\0\x0410/g\0\0\0\x01"),
+            (
+                b"10/g",
+                1,
+                LIST,
+                b"\0\0\0\x02\0\0\0\x0420/k\0\0\0\0\0\0\0\x0420/k\0\0\0\x02",
+            ),
+        ],
+    )?;
+    let wanted: [(&[u8], u32, Option<AdminMask>); 3] = [
+        (b"20/k", 0, None),
+        (b"20/k", 1, None),
+        (b"20/k", 2, Some(AdminMask(0x0050))),
+    ];
+    are_masks(&rt, rt.alloc(), &mut rows, b"10/c", &wanted)
+}
+
+/// A value of another type, or with bad data, lists nothing and gives no mask.
+#[test]
+fn no_list(rt: HostRuntime) -> Result<(), Fail> {
+    let mut rows = table(
+        &rt,
+        rt.alloc(),
+        &[
+            TWO_LISTS[0],
+            (b"10/g", 1, b"URL", b"\0\0\0\x01\0\0\0\x0720/keys\0\0\0\x03"),
+            (
+                b"10/c",
+                1,
+                b"hs_admin",
+                b"\0\x03\0\0\0\x0720/keys\0\0\0\x03",
+            ),
+            (b"10/c", 2, ADMIN, b"\0\x03\0\0\0\x0720/keys\0\0\0\x03\0"),
+        ],
+    )?;
+    let wanted: [(&[u8], u32, Option<AdminMask>); 2] = [
+        (b"10/g", 1, Some(AdminMask(0x0fff))),
+        (b"20/keys", 3, None),
+    ];
+    are_masks(&rt, rt.alloc(), &mut rows, b"10/c", &wanted)
+}
+
+/// Handles are compared in canonical form, and an administrative handle's list is a list.
+#[test]
+fn administrative_list(rt: HostRuntime) -> Result<(), Fail> {
+    let mut rows = table(
+        &rt,
+        rt.alloc(),
+        &[
+            (
+                b"10.abc/c",
+                1,
+                ADMIN,
+                b"\x0f\xff\0\0\0\x0b0.NA/10.ABC\0\0\0\x07",
+            ),
+            (
+                b"0.na/10.abc",
+                7,
+                LIST,
+                b"\0\0\0\x01\0\0\0\x0710.Ab/k\0\0\0\x03",
+            ),
+        ],
+    )?;
+    let wanted: [(&[u8], u32, Option<AdminMask>); 3] = [
+        (b"0.na/10.Abc", 7, Some(AdminMask(0x0fff))),
+        (b"10.aB/k", 3, Some(AdminMask(0x0fff))),
+        (b"10.ab/K", 3, None),
+    ];
+    are_masks(&rt, rt.alloc(), &mut rows, b"10.ABC/c", &wanted)
+}
+
+/// The data of a list of 64 references to one handle, from this index on.
+fn sixty_four(alloc: Global, first: u32) -> Result<Vec<u8>, AllocError> {
+    let mut data = Vec::from_slice(alloc, b"\0\0\0\x40")?;
+    for place in 0..64u32 {
+        put_string(&mut data, b"10/g")?;
+        put_u32(&mut data, first.saturating_add(place))?;
+    }
+    Ok(data)
+}
+
+/// Three levels of 64 references each; the last of a level is the list of the next.
+#[test]
+fn long_lists(rt: HostRuntime) -> Result<(), Fail> {
+    let mut rows = table(
+        &rt,
+        rt.alloc(),
+        &[(b"10/c", 1, ADMIN, b"\0\x01\0\0\0\x0410/g\0\0\0\x40")],
+    )?;
+    for (index, first) in [(64, 65), (128, 129), (192, 193)] {
+        let data = sixty_four(rt.alloc(), first)?;
+        let list = value(rt.alloc(), index, LIST, data.as_slice())?;
+        put(&rt, rt.alloc(), &mut rows, b"10/g", list)?;
+    }
+    let wanted: [(&[u8], u32, Option<AdminMask>); 4] = [
+        (b"10/g", 65, Some(AdminMask(1))),
+        (b"10/g", 193, Some(AdminMask(1))),
+        (b"10/g", 256, Some(AdminMask(1))),
+        (b"10/g", 257, None),
+    ];
+    are_masks(&rt, rt.alloc(), &mut rows, b"10/c", &wanted)
+}
+
+/// The look that a fuse refuses is passed on and counted once, and the table stays.
+#[test]
+fn behind_a_fuse(rt: HostRuntime) -> Result<(), Fail> {
+    let name = Name::read(rt.alloc(), b"10/c")?;
+    let key = reference(rt.alloc(), b"20/keys", 3)?;
+    for look in 1..=3u64 {
+        let inner = table(&rt, rt.alloc(), &TWO_LISTS)?;
+        let mut rows = Fuse::new(inner, look, look);
+        assert_eq!(rt;
+            mask(rt.alloc(), &mut rows, &name, &key),
+            Err(Refused),
+            "look {look}"
+        );
+        assert_eq!(rt; rows.refusals(), 1, "look {look}");
+        let again = mask(rt.alloc(), &mut rows, &name, &key)?;
+        assert_eq!(rt; again, Some(AdminMask(0x0fff)), "look {look}");
+    }
+    Ok(())
+}
+
+/// Two administrators that share a list: each reference is looked up once for both, and the key never.
+#[test]
+fn looks_once(rt: HostRuntime) -> Result<(), Fail> {
+    let values: [Row; 4] = [
+        (b"10/c", 1, ADMIN, b"\0\x01\0\0\0\x0410/g\0\0\0\x01"),
+        (b"10/c", 2, ADMIN, b"\0\x02\0\0\0\x0410/g\0\0\0\x02"),
+        (b"10/g", 2, LIST, b"\0\0\0\x01\0\0\0\x0410/g\0\0\0\x01"),
+        (b"10/g", 1, LIST, b"\0\0\0\x01\0\0\0\x0720/keys\0\0\0\x03"),
+    ];
+    let name = Name::read(rt.alloc(), b"10/c")?;
+    let key = reference(rt.alloc(), b"20/keys", 3)?;
+    for (look, want) in [(3, Err(Refused)), (4, Ok(Some(AdminMask(3))))] {
+        let mut rows = Fuse::new(table(&rt, rt.alloc(), &values)?, look, look);
+        let found = mask(rt.alloc(), &mut rows, &name, &key);
+        assert_eq!(rt; found, want, "look {look}");
+    }
+    Ok(())
+}

@@ -1,0 +1,195 @@
+//! Every call through the bound, over a table in memory and over a fuse of it.
+
+use crate::made::value;
+use hdl_name::Name;
+use hdl_rows::{Fuse, PlainRows, Refused, Rows};
+use hdl_value::{Reference, Value};
+use std::alloc::Global;
+use std::process::Abort;
+use std::test::Fail;
+
+fn reference(alloc: Global, text: &[u8], index: u32) -> Result<Reference, Fail> {
+    Ok(Reference {
+        name: Name::read(alloc, text)?,
+        index,
+    })
+}
+
+/// Whether the values have these indexes and data, in this order.
+fn are(values: &[Value], wanted: &[(u32, &[u8])]) -> bool {
+    values.len() == wanted.len()
+        && values.iter().zip(wanted).all(|(value, want)| value.index == want.0
+            && value.bytes.as_slice() == want.1)
+}
+
+/// Values come out by rising index, in whatever order they were given, and a name stands for its canonical form.
+fn creates<R: Rows>(rt: &impl Abort, alloc: Global, rows: &mut R) -> Result<(), Fail> {
+    let sent = Name::read(alloc, b"10.ABC/x")?;
+    let all = [
+        value(alloc, 9, b"URL", b"nine")?,
+        value(alloc, 2, b"URL", b"two")?,
+        value(alloc, 5, b"URL", b"")?,
+    ];
+    assert!(rt; !rows.exists(&sent)?);
+    rows.create(&sent, &all)?;
+    let same = Name::read(alloc, b"10.abc/x")?;
+    assert!(rt; rows.exists(&same)?);
+    assert!(rt; are(&rows.values(&same)?, &[(2, b"two"), (5, b""), (9, b"nine")]));
+    Ok(())
+}
+
+/// A handle of the local name `X` is another one.
+fn other_local_name<R: Rows>(rt: &impl Abort, alloc: Global, rows: &mut R) -> Result<(), Fail> {
+    let other = reference(alloc, b"10.abc/X", 2)?;
+    assert!(rt; !rows.exists(&other.name)?);
+    assert!(rt; rows.at(&other)?.is_none());
+    assert!(rt; are(&rows.values(&other.name)?, &[]));
+    assert_eq!(rt; rows.refusals(), 0);
+    Ok(())
+}
+
+/// An added value comes among those that are there.
+fn adds<R: Rows>(rt: &impl Abort, alloc: Global, rows: &mut R) -> Result<(), Fail> {
+    let place = reference(alloc, b"10.abc/x", 3)?;
+    assert!(rt; rows.exists(&place.name)?);
+    assert!(rt; rows.at(&place)?.is_none());
+    rows.add(&place.name, &[value(alloc, place.index, b"URL", b"three")?])?;
+    let wanted: [(u32, &[u8]); 4] = [(2, b"two"), (3, b"three"), (5, b""), (9, b"nine")];
+    assert!(rt; are(&rows.values(&place.name)?, &wanted));
+    Ok(())
+}
+
+/// A modified value is replaced whole.
+fn modifies<R: Rows>(rt: &impl Abort, alloc: Global, rows: &mut R) -> Result<(), Fail> {
+    let place = reference(alloc, b"10.abc/x", 3)?;
+    assert!(rt; rows.exists(&place.name)?);
+    assert!(rt; rows.at(&place)?.is_some());
+    rows.modify(&place.name, &[value(alloc, place.index, b"URL", b"")?])?;
+    let wanted: [(u32, &[u8]); 4] = [(2, b"two"), (3, b""), (5, b""), (9, b"nine")];
+    assert!(rt; are(&rows.values(&place.name)?, &wanted));
+    Ok(())
+}
+
+/// A removed value is gone, and the handle stays.
+fn removes<R: Rows>(rt: &impl Abort, alloc: Global, rows: &mut R) -> Result<(), Fail> {
+    let place = reference(alloc, b"10.abc/x", 5)?;
+    assert!(rt; rows.exists(&place.name)?);
+    assert!(rt; rows.at(&place)?.is_some());
+    rows.remove(&place.name, &[place.index])?;
+    assert!(rt; rows.exists(&place.name)?);
+    assert!(rt;
+        are(
+            &rows.values(&place.name)?,
+            &[(2, b"two"), (3, b""), (9, b"nine")]
+        )
+    );
+    Ok(())
+}
+
+/// A deleted handle is gone with its values.
+fn deletes<R: Rows>(rt: &impl Abort, alloc: Global, rows: &mut R) -> Result<(), Fail> {
+    let name = Name::read(alloc, b"10.abc/x")?;
+    assert!(rt; rows.exists(&name)?);
+    rows.delete(&name)?;
+    assert!(rt; !rows.exists(&name)?);
+    assert!(rt; are(&rows.values(&name)?, &[]));
+    Ok(())
+}
+
+pub(crate) fn each_call<R: Rows>(rt: &impl Abort, alloc: Global, rows: &mut R) -> Result<(), Fail> {
+    creates(rt, alloc, rows)?;
+    other_local_name(rt, alloc, rows)?;
+    adds(rt, alloc, rows)?;
+    modifies(rt, alloc, rows)?;
+    removes(rt, alloc, rows)?;
+    deletes(rt, alloc, rows)
+}
+
+#[test]
+fn each_call_in_memory(rt: HostRuntime) -> Result<(), Fail> {
+    each_call(&rt, rt.alloc(), &mut PlainRows::new(rt.alloc()))
+}
+
+#[test]
+fn each_call_behind_a_fuse(rt: HostRuntime) -> Result<(), Fail> {
+    each_call(
+        &rt,
+        rt.alloc(),
+        &mut Fuse::new(PlainRows::new(rt.alloc()), 1, 0),
+    )
+}
+
+/// The handles of an authority rise by octets, and those of a longer authority that begins alike are left out.
+pub(crate) fn lists<R: Rows>(rt: &impl Abort, alloc: Global, rows: &mut R) -> Result<(), Fail> {
+    let texts: [&[u8]; 5] = [
+        b"10.abc/b",
+        b"10.abcd/a",
+        b"10.abc/a",
+        b"10/abc",
+        b"10.ABC/B",
+    ];
+    for text in texts {
+        let name = Name::read(alloc, text)?;
+        assert!(rt; !rows.exists(&name)?);
+        rows.create(&name, &[])?;
+    }
+    let mut all = vec![in alloc]?;
+    for name in &rows.names(b"10.abc")? {
+        all.extend_from_slice(name.as_slice())?;
+        all.push(b' ')?;
+    }
+    assert_eq!(rt; all.as_slice(), b"10.abc/B 10.abc/a 10.abc/b ".as_slice());
+    Ok(())
+}
+
+#[test]
+fn lists_in_memory(rt: HostRuntime) -> Result<(), Fail> {
+    lists(&rt, rt.alloc(), &mut PlainRows::new(rt.alloc()))
+}
+
+#[test]
+fn lists_behind_a_fuse(rt: HostRuntime) -> Result<(), Fail> {
+    lists(
+        &rt,
+        rt.alloc(),
+        &mut Fuse::new(PlainRows::new(rt.alloc()), 1, 0),
+    )
+}
+
+/// Which of four calls a fuse refuses, and how many it then counted.
+#[test]
+fn fuses(rt: HostRuntime) -> Result<(), Fail> {
+    let name = Name::read(rt.alloc(), b"10/a")?;
+    let rows = [
+        ((1, 1), [true, false, false, false], 1),
+        ((2, 3), [false, true, true, false], 2),
+        ((3, 2), [false, false, false, false], 0),
+        ((1, u64::MAX), [true, true, true, true], 4),
+    ];
+    for ((first, last), refused, count) in rows {
+        let mut rows = Fuse::new(PlainRows::new(rt.alloc()), first, last);
+        for (number, want) in refused.iter().enumerate() {
+            let came = rows.exists(&name);
+            assert_eq!(rt;
+                came == Err(Refused),
+                *want,
+                "call {number} of {first} to {last}"
+            );
+        }
+        assert_eq!(rt; rows.refusals(), count);
+    }
+    Ok(())
+}
+
+/// A refused write leaves the table as it was.
+#[test]
+fn refused_write(rt: HostRuntime) -> Result<(), Fail> {
+    let name = Name::read(rt.alloc(), b"10/a")?;
+    let mut rows = Fuse::new(PlainRows::new(rt.alloc()), 2, 2);
+    assert!(rt; !rows.exists(&name)?);
+    assert_eq!(rt; rows.create(&name, &[]), Err(Refused));
+    assert!(rt; !rows.exists(&name)?);
+    rows.create(&name, &[])?;
+    assert!(rt; rows.exists(&name)?);
+    Ok(())
+}

@@ -1,0 +1,40 @@
+//! How a script is run here. The scripts that aren't made by a loop are files of `hdl_scripts`.
+
+use hdl_replay::replay;
+use hdl_rows::PlainRows;
+use std::alloc::Global;
+use std::process::Abort;
+use std::test::Fail;
+
+/// Two publishers: acme with lanes 0 and 1, bolt with lanes 2 and 3.
+const TENANTS: &str = "publisher acme 2 2641\n\
+     publisher bolt 2 2642\n\
+     prefix 10 acme\n\
+     prefix 10.abc acme\n\
+     prefix 20 bolt\n";
+
+/// Runs a script over an empty table, and compares what it prints, its fault line and its status.
+pub(crate) fn expect(
+    alloc: Global,
+    rt: &impl Abort,
+    what: &str,
+    script: &[u8],
+    status: u8,
+    output: &str,
+    faults: &str,
+) -> Result<(), Fail> {
+    let mut input = script;
+    let mut printed = Vec::new(alloc);
+    let mut told = Vec::new(alloc);
+    let rows = PlainRows::new(alloc);
+    let ended = replay(alloc, rows, &mut input, &mut printed, &mut told);
+    assert_eq!(rt; printed.as_slice(), output.as_bytes(), "{what}: output");
+    assert_eq!(rt; told.as_slice(), faults.as_bytes(), "{what}: faults");
+    assert_eq!(rt; ended, status, "{what}: status");
+    Ok(())
+}
+
+/// The script of these lines behind the tenants.
+pub(crate) fn behind_tenants(rt: &HostRuntime, lines: &str) -> Result<String, Fail> {
+    Ok(format!(in rt.alloc(); "{TENANTS}{lines}")?)
+}

@@ -1,0 +1,304 @@
+use hdl_value::{
+    AdminMask, AdminPermission, Class, ValueFault, admin_of, cut_value, put_value, read_value,
+    vlist_of, write_value,
+};
+use std::alloc::{AllocError, Global};
+use std::test::Fail;
+
+/// The value with this index, type, data and permission, a TTL of a day, and no timestamp and no references.
+fn spelt(
+    alloc: Global,
+    index: u8,
+    kind: &[u8],
+    data: &[u8],
+    perm: u8,
+) -> Result<Vec<u8>, AllocError> {
+    let mut out = vec![in alloc; 0, 0, 0, index]?;
+    let kind_len = u32::try_from(kind.len()).unwrap_or(0);
+    out.extend_from_slice(&kind_len.to_be_bytes())?;
+    out.extend_from_slice(kind)?;
+    let data_len = u32::try_from(data.len()).unwrap_or(0);
+    out.extend_from_slice(&data_len.to_be_bytes())?;
+    out.extend_from_slice(data)?;
+    out.extend_from_slice(&[0, 0, 1, 0x51, 0x80, perm])?;
+    out.extend_from_slice(&[0; 12])?;
+    Ok(out)
+}
+
+/// The value of index 1 whose references are so many of `10/a`, index 1.
+fn spelt_with(alloc: Global, count: u8) -> Result<Vec<u8>, AllocError> {
+    let mut out = spelt(alloc, 1, b"URL", b"", 2)?;
+    out.pop();
+    out.push(count)?;
+    for _ in 0..count {
+        out.extend_from_slice(b"\0\0\0\x0410/a\0\0\0\x01")?;
+    }
+    Ok(out)
+}
+
+fn fault(alloc: Global, octets: &[u8]) -> Option<ValueFault> {
+    read_value(alloc, octets).err()
+}
+
+/// The fault of a value with index 1 in these parts.
+fn fault_of(alloc: Global, kind: &[u8], data: &[u8]) -> Result<Option<ValueFault>, AllocError> {
+    let octets = spelt(alloc, 1, kind, data, 2)?;
+    Ok(fault(alloc, &octets))
+}
+
+/// The value URL of `http://a/` as the protocol prints it, with the two references to `10/a` and `10/b`.
+const PRINTED: [u8; 66] = [
+    0, 0, 0, 1, 0, 0, 0, 3, 0x55, 0x52, 0x4c, 0, 0, 0, 9, 0x68, 0x74, 0x74, 0x70, 0x3a, 0x2f, 0x2f,
+    0x61, 0x2f, 0, 0, 1, 0x51, 0x80, 6, 0, 0, 0, 0, 0, 0, 0, 7, 0, 0, 0, 2, 0, 0, 0, 4, 0x31, 0x30,
+    0x2f, 0x61, 0, 0, 0, 1, 0, 0, 0, 4, 0x31, 0x30, 0x2f, 0x62, 0, 0, 0, 9,
+];
+
+#[test]
+fn reads_what_is_printed(rt: HostRuntime) -> Result<(), Fail> {
+    let (value, count) = read_value(rt.alloc(), &PRINTED)?;
+    assert_eq!(rt;
+        (count, value.index, value.perm, value.stamp),
+        (66, 1, 6, 7)
+    );
+    assert_eq!(rt; value.kind.as_slice(), b"URL".as_slice());
+    assert_eq!(rt; value.bytes.as_slice(), b"http://a/".as_slice());
+    assert_eq!(rt; value.ttl, [0, 0, 1, 0x51, 0x80]);
+    Ok(())
+}
+
+#[test]
+fn reads_printed_references(rt: HostRuntime) -> Result<(), Fail> {
+    let (value, _) = read_value(rt.alloc(), &PRINTED)?;
+    let references = value.refs.into_vec();
+    assert_eq!(rt; references.len(), 2);
+    assert_eq!(rt; references[1].handle.as_slice(), b"10/b".as_slice());
+    assert_eq!(rt; references[1].index, 9);
+    Ok(())
+}
+
+#[test]
+fn writes_what_is_printed(rt: HostRuntime) -> Result<(), Fail> {
+    let (value, _) = read_value(rt.alloc(), &PRINTED)?;
+    let written = write_value(rt.alloc(), &value)?;
+    assert_eq!(rt; written.as_slice(), PRINTED.as_slice());
+    let mut behind = vec![in rt.alloc(); 1, 2]?;
+    put_value(&mut behind, &value)?;
+    assert_eq!(rt; behind.len(), 68);
+    Ok(())
+}
+
+#[test]
+fn copies(rt: HostRuntime) -> Result<(), Fail> {
+    let (value, _) = read_value(rt.alloc(), &PRINTED)?;
+    let copy = value.copy(rt.alloc())?;
+    assert_eq!(rt; copy.bytes.as_slice(), b"http://a/".as_slice());
+    assert_eq!(rt; copy.refs.as_slice().len(), 2);
+    Ok(())
+}
+
+#[test]
+fn octets_may_stand_behind(rt: HostRuntime) -> Result<(), Fail> {
+    let mut octets = spelt(rt.alloc(), 1, b"URL", b"http://a/", 6)?;
+    octets.push(0xff)?;
+    let (_, count) = read_value(rt.alloc(), &octets)?;
+    assert_eq!(rt; count, 42);
+    octets.truncate(41);
+    assert_eq!(rt; fault(rt.alloc(), &octets), Some(ValueFault::Short));
+    Ok(())
+}
+
+#[test]
+fn cuts_where_it_stands(rt: HostRuntime) -> Result<(), Fail> {
+    let octets = spelt(rt.alloc(), 0, b"HS_ADMIN", b"", 6)?;
+    let (cut, behind) = cut_value(&octets).ok_or("a value by its layout")?;
+    assert_eq!(rt; (cut.index(), behind.len()), (0, 0));
+    assert_eq!(rt; cut.kind(), b"HS_ADMIN".as_slice());
+    assert_eq!(rt; cut.octets(), octets.as_slice());
+    assert_eq!(rt; cut.check(), Err(ValueFault::IndexZero));
+    Ok(())
+}
+
+#[test]
+fn reads_what_was_cut(rt: HostRuntime) -> Result<(), Fail> {
+    let (cut, _) = cut_value(&PRINTED).ok_or("a value by its layout")?;
+    assert_eq!(rt; cut.check(), Ok(()));
+    let value = cut.read(rt.alloc())?;
+    assert_eq!(rt; value.bytes.as_slice(), b"http://a/".as_slice());
+    Ok(())
+}
+
+#[test]
+fn index_zero_comes_first(rt: HostRuntime) -> Result<(), Fail> {
+    let octets = spelt(rt.alloc(), 0, &[0; 256], b"", 2)?;
+    assert_eq!(rt; fault(rt.alloc(), &octets), Some(ValueFault::IndexZero));
+    let text = format!(in rt.alloc(); "{}", ValueFault::IndexZero)?;
+    assert_eq!(rt; text.as_str(), "the value's index is 0");
+    Ok(())
+}
+
+#[test]
+fn types_have_255_octets(rt: HostRuntime) -> Result<(), Fail> {
+    assert_eq!(rt; fault_of(rt.alloc(), &[0x41; 255], b"")?, None);
+    assert_eq!(rt;
+        fault_of(rt.alloc(), &[0x41; 256], b"")?,
+        Some(ValueFault::TypeLong)
+    );
+    Ok(())
+}
+
+#[test]
+fn data_has_32768_octets(rt: HostRuntime) -> Result<(), Fail> {
+    assert_eq!(rt; fault_of(rt.alloc(), b"URL", &[0; 32_768])?, None);
+    assert_eq!(rt;
+        fault_of(rt.alloc(), b"URL", &[0; 32_769])?,
+        Some(ValueFault::DataLong)
+    );
+    assert_eq!(rt;
+        fault_of(rt.alloc(), &[0; 256], &[0; 32_769])?,
+        Some(ValueFault::TypeLong)
+    );
+    Ok(())
+}
+
+#[test]
+fn references_are_64(rt: HostRuntime) -> Result<(), Fail> {
+    let octets = spelt_with(rt.alloc(), 64)?;
+    assert_eq!(rt; fault(rt.alloc(), &octets), None);
+    let octets = spelt_with(rt.alloc(), 65)?;
+    assert_eq!(rt; fault(rt.alloc(), &octets), Some(ValueFault::RefsMany));
+    Ok(())
+}
+
+/// The fault of these octets with a number between them.
+fn lie(
+    alloc: Global,
+    front: &[u8],
+    number: u32,
+    back: &[u8],
+) -> Result<Option<ValueFault>, AllocError> {
+    let mut octets = Vec::from_slice(alloc, front)?;
+    octets.extend_from_slice(&number.to_be_bytes())?;
+    octets.extend_from_slice(back)?;
+    Ok(fault(alloc, &octets))
+}
+
+/// Whether both lies in place of the four octets at this place are Short.
+fn lies_are_short(alloc: Global, front: &[u8], back: &[u8]) -> Result<bool, AllocError> {
+    let greatest = lie(alloc, front, 0xffff_ffff, back)?;
+    let half = lie(alloc, front, 0x7fff_ffff, back)?;
+    Ok(greatest == Some(ValueFault::Short) && half == Some(ValueFault::Short))
+}
+
+#[test]
+fn lengths_that_lie_are_short(rt: HostRuntime) -> Result<(), Fail> {
+    assert!(rt;
+        lies_are_short(rt.alloc(), &PRINTED[..4], &PRINTED[8..])?,
+        "the type's length"
+    );
+    assert!(rt;
+        lies_are_short(rt.alloc(), &PRINTED[..11], &PRINTED[15..])?,
+        "the data's length"
+    );
+    assert!(rt;
+        lies_are_short(rt.alloc(), &PRINTED[..38], &PRINTED[42..])?,
+        "the references' count"
+    );
+    assert!(rt;
+        lies_are_short(rt.alloc(), &PRINTED[..42], &PRINTED[46..])?,
+        "a handle's length"
+    );
+    Ok(())
+}
+
+#[test]
+fn bad_administrators(rt: HostRuntime) -> Result<(), Fail> {
+    let behind = fault_of(
+        rt.alloc(),
+        b"HS_ADMIN",
+        b"\x0f\xff\0\0\0\x0410/g\0\0\0\x01\0",
+    )?;
+    assert_eq!(rt; behind, Some(ValueFault::BadAdmin), "one octet behind");
+    let no_slash = fault_of(rt.alloc(), b"HS_ADMIN", b"\x0f\xff\0\0\0\x0210\0\0\0\x01")?;
+    assert_eq!(rt;
+        no_slash,
+        Some(ValueFault::BadAdmin),
+        "a handle without a slash"
+    );
+    let other = fault_of(rt.alloc(), b"hs_admin", b"")?;
+    assert_eq!(rt; other, None, "another type");
+    Ok(())
+}
+
+#[test]
+fn bad_lists(rt: HostRuntime) -> Result<(), Fail> {
+    let missing = fault_of(rt.alloc(), b"HS_VLIST", b"\0\0\0\x01")?;
+    assert_eq!(rt;
+        missing,
+        Some(ValueFault::BadList),
+        "a reference is missing"
+    );
+    let lie = fault_of(rt.alloc(), b"HS_VLIST", b"\xff\xff\xff\xff")?;
+    assert_eq!(rt; lie, Some(ValueFault::BadList), "a count that lies");
+    let empty = fault_of(rt.alloc(), b"HS_VLIST", b"\0\0\0\0")?;
+    assert_eq!(rt; empty, None, "an empty list");
+    Ok(())
+}
+
+#[test]
+fn administrators(rt: HostRuntime) -> Result<(), Fail> {
+    let data = b"\x0f\xff\0\0\0\x0410/g\0\0\0\x01";
+    let octets = spelt(rt.alloc(), 1, b"HS_ADMIN", data, 2)?;
+    let (value, _) = read_value(rt.alloc(), &octets)?;
+    let (mask, reference) = admin_of(rt.alloc(), &value)?.ok_or("an administrator")?;
+    assert_eq!(rt; (mask, reference.index), (AdminMask(0x0fff), 1));
+    assert_eq!(rt; reference.name.canon(), b"10/g".as_slice());
+    assert!(rt; vlist_of(rt.alloc(), &value)?.is_none());
+    Ok(())
+}
+
+#[test]
+fn empty_lists(rt: HostRuntime) -> Result<(), Fail> {
+    let octets = spelt(rt.alloc(), 1, b"HS_VLIST", b"\0\0\0\0", 2)?;
+    let (value, _) = read_value(rt.alloc(), &octets)?;
+    let listed = vlist_of(rt.alloc(), &value)?.ok_or("a list")?;
+    assert!(rt; listed.is_empty());
+    assert!(rt; admin_of(rt.alloc(), &value)?.is_none());
+    Ok(())
+}
+
+#[test]
+fn lists_keep_index_zero(rt: HostRuntime) -> Result<(), Fail> {
+    let data = b"\0\0\0\x01\0\0\0\x0410/G\0\0\0\0";
+    let octets = spelt(rt.alloc(), 1, b"HS_VLIST", data, 2)?;
+    let (value, _) = read_value(rt.alloc(), &octets)?;
+    let listed = vlist_of(rt.alloc(), &value)?.ok_or("a list")?;
+    assert_eq!(rt; listed.len(), 1);
+    assert_eq!(rt; listed[0].name.sent(), b"10/G".as_slice());
+    assert_eq!(rt; listed[0].index, 0);
+    Ok(())
+}
+
+/// The class of a value with this permission octet.
+fn class(alloc: Global, perm: u8) -> Result<Class, Fail> {
+    let octets = spelt(alloc, 1, b"URL", b"", perm)?;
+    let (value, _) = read_value(alloc, &octets)?;
+    Ok(value.class())
+}
+
+#[test]
+fn classes(rt: HostRuntime) -> Result<(), Fail> {
+    assert_eq!(rt; class(rt.alloc(), 0x0a)?, Class::Public, "both read bits");
+    assert_eq!(rt; class(rt.alloc(), 0x02)?, Class::Public);
+    assert_eq!(rt; class(rt.alloc(), 0x08)?, Class::Kept);
+    assert_eq!(rt; class(rt.alloc(), 0xf5)?, Class::Hidden);
+    Ok(())
+}
+
+#[test]
+fn masks() {
+    let mask = AdminMask(0xf400).union(AdminMask(0x0001));
+    prove!(mask.0 == 0xf401);
+    let reads = mask.permits(AdminPermission::AuthorizedRead);
+    let lists = mask.permits(AdminPermission::ListHandle);
+    prove!(reads && !lists);
+}

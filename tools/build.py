@@ -1,0 +1,162 @@
+"""Builds the proved program `handled` for ./run, and says how far it is: which crate, how much of it, and about how many minutes are left.
+
+On four processors and more it is `rt run` alone, which proves a crate at a time with several jobs; on fewer `rt all check` comes before it, which
+takes less work. Both keep each proof as it is made, so a break (Ctrl-C) loses little and the next start goes on from there."""
+
+import glob
+import os
+import re
+import signal
+import subprocess
+import sys
+import threading
+import time
+
+PROGRAM = "handled"
+LOG = "crates/handled/out/build.log"
+# Processor seconds to load a crate's libraries: of any crate, and of one over a large library of the kit.
+LOAD, LARGE_LOAD = 15, 60
+LARGE = {"clap", "sqlite"}
+# Processor seconds to prove a line of code.
+PER_LINE = 0.15
+# How many processors such a build keeps busy.
+BUSY = {1: 1.0, 2: 1.7, 3: 1.8}
+MOST_BUSY = 1.9
+EVERY = 20
+
+
+def processors():
+    return len(os.sched_getaffinity(0))
+
+
+def stands_on():
+    lines = (line.split("#")[0].strip() for line in open("crates.txt", encoding="utf-8"))
+    named = (line.partition(":") for line in lines if line)
+    return {name.split()[0]: below.split() for name, _, below in named}
+
+
+def below(crate, graph):
+    """The crate and all of the repository that it stands on."""
+    found = {crate}
+    for name in graph[crate]:
+        if name in graph and name not in found:
+            found |= below(name, graph)
+    return found
+
+
+def is_built(crate):
+    kept = "out/rlib/stamp" if os.path.isfile(f"crates/{crate}/src/lib.rt") else f"out/{crate}.stamp"
+    return os.path.isfile(f"crates/{crate}/{kept}")
+
+
+def source(crate):
+    """The crate's code without its tests, which no build reads."""
+    texts = {file: open(file, encoding="utf-8").read() for file in glob.glob(f"crates/{crate}/src/**/*.rt", recursive=True)}
+    tests = re.findall(r"#\[cfg\(test\)\]\s*mod (\w+);", "\n".join(texts.values()))
+    return "\n".join(text for file, text in texts.items() if os.path.basename(file)[: -len(".rt")] not in tests)
+
+
+def weight(crate, graph):
+    load = LARGE_LOAD if LARGE & set(graph[crate]) else LOAD
+    return load + PER_LINE * source(crate).count("\n")
+
+
+def part_kept(crate):
+    """About how much of the crate's functions has a proof that was kept."""
+    proofs = len(glob.glob(f"crates/{crate}/out/incremental/antt*/Rattle-*.Proof.oantt"))
+    functions = max(1, len(re.findall(r"\bfn \w", source(crate))) + source(crate).count("#[derive("))
+    return min(0.95, proofs / functions)
+
+
+class Progress:
+    def __init__(self, crates, graph):
+        self.weights = {crate: weight(crate, graph) for crate in crates}
+        self.left, self.started = list(crates), time.time()
+        # The crate of which the checker last said that it begins, and how much of each crate it said is done.
+        self.current, self.said = None, {}
+        self.before = self.done()
+        self.ended = threading.Event()
+
+    def part(self, crate):
+        return max(part_kept(crate), self.said.get(crate, 0.0)) if crate in self.left else 1.0
+
+    def done(self):
+        return sum(cost * self.part(crate) for crate, cost in self.weights.items())
+
+    def minutes_left(self):
+        past, done = time.time() - self.started, self.done() - self.before
+        rest = sum(self.weights.values()) - self.done()
+        guess = BUSY.get(processors(), MOST_BUSY)
+        # the first guess counts as two minutes of experience
+        speed = (done + 120 * guess) / (past + 120)
+        return max(1, round(rest / speed / 60))
+
+    def say(self):
+        began = [crate for crate in self.left if self.part(crate) > 0 or crate == self.current]
+        parts = ", ".join(f"{crate} {self.part(crate):.0%}" for crate in began[:3]) or "reading the libraries"
+        whole = len(self.weights)
+        past = (time.time() - self.started) / 60
+        tell(f"{whole - len(self.left)} of {whole} crates proved; {parts}; {past:.0f} minutes, about {self.minutes_left()} left")
+
+    def heard(self, line):
+        ended = re.match(r"crate (\w+): modules loaded=", line)
+        began = re.match(r"rt: chose --jobs \d+ for (\w+)", line)
+        so_far = re.match(r"so far: (\d+) of (\d+) functions checked", line)
+        if ended and ended[1] in self.left:
+            self.left.remove(ended[1])
+        elif began:
+            self.current = began[1]
+        elif so_far and self.current:
+            self.said[self.current] = 0.95 * int(so_far[1]) / max(1, int(so_far[2]))
+
+    def tick(self):
+        while not self.ended.wait(EVERY):
+            self.say()
+
+
+def tell(what):
+    print(f"run: {what}", file=sys.stderr, flush=True)
+
+
+def ran(words, folder, log, progress):
+    """Runs a command that takes no input, keeps what it says in the log, and answers its status."""
+    how = {"stdin": subprocess.DEVNULL, "stdout": subprocess.PIPE, "stderr": subprocess.STDOUT}
+    child = subprocess.Popen(words, cwd=folder, text=True, errors="replace", **how)
+    try:
+        for line in child.stdout:
+            log.write(line)
+            log.flush()
+            progress.heard(line)
+        return child.wait()
+    except KeyboardInterrupt:
+        child.send_signal(signal.SIGINT)
+        child.wait()
+        raise
+
+
+def main():
+    graph = stands_on()
+    wanted = below(PROGRAM, graph)
+    is_small = processors() < 4
+    left = [crate for crate in graph if crate in wanted and not is_built(crate)]
+    progress = Progress(left, graph)
+    if len(left) > 1:
+        tell(f"the first build proves {len(left)} crates, in about {progress.minutes_left()} minutes on {processors()} processors")
+        tell("Ctrl-C loses little: the next ./run goes on from there. ./try runs a script in about a minute, without proofs.")
+    threading.Thread(target=progress.tick, daemon=True).start()
+    os.makedirs(os.path.dirname(LOG), exist_ok=True)
+    try:
+        with open(LOG, "w", encoding="utf-8") as log:
+            status = ran(["rt", "all", "check"], ".", log, progress) if is_small and len(left) > 1 else 0
+            status = status or ran(["rt", "run", "--", "--help"], f"crates/{PROGRAM}", log, progress)
+    except KeyboardInterrupt:
+        tell("stopped; the next ./run goes on from here")
+        return 130
+    progress.ended.set()
+    if status:
+        tell(f"not proved or not built; what was said stands in {LOG}, and ends so:")
+        print(*open(LOG, encoding="utf-8").read().splitlines()[-20:], sep="\n", file=sys.stderr)
+    return status
+
+
+sys.exit(main())
