@@ -95,8 +95,8 @@ class Progress:
         began = [crate for crate in self.left if self.part(crate) > 0 or crate == self.current]
         parts = ", ".join(f"{crate} {self.part(crate):.0%}" for crate in began[:3]) or "reading the libraries"
         whole = len(self.weights)
-        past = (time.time() - self.started) / 60
-        tell(f"{whole - len(self.left)} of {whole} crates proved; {parts}; {past:.0f} minutes, about {self.minutes_left()} left")
+        past = round((time.time() - self.started) / 60)
+        tell(f"{whole - len(self.left)} of {whole} crates proved; {parts}; after {minutes(past)}, about {minutes(self.minutes_left())} left")
 
     def heard(self, line):
         ended = re.match(r"crate (\w+): modules loaded=", line)
@@ -112,6 +112,10 @@ class Progress:
     def tick(self):
         while not self.ended.wait(EVERY):
             self.say()
+
+
+def minutes(count):
+    return "1 minute" if count == 1 else f"{count} minutes"
 
 
 def tell(what):
@@ -141,7 +145,7 @@ def main():
     left = [crate for crate in graph if crate in wanted and not is_built(crate)]
     progress = Progress(left, graph)
     if len(left) > 1:
-        tell(f"the first build proves {len(left)} crates, in about {progress.minutes_left()} minutes on {processors()} processors")
+        tell(f"the first build proves {len(left)} crates, in about {minutes(progress.minutes_left())} on {processors()} processors that nothing else uses")
         tell("Ctrl-C loses little: the next ./run goes on from there. ./try runs a script in about a minute, without proofs.")
     threading.Thread(target=progress.tick, daemon=True).start()
     os.makedirs(os.path.dirname(LOG), exist_ok=True)

@@ -11,15 +11,14 @@
 //! machine has: sockets, a clock, random numbers and threads. No contract can say what these give, so the doors here tell
 //! nothing, and nothing is promised of octets on a wire.
 //!
-//! It stands on `hdl_serve`, `hdl_lanes`, `hdl_core` and `hdl_sqlrows`, and on `hdl_replay` for the faults of the program.
+//! It stands on `hdl_serve`, `hdl_core` and `hdl_sqlrows`, and on `hdl_replay` for the faults of the program.
 #![tactic(auto)]
 
-mod host;
-mod lanes;
+mod hosting;
 mod sockets;
 mod workers;
 
-pub use host::{host, hosted};
+pub use hosting::{host, hosted};
 
 #[cfg(test)]
 mod tests;

@@ -3,11 +3,10 @@
 ghost use Rattle.std.specs.Prelude.{◌≡◌, []};
 ghost use Rattle.hdl_lanes.specs.Lane.{put_into, taken_from};
 
-use crate::host::{Place, had};
-use crate::lanes::Far;
+use crate::hosting::{Place, had};
 use crate::sockets::{MachineClock, MachineNonces, SocketDoor, SocketPackets};
 use hdl_replay::Fault;
-use hdl_serve::{Why, WorkerEnd, packet_worker, stream_worker};
+use hdl_serve::{Far, Why, WorkerEnd, packet_worker, stream_worker};
 use rand::make_rng;
 use std::alloc::Global;
 use std::net::{TcpListener, UdpSocket};

@@ -17,7 +17,7 @@ pub(crate) struct Line {
 }
 
 impl Line {
-    ghost use Rattle.std.specs.Prelude.{◌≡◌, ◌++◌, ◌∷◌, [], IsTrue, MatchOption};
+    ghost use Rattle.std.specs.Prelude.{◌≡◌, ◌<◌, ◌++◌, ◌∷◌, [], IsSome, IsTrue, MatchOption};
     ghost use Rattle.hdl_serve.specs.declared.item.Item.TheVariants.{Event};
     ghost use Rattle.hdl_serve.specs.Line.{put_by, taken_by, HasPlace, SameLine};
 
@@ -49,6 +49,7 @@ impl Line {
         ensures line { SameLine self.old self.new }
         ensures taken { MatchOption result (taken_by self.new ≡ taken_by self.old) (λ outcome. taken_by self.new ≡ taken_by self.old ++ outcome ∷ []) }
         ensures put { put_by self.new ≡ put_by self.old }
+        ensures waiting { IsSome result → self.new.waiting < self.old.waiting }
     {
         if self.waiting == 0 {
             return None;

@@ -241,7 +241,11 @@ fn serve_packets<P: Packets, C: Clock, N: Nonces>(
     Why::Turns
 }
 
-/// Serves one datagram after the other.
+/// Serves one datagram after the other until the turns are spent or `receive` fails: then it puts End and ends with Device.
+///
+/// It puts Open, and a Frame for each datagram that is one frame, in order, with the peer that sent it; other datagrams are dropped.
+/// Each outcome's octets are sent as their pieces to its event's peer before the next datagram is received; where a send fails the rest
+/// of that reply is dropped. Growths, full rings, moments and nonces are as with [`stream_worker`](crate::stream_worker).
 #[tactic(auto, using(crate::proofs::Used::ended_rules))]
 pub fn packet_worker<P: Packets, C: Clock, N: Nonces>(
     alloc: Global,

@@ -1,16 +1,21 @@
 //! Outcomes on their way to the open connection.
 
-ghost use Rattle.std.specs.Prelude.{◌≡◌, ◌≤◌, ◌<◌, ◌++◌, IsTrue, OnOk, IfErr, true, length};
+ghost use Rattle.std.specs.Prelude.{◌≡◌, ◌≤◌, ◌<◌, ◌++◌, ◌∷◌, [], List, IsTrue, MatchOption, OnOk, IfErr, true, length};
 ghost use mathlib.Core.List.{IsPrefix};
+ghost use Rattle.hdl_laws.specs.declared.events.Outcome.{Outcome};
 ghost use Rattle.hdl_serve.specs.declared.worker.Stop.TheVariants.{Broken};
 ghost use Rattle.hdl_serve.specs.Octets.{octets_of};
 ghost use Rattle.hdl_serve.specs.Door.{say};
-ghost use Rattle.hdl_serve.specs.Line.{put_by, taken_by, HasPlace, SameLine, Relayed, RelayedPart};
+ghost use Rattle.hdl_serve.specs.Line.{put_by, taken_by, HasPlace, SameLine, Joins, Relayed, RelayedPart};
 
 use crate::line::Line;
 use crate::worker::{Stop, spend};
 use crate::{Clock, Door};
+use arrayvec::ArrayVec;
 use hdl_laws::Outcome;
+
+/// The most octets that are joined into one write.
+const JOINED: usize = 8192;
 
 /// Writes the octets to the open connection.
 fn write_all<D: Door>(door: &mut D, octets: &[u8], turns: &mut u64) -> Result<(), Stop>
@@ -59,7 +64,58 @@ fn write_outcome<D: Door>(door: &mut D, outcome: &Outcome, turns: &mut u64) -> R
     write_all(door, octets_of(outcome), turns)
 }
 
-/// One try to take an outcome, which is then written.
+/// Takes the outcomes that are there while their octets find room behind those that are joined. The one that found none.
+fn join(line: &mut Line, joined: &mut ArrayVec<u8, JOINED>) -> Option<Outcome>
+    ensures line { SameLine line.old line.new }
+    ensures put { put_by line.new ≡ put_by line.old }
+    ensures joined { MatchOption result
+        (Joins (taken_by line.old) joined.old.items (taken_by line.new) joined.new.items)
+        (λ last. (u : List Outcome) × (taken_by line.new ≡ u ++ last ∷ []) × Joins (taken_by line.old) joined.old.items u joined.new.items) }
+{
+    while line.waiting > 0 {
+        match line.next() {
+            None => return None,
+            Some(outcome) => match joined.try_extend_from_slice(octets_of(&outcome)) {
+                Ok(()) => {}
+                Err(_) => return Some(outcome),
+            },
+        }
+    }
+    None
+}
+
+/// Writes an outcome that was taken, and in the same write those that are there and find room in it.
+fn write_joined<D: Door>(
+    door: &mut D,
+    line: &mut Line,
+    first: Outcome,
+    turns: &mut u64,
+) -> Result<(), Stop>
+    ensures turns { turns.new ≤ turns.old }
+    ensures faults { D.fault_count door.old ≤ D.fault_count door.new }
+    ensures still_open { D.is_open door.new ≡ D.is_open door.old }
+    ensures line { SameLine line.old line.new }
+    ensures put { put_by line.new ≡ put_by line.old }
+    ensures ended { IsTrue D.tells → D.ended door.new ≡ D.ended door.old }
+    ensures whole { IsTrue D.tells → OnOk result ((t : List Outcome) → taken_by line.old ≡ t ++ first ∷ [] → Relayed t (D.current door.old) (taken_by line.new) (D.current door.new)) }
+    ensures part { IsTrue D.tells → (t : List Outcome) → taken_by line.old ≡ t ++ first ∷ [] → RelayedPart t (D.current door.old) (taken_by line.new) (D.current door.new) }
+    ensures broken { IsTrue D.tells → IfErr result (λ stop. stop ≡ Broken → (D.current door.new).broken ≡ true) }
+{
+    let mut joined = ArrayVec::new();
+    match joined.try_extend_from_slice(octets_of(&first)) {
+        Err(_) => write_outcome(door, &first, turns),
+        Ok(()) => {
+            let last = join(line, &mut joined);
+            write_all(door, joined.as_slice(), turns)?;
+            match last {
+                Some(outcome) => write_outcome(door, &outcome, turns),
+                None => Ok(()),
+            }
+        }
+    }
+}
+
+/// One try to take an outcome, which is then written, and with it those that are there.
 fn relay<D: Door, C: Clock>(
     door: &mut D,
     line: &mut Line,
@@ -81,7 +137,7 @@ fn relay<D: Door, C: Clock>(
         return Err(Stop::Turns);
     }
     match line.next() {
-        Some(outcome) => write_outcome(door, &outcome, turns),
+        Some(outcome) => write_joined(door, line, outcome, turns),
         None => {
             clock.pause();
             Ok(())

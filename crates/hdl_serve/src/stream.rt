@@ -396,7 +396,13 @@ fn serve_door<D: Door, C: Clock, N: Nonces>(
     Why::Turns
 }
 
-/// Serves one connection after the other.
+/// Serves one connection after the other until the turns are spent or `accept` fails: then it puts End and ends with Device.
+///
+/// Of each connection it puts Open, every frame that was read, Bad where a faulty envelope stands next, and Close. It reads at most
+/// 8,192 octets at a time, and again only once each event that it put has its outcome and that was written. What it writes is the
+/// octets of the outcomes, in order. Where a read or a write fails it puts Close and goes on with the next connection; octets of
+/// an unfinished frame are dropped. A growth that is refused is tried again, as a turn; where the ring is full it takes outcomes and
+/// puts again. Each frame has the next moment of the clock and the next nonce of the source, and none of these is left out.
 pub fn stream_worker<D: Door, C: Clock, N: Nonces>(
     alloc: Global,
     door: &mut D,

@@ -21,7 +21,7 @@ pub enum Why {
     Device,
 }
 
-/// The lane's ends, for the thread that joins the worker.
+/// Why a worker ended, and its ends of the lane, for the thread that joins it: by them both rings are settled.
 #[derive(Drop)]
 pub struct WorkerEnd {
     pub why: Why,

@@ -2,13 +2,13 @@
 
 ghost use Rattle.std.specs.Prelude.{◌≡◌};
 ghost use Rattle.hdl_rows.specs.Table.{no_rows};
+ghost use Rattle.hdl_serve.specs.Served.{AreDistinct};
 
-use crate::lanes::lanes_of;
 use crate::sockets::MachineClock;
 use crate::workers::{join_all, start};
 use hdl_core::{Rows, Service, Tenants};
 use hdl_replay::{Fault, put_all};
-use hdl_serve::serve;
+use hdl_serve::{Far, LaneEnds, lanes_of, serve};
 use hdl_sqlrows::SqlRows;
 use std::alloc::Global;
 use std::io::{self, Write};
@@ -17,6 +17,9 @@ use std::random::RandomSource;
 use std::rt::Clock;
 use std::thread::Threads;
 use std::time::Duration;
+
+/// How many items a lane's ring has room for, each way.
+const RING: usize = 16;
 
 /// A publisher's sockets, and how many lanes share them.
 #[derive(Drop)]
@@ -71,6 +74,32 @@ fn places_of<R: Net<Listener = TcpListener, Stream = TcpStream>>(
     Ok((places, lines))
 }
 
+/// Starts the workers, serves on this thread, and joins them.
+fn served<R: Threads + Clock + RandomSource + Copy + Send + Drop + 'static, T: Rows + Drop>(
+    rt: &R,
+    alloc: Global,
+    service: Service<T>,
+    places: Vec<Place>,
+    sides: (Vec<LaneEnds>, Vec<Far>),
+    turns: u64,
+) -> Result<(), Fault>
+    requires distinct { AreDistinct sides.0.items }
+{
+    let (ends, far) = sides;
+    let workers = start(rt, alloc, places, far, turns)?;
+    let mut clock = MachineClock::new(*rt);
+    drop(serve(alloc, service, ends, &mut clock, turns));
+    join_all(rt, workers)
+}
+
+/// The tenants of a text, or its first fault.
+fn tenants_of(alloc: Global, text: &str) -> Result<Tenants, Fault> {
+    match Tenants::read(alloc, text) {
+        Ok(tenants) => Ok(tenants),
+        Err((line, fault)) => Err(Fault::Tenants(line, fault)),
+    }
+}
+
 /// Serves the tenants of the text over an empty table. The lines that tell where are written once all sockets listen, and before
 /// a worker starts. Each worker and the service have so many turns.
 ///
@@ -90,18 +119,12 @@ pub fn hosted<
 >(rt: &R, alloc: Global, rows: T, text: &str, turns: u64, output: &mut W) -> Result<(), Fault>
     requires empty { T.content rows ≡ no_rows }
 {
-    let tenants = match Tenants::read(alloc, text) {
-        Ok(tenants) => tenants,
-        Err((line, fault)) => return Err(Fault::Tenants(line, fault)),
-    };
-    let (ends, far) = lanes_of(alloc, tenants.lanes())?;
+    let tenants = tenants_of(alloc, text)?;
+    let sides = lanes_of(alloc, tenants.lanes(), RING)?;
     let (places, lines) = places_of(rt, alloc, &tenants)?;
     let service = Service::open(alloc, tenants, rows)?;
     put_all(output, lines.as_bytes())?;
-    let workers = start(rt, alloc, places, far, turns)?;
-    let mut clock = MachineClock::new(*rt);
-    drop(serve(alloc, service, ends, &mut clock, turns));
-    join_all(rt, workers)
+    served(rt, alloc, service, places, sides, turns)
 }
 
 /// Serves the tenants of the text over TCP and UDP on loopback, over a table in SQL, until each worker ended or the turns are

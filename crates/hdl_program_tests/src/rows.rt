@@ -1,25 +1,24 @@
 //! Every call through the bound, over a table in memory and over a fuse of it.
 
-use crate::made::value;
+use crate::writes::{add, create, delete, modify, reference, remove};
 use hdl_name::Name;
 use hdl_rows::{Fuse, PlainRows, Refused, Rows};
-use hdl_value::{Reference, Value};
+use hdl_tests::made::value;
+use hdl_value::Value;
 use std::alloc::Global;
 use std::process::Abort;
 use std::test::Fail;
-
-fn reference(alloc: Global, text: &[u8], index: u32) -> Result<Reference, Fail> {
-    Ok(Reference {
-        name: Name::read(alloc, text)?,
-        index,
-    })
-}
 
 /// Whether the values have these indexes and data, in this order.
 fn are(values: &[Value], wanted: &[(u32, &[u8])]) -> bool {
     values.len() == wanted.len()
         && values.iter().zip(wanted).all(|(value, want)| value.index == want.0
             && value.bytes.as_slice() == want.1)
+}
+
+/// Whether the handle is there with these values.
+fn holds<R: Rows>(rows: &mut R, name: &Name, wanted: &[(u32, &[u8])]) -> Result<bool, Fail> {
+    Ok(rows.exists(name)? && are(&rows.values(name)?, wanted))
 }
 
 /// Values come out by rising index, in whatever order they were given, and a name stands for its canonical form.
@@ -30,11 +29,9 @@ fn creates<R: Rows>(rt: &impl Abort, alloc: Global, rows: &mut R) -> Result<(), 
         value(alloc, 2, b"URL", b"two")?,
         value(alloc, 5, b"URL", b"")?,
     ];
-    assert!(rt; !rows.exists(&sent)?);
-    rows.create(&sent, &all)?;
+    create(rt, rows, &sent, &all)?;
     let same = Name::read(alloc, b"10.abc/x")?;
-    assert!(rt; rows.exists(&same)?);
-    assert!(rt; are(&rows.values(&same)?, &[(2, b"two"), (5, b""), (9, b"nine")]));
+    assert!(rt; holds(rows, &same, &[(2, b"two"), (5, b""), (9, b"nine")])?);
     Ok(())
 }
 
@@ -51,46 +48,36 @@ fn other_local_name<R: Rows>(rt: &impl Abort, alloc: Global, rows: &mut R) -> Re
 /// An added value comes among those that are there.
 fn adds<R: Rows>(rt: &impl Abort, alloc: Global, rows: &mut R) -> Result<(), Fail> {
     let place = reference(alloc, b"10.abc/x", 3)?;
-    assert!(rt; rows.exists(&place.name)?);
-    assert!(rt; rows.at(&place)?.is_none());
-    rows.add(&place.name, &[value(alloc, place.index, b"URL", b"three")?])?;
+    let three = value(alloc, place.index, b"URL", b"three")?;
+    add(rt, rows, &place, three)?;
     let wanted: [(u32, &[u8]); 4] = [(2, b"two"), (3, b"three"), (5, b""), (9, b"nine")];
-    assert!(rt; are(&rows.values(&place.name)?, &wanted));
+    assert!(rt; holds(rows, &place.name, &wanted)?);
     Ok(())
 }
 
 /// A modified value is replaced whole.
 fn modifies<R: Rows>(rt: &impl Abort, alloc: Global, rows: &mut R) -> Result<(), Fail> {
     let place = reference(alloc, b"10.abc/x", 3)?;
-    assert!(rt; rows.exists(&place.name)?);
-    assert!(rt; rows.at(&place)?.is_some());
-    rows.modify(&place.name, &[value(alloc, place.index, b"URL", b"")?])?;
+    let empty = value(alloc, place.index, b"URL", b"")?;
+    modify(rt, rows, &place, empty)?;
     let wanted: [(u32, &[u8]); 4] = [(2, b"two"), (3, b""), (5, b""), (9, b"nine")];
-    assert!(rt; are(&rows.values(&place.name)?, &wanted));
+    assert!(rt; holds(rows, &place.name, &wanted)?);
     Ok(())
 }
 
 /// A removed value is gone, and the handle stays.
 fn removes<R: Rows>(rt: &impl Abort, alloc: Global, rows: &mut R) -> Result<(), Fail> {
     let place = reference(alloc, b"10.abc/x", 5)?;
-    assert!(rt; rows.exists(&place.name)?);
-    assert!(rt; rows.at(&place)?.is_some());
-    rows.remove(&place.name, &[place.index])?;
-    assert!(rt; rows.exists(&place.name)?);
-    assert!(rt;
-        are(
-            &rows.values(&place.name)?,
-            &[(2, b"two"), (3, b""), (9, b"nine")]
-        )
-    );
+    remove(rt, rows, &place)?;
+    let wanted: [(u32, &[u8]); 3] = [(2, b"two"), (3, b""), (9, b"nine")];
+    assert!(rt; holds(rows, &place.name, &wanted)?);
     Ok(())
 }
 
 /// A deleted handle is gone with its values.
 fn deletes<R: Rows>(rt: &impl Abort, alloc: Global, rows: &mut R) -> Result<(), Fail> {
     let name = Name::read(alloc, b"10.abc/x")?;
-    assert!(rt; rows.exists(&name)?);
-    rows.delete(&name)?;
+    delete(rt, rows, &name)?;
     assert!(rt; !rows.exists(&name)?);
     assert!(rt; are(&rows.values(&name)?, &[]));
     Ok(())
@@ -119,6 +106,16 @@ fn each_call_behind_a_fuse(rt: HostRuntime) -> Result<(), Fail> {
     )
 }
 
+/// The handles of an authority, with a space behind each.
+fn listed<R: Rows>(alloc: Global, rows: &mut R, authority: &[u8]) -> Result<Vec<u8>, Fail> {
+    let mut all = vec![in alloc]?;
+    for name in &rows.names(authority)? {
+        all.extend_from_slice(name.as_slice())?;
+        all.push(b' ')?;
+    }
+    Ok(all)
+}
+
 /// The handles of an authority rise by octets, and those of a longer authority that begins alike are left out.
 pub(crate) fn lists<R: Rows>(rt: &impl Abort, alloc: Global, rows: &mut R) -> Result<(), Fail> {
     let texts: [&[u8]; 5] = [
@@ -129,15 +126,9 @@ pub(crate) fn lists<R: Rows>(rt: &impl Abort, alloc: Global, rows: &mut R) -> Re
         b"10.ABC/B",
     ];
     for text in texts {
-        let name = Name::read(alloc, text)?;
-        assert!(rt; !rows.exists(&name)?);
-        rows.create(&name, &[])?;
+        create(rt, rows, &Name::read(alloc, text)?, &[])?;
     }
-    let mut all = vec![in alloc]?;
-    for name in &rows.names(b"10.abc")? {
-        all.extend_from_slice(name.as_slice())?;
-        all.push(b' ')?;
-    }
+    let all = listed(alloc, rows, b"10.abc")?;
     assert_eq!(rt; all.as_slice(), b"10.abc/B 10.abc/a 10.abc/b ".as_slice());
     Ok(())
 }
@@ -156,6 +147,15 @@ fn lists_behind_a_fuse(rt: HostRuntime) -> Result<(), Fail> {
     )
 }
 
+/// Whether just these of four calls are refused, and so many are then counted.
+fn refuses(fuse: &mut Fuse<PlainRows>, name: &Name, refused: &[bool; 4], count: u64) -> bool {
+    let mut are_these = true;
+    for want in refused {
+        are_these &= (fuse.exists(name) == Err(Refused)) == *want;
+    }
+    are_these && fuse.refusals() == count
+}
+
 /// Which of four calls a fuse refuses, and how many it then counted.
 #[test]
 fn fuses(rt: HostRuntime) -> Result<(), Fail> {
@@ -167,29 +167,27 @@ fn fuses(rt: HostRuntime) -> Result<(), Fail> {
         ((1, u64::MAX), [true, true, true, true], 4),
     ];
     for ((first, last), refused, count) in rows {
-        let mut rows = Fuse::new(PlainRows::new(rt.alloc()), first, last);
-        for (number, want) in refused.iter().enumerate() {
-            let came = rows.exists(&name);
-            assert_eq!(rt;
-                came == Err(Refused),
-                *want,
-                "call {number} of {first} to {last}"
-            );
-        }
-        assert_eq!(rt; rows.refusals(), count);
+        let mut fuse = Fuse::new(PlainRows::new(rt.alloc()), first, last);
+        assert!(rt;
+            refuses(&mut fuse, &name, &refused, count),
+            "{first} to {last}"
+        );
     }
     Ok(())
 }
 
 /// A refused write leaves the table as it was.
+fn refused_and_made(rt: &impl Abort, fuse: &mut Fuse<PlainRows>, name: &Name) -> Result<(), Fail> {
+    assert!(rt; !fuse.exists(name)?);
+    assert_eq!(rt; fuse.create(name, &[]), Err(Refused));
+    create(rt, fuse, name, &[])?;
+    assert!(rt; fuse.exists(name)?);
+    Ok(())
+}
+
 #[test]
 fn refused_write(rt: HostRuntime) -> Result<(), Fail> {
     let name = Name::read(rt.alloc(), b"10/a")?;
-    let mut rows = Fuse::new(PlainRows::new(rt.alloc()), 2, 2);
-    assert!(rt; !rows.exists(&name)?);
-    assert_eq!(rt; rows.create(&name, &[]), Err(Refused));
-    assert!(rt; !rows.exists(&name)?);
-    rows.create(&name, &[])?;
-    assert!(rt; rows.exists(&name)?);
-    Ok(())
+    let mut fuse = Fuse::new(PlainRows::new(rt.alloc()), 2, 2);
+    refused_and_made(&rt, &mut fuse, &name)
 }

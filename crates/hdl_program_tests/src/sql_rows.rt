@@ -3,6 +3,8 @@
 ghost use Rattle.std.specs.Prelude.{◌≡◌, IfOk};
 
 use crate::rows::{each_call, lists};
+use crate::values::great;
+use crate::writes::{add, create, delete, modify, reference, remove};
 use hdl_name::Name;
 use hdl_rows::{Octets, PlainRows, Rows};
 use hdl_sqlrows::SqlRows;
@@ -25,13 +27,6 @@ fn octets(alloc: Global, text: &[u8]) -> Result<Octets, AllocError> {
     Ok(Octets::new(Vec::from_slice(alloc, text)?))
 }
 
-fn reference(alloc: Global, text: &[u8], index: u32) -> Result<Reference, Fail> {
-    Ok(Reference {
-        name: Name::read(alloc, text)?,
-        index,
-    })
-}
-
 /// A value whose fields are all the least, with this index.
 fn least(alloc: Global, index: u32) -> Result<Value, AllocError>
     ensures { IfOk result (λ v. v.index ≡ index) }
@@ -44,28 +39,6 @@ fn least(alloc: Global, index: u32) -> Result<Value, AllocError>
         perm: 0,
         stamp: 0,
         refs: RawRefs::new(Vec::new(alloc)),
-    })
-}
-
-/// A value whose fields are all great, with this index and this data.
-fn great(alloc: Global, index: u32, bytes: &[u8]) -> Result<Value, AllocError>
-    ensures { IfOk result (λ v. v.index ≡ index) }
-{
-    let mut refs = Vec::new(alloc);
-    for index in [u32::MAX, 0] {
-        refs.push(RawRef {
-            handle: octets(alloc, bytes)?,
-            index,
-        })?;
-    }
-    Ok(Value {
-        index,
-        kind: octets(alloc, &[255; 255])?,
-        bytes: octets(alloc, bytes)?,
-        ttl: [255, 0, 1, 2, 254],
-        perm: 255,
-        stamp: u64::MAX,
-        refs: RawRefs::new(refs),
     })
 }
 
@@ -86,24 +59,42 @@ fn are_same_refs(a: &[RawRef], b: &[RawRef]) -> bool {
             && r.handle.as_slice() == s.handle.as_slice())
 }
 
-/// All fields come back as they were put, the least and the greatest, with each octet in the data.
-fn keeps_fields<R: Rows>(rt: &impl Abort, alloc: Global, rows: &mut R) -> Result<(), Fail> {
+/// Each octet once, rising.
+fn all_octets(alloc: Global) -> Result<Vec<u8>, AllocError> {
     let mut data = Vec::new(alloc);
     for octet in 0..=255u8 {
         data.push(octet)?;
     }
+    Ok(data)
+}
+
+/// Whether these are the values of the handle.
+fn holds<R: Rows>(rows: &mut R, name: &Name, wanted: &[Value]) -> Result<bool, Fail> {
+    let read = rows.values(name)?;
+    Ok(read.len() == wanted.len() && read.iter().zip(wanted).all(|(a, b)| are_one(a, b)))
+}
+
+/// Whether this value stands at the place.
+fn stands<R: Rows>(rows: &mut R, place: &Reference, wanted: &Value) -> Result<bool, Fail> {
+    match rows.at(place)? {
+        Some(value) => Ok(are_one(&value, wanted)),
+        None => Ok(false),
+    }
+}
+
+/// All fields come back as they were put, the least and the greatest, with each octet in the data.
+fn keeps_fields<R: Rows>(rt: &impl Abort, alloc: Global, rows: &mut R) -> Result<(), Fail> {
+    let data = all_octets(alloc)?;
     let place = reference(alloc, b"10.abc/fields", u32::MAX)?;
-    let all = [great(alloc, u32::MAX, &data)?, least(alloc, 0)?];
-    assert!(rt; !rows.exists(&place.name)?);
-    rows.create(&place.name, &all)?;
-    let read = rows.values(&place.name)?;
-    assert_eq!(rt; read.len(), 2);
-    assert!(rt; are_one(&read[0], &least(alloc, 0)?));
-    assert!(rt; are_one(&read[1], &great(alloc, u32::MAX, &data)?));
-    let Some(value) = rows.at(&place)? else {
-        panic!(rt; "no value stands there");
-    };
-    assert!(rt; are_one(&value, &great(alloc, u32::MAX, &data)?));
+    let greatest = great(alloc, u32::MAX, &data)?;
+    create(
+        rt,
+        rows,
+        &place.name,
+        &[great(alloc, u32::MAX, &data)?, least(alloc, 0)?],
+    )?;
+    assert!(rt; stands(rows, &place, &greatest)?);
+    assert!(rt; holds(rows, &place.name, &[least(alloc, 0)?, greatest])?);
     Ok(())
 }
 
@@ -121,20 +112,38 @@ const AWKWARD: [&[u8]; 10] = [
     b"10.abc/\xc3\xa9",
 ];
 
+/// Makes a handle of this name with one value whose data is the name.
+fn create_named<R: Rows>(
+    rt: &impl Abort,
+    alloc: Global,
+    rows: &mut R,
+    text: &[u8],
+) -> Result<(), Fail> {
+    let name = Name::read(alloc, text)?;
+    create(rt, rows, &name, &[great(alloc, 7, text)?])
+}
+
+/// Whether the handle of this name has one value, whose data is the name.
+fn holds_named<R: Rows>(alloc: Global, rows: &mut R, text: &[u8]) -> Result<bool, Fail> {
+    let name = Name::read(alloc, text)?;
+    holds(rows, &name, &[great(alloc, 7, text)?])
+}
+
 /// A handle of each name, with one value whose data is the name.
 fn holds_awkward<R: Rows>(rt: &impl Abort, alloc: Global, rows: &mut R) -> Result<(), Fail> {
     for text in AWKWARD {
-        let name = Name::read(alloc, text)?;
-        assert!(rt; !rows.exists(&name)?);
-        rows.create(&name, &[great(alloc, 7, text)?])?;
+        create_named(rt, alloc, rows, text)?;
     }
     for text in AWKWARD {
-        let read = rows.values(&Name::read(alloc, text)?)?;
-        assert_eq!(rt; read.len(), 1);
-        assert!(rt; are_one(&read[0], &great(alloc, 7, text)?));
+        assert!(rt; holds_named(alloc, rows, text)?);
     }
-    assert!(rt; are_names(&rows.names(b"10.abc")?, &AWKWARD));
+    assert!(rt; lists_just(rows, b"10.abc", &AWKWARD)?);
     Ok(())
+}
+
+/// Whether these are the handles of the authority.
+fn lists_just<R: Rows>(rows: &mut R, authority: &[u8], wanted: &[&[u8]]) -> Result<bool, Fail> {
+    Ok(are_names(&rows.names(authority)?, wanted))
 }
 
 fn are_names(names: &[Octets], wanted: &[&[u8]]) -> bool {
@@ -145,15 +154,18 @@ fn are_names(names: &[Octets], wanted: &[&[u8]]) -> bool {
             .all(|(name, want)| name.as_slice() == *want)
 }
 
+/// Whether the handle is there, and with it its value of index 7.
+fn is_there<R: Rows>(alloc: Global, rows: &mut R, text: &[u8]) -> Result<(bool, bool), Fail> {
+    let place = reference(alloc, text, 7)?;
+    Ok((rows.exists(&place.name)?, rows.at(&place)?.is_some()))
+}
+
 /// Deleting the handle whose name is a pattern of the others leaves them.
 fn deletes_one<R: Rows>(rt: &impl Abort, alloc: Global, rows: &mut R) -> Result<(), Fail> {
-    let name = Name::read(alloc, AWKWARD[2])?;
-    assert!(rt; rows.exists(&name)?);
-    rows.delete(&name)?;
+    delete(rt, rows, &Name::read(alloc, AWKWARD[2])?)?;
     for (number, text) in AWKWARD.iter().enumerate() {
-        let place = reference(alloc, text, 7)?;
-        assert_eq!(rt; rows.exists(&place.name)?, number != 2, "at {number}");
-        assert_eq!(rt; rows.at(&place)?.is_some(), number != 2, "at {number}");
+        let want = number != 2;
+        assert_eq!(rt; is_there(alloc, rows, text)?, (want, want), "at {number}");
     }
     Ok(())
 }
@@ -170,58 +182,65 @@ fn long(alloc: Global, front: &[u8], end: &[u8]) -> Result<Vec<u8>, AllocError> 
 
 /// Names of 2,048 octets that differ in the last octet alone.
 fn holds_long<R: Rows>(rt: &impl Abort, alloc: Global, rows: &mut R) -> Result<(), Fail> {
-    let a = reference(alloc, &long(alloc, b"10.long/", b"a")?, 1)?;
-    let b = reference(alloc, &long(alloc, b"10.long/", b"b")?, 1)?;
-    assert!(rt; !rows.exists(&a.name)?);
-    rows.create(&a.name, &[great(alloc, 1, a.name.sent())?])?;
-    assert!(rt; !rows.exists(&b.name)?);
-    assert!(rt; rows.at(&b)?.is_none());
-    rows.create(&b.name, &[])?;
-    assert!(rt; are_names(&rows.names(b"10.long")?, &[a.name.canon(), b.name.canon()]));
-    assert_eq!(rt; a.name.canon().len(), 2048);
-    let read = rows.values(&a.name)?;
-    assert_eq!(rt; read.len(), 1);
-    assert_eq!(rt; read[0].bytes.as_slice(), a.name.sent());
+    let a = long(alloc, b"10.long/", b"a")?;
+    let b = long(alloc, b"10.long/", b"b")?;
+    assert_eq!(rt; a.len(), 2048);
+    create_named(rt, alloc, rows, &a)?;
+    assert_eq!(rt; is_there(alloc, rows, &b)?, (false, false));
+    create(rt, rows, &Name::read(alloc, &b)?, &[])?;
+    assert!(rt; lists_just(rows, b"10.long", &[&a, &b])?);
+    assert!(rt; holds_named(alloc, rows, &a)?);
     Ok(())
 }
 
 /// Authorities that begin another's, or are a pattern of it: each has its own handle alone.
 const AUTHORITIES: [&[u8]; 5] = [b"10.a", b"10.a%", b"10.a_", b"10.ab", b"10.ab\0"];
 
+/// A name of the authority.
+fn named(alloc: Global, authority: &[u8]) -> Result<Vec<u8>, AllocError> {
+    let mut text = Vec::from_slice(alloc, authority)?;
+    text.extend_from_slice(b"/x")?;
+    Ok(text)
+}
+
 fn parts_authorities<R: Rows>(rt: &impl Abort, alloc: Global, rows: &mut R) -> Result<(), Fail> {
     for authority in AUTHORITIES {
-        let mut text = Vec::from_slice(alloc, authority)?;
-        text.extend_from_slice(b"/x")?;
-        let name = Name::read(alloc, &text)?;
-        assert!(rt; !rows.exists(&name)?);
-        rows.create(&name, &[])?;
+        let text = named(alloc, authority)?;
+        create(rt, rows, &Name::read(alloc, &text)?, &[])?;
     }
     for authority in AUTHORITIES {
-        let mut text = Vec::from_slice(alloc, authority)?;
-        text.extend_from_slice(b"/x")?;
-        assert!(rt; are_names(&rows.names(authority)?, &[&text]));
+        let text = named(alloc, authority)?;
+        assert!(rt; lists_just(rows, authority, &[&text])?);
     }
     Ok(())
 }
 
+/// The value of this index among many: its data is its index.
+fn one_of_many(alloc: Global, index: u32) -> Result<Value, AllocError>
+    ensures { IfOk result (λ v. v.index ≡ index) }
+{
+    great(alloc, index, &index.to_be_bytes())
+}
+
+/// Whether the values are those of the indexes from 1 on.
+fn are_many(alloc: Global, values: &[Value]) -> Result<bool, AllocError> {
+    let mut are_these = values.len() == 1024;
+    for (index, value) in (1..=1024u32).zip(values) {
+        are_these &= are_one(value, &one_of_many(alloc, index)?);
+    }
+    Ok(are_these)
+}
+
 /// A handle of 1,024 values that were added by falling index.
 fn holds_many<R: Rows>(rt: &impl Abort, alloc: Global, rows: &mut R) -> Result<(), Fail> {
-    let first = reference(alloc, b"10.abc/many", 1024)?;
-    assert!(rt; !rows.exists(&first.name)?);
-    rows.create(&first.name, &[great(alloc, 1024, b"1024")?])?;
-    for fallen in 1..1024u32 {
+    let name = Name::read(alloc, b"10.abc/many")?;
+    create(rt, rows, &name, &[])?;
+    for fallen in 0..1024u32 {
         let place = reference(alloc, b"10.abc/many", 1024 - fallen)?;
-        assert!(rt; rows.exists(&place.name)?);
-        assert!(rt; rows.at(&place)?.is_none());
-        let bytes = place.index.to_be_bytes();
-        rows.add(&place.name, &[great(alloc, place.index, &bytes)?])?;
+        let value = one_of_many(alloc, place.index)?;
+        add(rt, rows, &place, value)?;
     }
-    let read = rows.values(&first.name)?;
-    assert_eq!(rt; read.len(), 1024);
-    for (index, value) in (1..1024u32).zip(&read) {
-        assert!(rt; are_one(value, &great(alloc, index, &index.to_be_bytes())?));
-    }
-    assert_eq!(rt; read[1023].bytes.as_slice(), b"1024".as_slice());
+    assert!(rt; are_many(alloc, &rows.values(&name)?)?);
     Ok(())
 }
 
@@ -247,20 +266,25 @@ fn awkward_in_sql(rt: HostRuntime) -> Result<(), Fail> {
 }
 
 /// A write at the place that the table allows there, chosen by the number.
-fn write<R: Rows>(alloc: Global, rows: &mut R, place: &Reference, number: u32) -> Result<(), Fail> {
+fn write<R: Rows>(
+    rt: &impl Abort,
+    alloc: Global,
+    rows: &mut R,
+    place: &Reference,
+    number: u32,
+) -> Result<(), Fail> {
     let value = great(alloc, place.index, &number.to_be_bytes())?;
     if !rows.exists(&place.name)? {
-        rows.create(&place.name, &[value])?;
+        create(rt, rows, &place.name, &[value])
     } else if rows.at(place)?.is_none() {
-        rows.add(&place.name, &[value])?;
+        add(rt, rows, place, value)
     } else if number.is_multiple_of(2) {
-        rows.modify(&place.name, &[value])?;
+        modify(rt, rows, place, value)
     } else if number.is_multiple_of(5) {
-        rows.delete(&place.name)?;
+        delete(rt, rows, &place.name)
     } else {
-        rows.remove(&place.name, &[place.index])?;
+        remove(rt, rows, place)
     }
-    Ok(())
 }
 
 /// What the table answers of the handle and of its authority.
@@ -276,24 +300,45 @@ fn answers<R: Rows>(alloc: Global, rows: &mut R, name: &Name) -> Result<Vec<u8>,
     Ok(all)
 }
 
-/// Both tables answer alike after each of five hundred writes in no order.
-#[test]
-fn tables_agree(rt: HostRuntime) -> Result<(), Fail> {
+/// The same write to both tables, and whether they then answer alike.
+fn agree(
+    rt: &impl Abort,
+    plain: &mut PlainRows,
+    sql: &mut SqlRows,
+    place: &Reference,
+    number: u32,
+    alloc: Global,
+) -> Result<bool, Fail> {
+    write(rt, alloc, &mut *plain, place, number)?;
+    write(rt, alloc, &mut *sql, place, number)?;
+    let told = answers(alloc, sql, &place.name)?;
+    Ok(told.as_slice() == answers(alloc, plain, &place.name)?.as_slice())
+}
+
+/// Five hundred writes in no order.
+fn writes_agree(
+    rt: &impl Abort,
+    plain: &mut PlainRows,
+    sql: &mut SqlRows,
+    alloc: Global,
+) -> Result<(), Fail> {
     let names: [&[u8]; 4] = [b"10.abc/b", b"10.abc/a", b"10.abcd/a", b"10.abc/ab"];
-    let mut plain = PlainRows::new(rt.alloc());
-    let mut sql = SqlRows::new(rt.alloc())?;
     let mut state = 1u32;
     for turn in 0..500u32 {
         state = state.wrapping_mul(1_664_525).wrapping_add(1_013_904_223);
         let number = state >> 16;
-        let place = reference(rt.alloc(), names[(number % 4) as usize], number / 4 % 5 + 1)?;
-        write(rt.alloc(), &mut plain, &place, number / 20)?;
-        write(rt.alloc(), &mut sql, &place, number / 20)?;
-        assert_eq!(rt;
-            answers(rt.alloc(), &mut sql, &place.name)?,
-            answers(rt.alloc(), &mut plain, &place.name)?,
+        let place = reference(alloc, names[(number % 4) as usize], number / 4 % 5 + 1)?;
+        assert!(rt;
+            agree(rt, plain, sql, &place, number / 20, alloc)?,
             "turn {turn}"
         );
     }
     Ok(())
+}
+
+/// Both tables answer alike after each of five hundred writes in no order.
+#[test]
+fn tables_agree(rt: HostRuntime) -> Result<(), Fail> {
+    let mut sql = SqlRows::new(rt.alloc())?;
+    writes_agree(&rt, &mut PlainRows::new(rt.alloc()), &mut sql, rt.alloc())
 }

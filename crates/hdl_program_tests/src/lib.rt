@@ -1,0 +1,21 @@
+//! Tests of what stands on several crates: tables through their bound, in memory and in SQL, and runs of scripts that are made by a loop.
+//!
+//! They stand apart from those of `hdl_tests`, which need neither SQL nor the machine and so begin earlier. Beside the tests it has
+//! the values that a table is to keep ([`values`]); nothing stands on it.
+#![tactic(auto)]
+
+#[cfg(test)]
+mod devices;
+#[cfg(test)]
+mod long_scripts;
+#[cfg(test)]
+mod neighbours;
+#[cfg(test)]
+mod rows;
+#[cfg(test)]
+mod scripts;
+#[cfg(test)]
+mod sql_rows;
+pub mod values;
+#[cfg(test)]
+mod writes;
