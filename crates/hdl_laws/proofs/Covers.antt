@@ -42,11 +42,13 @@ each_covered C (v ∷ vs) f = (λ q h. f q (among_front (refs_of v) _ q h), each
 pub has_cover : HasCover
 has_cover w ts u =
     let first = all_refs (map.values w.table.values) in
-    let more = all_refs (written w.site u ts) in
-    (first ++ more, record {
-      start = record {
-        rows = λ p v hosted is q h. among_front first more q (at_refs w.table p q (subst (λ o. IsTrue (is_among q (refs_in o))) (sym is) h));
-        onward = λ r p here h. among_front first more p (at_refs w.table r p (listed_refs (at w.table r) p h));
-      };
-      written = each_covered (first ++ more) (written w.site u ts) (λ q h. among_back first more q h);
-    })
+    let more = all_refs (written w.site u ts) in (
+      first ++ more,
+      record {
+        start = record {
+          rows = λ p v hosted is q h. among_front first more q (at_refs w.table p q (subst (λ o. IsTrue (is_among q (refs_in o))) (sym is) h));
+          onward = λ r p here h. among_front first more p (at_refs w.table r p (listed_refs (at w.table r) p h));
+        };
+        written = each_covered (first ++ more) (written w.site u ts) (λ q h. among_back first more q h);
+      },
+    )
