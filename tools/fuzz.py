@@ -4,7 +4,7 @@
     tools/fuzz.py [COUNT] [SEED] [--other PROGRAM]       by default 1000 scripts of seed 1
 
 The scripts grow from those of crates/hdl_scripts/data: octets are flipped, cut, spliced and repeated, lengths and counts replaced by edges,
-lines swapped and dropped, events of several scripts mixed. It fails on a crash, on a run of more than a second, on more than 200 MB of
+lines swapped and dropped, events of several scripts mixed. It fails on a crash, on a run of more than a second of processor time, on more than 200 MB of
 memory, on an output line that isn't one of the four forms, on an exit status or a fault line that docs/PROTOCOL.md doesn't have, and, with
 another program (bench/replay makes one over the table in memory), on any difference between the two.
 """
@@ -14,6 +14,7 @@ import os
 import random
 import re
 import resource
+import signal
 import subprocess
 import sys
 
@@ -82,15 +83,18 @@ def made(chance, scripts):
 
 def limit():
     resource.setrlimit(resource.RLIMIT_AS, (MEMORY, MEMORY))
+    resource.setrlimit(resource.RLIMIT_CPU, (1, 2))
 
 
 def run(program, script):
     """What a program tells, or why it failed."""
     try:
-        done = subprocess.run([program], input=script, stdout=subprocess.PIPE, stderr=subprocess.PIPE, timeout=1, check=False, preexec_fn=limit)
+        done = subprocess.run([program], input=script, stdout=subprocess.PIPE, stderr=subprocess.PIPE, timeout=60, check=False, preexec_fn=limit)
     except subprocess.TimeoutExpired:
-        return None, "more than a second"
+        return None, "no end in a minute"
     told = (done.returncode, done.stdout, done.stderr)
+    if done.returncode == -signal.SIGXCPU:
+        return told, "more than a second of processor time"
     if done.returncode not in (0, 1, 3):
         return told, "exit status %d" % done.returncode
     if done.returncode != 0 and not FAULT.fullmatch(done.stderr):
@@ -114,8 +118,10 @@ def main():
     for number in range(count):
         script = made(random.Random("%d %d" % (seed, number)), scripts)
         told, fault = run(PROGRAM, script)
-        if not fault and other and run(other, script)[0] != told:
-            fault = "the other program differs"
+        if not fault and other:
+            others, fault = run(other, script)
+            if not fault and others != told:
+                fault = "the other program differs"
         statuses[told[0] if told else None] = statuses.get(told[0] if told else None, 0) + 1
         if fault:
             failed += 1
