@@ -73,7 +73,7 @@ fn verdicts(rt: HostRuntime) -> Result<(), Fail> {
     for algorithm in [Algorithm::Sha1, Algorithm::Sha256] {
         let request_digest = digest(algorithm, b"abc");
         let mut response = response_to(&rt, &request_digest)?;
-        let short = &response[..algorithm.size()];
+        let (_, short) = response.split_last().expect(&rt, "an octet");
         assert_eq!(rt;
             check(b"k1", &NONCE, &request_digest, &response),
             Verdict::Good
