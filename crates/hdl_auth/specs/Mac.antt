@@ -1,5 +1,5 @@
 -- The keyed digest of challenge and response (docs/PROTOCOL.md, "Challenge and response").
-use Rattle.std.specs.Prelude.{ℕ, List, [], ◌∷◌, ◌++◌, ◌+◌, Bool, ◌==◌, ◌&&◌, if◌then◌else◌, length, bytes_eq}
+use Rattle.std.specs.Prelude.{ℕ, List, [], ◌∷◌, ◌++◌, ◌+◌, Bool, true, false, ◌==◌, ◌&&◌, if◌then◌else◌, length, bytes_eq}
 use Rattle.std.specs.List.{starts_with}
 use Rattle.hdl_auth.specs.declared.Verdict.{Verdict}
 use Rattle.hdl_auth.specs.declared.Verdict.TheVariants.{Good, BadForm, Wrong}
@@ -21,6 +21,11 @@ has_response_form algorithm response = starts_with ◌==◌ response (octet_of a
 
 abbrev pub is_right_response : List ℕ → List ℕ → Digest → List ℕ → Bool
 is_right_response key nonce d response = bytes_eq response (right_response key nonce d)
+
+abbrev pub is_good : Verdict → Bool
+is_good Good = true
+is_good BadForm = false
+is_good Wrong = false
 
 -- what a response string is to a challenge
 abbrev pub verdict : List ℕ → List ℕ → Digest → List ℕ → Verdict

@@ -9,10 +9,13 @@
 //! SHA-1 or SHA-256, nor about how long a comparison takes.
 #![tactic(auto)]
 
+ghost use Rattle.std.specs.Prelude.{◌≡◌};
+ghost use Rattle.hdl_auth.specs.Mac.{is_good};
+
 pub mod algorithm;
 mod response;
 
-pub use response::{check, digest, has_response_form, is_right_response, mac};
+pub use response::{check, digest, has_response_form, mac};
 
 /// What a response string is.
 #[derive(Clone, Copy, Debug, PartialEq, Eq)]
@@ -23,4 +26,13 @@ pub enum Verdict {
     BadForm,
     /// Of the right form, with another keyed digest.
     Wrong,
+}
+
+impl Verdict {
+    /// Whether it is the right response.
+    pub fn is_good(self) -> bool
+        ensures { result ≡ is_good self }
+    {
+        matches!(self, Verdict::Good)
+    }
 }

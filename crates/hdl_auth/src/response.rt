@@ -2,7 +2,7 @@
 
 ghost use Rattle.std.specs.Prelude.{◌≡◌};
 ghost use Rattle.hdl_auth.specs.Digest.{digest_of};
-ghost use Rattle.hdl_auth.specs.Mac.{mac_of, has_response_form, is_right_response, verdict};
+ghost use Rattle.hdl_auth.specs.Mac.{mac_of, has_response_form, is_right_response, is_good, verdict};
 
 use crate::Verdict;
 use crate::algorithm::{Algorithm, Digest};
@@ -52,12 +52,7 @@ pub fn has_response_form(algorithm: Algorithm, response: &[u8]) -> bool
 }
 
 /// Whether the octets are the right response to the challenge with this nonce, of a request with this digest, under this key.
-pub fn is_right_response(
-    key: &[u8],
-    nonce: &[u8; 16],
-    request_digest: &Digest,
-    response: &[u8],
-) -> bool
+fn is_right_response(key: &[u8], nonce: &[u8; 16], request_digest: &Digest, response: &[u8]) -> bool
     ensures { result ≡ is_right_response key.now nonce.now request_digest.now response.now }
 {
     let wanted = mac(key, nonce, request_digest);
@@ -67,9 +62,12 @@ pub fn is_right_response(
     }
 }
 
-/// What a response string is to the challenge with this nonce, of a request with this digest, under this key.
+/// What a response string is to the challenge with this nonce, of a request with this digest, under this key: good where it is the
+/// right response, and of a bad form where no key could make it right.
+#[tactic(auto, using(crate::proofs::Verdicts::good_is_right, crate::proofs::Verdicts::formless_is_wrong))]
 pub fn check(key: &[u8], nonce: &[u8; 16], request_digest: &Digest, response: &[u8]) -> Verdict
-    ensures { result ≡ verdict key.now nonce.now request_digest.now response.now }
+    ensures verdict { result ≡ verdict key.now nonce.now request_digest.now response.now }
+    ensures good { is_good result ≡ is_right_response key.now nonce.now request_digest.now response.now }
 {
     if !has_response_form(request_digest.algorithm(), response) {
         return Verdict::BadForm;

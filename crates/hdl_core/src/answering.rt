@@ -16,6 +16,7 @@ use hdl_auth::algorithm::Algorithm;
 use hdl_frame::Envelope;
 use hdl_laws::Octets;
 use hdl_msg::{ReplyContent, Request, ResponseCode, refuse};
+use hdl_ops::laws::empty_fits;
 use hdl_ops::{Change, Decision, Masks, Refused, Rows, apply, render};
 use std::alloc::Global;
 
@@ -79,7 +80,6 @@ pub(crate) fn answer<R: Rows>(
 }
 
 /// The reply to a request that needs no look at the table, with nothing but its code.
-#[tactic(auto, using(hdl_ops::proofs::Lengths::empty_fits))]
 pub(crate) fn tell(
     alloc: Global,
     algorithm: Algorithm,
@@ -96,6 +96,7 @@ pub(crate) fn tell(
         ..
     } = letter.envelope;
     let empty = ReplyContent::Empty;
+    empty_fits();
     match render(alloc, algorithm, session, number, request, code, empty) {
         Ok(octets) => Ok(Octets::new(octets)),
         Err(_) => Err(Refused),

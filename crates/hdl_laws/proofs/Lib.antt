@@ -8,6 +8,7 @@ pub mod Restriction
 pub mod Isolation
 pub mod Codes
 pub mod Told
+pub mod Announced
 pub mod Twins
 pub mod TwinRuns
 mod Covers

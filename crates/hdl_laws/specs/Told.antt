@@ -1,19 +1,21 @@
--- What one reply tells: its octets by its code, what it answers, and what may be read.
-use Rattle.std.specs.Prelude.{◌≡◌, ℕ, ◌==◌, List, if◌then◌else◌}
+-- What one reply tells: its octets by its code, what it answers, and what may be read; and that its header announces it.
+use Rattle.std.specs.Prelude.{◌≡◌, ℕ, ◌==◌, List, Option, Some, None, drop, if◌then◌else◌}
 use Rattle.hdl_auth.specs.declared.algorithm.Algorithm.{Algorithm}
 use Rattle.hdl_auth.specs.declared.algorithm.Algorithm.TheVariants.{Sha1}
 use Rattle.hdl_auth.specs.Digest.{algorithm_of}
 use Rattle.hdl_rows.specs.Table.{Table}
-use Rattle.hdl_msg.specs.Message.{Content}
+use Rattle.hdl_msg.specs.Message.{Content, IsShort}
 use Rattle.hdl_msg.specs.Laws.{response_code_at}
 use Rattle.hdl_msg.specs.Reply.{short_reply}
+use Rattle.hdl_msg.specs.ReplyView.{ReplyParts, IsAnnounced, PartsFit, parts_body, parts_message}
+use Rattle.hdl_msg.specs.ReplyReading.{reply_at}
 use Rattle.hdl_msg.specs.declared.replies.ReplyContent.TheVariants.{Empty}
 use Rattle.hdl_ops.specs.Admission.{request_algorithm}
 use Rattle.hdl_ops.specs.Decisions.{Anyone, Proven}
 use Rattle.hdl_ops.specs.Laws.{told}
 use Rattle.hdl_laws.specs.declared.events.Event.{Event}
 use Rattle.hdl_laws.specs.declared.events.Outcome.{Outcome}
-use Rattle.hdl_laws.specs.declared.events.Outcome.TheVariants.{Reply}
+use Rattle.hdl_laws.specs.declared.events.Outcome.TheVariants.{Reply, Busy, Silent, CloseAfter}
 use Rattle.hdl_laws.specs.Lanes.{LaneState}
 use Rattle.hdl_laws.specs.Worlds.{World, owner, algorithms_for, lane_of, Letter, Task, Ignore, Break, Malformed, Unknown, Late, Ask, Redeem, IsTask, answer_octets, challenge_octets}
 use Rattle.hdl_laws.specs.Runs.{Steps}
@@ -46,3 +48,21 @@ Tells w e o = (octets : List ℕ) → o ≡ Reply octets → (k : Task) × IsTas
 -- each step does
 abbrev pub StepsTell : Type 0
 StepsTell = (w new : World) (e : Event) (o : Outcome) → Steps w e o new → Tells w e o
+
+-- ---- what a reply announces
+
+-- The octets of a frame have the message of a reply whose header announces what it carries. So it is read as this reply where its
+-- parts fit their fields, whatever was asked.
+abbrev pub IsSelfTold : List ℕ → Type 0
+IsSelfTold octets = (p : ReplyParts) × IsAnnounced p × (drop 20 octets ≡ parts_message p) × (PartsFit p → IsShort (parts_body p) → reply_at (drop 20 octets) ≡ Some p)
+
+-- the octets that an outcome sends, if any
+abbrev pub sent_by : Outcome → Option (List ℕ)
+sent_by (Reply octets) = Some octets
+sent_by (Busy octets) = Some octets
+sent_by Silent = None
+sent_by (CloseAfter octets) = Some octets
+
+-- what each step sends is such a reply
+abbrev pub StepsAnnounce : Type 0
+StepsAnnounce = (w new : World) (e : Event) (o : Outcome) (octets : List ℕ) → Steps w e o new → sent_by o ≡ Some octets → IsSelfTold octets

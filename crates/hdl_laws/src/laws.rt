@@ -1,7 +1,7 @@
 //! Laws over whole runs, each the contract of a function without a body.
 
 ghost use Rattle.hdl_laws.specs.Laws.{CalmIsQuiet, HasCover, JoinsRuns, KeepsCovers, LonelyIsOne, RestrictsRuns, TwinsReplyAlike, TwoRunsAgree};
-ghost use Rattle.hdl_laws.specs.Told.{StepsTell};
+ghost use Rattle.hdl_laws.specs.Told.{StepsTell, StepsAnnounce};
 
 /// Two runs in a row are one run of the joined events.
 pub fn runs_joined()
@@ -31,6 +31,12 @@ pub fn twin_replies()
 /// next number, and with code 1 of what the caller's level may see.
 pub fn reply_told()
     ensures { StepsTell }
+{}
+
+/// What a step sends is the message of a reply whose header announces what it carries: whether a digest stands, and the form of
+/// the content. So reading gives this reply back, where its parts fit their fields, and needs nothing of the request.
+pub fn reply_announced()
+    ensures { StepsAnnounce }
 {}
 
 /// Each run has a cover for each publisher: what the first table's values refer to, and what the values refer to that the publisher

@@ -62,13 +62,13 @@ length-reply_message y =
 
 -- ---- what is short enough has lengths that fit
 
-few_from : {A : Type 0} (w : A → List ℕ) → ((x : A) → 1 ≤ length (w x)) → (xs : List A) → length xs ≤ length (flat_map w xs)
+pub few_from : {A : Type 0} (w : A → List ℕ) → ((x : A) → 1 ≤ length (w x)) → (xs : List A) → length xs ≤ length (flat_map w xs)
 few_from w some [] = omega arith
 few_from w some (x ∷ xs) =
     let e : length (flat_map w (x ∷ xs)) ≡ length (w x) + length (flat_map w xs) = ap length (flat_map-cons w x xs) ∙ length-append (w x) (flat_map w xs) in
     omega (arith, e, some x, few_from w some xs)
 
-each_from : {A : Type 0} (w : A → List ℕ) (P : A → Type 0) (limit : ℕ) → ((x : A) → length (w x) < limit → P x) → (xs : List A) → length (flat_map w xs) < limit → AllByRecursion P xs
+pub each_from : {A : Type 0} (w : A → List ℕ) (P : A → Type 0) (limit : ℕ) → ((x : A) → length (w x) < limit → P x) → (xs : List A) → length (flat_map w xs) < limit → AllByRecursion P xs
 each_from w P limit each [] lt = tt
 each_from w P limit each (x ∷ xs) lt =
     let e : length (flat_map w (x ∷ xs)) ≡ length (w x) + length (flat_map w xs) = ap length (flat_map-cons w x xs) ∙ length-append (w x) (flat_map w xs) in
@@ -77,13 +77,13 @@ each_from w P limit each (x ∷ xs) lt =
 some_reference : (r : RawRef) → 1 ≤ length (reference r)
 some_reference r = omega arith
 
-some_spelling : (v : Value) → 1 ≤ length (spelling v)
+pub some_spelling : (v : Value) → 1 ≤ length (spelling v)
 some_spelling v = omega (arith, length-spelling v)
 
 short_handle : (r : RawRef) → length (reference r) < 2 ^ 32 → length r.handle < 2 ^ 32
 short_handle r lt = omega (arith, lt, length-append r.handle (to_be_bytes w32 r.index))
 
-short_value : (v : Value) → length (spelling v) < 2 ^ 32 → CanBeSpelt v
+pub short_value : (v : Value) → length (spelling v) < 2 ^ 32 → CanBeSpelt v
 short_value v lt =
     let all = length-spelling v in
     record {

@@ -12,7 +12,7 @@ use hdl_value::{Octets, RawRef, Value};
 /// Octets of a message beside its body: the header's 24, and the credential's length.
 pub(crate) const OVERHEAD: usize = 28;
 
-fn string_len(octets: &[u8]) -> usize
+pub(crate) fn string_len(octets: &[u8]) -> usize
     ensures { result ≡ capped (length (string octets.now)) }
 {
     octets.len().saturating_add(4)
@@ -42,7 +42,7 @@ fn value_len(value: &Value) -> usize
         .saturating_add(13)
 }
 
-fn values_len(values: &[Value]) -> usize
+pub(crate) fn values_len(values: &[Value]) -> usize
     ensures { result ≡ capped (length (counted spelling values.now)) }
 {
     let mut total: usize = 4;
@@ -52,7 +52,7 @@ fn values_len(values: &[Value]) -> usize
     total
 }
 
-fn handles_len(handles: &[Octets]) -> usize
+pub(crate) fn handles_len(handles: &[Octets]) -> usize
     ensures { result ≡ capped (length (counted string handles.now)) }
 {
     let mut total: usize = 4;

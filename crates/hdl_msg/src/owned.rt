@@ -1,4 +1,4 @@
-//! Lists that a reply owns, seen by contracts as lists.
+//! Lists that a reply or the body of a request owns, seen by contracts as lists.
 
 ghost use Rattle.std.specs.Prelude.{◌≡◌};
 
@@ -44,7 +44,7 @@ impl ValueList {
     }
 }
 
-/// Handles on the heap, in order.
+/// Handles on the heap, in order; in the body of a request also types.
 #[derive(Debug, Drop)]
 pub struct HandleList {
     handles: Vec<Octets>,
@@ -79,5 +79,35 @@ impl HandleList {
     {
         let HandleList { handles } = self;
         handles
+    }
+}
+
+/// Indexes on the heap, in order.
+#[derive(Debug, Drop)]
+pub struct IndexList {
+    indexes: Vec<u32>,
+}
+
+impl Model for IndexList {
+    ghost use Rattle.std.specs.Prelude.{ℕ, List};
+
+    ghost Value = { List ℕ };
+
+    ghost view = { λ a. a.indexes.items };
+}
+
+impl IndexList {
+    /// The indexes of a vector, which is taken as it is.
+    pub fn new(indexes: Vec<u32>) -> IndexList
+        ensures items { result ≡ indexes.items }
+    {
+        IndexList { indexes }
+    }
+
+    /// The indexes where they stand.
+    pub fn as_slice(&self) -> &[u32]
+        ensures items { result.now ≡ self.now }
+    {
+        &self.indexes
     }
 }

@@ -39,12 +39,12 @@ not_busy c e = not-true (c == 3) (and_parts (nat_lt c 1000) _ e).1
 -- ---- the tables of decision
 
 module _ (P : ℕ → Bool) where
-  row_walk : (b : Bool) (c : ℕ) (rows : List (Bool × ℕ)) (end : ℕ) → IsTrue (P c) → IsTrue (P (or_code (first rows) end)) → IsTrue (P (or_code (first ((b, c) ∷ rows)) end))
+  pub row_walk : (b : Bool) (c : ℕ) (rows : List (Bool × ℕ)) (end : ℕ) → IsTrue (P c) → IsTrue (P (or_code (first rows) end)) → IsTrue (P (or_code (first ((b, c) ∷ rows)) end))
   unfolding first
   row_walk true c rows end p q = p
   row_walk false c rows end p q = q
 
-  row_end : (end : ℕ) → IsTrue (P end) → IsTrue (P (or_code (first []) end))
+  pub row_end : (end : ℕ) → IsTrue (P end) → IsTrue (P (or_code (first []) end))
   unfolding first
   row_end end p = p
 

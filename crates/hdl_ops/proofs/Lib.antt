@@ -4,3 +4,4 @@ pub mod Lengths
 pub mod Passed
 pub mod Decided
 pub mod Codes
+pub mod Announced

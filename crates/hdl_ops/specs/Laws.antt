@@ -1,5 +1,5 @@
 -- Laws over decisions.
-use Rattle.std.specs.Prelude.{◌≡◌, ℕ, ◌==◌, List, Bool, if◌then◌else◌}
+use Rattle.std.specs.Prelude.{◌≡◌, ℕ, ◌==◌, List, Bool, IsTrue, if◌then◌else◌}
 use Rattle.hdl_name.specs.Name.{sent_prefix}
 use Rattle.hdl_auth.specs.declared.algorithm.Algorithm.{Algorithm}
 use Rattle.hdl_rows.specs.Table.{Table}
@@ -7,6 +7,7 @@ use Rattle.hdl_msg.specs.Message.{Content}
 use Rattle.hdl_msg.specs.declared.replies.ReplyContent.{ReplyContent}
 use Rattle.hdl_msg.specs.declared.replies.ReplyContent.TheVariants.{Referral, Empty}
 use Rattle.hdl_ops.specs.Decisions.{Level, Decision, Decides, carried}
+use Rattle.hdl_ops.specs.Replies.{fits}
 use Rattle.hdl_ops.specs.Requests.{named}
 use Rattle.hdl_ops.specs.Sights.{sight}
 
@@ -24,3 +25,7 @@ told t r level code =
 -- a decision tells what its code says, and no more
 abbrev pub TellsByCode : Type 0
 TellsByCode = (hosts : List ℕ → Bool) (a : Algorithm) (t : Table) (r : Content) (level : Level) (d : Decision) → Decides hosts a t r level d → d.content ≡ told t r level d.code
+
+-- a reply without content fits into a message
+abbrev pub EmptyFits : Type 0
+EmptyFits = (a : Algorithm) (r : Content) → IsTrue (fits a r Empty)

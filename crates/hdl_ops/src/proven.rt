@@ -15,7 +15,7 @@ use crate::decision::{Proof, Sight};
 use crate::permitted::{is_allowed, is_locked};
 use crate::requests::{creates, resolves};
 use crate::written::count_of_values;
-use hdl_auth::{has_response_form, is_right_response};
+use hdl_auth::{check, has_response_form};
 use hdl_msg::{Body, Numbers, Request, ResponseCode, Values};
 use hdl_value::{AdminMask, Value};
 
@@ -38,12 +38,10 @@ fn is_right(key: &Option<Value>, proof: &Proof<'_>) -> bool
     ensures { result ≡ is_right key.now (proof_of proof.now) }
 {
     match key {
-        Some(value) => is_right_response(
-            value.bytes.as_slice(),
-            proof.nonce,
-            proof.digest,
-            proof.response.answer,
-        ),
+        Some(value) => {
+            let key = value.bytes.as_slice();
+            check(key, proof.nonce, proof.digest, proof.response.answer).is_good()
+        }
         None => false,
     }
 }

@@ -10,6 +10,9 @@
 //! who may read it. Places (`specs/Place.antt`: a canonical handle and an index) are what tables, chains of lists and
 //! covers speak of.
 //!
+//! `number_fits`, `string_fits` and `value_fits` say what the types of parts say: that they fit their fields. A writer of a grammar
+//! calls them to know that what it writes is spelt.
+//!
 //! `specs/Reading.antt` has readers that are made of readers, with two laws (what is read is spelt there, what is spelt
 //! is read), proved once in `proofs/Codecs.antt`. The layouts above, as those of messages, are terms over these.
 #![tactic(auto)]
@@ -19,6 +22,7 @@ mod cut;
 mod data;
 mod fault;
 mod fields;
+mod fits;
 mod laws;
 mod permission;
 mod read;
@@ -30,6 +34,7 @@ pub use admin::{AdminMask, Reference, admin_of, vlist_of};
 pub use cut::{CutValue, cut_value};
 pub use fault::ValueFault;
 pub use fields::{octet_at, put_string, put_u16, put_u32, string_at, u16_at, u32_at};
+pub use fits::{number_fits, string_fits, value_fits};
 pub use hdl_name::Octets;
 pub use laws::{
     grants_are_named, listed_are_named, none_begins_another, one_administrator, one_list,

@@ -1,0 +1,92 @@
+-- A request that is short can be written, and what is written of it spells it.
+use Rattle.std.proofs.Common.{◌≡◌, ℕ, ◌+◌, ◌*◌, ◌^◌, ◌<◌, ◌≤◌, List, [], ◌∷◌, ◌++◌, length, refl, ap, ◌∙◌, arith}
+use Rattle.std.specs.List.{flat_map, AllByRecursion}
+use Rattle.std.proofs.lemmas.List.{length-append}
+use Rattle.std.proofs.lemmas.List.Concat.{flat_map-cons}
+use Rattle.hdl_value.specs.declared.value.Value.{Value}
+use Rattle.hdl_value.specs.Spelling.{string, spelling, CanBeSpelt}
+use Rattle.hdl_msg.specs.declared.fields.Header.{Header}
+use Rattle.hdl_msg.specs.declared.codes.OpCode.{OpCode}
+use Rattle.hdl_msg.specs.declared.codes.OpCode.TheVariants.{Resolution as ResolutionCode, CreateHandle, DeleteHandle, AddValue, RemoveValue, ModifyValue, ListHandles, ChallengeResponse}
+use Rattle.hdl_msg.specs.declared.request_body.RequestBody.{RequestBody}
+use Rattle.hdl_msg.specs.declared.request_body.RequestBody.TheVariants.{Resolution, Create, Delete, Add, Remove, Modify, List as ListAll, Response}
+use Rattle.hdl_msg.specs.Codes.{op_number, IsNumberOf}
+use Rattle.hdl_msg.specs.Message.{number, counted, body, header_octets, IsShort, IsNumber, HeaderFits, OperationFits, code_of, SpellsRequest}
+use Rattle.hdl_msg.specs.Reply.{most_octets}
+use Rattle.hdl_msg.specs.RequestBody.{requested, requested_code, request_content, request_message, request_length, CanBeRequested}
+use Rattle.hdl_msg.proofs.Written.{few_from, each_from, some_spelling, short_value}
+
+pub length-numbers : (ns : List ℕ) → length (flat_map number ns) ≡ length ns * 4
+length-numbers [] = refl
+length-numbers (n ∷ ns) =
+    let e : length (flat_map number (n ∷ ns)) ≡ length (number n) + length (flat_map number ns) = ap length (flat_map-cons number n ns) ∙ length-append (number n) (flat_map number ns) in
+    omega (arith, e, length-numbers ns)
+
+-- ---- what is short enough has lengths that fit
+
+short_string : (t more : List ℕ) (n : ℕ) → length (string t ++ more) ≤ n → (length t ≤ n) × (length more ≤ n)
+short_string t more n le = let e = length-append t more in (omega (arith, e, le), omega (arith, e, le))
+
+can_list : (handle : List ℕ) (values : List Value) → length (string handle ++ counted spelling values) ≤ most_octets → IsShort handle × ((length values < 2 ^ 32) × AllByRecursion CanBeSpelt values)
+can_list handle values le =
+    let s = short_string handle (counted spelling values) most_octets le in
+    (omega (arith, s.0), (omega (arith, s.1, few_from spelling some_spelling values), each_from spelling CanBeSpelt (2 ^ 32) short_value values (omega (arith, s.1))))
+
+can : (b : RequestBody) → length (body (requested b)) ≤ most_octets → CanBeRequested b
+can (Resolution handle indexes types) le =
+    let s = short_string handle (counted number indexes ++ counted string types) most_octets le in
+    let e = length-append (flat_map number indexes) (counted string types) in
+    (omega (arith, s.0), (omega (arith, s.1, e, length-numbers indexes), (omega (arith, s.1, e, few_from string (λ t. omega arith) types), each_from string IsShort (2 ^ 32) (λ t l. omega (arith, l)) types (omega (arith, s.1, e)))))
+can (Create handle values) le = can_list handle values le
+can (Delete handle) le = omega (arith, le)
+can (Add handle values) le = can_list handle values le
+can (Remove handle indexes) le =
+    let s = short_string handle (counted number indexes) most_octets le in
+    (omega (arith, s.0), omega (arith, s.1, length-numbers indexes))
+can (Modify handle values) le = can_list handle values le
+can (ListAll handle) le = omega (arith, le)
+can (Response kind handle index answer) le =
+    let s = short_string kind (string handle ++ (number index ++ string answer)) most_octets le in
+    let t = short_string handle (number index ++ string answer) most_octets s.1 in
+    (omega (arith, s.0), (omega (arith, t.0), omega (arith, t.1)))
+
+pub can_request : (b : RequestBody) → request_length b ≤ most_octets → CanBeRequested b
+can_request b le = can b (omega (arith, le))
+
+-- ---- the whole request
+
+pub length-request_message : (h : Header) (b : RequestBody) → length (request_message h b) ≡ request_length b
+unfolding header_octets
+length-request_message h b = omega (arith, length-append (body (requested b)) (string []))
+
+has_number : (b : RequestBody) → IsNumberOf (code_of (requested b)) (op_number (requested_code b))
+has_number (Resolution handle indexes types) = refl
+has_number (Create handle values) = refl
+has_number (Delete handle) = refl
+has_number (Add handle values) = refl
+has_number (Remove handle indexes) = refl
+has_number (Modify handle values) = refl
+has_number (ListAll handle) = refl
+has_number (Response kind handle index answer) = refl
+
+small_code : (code : OpCode) → IsNumber (op_number code)
+small_code ResolutionCode = omega arith
+small_code CreateHandle = omega arith
+small_code DeleteHandle = omega arith
+small_code AddValue = omega arith
+small_code RemoveValue = omega arith
+small_code ModifyValue = omega arith
+small_code ListHandles = omega arith
+small_code ChallengeResponse = omega arith
+
+pub request_is_spelt : (h : Header) (n : ℕ) (b : RequestBody) → HeaderFits (record { op_code = n; response_code = h.response_code; op_flag = h.op_flag; serial = h.serial; recursion = h.recursion; reserved = h.reserved; expiration = h.expiration })
+    → OperationFits (requested b) → request_length b ≤ most_octets → SpellsRequest (request_message h b) (request_content h b)
+request_is_spelt h n b fits parts le = record {
+  header_fits = record { op_code = small_code (requested_code b); response_code = fits.response_code; op_flag = fits.op_flag; serial = fits.serial; recursion = fits.recursion; reserved = fits.reserved; expiration = fits.expiration };
+  operation_fits = parts;
+  has_code = has_number b;
+  body_fits = omega (arith, le);
+  credential = [];
+  credential_fits = omega arith;
+  spelt = refl;
+}

@@ -1,0 +1,104 @@
+//! What the types of a request's parts say of them: they fit their fields.
+
+ghost use Rattle.std.specs.Prelude.{◌≡◌, ◌<◌, ◌^◌, length};
+ghost use Rattle.std.specs.List.{AllByRecursion};
+ghost use Rattle.hdl_value.specs.Spelling.{Fits, IsString, CanBeSpelt};
+ghost use Rattle.hdl_msg.specs.Message.{IsNumber, HeaderFits, OperationFits};
+ghost use Rattle.hdl_msg.specs.RequestBody.{requested, CanBeRequested};
+
+use crate::fields::Header;
+use crate::request_body::RequestBody;
+use hdl_value::{Octets, Value, number_fits, string_fits, value_fits};
+
+fn octet_fits(octet: u8)
+    ensures { octet < 2 ^ 8 }
+{
+    let _ = octet;
+}
+
+fn serial_fits(serial: u16)
+    ensures { serial < 2 ^ 16 }
+{
+    let _ = serial;
+}
+
+/// The numbers of a header fit its fields.
+pub(crate) fn header_fits(header: Header)
+    ensures { HeaderFits header }
+{
+    number_fits(header.op_code);
+    number_fits(header.response_code);
+    number_fits(header.op_flag);
+    serial_fits(header.serial);
+    octet_fits(header.recursion);
+    octet_fits(header.reserved);
+    number_fits(header.expiration);
+}
+
+fn numbers_fit(numbers: &[u32])
+    ensures { AllByRecursion IsNumber numbers.now }
+{
+    for number in numbers {
+        number_fits(*number);
+    }
+}
+
+fn strings_fit(strings: &[Octets])
+    requires { AllByRecursion (λ octets. length octets < 2 ^ 32) strings.now }
+    ensures { AllByRecursion IsString strings.now }
+{
+    for string in strings {
+        string_fits(string.as_slice());
+    }
+}
+
+fn values_fit(values: &[Value])
+    requires { AllByRecursion CanBeSpelt values.now }
+    ensures { AllByRecursion Fits values.now }
+{
+    for value in values {
+        value_fits(value);
+    }
+}
+
+/// The parts of a body fit their fields, where its lengths and counts do.
+pub(crate) fn body_fits(body: &RequestBody)
+    requires { CanBeRequested body.now }
+    ensures { OperationFits (requested body.now) }
+{
+    match body {
+        RequestBody::Resolution {
+            handle,
+            indexes,
+            types,
+        } => {
+            string_fits(handle.as_slice());
+            numbers_fit(indexes.as_slice());
+            strings_fit(types.as_slice());
+        }
+        RequestBody::Create { handle, values }
+        | RequestBody::Add { handle, values }
+        | RequestBody::Modify { handle, values } => {
+            string_fits(handle.as_slice());
+            values_fit(values.as_slice());
+        }
+        RequestBody::Delete { handle } | RequestBody::List { handle } => {
+            string_fits(handle.as_slice());
+        }
+        RequestBody::Remove { handle, indexes } => {
+            string_fits(handle.as_slice());
+            numbers_fit(indexes.as_slice());
+        }
+        RequestBody::Response {
+            kind,
+            handle,
+            index,
+            answer,
+        } => {
+            string_fits(kind.as_slice());
+            string_fits(handle.as_slice());
+            number_fits(*index);
+            string_fits(answer.as_slice());
+        }
+    }
+}

@@ -1,0 +1,141 @@
+//! Requests, written in the grammar that they are read in.
+
+ghost use Rattle.std.specs.Prelude.{◌≡◌, ◌≤◌, ◌<◌, ◌^◌, ◌++◌, length, IfOk, OnOk};
+ghost use Rattle.std.specs.List.{AllByRecursion};
+ghost use Rattle.hdl_value.specs.Spelling.{string, spelling, CanBeSpelt};
+ghost use Rattle.hdl_msg.specs.Message.{SpellsRequest, body, counted, number};
+ghost use Rattle.hdl_msg.specs.Reply.{most_octets};
+ghost use Rattle.hdl_msg.specs.RequestBody.{requested, request_content, request_message, request_length, CanBeRequested};
+
+use crate::fields::{Header, put_header};
+use crate::lengths::OVERHEAD;
+use crate::replies::{put_handles, put_values};
+use crate::request_body::RequestBody;
+use crate::request_fits::{body_fits, header_fits};
+use crate::request_lengths::request_len;
+use hdl_value::{Octets, Value, put_string, put_u32};
+use std::alloc::{AllocError, Global};
+
+fn put_numbers(out: &mut Vec<u8>, numbers: &[u32]) -> Result<(), AllocError>
+    requires { length numbers.now < 2 ^ 32 }
+    ensures { OnOk result (out.new.items ≡ out.old.items ++ counted number numbers.now) }
+{
+    put_u32(out, numbers.len() as u32)?;
+    for number in numbers {
+        put_u32(out, *number)?;
+    }
+    Ok(())
+}
+
+fn put_write(out: &mut Vec<u8>, handle: &[u8], values: &[Value]) -> Result<(), AllocError>
+    requires handle { length handle.now < 2 ^ 32 }
+    requires count { length values.now < 2 ^ 32 }
+    requires each { AllByRecursion CanBeSpelt values.now }
+    ensures { OnOk result (out.new.items ≡ out.old.items ++ (string handle.now ++ counted spelling values.now)) }
+{
+    put_string(out, handle)?;
+    put_values(out, values)
+}
+
+fn put_resolution(
+    out: &mut Vec<u8>,
+    handle: &[u8],
+    indexes: &[u32],
+    types: &[Octets],
+) -> Result<(), AllocError>
+    requires handle { length handle.now < 2 ^ 32 }
+    requires indexes { length indexes.now < 2 ^ 32 }
+    requires types { length types.now < 2 ^ 32 }
+    requires each { AllByRecursion (λ octets. length octets < 2 ^ 32) types.now }
+    ensures { OnOk result (out.new.items ≡ out.old.items ++ (string handle.now ++ (counted number indexes.now ++ counted string types.now))) }
+{
+    put_string(out, handle)?;
+    put_numbers(out, indexes)?;
+    put_handles(out, types)
+}
+
+fn put_response(
+    out: &mut Vec<u8>,
+    kind: &[u8],
+    handle: &[u8],
+    index: u32,
+    answer: &[u8],
+) -> Result<(), AllocError>
+    requires kind { length kind.now < 2 ^ 32 }
+    requires handle { length handle.now < 2 ^ 32 }
+    requires answer { length answer.now < 2 ^ 32 }
+    ensures { OnOk result (out.new.items ≡ out.old.items ++ (string kind.now ++ (string handle.now ++ (number index ++ string answer.now)))) }
+{
+    put_string(out, kind)?;
+    put_string(out, handle)?;
+    put_u32(out, index)?;
+    put_string(out, answer)
+}
+
+fn put_body(out: &mut Vec<u8>, asked: &RequestBody) -> Result<(), AllocError>
+    requires { CanBeRequested asked.now }
+    ensures { OnOk result (out.new.items ≡ out.old.items ++ body (requested asked.now)) }
+{
+    match asked {
+        RequestBody::Resolution {
+            handle,
+            indexes,
+            types,
+        } => put_resolution(out, handle.as_slice(), indexes.as_slice(), types.as_slice()),
+        RequestBody::Create { handle, values }
+        | RequestBody::Add { handle, values }
+        | RequestBody::Modify { handle, values } => {
+            put_write(out, handle.as_slice(), values.as_slice())
+        }
+        RequestBody::Delete { handle } | RequestBody::List { handle } => {
+            put_string(out, handle.as_slice())
+        }
+        RequestBody::Remove { handle, indexes } => {
+            put_string(out, handle.as_slice())?;
+            put_numbers(out, indexes.as_slice())
+        }
+        RequestBody::Response {
+            kind,
+            handle,
+            index,
+            answer,
+        } => put_response(
+            out,
+            kind.as_slice(),
+            handle.as_slice(),
+            *index,
+            answer.as_slice(),
+        ),
+    }
+}
+
+/// The one spelling of a request, as `read_request` reads it (RFC 3652, section 2.2, in our profile): the header with the
+/// operation's code, BodyLength, the body, and an empty credential. Of `header` all but the OpCode is taken as it is. The octets
+/// before the last four are those of which a digest is made.
+///
+/// The caller knows, by `request_len`, that the message has at most 65,536 octets. All memory is asked for at once, before
+/// anything is written. The envelope that makes a frame of the message is `hdl_frame`'s.
+pub fn write_request(
+    alloc: Global,
+    header: Header,
+    body: &RequestBody,
+) -> Result<Vec<u8>, AllocError>
+    requires short { request_length body.now ≤ most_octets }
+    ensures spelt { IfOk result (λ v. SpellsRequest v.items (request_content header body.now)) }
+    ensures octets { IfOk result (λ v. v.items ≡ request_message header body.now) }
+    ensures length { IfOk result (λ v. length v.items ≡ request_length body.now) }
+{
+    let len = request_len(body);
+    let mut out = Vec::with_capacity(alloc, len)?;
+    let header = Header {
+        op_code: body.op_code().number(),
+        ..header
+    };
+    header_fits(header);
+    put_header(&mut out, header)?;
+    put_u32(&mut out, (len - OVERHEAD) as u32)?;
+    body_fits(body);
+    put_body(&mut out, body)?;
+    put_u32(&mut out, 0)?;
+    Ok(out)
+}

@@ -1,0 +1,76 @@
+//! What the types of a value's parts say of them: they fit their fields. A contract sees a number behind a reference, or inside
+//! an owned value, without its type's range; who passes it here by value has the range as a clause.
+//!
+//! Nothing is computed but the walk over the references.
+
+ghost use Rattle.std.specs.Prelude.{◌≡◌, ◌<◌, ◌^◌, length};
+ghost use Rattle.std.specs.List.{AllByRecursion};
+ghost use Rattle.hdl_value.specs.Spelling.{AreOctets, IsString, RefFits, CanBeSpelt, Fits};
+
+use crate::references::RawRef;
+use crate::value::Value;
+
+/// A number of 32 bits fits four octets.
+pub fn number_fits(number: u32)
+    ensures fits { number < 2 ^ 32 }
+{
+    let _ = number;
+}
+
+fn stamp_fits(stamp: u64)
+    ensures fits { stamp < 2 ^ 64 }
+{
+    let _ = stamp;
+}
+
+fn octet_fits(octet: u8)
+    ensures fits { octet < 2 ^ 8 }
+{
+    let _ = octet;
+}
+
+fn ttl_fits(ttl: [u8; 5])
+    ensures length { length ttl ≡ 5 }
+    ensures octets { AreOctets ttl }
+{
+    let _ = ttl.as_slice();
+}
+
+/// Octets are a string, where their number fits four octets.
+pub fn string_fits(octets: &[u8])
+    requires short { length octets.now < 2 ^ 32 }
+    ensures fits { IsString octets.now }
+{
+    let _ = octets;
+}
+
+fn ref_fits(r: &RawRef)
+    requires short { length r.now.handle < 2 ^ 32 }
+    ensures fits { RefFits r.now }
+{
+    string_fits(r.handle.as_slice());
+    number_fits(r.index);
+}
+
+fn refs_fit(refs: &[RawRef])
+    requires short { AllByRecursion (λ r. length r.handle < 2 ^ 32) refs.now }
+    ensures fit { AllByRecursion RefFits refs.now }
+{
+    for r in refs {
+        ref_fits(r);
+    }
+}
+
+/// The parts of a value fit their fields, where its lengths and counts do.
+pub fn value_fits(value: &Value)
+    requires short { CanBeSpelt value.now }
+    ensures fits { Fits value.now }
+{
+    number_fits(value.index);
+    string_fits(value.kind.as_slice());
+    string_fits(value.bytes.as_slice());
+    ttl_fits(value.ttl);
+    octet_fits(value.perm);
+    stamp_fits(value.stamp);
+    refs_fit(value.refs.as_slice());
+}
