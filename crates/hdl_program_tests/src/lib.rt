@@ -1,6 +1,6 @@
 //! Tests of what stands on several crates: tables through their bound, in memory and in SQL, and runs of scripts that are made by a loop.
 //!
-//! They stand apart from those of `hdl_tests`, which need neither SQL nor the machine and so begin earlier. Beside the tests it has
+//! They stand apart from those of `hdl_tests` and `hdl_codec_tests`, which need neither SQL nor the machine and so begin earlier. Beside the tests it has
 //! the values that a table is to keep ([`values`]); nothing stands on it.
 #![tactic(auto)]
 

@@ -1,21 +1,13 @@
-//! The tests of the crates up to `hdl_ops`, by what they hand out: a file for each crate.
+//! The tests of the crates that keep something and of those that decide, up to `hdl_ops`, by what they hand out: a file for each crate.
 //!
 //! A crate with tests is proved twice and linked as a program of its own, however few they are. What a crate hands out is tested
-//! here, so the crate is proved once, and this one alone is linked. Beside the tests it has what several of them make ([`made`]),
-//! on which `hdl_program_tests` stands.
+//! here, or in `hdl_codec_tests` where it is a meaning of octets, so the crate is proved once, and these two alone are linked. Beside
+//! the tests this one has what several of them make ([`made`]), on which `hdl_program_tests` stands.
 #![tactic(auto)]
 
 #[cfg(test)]
-mod auth;
-#[cfg(test)]
 mod cache;
-#[cfg(test)]
-mod frame;
 pub mod made;
-#[cfg(test)]
-mod msg;
-#[cfg(test)]
-mod name;
 #[cfg(test)]
 mod ops;
 #[cfg(test)]
@@ -26,5 +18,3 @@ mod reach;
 mod slots;
 #[cfg(test)]
 mod tenants;
-#[cfg(test)]
-mod value;

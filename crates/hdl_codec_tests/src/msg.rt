@@ -1,5 +1,6 @@
 //! Requests and replies as the protocol's worked rows print them.
 
+use crate::made::{header, reply};
 use hdl_frame::Envelope;
 use hdl_msg::{
     Body, Digest, HandleList, Header, MESSAGE_MOST, OpCode, OpFlag, Reply, ReplyContent, Request,
@@ -11,7 +12,7 @@ use std::alloc::{AllocError, Global};
 use std::test::Fail;
 
 /// Octets that hexadecimal digits spell; anything between them is for the reader.
-fn hex(alloc: Global, text: &str) -> Result<Vec<u8>, AllocError> {
+pub(crate) fn hex(alloc: Global, text: &str) -> Result<Vec<u8>, AllocError> {
     let mut out = Vec::new(alloc);
     let mut high = None;
     for digit in text.bytes() {
@@ -36,30 +37,7 @@ const RESOLUTION: &str =
 const VALUE: &str =
     "00000001 00000003 55524c 00000009 687474703a2f2f612f 00 00015180 06 0000000000000000 00000000";
 
-/// The header of a request of this operation.
-fn header(op_code: OpCode) -> Header {
-    Header {
-        op_code: op_code.number(),
-        response_code: 0,
-        op_flag: 0,
-        serial: 0,
-        recursion: 0,
-        reserved: 0,
-        expiration: 0,
-    }
-}
-
-fn reply(request: u32, op_code: OpCode, code: ResponseCode, content: ReplyContent) -> Reply {
-    Reply {
-        session: 0,
-        request,
-        header: answer_header(header(op_code), code.number()),
-        digest: None,
-        content,
-    }
-}
-
-fn octets(alloc: Global, text: &[u8]) -> Result<Octets, AllocError> {
+pub(crate) fn octets(alloc: Global, text: &[u8]) -> Result<Octets, AllocError> {
     Ok(Octets::new(Vec::from_slice(alloc, text)?))
 }
 

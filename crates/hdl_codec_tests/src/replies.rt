@@ -1,0 +1,217 @@
+//! Replies, read as the frames of `crates/hdl_scripts/data` have them.
+
+use crate::msg::hex;
+use hdl_msg::{ContentView, Digest, ReplyForm, read_reply};
+use std::alloc::{AllocError, Global};
+use std::test::Fail;
+
+/// What the reply of these octets tells: its code, its digest, and of its content the form, the handle, prefix or nonce, and how
+/// many values or handles it has.
+fn told(message: &[u8]) -> Option<(u32, Option<Digest>, ReplyForm, &[u8], usize)> {
+    let reply = read_reply(message).ok()?;
+    let (form, octets, items) = match reply.content {
+        ContentView::Values { handle, values } => (ReplyForm::Values, handle, values.count()),
+        ContentView::Handles { handles } => (ReplyForm::Handles, b"".as_slice(), handles.count()),
+        ContentView::Nothing => (ReplyForm::Nothing, b"".as_slice(), 0),
+        ContentView::Referral { prefix } => (ReplyForm::Referral, prefix, 0),
+        ContentView::Nonce { nonce } => (ReplyForm::Nonce, nonce.as_slice(), 0),
+        ContentView::Empty => (ReplyForm::Empty, b"".as_slice(), 0),
+    };
+    Some((
+        reply.header.response_code,
+        reply.digest,
+        form,
+        octets,
+        items,
+    ))
+}
+
+/// A digest behind the octet of its hash function; no octets where there is none.
+fn spelt(alloc: Global, digest: Option<Digest>) -> Result<Vec<u8>, AllocError> {
+    let mut out = Vec::new(alloc);
+    if let Some(digest) = digest {
+        out.push(digest.algorithm().octet())?;
+        out.extend_from_slice(digest.as_slice())?;
+    }
+    Ok(out)
+}
+
+/// Whether the frame that these digits spell, behind its 20 octets of envelope, is a reply of this code with the digest of these
+/// digits and with this content.
+fn is_read(
+    alloc: Global,
+    frame: &str,
+    code: u32,
+    digest: &str,
+    expected: (ReplyForm, &[u8], usize),
+) -> Result<bool, AllocError> {
+    let frame = hex(alloc, frame)?;
+    let digest = hex(alloc, digest)?;
+    let Some((_, message)) = frame.split_at_checked(20) else {
+        return Ok(false);
+    };
+    let Some((read_code, read_digest, form, octets, items)) = told(message) else {
+        return Ok(false);
+    };
+    let read_digest = spelt(alloc, read_digest)?;
+    Ok(
+        read_code == code
+            && read_digest.as_slice() == digest.as_slice()
+            && (form, octets, items) == expected,
+    )
+}
+
+/// The reply to a resolution that shows two values.
+const TWO_VALUES: &str =
+    "020100000000000000000002000000000000006d0000000100000001000000000000000000000000000000510000000431302f680000000200000005000000015800000004666976650000000000020000000000001388000000000000000600000001580000000373697800000000000200000000000013880000000000000000";
+
+#[test]
+fn values(rt: HostRuntime) -> Result<(), Fail> {
+    let shown = (ReplyForm::Values, b"10/h".as_slice(), 2);
+    assert!(rt; is_read(rt.alloc(), TWO_VALUES, 1, "", shown)?);
+    let frame =
+        "020100000000000000000001000000000000006900000001000000010080000000000000000000000000004d036ce27d942cbe3228b00038592f9e788a4d6b991ac74a37149ef9d06b7508ecda0000000432302f7000000001000000010000000158000000016100000000000200000000000000000000000000000000";
+    let digest = "036ce27d942cbe3228b00038592f9e788a4d6b991ac74a37149ef9d06b7508ecda";
+    let shown = (ReplyForm::Values, b"20/p".as_slice(), 1);
+    assert!(rt; is_read(rt.alloc(), frame, 1, digest, shown)?);
+    Ok(())
+}
+
+/// The octets of the last value that a reply shows.
+fn last_value(message: &[u8]) -> Option<&[u8]> {
+    let reply = read_reply(message).ok()?;
+    let mut last = None;
+    if let ContentView::Values { values, .. } = reply.content {
+        for value in values {
+            last = Some(value.octets());
+        }
+    }
+    last
+}
+
+#[test]
+fn values_where_they_stand(rt: HostRuntime) -> Result<(), Fail> {
+    let frame = hex(rt.alloc(), TWO_VALUES)?;
+    let value = hex(
+        rt.alloc(),
+        "00000006 00000001 58 00000003 736978 0000000000 02 0000000000001388 00000000",
+    )?;
+    let (_, message) = frame.split_at_checked(20).expect(&rt, "an envelope");
+    assert_eq!(rt; last_value(message), Some(value.as_slice()));
+    Ok(())
+}
+
+#[test]
+fn handles(rt: HostRuntime) -> Result<(), Fail> {
+    let frame =
+        "02010000000000010000000b000000000000003800000069000000010000000000000000000000000000001c000000030000000431302f420000000431302f620000000431302f6b00000000";
+    let listed = (ReplyForm::Handles, b"".as_slice(), 3);
+    assert!(rt; is_read(rt.alloc(), frame, 1, "", listed)?);
+    Ok(())
+}
+
+#[test]
+fn writes(rt: HostRuntime) -> Result<(), Fail> {
+    let done = (ReplyForm::Nothing, b"".as_slice(), 0);
+    let frame =
+        "02010000000000010000000b000000000000001c00000066000000010000000000000000000000000000000000000000";
+    assert!(rt; is_read(rt.alloc(), frame, 1, "", done)?, "an add");
+    let frame =
+        "020100000000000100000009000000000000003100000065000000010080000000000000000000000000001502a39a7131cb99fe8f550975a2e95703e56d6be76000000000";
+    let digest = "02a39a7131cb99fe8f550975a2e95703e56d6be760";
+    assert!(rt;
+        is_read(rt.alloc(), frame, 1, digest, done)?,
+        "a delete with a digest"
+    );
+    Ok(())
+}
+
+#[test]
+fn referrals(rt: HostRuntime) -> Result<(), Fail> {
+    let frame =
+        "020100000000000000000002000000000000002b000000010000012e0000000000000000000000000000000f00000007302e4e412f33300000000000000000";
+    let referral = (ReplyForm::Referral, b"30".as_slice(), 0);
+    assert!(rt; is_read(rt.alloc(), frame, 302, "", referral)?);
+    let frame =
+        "0201000000000000000000020000000000000040000000010000012e0080000000000000000000000000002402d15cb7747bbadef25b130d46a57f1317e16886b900000007302e4e412f32300000000000000000";
+    let digest = "02d15cb7747bbadef25b130d46a57f1317e16886b9";
+    let referral = (ReplyForm::Referral, b"20".as_slice(), 0);
+    assert!(rt;
+        is_read(rt.alloc(), frame, 302, digest, referral)?,
+        "with a digest"
+    );
+    Ok(())
+}
+
+/// A challenge has a digest whether or not it was asked for.
+#[test]
+fn challenges(rt: HostRuntime) -> Result<(), Fail> {
+    let nonce = [0, 1, 2, 3, 4, 5, 6, 7, 8, 9, 10, 11, 12, 13, 14, 15];
+    let challenge = (ReplyForm::Nonce, nonce.as_slice(), 0);
+    let frame =
+        "02010000000000010000000a000000000000004500000066000001920000000000000000000000000000002902d66ad0790b080c15d1d57987f44c30767740d3c800000010000102030405060708090a0b0c0d0e0f00000000";
+    let digest = "02d66ad0790b080c15d1d57987f44c30767740d3c8";
+    assert!(rt; is_read(rt.alloc(), frame, 402, digest, challenge)?);
+    let frame =
+        "020100000000000100000008000000000000004500000065000001920080000000000000000000000000002902a39a7131cb99fe8f550975a2e95703e56d6be76000000010000102030405060708090a0b0c0d0e0f00000000";
+    let digest = "02a39a7131cb99fe8f550975a2e95703e56d6be760";
+    assert!(rt;
+        is_read(rt.alloc(), frame, 402, digest, challenge)?,
+        "asked for"
+    );
+    let frame =
+        "0201000000000001000000070000000000000051000000010000019200000000000000000000000000000035036a3bec575f75aee57ff5aa63729b41ab97e4555bc9666f87a3abf50bf2de5b0200000010000102030405060708090a0b0c0d0e0f00000000";
+    let digest = "036a3bec575f75aee57ff5aa63729b41ab97e4555bc9666f87a3abf50bf2de5b02";
+    assert!(rt;
+        is_read(rt.alloc(), frame, 402, digest, challenge)?,
+        "by SHA-256"
+    );
+    Ok(())
+}
+
+#[test]
+fn other_codes(rt: HostRuntime) -> Result<(), Fail> {
+    let nothing = (ReplyForm::Empty, b"".as_slice(), 0);
+    let frame =
+        "02010000000000000000000100000000000000200000000100000064000000000000000000000000000000040000000000000000";
+    assert!(rt; is_read(rt.alloc(), frame, 100, "", nothing)?);
+    let frame =
+        "020100000000000000000001000000000000004100000001000000640080000000000000000000000000002503fb138edebec079d3d35d2f84840f63983df8a9b632c86e2acffd073b90e8309b0000000000000000";
+    let digest = "03fb138edebec079d3d35d2f84840f63983df8a9b632c86e2acffd073b90e8309b";
+    assert!(rt;
+        is_read(rt.alloc(), frame, 100, digest, nothing)?,
+        "with a digest"
+    );
+    let frame =
+        "02010000000000000000000100000000000000200000000000000004000000000000000000000000000000040000000000000000";
+    assert!(rt;
+        is_read(rt.alloc(), frame, 4, "", nothing)?,
+        "a short reply"
+    );
+    Ok(())
+}
+
+/// Whether the message that these digits spell is no reply.
+fn is_malformed(alloc: Global, digits: &str) -> Result<bool, AllocError> {
+    let message = hex(alloc, digits)?;
+    Ok(read_reply(&message).is_err())
+}
+
+#[test]
+fn what_no_service_says(rt: HostRuntime) -> Result<(), Fail> {
+    let cases = [
+        // An octet behind the credential; a credential.
+        "00000001 00000064 00000000 00000000 00000000 00000004 00000000 00000000 00",
+        "00000001 00000064 00000000 00000000 00000000 00000004 00000000 00000001 00",
+        // A digest that isn't announced; one that is, and is lacking.
+        "00000065 00000001 00000000 00000000 00000000 00000015 02a39a7131cb99fe8f550975a2e95703e56d6be760 00000000",
+        "00000001 00000064 00800000 00000000 00000000 00000004 00000000 00000000",
+        // The octet of no hash function; that of SHA-256, with the octets of SHA-1.
+        "00000065 00000001 00800000 00000000 00000000 00000015 04a39a7131cb99fe8f550975a2e95703e56d6be760 00000000",
+        "00000065 00000001 00800000 00000000 00000000 00000015 03a39a7131cb99fe8f550975a2e95703e56d6be760 00000000",
+    ];
+    for digits in cases {
+        assert!(rt; is_malformed(rt.alloc(), digits)?);
+    }
+    Ok(())
+}
