@@ -1,14 +1,16 @@
 #!/usr/bin/env python3
 """Random and mutated frames, messages and tenants texts for `handled replay`, a process for each script.
 
-    tools/fuzz.py [COUNT] [SEED] [--other PROGRAM]       by default 1000 scripts of seed 1
+    tools/fuzz.py [COUNT] [SEED]       by default 1000 scripts of seed 1; needs the programs of ./test, or of `rt run` in both crates
 
 The scripts grow from those of crates/hdl_scripts/data: octets are flipped, cut, spliced and repeated, lengths and counts replaced by edges,
 lines swapped and dropped, events of several scripts mixed. It fails on a crash, on a run of more than a second of processor time, on more than 200 MB of
-memory, on an output line that isn't one of the four forms, on an exit status or a fault line that docs/PROTOCOL.md doesn't have, and, with
-another program (bench/replay makes one over the table in memory), on any difference between the two.
+memory, on an output line that isn't one of the four forms, and on an exit status or a fault line that docs/PROTOCOL.md doesn't have. What
+`handled` told over the table in SQL is what `hdl_scripts` then expects over both tables, so it fails on any difference between them too.
+Its last line is 'N passed, M failed', in scripts.
 """
 
+import collections
 import glob
 import os
 import random
@@ -17,15 +19,19 @@ import resource
 import signal
 import subprocess
 import sys
+import tempfile
 
 ROOT = os.path.dirname(os.path.dirname(os.path.abspath(__file__)))
 PROGRAM = os.path.join(ROOT, "crates", "handled", "out", "handled")
+BOTH_TABLES = os.path.join(ROOT, "crates", "hdl_scripts", "out", "hdl_scripts")
 SCRIPTS = os.path.join(ROOT, "crates", "hdl_scripts", "data", "*.script")
 EDGES = ["00000000", "00000001", "7fffffff", "80000000", "ffffffff", "40000000", "00010000", "00010001", "000001ec", "000001ed", "00000800", "00000801"]
 LINE = re.compile(rb"\d+ (silent|reply ([0-9a-f]{2})+|busy [0-9a-f]{104}|close [0-9a-f]{104})")
 FAULT = re.compile(rb"(line \d+: bad event|input too long|input not UTF-8|no memory|store refused|device fault"
                    rb"|tenants: line \d+: (bad line|prefix given twice|publisher given twice|more than 64 lanes|no memory))\n")
 MEMORY = 200 * 1024 * 1024
+# How many scripts one process runs over both tables.
+AT_ONCE = 500
 
 
 def parts(script):
@@ -81,9 +87,9 @@ def made(chance, scripts):
     return ("\n".join(tenants + ["run", "open 0", "open 2"] + events) + "\n").encode()
 
 
-def limit():
+def limit(seconds=1):
     resource.setrlimit(resource.RLIMIT_AS, (MEMORY, MEMORY))
-    resource.setrlimit(resource.RLIMIT_CPU, (1, 2))
+    resource.setrlimit(resource.RLIMIT_CPU, (seconds, seconds + 1))
 
 
 def run(program, script):
@@ -104,30 +110,54 @@ def run(program, script):
     return told, None
 
 
+def keep(folder, number, script, told):
+    """Puts the script and what it told where `hdl_scripts` reads them."""
+    status, output, fault = told
+    for ending, octets in (("script", script), ("expected", output + fault + b"status %d\n" % status)):
+        with open(os.path.join(folder, "%06d.%s" % (number, ending)), "wb") as file:
+            file.write(octets)
+
+
+def differing(folder, numbers):
+    """The scripts of the folder of which the tables don't both tell what is expected, or that the program didn't come to."""
+    done = subprocess.run([BOTH_TABLES], cwd=folder, input=b"scripts\n", stdout=subprocess.PIPE, check=False, preexec_fn=lambda: limit(AT_ONCE))
+    agreed = set(done.stdout.decode().splitlines())
+    return [number for number in numbers if "%06d: as expected" % number not in agreed]
+
+
+def run_some(seed, numbers, scripts):
+    """The exit status of each of these scripts that ended, and the fault of each that has one."""
+    statuses, faults = {}, {}
+    with tempfile.TemporaryDirectory() as folder:
+        for number in numbers:
+            script = made(random.Random("%d %d" % (seed, number)), scripts)
+            told, fault = run(PROGRAM, script)
+            if fault:
+                faults[number] = fault
+            else:
+                statuses[number] = told[0]
+                keep(folder, number, script, told)
+        faults.update({number: "the tables differ" for number in differing(folder, statuses)})
+    return statuses, faults
+
+
 def main():
-    words = sys.argv[1:]
-    other = None
-    if "--other" in words:
-        at = words.index("--other")
-        other = words[at + 1]
-        words = words[:at] + words[at + 2:]
-    count = int(words[0]) if words else 1000
-    seed = int(words[1]) if len(words) > 1 else 1
+    count, seed = [int(word) for word in sys.argv[1:]] + [1000, 1][len(sys.argv) - 1:]
+    missing = [program for program in (PROGRAM, BOTH_TABLES) if not os.access(program, os.X_OK)]
+    if missing:
+        print("fuzz: there is no %s\n0 passed, 1 failed" % missing[0])
+        sys.exit(1)
     scripts = [open(name, encoding="utf-8").read() for name in sorted(glob.glob(SCRIPTS)) if os.path.getsize(name) < 20000]
-    failed, statuses = 0, {}
-    for number in range(count):
-        script = made(random.Random("%d %d" % (seed, number)), scripts)
-        told, fault = run(PROGRAM, script)
-        if not fault and other:
-            others, fault = run(other, script)
-            if not fault and others != told:
-                fault = "the other program differs"
-        statuses[told[0] if told else None] = statuses.get(told[0] if told else None, 0) + 1
-        if fault:
-            failed += 1
-            print("script %d of seed %d: %s" % (number, seed, fault))
-    print("scripts: %d, failed: %d, by exit status: %s" % (count, failed, statuses))
-    sys.exit(1 if failed else 0)
+    ended, faults = collections.Counter(), {}
+    for first in range(0, count, AT_ONCE):
+        statuses, some = run_some(seed, range(first, min(first + AT_ONCE, count)), scripts)
+        ended.update(statuses.values())
+        faults.update(some)
+    for number, fault in sorted(faults.items()):
+        print("script %d of seed %d: %s" % (number, seed, fault))
+    print("%d scripts of seed %d: %s" % (count, seed, ", ".join("%d ended with status %d" % (ended[status], status) for status in sorted(ended))))
+    print("%d passed, %d failed" % (count - len(faults), len(faults)))
+    sys.exit(1 if faults else 0)
 
 
 main()

@@ -18,4 +18,5 @@ mod script;
 
 pub use fault::Fault;
 pub use input::{INPUT_LIMIT, read_input};
-pub use replaying::{put_all, replay, replayed};
+pub use replaying::{line_of, put_all, replay, replayed};
+pub use script::{Parts, events_of, parts_of};

@@ -34,7 +34,7 @@ fn octets_line(alloc: Global, lane: u16, word: &str, octets: &[u8]) -> Result<St
 }
 
 /// The line that tells one outcome.
-fn line_of(alloc: Global, lane: u16, outcome: &Outcome) -> Result<String, Fault> {
+pub fn line_of(alloc: Global, lane: u16, outcome: &Outcome) -> Result<String, Fault> {
     match outcome {
         Outcome::Reply(octets) => octets_line(alloc, lane, "reply", octets.as_slice()),
         Outcome::Busy(octets) => octets_line(alloc, lane, "busy", octets.as_slice()),

@@ -1,9 +1,15 @@
-//! Runs each script of `data/` over both tables, in memory and in SQL, and compares what it tells with what stands beside it: for
+//! Runs scripts of `data/` over both tables, in memory and in SQL, and compares what they tell with what stands beside them: for
 //! `NAME.script` the file `NAME.expected`.
 //!
-//! What a script tells are its printed lines, its fault line if it has one, and a line `status N`. For each script a line is
-//! printed, in the order of the names: `NAME: as expected`, or the table and the first line that is another one. `stdout` has these lines, so a
-//! script that is missing is seen too.
+//! Each line of standard input says what to run. `scripts`: each script of the folder, whole, over both tables; for each a line is printed, in the
+//! order of the names: `NAME: as expected`, or the table and the first line that is another one. What a script tells are its printed lines, its
+//! fault line if it has one, and a line `status N`. `stdout` has these lines, so a script that is missing is seen too.
+//!
+//! `memory NAME` and `sql NAME`: one script event by event over one of the tables, each event a run of its own; what is answered Busy or
+//! comes back is sent once more, with its octets as they were, before the next event. `memory-calls NAME` and `sql-calls NAME`: the same
+//! again and again, with another call of the table refused each time, until a whole row meets none. All that takes memory is tried
+//! twice here, the reading of the script too, so what is printed is the same whichever one request for memory is refused:
+//! `tools/refuse-memory` refuses each in turn. On standard error stands what a refusal came to: `busy`, `early`, or the fault of an opening.
 //!
 //! Scripts are data and not tests, since a test is proved: here a few functions are, however many scripts there are.
 #![tactic(auto)]
@@ -11,12 +17,21 @@
 ghost use Rattle.std.specs.Prelude.{◌≡◌, ◌≢◌, IsNone, IsSome};
 ghost use Rattle.hdl_rows.specs.Table.{no_rows};
 
+mod play;
+mod row;
+
 use hdl_replay::replay;
 use hdl_rows::{PlainRows, Rows};
 use hdl_sqlrows::SqlRows;
+use play::{Ending, Table, each_call, play};
+use row::row_of;
 use std::alloc::Global;
+use std::io::Read;
 use std::process::ExitCode;
 use std::{fs, io};
+
+/// The most octets of standard input, which take no memory.
+const ROOM: usize = 4096;
 
 /// The names of the scripts in the folder, in order.
 fn names(rt: &HostRuntime, folder: &str) -> io::Result<Vec<String>> {
@@ -80,10 +95,78 @@ fn compared(rt: &HostRuntime, name: &str) -> io::Result<bool> {
     Ok(in_memory.is_none() && in_sql.is_none())
 }
 
-fn main(rt: HostRuntime) -> io::Result<ExitCode> {
+/// Plays a row in the way that the word says. None: there's no such way.
+fn played_as(rt: &HostRuntime, way: &str, name: &str) -> Option<Ending> {
+    let Some(row) = row_of(rt, name) else {
+        return None;
+    };
+    match way {
+        "memory" => Some(play(rt, &row, Table::Memory, 0)),
+        "sql" => Some(play(rt, &row, Table::Sql, 0)),
+        "memory-calls" => Some(each_call(rt, &row, Table::Memory)),
+        "sql-calls" => Some(each_call(rt, &row, Table::Sql)),
+        _ => None,
+    }
+}
+
+/// Plays what the line names, and prints whether each event came to its outcome.
+fn printed(rt: &HostRuntime, line: &str) -> io::Result<bool> {
+    let played = match line.split_once(' ') {
+        Some((way, name)) => played_as(rt, way, name),
+        None => None,
+    };
+    match played {
+        Some(Ending::Right { refusals: 0 | 1 }) => println!(rt; "{line}: as expected")?,
+        Some(Ending::Right { refusals }) => println!(rt; "{line}: refused {refusals} times")?,
+        Some(Ending::Wrong { event }) => println!(rt;
+            "{line}: event {event} came to another outcome"
+        )?,
+        Some(Ending::Unopened) => println!(rt; "{line}: not opened")?,
+        None => println!(rt; "{line}: no such row")?,
+    }
+    Ok(matches!(played, Some(Ending::Right { refusals: 0 | 1 })))
+}
+
+/// Fills the room with standard input, and tells how many octets there were.
+fn read_all(rt: &HostRuntime, room: &mut [u8]) -> io::Result<usize> {
+    let mut input = rt.stdin();
+    let mut count = 0usize;
+    // each read but the last gives an octet at least
+    for _ in 0..=ROOM {
+        let Some(rest) = room.get_mut(count..) else {
+            break;
+        };
+        let more = input.read(rest)?;
+        if more == 0 {
+            break;
+        }
+        count = count.saturating_add(more);
+    }
+    Ok(count)
+}
+
+/// Runs each script of the folder over both tables.
+fn all_compared(rt: &HostRuntime) -> io::Result<bool> {
     let mut all = true;
-    for name in &names(&rt, ".")? {
-        all &= compared(&rt, name.as_str())?;
+    for name in &names(rt, ".")? {
+        all &= compared(rt, name.as_str())?;
+    }
+    Ok(all)
+}
+
+fn main(rt: HostRuntime) -> io::Result<ExitCode> {
+    let mut room = [0u8; ROOM];
+    let count = read_all(&rt, &mut room)?;
+    let Ok(text) = str::from_utf8(room.get(..count).unwrap_or(&[])) else {
+        return Err(io::Error::from(io::ErrorKind::InvalidData));
+    };
+    let mut all = true;
+    for line in text.lines() {
+        all &= if line == "scripts" {
+            all_compared(&rt)?
+        } else {
+            printed(&rt, line)?
+        };
     }
     Ok(if all {
         ExitCode::SUCCESS

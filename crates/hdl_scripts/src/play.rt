@@ -1,0 +1,168 @@
+//! Playing a row.
+
+ghost use Rattle.std.specs.Prelude.{◌≡◌, IfSome, false};
+ghost use Rattle.hdl_laws.specs.Runs.{is_busy};
+ghost use Rattle.hdl_rows.specs.Table.{no_rows};
+
+use crate::row::{Row, TRIES};
+use hdl_core::{Early, Event, Outcome, Rows, Service, Tenants};
+use hdl_replay::{events_of, line_of, parts_of};
+use hdl_rows::{Fuse, PlainRows};
+use hdl_sqlrows::SqlRows;
+
+/// More than the calls of the table that any row makes.
+const MOST_CALLS: u64 = 1000;
+
+/// What keeps the table.
+#[derive(Clone, Copy)]
+pub(crate) enum Table {
+    Memory,
+    Sql,
+}
+
+/// What came of playing a row.
+#[derive(Clone, Copy)]
+pub(crate) enum Ending {
+    /// The service couldn't be opened.
+    Unopened,
+    /// Each event came to its outcome, and so many were Busy or came back before.
+    Right { refusals: u32 },
+    /// The event of this number, counted from 1, came to another outcome, or was refused each time.
+    Wrong { event: usize },
+}
+
+/// The outcome of one event that wasn't answered Busy.
+fn settled(mut outcomes: Vec<Outcome>) -> Option<Outcome>
+    ensures never_busy { IfSome result (λ outcome. is_busy outcome ≡ false) }
+{
+    match outcomes.pop() {
+        Some(Outcome::Busy(_)) => None,
+        outcome => outcome,
+    }
+}
+
+/// Whether the line of an outcome is this one.
+fn is_line(rt: &HostRuntime, lane: u16, outcome: &Outcome, wanted: &str) -> bool {
+    for _ in 0..TRIES {
+        if let Ok(line) = line_of(rt.alloc(), lane, outcome) {
+            return line.strip_suffix('\n') == Some(wanted);
+        }
+    }
+    false
+}
+
+/// Sends the event of a script's line, and once more where it is Busy or comes back, which is counted. Tells whether it then came to
+/// the outcome of the wanted line.
+fn is_answered<R: Rows + Drop>(
+    rt: &HostRuntime,
+    service: &mut Service<R>,
+    line: &str,
+    wanted: &str,
+    refusals: &mut u32,
+) -> bool {
+    let mut back: Option<Vec<Event>> = None;
+    for _ in 0..TRIES {
+        let events = match back.take() {
+            Some(events) => events,
+            None => match events_of(rt.alloc(), line, 0) {
+                Ok(events) => events,
+                Err(_) => continue,
+            },
+        };
+        let Some(lane) = events.first().map(|event| event.lane) else {
+            return false;
+        };
+        let refusal = match service.run(events) {
+            Ok(outcomes) => match settled(outcomes) {
+                Some(outcome) => return is_line(rt, lane, &outcome, wanted),
+                None => "busy",
+            },
+            Err(Early(events)) => {
+                back = Some(events);
+                "early"
+            }
+        };
+        *refusals = refusals.saturating_add(1);
+        let _ = eprintln!(rt; "{refusal}");
+    }
+    false
+}
+
+/// Opens a service of a tenants text over an empty table.
+fn opened<R: Rows + Drop>(rt: &HostRuntime, tenants: &str, rows: R) -> Option<Service<R>>
+    requires empty { R.content rows ≡ no_rows }
+{
+    let Ok(tenants) = Tenants::read(rt.alloc(), tenants) else {
+        return None;
+    };
+    match Service::open(rt.alloc(), tenants, rows) {
+        Ok(service) => Some(service),
+        Err(fault) => {
+            let _ = eprintln!(rt; "{fault}");
+            None
+        }
+    }
+}
+
+/// Sends the events of a script in turn, and tells what they came to beside the lines that are expected.
+fn play_events<R: Rows + Drop>(
+    rt: &HostRuntime,
+    service: &mut Service<R>,
+    script: &str,
+    expected: &str,
+) -> Ending {
+    let mut refusals = 0;
+    let mut expected = expected.lines();
+    let mut event = 0usize;
+    for line in script.lines() {
+        event = event.saturating_add(1);
+        let wanted = expected.next().unwrap_or("");
+        if !is_answered(rt, service, line, wanted, &mut refusals) {
+            return Ending::Wrong { event };
+        }
+    }
+    match expected.next() {
+        Some("status 0") => Ending::Right { refusals },
+        _ => Ending::Wrong { event },
+    }
+}
+
+/// Plays a row over an empty table.
+fn play_over<R: Rows + Drop>(rt: &HostRuntime, row: &Row, rows: R) -> Ending
+    requires empty { R.content rows ≡ no_rows }
+{
+    let parts = parts_of(&row.script);
+    match opened(rt, parts.tenants, rows) {
+        Some(mut service) => play_events(rt, &mut service, parts.script, &row.expected),
+        None => Ending::Unopened,
+    }
+}
+
+/// Plays a row over an empty table whose nth call is refused, none with 0. What can't be opened is tried once more.
+pub(crate) fn play(rt: &HostRuntime, row: &Row, table: Table, nth: u64) -> Ending {
+    for _ in 0..TRIES {
+        let ending = match table {
+            Table::Memory => play_over(rt, row, Fuse::new(PlainRows::new(rt.alloc()), nth, nth)),
+            Table::Sql => match SqlRows::new(rt.alloc()) {
+                Ok(rows) => play_over(rt, row, Fuse::new(rows, nth, nth)),
+                Err(_) => Ending::Unopened,
+            },
+        };
+        if !matches!(ending, Ending::Unopened) {
+            return ending;
+        }
+    }
+    Ending::Unopened
+}
+
+/// Plays a row with each call of the table refused in turn that follows the opening, until a whole row meets none.
+pub(crate) fn each_call(rt: &HostRuntime, row: &Row, table: Table) -> Ending {
+    for nth in 1..=MOST_CALLS {
+        match play(rt, row, table, nth) {
+            // a call of the opening, or one behind it
+            Ending::Unopened | Ending::Right { refusals: 1 } => {}
+            ending => return ending,
+        }
+    }
+    Ending::Unopened
+}
