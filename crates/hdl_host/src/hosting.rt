@@ -1,10 +1,10 @@
 //! Listening, and the service on the calling thread.
 
-ghost use Rattle.std.specs.Prelude.{◌≡◌};
+ghost use Rattle.std.specs.Prelude.{◌≡◌, IfOk};
 ghost use Rattle.hdl_rows.specs.Table.{no_rows};
 ghost use Rattle.hdl_serve.specs.Served.{AreDistinct};
 
-use crate::sockets::MachineClock;
+use crate::clock::MachineClock;
 use crate::workers::{join_all, start};
 use hdl_core::{Rows, Service, Tenants};
 use hdl_replay::{Fault, put_all};
@@ -27,6 +27,15 @@ pub struct Place {
     pub listener: TcpListener,
     pub socket: UdpSocket,
     pub lanes: u16,
+}
+
+/// What is there before anything is served: every lane, every socket, and the lines that tell where they are.
+#[derive(Drop)]
+struct Ready {
+    ends: Vec<LaneEnds>,
+    far: Vec<Far>,
+    places: Vec<Place>,
+    lines: String,
 }
 
 /// What the machine doesn't give is a device fault.
@@ -74,20 +83,43 @@ fn places_of<R: Net<Listener = TcpListener, Stream = TcpStream>>(
     Ok((places, lines))
 }
 
+/// Makes the lanes of the tenants and listens for each publisher.
+fn ready_for<R: Net<Listener = TcpListener, Stream = TcpStream>>(
+    rt: &R,
+    alloc: Global,
+    tenants: &Tenants,
+) -> Result<Ready, Fault>
+    ensures distinct { IfOk result (λ ready. AreDistinct ready.ends.items) }
+{
+    let (ends, far) = lanes_of(alloc, tenants.lanes(), RING)?;
+    let (places, lines) = places_of(rt, alloc, tenants)?;
+    Ok(Ready {
+        ends,
+        far,
+        places,
+        lines,
+    })
+}
+
 /// Starts the workers, serves on this thread, and joins them.
 fn served<R: Threads + Clock + RandomSource + Copy + Send + Drop + 'static, T: Rows + Drop>(
     rt: &R,
     alloc: Global,
     service: Service<T>,
-    places: Vec<Place>,
-    sides: (Vec<LaneEnds>, Vec<Far>),
+    ready: Ready,
     turns: u64,
 ) -> Result<(), Fault>
-    requires distinct { AreDistinct sides.0.items }
+    requires distinct { AreDistinct ready.ends.items }
 {
-    let (ends, far) = sides;
+    let Ready {
+        ends,
+        far,
+        places,
+        ..
+    } = ready;
+    let lanes = u16::try_from(ends.len()).unwrap_or(u16::MAX);
     let workers = start(rt, alloc, places, far, turns)?;
-    let mut clock = MachineClock::new(*rt);
+    let mut clock = MachineClock::new(*rt, lanes);
     drop(serve(alloc, service, ends, &mut clock, turns));
     join_all(rt, workers)
 }
@@ -120,11 +152,10 @@ pub fn hosted<
     requires empty { T.content rows ≡ no_rows }
 {
     let tenants = tenants_of(alloc, text)?;
-    let sides = lanes_of(alloc, tenants.lanes(), RING)?;
-    let (places, lines) = places_of(rt, alloc, &tenants)?;
+    let ready = ready_for(rt, alloc, &tenants)?;
     let service = Service::open(alloc, tenants, rows)?;
-    put_all(output, lines.as_bytes())?;
-    served(rt, alloc, service, places, sides, turns)
+    put_all(output, ready.lines.as_bytes())?;
+    served(rt, alloc, service, ready, turns)
 }
 
 /// Serves the tenants of the text over TCP and UDP on loopback, over a table in SQL, until each worker ended or the turns are

@@ -14,6 +14,7 @@
 //! It stands on `hdl_serve`, `hdl_core` and `hdl_sqlrows`, and on `hdl_replay` for the faults of the program.
 #![tactic(auto)]
 
+mod clock;
 mod hosting;
 mod sockets;
 mod workers;
@@ -22,3 +23,5 @@ pub use hosting::{host, hosted};
 
 #[cfg(test)]
 mod tests;
+#[cfg(test)]
+mod two_workers;

@@ -1,12 +1,12 @@
-//! The machine's sockets, clock and random numbers as doors, a clock and nonces. They tell nothing.
+//! The machine's sockets and random numbers as doors and nonces. They tell nothing.
 
-use hdl_serve::{Clock, Door, DoorFault, Nonces, Packets};
+use hdl_serve::{Door, DoorFault, Nonces, Packets};
 use rand::RngExt;
 use rand::rngs::StdRng;
 use std::io::{ErrorKind, Read, Write};
 use std::net::{SocketAddr, TcpListener, TcpStream, UdpSocket};
 use std::thread;
-use std::time::{Duration, SystemTime};
+use std::time::Duration;
 
 /// The most peers that a datagram socket numbers.
 const PEERS: usize = 1024;
@@ -176,42 +176,6 @@ impl Packets for SocketPackets {
 
     fn faults(&self) -> u64 {
         self.faults
-    }
-}
-
-/// The machine's clock in milliseconds, and sleep.
-#[derive(Drop)]
-pub struct MachineClock<R> {
-    rt: R,
-    last: u64,
-}
-
-impl<R> MachineClock<R> {
-    pub fn new(rt: R) -> MachineClock<R> {
-        MachineClock { rt, last: 0 }
-    }
-}
-
-impl<R: std::rt::Clock> Clock for MachineClock<R> {
-    ghost use Rattle.std.specs.Prelude.{false, []};
-
-    ghost tells = { false };
-
-    ghost answers = { λ _. [] };
-
-    fn now(&mut self) -> u64 {
-        if let Ok(now) = SystemTime::now(&self.rt) {
-            if let Ok(since) = now.duration_since(SystemTime::UNIX_EPOCH) {
-                if let Ok(moment) = u64::try_from(since.as_millis()) {
-                    self.last = moment;
-                }
-            }
-        }
-        self.last
-    }
-
-    fn pause(&mut self) {
-        thread::sleep(&self.rt, Duration::from_micros(100));
     }
 }
 

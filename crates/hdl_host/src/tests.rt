@@ -12,13 +12,13 @@ use std::thread;
 use std::time::Duration;
 
 /// One publisher with a stream lane and a datagram lane.
-const TENANTS: &str = "publisher acme 2 2641\nprefix 10 acme\nprefix 10.abc acme\n";
+pub(crate) const TENANTS: &str = "publisher acme 2 2641\nprefix 10 acme\nprefix 10.abc acme\n";
 
 /// A resolution of `10/a`, which is absent, and its reply.
-const FRAME: &str =
+pub(crate) const FRAME: &str =
     "020100000000000000000001000000000000002c0000000100000000000000000000000000000000000000100000000431302f61000000000000000000000000";
 
-const REPLY: &str =
+pub(crate) const REPLY: &str =
     "02010000000000000000000100000000000000200000000100000064000000000000000000000000000000040000000000000000";
 
 /// The octets of a message's envelope that stand before its sequence number, for a piece.

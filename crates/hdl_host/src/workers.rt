@@ -3,8 +3,9 @@
 ghost use Rattle.std.specs.Prelude.{◌≡◌, []};
 ghost use Rattle.hdl_lanes.specs.Lane.{put_into, taken_from};
 
+use crate::clock::MachineClock;
 use crate::hosting::{Place, had};
-use crate::sockets::{MachineClock, MachineNonces, SocketDoor, SocketPackets};
+use crate::sockets::{MachineNonces, SocketDoor, SocketPackets};
 use hdl_replay::Fault;
 use hdl_serve::{Far, Why, WorkerEnd, packet_worker, stream_worker};
 use rand::make_rng;
@@ -32,7 +33,7 @@ fn start_stream<R: Threads + Clock + RandomSource + Copy + Send + Drop + 'static
             requires { (put_into inlet ≡ []) × (taken_from outcomes ≡ []) }
         {
             let mut door = SocketDoor::new(theirs, listener);
-            let mut clock = MachineClock::new(theirs);
+            let mut clock = MachineClock::new(theirs, 1);
             let mut nonces = MachineNonces::new(rng);
             stream_worker(
                 alloc,
@@ -68,7 +69,7 @@ fn start_packets<R: Threads + Clock + RandomSource + Copy + Send + Drop + 'stati
             requires { (put_into inlet ≡ []) × (taken_from outcomes ≡ []) }
         {
             let mut packets = SocketPackets::new(socket, Vec::new(alloc));
-            let mut clock = MachineClock::new(theirs);
+            let mut clock = MachineClock::new(theirs, 1);
             let mut nonces = MachineNonces::new(rng);
             packet_worker(
                 alloc,
