@@ -1,4 +1,5 @@
-"""Builds the proved program `handled` for ./run, and says how far it is: which crate, how much of it, and about how many minutes are left.
+"""build.py PROGRAM: builds this proved program for ./run or ./hdl, and says how far it is: which crate, how much of it, and about how many
+minutes are left.
 
 On four processors and more it is `rt run` alone, which proves a crate at a time with several jobs; on fewer `rt all check` comes before it, which
 takes less work. Both keep each proof as it is made, so a break (Ctrl-C) loses little and the next start goes on from there."""
@@ -12,13 +13,15 @@ import sys
 import threading
 import time
 
-PROGRAM = "handled"
-LOG = "crates/handled/out/build.log"
+PROGRAM = sys.argv[1]
+# What runs it.
+SCRIPT = {"handled": "run"}.get(PROGRAM, PROGRAM)
+LOG = f"crates/{PROGRAM}/out/build.log"
 # Processor seconds to load a crate's libraries: of any crate, and of one over a large library of the kit.
 LOAD, LARGE_LOAD = 15, 60
 LARGE = {"clap", "sqlite"}
 # Processor seconds to prove a line of code.
-PER_LINE = 0.15
+PER_LINE = 0.22
 # How many processors such a build keeps busy.
 BUSY = {1: 1.0, 2: 1.7, 3: 1.8}
 MOST_BUSY = 1.9
@@ -44,9 +47,17 @@ def below(crate, graph):
     return found
 
 
-def is_built(crate):
+def written(crate):
+    """When a file of the crate that a build reads was last written."""
+    files = (glob.glob(f"crates/{crate}/{part}/**/*", recursive=True) for part in ("src", "specs", "proofs"))
+    return max(os.path.getmtime(file) for part in files for file in part)
+
+
+def is_built(crate, graph):
+    """Whether the crate was built and neither it nor one below it was written since."""
     kept = "out/rlib/stamp" if os.path.isfile(f"crates/{crate}/src/lib.rt") else f"out/{crate}.stamp"
-    return os.path.isfile(f"crates/{crate}/{kept}")
+    stamp = f"crates/{crate}/{kept}"
+    return os.path.isfile(stamp) and os.path.getmtime(stamp) >= max(written(one) for one in below(crate, graph))
 
 
 def source(crate):
@@ -119,7 +130,7 @@ def minutes(count):
 
 
 def tell(what):
-    print(f"run: {what}", file=sys.stderr, flush=True)
+    print(f"{SCRIPT}: {what}", file=sys.stderr, flush=True)
 
 
 def ran(words, folder, log, progress):
@@ -142,11 +153,13 @@ def main():
     graph = stands_on()
     wanted = below(PROGRAM, graph)
     is_small = processors() < 4
-    left = [crate for crate in graph if crate in wanted and not is_built(crate)]
+    left = [crate for crate in graph if crate in wanted and not is_built(crate, graph)]
     progress = Progress(left, graph)
-    if len(left) > 1:
+    if 0 < len(left) < len(wanted):
+        tell(f"of {len(wanted)} crates {len(left)} changed, stand on one that did, or aren't built; what didn't change in them isn't proved again")
+    elif left:
         tell(f"the first build proves {len(left)} crates, in about {minutes(progress.minutes_left())} on {processors()} processors that nothing else uses")
-        tell("Ctrl-C loses little: the next ./run goes on from there. ./try runs a script in about a minute, without proofs.")
+        tell(f"Ctrl-C loses little: the next ./{SCRIPT} goes on from there. ./try runs a script in about a minute, without proofs.")
     threading.Thread(target=progress.tick, daemon=True).start()
     os.makedirs(os.path.dirname(LOG), exist_ok=True)
     try:
@@ -154,7 +167,7 @@ def main():
             status = ran(["rt", "all", "check"], ".", log, progress) if is_small and len(left) > 1 else 0
             status = status or ran(["rt", "run", "--", "--help"], f"crates/{PROGRAM}", log, progress)
     except KeyboardInterrupt:
-        tell("stopped; the next ./run goes on from here")
+        tell(f"stopped; the next ./{SCRIPT} goes on from here")
         return 130
     progress.ended.set()
     if status:
