@@ -1,6 +1,37 @@
-#!/bin/sh
-# The gate of a submission, from nothing. Its last line is 'N passed, M failed'.
-set -eu
-cd "$(dirname "$0")/.."
-python3 tools/quotes.py
-exec ./test
+"""The gate of a submission, from nothing: the definitions quoted in docs/ and the map, ./test, memory refused in turn, and random scripts.
+
+Its last line is 'N passed, M failed', the sum of what the parts' last lines count; its status is 0 only where nothing failed."""
+
+import os
+import re
+import subprocess
+import sys
+
+ROOT = os.path.dirname(os.path.dirname(os.path.abspath(__file__)))
+PAGES = ("tools/quotes.py", "tools/map.py")
+# The last two run programs that ./test proved and built.
+PARTS = (["./test"], ["tools/refuse-memory"], ["tools/fuzz.py", "300", "1"])
+
+
+def counted(words):
+    """Runs a part, and answers how much passed and failed by its last line, which is printed behind the part's name."""
+    last = ""
+    with subprocess.Popen(words, cwd=ROOT, stdout=subprocess.PIPE, text=True, errors="replace") as part:
+        for line in part.stdout:
+            print(last, end="", flush=True)
+            last = line
+    print("%s: %s" % (words[0], last.strip() or "it said nothing"), flush=True)
+    found = re.fullmatch(r"(\d+) passed, (\d+) failed\n?", last)
+    passed, failed = (int(found[1]), int(found[2])) if found else (0, 1)
+    return passed, max(failed, int(part.returncode != 0))
+
+
+def main():
+    counts = [(0, int(subprocess.run([sys.executable, page], cwd=ROOT, check=False).returncode != 0)) for page in PAGES]
+    counts += [counted(words) for words in PARTS]
+    passed, failed = (sum(column) for column in zip(*counts))
+    print("%d passed, %d failed" % (passed, failed))
+    return 1 if failed else 0
+
+
+sys.exit(main())
