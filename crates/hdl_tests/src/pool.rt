@@ -3,8 +3,7 @@
 ghost use Rattle.std.specs.Prelude.{◌<◌};
 
 use hdl_frame::{Envelope, one_datagram};
-use hdl_limits::LANES;
-use hdl_pool::{Pool, Taken};
+use hdl_pool::{LANES, Pool, Taken};
 use std::alloc::{AllocError, Global};
 use std::test::Fail;
 

@@ -2,7 +2,6 @@
 
 ghost use Rattle.std.specs.Prelude.{◌≡◌, IfOk};
 
-use crate::kinds::{HS_ADMIN, HS_SECKEY, HS_VLIST};
 use crate::permission::{Class, Permission};
 use crate::references::{RawRef, RawRefs};
 use hdl_name::Octets;
@@ -58,21 +57,21 @@ impl Value {
     pub fn is_admin(&self) -> bool
         ensures { result ≡ is_admin self.now }
     {
-        self.kind.as_slice() == HS_ADMIN
+        self.kind.as_slice() == b"HS_ADMIN".as_slice()
     }
 
     /// Whether its type is HS_VLIST.
     pub fn is_list(&self) -> bool
         ensures { result ≡ is_list self.now }
     {
-        self.kind.as_slice() == HS_VLIST
+        self.kind.as_slice() == b"HS_VLIST".as_slice()
     }
 
     /// Whether its type is HS_SECKEY.
     pub fn is_secret_key(&self) -> bool
         ensures { result ≡ is_secret_key self.now }
     {
-        self.kind.as_slice() == HS_SECKEY
+        self.kind.as_slice() == b"HS_SECKEY".as_slice()
     }
 
     /// An equal value, in memory of its own.

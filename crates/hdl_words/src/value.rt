@@ -4,9 +4,12 @@ ghost use Rattle.std.specs.Prelude.{◌≡◌, ◌⊎◌, true, false, Some, Non
 ghost use Rattle.hdl_value.specs.Refs.{is_secret_key};
 
 use crate::page::Page;
-use hdl_value::{AdminMask, CutValue, HS_SECKEY, Permission, Reference, Value, admin_of, vlist_of};
+use hdl_value::{AdminMask, CutValue, Permission, Reference, Value, admin_of, vlist_of};
 use jiff::Timestamp;
 use std::alloc::{AllocError, Global};
+
+/// The type of a key's value.
+const SECRET_KEY: &[u8] = b"HS_SECKEY";
 
 /// The octets as a word: text of graphic ASCII octets.
 fn word(octets: &[u8]) -> Option<&str> {
@@ -176,7 +179,7 @@ pub fn push_value(page: &mut Page, cut: &CutValue<'_>) -> Result<(), AllocError>
     if let Some(line) = line_of(page, cut)? {
         return page.push(&line);
     }
-    if cut.kind() == HS_SECKEY && !page.shows_keys {
+    if cut.kind() == SECRET_KEY && !page.shows_keys {
         return page.push(";; a key");
     }
     let digits = hex::encode(page.alloc, cut.octets())?;
