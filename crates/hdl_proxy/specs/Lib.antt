@@ -1,5 +1,0 @@
-pub mod Choice
-pub mod Escape
-pub mod Question
-pub mod Status
-pub mod Url
