@@ -2,7 +2,7 @@
 
 use crate::naming::{code_name, operation_name};
 use crate::page::{Page, text_of};
-use crate::value::push_value;
+use crate::value::{push_data, push_value};
 use hdl_frame::Envelope;
 use hdl_msg::{ContentView, Digest, ReplyView, Strings, Values};
 use std::alloc::AllocError;
@@ -71,4 +71,18 @@ pub fn push_reply(
         push_digest(page, digest)?;
     }
     push_content(page, reply.content)
+}
+
+/// Adds only what was asked for, an item a line: of values the data, of a list the handles.
+pub fn push_short_reply(page: &mut Page, reply: &ReplyView<'_>) -> Result<(), AllocError> {
+    match reply.content {
+        ContentView::Values { values, .. } => {
+            for value in values {
+                push_data(page, &value)?;
+            }
+            Ok(())
+        }
+        ContentView::Handles { handles } => push_handles(page, handles),
+        _ => Ok(()),
+    }
 }

@@ -2,101 +2,16 @@
 
 ghost use Rattle.std.specs.Prelude.{◌≡◌, ◌⊎◌, true, false, Some, None, IsNone, IsSome};
 ghost use Rattle.hdl_value.specs.Refs.{is_secret_key};
+ghost use Rattle.hdl_value.specs.Spelling.{CanBeSpelt};
 
-use crate::page::Page;
-use hdl_value::{AdminMask, CutValue, Permission, Reference, Value, admin_of, vlist_of};
+use crate::page::{Page, text_of};
+use hdl_lines::{has_fields, put_fields, value_line};
+use hdl_value::{CutValue, Value, read_value};
 use jiff::Timestamp;
 use std::alloc::{AllocError, Global};
 
 /// The type of a key's value.
 const SECRET_KEY: &[u8] = b"HS_SECKEY";
-
-/// The octets as a word: text of graphic ASCII octets.
-fn word(octets: &[u8]) -> Option<&str> {
-    if octets.is_empty() || !octets.iter().all(|octet| (33..=126).contains(octet)) {
-        return None;
-    }
-    str::from_utf8(octets).ok()
-}
-
-/// The octets as text on one line, which no space begins or ends.
-fn one_line(octets: &[u8]) -> Option<&str> {
-    let text = str::from_utf8(octets).ok()?;
-    if text.is_empty() || text.starts_with(' ') || text.ends_with(' ') {
-        return None;
-    }
-    if octets.iter().any(|octet| *octet < 32 || *octet == 127) {
-        return None;
-    }
-    Some(text)
-}
-
-fn digit(is_set: bool) -> char {
-    if is_set { '1' } else { '0' }
-}
-
-/// Administrator reads, administrator writes, anybody reads, anybody writes.
-fn permission_digits(alloc: Global, value: &Value) -> Result<String, AllocError> {
-    let mut digits = String::new(alloc);
-    for permission in [
-        Permission::AdminRead,
-        Permission::AdminWrite,
-        Permission::PublicRead,
-        Permission::PublicWrite,
-    ] {
-        digits.push(digit(value.permits(permission)))?;
-    }
-    Ok(digits)
-}
-
-/// The twelve permissions of an administrator, from the lowest bit on.
-fn mask_digits(alloc: Global, mask: AdminMask) -> Result<String, AllocError> {
-    let mut digits = String::new(alloc);
-    for bit in 0..12u32 {
-        digits.push(digit(mask.0.rotate_right(bit) & 1 == 1))?;
-    }
-    Ok(digits)
-}
-
-fn admin_words(
-    alloc: Global,
-    mask: AdminMask,
-    key: &Reference,
-) -> Result<Option<String>, AllocError> {
-    match word(key.name.sent()) {
-        Some(handle) if mask.0 < 4096 => {
-            let digits = mask_digits(alloc, mask)?;
-            Ok(Some(format!(in alloc; "ADMIN {}:{digits}:{handle}", key.index)?))
-        }
-        _ => Ok(None),
-    }
-}
-
-fn list_words(alloc: Global, references: &[Reference]) -> Result<Option<String>, AllocError> {
-    if references.is_empty() {
-        return Ok(None);
-    }
-    let mut text = String::from_str(alloc, "LIST")?;
-    for reference in references {
-        let Some(handle) = word(reference.name.sent()) else {
-            return Ok(None);
-        };
-        let one = format!(in alloc; " {}:{handle}", reference.index)?;
-        text.push_str(&one)?;
-    }
-    Ok(Some(text))
-}
-
-/// What the data means, where it is administrator data or a list that words can say.
-fn meaning(alloc: Global, value: &Value) -> Result<Option<String>, AllocError> {
-    if let Some((mask, key)) = admin_of(alloc, value)? {
-        return admin_words(alloc, mask, &key);
-    }
-    match vlist_of(alloc, value)? {
-        Some(references) => list_words(alloc, &references),
-        None => Ok(None),
-    }
-}
 
 /// The data of a value, but that of a key where it isn't asked for.
 pub fn shown_data(value: &Value, shows_keys: bool) -> Option<&[u8]>
@@ -109,41 +24,16 @@ pub fn shown_data(value: &Value, shows_keys: bool) -> Option<&[u8]>
     Some(value.bytes.as_slice())
 }
 
-fn data_words(alloc: Global, value: &Value, shows_keys: bool) -> Result<String, AllocError> {
-    let Some(data) = shown_data(value, shows_keys) else {
-        return Ok(format!(in alloc; "HIDDEN {} octets", value.bytes.as_slice().len())?);
-    };
-    if let Some(text) = meaning(alloc, value)? {
-        return Ok(text);
-    }
-    if let Some(text) = one_line(data) {
-        return Ok(format!(in alloc; "UTF8 {text}")?);
-    }
-    if data.is_empty() {
-        return Ok(String::from_str(alloc, "HEX")?);
-    }
-    let digits = hex::encode(alloc, data)?;
-    Ok(format!(in alloc; "HEX {digits}")?)
-}
-
-/// The type, where fields in words say all of the value: its TTL is relative, no permission but the four is set, and it has no references.
-fn plain_kind(value: &Value) -> Option<&str> {
-    let [how, ..] = value.ttl;
-    if how != 0 || value.perm >= 16 || !value.refs.as_slice().is_empty() {
-        return None;
-    }
-    word(value.kind.as_slice())
-}
-
-fn fields(alloc: Global, value: &Value, shows_keys: bool) -> Result<Option<String>, AllocError> {
-    let Some(kind) = plain_kind(value) else {
+/// The line of a key whose data isn't shown. None where fields in words don't say the rest of it.
+fn hidden_line(alloc: Global, value: &Value) -> Result<Option<Vec<u8>>, AllocError> {
+    if !has_fields(value) {
         return Ok(None);
-    };
-    let [_, a, b, c, d] = value.ttl;
-    let ttl = u32::from_be_bytes([a, b, c, d]);
-    let permissions = permission_digits(alloc, value)?;
-    let data = data_words(alloc, value, shows_keys)?;
-    Ok(Some(format!(in alloc; "{} {kind} {ttl} {permissions} {data}", value.index)?))
+    }
+    let mut line = Vec::new(alloc);
+    put_fields(&mut line, value)?;
+    let data = format!(in alloc; "HIDDEN {} octets", value.bytes.as_slice().len())?;
+    line.extend_from_slice(data.as_bytes())?;
+    Ok(Some(line))
 }
 
 /// When the value was written, if that is said and the calendar has it.
@@ -165,19 +55,23 @@ fn push_written(page: &mut Page, value: &Value) -> Result<(), AllocError> {
     }
 }
 
-/// The line of a value, if it is sound and fields in words say all of it.
-fn line_of(page: &mut Page, cut: &CutValue<'_>) -> Result<Option<String>, AllocError> {
-    let Ok(value) = cut.read(page.alloc) else {
-        return Ok(None);
-    };
-    push_written(page, &value)?;
-    fields(page.alloc, &value, page.shows_keys)
+fn line_of(page: &Page, value: &Value) -> Result<Option<Vec<u8>>, AllocError>
+    requires { CanBeSpelt value.now }
+{
+    match shown_data(value, page.shows_keys) {
+        Some(_) => Ok(Some(value_line(page.alloc, value)?)),
+        None => hidden_line(page.alloc, value),
+    }
 }
 
 /// Adds a value: when it was written, as a comment, and its line.
 pub fn push_value(page: &mut Page, cut: &CutValue<'_>) -> Result<(), AllocError> {
-    if let Some(line) = line_of(page, cut)? {
-        return page.push(&line);
+    if let Ok((value, _)) = read_value(page.alloc, cut.octets()) {
+        push_written(page, &value)?;
+        if let Some(line) = line_of(page, &value)? {
+            let text = text_of(page.alloc, &line)?;
+            return page.push(&text);
+        }
     }
     if cut.kind() == SECRET_KEY && !page.shows_keys {
         return page.push(";; a key");
@@ -185,4 +79,23 @@ pub fn push_value(page: &mut Page, cut: &CutValue<'_>) -> Result<(), AllocError>
     let digits = hex::encode(page.alloc, cut.octets())?;
     let line = format!(in page.alloc; "OCTETS {digits}")?;
     page.push(&line)
+}
+
+/// What stands behind a value's line up to its format, or all of a line that has no fields.
+fn data_of(line: &str) -> &str {
+    if line.starts_with("OCTETS ") {
+        return line;
+    }
+    line.splitn(6, ' ').nth(5).unwrap_or("")
+}
+
+/// Adds the data of a value alone, as it stands in the value's line behind the format.
+pub fn push_data(page: &mut Page, cut: &CutValue<'_>) -> Result<(), AllocError> {
+    if let Ok((value, _)) = read_value(page.alloc, cut.octets()) {
+        if let Some(line) = line_of(page, &value)? {
+            let text = text_of(page.alloc, &line)?;
+            return page.push(data_of(&text));
+        }
+    }
+    push_value(page, cut)
 }

@@ -1,0 +1,4 @@
+pub mod Readings
+pub mod Spelt
+pub mod Putting
+pub mod RoundTrip

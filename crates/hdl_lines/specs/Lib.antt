@@ -1,0 +1,4 @@
+pub mod Fields
+pub mod Data
+pub mod Lines
+pub mod Laws

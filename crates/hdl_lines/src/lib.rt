@@ -1,0 +1,36 @@
+//! Values as lines, written and read back.
+//!
+//! ```text
+//! INDEX TYPE TTL PERMISSIONS FORMAT DATA
+//!
+//!   1 URL 86400 1110 UTF8 https://example.org/report-7
+//! 100 HS_ADMIN 86400 1110 ADMIN 300:111111111111:0.NA/10
+//! ```
+//!
+//! This is the form of a value in the batch files of the Handle.Net tools (docs/HDL.md, "A value"). One space stands between two
+//! fields; the line has no line end. INDEX and TTL are decimal numbers below 2^32 without a leading zero, TYPE is one or more graphic
+//! ASCII octets, PERMISSIONS are four digits: administrator reads, administrator writes, anybody reads, anybody writes. A value that
+//! such a line can't say is `OCTETS` and its digits.
+//!
+//! [`value_line`] writes the line of a value, [`read_value_line`] reads a line. The timestamp isn't part of a line, so a value that
+//! was read has timestamp 0.
+//!
+//! What it promises: `specs/Lines.antt` defines the line of each value (`line_of`), and for each list of octets the value that it
+//! says or the first field that is wrong (`value_in`). The two functions do just that, want of memory aside, and reading refuses a
+//! value that isn't sound with its first fault. [`written_is_read`] is the law: the line of every value says that value, but for its
+//! timestamp.
+#![tactic(auto)]
+
+mod data;
+mod fault;
+mod fields;
+mod laws;
+mod read;
+#[cfg(test)]
+mod tests;
+mod write;
+
+pub use fault::LineFault;
+pub use laws::written_is_read;
+pub use read::read_value_line;
+pub use write::{has_fields, put_fields, value_line};
