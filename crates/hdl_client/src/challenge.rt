@@ -1,0 +1,108 @@
+//! Keys, and the answer to a challenge.
+
+ghost use Rattle.std.specs.Prelude.{◌≡◌, ◌≢◌, ◌≤◌, ℕ, List, length, true, false, IfOk, IfSome, MatchOption};
+ghost use Rattle.hdl_auth.specs.declared.algorithm.Digest.{Digest};
+ghost use Rattle.hdl_auth.specs.Digest.{algorithm_of, digest_of};
+ghost use Rattle.hdl_msg.specs.Reply.{most_octets};
+ghost use Rattle.hdl_msg.specs.RequestBody as requests;
+ghost use Rattle.hdl_msg.specs.ReplyView.{reply_seen};
+ghost use Rattle.hdl_client.specs.Challenge.{plain_header, response_of, Challenges, Answers};
+ghost use Rattle.hdl_client.specs.Challenge as challenge;
+
+use crate::fault::ClientFault;
+use hdl_auth::{digest, mac};
+use hdl_msg::{
+    ContentView, Digest, Header, MESSAGE_MOST, ReplyView, RequestBody, request_len, write_request,
+};
+use hdl_value::Octets;
+use std::alloc::{AllocError, Global};
+
+/// A secret key, and the reference to the HS_SECKEY value that holds it at the service. It can't be printed.
+#[derive(Drop)]
+pub struct Key {
+    pub handle: Octets,
+    pub index: u32,
+    pub secret: Octets,
+}
+
+/// The header of a request without flags. Its OpCode is that of the body that it is written with.
+pub const PLAIN: Header = Header {
+    op_code: 0,
+    response_code: 0,
+    op_flag: 0,
+    serial: 0,
+    recursion: 0,
+    reserved: 0,
+    expiration: 0,
+};
+
+/// The message of a request without flags.
+pub fn request_message(alloc: Global, body: &RequestBody) -> Result<Vec<u8>, ClientFault>
+    ensures octets { IfOk result (λ v. v.items ≡ requests.request_message plain_header body.now) }
+    ensures short { IfOk result (λ v. length v.items ≤ most_octets) }
+{
+    if request_len(body) > MESSAGE_MOST {
+        return Err(ClientFault::TooLong);
+    }
+    Ok(write_request(alloc, PLAIN, body)?)
+}
+
+/// The response by a key to the challenge with this nonce, of the request with this digest.
+pub fn challenge_response(
+    alloc: Global,
+    key: &Key,
+    nonce: &[u8; 16],
+    request_digest: &Digest,
+) -> Result<RequestBody, AllocError>
+    ensures { IfOk result (λ b. b ≡ response_of key.now nonce.now request_digest.now) }
+{
+    let proof = mac(key.secret.as_slice(), nonce, request_digest);
+    let mut answer = Vec::with_capacity(alloc, 33)?;
+    answer.push(proof.algorithm().octet())?;
+    answer.extend_from_slice(proof.as_slice())?;
+    Ok(RequestBody::Response {
+        kind: Octets::new(Vec::from_slice(alloc, b"HS_SECKEY")?),
+        handle: Octets::new(Vec::from_slice(alloc, key.handle.as_slice())?),
+        index: key.index,
+        answer: Octets::new(answer),
+    })
+}
+
+/// The octets of a request's message that its digest is made of: header and body, without the empty credential.
+pub fn signed_part(message: &[u8]) -> &[u8]
+    ensures { result.now ≡ challenge.signed_part message.now }
+{
+    &message[..message.len().saturating_sub(4)]
+}
+
+/// Whether a digest is that of the request with this message.
+fn is_digest_of(request_digest: &Digest, message: &[u8]) -> bool
+    ensures own { result ≡ true → request_digest.now ≡ digest_of (algorithm_of request_digest.now) (challenge.signed_part message.now) }
+    ensures other { result ≡ false → request_digest.now ≢ digest_of (algorithm_of request_digest.now) (challenge.signed_part message.now) }
+{
+    digest(request_digest.algorithm(), signed_part(message)) == *request_digest
+}
+
+/// The message that answers a challenge of the request with this message; None where the reply is no challenge. A challenge whose
+/// digest isn't that of the request is refused, since who answers it would sign another request.
+pub fn challenge_answer(
+    alloc: Global,
+    key: &Key,
+    message: &[u8],
+    reply: &ReplyView<'_>,
+) -> Result<Option<Vec<u8>>, ClientFault>
+    ensures answers { IfOk result (λ r. MatchOption r
+        ((nonce : List ℕ) (digest : Digest) → ¬ (Challenges (reply_seen reply.now) nonce digest))
+        (λ v. Answers key.now message.now (reply_seen reply.now) v.items)) }
+    ensures short { IfOk result (λ r. IfSome r (λ v. length v.items ≤ most_octets)) }
+{
+    let (ContentView::Nonce { nonce }, Some(request_digest)) = (reply.content, &reply.digest) else {
+        return Ok(None);
+    };
+    if !is_digest_of(request_digest, message) {
+        return Err(ClientFault::OtherChallenge);
+    }
+    let body = challenge_response(alloc, key, nonce, request_digest)?;
+    let answer = request_message(alloc, &body)?;
+    Ok(Some(answer))
+}

@@ -1,0 +1,76 @@
+//! One frame there, and one back.
+
+ghost use Rattle.std.specs.Prelude.{◌≡◌, ◌≤◌, length, IfOk, OnOk};
+ghost use Rattle.std.specs.Io.KnownBytes.{Appends, Consumes};
+ghost use Rattle.hdl_frame.specs.Frames.{IsFrame};
+ghost use Rattle.hdl_msg.specs.Reply.{most_octets};
+ghost use Rattle.hdl_client.specs.Exchange.{frame_octets};
+
+use crate::fault::ClientFault;
+use hdl_frame::{ENVELOPE_LEN, Envelope};
+use hdl_msg::MESSAGE_MOST;
+use std::alloc::{AllocError, Global};
+use std::io::{Read, Write};
+
+/// The frame of a message, with the SessionId and RequestId of its envelope.
+pub fn framed(
+    alloc: Global,
+    session: u32,
+    request: u32,
+    message: &[u8],
+) -> Result<Vec<u8>, AllocError>
+    requires short { length message.now ≤ most_octets }
+    ensures framed { IfOk result (λ v. v.items ≡ frame_octets session request message.now) }
+{
+    let envelope = Envelope {
+        major: 2,
+        minor: 1,
+        flags: 0,
+        session,
+        request,
+        sequence: 0,
+        length: message.len() as u32,
+    };
+    let mut octets = Vec::with_capacity(alloc, ENVELOPE_LEN)?;
+    octets.extend_from_slice(&envelope.to_octets())?;
+    octets.extend_from_slice(message)?;
+    Ok(octets)
+}
+
+/// Sends a message in one frame. A message of more than 65,536 octets is refused, and nothing is sent.
+pub fn send<S: Write>(
+    alloc: Global,
+    stream: &mut S,
+    session: u32,
+    request: u32,
+    message: &[u8],
+) -> Result<(), ClientFault>
+    ensures sent { OnOk result (Appends (S.contents stream.old) (S.contents stream.new) (frame_octets session request message.now)) }
+{
+    if message.len() > MESSAGE_MOST {
+        return Err(ClientFault::TooLong);
+    }
+    let octets = framed(alloc, session, request, message)?;
+    stream.write_all(&octets)?;
+    stream.flush()?;
+    Ok(())
+}
+
+/// Takes the next frame from the stream, whole and nothing behind it. Where the envelope is refused only its 20 octets were taken.
+#[tactic(auto, using(crate::proofs::Frames::whole_is_frame, crate::proofs::Frames::consumed_in_turn))]
+pub fn receive<S: Read>(alloc: Global, stream: &mut S) -> Result<Vec<u8>, ClientFault>
+    ensures frame { IfOk result (λ v. IsFrame v.items) }
+    ensures taken { IfOk result (λ v. Consumes (S.remaining stream.old) (S.remaining stream.new) v.items) }
+{
+    let mut front = [0u8; ENVELOPE_LEN];
+    stream.read_exact(&mut front)?;
+    let envelope = Envelope::read(&front);
+    if let Some(fault) = envelope.fault() {
+        return Err(ClientFault::NoFrame(fault));
+    }
+    let mut payload = Vec::from_elem(alloc, 0u8, envelope.payload_len())?;
+    stream.read_exact(&mut payload)?;
+    let mut octets = Vec::from_slice(alloc, &front)?;
+    octets.extend_from_slice(&payload)?;
+    Ok(octets)
+}

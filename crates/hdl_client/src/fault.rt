@@ -1,0 +1,59 @@
+//! Why a request has no reply.
+
+use hdl_frame::FrameFault;
+use std::alloc::{AllocError, AllocFailed};
+use std::io::{self, ErrorKind};
+use thiserror::Error;
+
+/// Why a request has no reply that can be read. None of them carries octets that came, or a secret.
+#[derive(Clone, Copy, Debug, PartialEq, Eq, Error)]
+pub enum ClientFault {
+    /// A limit of time of the stream ran out.
+    #[error("no answer in time")]
+    TimedOut,
+    /// The stream ended before a whole frame.
+    #[error("the connection was closed")]
+    Closed,
+    /// Another call of the stream failed.
+    #[error("the connection failed")]
+    Connection,
+    /// An envelope that is refused.
+    #[error("what came is no frame: {0}")]
+    NoFrame(FrameFault),
+    /// A piece of a message, or a message that is out of the grammar of replies.
+    #[error("what came is no reply")]
+    NoReply,
+    /// Its RequestId is that of no request which waits.
+    #[error("a reply to another request came")]
+    OtherRequest,
+    /// Its digest isn't that of the request.
+    #[error("a challenge of another request came")]
+    OtherChallenge,
+    #[error("the request has more than 65,536 octets")]
+    TooLong,
+    #[error("no memory")]
+    Memory,
+}
+
+impl From<AllocError> for ClientFault {
+    fn from(_: AllocError) -> ClientFault {
+        ClientFault::Memory
+    }
+}
+
+impl<T: Drop> From<AllocFailed<T>> for ClientFault {
+    fn from(_: AllocFailed<T>) -> ClientFault {
+        ClientFault::Memory
+    }
+}
+
+impl From<io::Error> for ClientFault {
+    fn from(error: io::Error) -> ClientFault {
+        match error.kind() {
+            ErrorKind::WouldBlock | ErrorKind::TimedOut => ClientFault::TimedOut,
+            ErrorKind::UnexpectedEof => ClientFault::Closed,
+            ErrorKind::OutOfMemory => ClientFault::Memory,
+            _ => ClientFault::Connection,
+        }
+    }
+}

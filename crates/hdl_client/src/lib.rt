@@ -1,0 +1,23 @@
+//! A client of a handle service, over any stream of octets.
+//!
+//! ```text
+//! RequestBody -> Session::ask -> a frame to the stream, a frame from it; with a key, the answer to its challenge -> the reply's frame
+//! text of a batch -> read_batch -> Batch -> Session::run_batch -> an outcome for each task
+//! ```
+//!
+//! It stands on the codecs that the service stands on: what it sends is in the grammar of requests, and what it takes for a reply is
+//! in that of replies. It answers a challenge only where the digest in it is that of the request which it sent. A secret is in a
+//! [`Key`] alone, which nothing prints, and no fault carries octets.
+#![tactic(auto)]
+
+mod batch;
+mod challenge;
+mod exchange;
+mod fault;
+mod session;
+
+pub use batch::{Batch, Outcomes, Task};
+pub use challenge::{Key, challenge_answer, challenge_response, request_message, signed_part};
+pub use exchange::{framed, receive, send};
+pub use fault::ClientFault;
+pub use session::Session;
