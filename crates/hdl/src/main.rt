@@ -1,16 +1,21 @@
 //! The program `hdl`: a handle service in words.
 //!
 //! ```text
-//! hdl explain [--keys] < LINES     each line of a script, of what handled prints, or of octets alone, in words
+//! hdl resolve HANDLE [--index N].. [--type TYPE]..    list, create, delete, add, remove, modify likewise: one request of a server
+//! hdl batch < BATCH                                   many requests of a server, over one connection
+//! hdl explain [--keys] < LINES                        each line of a script, of what handled prints, or of octets alone, in words
+//! hdl script < WORDS, hdl tenants < WORDS             words to the lines that handled takes
 //! ```
 //!
-//! It stands on `hdl_words`, and so on the codecs that the service stands on: what it shows is what came.
+//! It is the command line of `hdl_commands` and `hdl_words`, which stand on the codecs that the service stands on: what it sends is in
+//! the grammar, and what it shows is what came. Nothing else needs `clap`.
 #![tactic(auto)]
 
 mod words;
 
+use hdl_commands::{BatchFault, ask, run_batch_text, write_script, write_tenants};
 use hdl_words::{Page, explain};
-use std::io;
+use std::io::{self, Read};
 use std::process::ExitCode;
 use words::{Asked, read_words};
 
@@ -29,13 +34,62 @@ fn explain_all(rt: &HostRuntime, shows_keys: bool) -> io::Result<()> {
     Ok(())
 }
 
+/// All of standard input.
+fn text_of(rt: &HostRuntime) -> io::Result<String> {
+    let mut text = String::new(rt.alloc());
+    rt.stdin().read_to_string(&mut text)?;
+    Ok(text)
+}
+
+fn batch_all(rt: &HostRuntime, server: &str) -> io::Result<u8> {
+    let text = text_of(rt)?;
+    Ok(run_batch_text(rt, server, &text))
+}
+
+/// Prints what was made of the words, or what is wrong with them, and answers the exit status.
+fn print_made<E: std::fmt::Display + Drop>(
+    rt: &HostRuntime,
+    made: Result<String, E>,
+) -> io::Result<u8> {
+    match made {
+        Ok(text) => {
+            print!(rt; "{text}")?;
+            Ok(0)
+        }
+        Err(fault) => {
+            let _ = eprintln!(rt; "hdl: {fault}");
+            Ok(2)
+        }
+    }
+}
+
+fn script_all(rt: &HostRuntime) -> io::Result<u8> {
+    let text = text_of(rt)?;
+    print_made(rt, write_script(rt.alloc(), &text))
+}
+
+fn tenants_all(rt: &HostRuntime) -> io::Result<u8> {
+    let text = text_of(rt)?;
+    print_made(rt, write_tenants(rt.alloc(), &text))
+}
+
+fn run(rt: &HostRuntime) -> io::Result<u8> {
+    match read_words(rt) {
+        Asked::Explain { shows_keys } => {
+            explain_all(rt, shows_keys)?;
+            Ok(0)
+        }
+        Asked::Ask(question) => Ok(ask(rt, &question)),
+        Asked::Batch { server } => batch_all(rt, &server),
+        Asked::Script => script_all(rt),
+        Asked::Tenants => tenants_all(rt),
+        Asked::Ended(status) => Ok(status),
+    }
+}
+
 fn main(rt: HostRuntime) -> ExitCode {
-    let done = match read_words(&rt) {
-        Asked::Explain { shows_keys } => explain_all(&rt, shows_keys),
-        Asked::Ended(status) => return ExitCode::from(status),
-    };
-    match done {
-        Ok(()) => ExitCode::SUCCESS,
+    match run(&rt) {
+        Ok(status) => ExitCode::from(status),
         Err(fault) => {
             let _ = eprintln!(rt; "hdl: {fault}");
             ExitCode::from(1)

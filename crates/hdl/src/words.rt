@@ -2,45 +2,236 @@
 
 ghost use Rattle.std.specs.Prelude.{◌≡◌, if◌then◌else◌};
 
-use clap::{Arg, ArgAction, Command, Error};
+use clap::{Arg, ArgAction, ArgMatches, Command, Error};
+use hdl_commands::{Question, Verb};
 use std::alloc::{AllocError, Global};
 use std::{env, io};
 
+/// The server that is asked where none is named.
+const SERVER: &str = "127.0.0.1:2641";
+
 /// What the command line asks for.
-#[derive(Clone, Copy, Debug, PartialEq, Eq)]
+#[derive(Drop)]
 pub enum Asked {
     /// The lines on standard input in words, with the data of keys or without.
     Explain { shows_keys: bool },
+    /// One request.
+    Ask(Question),
+    /// The batch on standard input.
+    Batch { server: String },
+    /// The script of the words on standard input.
+    Script,
+    /// The tenants text of the words on standard input.
+    Tenants,
     /// Nothing: help or a fault was printed, and this is the exit status.
     Ended(u8),
 }
 
-fn explain_command<'a>(alloc: Global) -> Result<Command<'a>, AllocError> {
+/// An option without a value.
+fn flag<'a>(alloc: Global, name: &'a str, help: &'a str) -> Arg<'a> {
+    Arg::new(alloc, name)
+        .long(name)
+        .help(help)
+        .action(ArgAction::SetTrue)
+}
+
+/// An option with a value.
+fn option<'a>(alloc: Global, name: &'a str, value: &'a str, help: &'a str) -> Arg<'a> {
+    Arg::new(alloc, name)
+        .long(name)
+        .value_name(value)
+        .help(help)
+        .action(ArgAction::Set)
+}
+
+fn server(alloc: Global) -> Arg<'static> {
+    option(
+        alloc,
+        "server",
+        "HOST:PORT",
+        "Whom to ask; 127.0.0.1:2641 by default",
+    )
+}
+
+/// A command that asks about a handle.
+fn question<'a>(alloc: Global, name: &'a str, about: &'a str) -> Result<Command<'a>, AllocError> {
+    Command::new(alloc, name)
+        .about(about)
+        .arg(
+            Arg::new(alloc, "handle")
+                .value_name("HANDLE")
+                .required(true)
+                .action(ArgAction::Set),
+        )?
+        .arg(server(alloc))?
+        .arg(option(
+            alloc,
+            "key",
+            "INDEX:HANDLE",
+            "Proves this key; its secret is in HDL_SECRET, or the first line of standard input",
+        ))?
+        .arg(flag(
+            alloc,
+            "short",
+            "Shows the data or the handles alone, one a line",
+        ))
+}
+
+/// The same, with what the request says of the handle's values.
+fn values_question<'a>(
+    alloc: Global,
+    name: &'a str,
+    about: &'a str,
+    word: &'a str,
+) -> Result<Command<'a>, AllocError> {
+    question(alloc, name, about)?.arg(
+        Arg::new(alloc, "words")
+            .value_name(word)
+            .required(true)
+            .num_args(1..)
+            .action(ArgAction::Append),
+    )
+}
+
+fn resolve<'a>(alloc: Global) -> Result<Command<'a>, AllocError> {
+    question(alloc, "resolve", "Asks for the values of a handle")?
+        .arg(option(
+            alloc,
+            "index",
+            "N",
+            "Only the value with this index, and others with more of these",
+        )
+        .action(ArgAction::Append))?
+        .arg(option(
+            alloc,
+            "type",
+            "TYPE",
+            "Only the values of this type; with a dot behind, of each type that begins so",
+        )
+        .action(ArgAction::Append))?
+        .arg(flag(alloc, "keys", "Shows the data of keys too"))
+}
+
+fn explain<'a>(alloc: Global) -> Result<Command<'a>, AllocError> {
     Command::new(alloc, "explain")
         .about(
             "Says in words what the lines on standard input say: of a script, of what handled prints, or octets alone",
         )
-        .arg(
-            Arg::new(alloc, "keys")
-                .long("keys")
-                .help("Shows the data of keys too")
-                .action(ArgAction::SetTrue),
-        )
+        .arg(flag(alloc, "keys", "Shows the data of keys too"))
+}
+
+fn batch<'a>(alloc: Global) -> Result<Command<'a>, AllocError> {
+    Command::new(alloc, "batch")
+        .about("Asks all that stands on standard input, as the batch files of the Handle.Net tools")
+        .arg(server(alloc))
+}
+
+/// The commands that ask, one request each.
+fn questions<'a>(command: Command<'a>, alloc: Global) -> Result<Command<'a>, AllocError> {
+    command
+        .subcommand(resolve(alloc)?)?
+        .subcommand(question(alloc, "list", "Asks for the handles of a naming authority")?)?
+        .subcommand(values_question(
+            alloc,
+            "create",
+            "Creates a handle with these values",
+            "VALUE",
+        )?)?
+        .subcommand(question(alloc, "delete", "Deletes a handle")?)?
+        .subcommand(values_question(alloc, "add", "Adds values to a handle", "VALUE")?)?
+        .subcommand(values_question(
+            alloc,
+            "remove",
+            "Removes the values with these indexes",
+            "INDEX",
+        )?)?
+        .subcommand(values_question(
+            alloc,
+            "modify",
+            "Puts these values in the place of those with their indexes",
+            "VALUE",
+        )?)
 }
 
 fn command<'a>(alloc: Global) -> Result<Command<'a>, AllocError> {
-    Command::new(alloc, "hdl")
+    let command = Command::new(alloc, "hdl")
         .about("A handle service in words")
-        .subcommand_required(true)
-        .subcommand(explain_command(alloc)?)
+        .subcommand_required(true);
+    questions(command, alloc)?
+        .subcommand(batch(alloc)?)?
+        .subcommand(explain(alloc)?)?
+        .subcommand(Command::new(alloc, "script").about(
+            "Makes the script for handled of a tenants text with values in words, a line `run`, and a batch, on standard input",
+        ))?
+        .subcommand(Command::new(alloc, "tenants").about(
+            "Makes a tenants text of one with values in words, on standard input",
+        ))
+}
+
+/// The words of an option or of the rest, copied.
+fn words(alloc: Global, matches: &ArgMatches<'_>, id: &str) -> Result<Vec<String>, AllocError> {
+    let mut words = Vec::new(alloc);
+    if let Some(given) = matches.get_strs(id) {
+        for word in given {
+            match words.push(String::from_str(alloc, word)?) {
+                Ok(()) => {}
+                Err(_) => return Err(AllocError),
+            }
+        }
+    }
+    Ok(words)
+}
+
+fn server_of(alloc: Global, matches: &ArgMatches<'_>) -> Result<String, AllocError> {
+    String::from_str(alloc, matches.get_str("server").unwrap_or(SERVER))
+}
+
+fn question_of(
+    alloc: Global,
+    verb: Verb,
+    matches: &ArgMatches<'_>,
+) -> Result<Question, AllocError> {
+    let is_resolution = verb == Verb::Resolve;
+    Ok(Question {
+        verb,
+        handle: String::from_str(alloc, matches.get_str("handle").unwrap_or(""))?,
+        words: words(
+            alloc,
+            matches,
+            if is_resolution { "index" } else { "words" },
+        )?,
+        types: words(alloc, matches, "type")?,
+        server: server_of(alloc, matches)?,
+        key: match matches.get_str("key") {
+            Some(key) => Some(String::from_str(alloc, key)?),
+            None => None,
+        },
+        is_short: matches.get_flag("short"),
+        shows_keys: is_resolution && matches.get_flag("keys"),
+    })
+}
+
+fn asked_of(alloc: Global, name: &str, matches: &ArgMatches<'_>) -> Result<Asked, AllocError> {
+    match name {
+        "explain" => Ok(Asked::Explain {
+            shows_keys: matches.get_flag("keys"),
+        }),
+        "batch" => Ok(Asked::Batch {
+            server: server_of(alloc, matches)?,
+        }),
+        "script" => Ok(Asked::Script),
+        "tenants" => Ok(Asked::Tenants),
+        other => match Verb::of(other) {
+            Some(verb) => Ok(Asked::Ask(question_of(alloc, verb, matches)?)),
+            None => Ok(Asked::Ended(2)),
+        },
+    }
 }
 
 fn parsed(alloc: Global, words: &[String]) -> Result<Asked, Error> {
     let matches = command(alloc)?.try_get_matches_from(words)?;
-    match matches.subcommand_matches("explain") {
-        Some(found) => Ok(Asked::Explain {
-            shows_keys: found.get_flag("keys"),
-        }),
+    match matches.subcommand() {
+        Some((name, found)) => Ok(asked_of(alloc, name, found)?),
         None => Ok(Asked::Ended(2)),
     }
 }

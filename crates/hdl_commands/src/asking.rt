@@ -1,0 +1,174 @@
+//! One request, asked of a server.
+
+use crate::connecting::{connect, key_of};
+use crate::fault::WordFault;
+use crate::request::{Details, Verb, request_of};
+use hdl_client::{ClientFault, Key};
+use hdl_frame::{Envelope, one_datagram};
+use hdl_msg::{ReplyView, RequestBody, read_reply};
+use hdl_name::is_name;
+use hdl_words::{Page, code_name, push_reply, push_short_reply};
+use std::alloc::{AllocError, Global};
+use std::io;
+use thiserror::Error;
+
+/// What is asked of which server, and how the answer is shown.
+#[derive(Drop)]
+pub struct Question {
+    pub verb: Verb,
+    pub handle: String,
+    /// Values in words or indexes, as the verb takes them; of a resolution the indexes of values.
+    pub words: Vec<String>,
+    /// The types of values, of a resolution.
+    pub types: Vec<String>,
+    /// `HOST:PORT`.
+    pub server: String,
+    /// A reference to the key that answers a challenge.
+    pub key: Option<String>,
+    /// Whether only what is asked for is shown, an item a line.
+    pub is_short: bool,
+    /// Whether the data of keys is shown.
+    pub shows_keys: bool,
+}
+
+/// Why a question has no answer.
+#[derive(Clone, Copy, Debug, PartialEq, Eq, Error)]
+pub enum AskFault {
+    #[error("{0}")]
+    Words(WordFault),
+    #[error("{0}")]
+    Client(ClientFault),
+    #[error("the answer can't be written")]
+    Output,
+}
+
+impl AskFault {
+    /// The exit status: 2 for words, 3 where no answer came that can be read, 1 else.
+    pub fn status(self) -> u8 {
+        match self {
+            AskFault::Words(_) => 2,
+            AskFault::Client(_) => 3,
+            AskFault::Output => 1,
+        }
+    }
+}
+
+impl From<WordFault> for AskFault {
+    fn from(fault: WordFault) -> AskFault {
+        AskFault::Words(fault)
+    }
+}
+
+impl From<ClientFault> for AskFault {
+    fn from(fault: ClientFault) -> AskFault {
+        AskFault::Client(fault)
+    }
+}
+
+impl From<AllocError> for AskFault {
+    fn from(_: AllocError) -> AskFault {
+        AskFault::Words(WordFault::Memory)
+    }
+}
+
+impl From<io::Error> for AskFault {
+    fn from(_: io::Error) -> AskFault {
+        AskFault::Output
+    }
+}
+
+/// The handle that is asked for. A list may name the naming authority alone.
+fn handle_of(alloc: Global, question: &Question) -> Result<String, AllocError> {
+    let handle = question.handle.as_str();
+    if question.verb == Verb::List && !handle.contains('/') {
+        return format!(in alloc; "0.NA/{handle}");
+    }
+    String::from_str(alloc, handle)
+}
+
+fn body_of(alloc: Global, question: &Question) -> Result<RequestBody, WordFault> {
+    let mut details = Details::new(alloc);
+    for word in &question.words {
+        if question.verb.takes_values() {
+            details.push_value(alloc, word)?;
+        } else {
+            details.push_index(word)?;
+        }
+    }
+    for kind in &question.types {
+        details.push_type(alloc, kind)?;
+    }
+    let handle = handle_of(alloc, question)?;
+    request_of(alloc, question.verb, &handle, details)
+}
+
+fn print_reply(
+    rt: &HostRuntime,
+    question: &Question,
+    envelope: &Envelope,
+    reply: &ReplyView<'_>,
+) -> Result<(), AskFault> {
+    let mut page = Page::new(rt.alloc(), question.shows_keys);
+    if question.is_short {
+        push_short_reply(&mut page, reply)?;
+    } else {
+        push_reply(&mut page, envelope, reply)?;
+    }
+    print!(rt; "{}", page.as_str())?;
+    Ok(())
+}
+
+/// Prints the reply that a frame carries; answers 0 where its code is 1, and else 1 with the code's name on standard error.
+fn show(rt: &HostRuntime, question: &Question, octets: &[u8]) -> Result<u8, AskFault> {
+    let Ok(frame) = one_datagram(octets) else {
+        return Err(AskFault::Client(ClientFault::NoReply));
+    };
+    let Ok(reply) = read_reply(frame.payload()) else {
+        return Err(AskFault::Client(ClientFault::NoReply));
+    };
+    print_reply(rt, question, &frame.envelope, &reply)?;
+    let code = reply.header.response_code;
+    if code == 1 {
+        return Ok(0);
+    }
+    let _ = eprintln!(rt; "hdl: {code} {}", code_name(code));
+    Ok(1)
+}
+
+fn reply_to(
+    rt: &HostRuntime,
+    question: &Question,
+    body: &RequestBody,
+    key: Option<&Key>,
+) -> Result<Vec<u8>, ClientFault> {
+    let mut session = connect(rt, &question.server)?;
+    session.ask(body, key)
+}
+
+fn asked(rt: &HostRuntime, question: &Question, key: Option<&Key>) -> Result<u8, AskFault> {
+    let body = body_of(rt.alloc(), question)?;
+    let octets = reply_to(rt, question, &body, key)?;
+    show(rt, question, &octets)
+}
+
+fn answered(rt: &HostRuntime, question: &Question) -> Result<u8, AskFault> {
+    match &question.key {
+        Some(words) => {
+            let key = key_of(rt, words)?;
+            asked(rt, question, Some(&key))
+        }
+        None => asked(rt, question, None),
+    }
+}
+
+/// Asks, and prints the answer in words. Answers the exit status: 0 for code 1, 1 for another code, whose name is then on standard
+/// error, 2 for words that are no request, 3 where the server can't be reached or says nothing that can be read.
+pub fn ask(rt: &HostRuntime, question: &Question) -> u8 {
+    match answered(rt, question) {
+        Ok(status) => status,
+        Err(fault) => {
+            let _ = eprintln!(rt; "hdl: {fault}");
+            fault.status()
+        }
+    }
+}

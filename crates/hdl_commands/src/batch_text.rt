@@ -1,0 +1,231 @@
+//! The text of a batch.
+
+use crate::fault::WordFault;
+use crate::key::read_key;
+use crate::request::{Details, Verb, request_of};
+use hdl_client::{Batch, Task, request_message};
+use hdl_name::Name;
+use hdl_value::Value;
+use std::alloc::Global;
+use thiserror::Error;
+
+/// The first line of a batch that can't be read, counted from 1, and what is wrong with it.
+#[derive(Clone, Copy, Debug, PartialEq, Eq, Error)]
+#[error("line {line}: {fault}")]
+pub struct BatchFault {
+    pub line: usize,
+    pub fault: WordFault,
+}
+
+/// A request whose values may still come: the task without its message, and what this is made of.
+#[derive(Drop)]
+struct Block {
+    task: Task,
+    verb: Verb,
+    handle: String,
+    details: Details,
+}
+
+/// What was read so far.
+#[derive(Drop)]
+struct Reader {
+    alloc: Global,
+    batch: Batch,
+    block: Option<Block>,
+    /// The reference of a key, where its secret is the next line.
+    reference: Option<String>,
+}
+
+/// Whether a value may change who else is an administrator: a key, or a list of keys.
+fn is_relied_on(value: &Value) -> bool {
+    value.is_secret_key() || value.kind.as_slice() == b"HS_VLIST".as_slice()
+}
+
+/// Whether a request may change what requests on other handles need, whatever its values are.
+fn may_disturb(verb: Verb, name: &Name) -> bool {
+    !matches!(verb, Verb::Create | Verb::Add | Verb::Resolve) || name.is_admin_handle()
+}
+
+fn message_of(
+    alloc: Global,
+    verb: Verb,
+    handle: &str,
+    details: Details,
+) -> Result<Vec<u8>, WordFault> {
+    let body = request_of(alloc, verb, handle, details)?;
+    let message = request_message(alloc, &body)?;
+    Ok(message)
+}
+
+/// The handle behind an operation, and the indexes before it where the operation is to remove values.
+fn handle_of<'a>(verb: Verb, words: &'a str, details: &mut Details) -> Result<&'a str, WordFault> {
+    if verb != Verb::Remove {
+        return Ok(words);
+    }
+    let Some((indexes, handle)) = words.split_once(':') else {
+        return Err(WordFault::Index);
+    };
+    for index in indexes.split(',') {
+        details.push_index(index)?;
+    }
+    Ok(handle)
+}
+
+impl Reader {
+    /// Ends the request that was begun.
+    fn finish(&mut self) -> Result<(), WordFault> {
+        let Some(block) = self.block.take() else {
+            return Ok(());
+        };
+        let Block {
+            mut task,
+            verb,
+            handle,
+            details,
+        } = block;
+        task.is_alone = task.is_alone || details.values.iter().any(is_relied_on);
+        task.message = message_of(self.alloc, verb, &handle, details)?;
+        self.batch.tasks.push(task)?;
+        Ok(())
+    }
+
+    /// The task of a request that begins at this line.
+    fn task(&self, line: usize, verb: Verb, title: &str, handle: &str) -> Result<Task, WordFault> {
+        let name = Name::read(self.alloc, handle.as_bytes())?;
+        Ok(Task {
+            line,
+            title: String::from_str(self.alloc, title)?,
+            message: Vec::new(self.alloc),
+            key: self.batch.keys.len().checked_sub(1),
+            handle: Vec::from_slice(self.alloc, name.canon())?,
+            is_alone: may_disturb(verb, &name),
+        })
+    }
+
+    /// Begins a request by its first line.
+    fn begin(
+        &mut self,
+        line: usize,
+        verb: Verb,
+        title: &str,
+        words: &str,
+    ) -> Result<(), WordFault> {
+        let mut details = Details::new(self.alloc);
+        let handle = handle_of(verb, words, &mut details)?;
+        let task = self.task(line, verb, title, handle)?;
+        self.block = Some(Block {
+            task,
+            verb,
+            handle: String::from_str(self.alloc, handle)?,
+            details,
+        });
+        Ok(())
+    }
+
+    fn operation(&mut self, line: usize, text: &str) -> Result<(), WordFault> {
+        let Some((word, rest)) = text.split_once(' ') else {
+            return Err(WordFault::Operation);
+        };
+        if word == "AUTHENTICATE" {
+            let Some(reference) = rest.strip_prefix("SECKEY:") else {
+                return Err(WordFault::Key);
+            };
+            self.reference = Some(String::from_str(self.alloc, reference)?);
+            return Ok(());
+        }
+        match Verb::of(word) {
+            Some(verb) => self.begin(line, verb, text, rest),
+            None => Err(WordFault::Operation),
+        }
+    }
+
+    fn value(&mut self, text: &str) -> Result<(), WordFault> {
+        match &mut self.block {
+            Some(block) if block.verb.takes_values() => {
+                block.details.push_value(self.alloc, text)
+            }
+            _ => Err(WordFault::Stray),
+        }
+    }
+
+    fn line(&mut self, line: usize, text: &str) -> Result<(), WordFault> {
+        if let Some(reference) = self.reference.take() {
+            let key = read_key(self.alloc, &reference, text.as_bytes())?;
+            self.batch.keys.push(key)?;
+            return Ok(());
+        }
+        if text.starts_with(";;") {
+            return Ok(());
+        }
+        if text.is_empty() {
+            return self.finish();
+        }
+        if text.starts_with("OCTETS ") || text.starts_with(|c: char| c.is_ascii_digit()) {
+            return self.value(text);
+        }
+        self.finish()?;
+        self.operation(line, text)
+    }
+}
+
+impl Reader {
+    /// The line that a fault at this line is told of: the request's own, where the request as a whole is at fault.
+    fn line_of(&self, line: usize, begun: Option<usize>, fault: WordFault) -> (usize, WordFault) {
+        match fault {
+            WordFault::Missing | WordFault::TooLong => (begun.unwrap_or(line), fault),
+            _ => (line, fault),
+        }
+    }
+
+    /// The line at which the request that may go on began.
+    fn begun(&self) -> Option<usize> {
+        self.block.as_ref().map(|block| block.task.line)
+    }
+
+    /// Reads all lines.
+    fn read(&mut self, text: &str) -> Result<(), (usize, WordFault)> {
+        let mut number = 0usize;
+        for line in text.lines() {
+            number = number.saturating_add(1);
+            let begun = self.begun();
+            if let Err(fault) = self.line(number, line) {
+                return Err(self.line_of(number, begun, fault));
+            }
+        }
+        if self.reference.is_some() {
+            return Err((number, WordFault::NoSecret));
+        }
+        let begun = self.begun();
+        match self.finish() {
+            Ok(()) => Ok(()),
+            Err(fault) => Err(self.line_of(number, begun, fault)),
+        }
+    }
+}
+
+/// Reads a batch: blocks of an operation and its values, as users of the Handle.Net tools write them, divided by empty lines.
+///
+/// ```text
+/// AUTHENTICATE SECKEY:300:0.NA/10        the key of all that follows; the next line is its secret
+/// CREATE 10/a                            and a line for each value (hdl_lines); likewise ADD and MODIFY
+/// DELETE 10/a
+/// REMOVE 3,4:10/a                        the values with these indexes
+/// ```
+///
+/// Lines that begin with `;;` are comments. Small letters do too, so that what `hdl explain` prints can be read. The first line that
+/// can't be read is told; a request is told by its own line where it lacks values or is too long.
+pub fn read_batch(alloc: Global, text: &str) -> Result<Batch, BatchFault> {
+    let mut reader = Reader {
+        alloc,
+        batch: Batch {
+            keys: Vec::new(alloc),
+            tasks: Vec::new(alloc),
+        },
+        block: None,
+        reference: None,
+    };
+    match reader.read(text) {
+        Ok(()) => Ok(reader.batch),
+        Err((line, fault)) => Err(BatchFault { line, fault }),
+    }
+}

@@ -1,0 +1,78 @@
+//! A batch, asked of a server.
+
+use crate::batch_text::read_batch;
+use crate::connecting::connect;
+use hdl_client::{Batch, ClientFault, Outcomes, Task};
+use hdl_words::code_name;
+
+/// Prints what comes, and counts it.
+#[derive(Drop)]
+struct Tally<'r> {
+    rt: &'r HostRuntime,
+    done: usize,
+    failed: Vec<usize>,
+}
+
+impl Outcomes for Tally<'_> {
+    fn done(&mut self, task: &Task, code: u32) {
+        self.done = self.done.saturating_add(1);
+        if code != 1 {
+            // without memory for it the line is missing from the last one
+            let _ = self.failed.push(task.line);
+        }
+        let _ = println!(self.rt;
+            "line {}: {}: {code} {}",
+            task.line,
+            task.title,
+            code_name(code)
+        );
+    }
+}
+
+fn asked(
+    rt: &HostRuntime,
+    server: &str,
+    batch: &Batch,
+    tally: &mut Tally<'_>,
+) -> Result<(), ClientFault> {
+    let mut session = connect(rt, server)?;
+    session.run_batch(batch, tally)
+}
+
+/// Prints how many requests succeeded, and the lines of those that failed.
+fn print_end(tally: &Tally<'_>) {
+    let failed = tally.failed.len();
+    let succeeded = tally.done.saturating_sub(failed);
+    let _ = println!(tally.rt; "{succeeded} succeeded, {failed} failed");
+    for line in &tally.failed {
+        let _ = println!(tally.rt; "failed: line {line}");
+    }
+}
+
+/// Asks all of a batch of a server over one connection, and prints a line for each outcome as it comes, and at the end how many
+/// succeeded and the lines of those that failed. Answers the exit status: 0 where every code was 1, 1 where another came, 2 for a text
+/// that is no batch, of which nothing was sent, and 3 where the connection failed, with how many requests have no outcome.
+pub fn run_batch_text(rt: &HostRuntime, server: &str, text: &str) -> u8 {
+    let batch = match read_batch(rt.alloc(), text) {
+        Ok(batch) => batch,
+        Err(fault) => {
+            let _ = eprintln!(rt; "hdl: {fault}");
+            return 2;
+        }
+    };
+    let mut tally = Tally {
+        rt,
+        done: 0,
+        failed: Vec::new(rt.alloc()),
+    };
+    let ended = asked(rt, server, &batch, &mut tally);
+    print_end(&tally);
+    match ended {
+        Ok(()) => u8::from(!tally.failed.is_empty()),
+        Err(fault) => {
+            let left = batch.tasks.len().saturating_sub(tally.done);
+            let _ = eprintln!(rt; "hdl: {fault}; {left} without an outcome");
+            3
+        }
+    }
+}

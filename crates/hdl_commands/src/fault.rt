@@ -1,0 +1,71 @@
+//! What is wrong with words.
+
+use hdl_client::ClientFault;
+use hdl_lines::LineFault;
+use hdl_name::NameFault;
+use std::alloc::{AllocError, AllocFailed};
+use thiserror::Error;
+
+/// What is wrong with the words of a request. None of them carries words.
+#[derive(Clone, Copy, Debug, PartialEq, Eq, Error)]
+pub enum WordFault {
+    #[error("no such operation")]
+    Operation,
+    #[error("{0}")]
+    Handle(NameFault),
+    #[error("an index isn't a number from 1 on")]
+    Index,
+    #[error("a key isn't INDEX:HANDLE")]
+    Key,
+    #[error("{0}")]
+    Value(LineFault),
+    #[error("a value stands behind no operation that takes one")]
+    Stray,
+    #[error("the operation needs values or indexes")]
+    Missing,
+    #[error("the secret is missing")]
+    NoSecret,
+    #[error("the request has more than 65,536 octets")]
+    TooLong,
+    #[error("no memory")]
+    Memory,
+}
+
+impl From<AllocError> for WordFault {
+    fn from(_: AllocError) -> WordFault {
+        WordFault::Memory
+    }
+}
+
+impl<T: Drop> From<AllocFailed<T>> for WordFault {
+    fn from(_: AllocFailed<T>) -> WordFault {
+        WordFault::Memory
+    }
+}
+
+impl From<NameFault> for WordFault {
+    fn from(fault: NameFault) -> WordFault {
+        match fault {
+            NameFault::Memory => WordFault::Memory,
+            other => WordFault::Handle(other),
+        }
+    }
+}
+
+impl From<LineFault> for WordFault {
+    fn from(fault: LineFault) -> WordFault {
+        match fault {
+            LineFault::Memory => WordFault::Memory,
+            other => WordFault::Value(other),
+        }
+    }
+}
+
+impl From<ClientFault> for WordFault {
+    fn from(fault: ClientFault) -> WordFault {
+        match fault {
+            ClientFault::TooLong => WordFault::TooLong,
+            _ => WordFault::Memory,
+        }
+    }
+}

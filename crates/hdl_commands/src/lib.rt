@@ -1,0 +1,31 @@
+//! What the program `hdl` does, but for its command line.
+//!
+//! ```text
+//! Question -> ask -> hdl_client -> a reply in words (hdl_words)
+//! text of a batch -> read_batch -> Batch -> run_batch, or write_script -> the script that `handled` takes
+//! lines with values in words -> write_tenants -> lines of a tenants text
+//! ```
+//!
+//! Requests are read from words and written by `hdl_msg`'s `write_request`, so what is sent is in the grammar; a value's words are
+//! those of `hdl_lines`. Promised is that everything here is total; what is printed is tested alone.
+#![tactic(auto)]
+
+mod asking;
+mod batch_text;
+mod batches;
+mod connecting;
+mod fault;
+mod key;
+mod request;
+mod scripts;
+mod tenants;
+
+pub use asking::{Question, ask};
+pub use batch_text::{BatchFault, read_batch};
+pub use batches::run_batch_text;
+pub use connecting::{SECRET_VARIABLE, connect};
+pub use fault::WordFault;
+pub use key::read_reference;
+pub use request::Verb;
+pub use scripts::write_script;
+pub use tenants::write_tenants;

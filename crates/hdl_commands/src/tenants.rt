@@ -1,0 +1,49 @@
+//! Lines of a tenants text, with values in words.
+
+use crate::batch_text::BatchFault;
+use crate::fault::WordFault;
+use hdl_lines::read_value_line;
+use hdl_value::write_value;
+use std::alloc::Global;
+
+/// A value's line in hexadecimal digits.
+fn value_in_digits(alloc: Global, handle: &str, words: &str) -> Result<String, WordFault> {
+    let value = read_value_line(alloc, words.as_bytes())?;
+    let octets = write_value(alloc, &value)?;
+    let digits = hex::encode(alloc, &octets)?;
+    Ok(format!(in alloc; "value {handle} {digits}\n")?)
+}
+
+/// The line as the tenants text has it.
+fn line_of(alloc: Global, line: &str) -> Result<String, WordFault> {
+    if let Some(("value", rest)) = line.split_once(' ') {
+        if let Some((handle, words)) = rest.split_once(' ') {
+            if words.contains(' ') {
+                return value_in_digits(alloc, handle, words);
+            }
+        }
+    }
+    Ok(format!(in alloc; "{line}\n")?)
+}
+
+/// The tenants text whose values stand in words: a line `value HANDLE WORDS` with the words of a value (`hdl_lines`) gets the value's
+/// octets in hexadecimal digits, with timestamp 0; every other line stays. The first value that can't be read is told.
+pub fn write_tenants(alloc: Global, text: &str) -> Result<String, BatchFault> {
+    let mut out = String::new(alloc);
+    let mut number = 0usize;
+    for line in text.lines() {
+        number = number.saturating_add(1);
+        let fault = match line_of(alloc, line) {
+            Ok(line) => match out.push_str(&line) {
+                Ok(()) => continue,
+                Err(_) => WordFault::Memory,
+            },
+            Err(fault) => fault,
+        };
+        return Err(BatchFault {
+            line: number,
+            fault,
+        });
+    }
+    Ok(out)
+}
