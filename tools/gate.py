@@ -1,4 +1,5 @@
-"""The gate of a submission, from nothing: the definitions quoted in docs/ and the map, ./test, memory refused in turn, and random scripts.
+"""The gate of a submission, from nothing: the definitions quoted in docs/ and the map, ./test, memory refused in turn, random scripts,
+the examples, answers that are none, and what README shows.
 
 Its last line is 'N passed, M failed', the sum of what the parts' last lines count; its status is 0 only where nothing failed."""
 
@@ -9,8 +10,15 @@ import sys
 
 ROOT = os.path.dirname(os.path.dirname(os.path.abspath(__file__)))
 PAGES = ("tools/quotes.py", "tools/map.py")
-# The last two run programs that ./test proved and built.
-PARTS = (["./test"], ["tools/refuse-memory"], ["tools/fuzz.py", "300", "1"])
+# All but the first run programs that ./test proved and built.
+PARTS = (
+    ["./test"],
+    ["tools/refuse-memory"],
+    ["tools/fuzz.py", "300", "1"],
+    [sys.executable, "tools/examples.py"],
+    [sys.executable, "tools/asks.py"],
+    [sys.executable, "tools/readme.py"],
+)
 
 
 def counted(words):
@@ -20,7 +28,7 @@ def counted(words):
         for line in part.stdout:
             print(last, end="", flush=True)
             last = line
-    print("%s: %s" % (words[0], last.strip() or "it said nothing"), flush=True)
+    print("%s: %s" % (" ".join(words), last.strip() or "it said nothing"), flush=True)
     found = re.fullmatch(r"(\d+) passed, (\d+) failed\n?", last)
     passed, failed = (int(found[1]), int(found[2])) if found else (0, 1)
     return passed, max(failed, int(part.returncode != 0))

@@ -1,0 +1,199 @@
+"""asks.py: asks with the proved program crates/hdl/out/hdl, and compares the octets that it sends, what it says and its exit status: of whole
+exchanges, challenges and requests in flight among them, and where no good answer comes.
+
+Servers stand in this program: they send the octets of a case, written here from docs/PROTOCOL.md, and close. Words that are no request
+are asked of nobody. Its last line is 'N passed, M failed', a case counting one."""
+
+import hashlib
+import os
+import socket
+import struct
+import subprocess
+import sys
+import threading
+
+ROOT = os.path.dirname(os.path.dirname(os.path.abspath(__file__)))
+PROGRAM = os.path.join(ROOT, "crates", "hdl", "out", "hdl")
+SECRET = "never-shown"
+
+
+def number(n):
+    return struct.pack(">I", n)
+
+
+def string(octets):
+    return number(len(octets)) + octets
+
+
+def message(operation, code, body):
+    return number(operation) + number(code) + bytes(12) + string(body) + number(0)
+
+
+def frame(session, request, octets):
+    return b"\2\1\0\0" + number(session) + number(request) + number(0) + number(len(octets)) + octets
+
+
+def challenge(digest):
+    return frame(1, 1, message(101, 402, b"\2" + digest + string(bytes(16))))
+
+
+DELETE = message(101, 0, string(b"10/c"))
+DIGEST = hashlib.sha1(DELETE[:-4]).digest()
+OWN = challenge(DIGEST)
+DIGEST_256 = hashlib.sha256(DELETE[:-4]).digest()
+OWN_256 = frame(1, 1, message(101, 402, b"\3" + DIGEST_256 + string(bytes(16))))
+DONE = frame(0, 1, message(101, 1, b""))
+DONE_SECOND = frame(1, 2, message(101, 1, b""))
+LONG = frame(0, 1, message(101, 1, b"") + b"\0")
+
+
+
+def response(octet, mac):
+    body = string(b"HS_SECKEY") + string(b"0.NA/10") + number(300) + string(bytes([octet]) + mac)
+    return frame(1, 2, message(200, 0, body))
+
+
+def keyed(make, digest):
+    key = SECRET.encode()
+    return make(key + bytes(16) + digest + key).digest()
+
+
+ASKED = frame(0, 1, DELETE)
+ANSWER = response(2, keyed(hashlib.sha1, DIGEST))
+ANSWER_256 = response(3, keyed(hashlib.sha256, DIGEST_256))
+
+# What a whole exchange sends: a server's octets, and the client's.
+WHOLE = (
+    ("a delete", [DONE], [ASKED]),
+    ("a challenge with SHA-1", [OWN, DONE_SECOND], [ASKED, ANSWER]),
+    ("a challenge with SHA-256", [OWN_256, DONE_SECOND], [ASKED, ANSWER_256]),
+)
+
+
+def resolution(request, handle):
+    return frame(0, request, message(1, 0, string(handle) + number(0) + number(0)))
+
+
+def absent(request):
+    return frame(0, request, message(1, 100, number(0)))
+
+
+# A batch of two resolutions, which are in flight together and answered in the other order, and a third of the first handle behind them.
+FLIGHT = "RESOLVE 10/a\n\nRESOLVE 10/b\n\nRESOLVE 10/a\n"
+FLIGHT_ASKED = [resolution(1, b"10/a") + resolution(2, b"10/b") + resolution(3, b"10/a")]
+FLIGHT_SAID = ["line 3: RESOLVE 10/b: 100 handle not found", "line 1: RESOLVE 10/a: 100 handle not found",
+               "line 5: RESOLVE 10/a: 100 handle not found", "0 succeeded, 3 failed", "failed: line 3", "failed: line 1", "failed: line 5"]
+
+# Of a server: its name, what it sends to each frame that comes, and what `hdl delete 10/c --key 300:0.NA/10` answers.
+SERVERS = (
+    ("it is done", [DONE], 0, ""),
+    ("another code", [frame(0, 1, message(101, 302, string(b"0.NA/10") + number(0)))], 1, "hdl: 302 service referral"),
+    ("busy", [frame(0, 1, message(0, 3, number(0)))], 1, "hdl: 3 server busy"),
+    ("it closes at once", [], 3, "hdl: the connection was closed"),
+    ("it closes in the middle of an envelope", [DONE[:11]], 3, "hdl: the connection was closed"),
+    ("it closes in the middle of a message", [DONE[:-1]], 3, "hdl: the connection was closed"),
+    ("no frame", [b"HTTP/1.1 400 Bad Request\r\n\r\n"], 3, "hdl: what came is no frame: unknown protocol version"),
+    ("an answer to another request", [frame(0, 2, message(101, 1, b""))], 3, "hdl: a reply to another request came"),
+    ("octets behind a reply", [LONG], 3, "hdl: what came is no reply"),
+    ("a piece", [b"\2\1\x20\0" + DONE[4:]], 3, "hdl: what came is no reply"),
+    ("a challenge of another request", [challenge(bytes(20))], 3, "hdl: a challenge of another request came"),
+    ("a wrong key", [OWN, frame(1, 2, message(101, 403, number(0)))], 1, "hdl: 403 authentication failed"),
+    ("it closes behind its challenge", [OWN], 3, "hdl: the connection was closed"),
+    ("its challenge again", [OWN, frame(1, 2, OWN[20:])], 1, "hdl: 402 authentication needed"),
+)
+
+# Words that are no request: arguments, standard input, and what is said.
+WORDS = (
+    (["resolve", "10/a", "--index", "0"], "", "hdl: an index isn't a number from 1 on"),
+    (["create", "10/a", "1 URL 86400 111 UTF8 a"], "", "hdl: the permissions aren't four digits 0 or 1"),
+    (["create", "10/a", "0 URL 86400 1110 UTF8 a"], "", "hdl: the value's index is 0"),
+    (["delete", "10/c", "--key", "10/c"], "", "hdl: a key isn't INDEX:HANDLE"),
+    (["batch"], "CREATE\n", "hdl: line 1: no such operation"),
+    (["batch"], "MOVE 10/a\n", "hdl: line 1: no such operation"),
+    (["batch"], "DELETE 10\n", "hdl: line 1: the name has no slash"),
+    (["batch"], "DELETE 10/a\n1 URL 86400 1110 UTF8 a\n", "hdl: line 2: a value stands behind no operation that takes one"),
+    (["batch"], ";; no value\nADD 10/a\n\n", "hdl: line 2: the operation needs values or indexes"),
+    (["batch"], "ADD 10/a\n1 URL x 1110 UTF8 a\n", "hdl: line 2: the TTL isn't a number"),
+    (["batch"], "REMOVE 1,x:10/a\n", "hdl: line 1: an index isn't a number from 1 on"),
+    (["batch"], "AUTHENTICATE SECKEY:0.NA/10\n%s\n" % SECRET, "hdl: line 2: a key isn't INDEX:HANDLE"),
+    (["batch"], "AUTHENTICATE SECKEY:300:0.NA/10\n", "hdl: line 1: the secret is missing"),
+    (["tenants"], "value 10/a 1 URL 86400 1110 HIDDEN 3 octets\n", "hdl: line 1: its data is hidden"),
+    (["script"], "publisher acme 2 2641\n", "hdl: the line `run` is missing"),
+    (["script"], "publisher acme 1 2641\n\nrun\n", "hdl: tenants: line 1: bad line"),
+)
+
+
+def served(listener, sent, came):
+    """Serves one connection: behind each frame that comes the next octets, and then the end. Keeps what came."""
+    with listener.accept()[0] as stream:
+        for octets in sent or [b""]:
+            came.append(stream.recv(65536))
+            stream.sendall(octets)
+
+
+def served_together(listener, came):
+    """Reads two frames, answers the second and then the first; then the third."""
+    with listener.accept()[0] as stream:
+        both = b""
+        while len(both) < len(resolution(1, b"10/a")) * 2:
+            both += stream.recv(65536)
+        stream.sendall(absent(2) + absent(1))
+        came.append(both + stream.recv(65536))
+        stream.sendall(absent(3))
+
+
+def run(words, text=""):
+    environment = dict(os.environ, HDL_SECRET=SECRET)
+    return subprocess.run([PROGRAM, *words], input=text, env=environment, capture_output=True, text=True, check=False, timeout=60)
+
+
+def asked(serve, words, text=""):
+    """What the program says to a server that serves so."""
+    with socket.create_server(("127.0.0.1", 0)) as listener:
+        thread = threading.Thread(target=serve, args=(listener,), daemon=True)
+        thread.start()
+        done = run([*words, "--server", "127.0.0.1:%d" % listener.getsockname()[1]], text)
+        thread.join(10)
+    return done
+
+
+def deleted(sent, came):
+    return asked(lambda listener: served(listener, sent, came), ["delete", "10/c", "--key", "300:0.NA/10"])
+
+
+def exchanges():
+    """Each whole exchange: its name, and whether just these octets were sent and all went well."""
+    for name, sent, wanted in WHOLE:
+        came = []
+        done = deleted(sent, came)
+        yield name, done.returncode == 0 and came == wanted
+    came = []
+    done = asked(lambda listener: served_together(listener, came), ["batch"], FLIGHT)
+    yield "requests in flight", done.returncode == 1 and came == FLIGHT_ASKED and done.stdout.splitlines() == FLIGHT_SAID
+
+
+def cases():
+    """What is asked, what came, and the status and the words that should."""
+    for name, sent, status, said in SERVERS:
+        yield name, deleted(sent, []), status, said
+    yield "nobody listens", run(["resolve", "10/a", "--server", "127.0.0.1:1"]), 3, "hdl: the connection failed"
+    for words, text, said in WORDS:
+        yield " ".join(words), run(words, text), 2, said
+
+
+def main():
+    passed = failed = 0
+    for name, good in exchanges():
+        passed, failed = passed + good, failed + (not good)
+        if not good:
+            print("%s: other octets than those that should be" % name)
+    for name, done, status, said in cases():
+        good = (done.returncode, done.stderr.strip()) == (status, said) and SECRET not in done.stdout + done.stderr
+        passed, failed = passed + good, failed + (not good)
+        if not good:
+            print("%s: status %d, %r; it should be %d, %r" % (name, done.returncode, done.stderr.strip(), status, said))
+    print("%d passed, %d failed" % (passed, failed))
+    return 1 if failed else 0
+
+
+sys.exit(main())
