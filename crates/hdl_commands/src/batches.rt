@@ -4,6 +4,7 @@ use crate::batch_text::read_batch;
 use crate::connecting::connect;
 use hdl_client::{Batch, ClientFault, Outcomes, Task};
 use hdl_words::code_name;
+use std::io::IsTerminal;
 
 /// Prints what comes, and counts it.
 #[derive(Drop)]
@@ -11,6 +12,20 @@ struct Tally<'r> {
     rt: &'r HostRuntime,
     done: usize,
     failed: Vec<usize>,
+    /// How many requests there are, where progress is shown.
+    shown_of: Option<usize>,
+}
+
+impl Tally<'_> {
+    /// Puts how far it is in the place of what stands in the terminal's last line.
+    fn show_progress(&self) {
+        if let Some(all) = self.shown_of {
+            let _ = eprint!(self.rt; "\r{} of {all}", self.done);
+            if self.done == all {
+                let _ = eprintln!(self.rt);
+            }
+        }
+    }
 }
 
 impl Outcomes for Tally<'_> {
@@ -26,7 +41,13 @@ impl Outcomes for Tally<'_> {
             task.title,
             code_name(code)
         );
+        self.show_progress();
     }
+}
+
+/// Whether progress is shown: where standard error is a terminal, and the outcomes go elsewhere.
+fn is_watched(rt: &HostRuntime) -> bool {
+    rt.stderr().is_terminal() && !rt.stdout().is_terminal()
 }
 
 fn asked(
@@ -50,7 +71,7 @@ fn print_end(tally: &Tally<'_>) {
 }
 
 /// Asks all of a batch of a server over one connection, and prints a line for each outcome as it comes, and at the end how many
-/// succeeded and the lines of those that failed. Answers the exit status: 0 where every code was 1, 1 where another came, 2 for a text
+/// succeeded and the lines of those that failed; progress on standard error, where that is a terminal and the outcomes go elsewhere. Answers the exit status: 0 where every code was 1, 1 where another came, 2 for a text
 /// that is no batch, of which nothing was sent, and 3 where the connection failed, with how many requests have no outcome.
 pub fn run_batch_text(rt: &HostRuntime, server: &str, text: &str) -> u8 {
     let batch = match read_batch(rt.alloc(), text) {
@@ -64,6 +85,7 @@ pub fn run_batch_text(rt: &HostRuntime, server: &str, text: &str) -> u8 {
         rt,
         done: 0,
         failed: Vec::new(rt.alloc()),
+        shown_of: Some(batch.tasks.len()).filter(|_| is_watched(rt)),
     };
     let ended = asked(rt, server, &batch, &mut tally);
     print_end(&tally);
