@@ -1,5 +1,5 @@
 -- What answers a challenge (docs/PROTOCOL.md, "Challenge and response").
-use Rattle.std.specs.Prelude.{◌≡◌, ℕ, ◌-◌, List, length, take, codes, Some}
+use Rattle.std.specs.Prelude.{◌≡◌, ◌≢◌, ℕ, ◌-◌, List, length, take, codes, Some}
 use Rattle.hdl_auth.specs.declared.algorithm.Digest.{Digest}
 use Rattle.hdl_auth.specs.Digest.{algorithm_of, digest_of}
 use Rattle.hdl_auth.specs.Mac.{right_response}
@@ -26,6 +26,10 @@ response_of key nonce digest = Response (codes "HS_SECKEY") key.handle key.index
 -- A reply is a challenge: it has a nonce and a digest.
 abbrev pub Challenges : ReplyParts → List ℕ → Digest → Type 0
 Challenges reply nonce digest = (reply.content ≡ Nonce nonce) × (reply.digest ≡ Some digest)
+
+-- The reply challenges another request than the one that was asked.
+abbrev pub IsOtherChallenge : List ℕ → ReplyParts → Type 0
+IsOtherChallenge asked reply = (nonce : List ℕ) × (digest : Digest) × Challenges reply nonce digest × (digest ≢ digest_of (algorithm_of digest) (signed_part asked))
 
 -- The message answers this reply, which challenges just the request that was asked.
 pub record Answers (key : Key) (asked : List ℕ) (reply : ReplyParts) (answer : List ℕ) : Type 0 where

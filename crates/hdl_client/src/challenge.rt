@@ -1,12 +1,13 @@
 //! Keys, and the answer to a challenge.
 
-ghost use Rattle.std.specs.Prelude.{◌≡◌, ◌≢◌, ◌≤◌, ℕ, List, length, true, false, IfOk, IfSome, MatchOption};
+ghost use Rattle.std.specs.Prelude.{◌≡◌, ◌≢◌, ◌≤◌, ◌<◌, ◌⊎◌, ℕ, List, length, true, false, IfOk, IfErr, IfSome, MatchOption};
 ghost use Rattle.hdl_auth.specs.declared.algorithm.Digest.{Digest};
 ghost use Rattle.hdl_auth.specs.Digest.{algorithm_of, digest_of};
 ghost use Rattle.hdl_msg.specs.Reply.{most_octets};
 ghost use Rattle.hdl_msg.specs.RequestBody as requests;
 ghost use Rattle.hdl_msg.specs.ReplyView.{reply_seen};
-ghost use Rattle.hdl_client.specs.Challenge.{plain_header, response_of, Challenges, Answers};
+ghost use Rattle.hdl_client.specs.Challenge.{plain_header, response_of, Challenges, Answers, IsOtherChallenge};
+ghost use Rattle.hdl_client.specs.declared.fault.ClientFault.TheVariants.{Memory, TooLong, OtherChallenge};
 ghost use Rattle.hdl_client.specs.Challenge as challenge;
 
 use crate::fault::ClientFault;
@@ -40,6 +41,7 @@ pub const PLAIN: Header = Header {
 pub fn request_message(alloc: Global, body: &RequestBody) -> Result<Vec<u8>, ClientFault>
     ensures octets { IfOk result (λ v. v.items ≡ requests.request_message plain_header body.now) }
     ensures short { IfOk result (λ v. length v.items ≤ most_octets) }
+    ensures refused { IfErr result (λ e. (e ≡ Memory) ⊎ ((e ≡ TooLong) × (most_octets < requests.request_length body.now))) }
 {
     if request_len(body) > MESSAGE_MOST {
         return Err(ClientFault::TooLong);
@@ -95,6 +97,7 @@ pub fn challenge_answer(
         ((nonce : List ℕ) (digest : Digest) → ¬ (Challenges (reply_seen reply.now) nonce digest))
         (λ v. Answers key.now message.now (reply_seen reply.now) v.items)) }
     ensures short { IfOk result (λ r. IfSome r (λ v. length v.items ≤ most_octets)) }
+    ensures other { IfErr result (λ e. e ≡ OtherChallenge → IsOtherChallenge message.now (reply_seen reply.now)) }
 {
     let (ContentView::Nonce { nonce }, Some(request_digest)) = (reply.content, &reply.digest) else {
         return Ok(None);

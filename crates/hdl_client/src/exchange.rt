@@ -1,10 +1,11 @@
 //! One frame there, and one back.
 
-ghost use Rattle.std.specs.Prelude.{◌≡◌, ◌≤◌, length, IfOk, OnOk};
+ghost use Rattle.std.specs.Prelude.{◌≡◌, ◌≤◌, ◌<◌, length, IfOk, IfErr, OnOk};
 ghost use Rattle.std.specs.Io.KnownBytes.{Appends, Consumes};
 ghost use Rattle.hdl_frame.specs.Frames.{IsFrame};
 ghost use Rattle.hdl_msg.specs.Reply.{most_octets};
 ghost use Rattle.hdl_client.specs.Exchange.{frame_octets};
+ghost use Rattle.hdl_client.specs.declared.fault.ClientFault.TheVariants.{TooLong};
 
 use crate::fault::ClientFault;
 use hdl_frame::{ENVELOPE_LEN, Envelope};
@@ -45,6 +46,7 @@ pub fn send<S: Write>(
     request: u32,
     message: &[u8],
 ) -> Result<(), ClientFault>
+    ensures too_long { IfErr result (λ e. e ≡ TooLong → most_octets < length message.now) }
     ensures sent { OnOk result (Appends (S.contents stream.old) (S.contents stream.new) (frame_octets session request message.now)) }
 {
     if message.len() > MESSAGE_MOST {

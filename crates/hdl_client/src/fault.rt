@@ -1,5 +1,8 @@
 //! Why a request has no reply.
 
+ghost use Rattle.std.specs.Prelude.{◌≡◌, ◌≢◌};
+ghost use Rattle.hdl_client.specs.declared.fault.ClientFault.TheVariants.{Memory, TooLong};
+
 use hdl_frame::FrameFault;
 use std::alloc::{AllocError, AllocFailed};
 use std::io::{self, ErrorKind};
@@ -36,18 +39,25 @@ pub enum ClientFault {
 }
 
 impl From<AllocError> for ClientFault {
+    ghost from_gives = { λ _ e. e ≡ Memory };
+
     fn from(_: AllocError) -> ClientFault {
         ClientFault::Memory
     }
 }
 
 impl<T: Drop> From<AllocFailed<T>> for ClientFault {
+    ghost from_gives = { λ _ e. e ≡ Memory };
+
     fn from(_: AllocFailed<T>) -> ClientFault {
         ClientFault::Memory
     }
 }
 
 impl From<io::Error> for ClientFault {
+    // A stream says nothing of a request's length.
+    ghost from_gives = { λ _ e. e ≢ TooLong };
+
     fn from(error: io::Error) -> ClientFault {
         match error.kind() {
             ErrorKind::WouldBlock | ErrorKind::TimedOut => ClientFault::TimedOut,
