@@ -4,6 +4,7 @@ exchanges, challenges and requests in flight among them, and where no good answe
 Servers stand in this program: they send the octets of a case, written here from docs/PROTOCOL.md, and close. Words that are no request
 are asked of nobody. Its last line is 'N passed, M failed', a case counting one."""
 
+import contextlib
 import hashlib
 import os
 import socket
@@ -123,23 +124,35 @@ WORDS = (
 )
 
 
+def end(stream):
+    """Says that nothing more comes, and reads until the client has gone, so that it meets an end and no reset. It may have gone before."""
+    with contextlib.suppress(OSError):
+        stream.shutdown(socket.SHUT_WR)
+        while stream.recv(65536):
+            pass
+
+
 def served(listener, sent, came):
     """Serves one connection: behind each frame that comes the next octets, and then the end. Keeps what came."""
     with listener.accept()[0] as stream:
+        stream.settimeout(30)
         for octets in sent or [b""]:
             came.append(stream.recv(65536))
             stream.sendall(octets)
+        end(stream)
 
 
 def served_together(listener, came):
     """Reads two frames, answers the second and then the first; then the third."""
     with listener.accept()[0] as stream:
+        stream.settimeout(30)
         both = b""
         while len(both) < len(resolution(1, b"10/a")) * 2:
             both += stream.recv(65536)
         stream.sendall(absent(2) + absent(1))
         came.append(both + stream.recv(65536))
         stream.sendall(absent(3))
+        end(stream)
 
 
 def run(words, text=""):

@@ -68,15 +68,26 @@ def tenants():
     return text.replace(" 2641\n", " %d\n" % ports[0]).replace(" 2642\n", " %d\n" % ports[1]), ports[0]
 
 
-def main():
-    text, port = tenants()
-    with subprocess.Popen([SERVER, "serve"], stdin=subprocess.PIPE, stdout=subprocess.PIPE, text=True) as server:
+def started():
+    """A server that listens, and its port. Another process may take a port that was free, so it's tried again."""
+    for _ in range(5):
+        text, port = tenants()
+        server = subprocess.Popen([SERVER, "serve"], stdin=subprocess.PIPE, stdout=subprocess.PIPE, text=True)
         server.stdin.write(text)
         server.stdin.close()
-        for _ in range(2):
-            server.stdout.readline()
+        if all([server.stdout.readline() for _ in range(2)]):
+            break
+        server.wait()
+    return server, port
+
+
+def main():
+    server, port = started()
+    try:
         failed = list(failures(server, port))
+    finally:
         server.terminate()
+        server.wait()
     print("%d passed, %d failed" % (len(failed) - sum(failed), sum(failed)))
     return 1 if any(failed) or not failed else 0
 
