@@ -2,7 +2,7 @@
 //!
 //! ```text
 //! RequestBody -> Session::ask -> a frame to the stream, a frame from it; with a key, the answer to its challenge -> the reply's frame
-//! text of a batch -> read_batch -> Batch -> Session::run_batch -> an outcome for each task
+//! Batch -> Session::run_batch -> several requests in flight, and the code of each reply as it comes
 //! ```
 //!
 //! It stands on the codecs that the service stands on: what it sends is in the grammar of requests, and what it takes for a reply is
