@@ -1,5 +1,6 @@
 -- Masks that are kept, and when they are a table's.
 use Rattle.std.specs.Prelude.{ℕ, List, Bool, ◌&&◌, bytes_eq, nat_eq, map, Option, Contains}
+use Rattle.hdl_limits.specs.declared.TheConstants.{MASKS_MAX}
 use Rattle.hdl_value.specs.Place.{Place}
 use Rattle.hdl_value.specs.declared.admin.AdminMask.{AdminMask}
 use Rattle.hdl_rows.specs.Table.{Table}
@@ -27,9 +28,9 @@ same_asked a b = bytes_eq a.handle b.handle && (bytes_eq a.key.handle b.key.hand
 abbrev pub is_asked : List ℕ → Place → Asked → Bool
 is_asked h k = same_asked (asked_for h k)
 
--- one more, the most recently used; of 256 others the least recently used is gone
+-- one more, the most recently used; of as many others as are kept the least recently used is gone
 abbrev pub with_mask : List Kept → Asked → Option ℕ → List Kept
-with_mask kept a m = put_entries same_asked (lru_cache kept 256) a m
+with_mask kept a m = put_entries same_asked (lru_cache kept MASKS_MAX) a m
 
 -- what is kept is the table's
 abbrev pub AreTrue : Table → List Kept → Type 0

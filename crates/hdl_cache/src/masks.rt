@@ -11,15 +11,13 @@ ghost use Rattle.lru.specs.LruCache.{promoted};
 ghost use Rattle.hdl_cache.specs.Kept.{asked_for, is_asked, with_mask, AreTrue};
 
 use crate::pair::Pair;
+use hdl_limits::MASKS_MAX;
 use hdl_name::Name;
 use hdl_value::{AdminMask, Reference};
 use lru::LruCache;
 use std::alloc::{AllocError, Global};
 use std::marker::Model;
 use std::num::NonZeroUsize;
-
-/// How many masks are kept.
-const MOST_KEPT: usize = 256;
 
 /// Masks by handle and key. Contracts see them as a list, the most recently used first.
 #[derive(Drop)]
@@ -30,13 +28,14 @@ pub struct Masks {
 
 impl Model for Masks {
     ghost use Rattle.std.specs.Prelude.{◌≡◌, List};
+    ghost use Rattle.hdl_limits.specs.declared.TheConstants.{MASKS_MAX};
     ghost use Rattle.hdl_cache.specs.Kept.{Kept, kept_in};
 
     ghost Value = { List Kept };
 
     ghost view = { λ m. kept_in m.kept.entries };
 
-    ghost invariant = { λ m. m.kept.cap ≡ 256 };
+    ghost invariant = { λ m. m.kept.cap ≡ MASKS_MAX };
 }
 
 impl Masks {
@@ -44,7 +43,7 @@ impl Masks {
     pub fn new(alloc: Global) -> Result<Masks, AllocError>
         ensures { IfOk result (λ masks. masks ≡ []) }
     {
-        let Some(most) = NonZeroUsize::new(MOST_KEPT) else {
+        let Some(most) = NonZeroUsize::new(MASKS_MAX) else {
             unreachable!()
         };
         let kept = LruCache::new(alloc, most)?;

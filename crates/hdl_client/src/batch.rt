@@ -5,11 +5,9 @@ use crate::exchange::{receive, send};
 use crate::fault::ClientFault;
 use crate::session::{Session, whole};
 use hdl_frame::Frame;
+use hdl_limits::CHALLENGES_MAX;
 use hdl_msg::read_reply;
 use std::io::{Read, Write};
-
-/// How many requests may be in flight: a service keeps eight challenges of a connection, and a ninth displaces the oldest.
-const FLIGHTS: usize = 8;
 
 /// A request of a batch.
 #[derive(Drop)]
@@ -104,7 +102,7 @@ impl<S: Read + Write> Session<S> {
         next: usize,
     ) -> Result<usize, ClientFault> {
         let mut next = next;
-        for _ in flights.len()..FLIGHTS {
+        for _ in flights.len()..CHALLENGES_MAX {
             let Some(task) = batch.tasks.get(next) else {
                 break;
             };
@@ -162,7 +160,7 @@ impl<S: Read + Write> Session<S> {
         batch: &Batch,
         outcomes: &mut O,
     ) -> Result<(), ClientFault> {
-        let mut flights = Vec::with_capacity(self.alloc, FLIGHTS)?;
+        let mut flights = Vec::with_capacity(self.alloc, CHALLENGES_MAX)?;
         let mut next = 0;
         // A request takes at most two frames.
         for _ in 0..batch.tasks.len().saturating_mul(2) {

@@ -3,7 +3,6 @@
 ghost use Rattle.std.specs.Prelude.{◌≡◌, ◌≢◌, ◌≤◌, ◌<◌, ◌⊎◌, ℕ, List, length, true, false, IfOk, IfErr, IfSome, MatchOption};
 ghost use Rattle.hdl_auth.specs.declared.algorithm.Digest.{Digest};
 ghost use Rattle.hdl_auth.specs.Digest.{algorithm_of, digest_of};
-ghost use Rattle.hdl_msg.specs.Reply.{most_octets};
 ghost use Rattle.hdl_msg.specs.RequestBody as requests;
 ghost use Rattle.hdl_msg.specs.ReplyView.{reply_seen};
 ghost use Rattle.hdl_client.specs.Challenge.{plain_header, response_of, Challenges, Answers, IsOtherChallenge};
@@ -12,10 +11,11 @@ ghost use Rattle.hdl_client.specs.Challenge as challenge;
 
 use crate::fault::ClientFault;
 use hdl_auth::{digest, mac};
+use hdl_limits::MESSAGE_MAX;
 use hdl_msg::{
-    ContentView, Digest, Header, MESSAGE_MOST, ReplyView, RequestBody, request_len, write_request,
+    ContentView, Digest, Header, ReplyView, RequestBody, request_len, write_request,
 };
-use hdl_value::Octets;
+use hdl_value::{HS_SECKEY, Octets};
 use std::alloc::{AllocError, Global};
 
 /// A secret key, and the reference to the HS_SECKEY value that holds it at the service. It can't be printed.
@@ -40,10 +40,10 @@ pub const PLAIN: Header = Header {
 /// The message of a request without flags.
 pub fn request_message(alloc: Global, body: &RequestBody) -> Result<Vec<u8>, ClientFault>
     ensures octets { IfOk result (λ v. v.items ≡ requests.request_message plain_header body.now) }
-    ensures short { IfOk result (λ v. length v.items ≤ most_octets) }
-    ensures refused { IfErr result (λ e. (e ≡ Memory) ⊎ ((e ≡ TooLong) × (most_octets < requests.request_length body.now))) }
+    ensures short { IfOk result (λ v. length v.items ≤ MESSAGE_MAX) }
+    ensures refused { IfErr result (λ e. (e ≡ Memory) ⊎ ((e ≡ TooLong) × (MESSAGE_MAX < requests.request_length body.now))) }
 {
-    if request_len(body) > MESSAGE_MOST {
+    if request_len(body) > MESSAGE_MAX as usize {
         return Err(ClientFault::TooLong);
     }
     Ok(write_request(alloc, PLAIN, body)?)
@@ -63,7 +63,7 @@ pub fn challenge_response(
     answer.push(proof.algorithm().octet())?;
     answer.extend_from_slice(proof.as_slice())?;
     Ok(RequestBody::Response {
-        kind: Octets::new(Vec::from_slice(alloc, b"HS_SECKEY")?),
+        kind: Octets::new(Vec::from_slice(alloc, HS_SECKEY)?),
         handle: Octets::new(Vec::from_slice(alloc, key.handle.as_slice())?),
         index: key.index,
         answer: Octets::new(answer),
@@ -96,7 +96,7 @@ pub fn challenge_answer(
     ensures answers { IfOk result (λ r. MatchOption r
         ((nonce : List ℕ) (digest : Digest) → ¬ (Challenges (reply_seen reply.now) nonce digest))
         (λ v. Answers key.now message.now (reply_seen reply.now) v.items)) }
-    ensures short { IfOk result (λ r. IfSome r (λ v. length v.items ≤ most_octets)) }
+    ensures short { IfOk result (λ r. IfSome r (λ v. length v.items ≤ MESSAGE_MAX)) }
     ensures other { IfErr result (λ e. e ≡ OtherChallenge → IsOtherChallenge message.now (reply_seen reply.now)) }
 {
     let (ContentView::Nonce { nonce }, Some(request_digest)) = (reply.content, &reply.digest) else {

@@ -3,13 +3,12 @@
 ghost use Rattle.std.specs.Prelude.{◌≡◌, ◌≤◌, ◌<◌, length, IfOk, IfErr, OnOk};
 ghost use Rattle.std.specs.Io.KnownBytes.{Appends, Consumes};
 ghost use Rattle.hdl_frame.specs.Frames.{IsFrame};
-ghost use Rattle.hdl_msg.specs.Reply.{most_octets};
 ghost use Rattle.hdl_client.specs.Exchange.{frame_octets};
 ghost use Rattle.hdl_client.specs.declared.fault.ClientFault.TheVariants.{TooLong};
 
 use crate::fault::ClientFault;
 use hdl_frame::{ENVELOPE_LEN, Envelope};
-use hdl_msg::MESSAGE_MOST;
+use hdl_limits::MESSAGE_MAX;
 use std::alloc::{AllocError, Global};
 use std::io::{Read, Write};
 
@@ -20,7 +19,7 @@ pub fn framed(
     request: u32,
     message: &[u8],
 ) -> Result<Vec<u8>, AllocError>
-    requires short { length message.now ≤ most_octets }
+    requires short { length message.now ≤ MESSAGE_MAX }
     ensures framed { IfOk result (λ v. v.items ≡ frame_octets session request message.now) }
 {
     let envelope = Envelope {
@@ -46,10 +45,10 @@ pub fn send<S: Write>(
     request: u32,
     message: &[u8],
 ) -> Result<(), ClientFault>
-    ensures too_long { IfErr result (λ e. e ≡ TooLong → most_octets < length message.now) }
+    ensures too_long { IfErr result (λ e. e ≡ TooLong → MESSAGE_MAX < length message.now) }
     ensures sent { OnOk result (Appends (S.contents stream.old) (S.contents stream.new) (frame_octets session request message.now)) }
 {
-    if message.len() > MESSAGE_MOST {
+    if message.len() > MESSAGE_MAX as usize {
         return Err(ClientFault::TooLong);
     }
     let octets = framed(alloc, session, request, message)?;

@@ -2,10 +2,10 @@
 
 use crate::made::{header, reply};
 use hdl_frame::Envelope;
+use hdl_limits::MESSAGE_MAX;
 use hdl_msg::{
-    Body, Digest, HandleList, Header, MESSAGE_MOST, OpCode, OpFlag, Reply, ReplyContent, Request,
-    ResponseCode, ValueList, Values, answer_header, busy, read_request, refuse, reply_len,
-    write_reply,
+    Body, Digest, HandleList, Header, OpCode, OpFlag, Reply, ReplyContent, ResponseCode, ValueList,
+    Values, answer_header, busy, read_request, refuse, reply_len, write_reply,
 };
 use hdl_value::{Octets, read_value};
 use std::alloc::{AllocError, Global};
@@ -44,7 +44,7 @@ pub(crate) fn octets(alloc: Global, text: &[u8]) -> Result<Octets, AllocError> {
 /// Whether the reply is written as these digits say.
 fn is_written(alloc: Global, reply: &Reply, digits: &str) -> Result<bool, AllocError> {
     let expected = hex(alloc, digits)?;
-    if reply_len(reply) > MESSAGE_MOST {
+    if reply_len(reply) > MESSAGE_MAX as usize {
         return Ok(false);
     }
     let written = write_reply(alloc, reply)?;
@@ -217,7 +217,7 @@ fn answers_echo_one_flag(rt: HostRuntime) {
 /// What the octets read as: the operation, its handle's length, and how many items its lists have.
 fn told(message: &[u8]) -> Option<(OpCode, usize, usize)> {
     let request = read_request(message).ok()?;
-    let (operation, handle, items) = match request.body {
+    let (operation, handle, items) = match *request.body() {
         Body::Resolution {
             handle,
             indexes,
@@ -324,8 +324,8 @@ fn reads_a_printed_response(rt: HostRuntime) -> Result<(), Fail> {
 fn signs_header_and_body(rt: HostRuntime) -> Result<(), Fail> {
     let octets = hex(rt.alloc(), RESOLUTION)?;
     let request = read_request(&octets)?;
-    assert_eq!(rt; request.signed.len(), 40);
-    assert_eq!(rt; request.header, header(OpCode::Resolution));
+    assert_eq!(rt; request.signed().len(), 40);
+    assert_eq!(rt; request.header(), header(OpCode::Resolution));
     Ok(())
 }
 
@@ -335,13 +335,8 @@ fn unknown_operations_are_other(rt: HostRuntime) -> Result<(), Fail> {
         rt.alloc(),
         "00000002 00000000 00000000 00000000 00000000 00000000 00000000",
     )?;
-    let is_other = matches!(
-        read_request(&unknown),
-        Ok(Request {
-            body: Body::Other { .. },
-            ..
-        })
-    );
+    let request = read_request(&unknown)?;
+    let is_other = matches!(request.body(), Body::Other { .. });
     assert!(rt; is_other);
     assert_eq!(rt;
         (OpCode::of(2), OpCode::of(200)),

@@ -1,9 +1,9 @@
 //! Requests, written as the frames of `crates/hdl_scripts/data` have them.
 
 use crate::msg::{hex, octets};
+use hdl_limits::MESSAGE_MAX;
 use hdl_msg::{
-    HandleList, Header, IndexList, MESSAGE_MOST, OpFlag, RequestBody, ValueList, request_len,
-    write_request,
+    HandleList, Header, IndexList, OpFlag, RequestBody, ValueList, request_len, write_request,
 };
 use hdl_value::{Octets, read_value};
 use std::alloc::{AllocError, Global};
@@ -27,7 +27,7 @@ fn is_spelt(
         expiration: 0,
     };
     let frame = hex(alloc, frame)?;
-    if request_len(body) > MESSAGE_MOST {
+    if request_len(body) > MESSAGE_MAX as usize {
         return Ok(false);
     }
     let written = write_request(alloc, header, body)?;

@@ -6,6 +6,7 @@ ghost use Rattle.hdl_name.specs.Name.{IsHandle};
 use crate::fault::WordFault;
 use hdl_client::Key;
 use hdl_name::is_name;
+use hdl_tenants::decimal_u32;
 use hdl_value::Octets;
 use std::alloc::Global;
 
@@ -13,11 +14,8 @@ use std::alloc::Global;
 pub(crate) fn index_in(digits: &str) -> Option<u32>
     ensures from_one { IfSome result (λ index. 0 < index) }
 {
-    if !digits.bytes().all(|octet| octet.is_ascii_digit()) {
-        return None;
-    }
-    match digits.parse::<u32>() {
-        Ok(index) if index > 0 => Some(index),
+    match decimal_u32(digits) {
+        Some(index) if index > 0 => Some(index),
         _ => None,
     }
 }

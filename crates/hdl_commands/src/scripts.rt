@@ -6,7 +6,8 @@ use crate::tenants::write_tenants;
 use hdl_auth::algorithm::Algorithm;
 use hdl_auth::digest;
 use hdl_client::{Batch, Key, Task, challenge_response, framed, request_message, signed_part};
-use hdl_msg::{Body, MESSAGE_MOST, read_request};
+use hdl_limits::MESSAGE_MAX;
+use hdl_msg::{Body, read_request};
 use hdl_name::Name;
 use hdl_tenants::{TenantFault, Tenants};
 use std::alloc::{AllocError, Global};
@@ -51,7 +52,7 @@ fn push_frame(
     request: u32,
     message: &[u8],
 ) -> Result<(), WordFault> {
-    if message.len() > MESSAGE_MOST {
+    if message.len() > MESSAGE_MAX as usize {
         return Err(WordFault::TooLong);
     }
     let digits = hex::encode(alloc, &framed(alloc, session, request, message)?)?;

@@ -1,9 +1,7 @@
 //! Replies, each with its room taken before anything changes.
 
 ghost use Rattle.std.specs.Prelude.{◌≡◌, IfOk, IfSome, IsTrue, OnErr, OnOk};
-ghost use Rattle.hdl_msg.specs.Bodies.{content_of};
 ghost use Rattle.hdl_msg.specs.Codes.{response_number};
-ghost use Rattle.hdl_msg.specs.Message.{signed_octets};
 ghost use Rattle.hdl_msg.specs.Reply.{short_reply};
 ghost use Rattle.hdl_msg.specs.declared.replies.ReplyContent.TheVariants as content;
 ghost use Rattle.hdl_cache.specs.Kept.{AreTrue};
@@ -53,11 +51,10 @@ pub(crate) fn answer<R: Rows>(
     request: &Request<'_>,
     decision: Decision,
 ) -> Result<Octets, Refused>
-    requires signed { request.now.signed.now ≡ signed_octets (content_of request.now) }
-    requires fits { IsTrue (fits algorithm (content_of request.now) decision.content) }
+    requires fits { IsTrue (fits algorithm request.now decision.content) }
     requires can_apply { IfSome decision.change (λ change. CanApply (R.content rows.old) change) }
     requires true_masks { AreTrue (R.content rows.old) masks.old }
-    ensures reply { IfOk result (λ octets. octets ≡ answer_octets algorithm letter.now.envelope (content_of request.now) (response_number decision.code) decision.content) }
+    ensures reply { IfOk result (λ octets. octets ≡ answer_octets algorithm letter.now.envelope request.now (response_number decision.code) decision.content) }
     ensures done { OnOk result (R.content rows.new ≡ apply_if (R.content rows.old) letter.now.moment decision.change) }
     ensures undone { OnErr result (R.content rows.new ≡ R.content rows.old) }
     ensures true_masks { AreTrue (R.content rows.new) masks.new }
@@ -87,8 +84,7 @@ pub(crate) fn tell(
     request: &Request<'_>,
     code: ResponseCode,
 ) -> Result<Octets, Refused>
-    requires signed { request.now.signed.now ≡ signed_octets (content_of request.now) }
-    ensures reply { IfOk result (λ octets. octets ≡ answer_octets algorithm letter.now.envelope (content_of request.now) (response_number code) content.Empty) }
+    ensures reply { IfOk result (λ octets. octets ≡ answer_octets algorithm letter.now.envelope request.now (response_number code) content.Empty) }
 {
     let Envelope {
         session,

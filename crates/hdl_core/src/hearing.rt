@@ -1,8 +1,6 @@
 //! Hearing a message that came on an open lane: a request that is decided, challenged, or comes back with a proof.
 
 ghost use Rattle.std.specs.Prelude.{◌≡◌, ◌<◌, ℕ, List, length, IfOk, OnErr};
-ghost use Rattle.hdl_msg.specs.Bodies.{content_of};
-ghost use Rattle.hdl_msg.specs.Message.{signed_octets};
 ghost use Rattle.hdl_cache.specs.Kept.{AreTrue};
 ghost use Rattle.hdl_ops.specs.Admission.{request_algorithm};
 ghost use Rattle.hdl_ops.specs.Replies.{digest_of};
@@ -15,6 +13,7 @@ use crate::lanes::Lanes;
 use crate::letter::Letter;
 use hdl_auth::algorithm::{Algorithm, Digest};
 use hdl_laws::Octets;
+use hdl_limits::CHALLENGE_LIFE;
 use hdl_msg::{Request, ResponseCode, read_request};
 use hdl_ops::{
     Level, Masks, Owner, Proof, Refused, Response, Rows, decide, render_challenge,
@@ -22,9 +21,6 @@ use hdl_ops::{
 };
 use hdl_slots::Pending;
 use std::alloc::Global;
-
-/// How long a challenge lives, in milliseconds.
-const CHALLENGE_LIFE: u64 = 60_000;
 
 /// What comes of a request that is decided for anyone: its reply, or a challenge with the request's digest.
 #[derive(Drop)]
@@ -41,9 +37,8 @@ fn challenge(
     next: u32,
     request: &Request<'_>,
 ) -> Result<(Octets, Digest), Refused>
-    requires signed { request.now.signed.now ≡ signed_octets (content_of request.now) }
-    ensures octets { IfOk result (λ sent. sent.0 ≡ challenge_octets algorithm next letter.now.envelope (content_of request.now) letter.now.nonce) }
-    ensures digest { IfOk result (λ sent. sent.1 ≡ digest_of algorithm (content_of request.now)) }
+    ensures octets { IfOk result (λ sent. sent.0 ≡ challenge_octets algorithm next letter.now.envelope request.now letter.now.nonce) }
+    ensures digest { IfOk result (λ sent. sent.1 ≡ digest_of algorithm request.now) }
 {
     let number = letter.envelope.request;
     let nonce = &letter.nonce;
@@ -63,9 +58,8 @@ fn ask<R: Rows>(
     next: u32,
     request: &Request<'_>,
 ) -> Result<Asked, Refused>
-    requires signed { request.now.signed.now ≡ signed_octets (content_of request.now) }
     requires true_masks { AreTrue (R.content rows.old) masks.old }
-    ensures asked { IfOk result (λ asked. IsAsked (hosted_by owner.now) (request_algorithm (algorithms_by owner.now) (content_of request.now)) (R.content rows.old) letter.now next (content_of request.now) asked (R.content rows.new)) }
+    ensures asked { IfOk result (λ asked. IsAsked (hosted_by owner.now) (request_algorithm (algorithms_by owner.now) request.now) (R.content rows.old) letter.now next request.now asked (R.content rows.new)) }
     ensures undone { OnErr result (R.content rows.new ≡ R.content rows.old) }
     ensures true_masks { AreTrue (R.content rows.new) masks.new }
 {
@@ -146,21 +140,20 @@ fn respond<R: Rows>(
     rows: &mut R,
     masks: &mut Masks,
     lanes: &mut Lanes,
-    number: u16,
+    lane: u16,
     letter: &Letter,
     request: &Request<'_>,
     response: Response<'_>,
 ) -> Result<Octets, Refused>
-    requires there { number < length lanes.old }
-    requires signed { request.now.signed.now ≡ signed_octets (content_of request.now) }
+    requires there { lane < length lanes.old }
     requires true_masks { AreTrue (R.content rows.old) masks.old }
-    ensures responded { IfOk result (λ octets. RespondsAt (hosted_by owner.now) (algorithms_by owner.now) (R.content rows.old) lanes.old number letter.now (content_of request.now) (response_view response.entry) octets lanes.new (R.content rows.new)) }
+    ensures responded { IfOk result (λ octets. RespondsAt (hosted_by owner.now) (algorithms_by owner.now) (R.content rows.old) lanes.old lane letter.now request.now (response_view response.entry) octets lanes.new (R.content rows.new)) }
     ensures undone { OnErr result (R.content rows.new ≡ R.content rows.old) }
     ensures kept { OnErr result (lanes.new ≡ lanes.old) }
     ensures true_masks { AreTrue (R.content rows.new) masks.new }
 {
     let session = letter.envelope.session;
-    let Some(pending) = lanes.find(number, letter.peer, session) else {
+    let Some(pending) = lanes.find(lane, letter.peer, session) else {
         return tell(
             owner.alloc,
             Algorithm::Sha1,
@@ -170,7 +163,7 @@ fn respond<R: Rows>(
         );
     };
     let octets = redeem(owner, rows, masks, letter, response, pending)?;
-    lanes.spend(number, letter.peer, session);
+    lanes.spend(lane, letter.peer, session);
     Ok(octets)
 }
 
@@ -180,13 +173,13 @@ pub(crate) fn hear<R: Rows>(
     rows: &mut R,
     masks: &mut Masks,
     lanes: &mut Lanes,
-    number: u16,
+    lane: u16,
     letter: &Letter,
     message: Vec<u8>,
 ) -> Result<Octets, Refused>
-    requires there { number < length lanes.old }
+    requires there { lane < length lanes.old }
     requires true_masks { AreTrue (R.content rows.old) masks.old }
-    ensures heard { IfOk result (λ octets. HearsAt (hosted_by owner.now) (algorithms_by owner.now) (R.content rows.old) lanes.old number (letter_of letter.now message.items) octets lanes.new (R.content rows.new)) }
+    ensures heard { IfOk result (λ octets. HearsAt (hosted_by owner.now) (algorithms_by owner.now) (R.content rows.old) lanes.old lane (letter_of letter.now message.items) octets lanes.new (R.content rows.new)) }
     ensures undone { OnErr result (R.content rows.new ≡ R.content rows.old) }
     ensures kept { OnErr result (lanes.new ≡ lanes.old) }
     ensures true_masks { AreTrue (R.content rows.new) masks.new }
@@ -194,12 +187,10 @@ pub(crate) fn hear<R: Rows>(
     let Ok(request) = read_request(&message) else {
         return malformed(owner.alloc, &letter.envelope);
     };
-    if let Some(response) = response_of(&request.body) {
-        return respond(
-            owner, rows, masks, lanes, number, letter, &request, response,
-        );
+    if let Some(response) = response_of(request.body()) {
+        return respond(owner, rows, masks, lanes, lane, letter, &request, response);
     }
-    let next = lanes.next_number(number);
+    let next = lanes.next_number(lane);
     match ask(owner, rows, masks, letter, next, &request)? {
         Asked::Answered(octets) => Ok(octets),
         Asked::Challenged(octets, digest) => {
@@ -211,7 +202,7 @@ pub(crate) fn hear<R: Rows>(
                 digest,
                 message: Octets::new(message),
             };
-            lanes.challenge(number, pending);
+            lanes.challenge(lane, pending);
             Ok(octets)
         }
     }

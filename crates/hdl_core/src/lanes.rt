@@ -11,8 +11,9 @@ ghost use Rattle.hdl_core.specs.Held.{held_at, state_at, with_state};
 
 use crate::lane::Lane;
 use hdl_frame::{Envelope, Frame};
+use hdl_limits::LANES;
 use hdl_pool::{Pool, PoolFault, Taken};
-use hdl_slots::{LANES, Pending, Slots};
+use hdl_slots::{Pending, Slots};
 use std::alloc::{AllocError, Global};
 use std::marker::Model;
 
@@ -27,13 +28,14 @@ pub(crate) struct Lanes {
 
 impl Model for Lanes {
     ghost use Rattle.std.specs.Prelude.{◌≡◌, ◌≤◌, List, length};
+    ghost use Rattle.hdl_limits.specs.declared.TheConstants.{LANES};
     ghost use Rattle.hdl_core.specs.Held.{Held, held_lanes};
 
     ghost Value = { List Held };
 
     ghost view = { λ s. held_lanes s.lanes.items s.pool s.slots };
 
-    ghost invariant = { λ s. (length s.lanes.items ≤ 64) × (length s.pool ≡ 64) × (length s.slots ≡ 64) };
+    ghost invariant = { λ s. (length s.lanes.items ≤ LANES) × (length s.pool ≡ LANES) × (length s.slots ≡ LANES) };
 }
 
 impl Lanes {

@@ -33,27 +33,27 @@ fn assemble<R: Rows>(
     rows: &mut R,
     masks: &mut Masks,
     lanes: &mut Lanes,
-    number: u16,
+    lane: u16,
     letter: &Letter,
     frame: &Frame<'_>,
 ) -> Result<Option<Octets>, Refused>
-    requires there { number < length lanes.old }
+    requires there { lane < length lanes.old }
     requires frame { IsFrameOf frame.now.bytes.now frame.now }
     requires piece { is_truncated (envelope_at frame.now.bytes.now) ≡ true }
     requires envelope { letter.now.envelope ≡ envelope_at frame.now.bytes.now }
     requires true_masks { AreTrue (R.content rows.old) masks.old }
-    ensures assembled { IfOk result (λ reply. AssemblesAt (hosted_by owner.now) (algorithms_by owner.now) (R.content rows.old) lanes.old number (received_as letter.now frame.now.bytes.now) reply lanes.new (R.content rows.new)) }
+    ensures assembled { IfOk result (λ reply. AssemblesAt (hosted_by owner.now) (algorithms_by owner.now) (R.content rows.old) lanes.old lane (received_as letter.now frame.now.bytes.now) reply lanes.new (R.content rows.new)) }
     ensures undone { OnErr result (R.content rows.new ≡ R.content rows.old) }
     ensures kept { OnErr result (lanes.new ≡ lanes.old) }
     ensures true_masks { AreTrue (R.content rows.new) masks.new }
 {
-    let Ok(taken) = lanes.take_piece(number, letter.peer, frame) else {
+    let Ok(taken) = lanes.take_piece(lane, letter.peer, frame) else {
         return Err(Refused);
     };
     match taken {
         Taken::Whole(message) => {
-            let reply = hear(owner, rows, masks, lanes, number, letter, message)?;
-            lanes.free(number, letter.peer, &letter.envelope);
+            let reply = hear(owner, rows, masks, lanes, lane, letter, message)?;
+            lanes.free(lane, letter.peer, &letter.envelope);
             Ok(Some(reply))
         }
         Taken::Kept => Ok(None),
@@ -79,12 +79,12 @@ fn receive<R: Rows>(
     rows: &mut R,
     masks: &mut Masks,
     lanes: &mut Lanes,
-    number: u16,
+    lane: u16,
     received: Received,
 ) -> Outcome
-    requires there { number < length lanes.old }
+    requires there { lane < length lanes.old }
     requires true_masks { AreTrue (R.content rows.old) masks.old }
-    ensures received { ReceivesAt (hosted_by owner.now) (algorithms_by owner.now) (R.content rows.old) lanes.old number (received_of received) result lanes.new (R.content rows.new) }
+    ensures received { ReceivesAt (hosted_by owner.now) (algorithms_by owner.now) (R.content rows.old) lanes.old lane (received_of received) result lanes.new (R.content rows.new) }
     ensures true_masks { AreTrue (R.content rows.new) masks.new }
 {
     let Received {
@@ -104,11 +104,11 @@ fn receive<R: Rows>(
         envelope,
     };
     if envelope.is_truncated() {
-        let reply = assemble(owner, rows, masks, lanes, number, &letter, &frame);
+        let reply = assemble(owner, rows, masks, lanes, lane, &letter, &frame);
         return outcome_of(&envelope, reply);
     }
     let message = message_of(bytes);
-    match hear(owner, rows, masks, lanes, number, &letter, message) {
+    match hear(owner, rows, masks, lanes, lane, &letter, message) {
         Ok(reply) => Outcome::Reply(reply),
         Err(_) => Outcome::Busy(busy(&envelope)),
     }
@@ -135,25 +135,25 @@ pub(crate) fn serve<R: Rows>(
     rows: &mut R,
     masks: &mut Masks,
     lanes: &mut Lanes,
-    number: u16,
+    lane: u16,
     what: What,
 ) -> Outcome
-    requires there { number < length lanes.old }
+    requires there { lane < length lanes.old }
     requires true_masks { AreTrue (R.content rows.old) masks.old }
-    ensures served { ServesAt (hosted_by owner.now) (algorithms_by owner.now) (R.content rows.old) lanes.old number what result lanes.new (R.content rows.new) }
+    ensures served { ServesAt (hosted_by owner.now) (algorithms_by owner.now) (R.content rows.old) lanes.old lane what result lanes.new (R.content rows.new) }
     ensures true_masks { AreTrue (R.content rows.new) masks.new }
 {
     match what {
         What::Open => {
-            lanes.renew(number, true);
+            lanes.renew(lane, true);
             Outcome::Silent
         }
         What::Close => {
-            lanes.renew(number, false);
+            lanes.renew(lane, false);
             Outcome::Silent
         }
         What::Bad { session, request } => {
-            if !lanes.is_open(number) {
+            if !lanes.is_open(lane) {
                 return Outcome::Silent;
             }
             Outcome::CloseAfter(refuse(&came(session, request)))
@@ -164,7 +164,7 @@ pub(crate) fn serve<R: Rows>(
             nonce,
             bytes,
         } => {
-            if !lanes.is_open(number) {
+            if !lanes.is_open(lane) {
                 return Outcome::Silent;
             }
             let received = Received {
@@ -173,7 +173,7 @@ pub(crate) fn serve<R: Rows>(
                 nonce,
                 bytes,
             };
-            receive(owner, rows, masks, lanes, number, received)
+            receive(owner, rows, masks, lanes, lane, received)
         }
     }
 }

@@ -6,7 +6,8 @@ use Rattle.std.proofs.lemmas.Nat.{be_bytes_2, be_bytes_4, from_be_bytes-to_be_by
 use Rattle.hdl_frame.specs.declared.envelope.Envelope.{Envelope}
 use Rattle.hdl_frame.specs.Envelope.{envelope_at, envelope_octets, Fits, payload_len}
 use Rattle.hdl_frame.specs.Frames.{IsFrame}
-use Rattle.hdl_frame.specs.Spelling.{SpellsFrame, AreOctets}
+use Rattle.hdl_limits.specs.Octets.{AreOctets}
+use Rattle.hdl_frame.specs.Spelling.{SpellsFrame}
 use Rattle.hdl_frame.proofs.FrameLemmas.{envelope_at-append}
 
 pub length-envelope_octets : (e : Envelope) → length (envelope_octets e) ≡ 20

@@ -2,6 +2,7 @@
 -- (RFC 3652, section 2.1, in this project's profile: docs/PROTOCOL.md, "Envelope" and "Frames and pieces").
 use Rattle.std.specs.Prelude.{ℕ, ◌+◌, ◌-◌, ◌*◌, ◌<◌, ◌^◌, min, Bool, not, ◌&&◌, ◌||◌, ◌==◌, nat_lt, nat_le, if◌then◌else◌, List, [], ◌∷◌, ◌++◌, slice_index, bit_and, Option, Some, None}
 use Rattle.std.specs.Int.{w16, w32, to_be_bytes, from_be_bytes}
+use Rattle.hdl_limits.specs.declared.TheConstants.{MESSAGE_MAX, PIECE_LEN}
 use Rattle.hdl_frame.specs.declared.envelope.Envelope.{Envelope}
 use Rattle.hdl_frame.specs.declared.envelope.FrameFault.{FrameFault}
 use Rattle.hdl_frame.specs.declared.envelope.FrameFault.TheVariants.{Version, Flags, TooLong}
@@ -55,16 +56,16 @@ is_truncated e = has_flag e 0x2000
 
 -- a piece that would begin at or behind the message's end; the product doesn't wrap
 abbrev pub is_past_end : Envelope → Bool
-is_past_end e = is_truncated e && nat_le e.length (492 * e.sequence)
+is_past_end e = is_truncated e && nat_le e.length (PIECE_LEN * e.sequence)
 
 -- the first fault in the order of the tests; none where the envelope is accepted
 unfoldable pub fault_of : Envelope → Option FrameFault
 fault_of e =
     if not (e.major == 2) then Some (Version e)
     else if is_compressed e || is_encrypted e || is_past_end e then Some (Flags e)
-    else if nat_lt 65536 e.length then Some (TooLong e)
+    else if nat_lt MESSAGE_MAX e.length then Some (TooLong e)
     else None
 
 -- how many octets follow an accepted envelope
 unfoldable pub payload_len : Envelope → ℕ
-payload_len e = if is_truncated e then min 492 (e.length - 492 * e.sequence) else e.length
+payload_len e = if is_truncated e then min PIECE_LEN (e.length - PIECE_LEN * e.sequence) else e.length

@@ -2,6 +2,7 @@
 -- pieces with the same number the first counts.
 use Rattle.std.specs.Prelude.{◌≡◌, ◌==◌, ℕ, ◌-◌, ◌*◌, ◌<◌, min, List, [], ◌∷◌, ◌++◌, length, map, find, All, Option, Some, None, option_map}
 use Rattle.std.specs.List.{range_with_len}
+use Rattle.hdl_limits.specs.declared.TheConstants.{PIECE_LEN}
 use Rattle.hdl_frame.specs.Pieces.{piece_count, stretch}
 
 -- the number that its envelope gives, and its payload
@@ -13,7 +14,7 @@ pub record Piece : Type 0 where
 abbrev pub payload_of : List Piece → ℕ → Option (List ℕ)
 payload_of pieces k = option_map (λ p. p.payload) (find (λ p. p.number == k) pieces)
 
--- The pieces make this message of len octets: each of its numbers came, and its stretch at 492 * k is the payload of the
+-- The pieces make this message of len octets: each of its numbers came, and its stretch at PIECE_LEN * k is the payload of the
 -- first piece with number k.
 pub record MakeMessage (pieces : List Piece) (len : ℕ) (message : List ℕ) : Type 0 where
   pub whole : length message ≡ len
@@ -40,4 +41,4 @@ message_of pieces len = joined (payloads_of pieces len)
 
 -- each piece has the payload that an accepted envelope with its number gives a frame
 abbrev pub HaveTheirLength : List Piece → ℕ → Type 0
-HaveTheirLength pieces len = All (λ p. length p.payload ≡ min 492 (len - 492 * p.number)) pieces
+HaveTheirLength pieces len = All (λ p. length p.payload ≡ min PIECE_LEN (len - PIECE_LEN * p.number)) pieces

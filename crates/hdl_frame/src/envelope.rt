@@ -3,16 +3,12 @@
 ghost use Rattle.std.specs.Prelude.{◌≡◌, ◌≤◌, length, None};
 ghost use Rattle.hdl_frame.specs.Envelope.{envelope_at, envelope_octets, fault_of, payload_len, is_compressed, is_encrypted, is_truncated};
 
+use byteorder::{BigEndian, ByteOrder};
+use hdl_limits::{MESSAGE_MAX, PIECE_LEN};
 use thiserror::Error;
 
 /// How many octets an envelope has.
 pub const ENVELOPE_LEN: usize = 20;
-
-/// How many octets of a message each piece but the last carries.
-pub const PIECE_LEN: u32 = 492;
-
-/// How many octets a message may have.
-pub const MESSAGE_MAX: u32 = 65_536;
 
 /// The major version that is spoken; any minor version is accepted.
 pub const MAJOR_VERSION: u8 = 2;
@@ -82,28 +78,28 @@ impl Envelope {
         Envelope {
             major: octets[0],
             minor: octets[1],
-            flags: u16::from_be_bytes([octets[2], octets[3]]),
-            session: u32::from_be_bytes([octets[4], octets[5], octets[6], octets[7]]),
-            request: u32::from_be_bytes([octets[8], octets[9], octets[10], octets[11]]),
-            sequence: u32::from_be_bytes([octets[12], octets[13], octets[14], octets[15]]),
-            length: u32::from_be_bytes([octets[16], octets[17], octets[18], octets[19]]),
+            flags: BigEndian::read_u16(&octets[2..4]),
+            session: BigEndian::read_u32(&octets[4..8]),
+            request: BigEndian::read_u32(&octets[8..12]),
+            sequence: BigEndian::read_u32(&octets[12..16]),
+            length: BigEndian::read_u32(&octets[16..20]),
         }
     }
 
     /// The envelope's 20 octets.
     #[tactic(auto, unfolding(crate::specs::Envelope::envelope_octets))]
-    pub fn to_octets(self) -> [u8; 20]
+    pub fn to_octets(self) -> [u8; ENVELOPE_LEN]
         ensures octets { result ≡ envelope_octets self }
     {
-        let [s0, s1, s2, s3] = self.session.to_be_bytes();
-        let [r0, r1, r2, r3] = self.request.to_be_bytes();
-        let [q0, q1, q2, q3] = self.sequence.to_be_bytes();
-        let [l0, l1, l2, l3] = self.length.to_be_bytes();
-        let [f0, f1] = self.flags.to_be_bytes();
-        [
-            self.major, self.minor, f0, f1, s0, s1, s2, s3, r0, r1, r2, r3, q0, q1, q2, q3, l0, l1,
-            l2, l3,
-        ]
+        let mut octets = [0; ENVELOPE_LEN];
+        octets[0] = self.major;
+        octets[1] = self.minor;
+        BigEndian::write_u16(&mut octets[2..4], self.flags);
+        BigEndian::write_u32(&mut octets[4..8], self.session);
+        BigEndian::write_u32(&mut octets[8..12], self.request);
+        BigEndian::write_u32(&mut octets[12..16], self.sequence);
+        BigEndian::write_u32(&mut octets[16..20], self.length);
+        octets
     }
 
     /// Whether CP is set.

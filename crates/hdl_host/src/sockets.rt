@@ -1,5 +1,6 @@
 //! The machine's sockets and random numbers as doors and nonces. They tell nothing.
 
+use hdl_limits::PEERS_MAX;
 use hdl_serve::{Door, DoorFault, Nonces, Packets};
 use rand::RngExt;
 use rand::rngs::StdRng;
@@ -7,9 +8,6 @@ use std::io::{ErrorKind, Read, Write};
 use std::net::{SocketAddr, TcpListener, TcpStream, UdpSocket};
 use std::thread;
 use std::time::Duration;
-
-/// The most peers that a datagram socket numbers.
-const PEERS: usize = 1024;
 
 /// Whether a call that failed says only that nothing came: it would wait or was interrupted, or the peer gave up before it was
 /// accepted.
@@ -131,7 +129,7 @@ impl SocketPackets {
         if let Some(at) = self.peers.iter().position(|known| *known == peer) {
             return u16::try_from(at + 1).ok();
         }
-        if self.peers.len() >= PEERS || self.peers.push(peer).is_err() {
+        if self.peers.len() >= PEERS_MAX || self.peers.push(peer).is_err() {
             return None;
         }
         u16::try_from(self.peers.len()).ok()
@@ -153,7 +151,7 @@ impl Packets for SocketPackets {
         match self.socket.recv_from(buffer) {
             Ok((length, from)) => Ok(
                 self.number(from)
-                    .filter(|peer| 0 < *peer && *peer as usize <= PEERS)
+                    .filter(|peer| 0 < *peer && *peer as usize <= PEERS_MAX)
                     .map(|peer| (peer, length)),
             ),
             Err(e) if nothing_came(e.kind()) => Ok(None),

@@ -3,6 +3,7 @@
 use hdl_core::{Event, Outcome, What};
 use hdl_replay::{Fault, events_of, line_of};
 use hdl_serve::{Item, Why};
+use hdl_tenants::decimal;
 use std::alloc::Global;
 use std::io::{self, Write};
 
@@ -21,9 +22,9 @@ pub fn had<T>(found: Result<T, Fault>) -> io::Result<T> {
 
 /// The number that a field spells.
 pub fn number(field: &str) -> io::Result<u64> {
-    match field.parse::<u64>() {
-        Ok(number) => Ok(number),
-        Err(_) => Err(bad()),
+    match decimal(field) {
+        Some(number) => Ok(number),
+        None => Err(bad()),
     }
 }
 

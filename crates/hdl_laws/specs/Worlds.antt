@@ -2,6 +2,7 @@
 use Rattle.std.specs.Prelude.{◌≡◌, ◌≢◌, ℕ, ◌-◌, List, Bool, true, false, ◌==◌, nat_lt, Option, Some, None, if◌then◌else◌, ◌⊎◌, drop, unwrap_or, IsTrue, MatchBool}
 use Rattle.std.specs.Ordering.{nat_cmp}
 use Rattle.std.specs.FinMap as map
+use Rattle.hdl_limits.specs.declared.TheConstants.{CHALLENGE_LIFE}
 use Rattle.hdl_auth.specs.declared.algorithm.Algorithm.{Algorithm}
 use Rattle.hdl_auth.specs.declared.algorithm.Algorithm.TheVariants.{Sha1}
 use Rattle.hdl_auth.specs.Digest.{algorithm_of}
@@ -101,13 +102,9 @@ abbrev pub IsReading : {A : Type 0} → (A → Type 0) → Option A → Type 0
 IsReading {A} P None = (x : A) → P x → ⊥
 IsReading P (Some x) = P x
 
--- how long a challenge lives, in milliseconds
-abbrev pub challenge_life : ℕ
-challenge_life = 60000
-
--- the moment of the letter is later than the challenge's by more than that; an earlier moment counts as none
+-- the moment of the letter is later than the challenge's by more than a challenge lives; an earlier moment counts as none
 abbrev pub is_late : Letter → Pending → Bool
-is_late m p = nat_lt challenge_life (m.moment - p.moment)
+is_late m p = nat_lt CHALLENGE_LIFE (m.moment - p.moment)
 
 -- the lane without the challenge that the letter names
 abbrev pub redeemed : LaneState → Letter → LaneState

@@ -8,12 +8,9 @@ ghost use Rattle.hdl_lines.specs.Lines.{value_in, value_in_digits, value_in_fiel
 use crate::data::{data_in, octets_in};
 use crate::fault::LineFault;
 use crate::fields::{cut_at, number_at, number_in, permissions_at, word_at};
+use hdl_limits::{DATA_MAX, TYPE_MAX};
 use hdl_value::{Octets, RawRefs, Value, ValueFault, cut_value, value_fits, write_value};
 use std::alloc::Global;
-
-const MOST_KIND_OCTETS: usize = 255;
-
-const MOST_OCTETS: usize = 32_768;
 
 /// The value that the octets spell, without its timestamp.
 #[tactic(auto, unfolding(crate::specs::Lines::value_in_octets))]
@@ -59,10 +56,10 @@ fn check(alloc: Global, value: &Value) -> Result<(), LineFault>
     if value.index == 0 {
         return Err(LineFault::Value(ValueFault::IndexZero));
     }
-    if value.kind.as_slice().len() > MOST_KIND_OCTETS {
+    if value.kind.as_slice().len() > TYPE_MAX {
         return Err(LineFault::Value(ValueFault::TypeLong));
     }
-    if value.bytes.as_slice().len() > MOST_OCTETS {
+    if value.bytes.as_slice().len() > DATA_MAX {
         return Err(LineFault::Value(ValueFault::DataLong));
     }
     let octets = write_value(alloc, value)?;

@@ -8,7 +8,8 @@ use Rattle.std.proofs.lemmas.List.{nil_from_length, length-append}
 use Rattle.hdl_auth.specs.declared.algorithm.Digest.{Digest}
 use Rattle.hdl_auth.specs.declared.algorithm.Digest.TheVariants.{Sha1, Sha256}
 use Rattle.hdl_auth.specs.Digest.{spelt as digest_spelling}
-use Rattle.hdl_value.specs.Spelling.{string, IsString, AreOctets}
+use Rattle.hdl_limits.specs.Octets.{AreOctets}
+use Rattle.hdl_value.specs.Spelling.{string, IsString}
 use Rattle.hdl_value.specs.Reading.{◌>>=◌, pair_at, whole_of, number_at, octets_at, octet_at, string_at, Takes, IsCodec}
 use Rattle.hdl_value.proofs.FieldLaws.{bind_some, some_is, octets_take, octets_again, octet_takes, Takes-then, IsLong}
 use Rattle.hdl_value.proofs.Codecs.{pair_codec, string_codec, octets_codec}
@@ -23,7 +24,8 @@ use Rattle.hdl_msg.specs.declared.reply_view.ReplyForm.{ReplyForm}
 use Rattle.hdl_msg.specs.declared.reply_view.ReplyForm.TheVariants as form
 use Rattle.hdl_msg.specs.Message.{number, counted, header_octets, IsNumber, AreFew}
 use Rattle.hdl_msg.specs.Reading.{strings_at, values_at, message_at}
-use Rattle.hdl_msg.specs.Reply.{most_octets, content_octets, digest_octets, reply_body, reply_message, reply_octets, short_reply}
+use Rattle.hdl_limits.specs.declared.TheConstants.{MESSAGE_MAX}
+use Rattle.hdl_msg.specs.Reply.{content_octets, digest_octets, reply_body, reply_message, reply_octets, short_reply}
 use Rattle.hdl_msg.specs.ReplyView.{ReplyParts, reply_parts, announces_digest, announced_form, form_of, IsWholeDigest, DigestFits, ContentFits, IsAnnounced, PartsFit, parts_body, SpellsReply}
 use Rattle.hdl_msg.specs.ReplyReading.{sized_digest_at, digest_behind, digest_at, announced_digest_at, prefix_in, shown_values_in, handles_in, nothing_in, referral_in, nonce_in, empty_in, content_in, reply_body_in, reply_at}
 use Rattle.hdl_msg.specs.Laws.{IsReadable, reply_of, short_parts}
@@ -271,7 +273,7 @@ reply_spelt_lem y readable = record {
   spelt = refl;
 }
 
-pub reply_written_lem : (octets : List ℕ) (p : ReplyParts) (session request : ℕ) → SpellsReply octets p → length octets ≤ most_octets → IsReadable (reply_of session request p) × (drop 20 (reply_octets (reply_of session request p)) ≡ octets)
+pub reply_written_lem : (octets : List ℕ) (p : ReplyParts) (session request : ℕ) → SpellsReply octets p → length octets ≤ MESSAGE_MAX → IsReadable (reply_of session request p) × (drop 20 (reply_octets (reply_of session request p)) ≡ octets)
 unfolding reply_octets envelope_octets reply_message reply_body
 reply_written_lem octets p session request s le = (
   record { fits = s.fits; announced = s.announced; short = rw (sym s.spelt) le },

@@ -12,7 +12,7 @@ use Rattle.hdl_msg.specs.declared.request_body.RequestBody.{RequestBody}
 use Rattle.hdl_msg.specs.declared.request_body.RequestBody.TheVariants.{Resolution, Create, Delete, Add, Remove, Modify, List as ListAll, Response}
 use Rattle.hdl_msg.specs.Codes.{op_number, IsNumberOf}
 use Rattle.hdl_msg.specs.Message.{number, counted, body, header_octets, IsShort, IsNumber, HeaderFits, OperationFits, code_of, SpellsRequest}
-use Rattle.hdl_msg.specs.Reply.{most_octets}
+use Rattle.hdl_limits.specs.declared.TheConstants.{MESSAGE_MAX}
 use Rattle.hdl_msg.specs.RequestBody.{requested, requested_code, request_content, request_message, request_length, CanBeRequested}
 use Rattle.hdl_msg.proofs.Written.{few_from, each_from, some_spelling, short_value}
 
@@ -27,30 +27,30 @@ length-numbers (n ∷ ns) =
 short_string : (t more : List ℕ) (n : ℕ) → length (string t ++ more) ≤ n → (length t ≤ n) × (length more ≤ n)
 short_string t more n le = let e = length-append t more in (omega (arith, e, le), omega (arith, e, le))
 
-can_list : (handle : List ℕ) (values : List Value) → length (string handle ++ counted spelling values) ≤ most_octets → IsShort handle × ((length values < 2 ^ 32) × AllByRecursion CanBeSpelt values)
+can_list : (handle : List ℕ) (values : List Value) → length (string handle ++ counted spelling values) ≤ MESSAGE_MAX → IsShort handle × ((length values < 2 ^ 32) × AllByRecursion CanBeSpelt values)
 can_list handle values le =
-    let s = short_string handle (counted spelling values) most_octets le in
+    let s = short_string handle (counted spelling values) MESSAGE_MAX le in
     (omega (arith, s.0), (omega (arith, s.1, few_from spelling some_spelling values), each_from spelling CanBeSpelt (2 ^ 32) short_value values (omega (arith, s.1))))
 
-can : (b : RequestBody) → length (body (requested b)) ≤ most_octets → CanBeRequested b
+can : (b : RequestBody) → length (body (requested b)) ≤ MESSAGE_MAX → CanBeRequested b
 can (Resolution handle indexes types) le =
-    let s = short_string handle (counted number indexes ++ counted string types) most_octets le in
+    let s = short_string handle (counted number indexes ++ counted string types) MESSAGE_MAX le in
     let e = length-append (flat_map number indexes) (counted string types) in
     (omega (arith, s.0), (omega (arith, s.1, e, length-numbers indexes), (omega (arith, s.1, e, few_from string (λ t. omega arith) types), each_from string IsShort (2 ^ 32) (λ t l. omega (arith, l)) types (omega (arith, s.1, e)))))
 can (Create handle values) le = can_list handle values le
 can (Delete handle) le = omega (arith, le)
 can (Add handle values) le = can_list handle values le
 can (Remove handle indexes) le =
-    let s = short_string handle (counted number indexes) most_octets le in
+    let s = short_string handle (counted number indexes) MESSAGE_MAX le in
     (omega (arith, s.0), omega (arith, s.1, length-numbers indexes))
 can (Modify handle values) le = can_list handle values le
 can (ListAll handle) le = omega (arith, le)
 can (Response kind handle index answer) le =
-    let s = short_string kind (string handle ++ (number index ++ string answer)) most_octets le in
-    let t = short_string handle (number index ++ string answer) most_octets s.1 in
+    let s = short_string kind (string handle ++ (number index ++ string answer)) MESSAGE_MAX le in
+    let t = short_string handle (number index ++ string answer) MESSAGE_MAX s.1 in
     (omega (arith, s.0), (omega (arith, t.0), omega (arith, t.1)))
 
-pub can_request : (b : RequestBody) → request_length b ≤ most_octets → CanBeRequested b
+pub can_request : (b : RequestBody) → request_length b ≤ MESSAGE_MAX → CanBeRequested b
 can_request b le = can b (omega (arith, le))
 
 -- ---- the whole request
@@ -80,7 +80,7 @@ small_code ListHandles = omega arith
 small_code ChallengeResponse = omega arith
 
 pub request_is_spelt : (h : Header) (n : ℕ) (b : RequestBody) → HeaderFits (record { op_code = n; response_code = h.response_code; op_flag = h.op_flag; serial = h.serial; recursion = h.recursion; reserved = h.reserved; expiration = h.expiration })
-    → OperationFits (requested b) → request_length b ≤ most_octets → SpellsRequest (request_message h b) (request_content h b)
+    → OperationFits (requested b) → request_length b ≤ MESSAGE_MAX → SpellsRequest (request_message h b) (request_content h b)
 request_is_spelt h n b fits parts le = record {
   header_fits = record { op_code = small_code (requested_code b); response_code = fits.response_code; op_flag = fits.op_flag; serial = fits.serial; recursion = fits.recursion; reserved = fits.reserved; expiration = fits.expiration };
   operation_fits = parts;

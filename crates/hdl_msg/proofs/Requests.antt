@@ -2,7 +2,8 @@
 use Rattle.std.proofs.Common.{◌≡◌, ℕ, ◌≤◌, ◌-◌, List, [], ◌++◌, length, take, Option, Some, None, refl, sym, ap, subst, ◌∙◌}
 use Rattle.std.proofs.lemmas.List.{append-nil}
 use Rattle.hdl_value.specs.declared.value.Value.{Value}
-use Rattle.hdl_value.specs.Spelling.{string, spelling, Fits, IsString, AreOctets}
+use Rattle.hdl_limits.specs.Octets.{AreOctets}
+use Rattle.hdl_value.specs.Spelling.{string, spelling, Fits, IsString}
 use Rattle.hdl_value.specs.Reading.{◌>>=◌, whole_of, string_at, IsCodec}
 use Rattle.hdl_value.proofs.FieldLaws.{bind_some, some_is}
 use Rattle.hdl_value.proofs.Codecs.{prefix_free, string_codec}

@@ -13,7 +13,8 @@ use Rattle.hdl_frame.specs.Envelope.{envelope_octets}
 use Rattle.hdl_msg.specs.declared.replies.Reply.{Reply}
 use Rattle.hdl_msg.specs.declared.replies.ReplyContent.{ReplyContent}
 use Rattle.hdl_msg.specs.declared.replies.ReplyContent.TheVariants.{Values, Handles, Nothing, Referral, Nonce, Empty}
-use Rattle.hdl_msg.specs.Reply.{capped, most_octets, CanBeWritten, content_octets, digest_octets, reply_body, reply_message, reply_envelope, reply_octets}
+use Rattle.hdl_limits.specs.declared.TheConstants.{MESSAGE_MAX}
+use Rattle.hdl_msg.specs.Reply.{capped, CanBeWritten, content_octets, digest_octets, reply_body, reply_message, reply_envelope, reply_octets}
 
 regroup_header : (o a b c d : List ℕ) (p q : ℕ) (g : List ℕ) → o ++ a ++ b ++ c ++ d ++ (p ∷ []) ++ (q ∷ []) ++ g ≡ o ++ (a ++ (b ++ (c ++ (d ++ (p ∷ (q ∷ g))))))
 regroup_header o a b c d p q g = simp append_assoc
@@ -104,7 +105,7 @@ can_write (Referral prefix) lt = omega (arith, lt, length-append prefix (number 
 can_write (Nonce nonce) lt = tt
 can_write Empty lt = tt
 
-pub content_short : (y : Reply) → length (reply_message y) ≤ most_octets → CanBeWritten y.content
+pub content_short : (y : Reply) → length (reply_message y) ≤ MESSAGE_MAX → CanBeWritten y.content
 content_short y le = can_write y.content (omega (arith, le, length-reply_message y))
 
 -- ---- the whole reply

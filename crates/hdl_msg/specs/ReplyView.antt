@@ -3,7 +3,8 @@
 use Rattle.std.specs.Prelude.{◌≡◌, ℕ, ⊤, List, [], ◌++◌, length, codes, Bool, ◌||◌, ◌==◌, if◌then◌else◌, Option, Some, None, is_some}
 use Rattle.hdl_auth.specs.declared.algorithm.Digest.{Digest}
 use Rattle.hdl_auth.specs.Digest.{size_of, algorithm_of, octets_of}
-use Rattle.hdl_value.specs.Spelling.{string, Fits, IsString, AreOctets}
+use Rattle.hdl_limits.specs.Octets.{AreOctets}
+use Rattle.hdl_value.specs.Spelling.{string, Fits, IsString}
 use Rattle.hdl_msg.specs.declared.fields.Header.{Header}
 use Rattle.hdl_msg.specs.declared.codes.OpCode.{OpCode}
 use Rattle.hdl_msg.specs.declared.codes.OpCode.TheVariants.{Resolution, CreateHandle, DeleteHandle, AddValue, RemoveValue, ModifyValue, ListHandles, ChallengeResponse}

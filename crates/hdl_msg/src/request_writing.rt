@@ -4,7 +4,6 @@ ghost use Rattle.std.specs.Prelude.{◌≡◌, ◌≤◌, ◌<◌, ◌^◌, ◌+
 ghost use Rattle.std.specs.List.{AllByRecursion};
 ghost use Rattle.hdl_value.specs.Spelling.{string, spelling, CanBeSpelt};
 ghost use Rattle.hdl_msg.specs.Message.{SpellsRequest, body, counted, number};
-ghost use Rattle.hdl_msg.specs.Reply.{most_octets};
 ghost use Rattle.hdl_msg.specs.RequestBody.{requested, request_content, request_message, request_length, CanBeRequested};
 
 use crate::fields::{Header, put_header};
@@ -13,6 +12,7 @@ use crate::replies::{put_handles, put_values};
 use crate::request_body::RequestBody;
 use crate::request_fits::{body_fits, header_fits};
 use crate::request_lengths::request_len;
+use hdl_limits::MESSAGE_MAX;
 use hdl_value::{Octets, Value, put_string, put_u32};
 use std::alloc::{AllocError, Global};
 
@@ -120,7 +120,7 @@ pub fn write_request(
     header: Header,
     body: &RequestBody,
 ) -> Result<Vec<u8>, AllocError>
-    requires short { request_length body.now ≤ most_octets }
+    requires short { request_length body.now ≤ MESSAGE_MAX }
     ensures spelt { IfOk result (λ v. SpellsRequest v.items (request_content header body.now)) }
     ensures octets { IfOk result (λ v. v.items ≡ request_message header body.now) }
     ensures length { IfOk result (λ v. length v.items ≡ request_length body.now) }

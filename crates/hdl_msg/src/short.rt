@@ -5,19 +5,23 @@ ghost use Rattle.hdl_msg.specs.Codes.{response_number};
 ghost use Rattle.hdl_msg.specs.Reply.{short_reply};
 
 use crate::codes::ResponseCode;
-use hdl_frame::Envelope;
+use byteorder::{BigEndian, ByteOrder};
+use hdl_frame::{Envelope, MAJOR_VERSION};
 
+/// Envelope, header, and an empty string for body and for credential: MessageLength is 32, and BodyLength 4.
 #[tactic(auto, unfolding(crate::specs::Reply::short_reply, crate::specs::Message::header_octets, hdl_frame::specs::Envelope::envelope_octets))]
 fn short(code: u32, came: &Envelope) -> [u8; 52]
     ensures { result ≡ short_reply code came.now }
 {
-    let [s0, s1, s2, s3] = came.session.to_be_bytes();
-    let [r0, r1, r2, r3] = came.request.to_be_bytes();
-    let [c0, c1, c2, c3] = code.to_be_bytes();
-    [
-        2, 1, 0, 0, s0, s1, s2, s3, r0, r1, r2, r3, 0, 0, 0, 0, 0, 0, 0, 32, 0, 0, 0, 0, c0, c1,
-        c2, c3, 0, 0, 0, 0, 0, 0, 0, 0, 0, 0, 0, 0, 0, 0, 0, 4, 0, 0, 0, 0, 0, 0, 0, 0,
-    ]
+    let mut octets = [0; 52];
+    octets[0] = MAJOR_VERSION;
+    octets[1] = 1;
+    BigEndian::write_u32(&mut octets[4..8], came.session);
+    BigEndian::write_u32(&mut octets[8..12], came.request);
+    BigEndian::write_u32(&mut octets[16..20], 32);
+    BigEndian::write_u32(&mut octets[24..28], code);
+    BigEndian::write_u32(&mut octets[40..44], 4);
+    octets
 }
 
 /// The reply to an event that memory or the store refused: code 3 and nothing else. It echoes SessionId and RequestId of the

@@ -26,7 +26,7 @@ use Rattle.hdl_ops.specs.Proven.{Proof, key_of, value_at, code_before_key, code_
 use Rattle.hdl_ops.specs.Replies.{digest_of, asked_digest, fits, reply_to, challenge_to}
 use Rattle.hdl_ops.specs.Requests.{named, is_unused, wants_digest}
 use Rattle.hdl_ops.specs.Sights.{Sight, sight}
-use Rattle.hdl_ops.proofs.Codes.{row_walk, row_end, tells_by_code_lem}
+use Rattle.hdl_ops.proofs.Codes.{codes_pass, tells_by_code_lem}
 
 -- ---- the digest
 
@@ -122,16 +122,12 @@ no_challenge c = not (c == 402)
 
 before_code : (s : Sight) (r : Content) (p : Proof) → IsTrue (no_challenge (or_code (code_before_key s r p) 0))
 unfolding code_before_key
-before_code s r p =
-    let row = row_walk no_challenge in
-    row _ 406 _ 0 refl (row _ 404 _ 0 refl (row _ 101 _ 0 refl (row _ 100 _ 0 refl (row_end no_challenge 0 refl))))
+before_code s r p = codes_pass no_challenge _ 0 refl refl
 
 key_code : (s : Sight) (r : Content) (p : Proof) (m : Option ℕ) (k : Option Value) → IsTrue (no_challenge (code_for_key s r p m k))
 unfolding code_behind_key
 key_code s r p None k = refl
-key_code s r p (Some m) k =
-    let row = row_walk no_challenge in
-    row _ 406 _ 1 refl (row _ 403 _ 1 refl (row _ 200 _ 1 refl (row _ 201 _ 1 refl (row _ 401 _ 1 refl (row _ 202 _ 1 refl (row _ 200 _ 1 refl (row_end no_challenge 1 refl)))))))
+key_code s r p (Some m) k = codes_pass no_challenge _ 1 refl refl
 
 proof_code : (t : Table) (r : Content) (p : Proof) (early : Option ℕ) (c : ℕ) → IsTrue (no_challenge (or_code early 0)) → IsCodeBy t r p early c → IsTrue (no_challenge c)
 proof_code t r p (Some e) c f is = ap no_challenge is ∙ f
@@ -139,9 +135,7 @@ proof_code t r p None c f is = ap no_challenge is.2 ∙ key_code (sight t r) r p
 
 refusal_code : (hosts : List ℕ → Bool) (r : Content) → IsTrue (no_challenge (or_code (refusal hosts r) 0))
 unfolding refusal
-refusal_code hosts r =
-    let row = row_walk no_challenge in
-    row _ 5 _ 0 refl (row _ 102 _ 0 refl (row _ 102 _ 0 refl (row _ 5 _ 0 refl (row _ 302 _ 0 refl (row _ 202 _ 0 refl (row_end no_challenge 0 refl))))))
+refusal_code hosts r = codes_pass no_challenge _ 0 refl refl
 
 decision_code : (a : Algorithm) (s : Sight) (r : Content) (level : Level) (c : ℕ) → IsTrue (no_challenge c) → IsTrue (no_challenge (decision a s r level c).code)
 unfolding decision

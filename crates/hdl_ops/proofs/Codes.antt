@@ -1,6 +1,7 @@
 -- The codes of decisions, and what is told with each.
 use Rattle.std.proofs.Common.{◌≡◌, ℕ, List, [], ◌∷◌, Bool, true, false, cond, not, ◌&&◌, ◌==◌, Option, Some, None, refl, sym, ap, ◌∙◌, subst, IsTrue, arith}
 use Rattle.std.specs.Prelude.{nat_lt}
+use Rattle.std.specs.List.{list_all}
 use Rattle.std.proofs.lemmas.Bool.{ltb-true, not-true, and_parts}
 use Rattle.hdl_name.specs.Name.{sent_prefix}
 use Rattle.hdl_value.specs.declared.value.Value.{Value}
@@ -38,34 +39,25 @@ not_busy c e = not-true (c == 3) (and_parts (nat_lt c 1000) _ e).1
 
 -- ---- the tables of decision
 
-module _ (P : ℕ → Bool) where
-  pub row_walk : (b : Bool) (c : ℕ) (rows : List (Bool × ℕ)) (end : ℕ) → IsTrue (P c) → IsTrue (P (or_code (first rows) end)) → IsTrue (P (or_code (first ((b, c) ∷ rows)) end))
-  unfolding first
-  row_walk true c rows end p q = p
-  row_walk false c rows end p q = q
-
-  pub row_end : (end : ℕ) → IsTrue (P end) → IsTrue (P (or_code (first []) end))
-  unfolding first
-  row_end end p = p
+-- Where each row's code passes a test, and the code where no row holds, the table's code does, whatever the tests say.
+pub codes_pass : (P : ℕ → Bool) (rows : List (Bool × ℕ)) (end : ℕ) → IsTrue (P end) → IsTrue (list_all (λ row. P row.1) rows) → IsTrue (P (or_code (first rows) end))
+unfolding first
+codes_pass P [] end p all = p
+codes_pass P ((true, c) ∷ rows) end p all = (and_parts (P c) _ all).0
+codes_pass P ((false, c) ∷ rows) end p all = codes_pass P rows end p (and_parts (P c) _ all).1
 
 anyone_code : (s : Sight) (r : Content) → IsTrue (is_table_code (code_for_anyone s r))
 unfolding code_for_anyone
-anyone_code s r =
-    let row = row_walk is_table_code in
-    row _ 101 _ 402 refl (row _ 100 _ 402 refl (row _ 200 _ 402 refl (row _ 402 _ 402 refl (row _ 1 _ 402 refl (row _ 1 _ 402 refl (row_end is_table_code 402 refl))))))
+anyone_code s r = codes_pass is_table_code _ 402 refl refl
 
 before_code : (s : Sight) (r : Content) (p : Proof) → IsTrue (is_table_code (or_code (code_before_key s r p) 0))
 unfolding code_before_key
-before_code s r p =
-    let row = row_walk is_table_code in
-    row _ 406 _ 0 refl (row _ 404 _ 0 refl (row _ 101 _ 0 refl (row _ 100 _ 0 refl (row_end is_table_code 0 refl))))
+before_code s r p = codes_pass is_table_code _ 0 refl refl
 
 key_code : (s : Sight) (r : Content) (p : Proof) (m : Option ℕ) (k : Option Value) → IsTrue (is_table_code (code_for_key s r p m k))
 unfolding code_behind_key
 key_code s r p None k = refl
-key_code s r p (Some m) k =
-    let row = row_walk is_table_code in
-    row _ 406 _ 1 refl (row _ 403 _ 1 refl (row _ 200 _ 1 refl (row _ 201 _ 1 refl (row _ 401 _ 1 refl (row _ 202 _ 1 refl (row _ 200 _ 1 refl (row_end is_table_code 1 refl)))))))
+key_code s r p (Some m) k = codes_pass is_table_code _ 1 refl refl
 
 proof_code : (t : Table) (r : Content) (p : Proof) (early : Option ℕ) (c : ℕ) → IsTrue (is_table_code (or_code early 0)) → IsCodeBy t r p early c → IsTrue (is_table_code c)
 proof_code t r p (Some e) c f is = ap is_table_code is ∙ f
@@ -73,9 +65,7 @@ proof_code t r p None c f is = ap is_table_code is.2 ∙ key_code (sight t r) r 
 
 refusal_code : (hosts : List ℕ → Bool) (r : Content) → IsTrue (is_refusal_code (or_code (refusal hosts r) 0))
 unfolding refusal
-refusal_code hosts r =
-    let row = row_walk is_refusal_code in
-    row _ 5 _ 0 refl (row _ 102 _ 0 refl (row _ 102 _ 0 refl (row _ 5 _ 0 refl (row _ 302 _ 0 refl (row _ 202 _ 0 refl (row_end is_refusal_code 0 refl))))))
+refusal_code hosts r = codes_pass is_refusal_code _ 0 refl refl
 
 -- ---- what is told with a code
 

@@ -14,7 +14,8 @@ use Rattle.hdl_msg.specs.Message.{Content, number, signed_octets}
 use Rattle.hdl_msg.specs.declared.replies.Reply.{Reply}
 use Rattle.hdl_msg.specs.declared.replies.ReplyContent.{ReplyContent}
 use Rattle.hdl_msg.specs.declared.replies.ReplyContent.TheVariants.{Empty, Referral, Nonce}
-use Rattle.hdl_msg.specs.Reply.{most_octets, capped, digest_octets, content_octets, reply_message, reply_body}
+use Rattle.hdl_limits.specs.declared.TheConstants.{MESSAGE_MAX}
+use Rattle.hdl_msg.specs.Reply.{capped, digest_octets, content_octets, reply_message, reply_body}
 use Rattle.hdl_msg.proofs.Written.{length-reply_message}
 use Rattle.hdl_ops.specs.Requests.{wants_digest}
 use Rattle.hdl_ops.specs.Replies.{reply_to, fits}
@@ -25,21 +26,21 @@ unfolding reply_to reply_body
 same_length a session number r code content = length-reply_message (reply_to a session number r code content) ∙ sym (length-reply_message (reply_to a 0 0 r 0 content))
 
 pub fits_anywhere : (a : Algorithm) (session number : ℕ) (r : Content) (code : ℕ) (content : ReplyContent) → IsTrue (fits a r content)
-    → length (reply_message (reply_to a session number r code content)) ≤ most_octets
+    → length (reply_message (reply_to a session number r code content)) ≤ MESSAGE_MAX
 unfolding fits
 fits_anywhere a session number r code content h =
-    let le = leb-true (length (reply_message (reply_to a 0 0 r 0 content))) most_octets h in
+    let le = leb-true (length (reply_message (reply_to a 0 0 r 0 content))) MESSAGE_MAX h in
     let same = same_length a session number r code content in
     omega (arith, le, same)
 
 -- a reply that was measured and is short enough gives its content back
-pub content_fits : (a : Algorithm) (r : Content) (content : ReplyContent) (reply : Reply) (n : ℕ) → reply ≡ reply_to a 0 0 r 0 content → n ≡ capped (length (reply_message reply)) → n ≤ most_octets
+pub content_fits : (a : Algorithm) (r : Content) (content : ReplyContent) (reply : Reply) (n : ℕ) → reply ≡ reply_to a 0 0 r 0 content → n ≡ capped (length (reply_message reply)) → n ≤ MESSAGE_MAX
     → Some reply.content ≡ cond (fits a r content) (Some content) None
 unfolding fits reply_to
 content_fits a r content reply n is len le =
-    let short : length (reply_message (reply_to a 0 0 r 0 content)) ≤ most_octets =
-    subst (λ (y : Reply). length (reply_message y) ≤ most_octets) is (omega (arith, len, le)) in
-    ap (λ (y : Reply). Some y.content) is ∙ ap (λ (b : Bool). cond b (Some content) None) (sym (le-leb (length (reply_message (reply_to a 0 0 r 0 content))) most_octets short))
+    let short : length (reply_message (reply_to a 0 0 r 0 content)) ≤ MESSAGE_MAX =
+    subst (λ (y : Reply). length (reply_message y) ≤ MESSAGE_MAX) is (omega (arith, len, le)) in
+    ap (λ (y : Reply). Some y.content) is ∙ ap (λ (b : Bool). cond b (Some content) None) (sym (le-leb (length (reply_message (reply_to a 0 0 r 0 content))) MESSAGE_MAX short))
 
 -- ---- what always fits
 
@@ -53,7 +54,7 @@ short_fits a r content h =
     let y = reply_to a 0 0 r 0 content in
     let len = length-reply_message y in
     let digest = asked_short a (wants_digest r) (signed_octets r) in
-    le-leb (length (reply_message y)) most_octets (omega (arith, len, digest, h))
+    le-leb (length (reply_message y)) MESSAGE_MAX (omega (arith, len, digest, h))
 
 pub empty_fits : (a : Algorithm) (r : Content) → IsTrue (fits a r Empty)
 empty_fits a r = short_fits a r Empty (omega arith)
@@ -73,7 +74,7 @@ prefix_short name h = by (is_admin name)
     by false = let short = h.2.short in let len = length-take (position_or_len is_slash name) name in omega (arith, short, len)
 
 -- a challenge always fits
-pub challenge_short : (y : Reply) (d : Digest) (nonce : List ℕ) → y.digest ≡ Some d → y.content ≡ Nonce nonce → length (spelt d) ≤ 33 → length nonce ≤ 16 → length (reply_message y) ≤ most_octets
+pub challenge_short : (y : Reply) (d : Digest) (nonce : List ℕ) → y.digest ≡ Some d → y.content ≡ Nonce nonce → length (spelt d) ≤ 33 → length nonce ≤ 16 → length (reply_message y) ≤ MESSAGE_MAX
 challenge_short y d nonce digest content short few =
     let len = length-reply_message y in
     let front : length (digest_octets y.digest) ≡ length (digest_octets (Some d)) = ap (λ o. length (digest_octets o)) digest in

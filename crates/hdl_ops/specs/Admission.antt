@@ -1,6 +1,7 @@
 -- What is tested before the table is looked at.
 use Rattle.std.specs.Prelude.{ℕ, List, [], ◌∷◌, Bool, false, not, ◌==◌, ◌||◌, ◌&&◌, Option, Some, None, if◌then◌else◌, is_none, length, nat_lt}
 use Rattle.std.specs.List.{list_any, list_all}
+use Rattle.hdl_limits.specs.declared.TheConstants.{WRITTEN_MAX}
 use Rattle.hdl_name.specs.Name as name
 use Rattle.hdl_name.specs.Tests.{is_handle}
 use Rattle.hdl_value.specs.declared.value.Value.{Value}
@@ -23,9 +24,9 @@ abbrev pub has_twins : {A : Type 0} → (A → ℕ) → List A → Bool
 has_twins key [] = false
 has_twins key (x ∷ xs) = list_any (λ y. key y == key x) xs || has_twins key xs
 
--- nothing, more than 256, or one twice
+-- nothing, too many, or one twice
 abbrev pub is_bad_list : {A : Type 0} → (A → ℕ) → List A → Bool
-is_bad_list key xs = length xs == 0 || nat_lt 256 (length xs) || has_twins key xs
+is_bad_list key xs = length xs == 0 || nat_lt WRITTEN_MAX (length xs) || has_twins key xs
 
 -- a bad list of indexes, or a value that breaks the limits or whose data is bad
 unfoldable pub are_bad : List Value → Bool

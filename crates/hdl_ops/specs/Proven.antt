@@ -1,6 +1,7 @@
 -- The table of decision for a request that comes back with a proof.
 use Rattle.std.specs.Prelude.{◌≡◌, ℕ, ◌+◌, List, [], ◌∷◌, ◌++◌, Bool, false, not, ◌&&◌, ◌||◌, Option, Some, None, if◌then◌else◌, option_map, is_some, is_none, length, nat_lt, bytes_eq, codes}
 use Rattle.std.specs.List.{list_any, list_all}
+use Rattle.hdl_limits.specs.declared.TheConstants.{VALUES_MAX}
 use Rattle.hdl_name.specs.Name as name
 use Rattle.hdl_value.specs.declared.value.Value.{Value}
 use Rattle.hdl_value.specs.declared.permission.Permission.TheVariants.{AdminWrite}
@@ -117,7 +118,7 @@ is_locked _ vs = false
 
 -- the handle would have more than 1,024 values
 abbrev pub overfills : Operation → List Value → Bool
-overfills (add handle news) vs = nat_lt 1024 (length vs + length news)
+overfills (add handle news) vs = nat_lt VALUES_MAX (length vs + length news)
 overfills _ vs = false
 
 -- a resolution asks for the value, and it isn't hidden

@@ -7,7 +7,8 @@ use Rattle.hdl_msg.specs.Message.{Content, signed_octets}
 use Rattle.hdl_msg.specs.declared.replies.Reply.{Reply}
 use Rattle.hdl_msg.specs.declared.replies.ReplyContent.{ReplyContent}
 use Rattle.hdl_msg.specs.declared.replies.ReplyContent.TheVariants.{Nonce}
-use Rattle.hdl_msg.specs.Reply.{most_octets, answer_header, reply_message}
+use Rattle.hdl_limits.specs.declared.TheConstants.{MESSAGE_MAX}
+use Rattle.hdl_msg.specs.Reply.{answer_header, reply_message}
 use Rattle.hdl_ops.specs.Requests.{wants_digest}
 
 -- the digest of a request by its algorithm: that of its header and body
@@ -39,4 +40,4 @@ challenge_to a session number r nonce = record {
 
 -- the message of a reply with this content has at most 65,536 octets, whatever session, request number and code
 unfoldable pub fits : Algorithm → Content → ReplyContent → Bool
-fits a r content = nat_le (length (reply_message (reply_to a 0 0 r 0 content))) most_octets
+fits a r content = nat_le (length (reply_message (reply_to a 0 0 r 0 content))) MESSAGE_MAX

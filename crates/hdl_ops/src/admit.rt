@@ -3,7 +3,6 @@
 ghost use Rattle.std.specs.Prelude.{◌≡◌, ◌≤◌, length, option_map, IfOk, IfSome};
 ghost use Rattle.hdl_name.specs.Name.{canonical, sent_prefix};
 ghost use Rattle.hdl_name.specs.Tests.{is_handle};
-ghost use Rattle.hdl_msg.specs.Bodies.{content_of};
 ghost use Rattle.hdl_ops.specs.Admission.{handle_in, request_algorithm};
 ghost use Rattle.hdl_ops.specs.Views.{algorithms_by, hosted_by, IsAdmitted};
 
@@ -12,6 +11,7 @@ use crate::owner::Owner;
 use crate::requests::{is_list, is_unused, makes_or_ends, named};
 use crate::written::is_bad_write;
 use hdl_auth::algorithm::Algorithm;
+use hdl_limits::NAME_MAX;
 use hdl_msg::{ReplyContent, Request, ResponseCode};
 use hdl_name::{Name, names_decided};
 use hdl_rows::Refused;
@@ -50,9 +50,9 @@ pub(crate) fn read_name(alloc: Global, octets: &[u8]) -> Result<Option<Name>, Re
 /// The hash function of a request on a lane of the publisher: that of the prefix of the handle that it names, where this is
 /// hosted for the publisher, else SHA-1.
 pub fn request_algorithm(owner: &Owner<'_>, request: &Request<'_>) -> Result<Algorithm, Refused>
-    ensures { IfOk result (λ a. a ≡ request_algorithm (algorithms_by owner.now) (content_of request.now)) }
+    ensures { IfOk result (λ a. a ≡ request_algorithm (algorithms_by owner.now) request.now) }
 {
-    let octets = named(&request.body);
+    let octets = named(request.body());
     if !is_name(octets) {
         return Ok(Algorithm::Sha1);
     }
@@ -64,7 +64,7 @@ pub fn request_algorithm(owner: &Owner<'_>, request: &Request<'_>) -> Result<Alg
 
 fn sent_prefix(alloc: Global, name: &Name) -> Result<Octets, AllocError>
     ensures octets { IfOk result (λ octets. octets ≡ sent_prefix name.now) }
-    ensures short { IfOk result (λ octets. length octets ≤ 2048) }
+    ensures short { IfOk result (λ octets. length octets ≤ NAME_MAX) }
 {
     let _ = name.sent();
     Ok(Octets::new(Vec::from_slice(alloc, name.prefix_sent())?))
@@ -83,9 +83,9 @@ fn failed(code: ResponseCode, content: ReplyContent) -> Admitted
 /// Tests the request before the table is looked at, and reads its name.
 #[tactic(auto, unfolding(crate::specs::First::first, crate::specs::Admission::refusal, crate::specs::Decisions::refused), using(crate::proofs::Lengths::empty_fits, crate::proofs::Lengths::referral_fits))]
 pub(crate) fn admit(owner: &Owner<'_>, request: &Request<'_>) -> Result<Admitted, Refused>
-    ensures { IfOk result (λ admitted. IsAdmitted (hosted_by owner.now) (content_of request.now) admitted) }
+    ensures { IfOk result (λ admitted. IsAdmitted (hosted_by owner.now) request.now admitted) }
 {
-    let body = &request.body;
+    let body = request.body();
     if is_unused(body) {
         return Ok(failed(ResponseCode::OperationDenied, ReplyContent::Empty));
     }

@@ -4,7 +4,7 @@ ghost use Rattle.std.specs.Prelude.{◌≡◌, ◌&&◌, not};
 ghost use Rattle.std.specs.List.{list_any, list_all};
 ghost use Rattle.hdl_value.specs.Permission.{is_kept};
 ghost use Rattle.hdl_value.specs.Refs.{is_admin};
-ghost use Rattle.hdl_msg.specs.Bodies.{operation_of, content_of};
+ghost use Rattle.hdl_msg.specs.Bodies.{operation_of};
 ghost use Rattle.hdl_msg.specs.Codes.{response_number};
 ghost use Rattle.hdl_msg.specs.Views.{numbers_of, values_of};
 ghost use Rattle.hdl_ops.specs.Anyone.{is_left, is_open, is_open_write, code_for_anyone};
@@ -19,19 +19,19 @@ use hdl_value::{CutValue, Permission, Value};
 
 /// The value is left of those that are asked for: it isn't hidden, nor kept where only the public are wanted.
 fn is_left(request: &Request<'_>, value: &Value) -> bool
-    ensures { result ≡ is_left (content_of request.now) value.now }
+    ensures { result ≡ is_left request.now value.now }
 {
-    asks(&request.body, value) && (is_public(value) || is_kept(value) && !is_public_only(request))
+    asks(request.body(), value) && (is_public(value) || is_kept(value) && !is_public_only(request))
 }
 
 fn any_left(request: &Request<'_>, values: &[Value]) -> bool
-    ensures { result ≡ list_any (is_left (content_of request.now)) values.now }
+    ensures { result ≡ list_any (is_left request.now) values.now }
 {
     values.iter().any(|value| is_left(request, value))
 }
 
 fn any_kept_left(request: &Request<'_>, values: &[Value]) -> bool
-    ensures { result ≡ list_any (λ v. is_left (content_of request.now) v && is_kept v) values.now }
+    ensures { result ≡ list_any (λ v. is_left request.now v && is_kept v) values.now }
 {
     values
         .iter()
@@ -81,9 +81,9 @@ fn is_open_write(body: &Body<'_>, values: &[Value]) -> bool
 /// The code of the table of decision for anyone.
 #[tactic(auto, unfolding(crate::specs::Anyone::code_for_anyone, crate::specs::First::first))]
 pub(crate) fn code_for_anyone(request: &Request<'_>, sight: &Sight) -> ResponseCode
-    ensures { response_number result ≡ code_for_anyone (sight_of sight.now) (content_of request.now) }
+    ensures { response_number result ≡ code_for_anyone (sight_of sight.now) request.now }
 {
-    let body = &request.body;
+    let body = request.body();
     let values = &sight.values;
     if creates(body) && sight.there {
         return ResponseCode::HandleAlreadyExists;

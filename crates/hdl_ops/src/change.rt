@@ -4,41 +4,10 @@ ghost use Rattle.std.specs.Prelude.{◌≡◌, map, OnOk, OnErr};
 ghost use Rattle.hdl_rows.specs.Table.{indexes, counted};
 ghost use Rattle.hdl_ops.specs.Tables.{apply, stamped, CanApply};
 
-use hdl_msg::ValueList;
+use hdl_msg::{IndexList, ValueList};
 use hdl_name::Name;
 use hdl_rows::{Refused, Rows};
 use hdl_value::Value;
-use std::marker::Model;
-
-/// Indexes on the heap, in order.
-#[derive(Debug, Drop)]
-pub struct IndexList {
-    indexes: Vec<u32>,
-}
-
-impl Model for IndexList {
-    ghost use Rattle.std.specs.Prelude.{ℕ, List};
-
-    ghost Value = { List ℕ };
-
-    ghost view = { λ a. a.indexes.items };
-}
-
-impl IndexList {
-    /// The indexes of a vector, which is taken as it is.
-    pub fn new(indexes: Vec<u32>) -> IndexList
-        ensures { result ≡ indexes.items }
-    {
-        IndexList { indexes }
-    }
-
-    /// The indexes where they stand.
-    pub fn as_slice(&self) -> &[u32]
-        ensures { result.now ≡ self.now }
-    {
-        &self.indexes
-    }
-}
 
 /// One write of the table. A name stands for its canonical form.
 #[derive(Debug, Drop)]

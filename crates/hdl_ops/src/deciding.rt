@@ -2,8 +2,6 @@
 
 ghost use Rattle.std.specs.Prelude.{◌≡◌, ◌+◌, ◌⊎◌, [], None, min, if◌then◌else◌, IfOk, IfSome, OnErr, OnOk, IsTrue};
 ghost use Rattle.hdl_name.specs.Name.{prefix};
-ghost use Rattle.hdl_msg.specs.Bodies.{content_of};
-ghost use Rattle.hdl_msg.specs.Message.{signed_octets};
 ghost use Rattle.hdl_rows.specs.Table.{most, names_of, values_of, HaveTheirIndexes};
 ghost use Rattle.hdl_cache.specs.Kept.{AreTrue};
 ghost use Rattle.hdl_ops.specs.Admission.{refusal};
@@ -38,11 +36,11 @@ fn names<R: Rows>(
     name: &Name,
 ) -> Result<Vec<Octets>, Refused>
     ensures unchanged { R.content rows.new ≡ R.content rows.old }
-    ensures names { IfOk result (λ all. all.items ≡ (if is_list (content_of request.now).operation then names_of (R.content rows.old) (prefix name.now) else [])) }
+    ensures names { IfOk result (λ all. all.items ≡ (if is_list request.now.operation then names_of (R.content rows.old) (prefix name.now) else [])) }
     ensures answered { OnOk result (R.refused rows.new ≡ R.refused rows.old) }
     ensures refused { OnErr result (R.refused rows.new ≡ min (R.refused rows.old + 1) most) }
 {
-    if is_list(&request.body) {
+    if is_list(request.body()) {
         rows.names(name.prefix())
     } else {
         Ok(Vec::new(alloc))
@@ -57,10 +55,10 @@ fn look<R: Rows>(
     request: &Request<'_>,
     name: &Name,
 ) -> Result<Sight, Refused>
-    requires named { name.now ≡ named (content_of request.now).operation }
+    requires named { name.now ≡ named request.now.operation }
     ensures unchanged { R.content rows.new ≡ R.content rows.old }
-    ensures sight { IfOk result (λ s. sight_of s ≡ sight (R.content rows.old) (content_of request.now)) }
-    ensures by_index { OnOk result (HaveTheirIndexes (R.content rows.old) (handle_of (content_of request.now)) (sight (R.content rows.old) (content_of request.now)).values) }
+    ensures sight { IfOk result (λ s. sight_of s ≡ sight (R.content rows.old) request.now) }
+    ensures by_index { OnOk result (HaveTheirIndexes (R.content rows.old) (handle_of request.now) (sight (R.content rows.old) request.now).values) }
     ensures answered { OnOk result (R.refused rows.new ≡ R.refused rows.old) }
     ensures refused { OnErr result (R.refused rows.new ≡ min (R.refused rows.old + 1) most) }
 {
@@ -82,12 +80,11 @@ fn decide_for_anyone<R: Rows>(
     request: &Request<'_>,
     name: Name,
 ) -> Result<Decision, Refused>
-    requires signed { request.now.signed.now ≡ signed_octets (content_of request.now) }
-    requires named { name ≡ named (content_of request.now).operation }
+    requires named { name ≡ named request.now.operation }
     ensures unchanged { R.content rows.new ≡ R.content rows.old }
-    ensures decided { IfOk result (λ d. DecidesBy algorithm (R.content rows.old) (content_of request.now) decisions.Anyone None (decision_of d)) }
-    ensures carried { IfOk result (λ d. IsTrue (fits algorithm (content_of request.now) d.content)) }
-    ensures by_index { OnOk result (HaveTheirIndexes (R.content rows.old) (handle_of (content_of request.now)) (sight (R.content rows.old) (content_of request.now)).values) }
+    ensures decided { IfOk result (λ d. DecidesBy algorithm (R.content rows.old) request.now decisions.Anyone None (decision_of d)) }
+    ensures carried { IfOk result (λ d. IsTrue (fits algorithm request.now d.content)) }
+    ensures by_index { OnOk result (HaveTheirIndexes (R.content rows.old) (handle_of request.now) (sight (R.content rows.old) request.now).values) }
     ensures answered { OnOk result (R.refused rows.new ≡ R.refused rows.old) }
     ensures refused { OnErr result ((R.refused rows.new ≡ R.refused rows.old) ⊎ (R.refused rows.new ≡ min (R.refused rows.old + 1) most)) }
 {
@@ -106,14 +103,13 @@ fn decide_with_proof<R: Rows>(
     name: Name,
     proof: &Proof<'_>,
 ) -> Result<Decision, Refused>
-    requires signed { request.now.signed.now ≡ signed_octets (content_of request.now) }
-    requires named { name ≡ named (content_of request.now).operation }
+    requires named { name ≡ named request.now.operation }
     requires true_masks { AreTrue (R.content rows.old) masks.old }
     ensures unchanged { R.content rows.new ≡ R.content rows.old }
     ensures true_masks { AreTrue (R.content rows.new) masks.new }
-    ensures decided { IfOk result (λ d. DecidesBy algorithm (R.content rows.old) (content_of request.now) (decisions.Proven (proof_of proof.now)) None (decision_of d)) }
-    ensures carried { IfOk result (λ d. IsTrue (fits algorithm (content_of request.now) d.content)) }
-    ensures by_index { OnOk result (HaveTheirIndexes (R.content rows.old) (handle_of (content_of request.now)) (sight (R.content rows.old) (content_of request.now)).values) }
+    ensures decided { IfOk result (λ d. DecidesBy algorithm (R.content rows.old) request.now (decisions.Proven (proof_of proof.now)) None (decision_of d)) }
+    ensures carried { IfOk result (λ d. IsTrue (fits algorithm request.now d.content)) }
+    ensures by_index { OnOk result (HaveTheirIndexes (R.content rows.old) (handle_of request.now) (sight (R.content rows.old) request.now).values) }
     ensures answered { OnOk result (R.refused rows.new ≡ R.refused rows.old) }
     ensures refused { OnErr result ((R.refused rows.new ≡ R.refused rows.old) ⊎ (R.refused rows.new ≡ min (R.refused rows.old + 1) most)) }
 {
@@ -143,12 +139,11 @@ pub fn decide<R: Rows>(
     request: &Request<'_>,
     level: &Level<'_>,
 ) -> Result<Decision, Refused>
-    requires signed { request.now.signed.now ≡ signed_octets (content_of request.now) }
     requires true_masks { AreTrue (R.content rows.old) masks.old }
     ensures unchanged { R.content rows.new ≡ R.content rows.old }
     ensures true_masks { AreTrue (R.content rows.new) masks.new }
-    ensures decided { IfOk result (λ d. Decides (hosted_by owner.now) algorithm (R.content rows.old) (content_of request.now) (level_of level.now) (decision_of d)) }
-    ensures carried { IfOk result (λ d. IsTrue (fits algorithm (content_of request.now) d.content)) }
+    ensures decided { IfOk result (λ d. Decides (hosted_by owner.now) algorithm (R.content rows.old) request.now (level_of level.now) (decision_of d)) }
+    ensures carried { IfOk result (λ d. IsTrue (fits algorithm request.now d.content)) }
     ensures can_apply { IfOk result (λ d. IfSome d.change (λ change. CanApply (R.content rows.old) change)) }
     ensures answered { OnOk result (R.refused rows.new ≡ R.refused rows.old) }
     ensures refused { OnErr result ((R.refused rows.new ≡ R.refused rows.old) ⊎ (R.refused rows.new ≡ min (R.refused rows.old + 1) most)) }

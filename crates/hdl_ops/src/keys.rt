@@ -2,11 +2,12 @@
 
 ghost use Rattle.std.specs.Prelude.{◌≡◌, ◌+◌, ◌⊎◌, Some, min, option_map, IfOk, OnOk, OnErr};
 ghost use Rattle.hdl_name.specs.Name.{canonical, prefix};
-ghost use Rattle.hdl_rows.specs.Table.{most, place_of};
+ghost use Rattle.hdl_value.specs.Refs.{place_of};
+ghost use Rattle.hdl_rows.specs.Table.{most};
 ghost use Rattle.hdl_reach.specs.Reach.{IsMask};
 ghost use Rattle.hdl_reach.specs.Views.{mask_of};
 ghost use Rattle.hdl_cache.specs.Kept.{AreTrue};
-ghost use Rattle.hdl_msg.specs.Bodies.{operation_of, content_of};
+ghost use Rattle.hdl_msg.specs.Bodies.{operation_of};
 ghost use Rattle.hdl_msg.specs.Codes.{response_number};
 ghost use Rattle.hdl_ops.specs.Admission.{handle_in};
 ghost use Rattle.hdl_ops.specs.Proven.{admin_octets, target, key_of, MaskOf, IsCodeForKey, IsCodeForProof};
@@ -118,18 +119,18 @@ fn code_for_key<R: Rows>(
     name: &Name,
     proof: &Proof<'_>,
 ) -> Result<ResponseCode, Refused>
-    requires named { name.now ≡ named (content_of request.now).operation }
+    requires named { name.now ≡ named request.now.operation }
     requires true_masks { AreTrue (R.content rows.old) masks.old }
     ensures unchanged { R.content rows.new ≡ R.content rows.old }
     ensures true_masks { AreTrue (R.content rows.new) masks.new }
-    ensures code { IfOk result (λ code. IsCodeForKey (R.content rows.old) (sight_of sight.now) (content_of request.now) (proof_of proof.now) (response_number code)) }
+    ensures code { IfOk result (λ code. IsCodeForKey (R.content rows.old) (sight_of sight.now) request.now (proof_of proof.now) (response_number code)) }
     ensures answered { OnOk result (R.refused rows.new ≡ R.refused rows.old) }
     ensures refused { OnErr result ((R.refused rows.new ≡ R.refused rows.old) ⊎ (R.refused rows.new ≡ min (R.refused rows.old + 1) most)) }
 {
     let Some(key) = key_of(alloc, proof)? else {
         return Ok(ResponseCode::NotAuthorized);
     };
-    let Some(mask) = mask_of(alloc, rows, masks, &request.body, name, &key)? else {
+    let Some(mask) = mask_of(alloc, rows, masks, request.body(), name, &key)? else {
         return Ok(ResponseCode::NotAuthorized);
     };
     let value = rows.at(&key)?;
@@ -146,12 +147,12 @@ pub(crate) fn code_for_proof<R: Rows>(
     name: &Name,
     proof: &Proof<'_>,
 ) -> Result<ResponseCode, Refused>
-    requires named { name.now ≡ named (content_of request.now).operation }
-    requires sight { sight_of sight.now ≡ sights.sight (R.content rows.old) (content_of request.now) }
+    requires named { name.now ≡ named request.now.operation }
+    requires sight { sight_of sight.now ≡ sights.sight (R.content rows.old) request.now }
     requires true_masks { AreTrue (R.content rows.old) masks.old }
     ensures unchanged { R.content rows.new ≡ R.content rows.old }
     ensures true_masks { AreTrue (R.content rows.new) masks.new }
-    ensures code { IfOk result (λ code. IsCodeForProof (R.content rows.old) (content_of request.now) (proof_of proof.now) (response_number code)) }
+    ensures code { IfOk result (λ code. IsCodeForProof (R.content rows.old) request.now (proof_of proof.now) (response_number code)) }
     ensures answered { OnOk result (R.refused rows.new ≡ R.refused rows.old) }
     ensures refused { OnErr result ((R.refused rows.new ≡ R.refused rows.old) ⊎ (R.refused rows.new ≡ min (R.refused rows.old + 1) most)) }
 {

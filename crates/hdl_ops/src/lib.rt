@@ -30,7 +30,7 @@ mod settle;
 mod written;
 
 pub use admit::request_algorithm;
-pub use change::{Change, IndexList, apply};
+pub use change::{Change, apply};
 pub use deciding::decide;
 pub use decision::{Decision, Level, Proof};
 pub use hdl_cache::Masks;

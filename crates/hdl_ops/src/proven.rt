@@ -3,7 +3,7 @@
 ghost use Rattle.std.specs.Prelude.{◌≡◌, option_map};
 ghost use Rattle.std.specs.List.{list_any};
 ghost use Rattle.hdl_value.specs.Refs.{is_secret_key};
-ghost use Rattle.hdl_msg.specs.Bodies.{operation_of, content_of};
+ghost use Rattle.hdl_msg.specs.Bodies.{operation_of};
 ghost use Rattle.hdl_msg.specs.Codes.{response_number};
 ghost use Rattle.hdl_msg.specs.Views.{numbers_of, values_of};
 ghost use Rattle.hdl_ops.specs.Proven.{is_right, misses_at, takes_at, misses, takes, overfills, is_asked, code_before_key, code_behind_key};
@@ -16,14 +16,9 @@ use crate::permitted::{is_allowed, is_locked};
 use crate::requests::{creates, resolves};
 use crate::written::count_of_values;
 use hdl_auth::{check, has_response_form};
+use hdl_limits::VALUES_MAX;
 use hdl_msg::{Body, Numbers, Request, ResponseCode, Values};
-use hdl_value::{AdminMask, Value};
-
-/// The authentication type that is offered, which is also the type of a key's value.
-const SECRET_KEY: &[u8] = b"HS_SECKEY";
-
-/// How many values a handle may have.
-const MOST_VALUES: usize = 1024;
+use hdl_value::{AdminMask, HS_SECKEY, Value};
 
 fn is_key(key: &Option<Value>) -> bool
     ensures { result ≡ passes is_secret_key key.now }
@@ -104,35 +99,35 @@ fn overfills(body: &Body<'_>, values: &[Value]) -> bool
     match body {
         Body::Add { values: news, .. } => {
             let added = count_of_values(*news);
-            added > MOST_VALUES || values.len() > MOST_VALUES - added
+            added > VALUES_MAX || values.len() > VALUES_MAX - added
         }
         _ => false,
     }
 }
 
 fn is_asked(request: &Request<'_>, value: &Value) -> bool
-    ensures { result ≡ is_asked (content_of request.now) value.now }
+    ensures { result ≡ is_asked request.now value.now }
 {
-    asks(&request.body, value) && (is_public(value) || is_kept(value))
+    asks(request.body(), value) && (is_public(value) || is_kept(value))
 }
 
 fn any_asked(request: &Request<'_>, values: &[Value]) -> bool
-    ensures { result ≡ list_any (is_asked (content_of request.now)) values.now }
+    ensures { result ≡ list_any (is_asked request.now) values.now }
 {
     values.iter().any(|value| is_asked(request, value))
 }
 
-/// The tests before administrators are looked for.
+/// The tests before administrators are looked for. The authentication type that is offered is also the type of a key's value.
 #[tactic(auto, unfolding(crate::specs::Proven::code_before_key, crate::specs::First::first))]
 pub(crate) fn code_before_key(
     request: &Request<'_>,
     sight: &Sight,
     proof: &Proof<'_>,
 ) -> Option<ResponseCode>
-    ensures { option_map response_number result ≡ code_before_key (sight_of sight.now) (content_of request.now) (proof_of proof.now) }
+    ensures { option_map response_number result ≡ code_before_key (sight_of sight.now) request.now (proof_of proof.now) }
 {
-    let body = &request.body;
-    if proof.response.kind != SECRET_KEY {
+    let body = request.body();
+    if proof.response.kind != HS_SECKEY {
         return Some(ResponseCode::UnableToAuthenticate);
     }
     if !has_response_form(proof.digest.algorithm(), proof.response.answer) {
@@ -156,9 +151,9 @@ pub(crate) fn code_behind_key(
     mask: AdminMask,
     key: &Option<Value>,
 ) -> ResponseCode
-    ensures { response_number result ≡ code_behind_key (sight_of sight.now) (content_of request.now) (proof_of proof.now) mask.0 key.now }
+    ensures { response_number result ≡ code_behind_key (sight_of sight.now) request.now (proof_of proof.now) mask.0 key.now }
 {
-    let body = &request.body;
+    let body = request.body();
     let values = &sight.values;
     if !is_key(key) {
         return ResponseCode::UnableToAuthenticate;

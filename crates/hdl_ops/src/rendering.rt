@@ -1,27 +1,23 @@
 //! The reply to a request.
 
 ghost use Rattle.std.specs.Prelude.{◌≡◌, ◌≤◌, IfOk, IsTrue, Some, None, if◌then◌else◌};
-ghost use Rattle.hdl_msg.specs.Bodies.{content_of};
 ghost use Rattle.hdl_msg.specs.Codes.{response_number};
-ghost use Rattle.hdl_msg.specs.Message.{signed_octets};
 ghost use Rattle.hdl_msg.specs.Reply.{reply_octets};
 ghost use Rattle.hdl_ops.specs.Replies.{digest_of, asked_digest, reply_to, challenge_to, fits};
 
 use crate::requests::wants_digest;
 use hdl_auth::algorithm::{Algorithm, Digest};
 use hdl_auth::digest;
-use hdl_msg::{
-    MESSAGE_MOST, Reply, ReplyContent, Request, ResponseCode, answer_header, reply_len, write_reply,
-};
+use hdl_limits::MESSAGE_MAX;
+use hdl_msg::{Reply, ReplyContent, Request, ResponseCode, answer_header, reply_len, write_reply};
 use std::alloc::{AllocError, Global};
 
 /// The digest of the request by its algorithm, where it asks for it.
 fn asked_digest(algorithm: Algorithm, request: &Request<'_>) -> Option<Digest>
-    requires signed { request.now.signed.now ≡ signed_octets (content_of request.now) }
-    ensures { result ≡ asked_digest algorithm (content_of request.now) }
+    ensures { result ≡ asked_digest algorithm request.now }
 {
     if wants_digest(request) {
-        Some(digest(algorithm, request.signed))
+        Some(digest(algorithm, request.signed()))
     } else {
         None
     }
@@ -36,13 +32,12 @@ fn reply_to(
     code: u32,
     content: ReplyContent,
 ) -> Reply
-    requires signed { request.now.signed.now ≡ signed_octets (content_of request.now) }
-    ensures { result ≡ reply_to algorithm session number (content_of request.now) code content }
+    ensures { result ≡ reply_to algorithm session number request.now code content }
 {
     Reply {
         session,
         request: number,
-        header: answer_header(request.header, code),
+        header: answer_header(request.header(), code),
         digest: asked_digest(algorithm, request),
         content,
     }
@@ -55,11 +50,10 @@ pub(crate) fn fitting(
     request: &Request<'_>,
     content: ReplyContent,
 ) -> Option<ReplyContent>
-    requires signed { request.now.signed.now ≡ signed_octets (content_of request.now) }
-    ensures { result ≡ (if fits algorithm (content_of request.now) content then Some content else None) }
+    ensures { result ≡ (if fits algorithm request.now content then Some content else None) }
 {
     let reply = reply_to(algorithm, 0, 0, request, 0, content);
-    if reply_len(&reply) > MESSAGE_MOST {
+    if reply_len(&reply) > MESSAGE_MAX as usize {
         return None;
     }
     let Reply { content, .. } = reply;
@@ -76,9 +70,8 @@ pub fn render(
     code: ResponseCode,
     content: ReplyContent,
 ) -> Result<Vec<u8>, AllocError>
-    requires signed { request.now.signed.now ≡ signed_octets (content_of request.now) }
-    requires fits { IsTrue (fits algorithm (content_of request.now) content) }
-    ensures { IfOk result (λ octets. octets.items ≡ reply_octets (reply_to algorithm session number (content_of request.now) (response_number code) content)) }
+    requires fits { IsTrue (fits algorithm request.now content) }
+    ensures { IfOk result (λ octets. octets.items ≡ reply_octets (reply_to algorithm session number request.now (response_number code) content)) }
 {
     let reply = reply_to(algorithm, session, number, request, code.number(), content);
     write_reply(alloc, &reply)
@@ -94,15 +87,17 @@ pub fn render_challenge(
     request: &Request<'_>,
     nonce: &[u8; 16],
 ) -> Result<(Vec<u8>, Digest), AllocError>
-    requires signed { request.now.signed.now ≡ signed_octets (content_of request.now) }
-    ensures octets { IfOk result (λ sent. sent.0.items ≡ reply_octets (challenge_to algorithm session number (content_of request.now) nonce.now)) }
-    ensures digest { IfOk result (λ sent. sent.1 ≡ digest_of algorithm (content_of request.now)) }
+    ensures octets { IfOk result (λ sent. sent.0.items ≡ reply_octets (challenge_to algorithm session number request.now nonce.now)) }
+    ensures digest { IfOk result (λ sent. sent.1 ≡ digest_of algorithm request.now) }
 {
-    let request_digest = digest(algorithm, request.signed);
+    let request_digest = digest(algorithm, request.signed());
     let reply = Reply {
         session,
         request: number,
-        header: answer_header(request.header, ResponseCode::AuthenticationNeeded.number()),
+        header: answer_header(
+            request.header(),
+            ResponseCode::AuthenticationNeeded.number(),
+        ),
         digest: Some(request_digest),
         content: ReplyContent::Nonce { nonce: *nonce },
     };

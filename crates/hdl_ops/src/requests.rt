@@ -1,7 +1,7 @@
 //! A request, in the words of the tables of decision.
 
 ghost use Rattle.std.specs.Prelude.{◌≡◌, option_map};
-ghost use Rattle.hdl_msg.specs.Bodies.{operation_of, content_of};
+ghost use Rattle.hdl_msg.specs.Bodies.{operation_of};
 ghost use Rattle.hdl_ops.specs.Requests.{response_of, named, is_unused, resolves, creates, makes_or_ends, is_list, is_public_only, wants_digest};
 ghost use Rattle.hdl_ops.specs.Views.{response_view};
 
@@ -100,14 +100,14 @@ pub(crate) fn is_list(body: &Body<'_>) -> bool
 
 /// Whether the request asks for public values only.
 pub(crate) fn is_public_only(request: &Request<'_>) -> bool
-    ensures { result ≡ is_public_only (content_of request.now) }
+    ensures { result ≡ is_public_only request.now }
 {
-    request.header.has(OpFlag::PublicOnly)
+    request.header().has(OpFlag::PublicOnly)
 }
 
 /// Whether the request asks for its digest.
 pub(crate) fn wants_digest(request: &Request<'_>) -> bool
-    ensures { result ≡ wants_digest (content_of request.now) }
+    ensures { result ≡ wants_digest request.now }
 {
-    request.header.has(OpFlag::ReturnDigest)
+    request.header().has(OpFlag::ReturnDigest)
 }

@@ -1,9 +1,8 @@
 //! From the code of a table of decision to the whole decision.
 
 ghost use Rattle.std.specs.Prelude.{◌≡◌, ◌&&◌, filter, IfOk, IsTrue};
-ghost use Rattle.hdl_msg.specs.Bodies.{operation_of, content_of};
+ghost use Rattle.hdl_msg.specs.Bodies.{operation_of};
 ghost use Rattle.hdl_msg.specs.Codes.{response_number};
-ghost use Rattle.hdl_msg.specs.Message.{signed_octets};
 ghost use Rattle.hdl_msg.specs.Views.{values_of};
 ghost use Rattle.hdl_ops.specs.Decisions as decisions;
 ghost use Rattle.hdl_ops.specs.Decisions.{may_read, carried, change_of};
@@ -13,12 +12,14 @@ ghost use Rattle.hdl_ops.specs.Sights.{asks};
 ghost use Rattle.hdl_ops.specs.Views.{decision_of, level_of, sight_of};
 
 use crate::asked::{asks, is_kept, is_public};
-use crate::change::{Change, IndexList};
+use crate::change::Change;
 use crate::decision::{Decision, Level, Sight};
 use crate::rendering::fitting;
 use crate::written::{copied_indexes, copied_values};
 use hdl_auth::algorithm::Algorithm;
-use hdl_msg::{Body, HandleList, ReplyContent, Request, ResponseCode, ValueList, Values};
+use hdl_msg::{
+    Body, HandleList, IndexList, ReplyContent, Request, ResponseCode, ValueList, Values,
+};
 use hdl_name::Name;
 use hdl_rows::Refused;
 use hdl_value::{Octets, Value};
@@ -47,12 +48,12 @@ fn carried(
     level: &Level<'_>,
     sight: Sight,
 ) -> Result<ReplyContent, AllocError>
-    ensures { IfOk result (λ content. content ≡ carried (sight_of sight) (content_of request.now) (level_of level.now)) }
+    ensures { IfOk result (λ content. content ≡ carried (sight_of sight) request.now (level_of level.now)) }
 {
-    match request.body {
+    match *request.body() {
         Body::Resolution { handle, .. } => Ok(ReplyContent::Values {
             handle: Octets::new(Vec::from_slice(alloc, handle)?),
-            values: ValueList::new(shown(&request.body, level, sight.values)),
+            values: ValueList::new(shown(request.body(), level, sight.values)),
         }),
         Body::List { .. } => Ok(ReplyContent::Handles {
             handles: HandleList::new(sight.names),
@@ -124,10 +125,9 @@ pub(crate) fn settle(
     code: ResponseCode,
     name: Name,
 ) -> Result<Decision, Refused>
-    requires signed { request.now.signed.now ≡ signed_octets (content_of request.now) }
-    requires named { name ≡ named (content_of request.now).operation }
-    ensures carried { IfOk result (λ d. IsTrue (fits algorithm (content_of request.now) d.content)) }
-    ensures decided { IfOk result (λ d. decision_of d ≡ decisions.decision algorithm (sight_of sight) (content_of request.now) (level_of level.now) (response_number code)) }
+    requires named { name ≡ named request.now.operation }
+    ensures carried { IfOk result (λ d. IsTrue (fits algorithm request.now d.content)) }
+    ensures decided { IfOk result (λ d. decision_of d ≡ decisions.decision algorithm (sight_of sight) request.now (level_of level.now) (response_number code)) }
 {
     if code != ResponseCode::Success {
         return Ok(failure(code));
@@ -138,7 +138,7 @@ pub(crate) fn settle(
     let Some(content) = fitting(algorithm, request, content) else {
         return Ok(failure(ResponseCode::Error));
     };
-    let Ok(change) = change_of(alloc, &request.body, name) else {
+    let Ok(change) = change_of(alloc, request.body(), name) else {
         return Err(Refused);
     };
     Ok(Decision {

@@ -9,12 +9,10 @@ ghost use Rattle.hdl_msg.specs.Views.{numbers_of, values_of};
 ghost use Rattle.hdl_ops.specs.Admission.{has_twins, is_bad_list, are_bad, is_bad_write};
 
 use crate::asked::lists_index;
+use hdl_limits::WRITTEN_MAX;
 use hdl_msg::{Body, Numbers, Values};
 use hdl_value::Value;
 use std::alloc::{AllocError, Global};
-
-/// How many values or indexes a write may name.
-const MOST_NAMED: usize = 256;
 
 fn count_of_indexes(indexes: Numbers<'_>) -> usize
     ensures { result ≡ length (numbers_of indexes.entry) }
@@ -60,14 +58,14 @@ fn are_bad_indexes(indexes: Numbers<'_>) -> bool
     ensures { result ≡ is_bad_list (λ i. i) (numbers_of indexes.entry) }
 {
     let count = count_of_indexes(indexes);
-    count == 0 || count > MOST_NAMED || has_twin_indexes(indexes)
+    count == 0 || count > WRITTEN_MAX || has_twin_indexes(indexes)
 }
 
 fn is_bad_value_list(values: Values<'_>) -> bool
     ensures { result ≡ is_bad_list (λ v. v.index) (values_of values.entry) }
 {
     let count = count_of_values(values);
-    count == 0 || count > MOST_NAMED || has_twin_values(values)
+    count == 0 || count > WRITTEN_MAX || has_twin_values(values)
 }
 
 fn are_sound(mut values: Values<'_>) -> bool

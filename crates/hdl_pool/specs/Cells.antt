@@ -2,6 +2,7 @@
 use Rattle.std.specs.Prelude.{◌≡◌, ◌<◌, ℕ, Bool, false, List, [], length, map, slice_index_or, Option, None}
 use Rattle.std.specs.List.{filter_map}
 use Rattle.std.specs.Option.{option_map_or}
+use Rattle.hdl_limits.specs.declared.TheConstants.{LANES, PARTIALS_MAX}
 use Rattle.hdl_pool.specs.declared.piece.Key.{Key}
 use Rattle.hdl_pool.specs.Partial.{Partial, is_of}
 
@@ -21,10 +22,10 @@ contents = filter_map (λ content. content)
 abbrev pub lanes_of : List (List (Option Partial)) → List (List Partial)
 lanes_of = map contents
 
--- there are 64 lanes of four cells
+-- each lane has its cells
 pub record AreFours (cells : List (List (Option Partial))) : Type 0 where
-  pub lanes : length cells ≡ 64
-  pub four : (lane : ℕ) → lane < 64 → length (cells_at cells lane) ≡ 4
+  pub lanes : length cells ≡ LANES
+  pub four : (lane : ℕ) → lane < LANES → length (cells_at cells lane) ≡ PARTIALS_MAX
 
 -- a cell has a partial message of this key
 abbrev pub holds : Key → Option Partial → Bool

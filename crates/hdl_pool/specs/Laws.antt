@@ -2,6 +2,7 @@
 -- pieces (docs/PROTOCOL.md, "Frames and pieces").
 use Rattle.std.specs.Prelude.{◌≡◌, ◌≢◌, ℕ, ◌≤◌, List, [], ◌∷◌, ◌++◌, length, find, Some, None}
 use Rattle.hdl_frame.specs.Whole.{Piece as Numbered, payload_of, payloads_of, MakeMessage, HaveTheirLength}
+use Rattle.hdl_limits.specs.declared.TheConstants.{PARTIALS_MAX}
 use Rattle.hdl_pool.specs.declared.piece.Key.{Key}
 use Rattle.hdl_pool.specs.Partial.{Piece, Partial, IsPiece, is_of, nothing_of}
 use Rattle.hdl_pool.specs.Taking.{made_whole, kept, ignored, displaced, so_far, grown, taken, freed}
@@ -52,4 +53,4 @@ FreedIsGone = (lane : List Partial) (key : Key) → find (is_of key) (freed lane
 
 -- a lane keeps to four
 abbrev pub AtMostFour : Type 0
-AtMostFour = (lane : List Partial) (piece : Piece) → length lane ≤ 4 → length (taken lane piece).1 ≤ 4
+AtMostFour = (lane : List Partial) (piece : Piece) → length lane ≤ PARTIALS_MAX → length (taken lane piece).1 ≤ PARTIALS_MAX

@@ -4,6 +4,7 @@ use Rattle.hdl_frame.specs.declared.envelope.Envelope.{Envelope}
 use Rattle.hdl_frame.specs.Envelope.{envelope_at}
 use Rattle.hdl_frame.specs.Pieces.{piece_count}
 use Rattle.hdl_frame.specs.Whole.{joined}
+use Rattle.hdl_limits.specs.declared.TheConstants.{MESSAGE_MAX, PIECE_LEN}
 use Rattle.hdl_pool.specs.declared.piece.Key.{Key}
 
 -- a piece: whose message it belongs to, how long that message is, the piece's number and its payload
@@ -15,8 +16,8 @@ pub record Piece : Type 0 where
 
 -- the piece begins before its message's end, and the message keeps the limit
 pub record IsPiece (piece : Piece) : Type 0 where
-  pub begins : 492 * piece.number < piece.length
-  pub limit : piece.length ≤ 65536
+  pub begins : PIECE_LEN * piece.number < piece.length
+  pub limit : piece.length ≤ MESSAGE_MAX
 
 -- a partial message: whose it is, how long, and by number the payload of the first piece with it, where one came
 pub record Partial : Type 0 where

@@ -2,6 +2,7 @@
 -- A lane is the list of its partial messages, the oldest first.
 use Rattle.std.specs.Prelude.{ℕ, Bool, nat_eq, nat_lt, not, ◌||◌, if◌then◌else◌, List, [], ◌∷◌, ◌++◌, length, drop, filter, find, slice_index_or, Option, Some, None, is_some, unwrap_or}
 use Rattle.std.specs.Option.{option_map_or}
+use Rattle.hdl_limits.specs.declared.TheConstants.{PARTIALS_MAX}
 use Rattle.hdl_pool.specs.declared.piece.Key.{Key}
 use Rattle.hdl_pool.specs.declared.taken.Taken.{Taken}
 use Rattle.hdl_pool.specs.declared.taken.Taken.TheVariants.{Whole, Kept, Ignored, Displaced}
@@ -43,7 +44,7 @@ replaced key more (p ∷ ps) = if is_of key p then more ∷ ps else p ∷ replac
 
 -- the lane with a partial message of a new key, which displaces the oldest of four
 abbrev pub begun : List Partial → Partial → Fate × List Partial
-begun lane first = if nat_lt (length lane) 4 then (kept, lane ++ first ∷ []) else (displaced, drop 1 lane ++ first ∷ [])
+begun lane first = if nat_lt (length lane) PARTIALS_MAX then (kept, lane ++ first ∷ []) else (displaced, drop 1 lane ++ first ∷ [])
 
 -- the lane with a partial message that has one more piece
 abbrev pub stored : List Partial → Key → Partial → Fate × List Partial

@@ -9,7 +9,7 @@ ghost use Rattle.hdl_pool.specs.Arrival.{arrived};
 use crate::joining::joined_with;
 use crate::piece::{Arrival, Key};
 use crate::taken::Taken;
-use hdl_frame::PIECE_LEN;
+use hdl_limits::{MESSAGE_MAX, PIECE_LEN};
 use std::alloc::{AllocError, Global};
 use std::marker::Model;
 
@@ -40,7 +40,7 @@ impl Model for Assembly {
 impl Assembly {
     /// A message of which nothing came yet, of so many octets in all.
     pub(crate) fn new(alloc: Global, key: Key, message_len: u32) -> Result<Assembly, AllocError>
-        requires { message_len ≤ 65536 }
+        requires { message_len ≤ MESSAGE_MAX }
         ensures { IfOk result (λ a. a ≡ nothing_of key message_len) }
     {
         let count = message_len.div_ceil(PIECE_LEN) as usize;

@@ -4,16 +4,11 @@ ghost use Rattle.std.specs.Prelude.{◌≡◌, ◌<◌, replicate, slice_set, op
 ghost use Rattle.hdl_pool.specs.Cells.{cells_at, cell_at};
 
 use crate::assembly::Assembly;
+use hdl_limits::{LANES, PARTIALS_MAX};
 use slab::Slab;
 use std::alloc::{AllocError, Global};
 use std::marker::Model;
 use std::mem;
-
-/// How many lanes there are.
-pub const LANES: usize = 64;
-
-/// How many partial messages a lane may have.
-pub(crate) const PARTIAL_MAX: usize = 4;
 
 /// Four cells for each lane, each empty or with a partial message. All are slots of one slab, made once and written in place.
 #[derive(Drop)]
@@ -38,11 +33,11 @@ impl Model for Cells {
 impl Cells {
     /// Cells that are all empty.
     pub(crate) fn new(alloc: Global) -> Result<Cells, AllocError>
-        ensures { IfOk result (λ cells. cells ≡ replicate LANES (replicate PARTIAL_MAX None)) }
+        ensures { IfOk result (λ cells. cells ≡ replicate LANES (replicate PARTIALS_MAX None)) }
     {
-        let mut slab = Slab::with_capacity(alloc, LANES * PARTIAL_MAX)?;
-        let mut keys = Vec::with_capacity(alloc, LANES * PARTIAL_MAX)?;
-        for _ in 0..LANES * PARTIAL_MAX {
+        let mut slab = Slab::with_capacity(alloc, LANES * PARTIALS_MAX)?;
+        let mut keys = Vec::with_capacity(alloc, LANES * PARTIALS_MAX)?;
+        for _ in 0..LANES * PARTIALS_MAX {
             keys.push(slab.insert(None)?)?;
         }
         Ok(Cells { slab, keys })
@@ -51,10 +46,10 @@ impl Cells {
     /// What a cell has.
     pub(crate) fn get(&self, lane: usize, place: usize) -> Option<&Assembly>
         requires lane { lane < LANES }
-        requires place { place < PARTIAL_MAX }
+        requires place { place < PARTIALS_MAX }
         ensures { option_copied result ≡ cell_at self.now lane place }
     {
-        let key = self.keys[PARTIAL_MAX * lane + place];
+        let key = self.keys[PARTIALS_MAX * lane + place];
         self.slab.get(key)?.as_ref()
     }
 
@@ -66,11 +61,11 @@ impl Cells {
         content: Option<Assembly>,
     ) -> Option<Assembly>
         requires lane { lane < LANES }
-        requires place { place < PARTIAL_MAX }
+        requires place { place < PARTIALS_MAX }
         ensures was { result ≡ cell_at self.old lane place }
         ensures cells { self.new ≡ slice_set self.old lane (slice_set (cells_at self.old lane) place content) }
     {
-        let key = self.keys[PARTIAL_MAX * lane + place];
+        let key = self.keys[PARTIALS_MAX * lane + place];
         match self.slab.get_mut(key) {
             Some(cell) => mem::replace(cell, content),
             None => None,

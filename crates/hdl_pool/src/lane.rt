@@ -7,17 +7,17 @@ ghost use Rattle.hdl_pool.specs.Arrival.{arrived};
 ghost use Rattle.hdl_pool.specs.Cells.{AreFours, cells_at, cell_at, lanes_of, holds};
 
 use crate::assembly::Assembly;
-use crate::cells::{Cells, LANES, PARTIAL_MAX};
+use crate::cells::Cells;
 use crate::piece::{Arrival, Key};
 use crate::taken::Taken;
-use hdl_frame::PIECE_LEN;
+use hdl_limits::{LANES, PARTIALS_MAX, PIECE_LEN};
 use std::alloc::{AllocError, Global};
 
 impl Cells {
     // Whether a cell has the partial message of this key.
     fn holds(&self, lane: usize, place: usize, key: Key) -> bool
         requires lane { lane < LANES }
-        requires place { place < PARTIAL_MAX }
+        requires place { place < PARTIALS_MAX }
         ensures { result ≡ holds key (cell_at self.now lane place) }
     {
         self.get(lane, place)
@@ -27,7 +27,7 @@ impl Cells {
     // Puts something else, or nothing, into a cell.
     fn write(&mut self, lane: usize, place: usize, content: Option<Assembly>)
         requires lane { lane < LANES }
-        requires place { place < PARTIAL_MAX }
+        requires place { place < PARTIALS_MAX }
         ensures { self.new ≡ slice_set self.old lane (slice_set (cells_at self.old lane) place content) }
     {
         self.replace(lane, place, content);
@@ -38,9 +38,9 @@ impl Cells {
         requires lane { lane < LANES }
         requires fours { AreFours self.now }
         ensures first { result ≡ position (holds key) (cells_at self.now lane) }
-        ensures within { IfSome result (λ place. place < PARTIAL_MAX) }
+        ensures within { IfSome result (λ place. place < PARTIALS_MAX) }
     {
-        for place in 0..PARTIAL_MAX {
+        for place in 0..PARTIALS_MAX {
             if self.holds(lane, place, key) {
                 return Some(place);
             }
@@ -55,7 +55,7 @@ impl Cells {
         ensures lanes { lanes_of self.new ≡ slice_set (lanes_of self.old) lane (freed (lane_at (lanes_of self.old) lane) key) }
         ensures fours { AreFours self.new }
     {
-        for place in 0..PARTIAL_MAX {
+        for place in 0..PARTIALS_MAX {
             if self.holds(lane, place, key) {
                 self.write(lane, place, None);
             }
@@ -69,7 +69,7 @@ impl Cells {
         ensures lanes { lanes_of self.new ≡ slice_set (lanes_of self.old) lane [] }
         ensures fours { AreFours self.new }
     {
-        for place in 0..PARTIAL_MAX {
+        for place in 0..PARTIALS_MAX {
             self.write(lane, place, None);
         }
     }
@@ -83,7 +83,7 @@ impl Cells {
         ensures fours { AreFours self.new }
     {
         let mut carried = Some(first);
-        let mut place = PARTIAL_MAX;
+        let mut place = PARTIALS_MAX;
         while place > 0 && carried.is_some() {
             place -= 1;
             carried = self.replace(lane, place, carried);
@@ -104,7 +104,7 @@ impl Cells {
         piece: Arrival<'_>,
     ) -> Result<Taken, AllocError>
         requires lane { lane < LANES }
-        requires place { place < PARTIAL_MAX }
+        requires place { place < PARTIALS_MAX }
         requires fours { AreFours self.old }
         requires piece { IsPiece (arrived piece) }
         requires found { Some place ≡ position (holds piece.key) (cells_at self.old lane) }

@@ -27,7 +27,6 @@ mod piece;
 mod pool;
 mod taken;
 
-pub use cells::LANES;
 pub use laws::{
     at_most_four, freed_is_gone, kept_is_collected, message_is_whole, nothing_came, others_stay,
     repeated_is_ignored, taken_is_so_far, whole_is_message,

@@ -6,10 +6,11 @@ ghost use Rattle.hdl_frame.specs.Splitting.{IsFrameOf};
 ghost use Rattle.hdl_pool.specs.Partial.{key_of, piece_of};
 ghost use Rattle.hdl_pool.specs.Taking.{lane_at, taken, freed, fate_of};
 
-use crate::cells::{Cells, LANES};
+use crate::cells::Cells;
 use crate::piece::{Arrival, Key};
 use crate::taken::{PoolFault, Taken};
 use hdl_frame::{Envelope, Frame};
+use hdl_limits::LANES;
 use std::alloc::{AllocError, Global};
 use std::marker::Model;
 

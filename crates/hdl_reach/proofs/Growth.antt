@@ -8,7 +8,7 @@ use Rattle.hdl_value.specs.Refs.{place_of}
 use Rattle.hdl_value.specs.declared.admin.Reference.{Reference}
 use Rattle.hdl_reach.specs.declared.seen.Seen.{Seen}
 use Rattle.hdl_reach.specs.Reach.{is_among}
-use Rattle.hdl_reach.specs.Seen.{places, with_place, Key, place_at, key_cmp, HasKeys, AreKept, Extends}
+use Rattle.hdl_reach.specs.Seen.{places, with_place, PlaceKey, place_at, key_cmp, HasKeys, AreKept, Extends}
 use Rattle.hdl_reach.proofs.Members.{same_laws, among_append, among_front, among_last, all_weaker, all_push}
 use Rattle.hdl_reach.proofs.Searches.{take_next}
 
@@ -60,7 +60,7 @@ by_either true false = refl
 by_either false true = refl
 by_either false false = refl
 
-key_more : (old new : BTreeSet Key) (k : Key) (seen : List Place) → Updates key_cmp old new k true → HasKeys old seen → HasKeys new (seen ++ place_at k ∷ [])
+key_more : (old new : BTreeSet PlaceKey) (k : PlaceKey) (seen : List Place) → Updates key_cmp old new k true → HasKeys old seen → HasKeys new (seen ++ place_at k ∷ [])
 key_more old new k seen updates kept q =
     updates.0 q
     ∙ ap (λ b. cond b true (contains key_cmp old q)) (same_laws.symm (place_at k) (place_at q))
@@ -83,7 +83,7 @@ places_next rs i r low is = ap places (take_next rs i r low is) ∙ places_more 
 abbrev pub Adds : Seen → Seen → Reference → Type 0
 Adds old new one = (places new.references.items ≡ with_place (places old.references.items) (place_of one)) × AreKept new
 
-pub adds_new : (old new : Seen) (one : Reference) (k : Key) → AreKept old → place_at k ≡ place_of one → contains key_cmp old.keys k ≡ false → Updates key_cmp old.keys new.keys k true → new.references.items ≡ old.references.items ++ one ∷ [] → Adds old new one
+pub adds_new : (old new : Seen) (one : Reference) (k : PlaceKey) → AreKept old → place_at k ≡ place_of one → contains key_cmp old.keys k ≡ false → Updates key_cmp old.keys new.keys k true → new.references.items ≡ old.references.items ++ one ∷ [] → Adds old new one
 adds_new old new one k kept is absent updates pushed =
     let seen = places old.references.items in
     let p = place_of one in

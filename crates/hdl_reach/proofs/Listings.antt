@@ -17,7 +17,7 @@ use Rattle.hdl_value.proofs.Places.{places_equal}
 use Rattle.hdl_rows.specs.Table.{Table}
 use Rattle.hdl_reach.specs.declared.sources.Sources.{Sources}
 use Rattle.hdl_reach.specs.Reach.{is_among, listed_in, lists}
-use Rattle.hdl_reach.specs.Seen.{places, Key, place_at, key_cmp}
+use Rattle.hdl_reach.specs.Seen.{places, PlaceKey, place_at, key_cmp}
 use Rattle.hdl_reach.specs.Sources.{places_in, sources_of, with_source, HasSources}
 use Rattle.hdl_reach.specs.Search.{onward, reachable, IsReached, IsWalk}
 use Rattle.hdl_reach.proofs.Members.{among_append, among_front, among_back, among_first, or_true}
@@ -34,27 +34,27 @@ as_read rs v read = ap (filter refers) (as_spelt rs) ∙ ap listed_by read
 -- ---- sources
 
 -- a map with another value at a key, by places
-updated : {X : Type 0} (old new : BTreeMap Key X) (k : Key) (w : Option X) → Updates key_cmp old new k w → (q : Place)
-    → get_by (λ (j : Key). place_cmp q (place_at j)) new ≡ cond (same_place q (place_at k)) w (get_by (λ (j : Key). place_cmp q (place_at j)) old)
+updated : {X : Type 0} (old new : BTreeMap PlaceKey X) (k : PlaceKey) (w : Option X) → Updates key_cmp old new k w → (q : Place)
+    → get_by (λ (j : PlaceKey). place_cmp q (place_at j)) new ≡ cond (same_place q (place_at k)) w (get_by (λ (j : PlaceKey). place_cmp q (place_at j)) old)
 unfolding KeepsOthers
 updated {X} old new k w h q =
-    let at = λ (r : Place) (m : BTreeMap Key X). get_by (λ (j : Key). place_cmp r (place_at j)) m in
+    let at = λ (r : Place) (m : BTreeMap PlaceKey X). get_by (λ (j : PlaceKey). place_cmp r (place_at j)) m in
     elim (same_place q (place_at k)) as (λ b. same_place q (place_at k) ≡ b → at q new ≡ cond b w (at q old)) [
       | true ↦ λ is. subst (λ r. at r new ≡ w) (sym (places_equal q (place_at k) is)) h.1
-      | false ↦ λ apart. h.3 (λ (j : Key). same_place q (place_at j))
+      | false ↦ λ apart. h.3 (λ (j : PlaceKey). same_place q (place_at j))
           (λ x y is. ap (λ r. same_place r (place_at y)) (places_equal q (place_at x) is))
           (λ j is. subst (λ r. same_place q r ≡ false) (places_equal (place_at k) (place_at j) is) apart)
     ] refl
 
 -- one source more, put where the sources of its place stood
-pub source_more : (old mid new : Sources) (all : Vec Reference Global) (before : List Reference) (from to : Reference) (k : Key) → place_at k ≡ place_of to
+pub source_more : (old mid new : Sources) (all : Vec Reference Global) (before : List Reference) (from to : Reference) (k : PlaceKey) → place_at k ≡ place_of to
     → Updates key_cmp old.lists mid.lists k None → Updates key_cmp mid.lists new.lists k (Some all) → places before ≡ sources_of old (place_at k) → all.items ≡ before ++ from ∷ []
     → (q : Place) → sources_of new q ≡ with_source (sources_of old) (place_of from) (place_of to) q
 source_more old mid new all before from to k is taken put held pushed q =
     subst (λ r. sources_of new q ≡ with_source (sources_of old) (place_of from) r q) is (ap places_in (updated mid.lists new.lists k (Some all) put q)
-    ∙ elim (same_place q (place_at k)) as (λ b. same_place q (place_at k) ≡ b → places_in (cond b (Some all) (get_by (λ (j : Key). place_cmp q (place_at j)) mid.lists)) ≡ (if b then sources_of old q ++ place_of from ∷ [] else sources_of old q)) [
+    ∙ elim (same_place q (place_at k)) as (λ b. same_place q (place_at k) ≡ b → places_in (cond b (Some all) (get_by (λ (j : PlaceKey). place_cmp q (place_at j)) mid.lists)) ≡ (if b then sources_of old q ++ place_of from ∷ [] else sources_of old q)) [
       | true ↦ λ here. ap places pushed ∙ map-append place_of before (from ∷ []) ∙ ap (λ ps. ps ++ place_of from ∷ []) (held ∙ ap (sources_of old) (sym (places_equal q (place_at k) here)))
-      | false ↦ λ apart. ap places_in (updated old.lists mid.lists k None taken q) ∙ ap (λ b. places_in (cond b None (get_by (λ (j : Key). place_cmp q (place_at j)) old.lists))) apart
+      | false ↦ λ apart. ap places_in (updated old.lists mid.lists k None taken q) ∙ ap (λ b. places_in (cond b None (get_by (λ (j : PlaceKey). place_cmp q (place_at j)) old.lists))) apart
     ] refl)
 
 among_if : (b : Bool) (ps : List Place) (p r : Place) → is_among p (if b then ps ++ r ∷ [] else ps) ≡ (is_among p ps || (same_place p r && b))
@@ -109,7 +109,7 @@ sources_passed on done more old new here kept is put p q =
 abbrev pub sources_from : Sources → Place → List Place
 sources_from s end = end ∷ flat_map (λ (v : Vec Reference Global). places v.items) (values s.lists)
 
-in_lists : (test : Key → Bool) (es : List (Key × Vec Reference Global)) (p : Place) → IsTrue (is_among p (places_in (lookup test es))) → IsTrue (is_among p (flat_map (λ (v : Vec Reference Global). places v.items) (values_of es)))
+in_lists : (test : PlaceKey → Bool) (es : List (PlaceKey × Vec Reference Global)) (p : Place) → IsTrue (is_among p (places_in (lookup test es))) → IsTrue (is_among p (flat_map (λ (v : Vec Reference Global). places v.items) (values_of es)))
 in_lists test [] p h = h
 in_lists test (e ∷ es) p h =
     elim (test e.0) as (λ b. IsTrue (is_among p (places_in (cond b (Some e.1) (lookup test es)))) → IsTrue (is_among p (places e.1.items ++ flat_map (λ (v : Vec Reference Global). places v.items) (values_of es)))) [
@@ -119,7 +119,7 @@ in_lists test (e ∷ es) p h =
 
 walk_in : (s : Sources) (end p : Place) (ps : List Place) (q : Place) → IsTrue (is_among p (sources_from s end)) → IsWalk (sources_of s) p ps q → IsTrue (is_among q (sources_from s end))
 walk_in s end p [] q here walk = subst (λ r. IsTrue (is_among r (sources_from s end))) walk here
-walk_in s end p (r ∷ ps) q here walk = walk_in s end r ps q (or_true (same_place r end) _ (in_lists (λ (j : Key). same_place p (place_at j)) s.lists.entries r walk.0)) walk.1
+walk_in s end p (r ∷ ps) q here walk = walk_in s end r ps q (or_true (same_place r end) _ (in_lists (λ (j : PlaceKey). same_place p (place_at j)) s.lists.entries r walk.0)) walk.1
 
 pub reached_in : (s : Sources) (end q : Place) → IsReached (sources_of s) end q → IsTrue (is_among q (sources_from s end))
 reached_in s end q reached = walk_in s end end reached.0 q (among_first end _) reached.1

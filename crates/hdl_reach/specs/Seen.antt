@@ -15,18 +15,18 @@ abbrev pub places : List Reference → List Place
 places rs = map place_of rs
 
 -- the octets of a handle, and an index
-abbrev pub Key : Type 0
-Key = Vec ℕ Global × ℕ
+abbrev pub PlaceKey : Type 0
+PlaceKey = Vec ℕ Global × ℕ
 
-abbrev pub place_at : Key → Place
+abbrev pub place_at : PlaceKey → Place
 place_at k = record { handle = k.0.items; index = k.1 }
 
-abbrev pub key_cmp : Key → Key → Ordering
+abbrev pub key_cmp : PlaceKey → PlaceKey → Ordering
 key_cmp j k = place_cmp (place_at j) (place_at k)
 
 -- the keys are those of these places
-abbrev pub HasKeys : BTreeSet Key → List Place → Type 0
-HasKeys keys seen = (k : Key) → contains key_cmp keys k ≡ is_among (place_at k) seen
+abbrev pub HasKeys : BTreeSet PlaceKey → List Place → Type 0
+HasKeys keys seen = (k : PlaceKey) → contains key_cmp keys k ≡ is_among (place_at k) seen
 
 -- the keys are those of the references
 abbrev pub AreKept : Seen → Type 0

@@ -6,7 +6,7 @@ use Rattle.hdl_value.specs.Place.{Place, place_cmp, same_place}
 use Rattle.hdl_value.specs.declared.admin.Reference.{Reference}
 use Rattle.hdl_reach.specs.declared.sources.Sources.{Sources}
 use Rattle.hdl_reach.specs.Reach.{is_among}
-use Rattle.hdl_reach.specs.Seen.{places, Key, place_at}
+use Rattle.hdl_reach.specs.Seen.{places, PlaceKey, place_at}
 
 abbrev pub places_in : Option (Vec Reference Global) → List Place
 places_in None = []
@@ -14,7 +14,7 @@ places_in (Some rs) = places rs.items
 
 -- the places whose lists hold this one
 abbrev pub sources_of : Sources → Place → List Place
-sources_of s q = places_in (get_by (λ (k : Key). place_cmp q (place_at k)) s.lists)
+sources_of s q = places_in (get_by (λ (k : PlaceKey). place_cmp q (place_at k)) s.lists)
 
 -- these, where the list at p holds q too
 abbrev pub with_source : (Place → List Place) → Place → Place → Place → List Place

@@ -11,9 +11,9 @@ use std::alloc::{AllocError, Global};
 use std::collections::BTreeSet;
 
 /// The octets of a handle in canonical form, and an index: references of one place have one key.
-pub(crate) type Key = (Vec<u8>, u32);
+pub(crate) type PlaceKey = (Vec<u8>, u32);
 
-pub(crate) fn key_of(alloc: Global, one: &Reference) -> Result<Key, AllocError>
+pub(crate) fn key_of(alloc: Global, one: &Reference) -> Result<PlaceKey, AllocError>
     ensures { IfOk result (λ key. place_at key ≡ place_of one.now) }
 {
     Ok((Vec::from_slice(alloc, one.name.canon())?, one.index))
@@ -35,7 +35,7 @@ pub(crate) fn copy_of(alloc: Global, one: &Reference) -> Result<Reference, Alloc
 #[derive(Drop)]
 pub(crate) struct Seen {
     pub(crate) references: Vec<Reference>,
-    keys: BTreeSet<Key>,
+    keys: BTreeSet<PlaceKey>,
 }
 
 impl Seen {

@@ -7,7 +7,7 @@ ghost use Rattle.hdl_reach.specs.Reach.{is_among};
 ghost use Rattle.hdl_reach.specs.Seen.{places};
 ghost use Rattle.hdl_reach.specs.Sources.{sources_of, with_source};
 
-use crate::seen::{Key, copy_of, key_of};
+use crate::seen::{PlaceKey, copy_of, key_of};
 use hdl_value::Reference;
 use std::alloc::{AllocError, Global};
 use std::collections::BTreeMap;
@@ -15,7 +15,7 @@ use std::collections::BTreeMap;
 /// By the key of each reference that lists hold, the references of these lists.
 #[derive(Drop)]
 pub(crate) struct Sources {
-    lists: BTreeMap<Key, Vec<Reference>>,
+    lists: BTreeMap<PlaceKey, Vec<Reference>>,
 }
 
 impl Sources {

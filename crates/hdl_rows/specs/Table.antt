@@ -6,7 +6,6 @@ use Rattle.std.specs.FinSet as set
 use Rattle.std.specs.Coded.{Coded, code_by, coded×, coded_ℕ}
 use Rattle.hdl_name.specs.Name.{canonical, authority}
 use Rattle.hdl_value.specs.contracts.value.Value.{the_row}
-use Rattle.hdl_value.specs.declared.admin.Reference.{Reference}
 use Rattle.hdl_value.specs.declared.value.Value.{Value}
 use Rattle.hdl_value.specs.Place.{Place, handle_cmp, place_cmp, same_handle, handle_code, place_code}
 
@@ -20,10 +19,6 @@ no_rows = record { handles = set.empty; values = map.empty }
 
 abbrev pub place : List ℕ → ℕ → Place
 place h i = record { handle = h; index = i }
-
--- the place that a reference names
-abbrev pub place_of : Reference → Place
-place_of r = place (canonical r.name) r.index
 
 -- ---- what is read
 

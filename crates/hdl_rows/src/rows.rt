@@ -2,7 +2,8 @@
 
 ghost use Rattle.std.specs.Prelude.{◌≡◌, ℕ, map, true, false, IfOk, OnOk, OnErr};
 ghost use Rattle.hdl_name.specs.Name.{canonical};
-ghost use Rattle.hdl_rows.specs.Table.{Table, place_of, has, at, values_of, names_of, HaveTheirIndexes, created, with_values, without_values, without_handle, AreDistinct, AreAbsent, ArePresent, indexes, counted};
+ghost use Rattle.hdl_value.specs.Refs.{place_of};
+ghost use Rattle.hdl_rows.specs.Table.{Table, has, at, values_of, names_of, HaveTheirIndexes, created, with_values, without_values, without_handle, AreDistinct, AreAbsent, ArePresent, indexes, counted};
 
 use hdl_name::Name;
 use hdl_value::{Octets, Reference, Value};

@@ -6,6 +6,8 @@
 ghost use Rattle.std.specs.Prelude.{◌≡◌, ◌≤◌, ◌<◌, ◌++◌, ◌∷◌, [], List, ℕ, Bool, true, length, take, replicate, IfOk, IfSome, IsTrue, MatchOption, MatchResult};
 ghost use Rattle.hdl_serve.specs.Door.{Connection, fresh, hear, say, break_off, Counts, Takes};
 
+use hdl_limits::PEERS_MAX;
+
 /// A call of a door that failed.
 #[derive(Clone, Copy, Debug, PartialEq, Eq)]
 pub struct DoorFault;
@@ -112,7 +114,7 @@ pub trait Packets {
     /// A datagram longer than the buffer is cut to it.
     fn receive(&mut self, buffer: &mut [u8]) -> Result<Option<(u16, usize)>, DoorFault>
         ensures faults { Counts result (fault_count self.old) (fault_count self.new) }
-        ensures fits { IfOk result (λ came. IfSome came (λ d. (0 < d.0) × (d.0 ≤ 1024) × (d.1 ≤ length buffer.new))) }
+        ensures fits { IfOk result (λ came. IfSome came (λ d. (0 < d.0) × (d.0 ≤ PEERS_MAX) × (d.1 ≤ length buffer.new))) }
         ensures sent { IsTrue tells → sent self.new ≡ sent self.old }
         ensures received { IsTrue tells → MatchResult result
             (λ came. MatchOption came (received self.new ≡ received self.old) (λ d. received self.new ≡ received self.old ++ (d.0, take d.1 buffer.new) ∷ []))

@@ -4,6 +4,7 @@ ghost use Rattle.std.specs.Prelude.{◌≡◌, [], map, true};
 
 use crate::failing::Faults;
 use crate::{DoorFault, Packets};
+use hdl_limits::PEERS_MAX;
 use std::alloc::Global;
 use std::collections::VecDeque;
 
@@ -69,7 +70,7 @@ impl Packets for MemoryPackets {
             return Ok(None);
         };
         let Letter { peer, mut octets } = letter;
-        if peer == 0 || peer > 1024 {
+        if peer == 0 || peer as usize > PEERS_MAX {
             return Ok(None);
         }
         octets.truncate(buffer.len());

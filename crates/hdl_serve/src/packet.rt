@@ -19,6 +19,7 @@ use crate::{Clock, DoorFault, Item, Nonces, Packets};
 use hdl_frame::{ENVELOPE_LEN, one_datagram, pieces};
 use hdl_lanes::{Inlet, Outlet};
 use hdl_laws::{Octets, Outcome, What};
+use hdl_limits::PIECE_LEN;
 use std::alloc::Global;
 
 /// Writes an envelope and what follows it to the front of the buffer.
@@ -38,7 +39,7 @@ fn send_piece<P: Packets>(
     envelope: [u8; 20],
     payload: &[u8],
 ) -> Result<(), DoorFault>
-    requires short { length payload.now ≤ 492 }
+    requires short { length payload.now ≤ PIECE_LEN }
     ensures faults { Counts result (P.fault_count packets.old) (P.fault_count packets.new) }
     ensures received { IsTrue P.tells → P.received packets.new ≡ P.received packets.old }
     ensures sent { IsTrue P.tells → MatchResult result

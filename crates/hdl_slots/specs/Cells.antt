@@ -2,6 +2,7 @@
 use Rattle.std.specs.Prelude.{◌≡◌, ℕ, ◌<◌, List, [], map, length, Option, Some, None, option_map, slice_index, slice_index_or}
 use Rattle.std.specs.Option.{option_and_then}
 use Rattle.slab.specs.Slab.{Slab, get}
+use Rattle.hdl_limits.specs.declared.TheConstants.{LANES, CHALLENGES_MAX}
 use Rattle.hdl_slots.specs.declared.cells.Cell.{Cell}
 use Rattle.hdl_slots.specs.declared.pending.Challenge.{Challenge}
 
@@ -27,6 +28,6 @@ empty_cell lane place = record { lane = lane; place = place; challenge = None }
 
 -- the key of each place finds the cell of that place, so no two places share a cell
 pub record IsTable (slab : Slab Cell) (keys : List (List ℕ)) : Type 0 where
-  pub lanes : length keys ≡ 64
-  pub places : (lane : ℕ) → lane < 64 → length (slice_index_or keys lane []) ≡ 8
-  pub owned : (lane place : ℕ) → lane < 64 → place < 8 → owner slab (key_at keys lane place) ≡ Some (lane, place)
+  pub lanes : length keys ≡ LANES
+  pub places : (lane : ℕ) → lane < LANES → length (slice_index_or keys lane []) ≡ CHALLENGES_MAX
+  pub owned : (lane place : ℕ) → lane < LANES → place < CHALLENGES_MAX → owner slab (key_at keys lane place) ≡ Some (lane, place)

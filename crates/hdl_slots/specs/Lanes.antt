@@ -1,6 +1,7 @@
 -- A lane's pending challenges, and what the calls do to one lane (docs/PROTOCOL.md, "Challenge and response").
 use Rattle.std.specs.Prelude.{◌≡◌, ⊤, ℕ, ◌+◌, ◌-◌, Bool, false, not, ◌&&◌, nat_eq, if◌then◌else◌, List, [], ◌∷◌, ◌++◌, length, drop, filter, find, Option, option_map, slice_index_or}
 use Rattle.std.specs.List.{AllByRecursion}
+use Rattle.hdl_limits.specs.declared.TheConstants.{CHALLENGES_MAX}
 use Rattle.hdl_slots.specs.declared.pending.Pending.{Pending}
 use Rattle.hdl_slots.specs.declared.pending.Challenge.{Challenge}
 
@@ -23,7 +24,7 @@ next_after n = if nat_eq n 4294967295 then 1 else n + 1
 
 -- the newest eight
 abbrev pub last_eight : List Challenge → List Challenge
-last_eight xs = drop (length xs - 8) xs
+last_eight xs = drop (length xs - CHALLENGES_MAX) xs
 
 -- the challenges but those of this number
 abbrev pub without : ℕ → List Challenge → List Challenge

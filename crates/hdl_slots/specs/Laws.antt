@@ -1,5 +1,6 @@
 -- What follows from the definitions of a lane's calls.
 use Rattle.std.specs.Prelude.{◌≡◌, ℕ, ◌≤◌, length, Some, None}
+use Rattle.hdl_limits.specs.declared.TheConstants.{CHALLENGES_MAX}
 use Rattle.hdl_slots.specs.declared.pending.Pending.{Pending}
 use Rattle.hdl_slots.specs.Lanes.{LaneState, challenged, challenge_of, spent}
 
@@ -13,4 +14,4 @@ TakenIsGone = (lane : LaneState) (peer number : ℕ) → challenge_of (spent lan
 
 -- a lane that got a challenge has at most eight
 abbrev pub AtMostEight : Type 0
-AtMostEight = (lane : LaneState) (p : Pending) → length (challenged lane p).challenges ≤ 8
+AtMostEight = (lane : LaneState) (p : Pending) → length (challenged lane p).challenges ≤ CHALLENGES_MAX

@@ -2,6 +2,7 @@
 use Rattle.std.specs.Prelude.{◌≡◌, ℕ, ◌<◌, Bool, true, false, List, [], ◌∷◌, length, Option, Some, None, slice_index_or, slice_set}
 use Rattle.std.specs.List.{filter_map}
 use Rattle.std.specs.Option.{option_map_or}
+use Rattle.hdl_limits.specs.declared.TheConstants.{LANES, CHALLENGES_MAX}
 use Rattle.hdl_slots.specs.declared.pending.Challenge.{Challenge}
 use Rattle.hdl_slots.specs.Lanes.{LaneState, NumbersDiffer}
 
@@ -25,14 +26,14 @@ states (n ∷ ns) (lane ∷ lanes) = record { next = n; challenges = contents la
 
 -- a lane has eight places, and no number twice
 pub record IsLane (places : List (Option Challenge)) : Type 0 where
-  pub eight : length places ≡ 8
+  pub eight : length places ≡ CHALLENGES_MAX
   pub differ : NumbersDiffer (contents places)
 
--- 64 lanes, each with a next number
+-- all lanes, each with a next number
 pub record AreLanes (numbers : List ℕ) (lanes : List (List (Option Challenge))) : Type 0 where
-  pub numbers_len : length numbers ≡ 64
-  pub lanes_len : length lanes ≡ 64
-  pub each : (lane : ℕ) → lane < 64 → IsLane (places_of lanes lane)
+  pub numbers_len : length numbers ≡ LANES
+  pub lanes_len : length lanes ≡ LANES
+  pub each : (lane : ℕ) → lane < LANES → IsLane (places_of lanes lane)
 
 -- a challenge stands in this place, and the test passes at it
 abbrev pub passes : (Challenge → Bool) → Option Challenge → Bool
@@ -48,5 +49,5 @@ IsFirst test places (Some i) =
 -- the lane's challenges are these now, and every other lane is as it was
 pub record Becomes (old new : List (List (Option Challenge))) (lane : ℕ) (challenges : List Challenge) : Type 0 where
   pub others : new ≡ slice_set old lane (places_of new lane)
-  pub eight : length (places_of new lane) ≡ 8
+  pub eight : length (places_of new lane) ≡ CHALLENGES_MAX
   pub lane_is : contents (places_of new lane) ≡ challenges

@@ -4,16 +4,11 @@ ghost use Rattle.std.specs.Prelude.{◌≡◌, ◌<◌, ℕ, length, option_copi
 ghost use Rattle.slab.specs.Slab.{get};
 
 use crate::pending::Challenge;
+use hdl_limits::{CHALLENGES_MAX, LANES};
 use slab::Slab;
 use std::alloc::{AllocError, Global};
 use std::marker::Model;
 use std::mem;
-
-/// How many lanes there are.
-pub const LANES: usize = 64;
-
-/// How many challenges a lane may have pending.
-pub(crate) const PLACES: usize = 8;
 
 /// One slot, which says whose it is: so the cells of two places are never the same.
 #[derive(Drop)]
@@ -27,7 +22,7 @@ struct Cell {
 #[derive(Drop)]
 pub(crate) struct Cells {
     slab: Slab<Cell>,
-    keys: Vec<[usize; PLACES]>,
+    keys: Vec<[usize; CHALLENGES_MAX]>,
 }
 
 impl Model for Cells {
@@ -49,9 +44,9 @@ impl Cells {
 
     /// Empty slots on every lane.
     pub(crate) fn new(alloc: Global) -> Result<Cells, AllocError>
-        ensures { IfOk result (λ cells. cells ≡ replicate LANES (replicate PLACES None)) }
+        ensures { IfOk result (λ cells. cells ≡ replicate LANES (replicate CHALLENGES_MAX None)) }
     {
-        let mut slab = Slab::with_capacity(alloc, LANES * PLACES)?;
+        let mut slab = Slab::with_capacity(alloc, LANES * CHALLENGES_MAX)?;
         let mut keys = Vec::with_capacity(alloc, LANES)?;
         for lane in 0..LANES {
             keys.push(Cells::lane_keys(&mut slab, lane)?)?;
@@ -62,7 +57,7 @@ impl Cells {
     /// What stands in this place of this lane.
     pub(crate) fn at(&self, lane: usize, place: usize) -> Option<&Challenge>
         requires lane { lane < LANES }
-        requires place { place < PLACES }
+        requires place { place < CHALLENGES_MAX }
         ensures { option_copied result ≡ at_place self.now lane place }
     {
         let key = self.keys[lane][place];
@@ -77,7 +72,7 @@ impl Cells {
         challenge: Option<Challenge>,
     ) -> Option<Challenge>
         requires lane { lane < LANES }
-        requires place { place < PLACES }
+        requires place { place < CHALLENGES_MAX }
         ensures was { result ≡ at_place self.old lane place }
         ensures cells { self.new ≡ slice_set self.old lane (slice_set (places_of self.old lane) place challenge) }
     {
@@ -87,13 +82,13 @@ impl Cells {
     }
 
     // Makes a lane's cells, and answers their keys.
-    fn lane_keys(slab: &mut Slab<Cell>, lane: usize) -> Result<[usize; PLACES], AllocError>
-        ensures places { IfOk result (λ keys. length keys ≡ PLACES) }
-        ensures made { IfOk result (λ keys. (place : ℕ) → place < PLACES → get slab.new (slice_index keys place) ≡ Some (empty_cell lane place)) }
+    fn lane_keys(slab: &mut Slab<Cell>, lane: usize) -> Result<[usize; CHALLENGES_MAX], AllocError>
+        ensures places { IfOk result (λ keys. length keys ≡ CHALLENGES_MAX) }
+        ensures made { IfOk result (λ keys. (place : ℕ) → place < CHALLENGES_MAX → get slab.new (slice_index keys place) ≡ Some (empty_cell lane place)) }
         ensures kept { (key : ℕ) (cell : Cell) → get slab.old key ≡ Some cell → get slab.new key ≡ Some cell }
     {
-        let mut keys = [0; PLACES];
-        for place in 0..PLACES {
+        let mut keys = [0; CHALLENGES_MAX];
+        for place in 0..CHALLENGES_MAX {
             keys[place] = slab.insert(Cell {
                 lane,
                 place,

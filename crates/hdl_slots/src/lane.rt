@@ -4,13 +4,14 @@ ghost use Rattle.std.specs.Prelude.{◌≡◌, ◌<◌, ◌++◌, ◌∷◌, [],
 ghost use Rattle.hdl_slots.specs.Lanes.{next_after, last_eight, without, challenge_of, is_of, has_number};
 ghost use Rattle.hdl_slots.specs.Places.{places_of, contents, passes, IsLane, IsFirst, Becomes};
 
-use crate::cells::{Cells, LANES, PLACES};
+use crate::cells::Cells;
 use crate::pending::{Challenge, Pending};
+use hdl_limits::{CHALLENGES_MAX, LANES};
 
 /// What was sent to this peer under this number.
 pub(crate) fn find(cells: &Cells, lane: usize, peer: u16, number: u32) -> Option<&Pending>
     requires lane { lane < LANES }
-    requires places { length (places_of cells.now lane) ≡ PLACES }
+    requires places { length (places_of cells.now lane) ≡ CHALLENGES_MAX }
     ensures { option_copied result ≡ challenge_of (contents (places_of cells.now lane)) peer number }
 {
     let place = place_of(cells, lane, peer, number)?;
@@ -45,11 +46,11 @@ pub(crate) fn forget(cells: &mut Cells, lane: usize, number: u32)
 /// where none is empty, the oldest is dropped.
 pub(crate) fn push(cells: &mut Cells, lane: usize, challenge: Challenge)
     requires lane { lane < LANES }
-    requires places { length (places_of cells.old lane) ≡ PLACES }
+    requires places { length (places_of cells.old lane) ≡ CHALLENGES_MAX }
     ensures { Becomes cells.old cells.new lane (last_eight (contents (places_of cells.old lane) ++ (challenge ∷ []))) }
 {
     let mut moved = Some(challenge);
-    let mut place = PLACES;
+    let mut place = CHALLENGES_MAX;
     while place > 0 && moved.is_some() {
         place -= 1;
         moved = cells.replace(lane, place, moved);
@@ -59,10 +60,10 @@ pub(crate) fn push(cells: &mut Cells, lane: usize, challenge: Challenge)
 /// Drops all challenges.
 pub(crate) fn clear(cells: &mut Cells, lane: usize)
     requires lane { lane < LANES }
-    requires places { length (places_of cells.old lane) ≡ PLACES }
+    requires places { length (places_of cells.old lane) ≡ CHALLENGES_MAX }
     ensures { Becomes cells.old cells.new lane [] }
 {
-    for place in 0..PLACES {
+    for place in 0..CHALLENGES_MAX {
         cells.replace(lane, place, None);
     }
 }
@@ -77,10 +78,10 @@ pub(crate) fn next_after(number: u32) -> u32
 // The place of the challenge of this peer under this number.
 fn place_of(cells: &Cells, lane: usize, peer: u16, number: u32) -> Option<usize>
     requires lane { lane < LANES }
-    requires places { length (places_of cells.now lane) ≡ PLACES }
+    requires places { length (places_of cells.now lane) ≡ CHALLENGES_MAX }
     ensures { IsFirst (is_of peer number) (places_of cells.now lane) result }
 {
-    for place in 0..PLACES {
+    for place in 0..CHALLENGES_MAX {
         if is_of(cells.at(lane, place), peer, number) {
             return Some(place);
         }
@@ -91,10 +92,10 @@ fn place_of(cells: &Cells, lane: usize, peer: u16, number: u32) -> Option<usize>
 // The place of the challenge of this number.
 fn place_of_number(cells: &Cells, lane: usize, number: u32) -> Option<usize>
     requires lane { lane < LANES }
-    requires places { length (places_of cells.now lane) ≡ PLACES }
+    requires places { length (places_of cells.now lane) ≡ CHALLENGES_MAX }
     ensures { IsFirst (has_number number) (places_of cells.now lane) result }
 {
-    for place in 0..PLACES {
+    for place in 0..CHALLENGES_MAX {
         if has_number(cells.at(lane, place), number) {
             return Some(place);
         }

@@ -17,7 +17,6 @@ mod laws;
 mod pending;
 mod slots;
 
-pub use cells::LANES;
 pub use hdl_auth::algorithm::Digest;
 pub use hdl_name::Octets;
 pub use laws::{at_most_eight, put_is_found, taken_is_gone};

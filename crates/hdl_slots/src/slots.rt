@@ -3,9 +3,10 @@
 ghost use Rattle.std.specs.Prelude.{◌≡◌, ◌<◌, option_copied, replicate, slice_set, IfOk};
 ghost use Rattle.hdl_slots.specs.Lanes.{fresh, lane_at, challenged, challenge_of, spent};
 
-use crate::cells::{Cells, LANES};
+use crate::cells::Cells;
 use crate::lane;
 use crate::pending::{Challenge, Pending};
+use hdl_limits::LANES;
 use std::alloc::{AllocError, Global};
 use std::marker::Model;
 

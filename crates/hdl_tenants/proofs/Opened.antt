@@ -4,7 +4,8 @@ use Rattle.hdl_name.specs.Name.{IsHandle, canonical, prefix}
 use Rattle.hdl_value.specs.declared.value.Value.{Value}
 use Rattle.hdl_tenants.specs.declared.fault.TenantFault.{TenantFault}
 use Rattle.hdl_tenants.specs.declared.fault.TenantFault.TheVariants.{BadLine, TwicePrefix, TwicePublisher, TooMany, Memory}
-use Rattle.hdl_tenants.specs.Register.{Register, prefixes_of, place, value_count, most_values}
+use Rattle.hdl_limits.specs.declared.TheConstants.{VALUES_MAX}
+use Rattle.hdl_tenants.specs.Register.{Register, prefixes_of, place, value_count}
 use Rattle.hdl_tenants.specs.Lines.{IsValueText}
 use Rattle.hdl_tenants.specs.Text.{IsKnownRow}
 use Rattle.hdl_tenants.specs.Taken.{count_at}
@@ -32,7 +33,7 @@ module _ (r : Register) (handle digits : List ℕ) (v : Value) (name canon : Lis
   from_place TwicePublisher f text = absurd f
   from_place TooMany f text = absurd f
 
-  pub known_row : (before : List ℕ) → before ≡ prefix name → Contains (prefixes_of r.hostings) before → (Contains (map place r.opening) (record { handle = canon; index = v.index }) → ⊥) → count_at canon (map place r.opening) < most_values → IsKnownRow r (handle, v)
+  pub known_row : (before : List ℕ) → before ≡ prefix name → Contains (prefixes_of r.hostings) before → (Contains (map place r.opening) (record { handle = canon; index = v.index }) → ⊥) → count_at canon (map place r.opening) < VALUES_MAX → IsKnownRow r (handle, v)
   known_row before is there new room = record {
     hosted = subst (λ p. Contains (prefixes_of r.hostings) p) (is ∙ ap prefix same) there;
     once = λ old. new (subst (λ (h : List ℕ). Contains (map place r.opening) (record { handle = h; index = v.index })) (sym canon_of) old);

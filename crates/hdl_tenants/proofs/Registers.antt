@@ -11,7 +11,8 @@ use Rattle.hdl_value.specs.declared.value.Value.{Value}
 use Rattle.hdl_value.specs.Spelling.{Fits}
 use Rattle.hdl_value.specs.Fault.{IsSound}
 use Rattle.hdl_value.proofs.Whole.{can_be_spelt}
-use Rattle.hdl_tenants.specs.Register.{Publisher, Hosting, Row, Register, empty, names_of, prefixes_of, given, place, value_count, most_values, IsPublisher, IsPrefix, IsHosting, IsOpening, IsRegister}
+use Rattle.hdl_limits.specs.declared.TheConstants.{VALUES_MAX}
+use Rattle.hdl_tenants.specs.Register.{Publisher, Hosting, Row, Register, empty, names_of, prefixes_of, given, place, value_count, IsPublisher, IsPrefix, IsHosting, IsOpening, IsRegister}
 use Rattle.hdl_tenants.specs.Text.{Line, skipped, publisher, hosted, opened, IsLine, place_of, added, IsKnownRow, IsAllowed, Adds, AddsAll}
 use Rattle.hdl_tenants.proofs.Distinct.{distinct_push, given_hosts}
 
@@ -73,10 +74,10 @@ opened_added r handle v is named sound fits known =
       few = λ h. rw (sum_by-append (λ (x : Row). cond (bytes_eq (canonical x.0) h) 1 0) r.opening (row ∷ [])) (one_more h (bytes_eq (canonical handle) h) refl);
     }
   where
-    one_more : (h : List ℕ) (b : Bool) → bytes_eq (canonical handle) h ≡ b → value_count h r.opening + sum_by (λ (x : Row). cond (bytes_eq (canonical x.0) h) 1 0) ((handle, v) ∷ []) ≤ most_values
+    one_more : (h : List ℕ) (b : Bool) → bytes_eq (canonical handle) h ≡ b → value_count h r.opening + sum_by (λ (x : Row). cond (bytes_eq (canonical x.0) h) 1 0) ((handle, v) ∷ []) ≤ VALUES_MAX
     one_more h true t =
         let same : canonical handle ≡ h = (bytes_eq-Decides (canonical handle) h).0 t in
-        let room : value_count h r.opening < most_values = subst (λ x. value_count x r.opening < most_values) same known.room in
+        let room : value_count h r.opening < VALUES_MAX = subst (λ x. value_count x r.opening < VALUES_MAX) same known.room in
         rw t (omega arith)
     one_more h false t = rw t (omega (arith, is.few h))
 

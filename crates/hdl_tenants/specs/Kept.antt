@@ -8,7 +8,8 @@ use Rattle.hdl_tenants.specs.declared.lines.PublisherLine.{PublisherLine}
 use Rattle.hdl_tenants.specs.declared.prefixes.Host.{Host}
 use Rattle.hdl_tenants.specs.declared.prefixes.HostedPrefix.{HostedPrefix}
 use Rattle.hdl_tenants.specs.declared.publishers.Shape.{Shape}
-use Rattle.hdl_tenants.specs.Register.{Publisher, Hosting, lane_count, most_lanes}
+use Rattle.hdl_limits.specs.declared.TheConstants.{LANES}
+use Rattle.hdl_tenants.specs.Register.{Publisher, Hosting, lane_count}
 
 -- the publisher that a line names
 abbrev pub publisher_on : PublisherLine → Publisher
@@ -46,4 +47,4 @@ hostings_in hosted = map hosting_in hosted
 -- how many lanes there are together, and that they are few
 pub record KeepsLanes (publishers : List Publisher) (lanes : ℕ) : Type 0 where
   pub total : lanes ≡ lane_count publishers
-  pub few : lanes ≤ most_lanes
+  pub few : lanes ≤ LANES

@@ -4,6 +4,7 @@ use Rattle.std.specs.List.{AllPass, list_any}
 use Rattle.std.specs.Option.{option_map, option_map_or}
 use Rattle.std.specs.Char.{is_ascii_digit, is_ascii_lowercase}
 use Rattle.std.specs.Str.{bytes_eq, str_to_ascii_lowercase}
+use Rattle.hdl_limits.specs.declared.TheConstants.{LANES, VALUES_MAX, PUBLISHER_NAME_MAX}
 use Rattle.hdl_auth.specs.declared.algorithm.Algorithm.{Algorithm}
 use Rattle.hdl_auth.specs.declared.algorithm.Algorithm.TheVariants.{Sha1}
 use Rattle.hdl_name.specs.Name.{IsHandle, IsAuthority, canonical, prefix}
@@ -39,10 +40,6 @@ abbrev pub empty : Register
 empty = record { publishers = []; hostings = []; opening = [] }
 
 -- ---- what callers ask
-
--- the most lanes of all publishers together
-abbrev pub most_lanes : ℕ
-most_lanes = 64
 
 -- how many lanes there are in all
 abbrev pub lane_count : List Publisher → ℕ
@@ -99,10 +96,6 @@ place row = record { handle = canonical row.0; index = row.1.index }
 abbrev pub value_count : List ℕ → List Row → ℕ
 value_count handle rows = count_by (λ row. bytes_eq (canonical row.0) handle) rows
 
--- the most values of a handle to open with
-abbrev pub most_values : ℕ
-most_values = 1024
-
 -- no element stands twice
 abbrev pub AreDistinct : {A : Type 0} → List A → Type 0
 AreDistinct {A} xs = AllPairs (λ (x y : A). x ≢ y) xs
@@ -111,16 +104,16 @@ AreDistinct {A} xs = AllPairs (λ (x y : A). x ≢ y) xs
 abbrev pub is_name_octet : ℕ → Bool
 is_name_octet octet = is_ascii_lowercase octet || is_ascii_digit octet || octet == 45
 
--- 1 to 32 of these
+-- one or more of these, and not too many
 pub record IsPublisherName (name : List ℕ) : Type 0 where
   pub some : 0 < length name
-  pub few : length name ≤ 32
+  pub few : length name ≤ PUBLISHER_NAME_MAX
   pub octets : AllPass is_name_octet name
 
 -- a publisher with a name, 2 to 64 lanes, and a port other than 0
 pub record IsPublisher (p : Publisher) : Type 0 where
   pub named : IsPublisherName p.name
-  pub lanes : (2 ≤ p.lanes) × (p.lanes ≤ most_lanes)
+  pub lanes : (2 ≤ p.lanes) × (p.lanes ≤ LANES)
   pub port : (1 ≤ p.port) × (p.port < 2 ^ 16)
 
 -- the prefix of the administrative handles
@@ -150,9 +143,9 @@ pub record IsOpening (hostings : List Hosting) (row : Row) : Type 0 where
 pub record IsRegister (r : Register) : Type 0 where
   pub publishers : All IsPublisher r.publishers
   pub names : AreDistinct (names_of r.publishers)
-  pub lanes : lane_count r.publishers ≤ most_lanes
+  pub lanes : lane_count r.publishers ≤ LANES
   pub hostings : All (IsHosting r.publishers) r.hostings
   pub once : AreDistinct (map given r.hostings)
   pub opening : All (IsOpening r.hostings) r.opening
   pub places : AreDistinct (map place r.opening)
-  pub few : (handle : List ℕ) → value_count handle r.opening ≤ most_values
+  pub few : (handle : List ℕ) → value_count handle r.opening ≤ VALUES_MAX

@@ -4,7 +4,8 @@ use Rattle.hdl_name.specs.Name.{IsHandle}
 use Rattle.hdl_value.specs.declared.value.Value.{Value}
 use Rattle.hdl_tenants.specs.declared.fault.TenantFault.{TenantFault}
 use Rattle.hdl_tenants.specs.declared.fault.TenantFault.TheVariants.{BadLine, TwicePrefix, TwicePublisher, TooMany, Memory}
-use Rattle.hdl_tenants.specs.Register.{Publisher, Hosting, Register, names_of, hosts_among, lane_count, most_lanes, most_values}
+use Rattle.hdl_limits.specs.declared.TheConstants.{LANES, VALUES_MAX}
+use Rattle.hdl_tenants.specs.Register.{Publisher, Hosting, Register, names_of, hosts_among, lane_count}
 use Rattle.hdl_tenants.specs.Taken.{count_at}
 use Rattle.hdl_value.specs.Place.{Place}
 use Rattle.hdl_tenants.specs.Lines.{IsValueText}
@@ -13,7 +14,7 @@ use Rattle.hdl_tenants.specs.Text.{opened, added, hosts_named, IsKnownRow}
 -- a publisher whose name is there, or for which no lanes are left
 abbrev pub IsPublisherFault : List Publisher → Publisher → TenantFault → Type 0
 IsPublisherFault publishers p TwicePublisher = Contains (names_of publishers) p.name
-IsPublisherFault publishers p TooMany = ¬ (Contains (names_of publishers) p.name) × (most_lanes < lane_count publishers + p.lanes)
+IsPublisherFault publishers p TooMany = ¬ (Contains (names_of publishers) p.name) × (LANES < lane_count publishers + p.lanes)
 IsPublisherFault publishers p Memory = ⊤
 IsPublisherFault publishers p BadLine = ⊥
 IsPublisherFault publishers p TwicePrefix = ⊥
@@ -64,7 +65,7 @@ Opens before handle digits after = (v : Value) × IsHandle handle × IsValueText
 
 -- a place that is there, or one of a handle that has as many as it may
 abbrev pub IsPlaceFault : List Place → Place → TenantFault → Type 0
-IsPlaceFault places p BadLine = Contains places p ⊎ (most_values ≤ count_at p.handle places)
+IsPlaceFault places p BadLine = Contains places p ⊎ (VALUES_MAX ≤ count_at p.handle places)
 IsPlaceFault places p Memory = ⊤
 IsPlaceFault places p TwicePrefix = ⊥
 IsPlaceFault places p TwicePublisher = ⊥

@@ -7,7 +7,8 @@ use Rattle.hdl_name.specs.Name.{canonical, prefix}
 use Rattle.hdl_value.specs.declared.value.Value.{Value}
 use Rattle.hdl_tenants.specs.declared.fault.TenantFault.{TenantFault}
 use Rattle.hdl_tenants.specs.declared.fault.TenantFault.TheVariants.{BadLine, TwicePrefix, TwicePublisher, TooMany, Memory}
-use Rattle.hdl_tenants.specs.Register.{Publisher, Register, Row, empty, names_of, prefixes_of, hosts, lane_count, most_lanes, place, value_count, most_values}
+use Rattle.hdl_limits.specs.declared.TheConstants.{LANES, VALUES_MAX}
+use Rattle.hdl_tenants.specs.Register.{Publisher, Register, Row, empty, names_of, prefixes_of, hosts, lane_count, place, value_count}
 use Rattle.hdl_tenants.specs.Lines.{fields_of, IsPublisherLine, IsPrefixLine, IsValueLine}
 
 -- what one line says
@@ -47,7 +48,7 @@ added r (opened handle v) = record r { opening = r.opening ++ (handle, v) ∷ []
 pub record IsKnownRow (r : Register) (row : Row) : Type 0 where
   pub hosted : Contains (prefixes_of r.hostings) (prefix row.0)
   pub once : ¬ (Contains (map place r.opening) (place row))
-  pub room : value_count (canonical row.0) r.opening < most_values
+  pub room : value_count (canonical row.0) r.opening < VALUES_MAX
 
 -- a line names nothing that does not stand before it, and no value twice or too many
 abbrev pub IsKnown : Register → Line → Type 0
@@ -59,7 +60,7 @@ IsKnown r (opened handle v) = IsKnownRow r (handle, v)
 -- nothing is wrong with a line that says this
 abbrev pub IsAllowed : Register → Line → Type 0
 IsAllowed r skipped = ⊤
-IsAllowed r (publisher p) = ¬ (Contains (names_of r.publishers) p.name) × (lane_count r.publishers + p.lanes ≤ most_lanes)
+IsAllowed r (publisher p) = ¬ (Contains (names_of r.publishers) p.name) × (lane_count r.publishers + p.lanes ≤ LANES)
 IsAllowed r (hosted prefix name a) = Contains (names_of r.publishers) name × IsFalse (hosts_named r prefix name)
 IsAllowed r (opened handle v) = IsKnownRow r (handle, v)
 
@@ -68,7 +69,7 @@ abbrev pub HasFault : Register → List ℕ → TenantFault → Type 0
 HasFault r text BadLine = (line : Line) → IsLine text line → ¬ (IsKnown r line)
 HasFault r text TwicePrefix = (prefix : List ℕ) × (name : List ℕ) × (a : Algorithm) × IsLine text (hosted prefix name a) × Contains (names_of r.publishers) name × IsTrue (hosts_named r prefix name)
 HasFault r text TwicePublisher = (p : Publisher) × IsLine text (publisher p) × Contains (names_of r.publishers) p.name
-HasFault r text TooMany = (p : Publisher) × IsLine text (publisher p) × ¬ (Contains (names_of r.publishers) p.name) × (most_lanes < lane_count r.publishers + p.lanes)
+HasFault r text TooMany = (p : Publisher) × IsLine text (publisher p) × ¬ (Contains (names_of r.publishers) p.name) × (LANES < lane_count r.publishers + p.lanes)
 HasFault r text Memory = ¬ (IsSkipped text)
 
 -- the line says something that is allowed, and takes one register to the other

@@ -28,5 +28,5 @@ pub use laws::{
     accepted_has_no_fault, hashed_as_given, hosted_as_given, lanes_by_range, one_first_fault,
     one_register, opening_is_hosted, root_is_nobodys,
 };
-pub use numerals::{decimal, decimal_u16};
+pub use numerals::{decimal, decimal_u16, decimal_u32};
 pub use text::Tenants;

@@ -15,15 +15,11 @@ ghost use Rattle.hdl_tenants.specs.Steps.{IsNameFault, IsDigitsFault};
 use crate::fault::TenantFault;
 use crate::numerals::decimal_u16;
 use hdl_auth::algorithm::Algorithm;
+use hdl_limits::{LANES, PUBLISHER_NAME_MAX};
 use hdl_name::{Name, is_authority, is_name};
 use hdl_value::{Value, ValueFault, read_value};
 use hex::FromHexError;
 use std::alloc::{AllocError, Global};
-
-/// The most lanes of a publisher, and of all publishers together.
-pub const MOST_LANES: u16 = 64;
-
-const MOST_NAME_OCTETS: usize = 32;
 
 /// A publisher as its line names it: its name, how many lanes it has, and its port.
 #[derive(Clone, Copy, Debug)]
@@ -53,7 +49,7 @@ fn is_publisher_name(name: &str) -> bool
     ensures { IsTrue result ↔ IsPublisherName name.now }
 {
     !name.is_empty()
-        && name.len() <= MOST_NAME_OCTETS
+        && name.len() <= PUBLISHER_NAME_MAX
         && name.as_bytes().iter().all(|octet| octet.is_ascii_lowercase()
             || octet.is_ascii_digit()
             || *octet == b'-')
@@ -88,7 +84,7 @@ pub fn publisher_of<'a>(fields: &[&'a str]) -> Option<PublisherLine<'a>>
     }
     let lanes = decimal_u16(lanes)?;
     let port = decimal_u16(port)?;
-    if lanes < 2 || lanes > MOST_LANES || port == 0 {
+    if lanes < 2 || lanes as usize > LANES || port == 0 {
         return None;
     }
     Some(PublisherLine { name, lanes, port })

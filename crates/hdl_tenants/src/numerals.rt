@@ -20,3 +20,10 @@ pub fn decimal_u16(digits: &str) -> Option<u16>
 {
     u16::try_from(decimal(digits)?).ok()
 }
+
+/// The same for a number of 32 bits.
+pub fn decimal_u32(digits: &str) -> Option<u32>
+    ensures { SomeIff result (IsNumeral 10 digits.now × (digits_value 10 digits.now < 2 ^ 32)) (digits_value 10 digits.now) }
+{
+    u32::try_from(decimal(digits)?).ok()
+}

@@ -1,13 +1,14 @@
 //! The publishers of a tenants text, in its order.
 
 ghost use Rattle.std.specs.Prelude.{◌≡◌, ◌+◌, ◌<◌, ◌≤◌, [], ◌∷◌, ◌++◌, length, Contains, IfErr, IfSome, IfNone, MatchOption, OnOk, OnErr, slice_get};
-ghost use Rattle.hdl_tenants.specs.Register.{names_of, lane_count, owner_among, first_lane, most_lanes};
+ghost use Rattle.hdl_tenants.specs.Register.{names_of, lane_count, owner_among, first_lane};
 ghost use Rattle.hdl_tenants.specs.Steps.{IsPublisherFault};
 ghost use Rattle.hdl_tenants.specs.Text.{place_of};
 ghost use Rattle.hdl_tenants.specs.Kept.{publisher_on};
 
 use crate::fault::TenantFault;
-use crate::lines::{MOST_LANES, PublisherLine};
+use crate::lines::PublisherLine;
+use hdl_limits::LANES;
 use indexmap::IndexMap;
 use std::alloc::Global;
 use std::marker::Model;
@@ -53,14 +54,14 @@ impl Publishers {
     pub fn add(&mut self, alloc: Global, line: &PublisherLine<'_>) -> Result<(), TenantFault>
         ensures ok { OnOk result (self.new ≡ self.old ++ publisher_on line.now ∷ []) }
         ensures absent { OnOk result (¬ (Contains (names_of self.old) line.now.name.now)) }
-        ensures room { OnOk result (lane_count self.old + line.now.lanes ≤ most_lanes) }
+        ensures room { OnOk result (lane_count self.old + line.now.lanes ≤ LANES) }
         ensures fault { IfErr result (λ e. IsPublisherFault self.old (publisher_on line.now) e) }
         ensures unchanged { OnErr result (self.new ≡ self.old) }
     {
         if self.by_name.contains_key(line.name) {
             return Err(TenantFault::TwicePublisher);
         }
-        if line.lanes > MOST_LANES - self.lanes {
+        if line.lanes as usize > LANES - self.lanes as usize {
             return Err(TenantFault::TooMany);
         }
         let shape = Shape {

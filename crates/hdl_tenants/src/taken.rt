@@ -4,15 +4,12 @@ ghost use Rattle.std.specs.Prelude.{◌≡◌, unwrap_or, ◌++◌, ◌∷◌, [
 ghost use Rattle.std.specs.Map.{lookup};
 ghost use Rattle.std.specs.Str.{bytes_eq};
 ghost use Rattle.hdl_value.specs.Place.{Place};
-ghost use Rattle.hdl_tenants.specs.Register.{most_values};
 ghost use Rattle.hdl_tenants.specs.Steps.{IsPlaceFault};
 
 use crate::fault::TenantFault;
+use hdl_limits::VALUES_MAX;
 use indexmap::{IndexMap, IndexSet};
 use std::alloc::Global;
-
-/// The most values of a handle.
-const MOST_VALUES: usize = 1024;
 
 /// A canonical handle and the index of a value of it.
 #[derive(PartialEq, Eq, Hash, Drop)]
@@ -56,11 +53,11 @@ impl TakenPlaces {
     pub fn add(&mut self, alloc: Global, handle: &[u8], index: u32) -> Result<(), TenantFault>
         ensures ok { (places : List Place) → Indexes self.old places → OnOk result (Indexes self.new (places ++ record { handle = handle.now; index = index } ∷ [])) }
         ensures once { (places : List Place) → Indexes self.old places → OnOk result (¬ (Contains places (record { handle = handle.now; index = index }))) }
-        ensures room { (places : List Place) → Indexes self.old places → OnOk result (count_at handle.now places < most_values) }
+        ensures room { (places : List Place) → Indexes self.old places → OnOk result (count_at handle.now places < VALUES_MAX) }
         ensures fault { (places : List Place) → Indexes self.old places → IfErr result (λ e. IsPlaceFault places (record { handle = handle.now; index = index }) e) }
     {
         let count = self.count(handle);
-        if count >= MOST_VALUES {
+        if count >= VALUES_MAX {
             return Err(TenantFault::BadLine);
         }
         let Ok(octets) = Vec::from_slice(alloc, handle) else {

@@ -3,7 +3,8 @@
 ghost use Rattle.std.specs.Prelude.{◌<◌};
 
 use hdl_frame::{Envelope, one_datagram};
-use hdl_pool::{LANES, Pool, Taken};
+use hdl_limits::LANES;
+use hdl_pool::{Pool, Taken};
 use std::alloc::{AllocError, Global};
 use std::test::Fail;
 

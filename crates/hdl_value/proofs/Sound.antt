@@ -10,7 +10,8 @@ use Rattle.hdl_value.specs.declared.fault.ValueFault.{ValueFault}
 use Rattle.hdl_value.specs.declared.fault.ValueFault.TheVariants.{Short, IndexZero, TypeLong, DataLong, RefsMany, BadAdmin, BadList, Memory}
 use Rattle.hdl_value.specs.Spelling.{Fits}
 use Rattle.hdl_value.specs.Data.{admin_kind, list_kind, HasAdminData, HasListData}
-use Rattle.hdl_value.specs.Fault.{most_kind_octets, most_octets, most_references, IsInLimits, IsSound, IsFirstFault}
+use Rattle.hdl_limits.specs.declared.TheConstants.{TYPE_MAX, DATA_MAX, REFERENCES_MAX}
+use Rattle.hdl_value.specs.Fault.{IsInLimits, IsSound, IsFirstFault}
 use Rattle.hdl_value.specs.Refs.{is_admin, is_list, admin_in, list_in}
 use Rattle.hdl_value.specs.Tests.{is_in_limits, has_good_data, is_sound}
 use Rattle.hdl_value.proofs.DataRead.{admin_in_is, admin_in_again, list_in_is, list_in_again}
@@ -19,9 +20,9 @@ limits_decide : (v : Value) → Decides (is_in_limits v) (IsInLimits v)
 limits_decide v =
     let all = Decides-and _ _ (Decides-and _ _ (Decides-and _ _
     (let d : Decides (ltb 0 v.index) (0 < v.index) = (ltb-true _ _, lt-ltb _ _) in d)
-    (let d : Decides (leb (length v.kind) most_kind_octets) (length v.kind ≤ most_kind_octets) = (leb-true _ _, le-leb _ _) in d))
-    (let d : Decides (leb (length v.bytes) most_octets) (length v.bytes ≤ most_octets) = (leb-true _ _, le-leb _ _) in d))
-    (let d : Decides (leb (length v.refs) most_references) (length v.refs ≤ most_references) = (leb-true _ _, le-leb _ _) in d) in (
+    (let d : Decides (leb (length v.kind) TYPE_MAX) (length v.kind ≤ TYPE_MAX) = (leb-true _ _, le-leb _ _) in d))
+    (let d : Decides (leb (length v.bytes) DATA_MAX) (length v.bytes ≤ DATA_MAX) = (leb-true _ _, le-leb _ _) in d))
+    (let d : Decides (leb (length v.refs) REFERENCES_MAX) (length v.refs ≤ REFERENCES_MAX) = (leb-true _ _, le-leb _ _) in d) in (
       λ e. let h = all.0 e in record { index = h.0.0.0; kind = h.0.0.1; bytes = h.0.1; refs = h.1 },
       λ h. all.1 (((h.index, h.kind), h.bytes), h.refs),
     )

@@ -10,6 +10,7 @@ ghost use Rattle.hdl_value.specs.Tests.{is_sound};
 
 use crate::fault::ValueFault;
 use crate::fields::{octet_at, string_at, u32_at, u64_at};
+use crate::kinds::HS_ADMIN;
 use crate::read::{check, copied};
 use crate::references::{RawReferences, references_at};
 use crate::value::Value;
@@ -113,7 +114,7 @@ impl<'a> CutValue<'a> {
     pub fn is_admin(&self) -> bool
         ensures { result ≡ is_admin self.now }
     {
-        self.fields.kind == b"HS_ADMIN".as_slice()
+        self.fields.kind == HS_ADMIN
     }
 
     /// Whether it keeps the limits and its data is good, or its first fault otherwise. It takes no memory, and never answers

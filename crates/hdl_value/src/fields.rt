@@ -5,30 +5,31 @@ ghost use Rattle.std.specs.Int.{w16, w32, w64, to_be_bytes};
 ghost use Rattle.hdl_value.specs.Spelling.{string};
 ghost use Rattle.hdl_value.specs.Reading.{Reads, number_at, octets_at, octet_at, string_at};
 
+use byteorder::{BigEndian, ByteOrder};
 use std::alloc::AllocError;
 
 /// The number in the first two octets, and what follows. None where there are fewer.
 pub fn u16_at(octets: &[u8]) -> Option<(u16, &[u8])>
     ensures { Reads (λ x. (x.0, x.1.now)) result (number_at w16 octets.now) }
 {
-    let (front, rest) = octets.split_first_chunk::<2>()?;
-    Some((u16::from_be_bytes(*front), rest))
+    let (front, rest) = octets.split_at_checked(2)?;
+    Some((BigEndian::read_u16(front), rest))
 }
 
 /// The number in the first four octets, and what follows. None where there are fewer.
 pub fn u32_at(octets: &[u8]) -> Option<(u32, &[u8])>
     ensures { Reads (λ x. (x.0, x.1.now)) result (number_at w32 octets.now) }
 {
-    let (front, rest) = octets.split_first_chunk::<4>()?;
-    Some((u32::from_be_bytes(*front), rest))
+    let (front, rest) = octets.split_at_checked(4)?;
+    Some((BigEndian::read_u32(front), rest))
 }
 
 /// The number in the first eight octets, and what follows.
 pub(crate) fn u64_at(octets: &[u8]) -> Option<(u64, &[u8])>
     ensures { Reads (λ x. (x.0, x.1.now)) result (number_at w64 octets.now) }
 {
-    let (front, rest) = octets.split_first_chunk::<8>()?;
-    Some((u64::from_be_bytes(*front), rest))
+    let (front, rest) = octets.split_at_checked(8)?;
+    Some((BigEndian::read_u64(front), rest))
 }
 
 fn octets_at(octets: &[u8], count: u32) -> Option<(&[u8], &[u8])>
@@ -58,20 +59,26 @@ pub fn string_at(octets: &[u8]) -> Option<(&[u8], &[u8])>
 pub fn put_u16(out: &mut Vec<u8>, number: u16) -> Result<(), AllocError>
     ensures { OnOk result (out.new.items ≡ out.old.items ++ to_be_bytes w16 number) }
 {
-    out.extend_from_slice(&number.to_be_bytes())
+    let mut octets = [0; 2];
+    BigEndian::write_u16(&mut octets, number);
+    out.extend_from_slice(&octets)
 }
 
 /// Puts the four octets of the number at the end.
 pub fn put_u32(out: &mut Vec<u8>, number: u32) -> Result<(), AllocError>
     ensures { OnOk result (out.new.items ≡ out.old.items ++ to_be_bytes w32 number) }
 {
-    out.extend_from_slice(&number.to_be_bytes())
+    let mut octets = [0; 4];
+    BigEndian::write_u32(&mut octets, number);
+    out.extend_from_slice(&octets)
 }
 
 pub(crate) fn put_u64(out: &mut Vec<u8>, number: u64) -> Result<(), AllocError>
     ensures { OnOk result (out.new.items ≡ out.old.items ++ to_be_bytes w64 number) }
 {
-    out.extend_from_slice(&number.to_be_bytes())
+    let mut octets = [0; 8];
+    BigEndian::write_u64(&mut octets, number);
+    out.extend_from_slice(&octets)
 }
 
 /// Puts the string at the end: its length in four octets, and its octets. After a refusal the length may stand there.

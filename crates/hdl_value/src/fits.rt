@@ -5,7 +5,8 @@
 
 ghost use Rattle.std.specs.Prelude.{◌≡◌, ◌<◌, ◌^◌, length};
 ghost use Rattle.std.specs.List.{AllByRecursion};
-ghost use Rattle.hdl_value.specs.Spelling.{AreOctets, IsString, RefFits, CanBeSpelt, Fits};
+ghost use Rattle.hdl_limits.specs.Octets.{AreOctets};
+ghost use Rattle.hdl_value.specs.Spelling.{IsString, RefFits, CanBeSpelt, Fits};
 
 use crate::references::RawRef;
 use crate::value::Value;

@@ -8,16 +8,12 @@ ghost use Rattle.hdl_value.specs.Fault.{Begins, IsSound, IsFirstFault, IsFaultOf
 use crate::cut::{RawValue, cut_value};
 use crate::data::{is_admin_data, is_list_data};
 use crate::fault::ValueFault;
+use crate::kinds::{HS_ADMIN, HS_VLIST};
 use crate::references::{RawRefs, copied_references};
 use crate::value::Value;
+use hdl_limits::{DATA_MAX, REFERENCES_MAX, TYPE_MAX};
 use hdl_name::Octets;
 use std::alloc::{AllocError, Global};
-
-const MOST_KIND_OCTETS: usize = 255;
-
-const MOST_OCTETS: usize = 32_768;
-
-const MOST_REFERENCES: u32 = 64;
 
 /// The first fault of a value that was cut by layout. It takes no memory.
 pub(crate) fn check(raw: &RawValue<'_>) -> Result<(), ValueFault>
@@ -27,19 +23,19 @@ pub(crate) fn check(raw: &RawValue<'_>) -> Result<(), ValueFault>
     if raw.index == 0 {
         return Err(ValueFault::IndexZero);
     }
-    if raw.kind.len() > MOST_KIND_OCTETS {
+    if raw.kind.len() > TYPE_MAX {
         return Err(ValueFault::TypeLong);
     }
-    if raw.bytes.len() > MOST_OCTETS {
+    if raw.bytes.len() > DATA_MAX {
         return Err(ValueFault::DataLong);
     }
-    if raw.refs.count > MOST_REFERENCES {
+    if raw.refs.count > REFERENCES_MAX {
         return Err(ValueFault::RefsMany);
     }
-    if raw.kind == b"HS_ADMIN".as_slice() && !is_admin_data(raw.bytes) {
+    if raw.kind == HS_ADMIN && !is_admin_data(raw.bytes) {
         return Err(ValueFault::BadAdmin);
     }
-    if raw.kind == b"HS_VLIST".as_slice() && !is_list_data(raw.bytes) {
+    if raw.kind == HS_VLIST && !is_list_data(raw.bytes) {
         return Err(ValueFault::BadList);
     }
     Ok(())

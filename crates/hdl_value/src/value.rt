@@ -2,6 +2,7 @@
 
 ghost use Rattle.std.specs.Prelude.{◌≡◌, IfOk};
 
+use crate::kinds::{HS_ADMIN, HS_SECKEY, HS_VLIST};
 use crate::permission::{Class, Permission};
 use crate::references::{RawRef, RawRefs};
 use hdl_name::Octets;
@@ -57,21 +58,21 @@ impl Value {
     pub fn is_admin(&self) -> bool
         ensures { result ≡ is_admin self.now }
     {
-        self.kind.as_slice() == b"HS_ADMIN".as_slice()
+        self.kind.as_slice() == HS_ADMIN
     }
 
     /// Whether its type is HS_VLIST.
     pub fn is_list(&self) -> bool
         ensures { result ≡ is_list self.now }
     {
-        self.kind.as_slice() == b"HS_VLIST".as_slice()
+        self.kind.as_slice() == HS_VLIST
     }
 
     /// Whether its type is HS_SECKEY.
     pub fn is_secret_key(&self) -> bool
         ensures { result ≡ is_secret_key self.now }
     {
-        self.kind.as_slice() == b"HS_SECKEY".as_slice()
+        self.kind.as_slice() == HS_SECKEY
     }
 
     /// An equal value, in memory of its own.

@@ -104,11 +104,11 @@ pub fn push_request(
         envelope.request, envelope.session
     )?;
     page.push(&line)?;
-    if request.header.has(OpFlag::PublicOnly) {
+    if request.header().has(OpFlag::PublicOnly) {
         page.push(";; of what anybody may read alone")?;
     }
-    if request.header.has(OpFlag::ReturnDigest) {
+    if request.header().has(OpFlag::ReturnDigest) {
         page.push(";; with the request's digest in the reply")?;
     }
-    push_body(page, &request.body)
+    push_body(page, request.body())
 }

@@ -6,12 +6,10 @@ ghost use Rattle.hdl_value.specs.Spelling.{CanBeSpelt};
 
 use crate::page::{Page, text_of};
 use hdl_lines::{has_fields, put_fields, value_line};
-use hdl_value::{CutValue, Value, read_value};
+use hdl_value::{CutValue, HS_SECKEY, Value, read_value};
 use jiff::Timestamp;
 use std::alloc::{AllocError, Global};
 
-/// The type of a key's value.
-const SECRET_KEY: &[u8] = b"HS_SECKEY";
 
 /// The data of a value, but that of a key where it isn't asked for.
 pub fn shown_data(value: &Value, shows_keys: bool) -> Option<&[u8]>
@@ -73,7 +71,7 @@ pub fn push_value(page: &mut Page, cut: &CutValue<'_>) -> Result<(), AllocError>
             return page.push(&text);
         }
     }
-    if cut.kind() == SECRET_KEY && !page.shows_keys {
+    if cut.kind() == HS_SECKEY && !page.shows_keys {
         return page.push(";; a key");
     }
     let digits = hex::encode(page.alloc, cut.octets())?;

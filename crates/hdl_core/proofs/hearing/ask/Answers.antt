@@ -1,5 +1,4 @@
 use Rattle.std.proofs.Common.{◌≡◌, ◌==◌, true, false, ◌∙◌, ap, subst, rules}
-use Rattle.hdl_msg.specs.Bodies.{content_of}
 use Rattle.hdl_msg.specs.Codes.{response_number}
 use Rattle.hdl_ops.specs.Decisions.{Decides, Anyone}
 use Rattle.hdl_ops.specs.Replies.{digest_of}
@@ -10,7 +9,7 @@ use Rattle.hdl_core.proofs.hearing.ask.Goals as goal
 
 pub returns-then-eq-clause-asked : goal.returns-then-eq-clause-asked
 returns-then-eq-clause-asked g c =
-    let r = content_of c.args.request.now in
+    let r = c.args.request.now in
     let needed : (response_number c.in_ok-decision.decision.code == 402) ≡ true = search rules in (
       decision_of c.in_ok-decision.decision,
       subst (λ a. Decides (hosted_by c.args.owner.now) a (g.R.Rows.content c.args.rows.now) r Anyone (decision_of c.in_ok-decision.decision)) c.in_ok-algorithm.ensures c.in_ok-decision.ensures.decided,
@@ -22,7 +21,7 @@ returns-then-eq-clause-asked g c =
 
 pub returns-clause-asked : goal.returns-clause-asked
 returns-clause-asked g c =
-    let r = content_of c.args.request.now in
+    let r = c.args.request.now in
     let d = decision_of c.in_ok-decision.decision in
     let answered : (response_number c.in_ok-decision.decision.code == 402) ≡ false = search rules in (
       d,

@@ -1,5 +1,4 @@
 use Rattle.std.proofs.Common.{ℕ, List, sym, ap, ◌∙◌, subst}
-use Rattle.hdl_msg.specs.Bodies.{content_of}
 use Rattle.hdl_msg.specs.Message.{SpellsRequest}
 use Rattle.hdl_ops.specs.Tables.{apply_if}
 use Rattle.hdl_ops.specs.Views.{algorithms_by, decision_of, hosted_by, response_view}
@@ -16,14 +15,14 @@ returns-in_default-clause-redeemed g c =
 pub returns-then-is_late-clause-redeemed : goal.returns-then-is_late-clause-redeemed
 returns-then-is_late-clause-redeemed g c =
     on_ok c.tell.result _ _
-    (λ octets is. late (hosted_by c.args.owner.now) (algorithms_by c.args.owner.now) (g.R.Rows.content c.args.rows.now) c.args.letter.now (response_view c.args.response) c.args.pending.now (content_of c.in-Ok.request) c.algorithm-algorithm.result octets c.algorithm-algorithm.ensures
-    (subst (λ (b : List ℕ). SpellsRequest b (content_of c.in-Ok.request)) c.as_slice.ensures c.in-Ok.ensures.read) (λ message. sym c.if-is_late.true ∙ c.is_late.ensures message) is)
+    (λ octets is. late (hosted_by c.args.owner.now) (algorithms_by c.args.owner.now) (g.R.Rows.content c.args.rows.now) c.args.letter.now (response_view c.args.response) c.args.pending.now c.in-Ok.request c.algorithm-algorithm.result octets c.algorithm-algorithm.ensures
+    (subst (λ (b : List ℕ). SpellsRequest b c.in-Ok.request) c.as_slice.ensures c.in-Ok.ensures.read) (λ message. sym c.if-is_late.true ∙ c.is_late.ensures message) is)
     c.tell.ensures.reply
 
 pub returns-clause-redeemed : goal.returns-clause-redeemed
 returns-clause-redeemed g c =
     on_both c.answer.result _ _ _
-    (λ octets is table. proven (hosted_by c.args.owner.now) (algorithms_by c.args.owner.now) (g.R.Rows.content c.args.rows.now) c.args.letter.now (response_view c.args.response) c.args.pending.now (content_of c.in-Ok.request) c.algorithm-algorithm.result (decision_of c.in_ok-decision.decision) octets (g.R.Rows.content c.answer.new.rows) c.algorithm-algorithm.ensures
-    (subst (λ (b : List ℕ). SpellsRequest b (content_of c.in-Ok.request)) c.as_slice.ensures c.in-Ok.ensures.read) (λ message. sym c.if-is_late.false ∙ c.is_late.ensures message)
+    (λ octets is table. proven (hosted_by c.args.owner.now) (algorithms_by c.args.owner.now) (g.R.Rows.content c.args.rows.now) c.args.letter.now (response_view c.args.response) c.args.pending.now c.in-Ok.request c.algorithm-algorithm.result (decision_of c.in_ok-decision.decision) octets (g.R.Rows.content c.answer.new.rows) c.algorithm-algorithm.ensures
+    (subst (λ (b : List ℕ). SpellsRequest b c.in-Ok.request) c.as_slice.ensures c.in-Ok.ensures.read) (λ message. sym c.if-is_late.false ∙ c.is_late.ensures message)
     c.in_ok-decision.ensures.decided is (table ∙ ap (λ t. apply_if t c.args.letter.now.moment c.in_ok-decision.decision.change) c.decide.ensures.unchanged))
     c.answer.ensures.reply c.answer.ensures.done

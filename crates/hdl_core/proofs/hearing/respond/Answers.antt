@@ -1,6 +1,5 @@
 use Rattle.std.proofs.Common.{sym, ap, ◌∙◌}
 use Rattle.std.specs.Prelude.{option_copied}
-use Rattle.hdl_msg.specs.Bodies.{content_of}
 use Rattle.hdl_ops.specs.Views.{algorithms_by, hosted_by, response_view}
 use Rattle.hdl_core.proofs.Heard.{on_ok, unknown, known}
 use Rattle.hdl_core.proofs.hearing.respond.Goals as goal
@@ -8,11 +7,11 @@ use Rattle.hdl_core.proofs.hearing.respond.Goals as goal
 pub returns-in_default-clause-responded : goal.returns-in_default-clause-responded
 returns-in_default-clause-responded g c =
     on_ok c.tell.result _ _
-    (λ octets is. unknown (hosted_by c.args.owner.now) (algorithms_by c.args.owner.now) (g.R.Rows.content c.args.rows.now) c.args.letter.now c.args.lanes.now c.args.number (content_of c.args.request.now) (response_view c.args.response) octets
+    (λ octets is. unknown (hosted_by c.args.owner.now) (algorithms_by c.args.owner.now) (g.R.Rows.content c.args.rows.now) c.args.letter.now c.args.lanes.now c.args.lane c.args.request.now (response_view c.args.response) octets
     (sym (ap option_copied c.in_default.is) ∙ c.find.ensures) is)
     c.tell.ensures.reply
 
 pub returns-clause-responded : goal.returns-clause-responded
 returns-clause-responded g c =
-    known (hosted_by c.args.owner.now) (algorithms_by c.args.owner.now) (g.R.Rows.content c.args.rows.now) c.args.letter.now c.args.lanes.now c.args.number (content_of c.args.request.now) (response_view c.args.response) c.in-Some.pending.now c.in_ok-octets.octets c.spend.new.self (g.R.Rows.content c.redeem.new.rows)
+    known (hosted_by c.args.owner.now) (algorithms_by c.args.owner.now) (g.R.Rows.content c.args.rows.now) c.args.letter.now c.args.lanes.now c.args.lane c.args.request.now (response_view c.args.response) c.in-Some.pending.now c.in_ok-octets.octets c.spend.new.self (g.R.Rows.content c.redeem.new.rows)
     (sym (ap option_copied c.in-Some.is) ∙ c.find.ensures) c.in_ok-octets.ensures.redeemed c.spend.ensures

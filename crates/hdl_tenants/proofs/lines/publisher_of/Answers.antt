@@ -18,7 +18,7 @@ returns c =
       port_read = record { numeral = port.0.0; value = port.1; fits = search rules };
       sound = record {
         named = c.is_publisher_name.ensures.0 (search rules);
-        lanes = (c.if-lanes-lt2.false, c.if-lanes-gt-MOST_LANES.false);
+        lanes = (c.if-lanes-lt2.false, c.if-lanes-gt-LANES.false);
         port = (omega arith, search rules);
       };
     }

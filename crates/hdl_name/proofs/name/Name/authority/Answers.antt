@@ -1,4 +1,4 @@
-use Rattle.std.proofs.Common.{rules, arith, ◌≡◌, ◌∙◌, take, subst}
+use Rattle.std.proofs.Common.{arith, ◌≡◌, ◌∙◌, take, subst}
 use Rattle.std.proofs.lemmas.Grind.{common_steps}
 use Rattle.hdl_name.specs.Name.{IsHandle, authority}
 use Rattle.hdl_name.proofs.Equal.{own_authority}

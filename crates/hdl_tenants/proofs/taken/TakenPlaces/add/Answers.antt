@@ -5,11 +5,11 @@ use Rattle.hdl_tenants.specs.Taken.{place_in}
 use Rattle.hdl_tenants.proofs.Places.{found, absent, place_decides, counted-more, not_of, of_not}
 use Rattle.hdl_tenants.proofs.taken.TakenPlaces.add.Goals as goal
 
-pub returns-then-count-ge-MOST_VALUES-clause-fault : goal.returns-then-count-ge-MOST_VALUES-clause-fault
-returns-then-count-ge-MOST_VALUES-clause-fault c = λ places is. inr (omega (arith, is.counted c.args.handle.now, c.count-count.ensures, c.if-count-ge-MOST_VALUES.true))
+pub returns-then-count-ge-VALUES_MAX-clause-fault : goal.returns-then-count-ge-VALUES_MAX-clause-fault
+returns-then-count-ge-VALUES_MAX-clause-fault c = λ places is. inr (omega (arith, is.counted c.args.handle.now, c.count-count.ensures, c.if-count-ge-VALUES_MAX.true))
 
 pub returns-clause-room : goal.returns-clause-room
-returns-clause-room c = λ places is. omega (arith, is.counted c.args.handle.now, c.count-count.ensures, c.if-count-ge-MOST_VALUES.false)
+returns-clause-room c = λ places is. omega (arith, is.counted c.args.handle.now, c.count-count.ensures, c.if-count-ge-VALUES_MAX.false)
 
 pub returns-then-not-added-clause-fault : goal.returns-then-not-added-clause-fault
 returns-then-not-added-clause-fault c = λ places is.

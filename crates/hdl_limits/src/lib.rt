@@ -1,0 +1,65 @@
+//! The limits of the profile (docs/PROTOCOL.md), each once.
+//!
+//! A limit is one constant here. Code compares with it, clauses name it, and the definitions of the crates above import it
+//! from `specs.declared.TheConstants`, so the number stands in no other file of `src/` or `specs/`. To change a limit, change
+//! it here and in docs/PROTOCOL.md.
+//!
+//! This crate is the lowest of the service and stands on no other. The definition of octets, which each layer above shares,
+//! stands here too (`specs/Octets.antt`).
+#![tactic(auto)]
+
+ghost use Rattle.std.specs.Prelude.{◌≤◌, ◌<◌, ◌*◌, ◌-◌};
+
+/// How many lanes there are, and so the most lanes of all publishers together.
+pub const LANES: usize = 64;
+
+/// The most octets of a publisher's name.
+pub const PUBLISHER_NAME_MAX: usize = 32;
+
+/// The most challenges that wait on a lane for their responses.
+pub const CHALLENGES_MAX: usize = 8;
+
+/// How many milliseconds a challenge lives.
+pub const CHALLENGE_LIFE: u64 = 60_000;
+
+/// The most partial messages of a lane.
+pub const PARTIALS_MAX: usize = 4;
+
+/// The most peers of a worker; they are numbered from 1.
+pub const PEERS_MAX: usize = 1_024;
+
+/// The most octets of a message, without its envelope.
+pub const MESSAGE_MAX: u32 = 65_536;
+
+/// How many octets of a message each piece but the last carries.
+pub const PIECE_LEN: u32 = 492;
+
+/// How many pieces the longest message has.
+pub const PIECES_MAX: u32 = (MESSAGE_MAX + PIECE_LEN - 1) / PIECE_LEN;
+
+/// The most octets of a handle's name.
+pub const NAME_MAX: usize = 2_048;
+
+/// The most octets of a value's type.
+pub const TYPE_MAX: usize = 255;
+
+/// The most octets of a value's data.
+pub const DATA_MAX: usize = 32_768;
+
+/// The most references of a value.
+pub const REFERENCES_MAX: u32 = 64;
+
+/// The most values of a handle.
+pub const VALUES_MAX: usize = 1_024;
+
+/// The most values, or indexes, that one request may write.
+pub const WRITTEN_MAX: usize = 256;
+
+/// The most masks of administrators that are kept for the requests to come.
+pub const MASKS_MAX: usize = 256;
+
+/// The pieces of the longest message hold it, and no fewer do.
+pub fn pieces_hold_a_message()
+    ensures enough { MESSAGE_MAX ≤ PIECES_MAX * PIECE_LEN }
+    ensures no_more { (PIECES_MAX - 1) * PIECE_LEN < MESSAGE_MAX }
+{}
