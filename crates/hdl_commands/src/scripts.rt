@@ -90,7 +90,7 @@ fn asker_of(alloc: Global, tenants: &Tenants, task: &Task) -> Result<(u16, Algor
 /// Whether a task is challenged where a key is there: all but resolutions, which ask as anybody.
 fn is_challenged(task: &Task) -> bool {
     match read_request(&task.message) {
-        Ok(request) => !matches!(request.body, Body::Resolution { .. }),
+        Ok(request) => !matches!(request.body(), Body::Resolution { .. }),
         Err(_) => false,
     }
 }
