@@ -1,8 +1,8 @@
 //! Decisions.
 
-ghost use Rattle.std.specs.Prelude.{◌≡◌, ◌+◌, ◌⊎◌, [], None, min, if◌then◌else◌, IfOk, IfSome, OnErr, OnOk, IsTrue};
+ghost use Rattle.std.specs.Prelude.{◌≡◌, [], None, if◌then◌else◌, IfOk, IfSome, OnOk, IsTrue};
 ghost use Rattle.hdl_name.specs.Name.{prefix};
-ghost use Rattle.hdl_rows.specs.Table.{most, names_of, values_of, HaveTheirIndexes};
+ghost use Rattle.hdl_rows.specs.Table.{counted, names_of, values_of, HaveTheirIndexes, IsCounted};
 ghost use Rattle.hdl_cache.specs.Kept.{AreTrue};
 ghost use Rattle.hdl_ops.specs.Admission.{refusal};
 ghost use Rattle.hdl_ops.specs.Decisions as decisions;
@@ -15,12 +15,11 @@ ghost use Rattle.hdl_ops.specs.Views.{decision_of, hosted_by, level_of, proof_of
 
 use crate::admit::{Admitted, admit};
 use crate::anyone::code_for_anyone;
-use crate::decision::{Decision, Level, Proof, Sight};
+use crate::decision::{Asked, Decision, Level, Proof, Sight};
 use crate::keys::code_for_proof;
 use crate::owner::Owner;
 use crate::requests::is_list;
 use crate::settle::settle;
-use hdl_auth::algorithm::Algorithm;
 use hdl_cache::Masks;
 use hdl_msg::Request;
 use hdl_name::Name;
@@ -37,8 +36,7 @@ fn names<R: Rows>(
 ) -> Result<Vec<Octets>, Refused>
     ensures unchanged { R.content rows.new ≡ R.content rows.old }
     ensures names { IfOk result (λ all. all.items ≡ (if is_list request.now.operation then names_of (R.content rows.old) (prefix name.now) else [])) }
-    ensures answered { OnOk result (R.refused rows.new ≡ R.refused rows.old) }
-    ensures refused { OnErr result (R.refused rows.new ≡ min (R.refused rows.old + 1) most) }
+    ensures count { R.refused rows.new ≡ counted result (R.refused rows.old) }
 {
     if is_list(request.body()) {
         rows.names(name.prefix())
@@ -59,8 +57,7 @@ fn look<R: Rows>(
     ensures unchanged { R.content rows.new ≡ R.content rows.old }
     ensures sight { IfOk result (λ s. sight_of s ≡ sight (R.content rows.old) request.now) }
     ensures by_index { OnOk result (HaveTheirIndexes (R.content rows.old) (handle_of request.now) (sight (R.content rows.old) request.now).values) }
-    ensures answered { OnOk result (R.refused rows.new ≡ R.refused rows.old) }
-    ensures refused { OnErr result (R.refused rows.new ≡ min (R.refused rows.old + 1) most) }
+    ensures count { R.refused rows.new ≡ counted result (R.refused rows.old) }
 {
     let there = rows.exists(name)?;
     let values = rows.values(name)?;
@@ -75,55 +72,43 @@ fn look<R: Rows>(
 /// The decision about a request that came as it is, and that the tests before the table let pass.
 fn decide_for_anyone<R: Rows>(
     alloc: Global,
-    algorithm: Algorithm,
+    asked: Asked<'_>,
     rows: &mut R,
-    request: &Request<'_>,
     name: Name,
 ) -> Result<Decision, Refused>
-    requires named { name ≡ named request.now.operation }
+    requires named { name ≡ named asked.request.now.operation }
     ensures unchanged { R.content rows.new ≡ R.content rows.old }
-    ensures decided { IfOk result (λ d. DecidesBy algorithm (R.content rows.old) request.now decisions.Anyone None (decision_of d)) }
-    ensures carried { IfOk result (λ d. IsTrue (fits algorithm request.now d.content)) }
-    ensures by_index { OnOk result (HaveTheirIndexes (R.content rows.old) (handle_of request.now) (sight (R.content rows.old) request.now).values) }
-    ensures answered { OnOk result (R.refused rows.new ≡ R.refused rows.old) }
-    ensures refused { OnErr result ((R.refused rows.new ≡ R.refused rows.old) ⊎ (R.refused rows.new ≡ min (R.refused rows.old + 1) most)) }
+    ensures decided { IfOk result (λ d. DecidesBy asked.algorithm (R.content rows.old) asked.request.now decisions.Anyone None (decision_of d)) }
+    ensures carried { IfOk result (λ d. IsTrue (fits asked.algorithm asked.request.now d.content)) }
+    ensures by_index { OnOk result (HaveTheirIndexes (R.content rows.old) (handle_of asked.request.now) (sight (R.content rows.old) asked.request.now).values) }
+    ensures count { IsCounted result (R.refused rows.old) (R.refused rows.new) }
 {
-    let sight = look(alloc, rows, request, &name)?;
-    let code = code_for_anyone(request, &sight);
-    settle(alloc, algorithm, request, &Level::Anyone, sight, code, name)
+    let sight = look(alloc, rows, asked.request, &name)?;
+    let code = code_for_anyone(asked.request, &sight);
+    settle(alloc, asked, &Level::Anyone, sight, code, name)
 }
 
 /// The decision about a request that came back with a proof.
 fn decide_with_proof<R: Rows>(
     alloc: Global,
-    algorithm: Algorithm,
+    asked: Asked<'_>,
     rows: &mut R,
     masks: &mut Masks,
-    request: &Request<'_>,
     name: Name,
     proof: &Proof<'_>,
 ) -> Result<Decision, Refused>
-    requires named { name ≡ named request.now.operation }
+    requires named { name ≡ named asked.request.now.operation }
     requires true_masks { AreTrue (R.content rows.old) masks.old }
     ensures unchanged { R.content rows.new ≡ R.content rows.old }
     ensures true_masks { AreTrue (R.content rows.new) masks.new }
-    ensures decided { IfOk result (λ d. DecidesBy algorithm (R.content rows.old) request.now (decisions.Proven (proof_of proof.now)) None (decision_of d)) }
-    ensures carried { IfOk result (λ d. IsTrue (fits algorithm request.now d.content)) }
-    ensures by_index { OnOk result (HaveTheirIndexes (R.content rows.old) (handle_of request.now) (sight (R.content rows.old) request.now).values) }
-    ensures answered { OnOk result (R.refused rows.new ≡ R.refused rows.old) }
-    ensures refused { OnErr result ((R.refused rows.new ≡ R.refused rows.old) ⊎ (R.refused rows.new ≡ min (R.refused rows.old + 1) most)) }
+    ensures decided { IfOk result (λ d. DecidesBy asked.algorithm (R.content rows.old) asked.request.now (decisions.Proven (proof_of proof.now)) None (decision_of d)) }
+    ensures carried { IfOk result (λ d. IsTrue (fits asked.algorithm asked.request.now d.content)) }
+    ensures by_index { OnOk result (HaveTheirIndexes (R.content rows.old) (handle_of asked.request.now) (sight (R.content rows.old) asked.request.now).values) }
+    ensures count { IsCounted result (R.refused rows.old) (R.refused rows.new) }
 {
-    let sight = look(alloc, rows, request, &name)?;
-    let code = code_for_proof(alloc, rows, masks, request, &sight, &name, proof)?;
-    settle(
-        alloc,
-        algorithm,
-        request,
-        &Level::Proven(*proof),
-        sight,
-        code,
-        name,
-    )
+    let sight = look(alloc, rows, asked.request, &name)?;
+    let code = code_for_proof(alloc, rows, masks, asked.request, &sight, &name, proof)?;
+    settle(alloc, asked, &Level::Proven(*proof), sight, code, name)
 }
 
 /// The decision about a request on a lane of its owner. The table stays as it is. What is kept is the table's, before and
@@ -133,29 +118,25 @@ fn decide_with_proof<R: Rows>(
 /// it was. What is carried fits into the message of a reply, and a change meets the conditions of its write.
 pub fn decide<R: Rows>(
     owner: &Owner<'_>,
-    algorithm: Algorithm,
+    asked: Asked<'_>,
     rows: &mut R,
     masks: &mut Masks,
-    request: &Request<'_>,
     level: &Level<'_>,
 ) -> Result<Decision, Refused>
     requires true_masks { AreTrue (R.content rows.old) masks.old }
     ensures unchanged { R.content rows.new ≡ R.content rows.old }
     ensures true_masks { AreTrue (R.content rows.new) masks.new }
-    ensures decided { IfOk result (λ d. Decides (hosted_by owner.now) algorithm (R.content rows.old) request.now (level_of level.now) (decision_of d)) }
-    ensures carried { IfOk result (λ d. IsTrue (fits algorithm request.now d.content)) }
+    ensures decided { IfOk result (λ d. Decides (hosted_by owner.now) asked.algorithm (R.content rows.old) asked.request.now (level_of level.now) (decision_of d)) }
+    ensures carried { IfOk result (λ d. IsTrue (fits asked.algorithm asked.request.now d.content)) }
     ensures can_apply { IfOk result (λ d. IfSome d.change (λ change. CanApply (R.content rows.old) change)) }
-    ensures answered { OnOk result (R.refused rows.new ≡ R.refused rows.old) }
-    ensures refused { OnErr result ((R.refused rows.new ≡ R.refused rows.old) ⊎ (R.refused rows.new ≡ min (R.refused rows.old + 1) most)) }
+    ensures count { IsCounted result (R.refused rows.old) (R.refused rows.new) }
 {
     let alloc = owner.alloc;
-    match admit(owner, request)? {
+    match admit(owner, asked.request)? {
         Admitted::Refused(decision) => Ok(decision),
         Admitted::Passed(name) => match level {
-            Level::Anyone => decide_for_anyone(alloc, algorithm, rows, request, name),
-            Level::Proven(proof) => {
-                decide_with_proof(alloc, algorithm, rows, masks, request, name, proof)
-            },
+            Level::Anyone => decide_for_anyone(alloc, asked, rows, name),
+            Level::Proven(proof) => decide_with_proof(alloc, asked, rows, masks, name, proof),
         },
     }
 }

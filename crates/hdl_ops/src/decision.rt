@@ -2,9 +2,16 @@
 
 use crate::change::Change;
 use crate::requests::Response;
-use hdl_auth::algorithm::Digest;
-use hdl_msg::{ReplyContent, ResponseCode};
+use hdl_auth::algorithm::{Algorithm, Digest};
+use hdl_msg::{ReplyContent, Request, ResponseCode};
 use hdl_value::{Octets, Value};
+
+/// A request, and the hash function of its digest: what came, for whoever answers it.
+#[derive(Clone, Copy)]
+pub struct Asked<'a> {
+    pub algorithm: Algorithm,
+    pub request: &'a Request<'a>,
+}
 
 /// What a decision sees of the table: whether the handle is there, its values by rising index, and for a list the handles of
 /// the naming authority.

@@ -1,9 +1,9 @@
 //! The key that a proof names, and what it may do.
 
-ghost use Rattle.std.specs.Prelude.{◌≡◌, ◌+◌, ◌⊎◌, Some, min, option_map, IfOk, OnOk, OnErr};
+ghost use Rattle.std.specs.Prelude.{◌≡◌, Some, option_map, IfOk};
 ghost use Rattle.hdl_name.specs.Name.{canonical, prefix};
 ghost use Rattle.hdl_value.specs.Refs.{place_of};
-ghost use Rattle.hdl_rows.specs.Table.{most};
+ghost use Rattle.hdl_rows.specs.Table.{IsCounted};
 ghost use Rattle.hdl_reach.specs.Reach.{IsMask};
 ghost use Rattle.hdl_reach.specs.Views.{mask_of};
 ghost use Rattle.hdl_cache.specs.Kept.{AreTrue};
@@ -71,8 +71,7 @@ fn mask_for<R: Rows>(
     ensures unchanged { R.content rows.new ≡ R.content rows.old }
     ensures true_masks { AreTrue (R.content rows.new) masks.new }
     ensures mask { IfOk result (λ mask. IsMask (R.content rows.old) (canonical name.now) (place_of key.now) (mask_of mask)) }
-    ensures answered { OnOk result (R.refused rows.new ≡ R.refused rows.old) }
-    ensures refused { OnErr result ((R.refused rows.new ≡ R.refused rows.old) ⊎ (R.refused rows.new ≡ min (R.refused rows.old + 1) most)) }
+    ensures count { IsCounted result (R.refused rows.old) (R.refused rows.new) }
 {
     if let Ok(Some(kept)) = masks.find(name, key) {
         return Ok(kept);
@@ -97,8 +96,7 @@ fn mask_of<R: Rows>(
     ensures unchanged { R.content rows.new ≡ R.content rows.old }
     ensures true_masks { AreTrue (R.content rows.new) masks.new }
     ensures mask { IfOk result (λ mask. MaskOf (R.content rows.old) (target (operation_of body.now)) (Some (place_of key.now)) (mask_of mask)) }
-    ensures answered { OnOk result (R.refused rows.new ≡ R.refused rows.old) }
-    ensures refused { OnErr result ((R.refused rows.new ≡ R.refused rows.old) ⊎ (R.refused rows.new ≡ min (R.refused rows.old + 1) most)) }
+    ensures count { IsCounted result (R.refused rows.old) (R.refused rows.new) }
 {
     if !creates(body) {
         return mask_for(alloc, rows, masks, name, key);
@@ -124,8 +122,7 @@ fn code_for_key<R: Rows>(
     ensures unchanged { R.content rows.new ≡ R.content rows.old }
     ensures true_masks { AreTrue (R.content rows.new) masks.new }
     ensures code { IfOk result (λ code. IsCodeForKey (R.content rows.old) (sight_of sight.now) request.now (proof_of proof.now) (response_number code)) }
-    ensures answered { OnOk result (R.refused rows.new ≡ R.refused rows.old) }
-    ensures refused { OnErr result ((R.refused rows.new ≡ R.refused rows.old) ⊎ (R.refused rows.new ≡ min (R.refused rows.old + 1) most)) }
+    ensures count { IsCounted result (R.refused rows.old) (R.refused rows.new) }
 {
     let Some(key) = key_of(alloc, proof)? else {
         return Ok(ResponseCode::NotAuthorized);
@@ -153,8 +150,7 @@ pub(crate) fn code_for_proof<R: Rows>(
     ensures unchanged { R.content rows.new ≡ R.content rows.old }
     ensures true_masks { AreTrue (R.content rows.new) masks.new }
     ensures code { IfOk result (λ code. IsCodeForProof (R.content rows.old) request.now (proof_of proof.now) (response_number code)) }
-    ensures answered { OnOk result (R.refused rows.new ≡ R.refused rows.old) }
-    ensures refused { OnErr result ((R.refused rows.new ≡ R.refused rows.old) ⊎ (R.refused rows.new ≡ min (R.refused rows.old + 1) most)) }
+    ensures count { IsCounted result (R.refused rows.old) (R.refused rows.new) }
 {
     match code_before_key(request, sight, proof) {
         Some(code) => Ok(code),

@@ -32,7 +32,7 @@ mod written;
 pub use admit::request_algorithm;
 pub use change::{Change, apply};
 pub use deciding::decide;
-pub use decision::{Decision, Level, Proof};
+pub use decision::{Asked, Decision, Level, Proof};
 pub use hdl_cache::Masks;
 pub use hdl_msg::{Request, read_request};
 pub use hdl_rows::{Refused, Rows};

@@ -1,101 +1,100 @@
 //! The reply to a request.
 
-ghost use Rattle.std.specs.Prelude.{◌≡◌, ◌≤◌, IfOk, IsTrue, Some, None, if◌then◌else◌};
+ghost use Rattle.std.specs.Prelude.{◌≡◌, ◌≤◌, length, IfOk, IsTrue, Some, None, if◌then◌else◌};
 ghost use Rattle.hdl_msg.specs.Codes.{response_number};
-ghost use Rattle.hdl_msg.specs.Reply.{reply_octets};
+ghost use Rattle.hdl_msg.specs.Reply.{digest_octets, reply_octets};
 ghost use Rattle.hdl_ops.specs.Replies.{digest_of, asked_digest, reply_to, challenge_to, fits};
 
+use crate::decision::Asked;
 use crate::requests::wants_digest;
-use hdl_auth::algorithm::{Algorithm, Digest};
+use hdl_auth::algorithm::Digest;
 use hdl_auth::digest;
+use hdl_frame::Envelope;
 use hdl_limits::MESSAGE_MAX;
-use hdl_msg::{Reply, ReplyContent, Request, ResponseCode, answer_header, reply_len, write_reply};
+use hdl_msg::{Reply, ReplyContent, ResponseCode, answer_header, reply_len, write_reply};
 use std::alloc::{AllocError, Global};
 
-/// The digest of the request by its algorithm, where it asks for it.
-fn asked_digest(algorithm: Algorithm, request: &Request<'_>) -> Option<Digest>
-    ensures { result ≡ asked_digest algorithm request.now }
+/// The digest of the request, where it asks for it.
+fn asked_digest(asked: Asked<'_>) -> Option<Digest>
+    ensures { result ≡ asked_digest asked.algorithm asked.request.now }
 {
-    if wants_digest(request) {
-        Some(digest(algorithm, request.signed()))
+    if wants_digest(asked.request) {
+        Some(digest(asked.algorithm, asked.request.signed()))
     } else {
         None
     }
 }
 
-#[tactic(auto, unfolding(crate::specs::Replies::reply_to))]
-fn reply_to(
-    algorithm: Algorithm,
-    session: u32,
-    number: u32,
-    request: &Request<'_>,
-    code: u32,
-    content: ReplyContent,
-) -> Reply
-    ensures { result ≡ reply_to algorithm session number request.now code content }
+/// How many octets of a reply's message are those of the digest and of the octet before it. No digest is made to know it.
+fn digest_room(asked: Asked<'_>) -> usize
+    ensures room { result ≡ length (digest_octets (asked_digest asked.algorithm asked.request.now)) }
+    ensures short { result ≤ 33 }
 {
-    Reply {
-        session,
-        request: number,
-        header: answer_header(request.header(), code),
-        digest: asked_digest(algorithm, request),
-        content,
+    if wants_digest(asked.request) {
+        asked.algorithm.size() + 1
+    } else {
+        0
     }
 }
 
 /// The content, if the message of a reply with it isn't too long.
 #[tactic(auto, unfolding(crate::specs::Replies::fits))]
-pub(crate) fn fitting(
-    algorithm: Algorithm,
-    request: &Request<'_>,
-    content: ReplyContent,
-) -> Option<ReplyContent>
-    ensures { result ≡ (if fits algorithm request.now content then Some content else None) }
+pub(crate) fn fitting(asked: Asked<'_>, content: ReplyContent) -> Option<ReplyContent>
+    ensures { result ≡ (if fits asked.algorithm asked.request.now content then Some content else None) }
 {
-    let reply = reply_to(algorithm, 0, 0, request, 0, content);
-    if reply_len(&reply) > MESSAGE_MAX as usize {
+    let reply = Reply {
+        session: 0,
+        request: 0,
+        header: answer_header(asked.request.header(), 0),
+        digest: None,
+        content,
+    };
+    if reply_len(&reply) > MESSAGE_MAX as usize - digest_room(asked) {
         return None;
     }
     let Reply { content, .. } = reply;
     Some(content)
 }
 
-/// The octets of the reply with this session and request number, code and content.
+/// The octets of the reply to what came in this envelope, with this code and content.
+#[tactic(auto, unfolding(crate::specs::Replies::reply_to))]
 pub fn render(
     alloc: Global,
-    algorithm: Algorithm,
-    session: u32,
-    number: u32,
-    request: &Request<'_>,
+    asked: Asked<'_>,
+    envelope: &Envelope,
     code: ResponseCode,
     content: ReplyContent,
 ) -> Result<Vec<u8>, AllocError>
-    requires fits { IsTrue (fits algorithm request.now content) }
-    ensures { IfOk result (λ octets. octets.items ≡ reply_octets (reply_to algorithm session number request.now (response_number code) content)) }
+    requires fits { IsTrue (fits asked.algorithm asked.request.now content) }
+    ensures { IfOk result (λ octets. octets.items ≡ reply_octets (reply_to asked.algorithm envelope.now.session envelope.now.request asked.request.now (response_number code) content)) }
 {
-    let reply = reply_to(algorithm, session, number, request, code.number(), content);
+    let reply = Reply {
+        session: envelope.session,
+        request: envelope.request,
+        header: answer_header(asked.request.header(), code.number()),
+        digest: asked_digest(asked),
+        content,
+    };
     write_reply(alloc, &reply)
 }
 
-/// The octets of a challenge with this session, request number and nonce, and the digest of the request that it stands for.
+/// The octets of a challenge with this nonce in this envelope, and the digest of the request that it stands for.
 #[tactic(auto, unfolding(crate::specs::Replies::challenge_to))]
 pub fn render_challenge(
     alloc: Global,
-    algorithm: Algorithm,
-    session: u32,
-    number: u32,
-    request: &Request<'_>,
+    asked: Asked<'_>,
+    envelope: &Envelope,
     nonce: &[u8; 16],
 ) -> Result<(Vec<u8>, Digest), AllocError>
-    ensures octets { IfOk result (λ sent. sent.0.items ≡ reply_octets (challenge_to algorithm session number request.now nonce.now)) }
-    ensures digest { IfOk result (λ sent. sent.1 ≡ digest_of algorithm request.now) }
+    ensures octets { IfOk result (λ sent. sent.0.items ≡ reply_octets (challenge_to asked.algorithm envelope.now.session envelope.now.request asked.request.now nonce.now)) }
+    ensures digest { IfOk result (λ sent. sent.1 ≡ digest_of asked.algorithm asked.request.now) }
 {
-    let request_digest = digest(algorithm, request.signed());
+    let request_digest = digest(asked.algorithm, asked.request.signed());
     let reply = Reply {
-        session,
-        request: number,
+        session: envelope.session,
+        request: envelope.request,
         header: answer_header(
-            request.header(),
+            asked.request.header(),
             ResponseCode::AuthenticationNeeded.number(),
         ),
         digest: Some(request_digest),

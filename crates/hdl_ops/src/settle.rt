@@ -13,10 +13,9 @@ ghost use Rattle.hdl_ops.specs.Views.{decision_of, level_of, sight_of};
 
 use crate::asked::{asks, is_kept, is_public};
 use crate::change::Change;
-use crate::decision::{Decision, Level, Sight};
+use crate::decision::{Asked, Decision, Level, Sight};
 use crate::rendering::fitting;
 use crate::written::{copied_indexes, copied_values};
-use hdl_auth::algorithm::Algorithm;
 use hdl_msg::{
     Body, HandleList, IndexList, ReplyContent, Request, ResponseCode, ValueList, Values,
 };
@@ -118,27 +117,26 @@ fn failure(code: ResponseCode) -> Decision
 #[tactic(auto, unfolding(crate::specs::Decisions::decision), using(crate::proofs::Lengths::empty_fits))]
 pub(crate) fn settle(
     alloc: Global,
-    algorithm: Algorithm,
-    request: &Request<'_>,
+    asked: Asked<'_>,
     level: &Level<'_>,
     sight: Sight,
     code: ResponseCode,
     name: Name,
 ) -> Result<Decision, Refused>
-    requires named { name ≡ named request.now.operation }
-    ensures carried { IfOk result (λ d. IsTrue (fits algorithm request.now d.content)) }
-    ensures decided { IfOk result (λ d. decision_of d ≡ decisions.decision algorithm (sight_of sight) request.now (level_of level.now) (response_number code)) }
+    requires named { name ≡ named asked.request.now.operation }
+    ensures carried { IfOk result (λ d. IsTrue (fits asked.algorithm asked.request.now d.content)) }
+    ensures decided { IfOk result (λ d. decision_of d ≡ decisions.decision asked.algorithm (sight_of sight) asked.request.now (level_of level.now) (response_number code)) }
 {
     if code != ResponseCode::Success {
         return Ok(failure(code));
     }
-    let Ok(content) = carried(alloc, request, level, sight) else {
+    let Ok(content) = carried(alloc, asked.request, level, sight) else {
         return Err(Refused);
     };
-    let Some(content) = fitting(algorithm, request, content) else {
+    let Some(content) = fitting(asked, content) else {
         return Ok(failure(ResponseCode::Error));
     };
-    let Ok(change) = change_of(alloc, request.body(), name) else {
+    let Ok(change) = change_of(alloc, asked.request.body(), name) else {
         return Err(Refused);
     };
     Ok(Decision {

@@ -82,7 +82,7 @@ impl Assembly {
         Ok(Taken::Kept)
     }
 
-    // Whether the payload with this number came.
+    /// Whether the payload with this number came.
     fn has(&self, number: u32) -> bool
         requires { number < piece_count self.now.length }
         ensures { result ≡ is_some (payload_at self.now number) }
@@ -90,7 +90,7 @@ impl Assembly {
         self.payloads[number as usize].is_some()
     }
 
-    // The message, where this payload under this number is the last that didn't come. Only there memory is asked for.
+    /// The message, where this payload under this number is the last that didn't come. Only there memory is asked for.
     fn completed_by(
         &self,
         alloc: Global,
@@ -113,7 +113,7 @@ impl Assembly {
         )
     }
 
-    // Keeps a copy of a payload that didn't come yet. An `Err` changes nothing.
+    /// Keeps a copy of a payload that didn't come yet. An `Err` changes nothing.
     fn put(&mut self, alloc: Global, number: u32, payload: &[u8]) -> Result<(), AllocError>
         requires number { number < piece_count self.old.length }
         requires new { payload_at self.old number ≡ None }

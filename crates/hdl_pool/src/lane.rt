@@ -14,7 +14,7 @@ use hdl_limits::{LANES, PARTIALS_MAX, PIECE_LEN};
 use std::alloc::{AllocError, Global};
 
 impl Cells {
-    // Whether a cell has the partial message of this key.
+    /// Whether a cell has the partial message of this key.
     fn holds(&self, lane: usize, place: usize, key: Key) -> bool
         requires lane { lane < LANES }
         requires place { place < PARTIALS_MAX }
@@ -24,7 +24,7 @@ impl Cells {
             .is_some_and(|partial| partial.is_of(key))
     }
 
-    // Puts something else, or nothing, into a cell.
+    /// Puts something else, or nothing, into a cell.
     fn write(&mut self, lane: usize, place: usize, content: Option<Assembly>)
         requires lane { lane < LANES }
         requires place { place < PARTIALS_MAX }
@@ -33,7 +33,7 @@ impl Cells {
         self.replace(lane, place, content);
     }
 
-    // Where in its lane the partial message of this key stands.
+    /// Where in its lane the partial message of this key stands.
     fn find(&self, lane: usize, key: Key) -> Option<usize>
         requires lane { lane < LANES }
         requires fours { AreFours self.now }
@@ -74,7 +74,7 @@ impl Cells {
         }
     }
 
-    // Puts a partial message behind the others: each of them moves down, until an empty cell takes one or the oldest falls out.
+    /// Puts a partial message behind the others: each of them moves down, until an empty cell takes one or the oldest falls out.
     fn store(&mut self, lane: usize, first: Assembly) -> Taken
         requires lane { lane < LANES }
         requires fours { AreFours self.old }
@@ -95,7 +95,7 @@ impl Cells {
         }
     }
 
-    // A piece of a message of which others came, in this cell.
+    /// A piece of a message of which others came, in this cell.
     fn grow(
         &mut self,
         alloc: Global,
@@ -122,7 +122,7 @@ impl Cells {
         taken
     }
 
-    // A piece of a message of which nothing came.
+    /// A piece of a message of which nothing came.
     fn begin(&mut self, alloc: Global, lane: usize, piece: Arrival<'_>) -> Result<Taken, AllocError>
         requires lane { lane < LANES }
         requires fours { AreFours self.old }

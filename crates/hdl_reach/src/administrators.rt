@@ -1,9 +1,9 @@
 //! The mask of an administrator.
 
-ghost use Rattle.std.specs.Prelude.{◌≡◌, ◌+◌, ◌⊎◌, None, min, take, IfOk, OnOk, OnErr};
+ghost use Rattle.std.specs.Prelude.{◌≡◌, None, take, IfOk};
 ghost use Rattle.hdl_name.specs.Name.{canonical};
 ghost use Rattle.hdl_value.specs.Refs.{place_of};
-ghost use Rattle.hdl_rows.specs.Table.{most};
+ghost use Rattle.hdl_rows.specs.Table.{IsCounted};
 ghost use Rattle.hdl_reach.specs.Reach.{is_among, IsMask};
 ghost use Rattle.hdl_reach.specs.Reach as union;
 ghost use Rattle.hdl_reach.specs.Seen.{places, AreKept};
@@ -26,7 +26,7 @@ fn joined(so_far: Option<AdminMask>, mask: AdminMask) -> AdminMask
     }
 }
 
-// The union of the masks of those grants whose references are among these.
+/// The union of the masks of those grants whose references are among these.
 fn union_of(
     alloc: Global,
     grants: &[Grant],
@@ -58,8 +58,7 @@ pub fn mask<R: Rows>(
 ) -> Result<Option<AdminMask>, Refused>
     ensures unchanged { R.content rows.new ≡ R.content rows.old }
     ensures found { IfOk result (λ mask. IsMask (R.content rows.old) (canonical name.now) (place_of key.now) (mask_of mask)) }
-    ensures answered { OnOk result (R.refused rows.new ≡ R.refused rows.old) }
-    ensures refused { OnErr result ((R.refused rows.new ≡ R.refused rows.old) ⊎ (R.refused rows.new ≡ min (R.refused rows.old + 1) most)) }
+    ensures count { IsCounted result (R.refused rows.old) (R.refused rows.new) }
 {
     let values = rows.values(name)?;
     let Ok(grants) = grants_of(alloc, &values) else {

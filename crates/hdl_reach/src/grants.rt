@@ -15,7 +15,7 @@ pub(crate) struct Grant {
     pub(crate) reference: Reference,
 }
 
-// The grant of an HS_ADMIN value; none where the index is 0.
+/// The grant of an HS_ADMIN value; none where the index is 0.
 fn grant_of(alloc: Global, value: &Value) -> Result<Option<Grant>, AllocError>
     ensures { IfOk result (λ grant. grants_in (option_to_list grant) ≡ granted value.now) }
 {

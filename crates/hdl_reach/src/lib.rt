@@ -10,6 +10,21 @@
 //! Five laws say that a reference has one mask, that index 0 has none, and when two tables have the same chains and masks.
 //!
 //! It stands on `hdl_name`, `hdl_value` and the contract of `hdl_rows`.
+//!
+//! # Decisions
+//!
+//! - **A mask that is a relation**: it is the union over all HS_ADMIN values from which lists lead to the reference, said over paths in the
+//!   whole table. A mask of 0 that leads to it is `Some 0`, an administrator without bits.
+//! - **One search for all HS_ADMIN values, and one back.** The search goes from list to list, from all of them at once, and keeps by each
+//!   reference the references of the lists that hold it; a second one goes back over these from the reference that is asked for, and the
+//!   HS_ADMIN values whose reference it comes to are those that lead there. So no reference is looked up twice in one call, and what stands
+//!   at the one asked for never: what it lists leads to it only through itself. The price is that the search does not end early: all that
+//!   the lists of a handle reach is looked up, also where its first HS_ADMIN value names the reference outright.
+//! - **Both searches are one proof**, over any function from a place to the places that it leads on to: what a value lists, or the lists that
+//!   hold a place. Sources are kept as copies of references and not as positions, so that contracts speak of places alone; a copy costs a
+//!   few small allocations for each reference in a list.
+//! - **What a search has seen is a plain struct with a word** (`AreKept`) in its conditions and clauses, and no `Model` with an invariant: where
+//!   the second of its two growths is refused the two parts differ, and the search ends there.
 #![tactic(auto)]
 
 mod administrators;

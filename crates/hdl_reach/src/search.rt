@@ -1,11 +1,11 @@
 //! The search for the references from which lists lead to one.
 
-ghost use Rattle.std.specs.Prelude.{◌≡◌, ◌+◌, ◌⊎◌, [], min, take, length, option_copied, filter, IfOk, OnOk, OnErr};
+ghost use Rattle.std.specs.Prelude.{◌≡◌, [], take, length, option_copied, filter, IfOk};
 ghost use Rattle.std.specs.Bool.{Decides};
 ghost use Rattle.std.specs.List.{AllByRecursion};
 ghost use Rattle.hdl_value.specs.Place.{Place, same_place};
 ghost use Rattle.hdl_value.specs.Refs.{listed, refers, place_of};
-ghost use Rattle.hdl_rows.specs.Table.{most};
+ghost use Rattle.hdl_rows.specs.Table.{IsCounted};
 ghost use Rattle.hdl_reach.specs.Reach.{is_among, lists, IsChain};
 ghost use Rattle.hdl_reach.specs.Seen.{places, AreKept, Extends};
 ghost use Rattle.hdl_reach.specs.Sources.{sources_of};
@@ -25,7 +25,7 @@ fn is_same(a: &Reference, b: &Reference) -> bool
     a.index == b.index && a.name.canon() == b.name.canon()
 }
 
-// Those that refer to something.
+/// Those that refer to something.
 fn referring(alloc: Global, all: Vec<Reference>) -> Result<Vec<Reference>, AllocError>
     ensures { IfOk result (λ some. places some.items ≡ filter refers (places all.items)) }
 {
@@ -38,7 +38,7 @@ fn referring(alloc: Global, all: Vec<Reference>) -> Result<Vec<Reference>, Alloc
     Ok(some)
 }
 
-// The references of a list value; none of another value.
+/// The references of a list value; none of another value.
 fn references_of(alloc: Global, value: &Value) -> Result<Vec<Reference>, AllocError>
     ensures { IfOk result (λ all. places all.items ≡ listed value.now) }
 {
@@ -48,7 +48,7 @@ fn references_of(alloc: Global, value: &Value) -> Result<Vec<Reference>, AllocEr
     }
 }
 
-// The references of the list that stands there.
+/// The references of the list that stands there.
 fn list_at<R: Rows>(
     alloc: Global,
     rows: &mut R,
@@ -56,8 +56,7 @@ fn list_at<R: Rows>(
 ) -> Result<Vec<Reference>, Refused>
     ensures unchanged { R.content rows.new ≡ R.content rows.old }
     ensures found { IfOk result (λ all. places all.items ≡ lists (R.content rows.old) (place_of here.now)) }
-    ensures answered { OnOk result (R.refused rows.new ≡ R.refused rows.old) }
-    ensures refused { OnErr result ((R.refused rows.new ≡ R.refused rows.old) ⊎ (R.refused rows.new ≡ min (R.refused rows.old + 1) most)) }
+    ensures count { IsCounted result (R.refused rows.old) (R.refused rows.new) }
 {
     let Some(value) = rows.at(here)? else {
         return Ok(Vec::new(alloc));
@@ -68,7 +67,7 @@ fn list_at<R: Rows>(
     }
 }
 
-// The same, but that the search goes no further than its end.
+/// The same, but that the search goes no further than its end.
 fn list_before<R: Rows>(
     alloc: Global,
     rows: &mut R,
@@ -77,8 +76,7 @@ fn list_before<R: Rows>(
 ) -> Result<Vec<Reference>, Refused>
     ensures unchanged { R.content rows.new ≡ R.content rows.old }
     ensures found { IfOk result (λ all. places all.items ≡ onward (R.content rows.old) (place_of end.now) (place_of here.now)) }
-    ensures answered { OnOk result (R.refused rows.new ≡ R.refused rows.old) }
-    ensures refused { OnErr result ((R.refused rows.new ≡ R.refused rows.old) ⊎ (R.refused rows.new ≡ min (R.refused rows.old + 1) most)) }
+    ensures count { IsCounted result (R.refused rows.old) (R.refused rows.new) }
 {
     if is_same(here, end) {
         return Ok(Vec::new(alloc));
@@ -86,7 +84,7 @@ fn list_before<R: Rows>(
     list_at(alloc, rows, here)
 }
 
-// Where the search starts.
+/// Where the search starts.
 fn started(alloc: Global, grants: &[Grant]) -> Result<Seen, AllocError>
     ensures seen { IfOk result (λ seen. Extends [] (starts grants.now) (places seen.references.items)) }
     ensures kept { IfOk result AreKept }
@@ -98,7 +96,7 @@ fn started(alloc: Global, grants: &[Grant]) -> Result<Seen, AllocError>
     Ok(seen)
 }
 
-// Looks up, once, each reference to which lists lead from the grants, but for the end, and keeps what its list holds.
+/// Looks up, once, each reference to which lists lead from the grants, but for the end, and keeps what its list holds.
 fn gather<R: Rows>(
     alloc: Global,
     rows: &mut R,
@@ -107,8 +105,7 @@ fn gather<R: Rows>(
 ) -> Result<Sources, Refused>
     ensures unchanged { R.content rows.new ≡ R.content rows.old }
     ensures found { IfOk result (IsGathered (R.content rows.old) (place_of end.now) (starts grants.now)) }
-    ensures answered { OnOk result (R.refused rows.new ≡ R.refused rows.old) }
-    ensures refused { OnErr result ((R.refused rows.new ≡ R.refused rows.old) ⊎ (R.refused rows.new ≡ min (R.refused rows.old + 1) most)) }
+    ensures count { IsCounted result (R.refused rows.old) (R.refused rows.new) }
 {
     let Ok(mut seen) = started(alloc, grants) else {
         return Err(Refused);
@@ -130,7 +127,7 @@ fn gather<R: Rows>(
     Ok(sources)
 }
 
-// Goes back from the end, from each list's references to the list.
+/// Goes back from the end, from each list's references to the list.
 fn go_back(alloc: Global, sources: &Sources, end: &Reference) -> Result<Seen, AllocError>
     ensures found { IfOk result (λ seen. (p : Place) → Decides (is_among p (places seen.references.items)) (IsReached (sources_of sources.now) (place_of end.now) p)) }
     ensures kept { IfOk result AreKept }
@@ -157,8 +154,7 @@ pub(crate) fn leading_to<R: Rows>(
     ensures unchanged { R.content rows.new ≡ R.content rows.old }
     ensures found { IfOk result (λ seen. AllByRecursion (λ p. Decides (is_among p (places seen.references.items)) (IsChain (R.content rows.old) p (place_of end.now))) (starts grants.now)) }
     ensures kept { IfOk result AreKept }
-    ensures answered { OnOk result (R.refused rows.new ≡ R.refused rows.old) }
-    ensures refused { OnErr result ((R.refused rows.new ≡ R.refused rows.old) ⊎ (R.refused rows.new ≡ min (R.refused rows.old + 1) most)) }
+    ensures count { IsCounted result (R.refused rows.old) (R.refused rows.new) }
 {
     let sources = gather(alloc, rows, grants, end)?;
     match go_back(alloc, &sources, end) {

@@ -49,7 +49,7 @@ impl Seen {
         }
     }
 
-    // Adds a reference, unless its place was seen.
+    /// Adds a reference, unless its place was seen.
     pub(crate) fn add(&mut self, alloc: Global, one: &Reference) -> Result<(), AllocError>
         requires kept { AreKept self.old }
         ensures added { OnOk result (places self.new.references.items ≡ with_place (places self.old.references.items) (place_of one.now)) }

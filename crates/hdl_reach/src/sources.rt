@@ -38,7 +38,7 @@ impl Sources {
         }
     }
 
-    // Adds that one list holds a reference.
+    /// Adds that one list holds a reference.
     fn add(&mut self, alloc: Global, from: &Reference, to: &Reference) -> Result<(), AllocError>
         ensures { OnOk result ((q : Place) → sources_of self.new q ≡ with_source (sources_of self.old) (place_of from.now) (place_of to.now) q) }
     {

@@ -1,5 +1,5 @@
 -- What a table holds, what is read of it, and what each write makes of it.
-use Rattle.std.specs.Prelude.{refl, ℕ, ◌+◌, ◌^◌, ◌-◌, min, List, [], ◌∷◌, Bool, true, not, ◌==◌, map, find, Option, Some, None, Result, Ok, Err, ◌≡◌, ◌≢◌}
+use Rattle.std.specs.Prelude.{refl, ℕ, ◌+◌, ◌^◌, ◌-◌, min, List, [], ◌∷◌, Bool, true, not, ◌==◌, map, find, Option, Some, None, Result, Ok, Err, OnOk, OnErr, ◌⊎◌, ◌≡◌, ◌≢◌}
 use Rattle.std.specs.List.{AllByRecursion}
 use Rattle.std.specs.FinMap as map
 use Rattle.std.specs.FinSet as set
@@ -105,6 +105,10 @@ most = 2 ^ 64 - 1
 abbrev pub counted : {X E : Type 0} → Result X E → ℕ → ℕ
 counted (Ok x) n = n
 counted (Err e) n = min (n + 1) most
+
+-- The count after several looks: as it was where all answered; else one look was refused, or memory for the answer was, which no table counts.
+abbrev pub IsCounted : {X E : Type 0} → Result X E → ℕ → ℕ → Type 0
+IsCounted result old new = OnOk result (new ≡ old) × OnErr result ((new ≡ old) ⊎ (new ≡ min (old + 1) most))
 
 -- ---- what a contract sees of an implementation: what it holds, and how many calls were refused
 

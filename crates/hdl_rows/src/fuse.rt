@@ -21,7 +21,7 @@ struct Wire {
 impl Wire {
     ghost use Rattle.hdl_rows.specs.Fuse.{is_blown, after_call};
 
-    // Counts a call, and tells whether it is refused.
+    /// Counts a call, and tells whether it is refused.
     fn blows(&mut self) -> bool
         ensures refused { result ≡ is_blown self.old }
         ensures counted { self.new ≡ after_call self.old }

@@ -8,6 +8,13 @@
 //! is a word of its own (`IsPlaced`), which every write keeps under its conditions.
 //!
 //! It stands on `hdl_name` and `hdl_value`. The crates above know a table through [`Rows`] alone.
+//!
+//! # Decisions
+//!
+//! - **Handles stand in one vector in their order, and so do the values of a handle**: both are found by halves, and the order gives the
+//!   handles of an authority and the values of a handle as they are listed. A new handle moves those behind it. The kit's maps by hash
+//!   would have to sort for each list.
+//! - **That a look-up takes few steps stands in no clause**: contracts say what is found. `bench/replay` measures it.
 #![tactic(auto)]
 
 mod fuse;

@@ -42,7 +42,7 @@ impl PlainRows {
     }
 }
 
-// Counts a call that was refused.
+/// Counts a call that was refused.
 fn tally<T>(refusals: &mut u64, outcome: Result<T, AllocError>) -> Result<T, Refused>
     ensures count { refusals.new ≡ counted outcome refusals.old }
     ensures same { MatchResult outcome (λ x. result ≡ Ok x) (λ _. IsErr result) }
@@ -56,7 +56,7 @@ fn tally<T>(refusals: &mut u64, outcome: Result<T, AllocError>) -> Result<T, Ref
     }
 }
 
-// A copy of what was found.
+/// A copy of what was found.
 fn copied(alloc: Global, value: Option<&Value>) -> Result<Option<Value>, AllocError>
     ensures { IfOk result (λ copy. copy ≡ option_copied value.entry) }
 {

@@ -16,7 +16,7 @@ pub(crate) struct Row {
     pub(crate) values: Vec<Value>,
 }
 
-// How many values at the front have an index below.
+/// How many values at the front have an index below.
 fn count_below(values: &[Value], index: u32) -> usize
     requires ordered { IsTrue (is_sorted nat_cmp (by_index values.now)) }
     ensures { result ≡ prefix_len (λ v. nat_lt v.index index) values.now }
@@ -47,7 +47,7 @@ pub(crate) fn copies(alloc: Global, values: &[Value]) -> Result<Vec<Value>, Allo
     Ok(all)
 }
 
-// Puts a value in its place, over the one with its index if there is one.
+/// Puts a value in its place, over the one with its index if there is one.
 fn put_value(values: &mut Vec<Value>, value: Value)
     requires ordered { IsTrue (is_sorted nat_cmp (by_index values.old.items)) }
     requires room { vec_len values.old < vec_capacity values.old }

@@ -48,21 +48,21 @@ fn is_below(a: &[u8], b: &[u8]) -> bool
     a.cmp(&b) == Ordering::Less
 }
 
-// How many octets stand before the first slash.
+/// How many octets stand before the first slash.
 fn slash_in(handle: &[u8]) -> usize
     ensures { result ≡ position_or_len is_slash handle.now }
 {
     handle.iter().take_while(|octet| **octet != b'/').count()
 }
 
-// The octets before the first slash.
+/// The octets before the first slash.
 fn front_of(handle: &[u8]) -> &[u8]
     ensures { result.now ≡ sent_authority handle.now }
 {
     &handle[..slash_in(handle)]
 }
 
-// Whether the octets, with their ASCII letters made lower, are these.
+/// Whether the octets, with their ASCII letters made lower, are these.
 fn lowers_to(octets: &[u8], lowered: &[u8]) -> bool
     ensures { IsTrue result ↔ (map to_ascii_lowercase octets.now ≡ lowered.now) }
 {
@@ -77,14 +77,14 @@ fn lowers_to(octets: &[u8], lowered: &[u8]) -> bool
     true
 }
 
-// Whether the handle has this authority, which is in canonical form.
+/// Whether the handle has this authority, which is in canonical form.
 fn is_of(handle: &[u8], prefix: &[u8]) -> bool
     ensures { result ≡ same_handle (authority handle.now) prefix.now }
 {
     lowers_to(front_of(handle), prefix)
 }
 
-// How many rows at the front have a handle below.
+/// How many rows at the front have a handle below.
 fn count_below(rows: &[Row], name: &[u8]) -> usize
     requires ordered { IsTrue (is_sorted handle_cmp (entries_of rows.now)) }
     ensures { result ≡ prefix_len (λ r. is_lt (handle_cmp r.name name.now)) rows.now }
@@ -92,7 +92,7 @@ fn count_below(rows: &[Row], name: &[u8]) -> usize
     rows.partition_point(|row| is_below(row.name.as_slice(), name))
 }
 
-// The place of the handle's row.
+/// The place of the handle's row.
 fn position_of(rows: &[Row], name: &[u8]) -> Option<usize>
     requires ordered { IsTrue (is_sorted handle_cmp (entries_of rows.now)) }
     ensures { result ≡ position (λ r. same_handle name.now r.name) rows.now }
@@ -105,7 +105,7 @@ fn position_of(rows: &[Row], name: &[u8]) -> Option<usize>
     }
 }
 
-// The handle's row.
+/// The handle's row.
 fn row_of<'a>(rows: &'a [Row], name: &[u8]) -> Option<&'a Row>
     requires ordered { IsTrue (is_sorted handle_cmp (entries_of rows.now)) }
     ensures { option_map (λ r. r.now.values.items) result ≡ find handle_cmp name.now (entries_of rows.now) }

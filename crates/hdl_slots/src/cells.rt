@@ -81,7 +81,7 @@ impl Cells {
         mem::replace(&mut cell.challenge, challenge)
     }
 
-    // Makes a lane's cells, and answers their keys.
+    /// Makes a lane's cells, and answers their keys.
     fn lane_keys(slab: &mut Slab<Cell>, lane: usize) -> Result<[usize; CHALLENGES_MAX], AllocError>
         ensures places { IfOk result (λ keys. length keys ≡ CHALLENGES_MAX) }
         ensures made { IfOk result (λ keys. (place : ℕ) → place < CHALLENGES_MAX → get slab.new (slice_index keys place) ≡ Some (empty_cell lane place)) }

@@ -75,7 +75,7 @@ pub(crate) fn next_after(number: u32) -> u32
     if number == u32::MAX { 1 } else { number + 1 }
 }
 
-// The place of the challenge of this peer under this number.
+/// The place of the challenge of this peer under this number.
 fn place_of(cells: &Cells, lane: usize, peer: u16, number: u32) -> Option<usize>
     requires lane { lane < LANES }
     requires places { length (places_of cells.now lane) ≡ CHALLENGES_MAX }
@@ -89,7 +89,7 @@ fn place_of(cells: &Cells, lane: usize, peer: u16, number: u32) -> Option<usize>
     None
 }
 
-// The place of the challenge of this number.
+/// The place of the challenge of this number.
 fn place_of_number(cells: &Cells, lane: usize, number: u32) -> Option<usize>
     requires lane { lane < LANES }
     requires places { length (places_of cells.now lane) ≡ CHALLENGES_MAX }
@@ -103,7 +103,7 @@ fn place_of_number(cells: &Cells, lane: usize, number: u32) -> Option<usize>
     None
 }
 
-// It's the challenge of this peer under this number.
+/// It's the challenge of this peer under this number.
 fn is_of(found: Option<&Challenge>, peer: u16, number: u32) -> bool
     ensures { result ≡ passes (is_of peer number) (option_copied found.entry) }
 {
@@ -113,7 +113,7 @@ fn is_of(found: Option<&Challenge>, peer: u16, number: u32) -> bool
     }
 }
 
-// It's the challenge of this number.
+/// It's the challenge of this number.
 fn has_number(found: Option<&Challenge>, number: u32) -> bool
     ensures { result ≡ passes (has_number number) (option_copied found.entry) }
 {

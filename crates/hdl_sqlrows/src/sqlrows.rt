@@ -54,7 +54,7 @@ impl SqlRows {
     }
 }
 
-// Counts a call that was refused.
+/// Counts a call that was refused.
 fn tally<T>(refusals: &mut u64, outcome: Result<T, Fault>) -> Result<T, Refused>
     ensures count { refusals.new ≡ counted outcome refusals.old }
     ensures same { MatchResult outcome (λ x. result ≡ Ok x) (λ _. IsErr result) }

@@ -47,7 +47,7 @@ loop-next-preserved g c =
     let listed = ap places c.as_slice-more.ensures.value ∙ c.in_ok-listed.ensures.found ∙ ap (λ (s : Table). onward s end here) c.loop-next.invariant.same in
     record {
       same = c.list_before.ensures.unchanged ∙ c.loop-next.invariant.same;
-      answered = c.in_ok-listed.ensures.answered ∙ c.loop-next.invariant.answered;
+      answered = c.in_ok-listed.ensures.count.0 ∙ c.loop-next.invariant.answered;
       searched = goes_on (onward t end) (λ p. IsTrue (is_among p (reachable t all))) all seen more new c.loop-next.next here (λ q _ leads. listed_reachable t all end here q leads) c.loop-next.invariant.searched low is listed c.in-Ok-extend.ensures.extended;
       sources = subst (λ ps. HasSources (onward t end) ps c.add_all.new.self) (sym (passed_more seen more new c.loop-next.next here low is c.in-Ok-extend.ensures.extended))
           (sources_passed (onward t end) (take c.loop-next.next seen) more c.loop-next.sources c.add_all.new.self here c.loop-next.invariant.sources listed c.in-Ok-add_all.ensures);
