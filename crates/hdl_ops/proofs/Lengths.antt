@@ -1,13 +1,13 @@
 -- How long the message of a reply is: session, request number and code don't matter.
-use Rattle.std.proofs.Common.{◌≡◌, ◌≤◌, ◌+◌, ℕ, Bool, true, false, cond, List, ◌++◌, length, length-append, refl, sym, ap, subst, ◌∙◌, arith, Some, None}
-use Rattle.std.specs.Prelude.{IsTrue, codes}
+use Rattle.std.proofs.Common.{◌≡◌, ◌≤◌, ◌<◌, ◌+◌, ◌-◌, ℕ, Bool, true, false, cond, List, ◌++◌, length, length-append, refl, sym, ap, subst, ◌∙◌, arith, Some, None}
+use Rattle.std.specs.Prelude.{IsTrue, codes, nat_le}
 use Rattle.std.specs.List.{position_or_len}
-use Rattle.std.proofs.lemmas.Bool.{leb-true, le-leb}
+use Rattle.std.proofs.lemmas.Bool.{leb-true, le-leb, false_from_ne_true}
 use Rattle.std.proofs.lemmas.List.{length-take, length-drop}
 use Rattle.hdl_auth.specs.declared.algorithm.Algorithm.{Algorithm}
 use Rattle.hdl_auth.specs.declared.algorithm.Digest.{Digest}
-use Rattle.hdl_auth.specs.Digest.{spelt, digest_of}
-use Rattle.hdl_auth.proofs.Digests.{digest_short}
+use Rattle.hdl_auth.specs.Digest.{size_of, spelt, digest_of}
+use Rattle.hdl_auth.proofs.Digests.{digest_short, length-digest}
 use Rattle.hdl_name.specs.Name.{IsHandle, is_slash, is_admin, sent_authority, sent_local, sent_prefix}
 use Rattle.hdl_value.specs.Spelling.{string}
 use Rattle.hdl_msg.specs.Message.{Content, number, signed_octets}
@@ -18,7 +18,7 @@ use Rattle.hdl_limits.specs.declared.TheConstants.{MESSAGE_MAX}
 use Rattle.hdl_msg.specs.Reply.{capped, digest_octets, content_octets, reply_message, reply_body}
 use Rattle.hdl_msg.proofs.Written.{length-reply_message}
 use Rattle.hdl_ops.specs.Requests.{wants_digest}
-use Rattle.hdl_ops.specs.Replies.{reply_to, fits}
+use Rattle.hdl_ops.specs.Replies.{asked_digest, reply_to, fits}
 
 same_length : (a : Algorithm) (session number : ℕ) (r : Content) (code : ℕ) (content : ReplyContent)
     → length (reply_message (reply_to a session number r code content)) ≡ length (reply_message (reply_to a 0 0 r 0 content))
@@ -33,14 +33,35 @@ fits_anywhere a session number r code content h =
     let same = same_length a session number r code content in
     omega (arith, le, same)
 
--- a reply that was measured and is short enough gives its content back
-pub content_fits : (a : Algorithm) (r : Content) (content : ReplyContent) (reply : Reply) (n : ℕ) → reply ≡ reply_to a 0 0 r 0 content → n ≡ capped (length (reply_message reply)) → n ≤ MESSAGE_MAX
-    → Some reply.content ≡ cond (fits a r content) (Some content) None
-unfolding fits reply_to
-content_fits a r content reply n is len le =
-    let short : length (reply_message (reply_to a 0 0 r 0 content)) ≤ MESSAGE_MAX =
-    subst (λ (y : Reply). length (reply_message y) ≤ MESSAGE_MAX) is (omega (arith, len, le)) in
-    ap (λ (y : Reply). Some y.content) is ∙ ap (λ (b : Bool). cond b (Some content) None) (sym (le-leb (length (reply_message (reply_to a 0 0 r 0 content))) MESSAGE_MAX short))
+-- ---- a reply that was measured without its digest
+
+pub asked_room : (a : Algorithm) (r : Content) → wants_digest r ≡ true → size_of a + 1 ≡ length (digest_octets (asked_digest a r))
+asked_room a r e =
+    let is : length (digest_octets (asked_digest a r)) ≡ length (spelt (digest_of a (signed_octets r))) = ap (λ (b : Bool). length (digest_octets (cond b (Some (digest_of a (signed_octets r))) None))) e in
+    omega (arith, is, length-digest a (signed_octets r))
+
+with_room : (a : Algorithm) (r : Content) (plain : Reply) → plain.digest ≡ None
+    → length (reply_message (reply_to a 0 0 r 0 plain.content)) ≡ length (digest_octets (asked_digest a r)) + length (reply_message plain)
+unfolding reply_to
+with_room a r plain none =
+    let bare : length (digest_octets plain.digest) ≡ 0 = ap (λ d. length (digest_octets d)) none in
+    omega (arith, bare, length-reply_message plain, length-reply_message (reply_to a 0 0 r 0 plain.content))
+
+-- one that leaves room for the digest
+pub room_left : (a : Algorithm) (r : Content) (plain : Reply) (n room : ℕ) → plain.digest ≡ None → n ≡ capped (length (reply_message plain)) → room ≡ length (digest_octets (asked_digest a r))
+    → room ≤ 33 → n ≤ MESSAGE_MAX - room → fits a r plain.content ≡ true
+unfolding fits
+room_left a r plain n room none len is few le =
+    le-leb (length (reply_message (reply_to a 0 0 r 0 plain.content))) MESSAGE_MAX (omega (arith, with_room a r plain none, len, is, few, le))
+
+-- one that leaves none
+pub no_room_left : (a : Algorithm) (r : Content) (plain : Reply) (n room : ℕ) → plain.digest ≡ None → n ≡ capped (length (reply_message plain)) → room ≡ length (digest_octets (asked_digest a r))
+    → room ≤ 33 → MESSAGE_MAX - room < n → fits a r plain.content ≡ false
+unfolding fits
+no_room_left a r plain n room none len is few more =
+    false_from_ne_true (nat_le (length (reply_message (reply_to a 0 0 r 0 plain.content))) MESSAGE_MAX) (λ e.
+    let le = leb-true (length (reply_message (reply_to a 0 0 r 0 plain.content))) MESSAGE_MAX e in
+    omega (arith, with_room a r plain none, len, is, few, more, le))
 
 -- ---- what always fits
 

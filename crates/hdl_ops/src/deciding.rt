@@ -72,15 +72,15 @@ fn look<R: Rows>(
 /// The decision about a request that came as it is, and that the tests before the table let pass.
 fn decide_for_anyone<R: Rows>(
     alloc: Global,
-    asked: Asked<'_>,
+    asked: &Asked<'_>,
     rows: &mut R,
     name: Name,
 ) -> Result<Decision, Refused>
-    requires named { name ≡ named asked.request.now.operation }
+    requires named { name ≡ named asked.now.request.now.operation }
     ensures unchanged { R.content rows.new ≡ R.content rows.old }
-    ensures decided { IfOk result (λ d. DecidesBy asked.algorithm (R.content rows.old) asked.request.now decisions.Anyone None (decision_of d)) }
-    ensures carried { IfOk result (λ d. IsTrue (fits asked.algorithm asked.request.now d.content)) }
-    ensures by_index { OnOk result (HaveTheirIndexes (R.content rows.old) (handle_of asked.request.now) (sight (R.content rows.old) asked.request.now).values) }
+    ensures decided { IfOk result (λ d. DecidesBy asked.now.algorithm (R.content rows.old) asked.now.request.now decisions.Anyone None (decision_of d)) }
+    ensures carried { IfOk result (λ d. IsTrue (fits asked.now.algorithm asked.now.request.now d.content)) }
+    ensures by_index { OnOk result (HaveTheirIndexes (R.content rows.old) (handle_of asked.now.request.now) (sight (R.content rows.old) asked.now.request.now).values) }
     ensures count { IsCounted result (R.refused rows.old) (R.refused rows.new) }
 {
     let sight = look(alloc, rows, asked.request, &name)?;
@@ -91,19 +91,19 @@ fn decide_for_anyone<R: Rows>(
 /// The decision about a request that came back with a proof.
 fn decide_with_proof<R: Rows>(
     alloc: Global,
-    asked: Asked<'_>,
+    asked: &Asked<'_>,
     rows: &mut R,
     masks: &mut Masks,
     name: Name,
     proof: &Proof<'_>,
 ) -> Result<Decision, Refused>
-    requires named { name ≡ named asked.request.now.operation }
+    requires named { name ≡ named asked.now.request.now.operation }
     requires true_masks { AreTrue (R.content rows.old) masks.old }
     ensures unchanged { R.content rows.new ≡ R.content rows.old }
     ensures true_masks { AreTrue (R.content rows.new) masks.new }
-    ensures decided { IfOk result (λ d. DecidesBy asked.algorithm (R.content rows.old) asked.request.now (decisions.Proven (proof_of proof.now)) None (decision_of d)) }
-    ensures carried { IfOk result (λ d. IsTrue (fits asked.algorithm asked.request.now d.content)) }
-    ensures by_index { OnOk result (HaveTheirIndexes (R.content rows.old) (handle_of asked.request.now) (sight (R.content rows.old) asked.request.now).values) }
+    ensures decided { IfOk result (λ d. DecidesBy asked.now.algorithm (R.content rows.old) asked.now.request.now (decisions.Proven (proof_of proof.now)) None (decision_of d)) }
+    ensures carried { IfOk result (λ d. IsTrue (fits asked.now.algorithm asked.now.request.now d.content)) }
+    ensures by_index { OnOk result (HaveTheirIndexes (R.content rows.old) (handle_of asked.now.request.now) (sight (R.content rows.old) asked.now.request.now).values) }
     ensures count { IsCounted result (R.refused rows.old) (R.refused rows.new) }
 {
     let sight = look(alloc, rows, asked.request, &name)?;
@@ -118,7 +118,7 @@ fn decide_with_proof<R: Rows>(
 /// it was. What is carried fits into the message of a reply, and a change meets the conditions of its write.
 pub fn decide<R: Rows>(
     owner: &Owner<'_>,
-    asked: Asked<'_>,
+    asked: &Asked<'_>,
     rows: &mut R,
     masks: &mut Masks,
     level: &Level<'_>,
@@ -126,8 +126,8 @@ pub fn decide<R: Rows>(
     requires true_masks { AreTrue (R.content rows.old) masks.old }
     ensures unchanged { R.content rows.new ≡ R.content rows.old }
     ensures true_masks { AreTrue (R.content rows.new) masks.new }
-    ensures decided { IfOk result (λ d. Decides (hosted_by owner.now) asked.algorithm (R.content rows.old) asked.request.now (level_of level.now) (decision_of d)) }
-    ensures carried { IfOk result (λ d. IsTrue (fits asked.algorithm asked.request.now d.content)) }
+    ensures decided { IfOk result (λ d. Decides (hosted_by owner.now) asked.now.algorithm (R.content rows.old) asked.now.request.now (level_of level.now) (decision_of d)) }
+    ensures carried { IfOk result (λ d. IsTrue (fits asked.now.algorithm asked.now.request.now d.content)) }
     ensures can_apply { IfOk result (λ d. IfSome d.change (λ change. CanApply (R.content rows.old) change)) }
     ensures count { IsCounted result (R.refused rows.old) (R.refused rows.new) }
 {

@@ -15,8 +15,8 @@ use hdl_msg::{Reply, ReplyContent, ResponseCode, answer_header, reply_len, write
 use std::alloc::{AllocError, Global};
 
 /// The digest of the request, where it asks for it.
-fn asked_digest(asked: Asked<'_>) -> Option<Digest>
-    ensures { result ≡ asked_digest asked.algorithm asked.request.now }
+fn asked_digest(asked: &Asked<'_>) -> Option<Digest>
+    ensures { result ≡ asked_digest asked.now.algorithm asked.now.request.now }
 {
     if wants_digest(asked.request) {
         Some(digest(asked.algorithm, asked.request.signed()))
@@ -26,8 +26,8 @@ fn asked_digest(asked: Asked<'_>) -> Option<Digest>
 }
 
 /// How many octets of a reply's message are those of the digest and of the octet before it. No digest is made to know it.
-fn digest_room(asked: Asked<'_>) -> usize
-    ensures room { result ≡ length (digest_octets (asked_digest asked.algorithm asked.request.now)) }
+fn digest_room(asked: &Asked<'_>) -> usize
+    ensures room { result ≡ length (digest_octets (asked_digest asked.now.algorithm asked.now.request.now)) }
     ensures short { result ≤ 33 }
 {
     if wants_digest(asked.request) {
@@ -39,8 +39,8 @@ fn digest_room(asked: Asked<'_>) -> usize
 
 /// The content, if the message of a reply with it isn't too long.
 #[tactic(auto, unfolding(crate::specs::Replies::fits))]
-pub(crate) fn fitting(asked: Asked<'_>, content: ReplyContent) -> Option<ReplyContent>
-    ensures { result ≡ (if fits asked.algorithm asked.request.now content then Some content else None) }
+pub(crate) fn fitting(asked: &Asked<'_>, content: ReplyContent) -> Option<ReplyContent>
+    ensures { result ≡ (if fits asked.now.algorithm asked.now.request.now content then Some content else None) }
 {
     let reply = Reply {
         session: 0,
@@ -60,13 +60,13 @@ pub(crate) fn fitting(asked: Asked<'_>, content: ReplyContent) -> Option<ReplyCo
 #[tactic(auto, unfolding(crate::specs::Replies::reply_to))]
 pub fn render(
     alloc: Global,
-    asked: Asked<'_>,
+    asked: &Asked<'_>,
     envelope: &Envelope,
     code: ResponseCode,
     content: ReplyContent,
 ) -> Result<Vec<u8>, AllocError>
-    requires fits { IsTrue (fits asked.algorithm asked.request.now content) }
-    ensures { IfOk result (λ octets. octets.items ≡ reply_octets (reply_to asked.algorithm envelope.now.session envelope.now.request asked.request.now (response_number code) content)) }
+    requires fits { IsTrue (fits asked.now.algorithm asked.now.request.now content) }
+    ensures { IfOk result (λ octets. octets.items ≡ reply_octets (reply_to asked.now.algorithm envelope.now.session envelope.now.request asked.now.request.now (response_number code) content)) }
 {
     let reply = Reply {
         session: envelope.session,
@@ -82,12 +82,12 @@ pub fn render(
 #[tactic(auto, unfolding(crate::specs::Replies::challenge_to))]
 pub fn render_challenge(
     alloc: Global,
-    asked: Asked<'_>,
+    asked: &Asked<'_>,
     envelope: &Envelope,
     nonce: &[u8; 16],
 ) -> Result<(Vec<u8>, Digest), AllocError>
-    ensures octets { IfOk result (λ sent. sent.0.items ≡ reply_octets (challenge_to asked.algorithm envelope.now.session envelope.now.request asked.request.now nonce.now)) }
-    ensures digest { IfOk result (λ sent. sent.1 ≡ digest_of asked.algorithm asked.request.now) }
+    ensures octets { IfOk result (λ sent. sent.0.items ≡ reply_octets (challenge_to asked.now.algorithm envelope.now.session envelope.now.request asked.now.request.now nonce.now)) }
+    ensures digest { IfOk result (λ sent. sent.1 ≡ digest_of asked.now.algorithm asked.now.request.now) }
 {
     let request_digest = digest(asked.algorithm, asked.request.signed());
     let reply = Reply {

@@ -117,15 +117,15 @@ fn failure(code: ResponseCode) -> Decision
 #[tactic(auto, unfolding(crate::specs::Decisions::decision), using(crate::proofs::Lengths::empty_fits))]
 pub(crate) fn settle(
     alloc: Global,
-    asked: Asked<'_>,
+    asked: &Asked<'_>,
     level: &Level<'_>,
     sight: Sight,
     code: ResponseCode,
     name: Name,
 ) -> Result<Decision, Refused>
-    requires named { name ≡ named asked.request.now.operation }
-    ensures carried { IfOk result (λ d. IsTrue (fits asked.algorithm asked.request.now d.content)) }
-    ensures decided { IfOk result (λ d. decision_of d ≡ decisions.decision asked.algorithm (sight_of sight) asked.request.now (level_of level.now) (response_number code)) }
+    requires named { name ≡ named asked.now.request.now.operation }
+    ensures carried { IfOk result (λ d. IsTrue (fits asked.now.algorithm asked.now.request.now d.content)) }
+    ensures decided { IfOk result (λ d. decision_of d ≡ decisions.decision asked.now.algorithm (sight_of sight) asked.now.request.now (level_of level.now) (response_number code)) }
 {
     if code != ResponseCode::Success {
         return Ok(failure(code));

@@ -1,5 +1,9 @@
+use Rattle.hdl_ops.specs.Replies.{reply_to}
 use Rattle.hdl_ops.proofs.Lengths.{fits_anywhere}
 use Rattle.hdl_ops.proofs.rendering.render.Goals as goal
 
 pub write_reply-requires : goal.write_reply-requires
-write_reply-requires c = rw c.reply_to-reply.ensures (fits_anywhere _ _ _ _ _ _ c.requires.fits)
+unfolding reply_to
+write_reply-requires c =
+    rw (c.answer_header.ensures, c.header.ensures, c.asked_digest.ensures)
+    (fits_anywhere c.args.asked.now.algorithm c.args.envelope.now.session c.args.envelope.now.request c.args.asked.now.request.now c.number.result c.args.content c.requires.fits)
