@@ -4,8 +4,7 @@ ghost use Rattle.std.specs.Prelude.{◌≡◌};
 ghost use Rattle.hdl_msg.specs.RequestBody.{requested_code};
 
 use crate::codes::OpCode;
-use crate::owned::{HandleList, IndexList, ValueList};
-use hdl_value::Octets;
+use hdl_value::{Listed, Octets, Value};
 
 /// What a request asks for, with what it names: the body of each operation (RFC 3652, sections 3.2 and 3.5 to 3.7, in our
 /// profile: docs/PROTOCOL.md, "Message"), owned by who writes it. `Body` is the same where it stands in a message.
@@ -24,27 +23,27 @@ use hdl_value::Octets;
 pub enum RequestBody {
     Resolution {
         handle: Octets,
-        indexes: IndexList,
-        types: HandleList,
+        indexes: Listed<u32>,
+        types: Listed<Octets>,
     },
     Create {
         handle: Octets,
-        values: ValueList,
+        values: Listed<Value>,
     },
     Delete {
         handle: Octets,
     },
     Add {
         handle: Octets,
-        values: ValueList,
+        values: Listed<Value>,
     },
     Remove {
         handle: Octets,
-        indexes: IndexList,
+        indexes: Listed<u32>,
     },
     Modify {
         handle: Octets,
-        values: ValueList,
+        values: Listed<Value>,
     },
     List {
         handle: Octets,

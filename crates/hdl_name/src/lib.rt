@@ -9,15 +9,15 @@
 //! same test without memory. The laws that the crates above lean on (one reading, the canonical form is a name and stays)
 //! are the contracts of functions without a body.
 //!
-//! Contracts see a [`Name`] as the octets that were sent, and [`Octets`] as the list of its numbers.
+//! Contracts see a [`Name`] as the octets that were sent, and [`Listed`] items, such as [`Octets`], as a list.
 #![tactic(auto)]
 
 mod fault;
 mod laws;
+mod listed;
 mod name;
-mod octets;
 
 pub use fault::NameFault;
 pub use laws::{canonical_stays, names_decided, one_reading, same_prefix};
+pub use listed::{Listed, Octets};
 pub use name::{Name, is_authority, is_name};
-pub use octets::Octets;

@@ -4,19 +4,18 @@ ghost use Rattle.std.specs.Prelude.{◌≡◌, map, OnOk, OnErr};
 ghost use Rattle.hdl_rows.specs.Table.{indexes, counted};
 ghost use Rattle.hdl_ops.specs.Tables.{apply, stamped, CanApply};
 
-use hdl_msg::{IndexList, ValueList};
 use hdl_name::Name;
 use hdl_rows::{Refused, Rows};
-use hdl_value::Value;
+use hdl_value::{Listed, Value};
 
 /// One write of the table. A name stands for its canonical form.
 #[derive(Debug, Drop)]
 pub enum Change {
-    Create { name: Name, values: ValueList },
+    Create { name: Name, values: Listed<Value> },
     Delete { name: Name },
-    Add { name: Name, values: ValueList },
-    Remove { name: Name, indexes: IndexList },
-    Modify { name: Name, values: ValueList },
+    Add { name: Name, values: Listed<Value> },
+    Remove { name: Name, indexes: Listed<u32> },
+    Modify { name: Name, values: Listed<Value> },
 }
 
 fn with_moment(mut values: Vec<Value>, moment: u64) -> Vec<Value>
@@ -29,7 +28,7 @@ fn with_moment(mut values: Vec<Value>, moment: u64) -> Vec<Value>
 }
 
 /// The values with the moment of their write.
-fn stamp(values: ValueList, moment: u64) -> Vec<Value>
+fn stamp(values: Listed<Value>, moment: u64) -> Vec<Value>
     ensures stamped { result.items ≡ map (stamped moment) values }
     ensures indexes { indexes result.items ≡ indexes values }
 {

@@ -16,12 +16,10 @@ use crate::change::Change;
 use crate::decision::{Asked, Decision, Level, Sight};
 use crate::rendering::fitting;
 use crate::written::{copied_indexes, copied_values};
-use hdl_msg::{
-    Body, HandleList, IndexList, ReplyContent, Request, ResponseCode, ValueList, Values,
-};
+use hdl_msg::{Body, ReplyContent, Request, ResponseCode, Values};
 use hdl_name::Name;
 use hdl_rows::Refused;
-use hdl_value::{Octets, Value};
+use hdl_value::{Listed, Octets, Value};
 use std::alloc::{AllocError, Global};
 
 fn may_read(level: &Level<'_>, value: &Value) -> bool
@@ -52,10 +50,10 @@ fn carried(
     match *request.body() {
         Body::Resolution { handle, .. } => Ok(ReplyContent::Values {
             handle: Octets::new(Vec::from_slice(alloc, handle)?),
-            values: ValueList::new(shown(request.body(), level, sight.values)),
+            values: Listed::new(shown(request.body(), level, sight.values)),
         }),
         Body::List { .. } => Ok(ReplyContent::Handles {
-            handles: HandleList::new(sight.names),
+            handles: Listed::new(sight.names),
         }),
         Body::Create { .. } => Ok(ReplyContent::Nothing),
         Body::Delete { .. } => Ok(ReplyContent::Nothing),
@@ -67,10 +65,10 @@ fn carried(
     }
 }
 
-fn value_list(alloc: Global, values: Values<'_>) -> Result<ValueList, AllocError>
+fn value_list(alloc: Global, values: Values<'_>) -> Result<Listed<Value>, AllocError>
     ensures { IfOk result (λ list. list ≡ values_of values.entry) }
 {
-    Ok(ValueList::new(copied_values(alloc, values)?))
+    Ok(Listed::new(copied_values(alloc, values)?))
 }
 
 /// The write that the operation asks for.
@@ -89,7 +87,7 @@ fn change_of(alloc: Global, body: &Body<'_>, name: Name) -> Result<Option<Change
             Ok(Some(Change::Add { name, values }))
         }
         Body::Remove { indexes, .. } => {
-            let indexes = IndexList::new(copied_indexes(alloc, *indexes)?);
+            let indexes = Listed::new(copied_indexes(alloc, *indexes)?);
             Ok(Some(Change::Remove { name, indexes }))
         }
         Body::Modify { values, .. } => {

@@ -8,9 +8,8 @@ ghost use Rattle.hdl_value.specs.Reading.{Reads, many_at, whole_of};
 ghost use Rattle.hdl_value.specs.Cut.{ref_at, refs_at, ref_view, refs_view, IsWhole};
 
 use crate::fields::{put_string, put_u32, string_at, u32_at};
-use hdl_name::Octets;
+use hdl_name::{Listed, Octets};
 use std::alloc::{AllocError, Global};
-use std::marker::Model;
 
 /// A reference as it is spelt: a handle, which may be no name, and an index.
 #[derive(Debug, Drop)]
@@ -19,44 +18,8 @@ pub struct RawRef {
     pub index: u32,
 }
 
-/// The references of a value, seen as a list.
-#[derive(Debug, Drop)]
-pub struct RawRefs {
-    references: Vec<RawRef>,
-}
-
-impl Model for RawRefs {
-    ghost use Rattle.std.specs.Prelude.{List};
-    ghost use Rattle.hdl_value.specs.declared.references.RawRef.{RawRef};
-
-    ghost Value = { List RawRef };
-
-    ghost view = { λ a. a.references.items };
-}
-
-impl RawRefs {
-    /// The references of a vector, which is taken as it is.
-    pub fn new(references: Vec<RawRef>) -> RawRefs
-        ensures { result ≡ references.items }
-    {
-        RawRefs { references }
-    }
-
-    /// The references where they stand.
-    pub fn as_slice(&self) -> &[RawRef]
-        ensures { result.now ≡ self.now }
-    {
-        &self.references
-    }
-
-    /// The vector back, as it is.
-    pub fn into_vec(self) -> Vec<RawRef>
-        ensures { result.items ≡ self }
-    {
-        let RawRefs { references } = self;
-        references
-    }
-}
+/// The references of a value.
+pub type RawRefs = Listed<RawRef>;
 
 /// A reference where it stands in the octets.
 #[derive(Clone, Copy)]
