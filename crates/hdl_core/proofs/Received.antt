@@ -7,17 +7,20 @@ use Rattle.hdl_frame.specs.Envelope.{envelope_at, is_truncated}
 use Rattle.hdl_frame.specs.Frames.{IsFrame}
 use Rattle.hdl_frame.specs.Splitting.{IsFrameOf}
 use Rattle.hdl_msg.specs.Reply.{reply_envelope, short_reply}
+use Rattle.hdl_msg.specs.ReplyView.{IsReplyFrame}
+use Rattle.hdl_msg.proofs.ReplyReadings.{short_reply_read}
 use Rattle.hdl_rows.specs.Table.{Table}
 use Rattle.hdl_laws.specs.declared.events.What.{What}
 use Rattle.hdl_laws.specs.declared.events.What.TheVariants.{Open, Bad, Close}
 use Rattle.hdl_laws.specs.declared.events.Outcome.{Outcome}
 use Rattle.hdl_laws.specs.declared.events.Outcome.TheVariants.{Reply, Busy, Silent, CloseAfter}
 use Rattle.hdl_laws.specs.Lanes.{LaneState, fresh}
+use Rattle.hdl_laws.specs.Told.{IsReadable}
 use Rattle.hdl_laws.specs.Worlds as worlds
 use Rattle.hdl_laws.specs.Worlds.{Received, Task, Ignore, Break, Effect, IsFrameTask, IsOctetsTask, arrived}
 use Rattle.hdl_core.specs.declared.letter.Letter.{Letter}
 use Rattle.hdl_core.specs.Held.{Held, state_at, with_state}
-use Rattle.std.specs.Prelude.{IfOk, OnErr}
+use Rattle.std.specs.Prelude.{IfOk, IfSome, OnErr}
 use Rattle.std.specs.Option.{option_map_or}
 use Rattle.hdl_rows.specs.declared.rows.Refused.{Refused}
 use Rattle.hdl_core.specs.Serving.{letter_of, outcome_of, AssemblesAt, HearsAt, ReceivesAt, ServesAt}
@@ -30,6 +33,12 @@ when_true false P Q e p = absurd cc
 when_false : (b : Bool) (P Q : Type 0) → b ≡ false → Q → MatchBool b P Q
 when_false false P Q e q = q
 when_false true P Q e q = absurd cc
+
+-- what is sent of a frame is read
+pub read_of : (e : Envelope) (reply : Result (Option (List ℕ)) Refused) (o : Outcome) → o ≡ outcome_of e reply → IfOk reply (λ r. IfSome r IsReplyFrame) → IsReadable o
+read_of e (Ok (Some octets)) o is h = subst IsReadable (sym is) h
+read_of e (Ok None) o is h = subst IsReadable (sym is) tt
+read_of e (Err refusal) o is h = subst IsReadable (sym is) (short_reply_read e).0
 
 module _ (hosts : List ℕ → Bool) (algorithms : List ℕ → Algorithm) (t : Table) (lanes : List Held) (number : ℕ) where
   -- ---- octets that came on an open lane

@@ -5,8 +5,11 @@ use Rattle.hdl_auth.specs.declared.algorithm.Algorithm.{Algorithm}
 use Rattle.hdl_frame.specs.declared.envelope.Envelope.{Envelope}
 use Rattle.hdl_frame.specs.Envelope.{envelope_at}
 use Rattle.hdl_frame.specs.Frames.{IsFrame}
-use Rattle.hdl_msg.specs.Message.{Content, SpellsRequest}
+use Rattle.hdl_msg.specs.declared.replies.ReplyContent.{ReplyContent}
+use Rattle.hdl_msg.specs.Codes.{IsNumberOf}
+use Rattle.hdl_msg.specs.Message.{Content, SpellsRequest, code_of}
 use Rattle.hdl_msg.specs.Reply.{short_reply}
+use Rattle.hdl_msg.specs.ReplyView.{reply_parts, IsAnnounced}
 use Rattle.hdl_pool.specs.Partial.{piece_of}
 use Rattle.hdl_pool.specs.Taking.{taken}
 use Rattle.hdl_rows.specs.Table.{Table}
@@ -15,7 +18,7 @@ use Rattle.hdl_ops.specs.Decisions.{Anyone, Decision, Decides}
 use Rattle.hdl_ops.specs.Requests.{Response}
 use Rattle.hdl_slots.specs.declared.pending.Pending.{Pending}
 use Rattle.hdl_slots.specs.Lanes.{challenge_of}
-use Rattle.hdl_ops.specs.Replies.{digest_of}
+use Rattle.hdl_ops.specs.Replies.{digest_of, reply_to}
 use Rattle.hdl_ops.specs.Tables.{apply_if}
 use Rattle.hdl_laws.specs.declared.events.What.{What}
 use Rattle.hdl_laws.specs.declared.events.Outcome.{Outcome}
@@ -40,6 +43,19 @@ received_as m bytes = record { peer = m.peer; moment = m.moment; nonce = m.nonce
 -- a letter with its message
 abbrev pub letter_of : Letter → List ℕ → worlds.Letter
 letter_of m message = record { peer = m.peer; moment = m.moment; nonce = m.nonce; envelope = m.envelope; message = message }
+
+-- the header of the reply to this request, with this code and content, announces what it carries
+abbrev pub Announces : Algorithm → Envelope → Content → ℕ → ReplyContent → Type 0
+Announces a e r code content = IsAnnounced (reply_parts (reply_to a e.session e.request r code content))
+
+-- the request's header has the code of its operation
+abbrev pub HasItsCode : Content → Type 0
+HasItsCode r = IsNumberOf (code_of r.operation) r.header.op_code
+
+-- what is sent to a request that is decided for anyone
+abbrev pub sent_of : Asked → List ℕ
+sent_of (Answered octets) = octets
+sent_of (Challenged octets digest) = octets
 
 -- a request of this algorithm is decided for anyone: it is answered, or challenged under the lane's next number
 abbrev pub IsAsked : (List ℕ → Bool) → Algorithm → Table → Letter → ℕ → Content → Asked → Table → Type 0

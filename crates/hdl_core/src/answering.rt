@@ -3,11 +3,13 @@
 ghost use Rattle.std.specs.Prelude.{◌≡◌, IfOk, IfSome, IsTrue, OnErr, OnOk};
 ghost use Rattle.hdl_msg.specs.Codes.{response_number};
 ghost use Rattle.hdl_msg.specs.Reply.{short_reply};
+ghost use Rattle.hdl_msg.specs.ReplyView.{IsReplyFrame};
 ghost use Rattle.hdl_msg.specs.declared.replies.ReplyContent.TheVariants as content;
 ghost use Rattle.hdl_cache.specs.Kept.{AreTrue};
 ghost use Rattle.hdl_ops.specs.Replies.{fits};
 ghost use Rattle.hdl_ops.specs.Tables.{apply_if, CanApply};
 ghost use Rattle.hdl_laws.specs.Worlds.{answer_octets};
+ghost use Rattle.hdl_core.specs.Serving.{Announces};
 
 use crate::letter::Letter;
 use hdl_auth::algorithm::Algorithm;
@@ -55,6 +57,7 @@ pub(crate) fn answer<R: Rows>(
     requires can_apply { IfSome decision.change (λ change. CanApply (R.content rows.old) change) }
     requires true_masks { AreTrue (R.content rows.old) masks.old }
     ensures reply { IfOk result (λ octets. octets ≡ answer_octets algorithm letter.now.envelope request.now (response_number decision.code) decision.content) }
+    ensures read { IfOk result (λ octets. Announces algorithm letter.now.envelope request.now (response_number decision.code) decision.content → IsReplyFrame octets) }
     ensures done { OnOk result (R.content rows.new ≡ apply_if (R.content rows.old) letter.now.moment decision.change) }
     ensures undone { OnErr result (R.content rows.new ≡ R.content rows.old) }
     ensures true_masks { AreTrue (R.content rows.new) masks.new }
@@ -85,6 +88,7 @@ pub(crate) fn tell(
     code: ResponseCode,
 ) -> Result<Octets, Refused>
     ensures reply { IfOk result (λ octets. octets ≡ answer_octets algorithm letter.now.envelope request.now (response_number code) content.Empty) }
+    ensures read { IfOk result (λ octets. Announces algorithm letter.now.envelope request.now (response_number code) content.Empty → IsReplyFrame octets) }
 {
     let Envelope {
         session,
@@ -101,7 +105,8 @@ pub(crate) fn tell(
 
 /// The short reply to a message that isn't in the grammar.
 pub(crate) fn malformed(alloc: Global, envelope: &Envelope) -> Result<Octets, Refused>
-    ensures { IfOk result (λ octets. octets ≡ short_reply 4 envelope.now) }
+    ensures octets { IfOk result (λ octets. octets ≡ short_reply 4 envelope.now) }
+    ensures read { IfOk result (λ octets. IsReplyFrame octets) }
 {
     match Vec::from_slice(alloc, &refuse(envelope)) {
         Ok(octets) => Ok(Octets::new(octets)),

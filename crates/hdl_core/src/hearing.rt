@@ -1,12 +1,13 @@
 //! Hearing a message that came on an open lane: a request that is decided, challenged, or comes back with a proof.
 
 ghost use Rattle.std.specs.Prelude.{◌≡◌, ◌<◌, ℕ, List, length, IfOk, OnErr};
+ghost use Rattle.hdl_msg.specs.ReplyView.{IsReplyFrame};
 ghost use Rattle.hdl_cache.specs.Kept.{AreTrue};
 ghost use Rattle.hdl_ops.specs.Admission.{request_algorithm};
 ghost use Rattle.hdl_ops.specs.Replies.{digest_of};
 ghost use Rattle.hdl_ops.specs.Views.{algorithms_by, hosted_by, response_view};
 ghost use Rattle.hdl_laws.specs.Worlds.{challenge_octets, is_late};
-ghost use Rattle.hdl_core.specs.Serving.{letter_of, IsAsked, IsRedeemed, RespondsAt, HearsAt};
+ghost use Rattle.hdl_core.specs.Serving.{letter_of, sent_of, HasItsCode, IsAsked, IsRedeemed, RespondsAt, HearsAt};
 
 use crate::answering::{answer, malformed, tell};
 use crate::lanes::Lanes;
@@ -39,6 +40,7 @@ fn challenge(
 ) -> Result<(Octets, Digest), Refused>
     ensures octets { IfOk result (λ sent. sent.0 ≡ challenge_octets algorithm next letter.now.envelope request.now letter.now.nonce) }
     ensures digest { IfOk result (λ sent. sent.1 ≡ digest_of algorithm request.now) }
+    ensures read { IfOk result (λ sent. IsReplyFrame sent.0) }
 {
     let number = letter.envelope.request;
     let nonce = &letter.nonce;
@@ -60,6 +62,7 @@ fn ask<R: Rows>(
 ) -> Result<Asked, Refused>
     requires true_masks { AreTrue (R.content rows.old) masks.old }
     ensures asked { IfOk result (λ asked. IsAsked (hosted_by owner.now) (request_algorithm (algorithms_by owner.now) request.now) (R.content rows.old) letter.now next request.now asked (R.content rows.new)) }
+    ensures read { IfOk result (λ asked. HasItsCode request.now → IsReplyFrame (sent_of asked)) }
     ensures undone { OnErr result (R.content rows.new ≡ R.content rows.old) }
     ensures true_masks { AreTrue (R.content rows.new) masks.new }
 {
@@ -100,6 +103,7 @@ fn redeem<R: Rows>(
 ) -> Result<Octets, Refused>
     requires true_masks { AreTrue (R.content rows.old) masks.old }
     ensures redeemed { IfOk result (λ octets. IsRedeemed (hosted_by owner.now) (algorithms_by owner.now) (R.content rows.old) letter.now (response_view response.entry) pending.now octets (R.content rows.new)) }
+    ensures read { IfOk result (λ octets. IsReplyFrame octets) }
     ensures undone { OnErr result (R.content rows.new ≡ R.content rows.old) }
     ensures true_masks { AreTrue (R.content rows.new) masks.new }
 {
@@ -148,6 +152,7 @@ fn respond<R: Rows>(
     requires there { lane < length lanes.old }
     requires true_masks { AreTrue (R.content rows.old) masks.old }
     ensures responded { IfOk result (λ octets. RespondsAt (hosted_by owner.now) (algorithms_by owner.now) (R.content rows.old) lanes.old lane letter.now request.now (response_view response.entry) octets lanes.new (R.content rows.new)) }
+    ensures read { IfOk result (λ octets. IsReplyFrame octets) }
     ensures undone { OnErr result (R.content rows.new ≡ R.content rows.old) }
     ensures kept { OnErr result (lanes.new ≡ lanes.old) }
     ensures true_masks { AreTrue (R.content rows.new) masks.new }
@@ -180,6 +185,7 @@ pub(crate) fn hear<R: Rows>(
     requires there { lane < length lanes.old }
     requires true_masks { AreTrue (R.content rows.old) masks.old }
     ensures heard { IfOk result (λ octets. HearsAt (hosted_by owner.now) (algorithms_by owner.now) (R.content rows.old) lanes.old lane (letter_of letter.now message.items) octets lanes.new (R.content rows.new)) }
+    ensures read { IfOk result (λ octets. IsReplyFrame octets) }
     ensures undone { OnErr result (R.content rows.new ≡ R.content rows.old) }
     ensures kept { OnErr result (lanes.new ≡ lanes.old) }
     ensures true_masks { AreTrue (R.content rows.new) masks.new }

@@ -1,9 +1,9 @@
 //! The service over any table.
 
-ghost use Rattle.std.specs.Prelude.{◌≡◌, IfOk, IfErr, OnErr};
+ghost use Rattle.std.specs.Prelude.{◌≡◌, All, IfOk, IfErr, OnErr};
 ghost use Rattle.hdl_laws.specs.Laws.{Hidden, HostsNoRoot, Isolated};
 ghost use Rattle.hdl_laws.specs.Runs.{Run, Steps};
-ghost use Rattle.hdl_laws.specs.Told.{Tells};
+ghost use Rattle.hdl_laws.specs.Told.{IsReadable, Tells};
 
 use crate::lanes::Lanes;
 use crate::serving::serve;
@@ -56,10 +56,12 @@ impl<R: Rows + Drop> Service<R> {
     /// octets aren't one frame is Silent; a message out of the grammar gets the short reply with code 4; a request is decided.
     ///
     /// A reply holds nothing of the table but what is told with its code: with code 1 the values that its caller may read, or
-    /// the handles of the prefix that is listed (`told`).
+    /// the handles of the prefix that is listed (`told`). What is sent is one frame, and `hdl_msg::read_reply` reads its message
+    /// (`read`).
     pub fn step(&mut self, event: Event) -> Outcome
         ensures step { Steps self.old event result self.new }
         ensures told { Tells self.old event result }
+        ensures read { IsReadable result }
     {
         reply_told();
         let Event { lane, what } = event;
@@ -100,6 +102,7 @@ impl<R: Rows + Drop> Service<R> {
         ensures run { IfOk result (λ outcomes. Run self.old events.items outcomes.items self.new) }
         ensures isolated { IfOk result (λ outcomes. Isolated self.old events.items outcomes.items) }
         ensures hidden { IfOk result (λ outcomes. Hidden self.old events.items outcomes.items) }
+        ensures read { IfOk result (λ outcomes. All IsReadable outcomes.items) }
         ensures early { IfErr result (λ back. back.0.items ≡ events.items) }
         ensures unchanged { OnErr result (self.new ≡ self.old) }
     {

@@ -1,11 +1,13 @@
 //! Serving one event of one lane.
 
-ghost use Rattle.std.specs.Prelude.{◌≡◌, ◌<◌, true, drop, length, IfOk, OnErr};
+ghost use Rattle.std.specs.Prelude.{◌≡◌, ◌<◌, true, drop, length, IfOk, IfSome, OnErr};
 ghost use Rattle.hdl_frame.specs.Envelope.{envelope_at, is_truncated};
 ghost use Rattle.hdl_frame.specs.Splitting.{IsFrameOf};
 ghost use Rattle.hdl_msg.specs.Reply.{reply_envelope};
+ghost use Rattle.hdl_msg.specs.ReplyView.{IsReplyFrame};
 ghost use Rattle.hdl_cache.specs.Kept.{AreTrue};
 ghost use Rattle.hdl_ops.specs.Views.{algorithms_by, hosted_by};
+ghost use Rattle.hdl_laws.specs.Told.{IsReadable};
 ghost use Rattle.hdl_core.specs.Serving.{AssemblesAt, outcome_of, received_as, received_of, ReceivesAt, ServesAt};
 
 use crate::hearing::hear;
@@ -43,6 +45,7 @@ fn assemble<R: Rows>(
     requires envelope { letter.now.envelope ≡ envelope_at frame.now.bytes.now }
     requires true_masks { AreTrue (R.content rows.old) masks.old }
     ensures assembled { IfOk result (λ reply. AssemblesAt (hosted_by owner.now) (algorithms_by owner.now) (R.content rows.old) lanes.old lane (received_as letter.now frame.now.bytes.now) reply lanes.new (R.content rows.new)) }
+    ensures read { IfOk result (λ reply. IfSome reply IsReplyFrame) }
     ensures undone { OnErr result (R.content rows.new ≡ R.content rows.old) }
     ensures kept { OnErr result (lanes.new ≡ lanes.old) }
     ensures true_masks { AreTrue (R.content rows.new) masks.new }
@@ -85,6 +88,7 @@ fn receive<R: Rows>(
     requires there { lane < length lanes.old }
     requires true_masks { AreTrue (R.content rows.old) masks.old }
     ensures received { ReceivesAt (hosted_by owner.now) (algorithms_by owner.now) (R.content rows.old) lanes.old lane (received_of received) result lanes.new (R.content rows.new) }
+    ensures read { IsReadable result }
     ensures true_masks { AreTrue (R.content rows.new) masks.new }
 {
     let Received {
@@ -141,6 +145,7 @@ pub(crate) fn serve<R: Rows>(
     requires there { lane < length lanes.old }
     requires true_masks { AreTrue (R.content rows.old) masks.old }
     ensures served { ServesAt (hosted_by owner.now) (algorithms_by owner.now) (R.content rows.old) lanes.old lane what result lanes.new (R.content rows.new) }
+    ensures read { IsReadable result }
     ensures true_masks { AreTrue (R.content rows.new) masks.new }
 {
     match what {

@@ -1,5 +1,5 @@
 -- What one reply tells: its octets by its code, what it answers, and what may be read; and that its header announces it.
-use Rattle.std.specs.Prelude.{◌≡◌, ℕ, ◌==◌, List, Option, Some, None, drop, if◌then◌else◌}
+use Rattle.std.specs.Prelude.{◌≡◌, ℕ, ◌==◌, List, Option, Some, None, IfSome, drop, if◌then◌else◌}
 use Rattle.hdl_auth.specs.declared.algorithm.Algorithm.{Algorithm}
 use Rattle.hdl_auth.specs.declared.algorithm.Algorithm.TheVariants.{Sha1}
 use Rattle.hdl_auth.specs.Digest.{algorithm_of}
@@ -7,7 +7,7 @@ use Rattle.hdl_rows.specs.Table.{Table}
 use Rattle.hdl_msg.specs.Message.{Content, IsShort}
 use Rattle.hdl_msg.specs.Laws.{response_code_at}
 use Rattle.hdl_msg.specs.Reply.{short_reply}
-use Rattle.hdl_msg.specs.ReplyView.{ReplyParts, IsAnnounced, PartsFit, parts_body, parts_message}
+use Rattle.hdl_msg.specs.ReplyView.{ReplyParts, IsAnnounced, PartsFit, parts_body, parts_message, IsReplyFrame}
 use Rattle.hdl_msg.specs.ReplyReading.{reply_at}
 use Rattle.hdl_msg.specs.declared.replies.ReplyContent.TheVariants.{Empty}
 use Rattle.hdl_ops.specs.Admission.{request_algorithm}
@@ -66,3 +66,9 @@ sent_by (CloseAfter octets) = Some octets
 -- what each step sends is such a reply
 abbrev pub StepsAnnounce : Type 0
 StepsAnnounce = (w new : World) (e : Event) (o : Outcome) (octets : List ℕ) → Steps w e o new → sent_by o ≡ Some octets → IsSelfTold octets
+
+-- ---- what is read
+
+-- what the outcome sends, if anything, is one frame, and `read_reply` reads its message
+abbrev pub IsReadable : Outcome → Type 0
+IsReadable o = IfSome (sent_by o) IsReplyFrame

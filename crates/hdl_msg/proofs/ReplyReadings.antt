@@ -2,7 +2,8 @@
 use Rattle.std.proofs.Common.{◌≡◌, ℕ, ◌≤◌, Bool, true, false, cond, eqb, List, [], ◌∷◌, ◌++◌, length, drop, codes, Option, Some, None, refl, sym, ap, subst, ◌∙◌, append_assoc, arith, rules}
 use Rattle.std.specs.Prelude.{bytes_eq, is_some}
 use Rattle.std.specs.Int.{w32}
-use Rattle.std.proofs.lemmas.Bool.{eqb-true}
+use Rattle.std.proofs.lemmas.Bool.{eqb-true, le-ltb}
+use Rattle.std.proofs.lemmas.Nat.{from_be_bytes-to_be_bytes_4}
 use Rattle.std.proofs.lemmas.Option.{cond_some}
 use Rattle.std.proofs.lemmas.List.{nil_from_length, length-append}
 use Rattle.hdl_auth.specs.declared.algorithm.Digest.{Digest}
@@ -15,7 +16,8 @@ use Rattle.hdl_value.proofs.FieldLaws.{bind_some, some_is, octets_take, octets_a
 use Rattle.hdl_value.proofs.Codecs.{pair_codec, string_codec, octets_codec}
 use Rattle.hdl_value.proofs.DataRead.{whole_takes, whole_again}
 use Rattle.hdl_frame.specs.declared.envelope.Envelope.{Envelope}
-use Rattle.hdl_frame.specs.Envelope.{envelope_octets}
+use Rattle.hdl_frame.specs.Envelope.{envelope_octets, envelope_at, fault_of, payload_len}
+use Rattle.hdl_frame.specs.Frames.{IsFrame}
 use Rattle.hdl_msg.specs.declared.fields.Header.{Header}
 use Rattle.hdl_msg.specs.declared.replies.Reply.{Reply}
 use Rattle.hdl_msg.specs.declared.replies.ReplyContent.{ReplyContent}
@@ -25,8 +27,8 @@ use Rattle.hdl_msg.specs.declared.reply_view.ReplyForm.TheVariants as form
 use Rattle.hdl_msg.specs.Message.{number, counted, header_octets, IsNumber, AreFew}
 use Rattle.hdl_msg.specs.Reading.{strings_at, values_at, message_at}
 use Rattle.hdl_limits.specs.declared.TheConstants.{MESSAGE_MAX}
-use Rattle.hdl_msg.specs.Reply.{content_octets, digest_octets, reply_body, reply_message, reply_octets, short_reply}
-use Rattle.hdl_msg.specs.ReplyView.{ReplyParts, reply_parts, announces_digest, announced_form, form_of, IsWholeDigest, DigestFits, ContentFits, IsAnnounced, PartsFit, parts_body, SpellsReply}
+use Rattle.hdl_msg.specs.Reply.{content_octets, digest_octets, reply_body, reply_envelope, reply_message, reply_octets, short_header, short_reply}
+use Rattle.hdl_msg.specs.ReplyView.{ReplyParts, reply_parts, announces_digest, announced_form, form_of, IsWholeDigest, DigestFits, ContentFits, IsAnnounced, PartsFit, parts_body, SpellsReply, FramesReply, IsReplyFrame}
 use Rattle.hdl_msg.specs.ReplyReading.{sized_digest_at, digest_behind, digest_at, announced_digest_at, prefix_in, shown_values_in, handles_in, nothing_in, referral_in, nonce_in, empty_in, content_in, reply_body_in, reply_at}
 use Rattle.hdl_msg.specs.Laws.{IsReadable, reply_of, short_parts}
 use Rattle.hdl_msg.proofs.Codecs.{Message, message_spelling, MessageFits, message_codec, write_codec, strings_codec, u32_codec, AreOctets-front, AreOctets-back}
@@ -264,6 +266,20 @@ reply_again octets p s =
 
 -- ---- what is written
 
+framed : (session request : ℕ) (message : List ℕ) → length message ≤ MESSAGE_MAX → IsFrame (envelope_octets (reply_envelope session request (length message)) ++ message)
+unfolding envelope_octets envelope_at fault_of payload_len
+framed session request message le =
+    let size = from_be_bytes-to_be_bytes_4 (length message) (omega (arith, le)) in
+    record {
+      envelope = omega arith;
+      accepted = rw (size, le-ltb MESSAGE_MAX (length message) le) refl;
+      payload = rw size (omega arith);
+    }
+
+short_reply_framed : (code : ℕ) (e : Envelope) → IsFrame (short_reply code e)
+unfolding short_reply header_octets
+short_reply_framed code e = framed e.session e.request (header_octets (short_header code) ++ (string (string []) ++ string [])) (omega arith)
+
 pub reply_spelt_lem : (y : Reply) → IsReadable y → SpellsReply (drop 20 (reply_octets y)) (reply_parts y)
 unfolding reply_octets envelope_octets reply_message reply_body
 reply_spelt_lem y readable = record {
@@ -304,3 +320,14 @@ short_reply_spelt_lem e = (
     spelt = refl;
   },
 )
+
+-- ---- frames
+
+pub reply_framed : (y : Reply) → IsReadable y → FramesReply (reply_octets y) (reply_parts y)
+unfolding reply_octets
+reply_framed y readable = record { frame = framed y.session y.request (reply_message y) readable.short; spelt = reply_spelt_lem y readable }
+
+pub short_reply_read : (e : Envelope) → IsReplyFrame (short_reply 3 e) × IsReplyFrame (short_reply 4 e)
+short_reply_read e =
+    let s = short_reply_spelt_lem e in
+    ((short_parts 3, record { frame = short_reply_framed 3 e; spelt = s.0 }), (short_parts 4, record { frame = short_reply_framed 4 e; spelt = s.1 }))

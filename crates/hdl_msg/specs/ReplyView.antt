@@ -1,8 +1,9 @@
 -- What the message of a reply says. Its header announces what the body is made of: a digest stands where it has ReturnDigest or
 -- the code is 402, and the form of the content goes by the code, with code 1 by the operation (docs/PROTOCOL.md, "Replies").
-use Rattle.std.specs.Prelude.{◌≡◌, ℕ, ⊤, List, [], ◌++◌, length, codes, Bool, ◌||◌, ◌==◌, if◌then◌else◌, Option, Some, None, is_some}
+use Rattle.std.specs.Prelude.{◌≡◌, ℕ, ⊤, List, [], ◌++◌, length, drop, codes, Bool, ◌||◌, ◌==◌, if◌then◌else◌, Option, Some, None, is_some}
 use Rattle.hdl_auth.specs.declared.algorithm.Digest.{Digest}
 use Rattle.hdl_auth.specs.Digest.{size_of, algorithm_of, octets_of}
+use Rattle.hdl_frame.specs.Frames.{IsFrame}
 use Rattle.hdl_limits.specs.Octets.{AreOctets}
 use Rattle.hdl_value.specs.Spelling.{string, Fits, IsString}
 use Rattle.hdl_msg.specs.declared.fields.Header.{Header}
@@ -125,3 +126,14 @@ pub record SpellsReply (octets : List ℕ) (p : ReplyParts) : Type 0 where
   pub announced : IsAnnounced p
   pub body_fits : IsShort (parts_body p)
   pub spelt : octets ≡ parts_message p
+
+-- ---- frames
+
+-- The octets are one frame, with the message of this reply.
+pub record FramesReply (octets : List ℕ) (p : ReplyParts) : Type 0 where
+  pub frame : IsFrame octets
+  pub spelt : SpellsReply (drop 20 octets) p
+
+-- some reply's: `read_reply` reads its message
+abbrev pub IsReplyFrame : List ℕ → Type 0
+IsReplyFrame octets = (p : ReplyParts) × FramesReply octets p

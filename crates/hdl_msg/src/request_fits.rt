@@ -43,7 +43,7 @@ fn numbers_fit(numbers: &[u32])
     }
 }
 
-fn strings_fit(strings: &[Octets])
+pub(crate) fn strings_fit(strings: &[Octets])
     requires { AllByRecursion (λ octets. length octets < 2 ^ 32) strings.now }
     ensures { AllByRecursion IsString strings.now }
 {
@@ -52,7 +52,7 @@ fn strings_fit(strings: &[Octets])
     }
 }
 
-fn values_fit(values: &[Value])
+pub(crate) fn values_fit(values: &[Value])
     requires { AllByRecursion CanBeSpelt values.now }
     ensures { AllByRecursion Fits values.now }
 {

@@ -3,6 +3,7 @@
 ghost use Rattle.std.specs.Prelude.{◌≡◌, ◌≤◌, length, IfOk, IsTrue, Some, None, if◌then◌else◌};
 ghost use Rattle.hdl_msg.specs.Codes.{response_number};
 ghost use Rattle.hdl_msg.specs.Reply.{digest_octets, reply_octets};
+ghost use Rattle.hdl_msg.specs.ReplyView.{reply_parts, IsAnnounced, IsReplyFrame};
 ghost use Rattle.hdl_ops.specs.Replies.{digest_of, asked_digest, reply_to, challenge_to, fits};
 
 use crate::decision::Asked;
@@ -66,7 +67,8 @@ pub fn render(
     content: ReplyContent,
 ) -> Result<Vec<u8>, AllocError>
     requires fits { IsTrue (fits asked.now.algorithm asked.now.request.now content) }
-    ensures { IfOk result (λ octets. octets.items ≡ reply_octets (reply_to asked.now.algorithm envelope.now.session envelope.now.request asked.now.request.now (response_number code) content)) }
+    ensures octets { IfOk result (λ octets. octets.items ≡ reply_octets (reply_to asked.now.algorithm envelope.now.session envelope.now.request asked.now.request.now (response_number code) content)) }
+    ensures read { IfOk result (λ octets. IsAnnounced (reply_parts (reply_to asked.now.algorithm envelope.now.session envelope.now.request asked.now.request.now (response_number code) content)) → IsReplyFrame octets.items) }
 {
     let reply = Reply {
         session: envelope.session,
@@ -88,6 +90,7 @@ pub fn render_challenge(
 ) -> Result<(Vec<u8>, Digest), AllocError>
     ensures octets { IfOk result (λ sent. sent.0.items ≡ reply_octets (challenge_to asked.now.algorithm envelope.now.session envelope.now.request asked.now.request.now nonce.now)) }
     ensures digest { IfOk result (λ sent. sent.1 ≡ digest_of asked.now.algorithm asked.now.request.now) }
+    ensures read { IfOk result (λ sent. IsReplyFrame sent.0.items) }
 {
     let request_digest = digest(asked.algorithm, asked.request.signed());
     let reply = Reply {

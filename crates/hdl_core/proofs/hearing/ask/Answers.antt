@@ -1,5 +1,6 @@
 use Rattle.std.proofs.Common.{◌≡◌, ◌==◌, true, false, ◌∙◌, ap, subst, rules}
 use Rattle.hdl_msg.specs.Codes.{response_number}
+use Rattle.hdl_ops.proofs.Announced.{answer_announced_lem}
 use Rattle.hdl_ops.specs.Decisions.{Decides, Anyone}
 use Rattle.hdl_ops.specs.Replies.{digest_of}
 use Rattle.hdl_ops.specs.Tables.{apply_if}
@@ -30,3 +31,10 @@ returns-clause-asked g c =
       c.in_ok-octets.ensures.reply ∙ ap (λ a. answer_octets a c.args.letter.now.envelope r d.code d.content) c.in_ok-algorithm.ensures,
       c.in_ok-octets.ensures.done ∙ ap (λ t. apply_if t c.args.letter.now.moment c.in_ok-decision.decision.change) c.decide.ensures.unchanged,
     )
+
+pub returns-clause-read : goal.returns-clause-read
+returns-clause-read g c = λ has.
+    let answered : (response_number c.in_ok-decision.decision.code == 402) ≡ false = search rules in
+    let e = c.args.letter.now.envelope in
+    c.in_ok-octets.ensures.read
+    (answer_announced_lem (hosted_by c.args.owner.now) c.in_ok-algorithm.algorithm (g.R.Rows.content c.args.rows.now) c.args.request.now Anyone (decision_of c.in_ok-decision.decision) e.session e.request has c.in_ok-decision.ensures.decided answered)

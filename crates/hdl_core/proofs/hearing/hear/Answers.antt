@@ -1,10 +1,13 @@
 use Rattle.std.proofs.Common.{ℕ, List, Some, None, ◌≡◌, sym, ap, ◌∙◌, subst}
 use Rattle.std.specs.Prelude.{option_map}
 use Rattle.hdl_msg.specs.Message.{SpellsRequest}
+use Rattle.hdl_msg.specs.ReplyView.{IsReplyFrame}
 use Rattle.hdl_ops.specs.Requests.{response_of}
 use Rattle.hdl_ops.specs.Views.{algorithms_by, hosted_by, response_view}
 use Rattle.hdl_slots.specs.Lanes.{challenged}
+use Rattle.hdl_core.specs.declared.hearing.Asked.{Asked}
 use Rattle.hdl_core.specs.Held.{state_at, with_state}
+use Rattle.hdl_core.specs.Serving.{sent_of}
 use Rattle.hdl_core.proofs.Heard.{on_ok, no_request, responded, answered, challenges}
 use Rattle.hdl_core.proofs.hearing.hear.Goals as goal
 
@@ -13,7 +16,7 @@ returns-in_default-clause-heard g c =
     on_ok c.malformed.result _ _
     (λ octets is. no_request (hosted_by c.args.owner.now) (algorithms_by c.args.owner.now) (g.R.Rows.content c.args.rows.now) c.args.letter.now c.args.lanes.now c.args.lane c.args.message.items octets
     (λ r spells. c.in_default.ensures.malformed r (subst (λ (b : List ℕ). SpellsRequest b r) (sym c.deref.ensures.value) spells)) is)
-    c.malformed.ensures
+    c.malformed.ensures.octets
 
 pub returns-in-Some-clause-heard : goal.returns-in-Some-clause-heard
 returns-in-Some-clause-heard g c =
@@ -42,3 +45,9 @@ returns-in-Challenged-clause-heard g c =
       partials = (state_at c.args.lanes.now c.args.lane).partials;
       challenges = challenged (state_at c.args.lanes.now c.args.lane).challenges (record { peer = c.args.letter.now.peer; moment = c.args.letter.now.moment; nonce = c.args.letter.now.nonce; digest = c.in-Challenged.digest; message = message });
     })) c.new.ensures)
+
+pub returns-in-Answered-clause-read : goal.returns-in-Answered-clause-read
+returns-in-Answered-clause-read g c = subst (λ (x : Asked). IsReplyFrame (sent_of x)) c.in-Answered.is (c.in_ok-octets.ensures.read c.in-Ok.ensures.read.has_code)
+
+pub returns-in-Challenged-clause-read : goal.returns-in-Challenged-clause-read
+returns-in-Challenged-clause-read g c = subst (λ (x : Asked). IsReplyFrame (sent_of x)) c.in-Challenged.is (c.in_ok-octets.ensures.read c.in-Ok.ensures.read.has_code)

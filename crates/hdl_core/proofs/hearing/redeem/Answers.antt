@@ -1,5 +1,8 @@
 use Rattle.std.proofs.Common.{ℕ, List, sym, ap, ◌∙◌, subst}
 use Rattle.hdl_msg.specs.Message.{SpellsRequest}
+use Rattle.hdl_ops.proofs.Announced.{answer_announced_lem, proven_code, timeout_announced}
+use Rattle.hdl_ops.specs.Decisions.{Proven}
+use Rattle.hdl_ops.specs.Proven.{Proof}
 use Rattle.hdl_ops.specs.Tables.{apply_if}
 use Rattle.hdl_ops.specs.Views.{algorithms_by, decision_of, hosted_by, response_view}
 use Rattle.hdl_core.proofs.Heard.{on_ok, on_both, unreadable, late, proven}
@@ -10,7 +13,7 @@ returns-in_default-clause-redeemed g c =
     on_ok c.malformed.result _ _
     (λ octets is. unreadable (hosted_by c.args.owner.now) (algorithms_by c.args.owner.now) (g.R.Rows.content c.args.rows.now) c.args.letter.now (response_view c.args.response) c.args.pending.now octets
     (λ r spells. c.in_default.ensures.malformed r (subst (λ (b : List ℕ). SpellsRequest b r) (sym c.as_slice.ensures) spells)) is)
-    c.malformed.ensures
+    c.malformed.ensures.octets
 
 pub returns-then-is_late-clause-redeemed : goal.returns-then-is_late-clause-redeemed
 returns-then-is_late-clause-redeemed g c =
@@ -26,3 +29,20 @@ returns-clause-redeemed g c =
     (subst (λ (b : List ℕ). SpellsRequest b c.in-Ok.request) c.as_slice.ensures c.in-Ok.ensures.read) (λ message. sym c.if-is_late.false ∙ c.is_late.ensures message)
     c.in_ok-decision.ensures.decided is (table ∙ ap (λ t. apply_if t c.args.letter.now.moment c.in_ok-decision.decision.change) c.decide.ensures.unchanged))
     c.answer.ensures.reply c.answer.ensures.done
+
+pub returns-then-is_late-clause-read : goal.returns-then-is_late-clause-read
+returns-then-is_late-clause-read g c =
+    let e = c.args.letter.now.envelope in
+    on_ok c.tell.result _ _ (λ octets reads. reads (timeout_announced c.algorithm-algorithm.result e.session e.request c.in-Ok.request)) c.tell.ensures.read
+
+pub returns-clause-read : goal.returns-clause-read
+returns-clause-read g c =
+    let e = c.args.letter.now.envelope in
+    let r = c.in-Ok.request in
+    let hosts = hosted_by c.args.owner.now in
+    let t = g.R.Rows.content c.args.rows.now in
+    let p : Proof = record { response = response_view c.args.response; nonce = c.args.pending.now.nonce; digest = c.args.pending.now.digest } in
+    let d = decision_of c.in_ok-decision.decision in
+    on_ok c.answer.result _ _
+    (λ octets reads. reads (answer_announced_lem hosts c.algorithm-algorithm.result t r (Proven p) d e.session e.request c.in-Ok.ensures.read.has_code c.in_ok-decision.ensures.decided (proven_code hosts c.algorithm-algorithm.result t r p d c.in_ok-decision.ensures.decided)))
+    c.answer.ensures.read

@@ -1,5 +1,7 @@
 use Rattle.std.proofs.Common.{sym, ap, ◌∙◌}
 use Rattle.std.specs.Prelude.{option_copied}
+use Rattle.hdl_auth.specs.declared.algorithm.Algorithm.TheVariants.{Sha1}
+use Rattle.hdl_ops.proofs.Announced.{protocol_error_announced}
 use Rattle.hdl_ops.specs.Views.{algorithms_by, hosted_by, response_view}
 use Rattle.hdl_core.proofs.Heard.{on_ok, unknown, known}
 use Rattle.hdl_core.proofs.hearing.respond.Goals as goal
@@ -15,3 +17,8 @@ pub returns-clause-responded : goal.returns-clause-responded
 returns-clause-responded g c =
     known (hosted_by c.args.owner.now) (algorithms_by c.args.owner.now) (g.R.Rows.content c.args.rows.now) c.args.letter.now c.args.lanes.now c.args.lane c.args.request.now (response_view c.args.response) c.in-Some.pending.now c.in_ok-octets.octets c.spend.new.self (g.R.Rows.content c.redeem.new.rows)
     (sym (ap option_copied c.in-Some.is) ∙ c.find.ensures) c.in_ok-octets.ensures.redeemed c.spend.ensures
+
+pub returns-in_default-clause-read : goal.returns-in_default-clause-read
+returns-in_default-clause-read g c =
+    let e = c.args.letter.now.envelope in
+    on_ok c.tell.result _ _ (λ octets reads. reads (protocol_error_announced Sha1 e.session e.request c.args.request.now)) c.tell.ensures.read

@@ -1,12 +1,14 @@
 use Rattle.std.proofs.Common.{ℕ, List, ap, sym, ◌∙◌, refl, subst}
 use Rattle.hdl_frame.specs.Frames.{IsFrame}
 use Rattle.hdl_frame.specs.Splitting.{IsFrameOf}
+use Rattle.hdl_msg.specs.ReplyView.{IsReplyFrame}
+use Rattle.hdl_msg.proofs.ReplyReadings.{short_reply_read}
 use Rattle.hdl_laws.specs.declared.events.Outcome.TheVariants.{Busy}
 use Rattle.hdl_core.specs.declared.letter.Letter.{Letter}
 use Rattle.std.specs.Prelude.{IfOk}
 use Rattle.hdl_ops.specs.Views.{algorithms_by, hosted_by}
 use Rattle.hdl_core.specs.Serving.{received_of, AssemblesAt}
-use Rattle.hdl_core.proofs.Received.{no_frame, piece, heard, refused}
+use Rattle.hdl_core.proofs.Received.{no_frame, piece, heard, refused, read_of}
 use Rattle.hdl_core.proofs.serving.receive.Goals as goal
 
 pub returns-in_default-clause-received : goal.returns-in_default-clause-received
@@ -38,3 +40,9 @@ returns-in-Err-clause-received g c =
     let x = received_of c.args.received in
     refused (hosted_by c.args.owner.now) (algorithms_by c.args.owner.now) (g.R.Rows.content c.args.rows.now) c.args.lanes.now c.args.lane x c.in-Ok.frame (Busy c.busy.result) c.hear.new.lanes (g.R.Rows.content c.hear.new.rows)
     (subst (λ (b : List ℕ). IsFrameOf b c.in-Ok.frame) c.as_slice.ensures c.in-Ok.ensures.ok) (ap Busy c.busy.ensures) c.in-Err.ensures.kept c.in-Err.ensures.undone
+
+pub returns-then-is_truncated-clause-read : goal.returns-then-is_truncated-clause-read
+returns-then-is_truncated-clause-read g c = read_of c.in-Ok.frame.envelope c.assemble-reply.result c.outcome_of.result c.outcome_of.ensures c.assemble-reply.ensures.read
+
+pub returns-in-Err-clause-read : goal.returns-in-Err-clause-read
+returns-in-Err-clause-read g c = subst IsReplyFrame (sym c.busy.ensures) (short_reply_read c.in-Ok.frame.envelope).0

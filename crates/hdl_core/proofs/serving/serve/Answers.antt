@@ -1,5 +1,7 @@
-use Rattle.std.proofs.Common.{ap, sym, ◌∙◌}
+use Rattle.std.proofs.Common.{ap, sym, ◌∙◌, subst}
 use Rattle.hdl_msg.specs.Reply.{short_reply}
+use Rattle.hdl_msg.specs.ReplyView.{IsReplyFrame}
+use Rattle.hdl_msg.proofs.ReplyReadings.{short_reply_read}
 use Rattle.hdl_laws.specs.Worlds.{Received}
 use Rattle.hdl_core.proofs.Received.{opened, closed, unbroken, broken, unheard, received}
 use Rattle.hdl_ops.specs.Views.{algorithms_by, hosted_by}
@@ -31,3 +33,6 @@ pub returns-else-not-is_open-2-clause-served : goal.returns-else-not-is_open-2-c
 returns-else-not-is_open-2-clause-served g c =
     let x : Received = record { peer = c.in-Frame.peer; moment = c.in-Frame.moment; nonce = c.in-Frame.nonce; bytes = c.in-Frame.bytes } in
     received (hosted_by c.args.owner.now) (algorithms_by c.args.owner.now) (g.R.Rows.content c.args.rows.now) c.args.lanes.now c.args.lane c.args.what x c.receive.result c.receive.new.lanes (g.R.Rows.content c.receive.new.rows) c.in-Frame.is (sym c.is_open-in-Frame.ensures ∙ c.if-not-is_open-2.false) c.receive.ensures.received
+
+pub returns-else-not-is_open-clause-read : goal.returns-else-not-is_open-clause-read
+returns-else-not-is_open-clause-read g c = subst IsReplyFrame (sym c.refuse.ensures) (short_reply_read c.came.result).1

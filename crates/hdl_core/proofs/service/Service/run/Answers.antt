@@ -1,18 +1,23 @@
 use Rattle.std.proofs.Common.{arith, ◌∙◌, ◌≡◌, sym, ap, subst, ◌++◌, ◌∷◌, [], map-id}
-use Rattle.std.specs.Prelude.{if◌then◌else◌}
+use Rattle.std.specs.Prelude.{All, if◌then◌else◌}
+use Rattle.std.proofs.lemmas.List.Elements.{All-push}
 use Rattle.std.proofs.lemmas.Iterator.Adapters.{YieldsList-from_vec}
 use Rattle.std.proofs.lemmas.Iterator.Consumers.{YieldsList-end}
 use Rattle.hdl_laws.specs.Runs.{Run}
+use Rattle.hdl_laws.specs.Told.{IsReadable}
 use Rattle.hdl_laws.specs.Laws.{HostsNoRoot}
 use Rattle.hdl_core.proofs.Steps.{run_step, no_root}
 use Rattle.hdl_core.proofs.service.Service.run.Goals as goal
 
 pub loop-event-preserved : goal.loop-event-preserved
-loop-event-preserved g c = record {
-  run = subst (λ os. Run c.args.self.now (c.loop-event.yielded ++ (c.in-Some.event ∷ [])) os c.step-outcome.new.self) (sym (c.push.ensures.items ∙ ap (λ b. if b then c.loop-event.outcomes.items ++ (c.step-outcome.result ∷ []) else c.loop-event.outcomes.items) (sym c.is_ok-pushed.ensures.value ∙ c.if-prove.false)))
-      (run_step c.runs_joined.ensures _ _ _ _ _ _ _ c.loop-event.invariant.run c.step-outcome.ensures.step);
-  room = omega (arith, c.loop-event.invariant.room, c.push.ensures.capacity);
-}
+loop-event-preserved g c =
+    let pushed : c.push.new.self.items ≡ c.loop-event.outcomes.items ++ (c.step-outcome.result ∷ []) = c.push.ensures.items ∙ ap (λ b. if b then c.loop-event.outcomes.items ++ (c.step-outcome.result ∷ []) else c.loop-event.outcomes.items) (sym c.is_ok-pushed.ensures.value ∙ c.if-prove.false) in
+    record {
+      run = subst (λ os. Run c.args.self.now (c.loop-event.yielded ++ (c.in-Some.event ∷ [])) os c.step-outcome.new.self) (sym pushed)
+          (run_step c.runs_joined.ensures _ _ _ _ _ _ _ c.loop-event.invariant.run c.step-outcome.ensures.step);
+      read = subst (All IsReadable) (sym pushed) (All-push IsReadable c.loop-event.outcomes.items c.step-outcome.result c.loop-event.invariant.read c.step-outcome.ensures.read);
+      room = omega (arith, c.loop-event.invariant.room, c.push.ensures.capacity);
+    }
 
 pub returns-clause-run : goal.returns-clause-run
 returns-clause-run g c =
