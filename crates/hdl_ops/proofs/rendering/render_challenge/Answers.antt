@@ -19,7 +19,7 @@ write_reply-requires c =
 pub returns-clause-read : goal.returns-clause-read
 unfolding challenge_to
 returns-clause-read c =
-    let header : c.answer_header.result ≡ answer_header c.args.request.now.header 402 = search rules in
-    let announced = challenge_announced_lem c.args.algorithm c.args.session c.args.number c.args.request.now c.args.nonce.now in
+    let header : c.answer_header.result ≡ answer_header c.args.asked.now.request.now.header 402 = search rules in
+    let announced = challenge_announced_lem c.args.asked.now.algorithm c.args.envelope.now.session c.args.envelope.now.request c.args.asked.now.request.now c.args.nonce.now in
     let parts : Header → ReplyParts = λ h. record { header = h; digest = Some c.digest-request_digest.result; content = Nonce c.args.nonce.now } in
     (parts c.answer_header.result, c.in_ok-octets.ensures.read (subst (λ (h : Header). IsAnnounced (parts h)) (sym header) (record { digest = announced.digest; form = announced.form })))
