@@ -1,5 +1,6 @@
--- The table that a list of rows is, each a handle with its values.
-use Rattle.std.specs.Prelude.{ℕ, List, [], ◌∷◌, map, IsTrue}
+-- The table that the entries of a map are, each a handle with its values.
+use Rattle.std.specs.Prelude.{Vec, ℕ, List, [], ◌∷◌, map, IsTrue}
+use Rattle.std.specs.declared.alloc.Global.{Global}
 use Rattle.std.specs.List.{flat_map, AllByRecursion}
 use Rattle.std.specs.Ordering.{nat_cmp}
 use Rattle.std.specs.FinMap as map
@@ -8,13 +9,12 @@ use Rattle.std.specs.FinSet as set
 use Rattle.hdl_value.specs.Place.{Place, handle_cmp}
 use Rattle.hdl_value.specs.declared.value.Value.{Value}
 use Rattle.hdl_rows.specs.Table.{Table, place}
-use Rattle.hdl_rows.specs.declared.row.Row.{Row}
 
 -- a row without where it lies: its handle, and its values
-abbrev pub entry_of : Row → List ℕ × List Value
-entry_of r = (r.name, r.values.items)
+abbrev pub entry_of : Vec ℕ Global × Vec Value Global → List ℕ × List Value
+entry_of e = (e.0.items, e.1.items)
 
-abbrev pub entries_of : List Row → List (List ℕ × List Value)
+abbrev pub entries_of : List (Vec ℕ Global × Vec Value Global) → List (List ℕ × List Value)
 entries_of = map entry_of
 
 -- values by their indexes

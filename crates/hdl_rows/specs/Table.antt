@@ -4,7 +4,7 @@ use Rattle.std.specs.List.{AllByRecursion}
 use Rattle.std.specs.FinMap as map
 use Rattle.std.specs.FinSet as set
 use Rattle.std.specs.Coded.{Coded, code_by, coded×, coded_ℕ}
-use Rattle.hdl_name.specs.Name.{canonical, authority}
+use Rattle.hdl_name.specs.Name.{authority}
 use Rattle.hdl_value.specs.contracts.value.Value.{the_row}
 use Rattle.hdl_value.specs.declared.value.Value.{Value}
 use Rattle.hdl_value.specs.Place.{Place, handle_cmp, place_cmp, same_handle, handle_code, place_code}

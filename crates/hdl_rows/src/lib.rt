@@ -11,9 +11,8 @@
 //!
 //! # Decisions
 //!
-//! - **Handles stand in one vector in their order, and so do the values of a handle**: both are found by halves, and the order gives the
-//!   handles of an authority and the values of a handle as they are listed. A new handle moves those behind it. The kit's maps by hash
-//!   would have to sort for each list.
+//! - **Handles stand in a `BTreeMap`, each with a vector of its values by rising index**: the map's order gives the handles of an authority as
+//!   they are listed, and neither a look-up nor a create goes over the others. A handle has few values, and they are listed in order.
 //! - **That a look-up takes few steps stands in no clause**: contracts say what is found. `bench/replay` measures it.
 #![tactic(auto)]
 

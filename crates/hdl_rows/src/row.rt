@@ -1,4 +1,4 @@
-//! One handle with its values.
+//! The values of one handle, by rising index.
 
 ghost use Rattle.std.specs.Prelude.{◌≡◌, IsTrue, ◌≤◌, ◌<◌, ◌+◌, ◌==◌, not, filter, nat_lt, option_copied, vec_len, vec_capacity, IfOk, OnOk, OnErr};
 ghost use Rattle.std.specs.List.{list_any, prefix_len};
@@ -6,15 +6,8 @@ ghost use Rattle.std.specs.FinMap.{find, put, is_sorted};
 ghost use Rattle.std.specs.Ordering.{nat_cmp};
 ghost use Rattle.hdl_rows.specs.Shelf.{by_index, put_all};
 
-use hdl_value::{Octets, Value};
+use hdl_value::Value;
 use std::alloc::{AllocError, Global};
-
-/// A canonical handle, and its values by rising index.
-#[derive(Drop)]
-pub(crate) struct Row {
-    pub(crate) name: Octets,
-    pub(crate) values: Vec<Value>,
-}
 
 /// How many values at the front have an index below.
 fn count_below(values: &[Value], index: u32) -> usize

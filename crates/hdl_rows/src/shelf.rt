@@ -1,25 +1,23 @@
-//! Rows in order: the table in a vector.
+//! Rows in order: the table in a map of handles.
 
-ghost use Rattle.std.specs.Prelude.{◌≡◌, ◌≤◌, ◌<◌, ◌↔◌, IsTrue, not, map, true, false, option_copied, filter, position, option_map, [], IfOk, OnOk, OnErr};
-ghost use Rattle.std.specs.List.{prefix_len, position_or_len};
-ghost use Rattle.std.specs.Ordering.{is_lt};
-ghost use Rattle.std.specs.FinMap.{find, is_sorted};
-ghost use Rattle.hdl_rows.specs.Shelf.{entries_of, by_index, put_all};
-ghost use Rattle.hdl_name.specs.Name.{authority, sent_authority, is_slash};
+ghost use Rattle.std.specs.Prelude.{◌≡◌, ◌↔◌, IsTrue, map, true, false, option_copied, [], IfOk, OnOk, OnErr};
+ghost use Rattle.std.specs.List.{position_or_len};
 ghost use Rattle.std.specs.Char.{to_ascii_lowercase};
-ghost use Rattle.hdl_value.specs.Place.{handle_cmp, same_handle};
+ghost use Rattle.hdl_name.specs.Name.{authority, sent_authority, is_slash};
+ghost use Rattle.hdl_value.specs.Place.{same_handle};
+ghost use Rattle.hdl_rows.specs.Shelf.{by_index, put_all};
 ghost use Rattle.hdl_rows.specs.Table.{no_rows, place, has, at, values_of, names_of, HaveTheirIndexes, created, with_values, without_values, without_handle};
 
-use crate::row::{Row, copies, put_copies, take_away, value_of};
+use crate::row::{copies, put_copies, take_away, value_of};
 use hdl_value::{Octets, Value};
 use std::alloc::{AllocError, Global};
-use std::cmp::Ordering;
+use std::collections::BTreeMap;
 use std::marker::Model;
 
 /// Handles by rising octets, each with its values by rising index. Contracts see the table that they are.
 #[derive(Drop)]
 pub(crate) struct Shelf {
-    rows: Vec<Row>,
+    rows: BTreeMap<Vec<u8>, Vec<Value>>,
 }
 
 impl Model for Shelf {
@@ -31,21 +29,9 @@ impl Model for Shelf {
 
     ghost use Rattle.hdl_rows.specs.Shelf.{entries_of, table_of, AreInOrder};
 
-    ghost view = { λ s. table_of (entries_of s.rows.items) };
+    ghost view = { λ s. table_of (entries_of s.rows.entries) };
 
-    ghost invariant = { λ s. AreInOrder (entries_of s.rows.items) };
-}
-
-fn same(a: &[u8], b: &[u8]) -> bool
-    ensures { result ≡ same_handle a.now b.now }
-{
-    a == b
-}
-
-fn is_below(a: &[u8], b: &[u8]) -> bool
-    ensures { result ≡ is_lt (handle_cmp a.now b.now) }
-{
-    a.cmp(&b) == Ordering::Less
+    ghost invariant = { λ s. AreInOrder (entries_of s.rows.entries) };
 }
 
 /// How many octets stand before the first slash.
@@ -84,46 +70,13 @@ fn is_of(handle: &[u8], prefix: &[u8]) -> bool
     lowers_to(front_of(handle), prefix)
 }
 
-/// How many rows at the front have a handle below.
-fn count_below(rows: &[Row], name: &[u8]) -> usize
-    requires ordered { IsTrue (is_sorted handle_cmp (entries_of rows.now)) }
-    ensures { result ≡ prefix_len (λ r. is_lt (handle_cmp r.name name.now)) rows.now }
+/// Copies of values by rising index; of two with one index the later one.
+fn shelved(alloc: Global, values: &[Value]) -> Result<Vec<Value>, AllocError>
+    ensures { IfOk result (λ all. by_index all.items ≡ put_all [] values.now) }
 {
-    rows.partition_point(|row| is_below(row.name.as_slice(), name))
-}
-
-/// The place of the handle's row.
-fn position_of(rows: &[Row], name: &[u8]) -> Option<usize>
-    requires ordered { IsTrue (is_sorted handle_cmp (entries_of rows.now)) }
-    ensures { result ≡ position (λ r. same_handle name.now r.name) rows.now }
-{
-    let at = count_below(rows, name);
-    if at < rows.len() && same(name, rows[at].name.as_slice()) {
-        Some(at)
-    } else {
-        None
-    }
-}
-
-/// The handle's row.
-fn row_of<'a>(rows: &'a [Row], name: &[u8]) -> Option<&'a Row>
-    requires ordered { IsTrue (is_sorted handle_cmp (entries_of rows.now)) }
-    ensures { option_map (λ r. r.now.values.items) result ≡ find handle_cmp name.now (entries_of rows.now) }
-{
-    match position_of(rows, name) {
-        Some(at) => Some(&rows[at]),
-        None => None,
-    }
-}
-
-fn new_row(alloc: Global, name: &[u8], values: &[Value]) -> Result<Row, AllocError>
-    ensures name { IfOk result (λ row. row.name ≡ name.now) }
-    ensures values { IfOk result (λ row. by_index row.values.items ≡ put_all [] values.now) }
-{
-    let name = Octets::new(Vec::from_slice(alloc, name)?);
     let mut all = Vec::new(alloc);
     put_copies(alloc, &mut all, values)?;
-    Ok(Row { name, values: all })
+    Ok(all)
 }
 
 impl Shelf {
@@ -134,21 +87,21 @@ impl Shelf {
         ensures { result ≡ no_rows }
     {
         Shelf {
-            rows: Vec::new(alloc),
+            rows: BTreeMap::new(alloc),
         }
     }
 
     pub(crate) fn has(&self, name: &[u8]) -> bool
         ensures { result ≡ has self.now name.now }
     {
-        row_of(&self.rows, name).is_some()
+        self.rows.contains_key(name)
     }
 
     pub(crate) fn value(&self, name: &[u8], index: u32) -> Option<&Value>
         ensures { option_copied result ≡ at self.now (place name.now index) }
     {
-        match row_of(&self.rows, name) {
-            Some(row) => value_of(&row.values, index),
+        match self.rows.get(name) {
+            Some(values) => value_of(values, index),
             None => None,
         }
     }
@@ -157,8 +110,8 @@ impl Shelf {
         ensures found { IfOk result (λ all. all.items ≡ values_of self.now name.now) }
         ensures by_index { IfOk result (λ all. HaveTheirIndexes self.now name.now all.items) }
     {
-        match row_of(&self.rows, name) {
-            Some(row) => copies(alloc, &row.values),
+        match self.rows.get(name) {
+            Some(values) => copies(alloc, values),
             None => Ok(Vec::new(alloc)),
         }
     }
@@ -167,9 +120,9 @@ impl Shelf {
         ensures { IfOk result (λ all. all.items ≡ names_of self.now prefix.now) }
     {
         let mut all = Vec::new(alloc);
-        for row in &self.rows {
-            if is_of(row.name.as_slice(), prefix) {
-                all.push(Octets::new(Vec::from_slice(alloc, row.name.as_slice())?))?;
+        for name in self.rows.keys() {
+            if is_of(name, prefix) {
+                all.push(Octets::new(Vec::from_slice(alloc, name)?))?;
             }
         }
         Ok(all)
@@ -186,9 +139,9 @@ impl Shelf {
         ensures done { OnOk result (self.new ≡ created self.old name.now values.now) }
         ensures undone { OnErr result (self.new ≡ self.old) }
     {
-        let row = new_row(alloc, name, values)?;
-        let at = count_below(&self.rows, name);
-        self.rows.insert(at, row)?;
+        let all = shelved(alloc, values)?;
+        let key = Vec::from_slice(alloc, name)?;
+        self.rows.insert(key, all)?;
         Ok(())
     }
 
@@ -203,11 +156,8 @@ impl Shelf {
         ensures done { OnOk result (self.new ≡ with_values self.old name.now values.now) }
         ensures undone { OnErr result (self.new ≡ self.old) }
     {
-        match position_of(&self.rows, name) {
-            Some(i) => {
-                let row = &mut self.rows[i];
-                put_copies(alloc, &mut row.values, values)
-            }
+        match self.rows.get_mut(name) {
+            Some(all) => put_copies(alloc, all, values),
             None => unreachable!(),
         }
     }
@@ -216,11 +166,8 @@ impl Shelf {
         requires there { has self.old name.now ≡ true }
         ensures { self.new ≡ without_values self.old name.now indexes.now }
     {
-        match position_of(&self.rows, name) {
-            Some(i) => {
-                let row = &mut self.rows[i];
-                take_away(&mut row.values, indexes);
-            }
+        match self.rows.get_mut(name) {
+            Some(all) => take_away(all, indexes),
             None => unreachable!(),
         }
     }
@@ -228,8 +175,6 @@ impl Shelf {
     pub(crate) fn delete(&mut self, name: &[u8])
         ensures { self.new ≡ without_handle self.old name.now }
     {
-        if let Some(at) = position_of(&self.rows, name) {
-            self.rows.remove(at);
-        }
+        self.rows.remove(name);
     }
 }

@@ -1,5 +1,6 @@
+use Rattle.std.proofs.Common.{◌∙◌}
 use Rattle.hdl_rows.proofs.Changes.{has_is}
 use Rattle.hdl_rows.proofs.shelf.Shelf.has.Goals as goal
 
 pub returns : goal.returns
-returns c = has_is c.args.self.now c.self.inside.rows.items c.deref.result.now c.args.name.now (λ r. r.now.values.items) c.row_of.result c.is_some.result c.self.view_is c.deref.ensures.value c.row_of.ensures c.is_some.ensures
+returns c = c.contains_key.ensures ∙ has_is c.args.self.now c.self.inside.rows.entries c.args.name.now c.self.view_is

@@ -1,31 +1,19 @@
-use Rattle.std.proofs.Common.{◌∙◌, refl, sym}
-use Rattle.hdl_rows.specs.declared.row.Row.{Row}
-use Rattle.hdl_rows.proofs.Changes.{put_is, changes, old_rises, has_row}
+use Rattle.std.proofs.Common.{◌∙◌, ap, sym, is_some, true≢false}
+use Rattle.std.specs.Option.{option_copied_mut}
+use Rattle.hdl_rows.proofs.Changes.{has_is, found_rises, put_is}
 use Rattle.hdl_rows.proofs.shelf.Shelf.put.Goals as goal
 
 pub put_copies-requires : goal.put_copies-requires
-put_copies-requires c =
-    let row = c.index_mut-row.result.now in
-    let at = changes c.args.self.now c.self.inside.rows.items c.deref.result.now c.args.name.now c.in-Some.i row row c.self.view_is c.self.invariant c.deref.ensures.value (sym c.position_of.ensures ∙ c.in-Some.is) c.index_mut-row.ensures.value refl in
-    record { ordered = old_rises _ _ _ _ _ _ at }
-
-pub invariant_of-self : goal.invariant_of-self
-invariant_of-self c =
-    let new : Row = record { name = c.index_mut-row.result.now.name; values = c.put_copies.new.values } in
-    let at = changes c.args.self.now c.self.inside.rows.items c.deref.result.now c.args.name.now c.in-Some.i c.index_mut-row.result.now new c.self.view_is c.self.invariant c.deref.ensures.value (sym c.position_of.ensures ∙ c.in-Some.is) c.index_mut-row.ensures.value refl in
-    (put_is c.put_copies.result _ _ _ _ _ _ c.args.values.now at c.put_copies.ensures.done c.put_copies.ensures.undone).0
+put_copies-requires c = record { ordered = found_rises c.self.inside.rows.entries c.args.name.now c.in-Some.all.now c.self.invariant (sym c.get_mut.ensures.value ∙ ap option_copied_mut c.in-Some.is) }
 
 pub unreachable-requires : goal.unreachable-requires
-unreachable-requires c = has_row c.args.self.now c.self.inside.rows.items c.deref.result.now c.args.name.now c.self.view_is c.deref.ensures.value c.requires.there (sym c.position_of.ensures ∙ c.in-None.is)
+unreachable-requires c = true≢false (sym c.requires.there ∙ sym (has_is c.args.self.now c.self.inside.rows.entries c.args.name.now c.self.view_is) ∙ ap is_some (sym c.get_mut.ensures.value ∙ ap option_copied_mut c.in-None.is))
+
+pub invariant_of-self : goal.invariant_of-self
+invariant_of-self c = (put_is c.put_copies.result c.args.self.now c.self.inside.rows.entries (c.get_mut.follows.lender c.put_copies.new.values).entries c.args.name.now c.in-Some.all.now c.put_copies.new.values c.args.values.now c.self.view_is c.self.invariant (sym c.get_mut.ensures.value ∙ ap option_copied_mut c.in-Some.is) (c.get_mut.follows.holds c.put_copies.new.values).0 c.put_copies.ensures.done c.put_copies.ensures.undone).0
 
 pub returns-clause-done : goal.returns-clause-done
-returns-clause-done c =
-    let new : Row = record { name = c.index_mut-row.result.now.name; values = c.put_copies.new.values } in
-    let at = changes c.args.self.now c.self.inside.rows.items c.deref.result.now c.args.name.now c.in-Some.i c.index_mut-row.result.now new c.self.view_is c.self.invariant c.deref.ensures.value (sym c.position_of.ensures ∙ c.in-Some.is) c.index_mut-row.ensures.value refl in
-    (put_is c.put_copies.result _ _ _ _ _ _ c.args.values.now at c.put_copies.ensures.done c.put_copies.ensures.undone).1
+returns-clause-done c = (put_is c.put_copies.result c.args.self.now c.self.inside.rows.entries (c.get_mut.follows.lender c.put_copies.new.values).entries c.args.name.now c.in-Some.all.now c.put_copies.new.values c.args.values.now c.self.view_is c.self.invariant (sym c.get_mut.ensures.value ∙ ap option_copied_mut c.in-Some.is) (c.get_mut.follows.holds c.put_copies.new.values).0 c.put_copies.ensures.done c.put_copies.ensures.undone).1
 
 pub returns-clause-undone : goal.returns-clause-undone
-returns-clause-undone c =
-    let new : Row = record { name = c.index_mut-row.result.now.name; values = c.put_copies.new.values } in
-    let at = changes c.args.self.now c.self.inside.rows.items c.deref.result.now c.args.name.now c.in-Some.i c.index_mut-row.result.now new c.self.view_is c.self.invariant c.deref.ensures.value (sym c.position_of.ensures ∙ c.in-Some.is) c.index_mut-row.ensures.value refl in
-    (put_is c.put_copies.result _ _ _ _ _ _ c.args.values.now at c.put_copies.ensures.done c.put_copies.ensures.undone).2
+returns-clause-undone c = (put_is c.put_copies.result c.args.self.now c.self.inside.rows.entries (c.get_mut.follows.lender c.put_copies.new.values).entries c.args.name.now c.in-Some.all.now c.put_copies.new.values c.args.values.now c.self.view_is c.self.invariant (sym c.get_mut.ensures.value ∙ ap option_copied_mut c.in-Some.is) (c.get_mut.follows.holds c.put_copies.new.values).0 c.put_copies.ensures.done c.put_copies.ensures.undone).2

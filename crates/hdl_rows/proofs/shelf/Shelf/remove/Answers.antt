@@ -1,19 +1,13 @@
-use Rattle.std.proofs.Common.{◌∙◌, refl, sym}
-use Rattle.hdl_rows.specs.declared.row.Row.{Row}
-use Rattle.hdl_rows.proofs.Changes.{removed_is, changes, has_row}
+use Rattle.std.proofs.Common.{◌∙◌, ap, sym, is_some, true≢false}
+use Rattle.std.specs.Option.{option_copied_mut}
+use Rattle.hdl_rows.proofs.Changes.{has_is, written_over, removed_is}
 use Rattle.hdl_rows.proofs.shelf.Shelf.remove.Goals as goal
 
-pub invariant_of-self : goal.invariant_of-self
-invariant_of-self c =
-    let new : Row = record { name = c.index_mut-row.result.now.name; values = c.take_away.new.values } in
-    let at = changes c.args.self.now c.self.inside.rows.items c.deref.result.now c.args.name.now c.in-Some.i c.index_mut-row.result.now new c.self.view_is c.self.invariant c.deref.ensures.value (sym c.position_of.ensures ∙ c.in-Some.is) c.index_mut-row.ensures.value refl in
-    (removed_is _ _ _ _ _ _ c.args.indexes.now at c.take_away.ensures).0
-
 pub unreachable-requires : goal.unreachable-requires
-unreachable-requires c = has_row c.args.self.now c.self.inside.rows.items c.deref.result.now c.args.name.now c.self.view_is c.deref.ensures.value c.requires.there (sym c.position_of.ensures ∙ c.in-None.is)
+unreachable-requires c = true≢false (sym c.requires.there ∙ sym (has_is c.args.self.now c.self.inside.rows.entries c.args.name.now c.self.view_is) ∙ ap is_some (sym c.get_mut.ensures.value ∙ ap option_copied_mut c.in-None.is))
+
+pub invariant_of-self : goal.invariant_of-self
+invariant_of-self c = (removed_is _ _ _ _ _ _ c.args.indexes.now (written_over c.args.self.now c.self.inside.rows.entries (c.get_mut.follows.lender c.take_away.new.values).entries c.args.name.now c.in-Some.all.now c.take_away.new.values c.self.view_is c.self.invariant (sym c.get_mut.ensures.value ∙ ap option_copied_mut c.in-Some.is) (c.get_mut.follows.holds c.take_away.new.values).0) c.take_away.ensures).0
 
 pub returns : goal.returns
-returns c =
-    let new : Row = record { name = c.index_mut-row.result.now.name; values = c.take_away.new.values } in
-    let at = changes c.args.self.now c.self.inside.rows.items c.deref.result.now c.args.name.now c.in-Some.i c.index_mut-row.result.now new c.self.view_is c.self.invariant c.deref.ensures.value (sym c.position_of.ensures ∙ c.in-Some.is) c.index_mut-row.ensures.value refl in
-    (removed_is _ _ _ _ _ _ c.args.indexes.now at c.take_away.ensures).1
+returns c = (removed_is _ _ _ _ _ _ c.args.indexes.now (written_over c.args.self.now c.self.inside.rows.entries (c.get_mut.follows.lender c.take_away.new.values).entries c.args.name.now c.in-Some.all.now c.take_away.new.values c.self.view_is c.self.invariant (sym c.get_mut.ensures.value ∙ ap option_copied_mut c.in-Some.is) (c.get_mut.follows.holds c.take_away.new.values).0) c.take_away.ensures).1
