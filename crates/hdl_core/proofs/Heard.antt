@@ -20,8 +20,8 @@ use Rattle.hdl_laws.specs.declared.events.Outcome.TheVariants.{Reply}
 use Rattle.hdl_laws.specs.Lanes.{LaneState}
 use Rattle.hdl_laws.specs.Worlds.{answer_octets, challenge_octets, Effect, Task, Malformed, Unknown, Late, Ask, Redeem, is_late, redeemed, redeem_task, pending, answer_effect, challenge_effect, IsResponseTask, IsRequestTask, IsLetterTask, Does}
 use Rattle.hdl_core.specs.declared.letter.Letter.{Letter}
-use Rattle.hdl_core.specs.declared.hearing.Asked.{Asked}
-use Rattle.hdl_core.specs.declared.hearing.Asked.TheVariants.{Answered, Challenged}
+use Rattle.hdl_core.specs.declared.hearing.Heard.{Heard}
+use Rattle.hdl_core.specs.declared.hearing.Heard.TheVariants.{Answered, Challenged}
 use Rattle.hdl_core.specs.Held.{Held, state_at, with_state}
 use Rattle.hdl_core.specs.Serving.{letter_of, IsAsked, Replies, IsRedeemed, RespondsAt, HearsAt}
 use Rattle.hdl_core.proofs.HeldLanes.{kept}
@@ -115,10 +115,10 @@ module _ (hosts : List ℕ → Bool) (algorithms : List ℕ → Algorithm) (t : 
     asking : (message : List ℕ) (r : Content) → SpellsRequest message r → None ≡ response_of r.operation → IsLetterTask (state_at lanes number) (letter_of m message) (Ask (letter_of m message) r (state_at lanes number))
     asking message r spells is = (Some r, spells, subst (λ o. IsRequestTask (state_at lanes number) (letter_of m message) r o (Ask (letter_of m message) r (state_at lanes number))) is refl)
 
-    pub answered : (message : List ℕ) (r : Content) (octets : List ℕ) (t' : Table) (asked : Asked) (next : ℕ) → SpellsRequest message r → None ≡ response_of r.operation → asked ≡ Answered octets
+    pub answered : (message : List ℕ) (r : Content) (octets : List ℕ) (t' : Table) (asked : Heard) (next : ℕ) → SpellsRequest message r → None ≡ response_of r.operation → asked ≡ Answered octets
         → IsAsked hosts (request_algorithm algorithms r) t m next r asked t' → HearsAt hosts algorithms t lanes number (letter_of m message) octets lanes t'
     answered message r octets t' asked next spells is same done =
-        let d = subst (λ (x : Asked). IsAsked hosts (request_algorithm algorithms r) t m next r x t') same done in
+        let d = subst (λ (x : Heard). IsAsked hosts (request_algorithm algorithms r) t m next r x t') same done in
         let m' = letter_of m message in
         let here = state_at lanes number in (
           here,
@@ -130,12 +130,12 @@ module _ (hosts : List ℕ → Bool) (algorithms : List ℕ → Algorithm) (t : 
           ),
         )
 
-    pub challenges : (message : List ℕ) (r : Content) (octets : List ℕ) (digest : Digest) (t' : Table) (lanes' : List Held) (asked : Asked) (next : ℕ) → SpellsRequest message r → None ≡ response_of r.operation → asked ≡ Challenged octets digest
+    pub challenges : (message : List ℕ) (r : Content) (octets : List ℕ) (digest : Digest) (t' : Table) (lanes' : List Held) (asked : Heard) (next : ℕ) → SpellsRequest message r → None ≡ response_of r.operation → asked ≡ Challenged octets digest
         → next ≡ (state_at lanes number).challenges.next → IsAsked hosts (request_algorithm algorithms r) t m next r asked t'
         → lanes' ≡ with_state lanes number (record { is_open = (state_at lanes number).is_open; partials = (state_at lanes number).partials; challenges = challenged (state_at lanes number).challenges (record { peer = m.peer; moment = m.moment; nonce = m.nonce; digest = digest; message = message }) })
         → HearsAt hosts algorithms t lanes number (letter_of m message) octets lanes' t'
     challenges message r octets digest t' lanes' asked next spells is same numbered done put =
-        let d = subst (λ (x : Asked). IsAsked hosts (request_algorithm algorithms r) t m next r x t') same done in
+        let d = subst (λ (x : Heard). IsAsked hosts (request_algorithm algorithms r) t m next r x t') same done in
         let m' = letter_of m message in
         let here = state_at lanes number in
         let sent : LaneState = record { is_open = here.is_open; partials = here.partials; challenges = challenged here.challenges (pending (request_algorithm algorithms r) m' r) } in (

@@ -66,10 +66,10 @@ module _ (hosts : List ℕ → Bool) (algorithms : List ℕ → Algorithm) (t : 
     piece f (Err refusal) o lanes' t' found e is done undone same = refused f o lanes' t' found is same undone
 
     pub heard : (f : Frame) (m : Letter) (message octets : List ℕ) (lanes' : List Held) (t' : Table) → IsFrameOf x.bytes f → is_truncated f.envelope ≡ false → message ≡ drop 20 x.bytes
-        → m ≡ record { peer = x.peer; moment = x.moment; nonce = x.nonce; envelope = f.envelope }
+        → m ≡ record { lane = number; peer = x.peer; moment = x.moment; nonce = x.nonce; envelope = f.envelope }
         → HearsAt hosts algorithms t lanes number (letter_of m message) octets lanes' t' → ReceivesAt hosts algorithms t lanes number x (Reply octets) lanes' t'
     heard f m message octets lanes' t' found e is letter done =
-        let same : letter_of m message ≡ worlds.letter x (drop 20 x.bytes) = λ i. letter_of ((letter ∙ ap (λ (n : Envelope). record { peer = x.peer; moment = x.moment; nonce = x.nonce; envelope = n }) found.envelope) i) (is i) in
+        let same : letter_of m message ≡ worlds.letter x (drop 20 x.bytes) = λ i. letter_of ((letter ∙ ap (λ (n : Envelope). record { lane = number; peer = x.peer; moment = x.moment; nonce = x.nonce; envelope = n }) found.envelope) i) (is i) in
         let h = subst (λ (l : worlds.Letter). HearsAt hosts algorithms t lanes number l octets lanes' t') same done in (
           h.0,
           h.1,

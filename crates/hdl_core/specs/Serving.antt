@@ -28,8 +28,8 @@ use Rattle.hdl_laws.specs.Worlds.{answer_octets, challenge_octets, Effect, Task,
 use Rattle.hdl_laws.specs.Lanes.{LaneState}
 use Rattle.hdl_core.specs.declared.letter.Letter.{Letter}
 use Rattle.hdl_core.specs.declared.letter.Received as code
-use Rattle.hdl_core.specs.declared.hearing.Asked.{Asked}
-use Rattle.hdl_core.specs.declared.hearing.Asked.TheVariants.{Answered, Challenged}
+use Rattle.hdl_core.specs.declared.hearing.Heard.{Heard}
+use Rattle.hdl_core.specs.declared.hearing.Heard.TheVariants.{Answered, Challenged}
 use Rattle.hdl_core.specs.Held.{Held, state_at, with_state}
 
 -- what was received, in the words of the laws
@@ -53,12 +53,12 @@ abbrev pub HasItsCode : Content → Type 0
 HasItsCode r = IsNumberOf (code_of r.operation) r.header.op_code
 
 -- what is sent to a request that is decided for anyone
-abbrev pub sent_of : Asked → List ℕ
+abbrev pub sent_of : Heard → List ℕ
 sent_of (Answered octets) = octets
 sent_of (Challenged octets digest) = octets
 
 -- a request of this algorithm is decided for anyone: it is answered, or challenged under the lane's next number
-abbrev pub IsAsked : (List ℕ → Bool) → Algorithm → Table → Letter → ℕ → Content → Asked → Table → Type 0
+abbrev pub IsAsked : (List ℕ → Bool) → Algorithm → Table → Letter → ℕ → Content → Heard → Table → Type 0
 IsAsked hosts a t m next r (Answered octets) t' =
     (d : Decision) × Decides hosts a t r Anyone d × ((d.code == 402) ≡ false) × (octets ≡ answer_octets a m.envelope r d.code d.content) × (t' ≡ apply_if t m.moment d.change)
 IsAsked hosts a t m next r (Challenged octets digest) t' =

@@ -12,12 +12,11 @@ ghost use Rattle.hdl_laws.specs.Worlds.{answer_octets};
 ghost use Rattle.hdl_core.specs.Serving.{Announces};
 
 use crate::letter::Letter;
-use hdl_auth::algorithm::Algorithm;
 use hdl_frame::Envelope;
 use hdl_laws::Octets;
-use hdl_msg::{ReplyContent, Request, ResponseCode, refuse};
+use hdl_msg::{ReplyContent, ResponseCode, refuse};
 use hdl_ops::laws::empty_fits;
-use hdl_ops::{Change, Decision, Masks, Refused, Rows, apply, render};
+use hdl_ops::{Asked, Change, Decision, Masks, Refused, Rows, apply, render};
 use std::alloc::Global;
 
 /// Makes the change of a decision, if there is one. No mask of the table before it is kept then.
@@ -46,18 +45,17 @@ fn make<R: Rows>(
 /// Renders the reply of a decision and makes its change.
 pub(crate) fn answer<R: Rows>(
     alloc: Global,
-    algorithm: Algorithm,
+    asked: &Asked<'_>,
     rows: &mut R,
     masks: &mut Masks,
     letter: &Letter,
-    request: &Request<'_>,
     decision: Decision,
 ) -> Result<Octets, Refused>
-    requires fits { IsTrue (fits algorithm request.now decision.content) }
+    requires fits { IsTrue (fits asked.now.algorithm asked.now.request.now decision.content) }
     requires can_apply { IfSome decision.change (λ change. CanApply (R.content rows.old) change) }
     requires true_masks { AreTrue (R.content rows.old) masks.old }
-    ensures reply { IfOk result (λ octets. octets ≡ answer_octets algorithm letter.now.envelope request.now (response_number decision.code) decision.content) }
-    ensures read { IfOk result (λ octets. Announces algorithm letter.now.envelope request.now (response_number decision.code) decision.content → IsReplyFrame octets) }
+    ensures reply { IfOk result (λ octets. octets ≡ answer_octets asked.now.algorithm letter.now.envelope asked.now.request.now (response_number decision.code) decision.content) }
+    ensures read { IfOk result (λ octets. Announces asked.now.algorithm letter.now.envelope asked.now.request.now (response_number decision.code) decision.content → IsReplyFrame octets) }
     ensures done { OnOk result (R.content rows.new ≡ apply_if (R.content rows.old) letter.now.moment decision.change) }
     ensures undone { OnErr result (R.content rows.new ≡ R.content rows.old) }
     ensures true_masks { AreTrue (R.content rows.new) masks.new }
@@ -67,12 +65,7 @@ pub(crate) fn answer<R: Rows>(
         content,
         change,
     } = decision;
-    let Envelope {
-        session,
-        request: number,
-        ..
-    } = letter.envelope;
-    let Ok(octets) = render(alloc, algorithm, session, number, request, code, content) else {
+    let Ok(octets) = render(alloc, asked, &letter.envelope, code, content) else {
         return Err(Refused);
     };
     make(rows, masks, change, letter.moment)?;
@@ -82,22 +75,16 @@ pub(crate) fn answer<R: Rows>(
 /// The reply to a request that needs no look at the table, with nothing but its code.
 pub(crate) fn tell(
     alloc: Global,
-    algorithm: Algorithm,
+    asked: &Asked<'_>,
     letter: &Letter,
-    request: &Request<'_>,
     code: ResponseCode,
 ) -> Result<Octets, Refused>
-    ensures reply { IfOk result (λ octets. octets ≡ answer_octets algorithm letter.now.envelope request.now (response_number code) content.Empty) }
-    ensures read { IfOk result (λ octets. Announces algorithm letter.now.envelope request.now (response_number code) content.Empty → IsReplyFrame octets) }
+    ensures reply { IfOk result (λ octets. octets ≡ answer_octets asked.now.algorithm letter.now.envelope asked.now.request.now (response_number code) content.Empty) }
+    ensures read { IfOk result (λ octets. Announces asked.now.algorithm letter.now.envelope asked.now.request.now (response_number code) content.Empty → IsReplyFrame octets) }
 {
-    let Envelope {
-        session,
-        request: number,
-        ..
-    } = letter.envelope;
     let empty = ReplyContent::Empty;
     empty_fits();
-    match render(alloc, algorithm, session, number, request, code, empty) {
+    match render(alloc, asked, &letter.envelope, code, empty) {
         Ok(octets) => Ok(Octets::new(octets)),
         Err(_) => Err(Refused),
     }

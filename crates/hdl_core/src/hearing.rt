@@ -13,11 +13,12 @@ use crate::answering::{answer, malformed, tell};
 use crate::lanes::Lanes;
 use crate::letter::Letter;
 use hdl_auth::algorithm::{Algorithm, Digest};
+use hdl_frame::Envelope;
 use hdl_laws::Octets;
 use hdl_limits::CHALLENGE_LIFE;
 use hdl_msg::{Request, ResponseCode, read_request};
 use hdl_ops::{
-    Level, Masks, Owner, Proof, Refused, Response, Rows, decide, render_challenge,
+    Asked, Level, Masks, Owner, Proof, Refused, Response, Rows, decide, render_challenge,
     request_algorithm, response_of,
 };
 use hdl_slots::Pending;
@@ -25,7 +26,7 @@ use std::alloc::Global;
 
 /// What comes of a request that is decided for anyone: its reply, or a challenge with the request's digest.
 #[derive(Drop)]
-pub(crate) enum Asked {
+pub(crate) enum Heard {
     Answered(Octets),
     Challenged(Octets, Digest),
 }
@@ -33,18 +34,19 @@ pub(crate) enum Asked {
 /// The challenge of a request under this number, with the request's digest.
 fn challenge(
     alloc: Global,
-    algorithm: Algorithm,
+    asked: &Asked<'_>,
     letter: &Letter,
     next: u32,
-    request: &Request<'_>,
 ) -> Result<(Octets, Digest), Refused>
-    ensures octets { IfOk result (λ sent. sent.0 ≡ challenge_octets algorithm next letter.now.envelope request.now letter.now.nonce) }
-    ensures digest { IfOk result (λ sent. sent.1 ≡ digest_of algorithm request.now) }
+    ensures octets { IfOk result (λ sent. sent.0 ≡ challenge_octets asked.now.algorithm next letter.now.envelope asked.now.request.now letter.now.nonce) }
+    ensures digest { IfOk result (λ sent. sent.1 ≡ digest_of asked.now.algorithm asked.now.request.now) }
     ensures read { IfOk result (λ sent. IsReplyFrame sent.0) }
 {
-    let number = letter.envelope.request;
-    let nonce = &letter.nonce;
-    let Ok(sent) = render_challenge(alloc, algorithm, next, number, request, nonce) else {
+    let envelope = Envelope {
+        session: next,
+        ..letter.envelope
+    };
+    let Ok(sent) = render_challenge(alloc, asked, &envelope, &letter.nonce) else {
         return Err(Refused);
     };
     let (octets, digest) = sent;
@@ -59,30 +61,23 @@ fn ask<R: Rows>(
     letter: &Letter,
     next: u32,
     request: &Request<'_>,
-) -> Result<Asked, Refused>
+) -> Result<Heard, Refused>
     requires true_masks { AreTrue (R.content rows.old) masks.old }
-    ensures asked { IfOk result (λ asked. IsAsked (hosted_by owner.now) (request_algorithm (algorithms_by owner.now) request.now) (R.content rows.old) letter.now next request.now asked (R.content rows.new)) }
-    ensures read { IfOk result (λ asked. HasItsCode request.now → IsReplyFrame (sent_of asked)) }
+    ensures asked { IfOk result (λ heard. IsAsked (hosted_by owner.now) (request_algorithm (algorithms_by owner.now) request.now) (R.content rows.old) letter.now next request.now heard (R.content rows.new)) }
+    ensures read { IfOk result (λ heard. HasItsCode request.now → IsReplyFrame (sent_of heard)) }
     ensures undone { OnErr result (R.content rows.new ≡ R.content rows.old) }
     ensures true_masks { AreTrue (R.content rows.new) masks.new }
 {
     let algorithm = request_algorithm(owner, request)?;
-    let decision = decide(owner, algorithm, rows, masks, request, &Level::Anyone)?;
+    let asked = Asked { algorithm, request };
+    let decision = decide(owner, &asked, rows, masks, &Level::Anyone)?;
     if decision.code == ResponseCode::AuthenticationNeeded {
-        let sent = challenge(owner.alloc, algorithm, letter, next, request)?;
+        let sent = challenge(owner.alloc, &asked, letter, next)?;
         let (octets, digest) = sent;
-        return Ok(Asked::Challenged(octets, digest));
+        return Ok(Heard::Challenged(octets, digest));
     }
-    let octets = answer(
-        owner.alloc,
-        algorithm,
-        rows,
-        masks,
-        letter,
-        request,
-        decision,
-    )?;
-    Ok(Asked::Answered(octets))
+    let octets = answer(owner.alloc, &asked, rows, masks, letter, decision)?;
+    Ok(Heard::Answered(octets))
 }
 
 /// The moment of the letter is later than the challenge's by more than a challenge lives; an earlier one counts as none.
@@ -110,13 +105,15 @@ fn redeem<R: Rows>(
     let Ok(request) = read_request(pending.message.as_slice()) else {
         return malformed(owner.alloc, &letter.envelope);
     };
-    let algorithm = pending.digest.algorithm();
+    let asked = Asked {
+        algorithm: pending.digest.algorithm(),
+        request: &request,
+    };
     if is_late(letter, pending) {
         return tell(
             owner.alloc,
-            algorithm,
+            &asked,
             letter,
-            &request,
             ResponseCode::AuthenticationTimeout,
         );
     }
@@ -125,17 +122,8 @@ fn redeem<R: Rows>(
         nonce: &pending.nonce,
         digest: &pending.digest,
     };
-    let level = Level::Proven(proof);
-    let decision = decide(owner, algorithm, rows, masks, &request, &level)?;
-    answer(
-        owner.alloc,
-        algorithm,
-        rows,
-        masks,
-        letter,
-        &request,
-        decision,
-    )
+    let decision = decide(owner, &asked, rows, masks, &Level::Proven(proof))?;
+    answer(owner.alloc, &asked, rows, masks, letter, decision)
 }
 
 /// The reply to a challenge response. The challenge that it names is spent, unless the reply is refused.
@@ -144,31 +132,28 @@ fn respond<R: Rows>(
     rows: &mut R,
     masks: &mut Masks,
     lanes: &mut Lanes,
-    lane: u16,
     letter: &Letter,
     request: &Request<'_>,
     response: Response<'_>,
 ) -> Result<Octets, Refused>
-    requires there { lane < length lanes.old }
+    requires there { letter.now.lane < length lanes.old }
     requires true_masks { AreTrue (R.content rows.old) masks.old }
-    ensures responded { IfOk result (λ octets. RespondsAt (hosted_by owner.now) (algorithms_by owner.now) (R.content rows.old) lanes.old lane letter.now request.now (response_view response.entry) octets lanes.new (R.content rows.new)) }
+    ensures responded { IfOk result (λ octets. RespondsAt (hosted_by owner.now) (algorithms_by owner.now) (R.content rows.old) lanes.old letter.now.lane letter.now request.now (response_view response.entry) octets lanes.new (R.content rows.new)) }
     ensures read { IfOk result (λ octets. IsReplyFrame octets) }
     ensures undone { OnErr result (R.content rows.new ≡ R.content rows.old) }
     ensures kept { OnErr result (lanes.new ≡ lanes.old) }
     ensures true_masks { AreTrue (R.content rows.new) masks.new }
 {
     let session = letter.envelope.session;
-    let Some(pending) = lanes.find(lane, letter.peer, session) else {
-        return tell(
-            owner.alloc,
-            Algorithm::Sha1,
-            letter,
+    let Some(pending) = lanes.find(letter.lane, letter.peer, session) else {
+        let asked = Asked {
+            algorithm: Algorithm::Sha1,
             request,
-            ResponseCode::ProtocolError,
-        );
+        };
+        return tell(owner.alloc, &asked, letter, ResponseCode::ProtocolError);
     };
     let octets = redeem(owner, rows, masks, letter, response, pending)?;
-    lanes.spend(lane, letter.peer, session);
+    lanes.spend(letter.lane, letter.peer, session);
     Ok(octets)
 }
 
@@ -178,13 +163,12 @@ pub(crate) fn hear<R: Rows>(
     rows: &mut R,
     masks: &mut Masks,
     lanes: &mut Lanes,
-    lane: u16,
     letter: &Letter,
     message: Vec<u8>,
 ) -> Result<Octets, Refused>
-    requires there { lane < length lanes.old }
+    requires there { letter.now.lane < length lanes.old }
     requires true_masks { AreTrue (R.content rows.old) masks.old }
-    ensures heard { IfOk result (λ octets. HearsAt (hosted_by owner.now) (algorithms_by owner.now) (R.content rows.old) lanes.old lane (letter_of letter.now message.items) octets lanes.new (R.content rows.new)) }
+    ensures heard { IfOk result (λ octets. HearsAt (hosted_by owner.now) (algorithms_by owner.now) (R.content rows.old) lanes.old letter.now.lane (letter_of letter.now message.items) octets lanes.new (R.content rows.new)) }
     ensures read { IfOk result (λ octets. IsReplyFrame octets) }
     ensures undone { OnErr result (R.content rows.new ≡ R.content rows.old) }
     ensures kept { OnErr result (lanes.new ≡ lanes.old) }
@@ -194,12 +178,12 @@ pub(crate) fn hear<R: Rows>(
         return malformed(owner.alloc, &letter.envelope);
     };
     if let Some(response) = response_of(request.body()) {
-        return respond(owner, rows, masks, lanes, lane, letter, &request, response);
+        return respond(owner, rows, masks, lanes, letter, &request, response);
     }
-    let next = lanes.next_number(lane);
+    let next = lanes.next_number(letter.lane);
     match ask(owner, rows, masks, letter, next, &request)? {
-        Asked::Answered(octets) => Ok(octets),
-        Asked::Challenged(octets, digest) => {
+        Heard::Answered(octets) => Ok(octets),
+        Heard::Challenged(octets, digest) => {
             let nonce = letter.nonce;
             let pending = Pending {
                 peer: letter.peer,
@@ -208,7 +192,7 @@ pub(crate) fn hear<R: Rows>(
                 digest,
                 message: Octets::new(message),
             };
-            lanes.challenge(lane, pending);
+            lanes.challenge(letter.lane, pending);
             Ok(octets)
         }
     }

@@ -3,18 +3,21 @@
 use hdl_frame::Envelope;
 use hdl_laws::Octets;
 
-/// Octets that should be one frame: who sent them, when they came in milliseconds, and a nonce for a challenge.
+/// Octets that should be one frame: the lane that they came on, who sent them, when they came in milliseconds, and a nonce for a
+/// challenge.
 pub(crate) struct Received {
+    pub lane: u16,
     pub peer: u16,
     pub moment: u64,
     pub nonce: [u8; 16],
     pub bytes: Octets,
 }
 
-/// A message that a frame brought, but for its octets: who sent the frame, when it came in milliseconds, a nonce for a challenge,
-/// and the frame's envelope.
+/// A message that a frame brought, but for its octets: the lane that the frame came on, who sent it, when it came in milliseconds,
+/// a nonce for a challenge, and the frame's envelope.
 #[derive(Clone, Copy)]
 pub(crate) struct Letter {
+    pub lane: u16,
     pub peer: u16,
     pub moment: u64,
     pub nonce: [u8; 16],

@@ -64,22 +64,20 @@ impl<R: Rows + Drop> Service<R> {
         ensures read { IsReadable result }
     {
         reply_told();
-        let Event { lane, what } = event;
-        if lane as usize >= self.lanes.len() {
+        if event.lane as usize >= self.lanes.len() {
             return Outcome::Silent;
         }
         let owner = Owner {
             alloc: self.alloc,
             tenants: &self.tenants,
-            publisher: self.lanes.publisher(lane),
+            publisher: self.lanes.publisher(event.lane),
         };
         serve(
             &owner,
             &mut self.rows,
             &mut self.masks,
             &mut self.lanes,
-            lane,
-            what,
+            event,
         )
     }
 

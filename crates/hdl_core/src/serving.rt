@@ -14,7 +14,7 @@ use crate::hearing::hear;
 use crate::lanes::Lanes;
 use crate::letter::{Letter, Received};
 use hdl_frame::{ENVELOPE_LEN, Envelope, Frame, one_datagram};
-use hdl_laws::{Octets, Outcome, What};
+use hdl_laws::{Event, Octets, Outcome, What};
 use hdl_msg::{busy, refuse};
 use hdl_ops::{Masks, Owner, Refused, Rows};
 use hdl_pool::Taken;
@@ -35,28 +35,27 @@ fn assemble<R: Rows>(
     rows: &mut R,
     masks: &mut Masks,
     lanes: &mut Lanes,
-    lane: u16,
     letter: &Letter,
     frame: &Frame<'_>,
 ) -> Result<Option<Octets>, Refused>
-    requires there { lane < length lanes.old }
+    requires there { letter.now.lane < length lanes.old }
     requires frame { IsFrameOf frame.now.bytes.now frame.now }
     requires piece { is_truncated (envelope_at frame.now.bytes.now) ≡ true }
     requires envelope { letter.now.envelope ≡ envelope_at frame.now.bytes.now }
     requires true_masks { AreTrue (R.content rows.old) masks.old }
-    ensures assembled { IfOk result (λ reply. AssemblesAt (hosted_by owner.now) (algorithms_by owner.now) (R.content rows.old) lanes.old lane (received_as letter.now frame.now.bytes.now) reply lanes.new (R.content rows.new)) }
+    ensures assembled { IfOk result (λ reply. AssemblesAt (hosted_by owner.now) (algorithms_by owner.now) (R.content rows.old) lanes.old letter.now.lane (received_as letter.now frame.now.bytes.now) reply lanes.new (R.content rows.new)) }
     ensures read { IfOk result (λ reply. IfSome reply IsReplyFrame) }
     ensures undone { OnErr result (R.content rows.new ≡ R.content rows.old) }
     ensures kept { OnErr result (lanes.new ≡ lanes.old) }
     ensures true_masks { AreTrue (R.content rows.new) masks.new }
 {
-    let Ok(taken) = lanes.take_piece(lane, letter.peer, frame) else {
+    let Ok(taken) = lanes.take_piece(letter.lane, letter.peer, frame) else {
         return Err(Refused);
     };
     match taken {
         Taken::Whole(message) => {
-            let reply = hear(owner, rows, masks, lanes, lane, letter, message)?;
-            lanes.free(lane, letter.peer, &letter.envelope);
+            let reply = hear(owner, rows, masks, lanes, letter, message)?;
+            lanes.free(letter.lane, letter.peer, &letter.envelope);
             Ok(Some(reply))
         }
         Taken::Kept => Ok(None),
@@ -82,16 +81,16 @@ fn receive<R: Rows>(
     rows: &mut R,
     masks: &mut Masks,
     lanes: &mut Lanes,
-    lane: u16,
     received: Received,
 ) -> Outcome
-    requires there { lane < length lanes.old }
+    requires there { received.lane < length lanes.old }
     requires true_masks { AreTrue (R.content rows.old) masks.old }
-    ensures received { ReceivesAt (hosted_by owner.now) (algorithms_by owner.now) (R.content rows.old) lanes.old lane (received_of received) result lanes.new (R.content rows.new) }
+    ensures received { ReceivesAt (hosted_by owner.now) (algorithms_by owner.now) (R.content rows.old) lanes.old received.lane (received_of received) result lanes.new (R.content rows.new) }
     ensures read { IsReadable result }
     ensures true_masks { AreTrue (R.content rows.new) masks.new }
 {
     let Received {
+        lane,
         peer,
         moment,
         nonce,
@@ -102,17 +101,18 @@ fn receive<R: Rows>(
     };
     let envelope = frame.envelope;
     let letter = Letter {
+        lane,
         peer,
         moment,
         nonce,
         envelope,
     };
     if envelope.is_truncated() {
-        let reply = assemble(owner, rows, masks, lanes, lane, &letter, &frame);
+        let reply = assemble(owner, rows, masks, lanes, &letter, &frame);
         return outcome_of(&envelope, reply);
     }
     let message = message_of(bytes);
-    match hear(owner, rows, masks, lanes, lane, &letter, message) {
+    match hear(owner, rows, masks, lanes, &letter, message) {
         Ok(reply) => Outcome::Reply(reply),
         Err(_) => Outcome::Busy(busy(&envelope)),
     }
@@ -139,15 +139,15 @@ pub(crate) fn serve<R: Rows>(
     rows: &mut R,
     masks: &mut Masks,
     lanes: &mut Lanes,
-    lane: u16,
-    what: What,
+    event: Event,
 ) -> Outcome
-    requires there { lane < length lanes.old }
+    requires there { event.lane < length lanes.old }
     requires true_masks { AreTrue (R.content rows.old) masks.old }
-    ensures served { ServesAt (hosted_by owner.now) (algorithms_by owner.now) (R.content rows.old) lanes.old lane what result lanes.new (R.content rows.new) }
+    ensures served { ServesAt (hosted_by owner.now) (algorithms_by owner.now) (R.content rows.old) lanes.old event.lane event.what result lanes.new (R.content rows.new) }
     ensures read { IsReadable result }
     ensures true_masks { AreTrue (R.content rows.new) masks.new }
 {
+    let Event { lane, what } = event;
     match what {
         What::Open => {
             lanes.renew(lane, true);
@@ -173,12 +173,13 @@ pub(crate) fn serve<R: Rows>(
                 return Outcome::Silent;
             }
             let received = Received {
+                lane,
                 peer,
                 moment,
                 nonce,
                 bytes,
             };
-            receive(owner, rows, masks, lanes, lane, received)
+            receive(owner, rows, masks, lanes, received)
         }
     }
 }

@@ -18,14 +18,14 @@ returns-in_default-clause-redeemed g c =
 pub returns-then-is_late-clause-redeemed : goal.returns-then-is_late-clause-redeemed
 returns-then-is_late-clause-redeemed g c =
     on_ok c.tell.result _ _
-    (λ octets is. late (hosted_by c.args.owner.now) (algorithms_by c.args.owner.now) (g.R.Rows.content c.args.rows.now) c.args.letter.now (response_view c.args.response) c.args.pending.now c.in-Ok.request c.algorithm-algorithm.result octets c.algorithm-algorithm.ensures
+    (λ octets is. late (hosted_by c.args.owner.now) (algorithms_by c.args.owner.now) (g.R.Rows.content c.args.rows.now) c.args.letter.now (response_view c.args.response) c.args.pending.now c.in-Ok.request c.algorithm.result octets c.algorithm.ensures
     (subst (λ (b : List ℕ). SpellsRequest b c.in-Ok.request) c.as_slice.ensures c.in-Ok.ensures.read) (λ message. sym c.if-is_late.true ∙ c.is_late.ensures message) is)
     c.tell.ensures.reply
 
 pub returns-clause-redeemed : goal.returns-clause-redeemed
 returns-clause-redeemed g c =
     on_both c.answer.result _ _ _
-    (λ octets is table. proven (hosted_by c.args.owner.now) (algorithms_by c.args.owner.now) (g.R.Rows.content c.args.rows.now) c.args.letter.now (response_view c.args.response) c.args.pending.now c.in-Ok.request c.algorithm-algorithm.result (decision_of c.in_ok-decision.decision) octets (g.R.Rows.content c.answer.new.rows) c.algorithm-algorithm.ensures
+    (λ octets is table. proven (hosted_by c.args.owner.now) (algorithms_by c.args.owner.now) (g.R.Rows.content c.args.rows.now) c.args.letter.now (response_view c.args.response) c.args.pending.now c.in-Ok.request c.algorithm.result (decision_of c.in_ok-decision.decision) octets (g.R.Rows.content c.answer.new.rows) c.algorithm.ensures
     (subst (λ (b : List ℕ). SpellsRequest b c.in-Ok.request) c.as_slice.ensures c.in-Ok.ensures.read) (λ message. sym c.if-is_late.false ∙ c.is_late.ensures message)
     c.in_ok-decision.ensures.decided is (table ∙ ap (λ t. apply_if t c.args.letter.now.moment c.in_ok-decision.decision.change) c.decide.ensures.unchanged))
     c.answer.ensures.reply c.answer.ensures.done
@@ -33,7 +33,7 @@ returns-clause-redeemed g c =
 pub returns-then-is_late-clause-read : goal.returns-then-is_late-clause-read
 returns-then-is_late-clause-read g c =
     let e = c.args.letter.now.envelope in
-    on_ok c.tell.result _ _ (λ octets reads. reads (timeout_announced c.algorithm-algorithm.result e.session e.request c.in-Ok.request)) c.tell.ensures.read
+    on_ok c.tell.result _ _ (λ octets reads. reads (timeout_announced c.algorithm.result e.session e.request c.in-Ok.request)) c.tell.ensures.read
 
 pub returns-clause-read : goal.returns-clause-read
 returns-clause-read g c =
@@ -44,5 +44,5 @@ returns-clause-read g c =
     let p : Proof = record { response = response_view c.args.response; nonce = c.args.pending.now.nonce; digest = c.args.pending.now.digest } in
     let d = decision_of c.in_ok-decision.decision in
     on_ok c.answer.result _ _
-    (λ octets reads. reads (answer_announced_lem hosts c.algorithm-algorithm.result t r (Proven p) d e.session e.request c.in-Ok.ensures.read.has_code c.in_ok-decision.ensures.decided (proven_code hosts c.algorithm-algorithm.result t r p d c.in_ok-decision.ensures.decided)))
+    (λ octets reads. reads (answer_announced_lem hosts c.algorithm.result t r (Proven p) d e.session e.request c.in-Ok.ensures.read.has_code c.in_ok-decision.ensures.decided (proven_code hosts c.algorithm.result t r p d c.in_ok-decision.ensures.decided)))
     c.answer.ensures.read

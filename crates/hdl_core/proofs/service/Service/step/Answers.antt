@@ -7,9 +7,9 @@ use Rattle.hdl_core.specs.Serving.{ServesAt}
 use Rattle.hdl_core.proofs.Steps.{steps_alone, steps_served}
 use Rattle.hdl_core.proofs.service.Service.step.Goals as goal
 
-pub returns-then-lane-len : goal.returns-then-lane-len
-returns-then-lane-len g c =
-    let done : Steps c.args.self.now c.args.event Silent c.args.self.now = subst (λ w. Steps w c.args.event Silent w) c.self.view_is (steps_alone c.self.inside.tenants c.self.inside.lanes _ c.args.event (omega (arith, c.len.ensures, c.if-lane-len.true))) in
+pub returns-then-event-len : goal.returns-then-event-len
+returns-then-event-len g c =
+    let done : Steps c.args.self.now c.args.event Silent c.args.self.now = subst (λ w. Steps w c.args.event Silent w) c.self.view_is (steps_alone c.self.inside.tenants c.self.inside.lanes _ c.args.event (omega (arith, c.len.ensures, c.if-event-len.true))) in
     record { step = done; told = c.reply_told.ensures _ _ _ _ done; read = tt }
 
 pub returns : goal.returns
@@ -19,5 +19,5 @@ returns g c =
     let served = subst (λ u. ServesAt (hosts c.self.inside.tenants u) (algorithm c.self.inside.tenants u) table c.self.inside.lanes c.args.event.lane c.args.event.what c.serve.result c.serve.new.lanes (g.R.Rows.content c.serve.new.rows)) c.publisher.ensures c.serve.ensures.served in
     let done : Steps c.args.self.now c.args.event c.serve.result new =
     subst (λ w. Steps w c.args.event c.serve.result new) c.self.view_is
-    (steps_served c.self.inside.tenants c.self.inside.lanes c.serve.new.lanes table (g.R.Rows.content c.serve.new.rows) c.args.event c.serve.result (omega (arith, c.len.ensures, c.if-lane-len.false)) served) in
+    (steps_served c.self.inside.tenants c.self.inside.lanes c.serve.new.lanes table (g.R.Rows.content c.serve.new.rows) c.args.event c.serve.result (omega (arith, c.len.ensures, c.if-event-len.false)) served) in
     record { step = done; told = c.reply_told.ensures _ _ _ _ done; read = c.serve.ensures.read }
