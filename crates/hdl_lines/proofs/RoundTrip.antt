@@ -12,12 +12,13 @@ use Rattle.std.proofs.lemmas.Slice.Eq.{bytes_eq-Decides}
 use Rattle.std.proofs.lemmas.Str.Parse.{digit_from_value}
 use Rattle.hex.specs.Hex.{encode_with, encode_lower}
 use Rattle.hex.proofs.HexLemmas.{decode_of-encode_lower}
+use Rattle.hdl_limits.specs.Octets.{AreOctets}
 use Rattle.hdl_name.specs.Name.{IsHandle}
 use Rattle.hdl_name.specs.Tests.{is_handle}
 use Rattle.hdl_name.proofs.Equal.{handle_decides}
 use Rattle.hdl_value.specs.declared.references.RawRef.{RawRef}
 use Rattle.hdl_value.specs.declared.value.Value.{Value}
-use Rattle.hdl_value.specs.Spelling.{string, reference, references, spelling, AreOctets, IsString, RefFits, Fits}
+use Rattle.hdl_value.specs.Spelling.{string, reference, references, spelling, IsString, RefFits, Fits}
 use Rattle.hdl_value.specs.Reading.{◌>>=◌}
 use Rattle.hdl_value.specs.Data.{IsAdminData, IsListData}
 use Rattle.hdl_value.specs.Refs.{is_admin, is_list, admin_in, list_in, admin_read, list_read}
