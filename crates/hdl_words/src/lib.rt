@@ -18,7 +18,7 @@ mod request;
 mod value;
 
 pub use lines::explain;
-pub use naming::{code_name, operation_name};
+pub use naming::{code_name, operation_in, operation_name};
 pub use page::Page;
 pub use reply::{push_reply, push_short_reply};
 pub use request::push_request;

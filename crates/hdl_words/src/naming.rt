@@ -17,6 +17,20 @@ pub fn operation_name(number: u32) -> &'static str {
     }
 }
 
+/// The operation that a word asks for, in capital or small letters. Nobody asks for a challenge response in a word.
+pub fn operation_in(word: &str) -> Option<OpCode> {
+    match word {
+        "resolve" | "RESOLVE" => Some(OpCode::Resolution),
+        "create" | "CREATE" => Some(OpCode::CreateHandle),
+        "delete" | "DELETE" => Some(OpCode::DeleteHandle),
+        "add" | "ADD" => Some(OpCode::AddValue),
+        "remove" | "REMOVE" => Some(OpCode::RemoveValue),
+        "modify" | "MODIFY" => Some(OpCode::ModifyValue),
+        "list" | "LIST" => Some(OpCode::ListHandles),
+        _ => None,
+    }
+}
+
 /// What a response code is called, after RFC 3652, section 2.2.2.2, in our profile (docs/PROTOCOL.md, "Response codes").
 pub fn code_name(code: u32) -> &'static str {
     match code {

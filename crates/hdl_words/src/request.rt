@@ -1,9 +1,10 @@
 //! A request in words.
 
+use crate::naming::operation_name;
 use crate::page::{Page, text_of};
 use crate::value::push_value;
 use hdl_frame::Envelope;
-use hdl_msg::{Body, OpFlag, Request, Values};
+use hdl_msg::{Body, Numbers, OpFlag, Request, Strings, Values};
 use std::alloc::AllocError;
 
 /// Adds a line of a word and a handle.
@@ -27,49 +28,49 @@ fn push_write(
     Ok(())
 }
 
-/// Adds what a resolution asks for: all values, or those of indexes and types.
-fn push_resolution(page: &mut Page, body: &Body<'_>) -> Result<(), AllocError> {
-    let Body::Resolution {
-        handle,
-        indexes,
-        types,
-    } = body
-    else {
-        return Ok(());
-    };
-    push_handle(page, "resolve", handle)?;
-    for index in *indexes {
+/// Adds a line for each index.
+fn push_indexes(page: &mut Page, indexes: Numbers<'_>) -> Result<(), AllocError> {
+    for index in indexes {
         let line = format!(in page.alloc; ";; index {index}")?;
         page.push(&line)?;
     }
-    for kind in *types {
+    Ok(())
+}
+
+/// Adds a line for each type.
+fn push_types(page: &mut Page, types: Strings<'_>) -> Result<(), AllocError> {
+    for kind in types {
         push_handle(page, ";; type", kind)?;
     }
     Ok(())
 }
 
-fn push_body(page: &mut Page, body: &Body<'_>) -> Result<(), AllocError> {
+/// Adds what is asked for, under the operation's name.
+fn push_body(page: &mut Page, word: &str, body: &Body<'_>) -> Result<(), AllocError> {
     match body {
-        Body::Resolution { .. } => push_resolution(page, body),
-        Body::Create { handle, values } => push_write(page, "create", handle, *values),
-        Body::Add { handle, values } => push_write(page, "add", handle, *values),
-        Body::Modify { handle, values } => push_write(page, "modify", handle, *values),
-        Body::Delete { handle } => push_handle(page, "delete", handle),
-        Body::List { handle } => push_handle(page, "list", handle),
+        Body::Resolution {
+            handle,
+            indexes,
+            types,
+        } => {
+            push_handle(page, word, handle)?;
+            push_indexes(page, *indexes)?;
+            push_types(page, *types)
+        }
+        Body::Create { handle, values }
+        | Body::Add { handle, values }
+        | Body::Modify { handle, values } => push_write(page, word, handle, *values),
+        Body::Delete { handle } | Body::List { handle } => push_handle(page, word, handle),
         Body::Remove { handle, indexes } => {
-            push_handle(page, "remove", handle)?;
-            for index in *indexes {
-                let line = format!(in page.alloc; ";; index {index}")?;
-                page.push(&line)?;
-            }
-            Ok(())
+            push_handle(page, word, handle)?;
+            push_indexes(page, *indexes)
         }
         Body::Response {
             handle,
             index,
             answer,
             ..
-        } => push_response(page, handle, *index, answer),
+        } => push_response(page, word, handle, *index, answer),
         Body::Other { octets } => {
             let line = format!(in page.alloc;
                 ";; an operation that isn't used, {} octets",
@@ -83,13 +84,14 @@ fn push_body(page: &mut Page, body: &Body<'_>) -> Result<(), AllocError> {
 /// Adds the key and the octets of a response to a challenge.
 fn push_response(
     page: &mut Page,
+    word: &str,
     handle: &[u8],
     index: u32,
     answer: &[u8],
 ) -> Result<(), AllocError> {
     let name = text_of(page.alloc, handle)?;
     let digits = hex::encode(page.alloc, answer)?;
-    let line = format!(in page.alloc; "respond {index}:{name} {digits}")?;
+    let line = format!(in page.alloc; "{word} {index}:{name} {digits}")?;
     page.push(&line)
 }
 
@@ -110,5 +112,9 @@ pub fn push_request(
     if request.header().has(OpFlag::ReturnDigest) {
         page.push(";; with the request's digest in the reply")?;
     }
-    push_body(page, request.body())
+    push_body(
+        page,
+        operation_name(request.header().op_code),
+        request.body(),
+    )
 }

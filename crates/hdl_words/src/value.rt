@@ -10,7 +10,6 @@ use hdl_value::{CutValue, HS_SECKEY, Value, read_value};
 use jiff::Timestamp;
 use std::alloc::{AllocError, Global};
 
-
 /// The data of a value, but that of a key where it isn't asked for.
 pub fn shown_data(value: &Value, shows_keys: bool) -> Option<&[u8]>
     ensures hidden { is_secret_key value.now ≡ true → shows_keys ≡ false → IsNone result }
