@@ -12,9 +12,7 @@ ghost use Rattle.hdl_client.specs.Challenge as challenge;
 use crate::fault::ClientFault;
 use hdl_auth::{digest, mac};
 use hdl_limits::MESSAGE_MAX;
-use hdl_msg::{
-    ContentView, Digest, Header, ReplyView, RequestBody, request_len, write_request,
-};
+use hdl_msg::{ContentView, Digest, Header, ReplyView, RequestBody, request_len, write_request};
 use hdl_value::{HS_SECKEY, Octets};
 use std::alloc::{AllocError, Global};
 

@@ -4,6 +4,7 @@ ghost use Rattle.std.specs.Prelude.{◌≡◌, ◌≢◌};
 ghost use Rattle.hdl_client.specs.declared.fault.ClientFault.TheVariants.{Memory, TooLong};
 
 use hdl_frame::FrameFault;
+use hdl_limits::MESSAGE_MAX;
 use std::alloc::{AllocError, AllocFailed};
 use std::io::{self, ErrorKind};
 use thiserror::Error;
@@ -32,7 +33,7 @@ pub enum ClientFault {
     /// Its digest isn't that of the request.
     #[error("a challenge of another request came")]
     OtherChallenge,
-    #[error("the request has more than 65,536 octets")]
+    #[error("the request has more than {MESSAGE_MAX} octets")]
     TooLong,
     #[error("no memory")]
     Memory,
