@@ -2,10 +2,10 @@
 
 use crate::connecting::{connect, key_of};
 use crate::fault::WordFault;
-use crate::request::{Details, Verb, request_of};
+use crate::request::{Details, request_of, takes_values};
 use hdl_client::{ClientFault, Key};
 use hdl_frame::{Envelope, one_datagram};
-use hdl_msg::{ReplyView, RequestBody, read_reply};
+use hdl_msg::{OpCode, ReplyView, RequestBody, read_reply};
 use hdl_name::is_name;
 use hdl_words::{Page, code_name, push_reply, push_short_reply};
 use std::alloc::{AllocError, Global};
@@ -15,9 +15,9 @@ use thiserror::Error;
 /// What is asked of which server, and how the answer is shown.
 #[derive(Drop)]
 pub struct Question {
-    pub verb: Verb,
+    pub operation: OpCode,
     pub handle: String,
-    /// Values in words or indexes, as the verb takes them; of a resolution the indexes of values.
+    /// Values in words or indexes, as the operation takes them; of a resolution the indexes of values.
     pub words: Vec<String>,
     /// The types of values, of a resolution.
     pub types: Vec<String>,
@@ -80,7 +80,7 @@ impl From<io::Error> for AskFault {
 /// The handle that is asked for. A list may name the naming authority alone.
 fn handle_of(alloc: Global, question: &Question) -> Result<String, AllocError> {
     let handle = question.handle.as_str();
-    if question.verb == Verb::List && !handle.contains('/') {
+    if question.operation == OpCode::ListHandles && !handle.contains('/') {
         return format!(in alloc; "0.NA/{handle}");
     }
     String::from_str(alloc, handle)
@@ -89,7 +89,7 @@ fn handle_of(alloc: Global, question: &Question) -> Result<String, AllocError> {
 fn body_of(alloc: Global, question: &Question) -> Result<RequestBody, WordFault> {
     let mut details = Details::new(alloc);
     for word in &question.words {
-        if question.verb.takes_values() {
+        if takes_values(question.operation) {
             details.push_value(alloc, word)?;
         } else {
             details.push_index(word)?;
@@ -99,7 +99,7 @@ fn body_of(alloc: Global, question: &Question) -> Result<RequestBody, WordFault>
         details.push_type(alloc, kind)?;
     }
     let handle = handle_of(alloc, question)?;
-    request_of(alloc, question.verb, &handle, details)
+    request_of(alloc, question.operation, &handle, details)
 }
 
 fn print_reply(

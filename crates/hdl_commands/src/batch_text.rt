@@ -2,10 +2,12 @@
 
 use crate::fault::WordFault;
 use crate::key::read_key;
-use crate::request::{Details, Verb, request_of};
+use crate::request::{Details, request_of, takes_values};
 use hdl_client::{Batch, Task, request_message};
+use hdl_msg::OpCode;
 use hdl_name::Name;
 use hdl_value::Value;
+use hdl_words::operation_in;
 use std::alloc::Global;
 use thiserror::Error;
 
@@ -21,7 +23,7 @@ pub struct BatchFault {
 #[derive(Drop)]
 struct Block {
     task: Task,
-    verb: Verb,
+    operation: OpCode,
     handle: String,
     details: Details,
 }
@@ -38,28 +40,35 @@ struct Reader {
 
 /// Whether a value may change who else is an administrator: a key, or a list of keys.
 fn is_relied_on(value: &Value) -> bool {
-    value.is_secret_key() || value.kind.as_slice() == b"HS_VLIST".as_slice()
+    value.is_secret_key() || value.is_list()
 }
 
 /// Whether a request may change what requests on other handles need, whatever its values are.
-fn may_disturb(verb: Verb, name: &Name) -> bool {
-    !matches!(verb, Verb::Create | Verb::Add | Verb::Resolve) || name.is_admin_handle()
+fn may_disturb(operation: OpCode, name: &Name) -> bool {
+    !matches!(
+        operation,
+        OpCode::CreateHandle | OpCode::AddValue | OpCode::Resolution
+    ) || name.is_admin_handle()
 }
 
 fn message_of(
     alloc: Global,
-    verb: Verb,
+    operation: OpCode,
     handle: &str,
     details: Details,
 ) -> Result<Vec<u8>, WordFault> {
-    let body = request_of(alloc, verb, handle, details)?;
+    let body = request_of(alloc, operation, handle, details)?;
     let message = request_message(alloc, &body)?;
     Ok(message)
 }
 
 /// The handle behind an operation, and the indexes before it where the operation is to remove values.
-fn handle_of<'a>(verb: Verb, words: &'a str, details: &mut Details) -> Result<&'a str, WordFault> {
-    if verb != Verb::Remove {
+fn handle_of<'a>(
+    operation: OpCode,
+    words: &'a str,
+    details: &mut Details,
+) -> Result<&'a str, WordFault> {
+    if operation != OpCode::RemoveValue {
         return Ok(words);
     }
     let Some((indexes, handle)) = words.split_once(':') else {
@@ -79,18 +88,24 @@ impl Reader {
         };
         let Block {
             mut task,
-            verb,
+            operation,
             handle,
             details,
         } = block;
         task.is_alone = task.is_alone || details.values.iter().any(is_relied_on);
-        task.message = message_of(self.alloc, verb, &handle, details)?;
+        task.message = message_of(self.alloc, operation, &handle, details)?;
         self.batch.tasks.push(task)?;
         Ok(())
     }
 
     /// The task of a request that begins at this line.
-    fn task(&self, line: usize, verb: Verb, title: &str, handle: &str) -> Result<Task, WordFault> {
+    fn task(
+        &self,
+        line: usize,
+        operation: OpCode,
+        title: &str,
+        handle: &str,
+    ) -> Result<Task, WordFault> {
         let name = Name::read(self.alloc, handle.as_bytes())?;
         Ok(Task {
             line,
@@ -98,7 +113,7 @@ impl Reader {
             message: Vec::new(self.alloc),
             key: self.batch.keys.len().checked_sub(1),
             handle: Vec::from_slice(self.alloc, name.canon())?,
-            is_alone: may_disturb(verb, &name),
+            is_alone: may_disturb(operation, &name),
         })
     }
 
@@ -106,16 +121,16 @@ impl Reader {
     fn begin(
         &mut self,
         line: usize,
-        verb: Verb,
+        operation: OpCode,
         title: &str,
         words: &str,
     ) -> Result<(), WordFault> {
         let mut details = Details::new(self.alloc);
-        let handle = handle_of(verb, words, &mut details)?;
-        let task = self.task(line, verb, title, handle)?;
+        let handle = handle_of(operation, words, &mut details)?;
+        let task = self.task(line, operation, title, handle)?;
         self.block = Some(Block {
             task,
-            verb,
+            operation,
             handle: String::from_str(self.alloc, handle)?,
             details,
         });
@@ -133,15 +148,15 @@ impl Reader {
             self.reference = Some(String::from_str(self.alloc, reference)?);
             return Ok(());
         }
-        match Verb::of(word) {
-            Some(verb) => self.begin(line, verb, text, rest),
+        match operation_in(word) {
+            Some(operation) => self.begin(line, operation, text, rest),
             None => Err(WordFault::Operation),
         }
     }
 
     fn value(&mut self, text: &str) -> Result<(), WordFault> {
         match &mut self.block {
-            Some(block) if block.verb.takes_values() => {
+            Some(block) if takes_values(block.operation) => {
                 block.details.push_value(self.alloc, text)
             }
             _ => Err(WordFault::Stray),

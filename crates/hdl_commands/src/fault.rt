@@ -1,6 +1,7 @@
 //! What is wrong with words.
 
 use hdl_client::ClientFault;
+use hdl_limits::MESSAGE_MAX;
 use hdl_lines::LineFault;
 use hdl_name::NameFault;
 use std::alloc::{AllocError, AllocFailed};
@@ -25,7 +26,7 @@ pub enum WordFault {
     Missing,
     #[error("the secret is missing")]
     NoSecret,
-    #[error("the request has more than 65,536 octets")]
+    #[error("the request has more than {MESSAGE_MAX} octets")]
     TooLong,
     #[error("no memory")]
     Memory,

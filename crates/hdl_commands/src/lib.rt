@@ -26,6 +26,5 @@ pub use batches::run_batch_text;
 pub use connecting::{SECRET_VARIABLE, connect};
 pub use fault::WordFault;
 pub use key::read_reference;
-pub use request::Verb;
 pub use scripts::write_script;
 pub use tenants::write_tenants;

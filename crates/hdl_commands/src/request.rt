@@ -3,41 +3,16 @@
 use crate::fault::WordFault;
 use crate::key::index_in;
 use hdl_lines::read_value_line;
-use hdl_msg::{HandleList, IndexList, RequestBody, ValueList};
+use hdl_msg::{HandleList, IndexList, OpCode, RequestBody, ValueList};
 use hdl_value::{Octets, Value};
 use std::alloc::{AllocError, Global};
 
-/// What is asked for.
-#[derive(Clone, Copy, Debug, PartialEq, Eq)]
-pub enum Verb {
-    Resolve,
-    List,
-    Create,
-    Delete,
-    Add,
-    Remove,
-    Modify,
-}
-
-impl Verb {
-    /// The verb of a word, in capital or small letters.
-    pub fn of(word: &str) -> Option<Verb> {
-        match word {
-            "resolve" | "RESOLVE" => Some(Verb::Resolve),
-            "list" | "LIST" => Some(Verb::List),
-            "create" | "CREATE" => Some(Verb::Create),
-            "delete" | "DELETE" => Some(Verb::Delete),
-            "add" | "ADD" => Some(Verb::Add),
-            "remove" | "REMOVE" => Some(Verb::Remove),
-            "modify" | "MODIFY" => Some(Verb::Modify),
-            _ => None,
-        }
-    }
-
-    /// Whether values go with it.
-    pub fn takes_values(self) -> bool {
-        matches!(self, Verb::Create | Verb::Add | Verb::Modify)
-    }
+/// Whether values go with an operation.
+pub(crate) fn takes_values(operation: OpCode) -> bool {
+    matches!(
+        operation,
+        OpCode::CreateHandle | OpCode::AddValue | OpCode::ModifyValue
+    )
 }
 
 /// Which values a request speaks of.
@@ -83,10 +58,10 @@ impl Details {
     }
 }
 
-/// The body of a request.
+/// The body of a request. A challenge response is none that words ask for.
 pub fn request_of(
     alloc: Global,
-    verb: Verb,
+    operation: OpCode,
     handle: &str,
     details: Details,
 ) -> Result<RequestBody, WordFault> {
@@ -96,23 +71,26 @@ pub fn request_of(
         types,
         values,
     } = details;
-    if verb.takes_values() && values.is_empty() || verb == Verb::Remove && indexes.is_empty() {
+    if takes_values(operation) && values.is_empty()
+        || operation == OpCode::RemoveValue && indexes.is_empty()
+    {
         return Err(WordFault::Missing);
     }
     let indexes = IndexList::new(indexes);
     let types = HandleList::new(types);
     let values = ValueList::new(values);
-    Ok(match verb {
-        Verb::Resolve => RequestBody::Resolution {
+    match operation {
+        OpCode::Resolution => Ok(RequestBody::Resolution {
             handle,
             indexes,
             types,
-        },
-        Verb::List => RequestBody::List { handle },
-        Verb::Create => RequestBody::Create { handle, values },
-        Verb::Delete => RequestBody::Delete { handle },
-        Verb::Add => RequestBody::Add { handle, values },
-        Verb::Remove => RequestBody::Remove { handle, indexes },
-        Verb::Modify => RequestBody::Modify { handle, values },
-    })
+        }),
+        OpCode::ListHandles => Ok(RequestBody::List { handle }),
+        OpCode::CreateHandle => Ok(RequestBody::Create { handle, values }),
+        OpCode::DeleteHandle => Ok(RequestBody::Delete { handle }),
+        OpCode::AddValue => Ok(RequestBody::Add { handle, values }),
+        OpCode::RemoveValue => Ok(RequestBody::Remove { handle, indexes }),
+        OpCode::ModifyValue => Ok(RequestBody::Modify { handle, values }),
+        OpCode::ChallengeResponse => Err(WordFault::Operation),
+    }
 }
