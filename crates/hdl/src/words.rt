@@ -3,7 +3,9 @@
 ghost use Rattle.std.specs.Prelude.{◌≡◌, if◌then◌else◌};
 
 use clap::{Arg, ArgAction, ArgMatches, Command, Error};
-use hdl_commands::{Question, Verb};
+use hdl_commands::Question;
+use hdl_msg::OpCode;
+use hdl_words::operation_in;
 use std::alloc::{AllocError, Global};
 use std::{env, io};
 
@@ -188,12 +190,12 @@ fn server_of(alloc: Global, matches: &ArgMatches<'_>) -> Result<String, AllocErr
 
 fn question_of(
     alloc: Global,
-    verb: Verb,
+    operation: OpCode,
     matches: &ArgMatches<'_>,
 ) -> Result<Question, AllocError> {
-    let is_resolution = verb == Verb::Resolve;
+    let is_resolution = operation == OpCode::Resolution;
     Ok(Question {
-        verb,
+        operation,
         handle: String::from_str(alloc, matches.get_str("handle").unwrap_or(""))?,
         words: words(
             alloc,
@@ -221,8 +223,8 @@ fn asked_of(alloc: Global, name: &str, matches: &ArgMatches<'_>) -> Result<Asked
         }),
         "script" => Ok(Asked::Script),
         "tenants" => Ok(Asked::Tenants),
-        other => match Verb::of(other) {
-            Some(verb) => Ok(Asked::Ask(question_of(alloc, verb, matches)?)),
+        other => match operation_in(other) {
+            Some(operation) => Ok(Asked::Ask(question_of(alloc, operation, matches)?)),
             None => Ok(Asked::Ended(2)),
         },
     }
