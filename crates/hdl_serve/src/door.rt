@@ -110,7 +110,7 @@ pub trait Packets {
     /// How many calls failed, up to the greatest u64.
     ghost fault_count: { Self → ℕ };
 
-    /// A datagram at the front of the buffer: its peer, from 1 to 1,024, and its length. None: none came, or one of a peer beyond.
+    /// A datagram at the front of the buffer: its peer, from 1 to `PEERS_MAX`, and its length. None: none came, or one of a peer beyond.
     /// A datagram longer than the buffer is cut to it.
     fn receive(&mut self, buffer: &mut [u8]) -> Result<Option<(u16, usize)>, DoorFault>
         ensures faults { Counts result (fault_count self.old) (fault_count self.new) }

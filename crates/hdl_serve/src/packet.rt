@@ -19,14 +19,20 @@ use crate::{Clock, DoorFault, Item, Nonces, Packets};
 use hdl_frame::{ENVELOPE_LEN, one_datagram, pieces};
 use hdl_lanes::{Inlet, Outlet};
 use hdl_laws::{Octets, Outcome, What};
-use hdl_limits::PIECE_LEN;
+use hdl_limits::{MESSAGE_MAX, PIECE_LEN};
 use std::alloc::Global;
 
+/// The most octets of a datagram that is sent.
+const DATAGRAM_MAX: usize = ENVELOPE_LEN + PIECE_LEN as usize;
+
+/// How many octets are received at once: one more than a frame has, so that a datagram that is longer is none when it is cut.
+const RECEIVED_MAX: usize = ENVELOPE_LEN + MESSAGE_MAX as usize + 1;
+
 /// Writes an envelope and what follows it to the front of the buffer.
-fn join(buffer: &mut [u8], envelope: [u8; 20], payload: &[u8])
-    requires room { 20 + length payload.now ≤ length buffer.old }
+fn join(buffer: &mut [u8], envelope: [u8; ENVELOPE_LEN], payload: &[u8])
+    requires room { ENVELOPE_LEN + length payload.now ≤ length buffer.old }
     ensures len { length buffer.new ≡ length buffer.old }
-    ensures joined { take (20 + length payload.now) buffer.new ≡ envelope ++ payload.now }
+    ensures joined { take (ENVELOPE_LEN + length payload.now) buffer.new ≡ envelope ++ payload.now }
 {
     buffer[..ENVELOPE_LEN].copy_from_slice(&envelope);
     buffer[ENVELOPE_LEN..ENVELOPE_LEN + payload.len()].copy_from_slice(payload);
@@ -36,7 +42,7 @@ fn join(buffer: &mut [u8], envelope: [u8; 20], payload: &[u8])
 fn send_piece<P: Packets>(
     packets: &mut P,
     peer: u16,
-    envelope: [u8; 20],
+    envelope: [u8; ENVELOPE_LEN],
     payload: &[u8],
 ) -> Result<(), DoorFault>
     requires short { length payload.now ≤ PIECE_LEN }
@@ -46,7 +52,7 @@ fn send_piece<P: Packets>(
         (λ _. P.sent packets.new ≡ P.sent packets.old ++ to_peer peer (envelope, payload.now) ∷ [])
         (λ _. P.sent packets.new ≡ P.sent packets.old) }
 {
-    let mut datagram = [0u8; 512];
+    let mut datagram = [0u8; DATAGRAM_MAX];
     join(&mut datagram, envelope, payload);
     packets.send(peer, &datagram[..ENVELOPE_LEN + payload.len()])
 }
@@ -226,7 +232,7 @@ fn serve_packets<P: Packets, C: Clock, N: Nonces>(
     if !begin(line, clock, turns) {
         return Why::Turns;
     }
-    let mut buffer = [0u8; 65_557];
+    let mut buffer = [0u8; RECEIVED_MAX];
     while spend(turns) {
         match packets.receive(&mut buffer) {
             Err(_) => return Why::Device,
