@@ -1,0 +1,5 @@
+pub mod Choice
+pub mod Escape
+pub mod Question
+pub mod Status
+pub mod Url

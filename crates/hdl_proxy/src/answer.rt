@@ -1,0 +1,58 @@
+//! What is answered over HTTP.
+
+ghost use Rattle.std.specs.Prelude.{◌≡◌};
+ghost use Rattle.hdl_proxy.specs.Status.{status_number, status_of_code};
+
+/// The statuses of HTTP that the proxy answers.
+#[derive(Clone, Copy, Debug, PartialEq, Eq)]
+pub enum Status {
+    Success = 200,
+    Found = 302,
+    BadRequest = 400,
+    NotFound = 404,
+    MethodNotAllowed = 405,
+    BadGateway = 502,
+    Unavailable = 503,
+}
+
+impl Status {
+    /// Its number.
+    pub fn number(self) -> u16
+        ensures { result ≡ status_number self }
+    {
+        self as u16
+    }
+
+    /// That of a reply with this code, where nothing is followed: a handle or a prefix that isn't there isn't found, a name that is
+    /// none is the client's fault, a busy server may be asked again, and whatever else a server answers isn't the client's fault.
+    pub fn of_code(code: u32) -> Status
+        ensures { result ≡ status_of_code code }
+    {
+        match code {
+            1 | 200 => Status::Success,
+            100 | 302 => Status::NotFound,
+            102 => Status::BadRequest,
+            3 => Status::Unavailable,
+            _ => Status::BadGateway,
+        }
+    }
+}
+
+/// What a body is.
+#[derive(Clone, Copy, Debug, PartialEq, Eq)]
+pub enum Media {
+    /// `text/html; charset=utf-8`
+    Page,
+    /// `application/json`, which any page may read
+    Json,
+}
+
+/// An answer over HTTP.
+#[derive(Debug, Drop)]
+pub struct Answer {
+    pub status: Status,
+    /// Where to go: graphic ASCII alone.
+    pub location: Option<String>,
+    pub media: Media,
+    pub body: Vec<u8>,
+}

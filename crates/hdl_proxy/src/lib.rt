@@ -1,0 +1,39 @@
+//! Identifiers that a browser can follow: what a proxy asks for a request of HTTP, and what it answers.
+//!
+//! ```text
+//! method, path, query -> begin -> Next::Answer, or Next::Ask(Question): the message of a request without a key
+//! Question, the message of the reply -> finish -> Answer: a status, a Location, a page or JSON
+//! ```
+//!
+//! This crate has no sockets and no clock. It stands on the codecs of `hdl_msg`, `hdl_value` and `hdl_name`: what is asked is in
+//! their grammar, and what is shown was read by it. [`Resolver`] is who is asked.
+//!
+//! What it promises: a question asks for what anybody may read, and for nothing else; a reply shows values that are public, and
+//! never a key; a handle's address leads to its URL value of the lowest index, where that is one to be followed
+//! ([`is_followed`]); a Location holds graphic ASCII alone; and text in a page is escaped.
+#![tactic(auto)]
+
+mod answer;
+mod choice;
+mod escape;
+mod found;
+mod json;
+mod names;
+mod page;
+mod pages;
+mod proxy;
+mod question;
+mod resolver;
+mod url;
+mod words;
+
+pub use answer::{Answer, Media, Status};
+pub use choice::{first_url, is_shown};
+pub use found::Found;
+pub use proxy::{Next, begin, finish};
+pub use question::{Form, Question};
+pub use resolver::{NoAnswer, Resolver};
+pub use url::is_followed;
+
+#[cfg(test)]
+mod tests;

@@ -1,0 +1,31 @@
+//! Names where they stand in an address.
+
+use hdl_name::{Name, NameFault};
+use percent_encoding::percent_decode;
+use std::alloc::{AllocError, Global};
+
+/// The name that these octets are, or its fault, which is never want of memory.
+pub(crate) fn read_name(
+    alloc: Global,
+    octets: &[u8],
+) -> Result<Result<Name, NameFault>, AllocError> {
+    match Name::read(alloc, octets) {
+        Err(NameFault::Memory) => Err(AllocError),
+        read => Ok(read),
+    }
+}
+
+/// The octets that a part of a path stands for: its escapes are read once.
+pub(crate) fn unescaped(alloc: Global, text: &str) -> Result<Vec<u8>, AllocError> {
+    let mut octets = Vec::new(alloc);
+    percent_decode(text.as_bytes()).append_to(&mut octets)?;
+    Ok(octets)
+}
+
+/// Octets as text: as they are where they are text, and else their hexadecimal digits.
+pub(crate) fn text_of(alloc: Global, octets: &[u8]) -> Result<String, AllocError> {
+    match str::from_utf8(octets) {
+        Ok(text) => String::from_str(alloc, text),
+        Err(_) => hex::encode(alloc, octets),
+    }
+}

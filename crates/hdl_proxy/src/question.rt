@@ -1,0 +1,87 @@
+//! What a resolution asks for.
+
+ghost use Rattle.std.specs.Prelude.{◌≡◌, true, IfOk, IfSome};
+ghost use Rattle.hdl_msg.specs.Codes.{has_flag};
+ghost use Rattle.hdl_msg.specs.Message.{resolution};
+ghost use Rattle.hdl_msg.specs.RequestBody.{requested};
+ghost use Rattle.hdl_msg.specs.declared.codes.OpFlag.TheVariants.{PublicOnly};
+ghost use Rattle.hdl_proxy.specs.Question.{AsksInPublic};
+
+use hdl_msg::{
+    HandleList, Header, IndexList, MESSAGE_MOST, OpCode, OpFlag, RequestBody, request_len,
+    write_request,
+};
+use hdl_name::{Name, Octets};
+use std::alloc::{AllocError, Global};
+
+/// In which form a handle is answered.
+#[derive(Clone, Copy, Debug, PartialEq, Eq)]
+pub enum Form {
+    /// Its URL is followed, if it has one.
+    Follow,
+    /// A page of its values.
+    Page,
+    /// JSON of its values.
+    Json,
+}
+
+/// A resolution: of which handle, in which form, and which of its values (all of them where both lists are empty).
+#[derive(Drop)]
+pub struct Question {
+    pub name: Name,
+    pub form: Form,
+    pub indexes: Vec<u32>,
+    pub types: Vec<Octets>,
+}
+
+fn copies(alloc: Global, types: &[Octets]) -> Result<Vec<Octets>, AllocError>
+    ensures { IfOk result (λ v. v.items ≡ types.now) }
+{
+    let mut all = Vec::new(alloc);
+    for kind in types {
+        all.push(Octets::new(Vec::from_slice(alloc, kind.as_slice())?))?;
+    }
+    Ok(all)
+}
+
+/// The header of a request that shows what anybody may read, and asks for no key.
+fn public_header() -> Header
+    ensures { has_flag result.op_flag PublicOnly ≡ true }
+{
+    Header {
+        op_code: OpCode::Resolution.number(),
+        response_code: 0,
+        op_flag: OpFlag::PublicOnly.bit(),
+        serial: 0,
+        recursion: 0,
+        reserved: 0,
+        expiration: 0,
+    }
+}
+
+impl Question {
+    fn body(&self, alloc: Global) -> Result<RequestBody, AllocError>
+        ensures { IfOk result (λ body. requested body ≡ resolution self.now.name self.now.indexes.items self.now.types.items) }
+    {
+        let handle = Octets::new(Vec::from_slice(alloc, self.name.sent())?);
+        let indexes = IndexList::new(Vec::from_slice(alloc, &self.indexes)?);
+        let types = HandleList::new(copies(alloc, &self.types)?);
+        Ok(RequestBody::Resolution {
+            handle,
+            indexes,
+            types,
+        })
+    }
+
+    /// The message that asks it, of anybody and without a key. None where it would have more octets than a message may.
+    pub fn message(&self, alloc: Global) -> Result<Option<Vec<u8>>, AllocError>
+        ensures { IfOk result (λ o. IfSome o (λ v. AsksInPublic v.items self.now)) }
+    {
+        let body = self.body(alloc)?;
+        if request_len(&body) > MESSAGE_MOST {
+            return Ok(None);
+        }
+        let message = write_request(alloc, public_header(), &body)?;
+        Ok(Some(message))
+    }
+}

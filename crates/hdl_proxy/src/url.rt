@@ -1,0 +1,78 @@
+//! Which URLs a browser is sent to, and how they stand in a Location.
+
+ghost use Rattle.std.specs.Prelude.{◌≡◌, ◌↔◌, ◌∷◌, IsTrue, IfOk, All};
+ghost use Rattle.std.specs.String.{string_bytes};
+ghost use Rattle.percent_encoding.specs.Percent.{percent_encode};
+ghost use Rattle.hdl_proxy.specs.Url.{Begins, HasFollowedScheme, IsFollowed, IsGraphic};
+
+use percent_encoding::{AsciiSet, CONTROLS, NON_ALPHANUMERIC, ascii_set, percent_encode};
+use std::alloc::{AllocError, Global};
+
+/// What is escaped in a URL that is followed: what isn't graphic ASCII, and quotes and brackets that no URL has.
+const IN_LOCATION: AsciiSet = ascii_set!(
+    CONTROLS
+        .add(b' ')
+        .add(b'"')
+        .add(b'<')
+        .add(b'>')
+        .add(b'`')
+        .add(b'\\')
+);
+
+/// What is escaped in a path: all but letters, digits, `-`, `.`, `_`, `~` and `/`.
+const IN_PATH: AsciiSet = ascii_set!(
+    NON_ALPHANUMERIC
+        .remove(b'-')
+        .remove(b'.')
+        .remove(b'_')
+        .remove(b'~')
+        .remove(b'/')
+);
+
+/// Whether the URL begins with these octets, in any case of letters.
+fn begins(url: &[u8], front: &[u8]) -> bool
+    ensures { IsTrue result ↔ Begins url.now front.now }
+{
+    match url.split_at_checked(front.len()) {
+        Some((found, _)) => found.eq_ignore_ascii_case(front),
+        None => false,
+    }
+}
+
+fn has_followed_scheme(url: &[u8]) -> bool
+    ensures { IsTrue result ↔ HasFollowedScheme url.now }
+{
+    begins(url, b"http://")
+        || begins(url, b"https://")
+        || begins(url, b"ftp://")
+        || begins(url, b"mailto:")
+        || begins(url, b"doi:")
+}
+
+/// Whether a browser may be sent to this URL: whether it begins with `http://`, `https://`, `ftp://`, `mailto:` or `doi:`, and has no
+/// control octet. All others, `javascript:` and `data:` among them, are shown and not followed.
+pub fn is_followed(url: &[u8]) -> bool
+    ensures { IsTrue result ↔ IsFollowed url.now }
+{
+    has_followed_scheme(url) && url.iter().all(|octet| *octet >= 32 && *octet != 127)
+}
+
+/// The URL as it stands in a Location: what isn't graphic ASCII is escaped.
+pub fn address(alloc: Global, url: &[u8]) -> Result<String, AllocError>
+    ensures spelt { IfOk result (λ text. string_bytes text ≡ percent_encode IN_LOCATION url.now) }
+    ensures graphic { IfOk result (λ text. All IsGraphic (string_bytes text)) }
+{
+    let mut text = String::new(alloc);
+    percent_encode(url, IN_LOCATION).append_to(&mut text)?;
+    Ok(text)
+}
+
+/// The path of a handle's own address: `/` and the name, escaped but for its slashes.
+pub fn path_of(alloc: Global, name: &[u8]) -> Result<String, AllocError>
+    ensures spelt { IfOk result (λ text. string_bytes text ≡ 47 ∷ percent_encode IN_PATH name.now) }
+    ensures graphic { IfOk result (λ text. All IsGraphic (string_bytes text)) }
+{
+    let mut text = String::from_str(alloc, "/")?;
+    percent_encode(name, IN_PATH).append_to(&mut text)?;
+    Ok(text)
+}
