@@ -7,9 +7,9 @@ ghost use Rattle.hdl_msg.specs.RequestBody.{requested};
 ghost use Rattle.hdl_msg.specs.declared.codes.OpFlag.TheVariants.{PublicOnly};
 ghost use Rattle.hdl_proxy.specs.Question.{AsksInPublic};
 
+use hdl_limits::MESSAGE_MAX;
 use hdl_msg::{
-    HandleList, Header, IndexList, MESSAGE_MOST, OpCode, OpFlag, RequestBody, request_len,
-    write_request,
+    HandleList, Header, IndexList, OpCode, OpFlag, RequestBody, request_len, write_request,
 };
 use hdl_name::{Name, Octets};
 use std::alloc::{AllocError, Global};
@@ -78,7 +78,7 @@ impl Question {
         ensures { IfOk result (λ o. IfSome o (λ v. AsksInPublic v.items self.now)) }
     {
         let body = self.body(alloc)?;
-        if request_len(&body) > MESSAGE_MOST {
+        if request_len(&body) > MESSAGE_MAX as usize {
             return Ok(None);
         }
         let message = write_request(alloc, public_header(), &body)?;

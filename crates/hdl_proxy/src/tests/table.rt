@@ -1,7 +1,8 @@
 //! A server in memory: it reads a request as a service does, and writes the reply.
 
+use hdl_limits::MESSAGE_MAX;
 use hdl_msg::{
-    Body, Header, MESSAGE_MOST, OpFlag, Reply, ReplyContent, ResponseCode, ValueList,
+    Body, Header, OpFlag, Reply, ReplyContent, ResponseCode, ValueList,
     answer_header, read_request, reply_len, write_reply,
 };
 use hdl_value::{Octets, Value};
@@ -122,7 +123,7 @@ fn message(
         digest: None,
         content,
     };
-    if reply_len(&reply) > MESSAGE_MOST {
+    if reply_len(&reply) > MESSAGE_MAX as usize {
         return Ok(None);
     }
     let frame = write_reply(alloc, &reply)?;
