@@ -14,6 +14,7 @@ mod desk;
 mod patient;
 mod response;
 mod serving;
+mod visitors;
 mod worker;
 
 pub use answering::Answering;

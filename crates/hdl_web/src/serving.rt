@@ -2,12 +2,14 @@
 
 use crate::desk::Desk;
 use crate::patient::Patient;
+use crate::visitors::{Host, Quiet, Visitors};
 use crate::worker::{Ask, work};
+use bytes::Bytes;
 use crossbeam_channel::{Receiver, Sender, unbounded};
-use futures::{FutureExt, StreamExt, future};
 use hdl_proxy::Resolver;
+use http_body_util::Full;
 use hyper::rt::{Timer, TokioTimer};
-use hyper::server::conn::http1::Builder;
+use hyper::server::conn::http1::{Builder, Connection};
 use std::alloc::{AllocGlobal, Global};
 use std::hash::RandomState;
 use std::io::Write;
@@ -19,13 +21,16 @@ use std::time::{Clock, Duration};
 use std::{io, thread};
 use tokio::net::{TcpListener, TcpStream};
 use tokio::runtime::LocalRuntime;
-use tokio::time::Handle;
+use tokio::time::{Handle, Sleep};
 
 /// The most octets of a request's head.
 const HEAD_MOST: usize = 8192;
 
 /// How long a head may take to come, in seconds; also how long a connection may be idle.
 const HEAD_SECONDS: u64 = 10;
+
+/// How long no connection is taken where there is no room for another one, in milliseconds.
+const REST_MILLISECONDS: u64 = 100;
 
 /// Starts a thread for each resolver.
 fn start_workers<R, S>(
@@ -54,42 +59,57 @@ pub(crate) fn limited<T: Timer>(mut http: Builder<T>) -> Builder<T> {
     http
 }
 
-/// What a connection needs. None where memory was refused: it is closed then.
-fn connected<R: Wait + Clock + Drop + Copy>(
+/// What all connections share.
+#[derive(Drop)]
+struct Reception<R> {
     rt: R,
     alloc: Global,
-    timers: &Handle,
-    asks: &Sender<Ask>,
-    socket: TcpStream,
-) -> Option<(Patient<R>, Desk<R>)> {
-    let timers = timers.clone().ok()?;
-    let asks = asks.clone().ok()?;
-    Some((Patient::new(socket, rt, timers), Desk::new(rt, alloc, asks)))
+    http: Builder<TokioTimer<R>>,
+    timers: Handle,
+    asks: Sender<Ask>,
 }
 
-/// Serves every connection, on this thread.
-fn serve_all<R>(
-    rt: &R,
-    listener: TcpListener,
-    runtime: &mut LocalRuntime,
-    asks: Sender<Ask>,
-) -> io::Result<()>
+impl<R: Wait + Clock + Copy + Drop> Host for Reception<R> {
+    type Served = Quiet<Connection<Patient<R>, Desk<R>, Full<Bytes>, TokioTimer<R>>>;
+
+    fn receive(&self, socket: TcpStream) -> Option<Self::Served> {
+        let timers = self.timers.clone().ok()?;
+        let asks = self.asks.clone().ok()?;
+        let socket = Patient::new(socket, self.rt, timers);
+        let desk = Desk::new(self.rt, self.alloc, asks);
+        Some(Quiet::new(self.http.serve_connection(socket, desk)))
+    }
+
+    fn rest(&self) -> Option<Sleep> {
+        let limit = Duration::from_millis(REST_MILLISECONDS);
+        self.timers.sleep(&self.rt, limit).ok()
+    }
+}
+
+/// What all connections share, in this runtime.
+fn opened<R>(rt: &R, runtime: &LocalRuntime, asks: Sender<Ask>) -> io::Result<Reception<R>>
 where
     R: Wait + Clock + RandomSource + AllocGlobal + Copy + Drop,
 {
     let timers = runtime.handle().time().clone()?;
     let timer = TokioTimer::new(*rt, timers.clone()?);
     let http = limited(Builder::new(rt.alloc(), RandomState::new(rt)?).timer(timer));
-    let theirs = *rt;
-    let alloc = rt.alloc();
-    let connections = listener
-        .incoming()
-        .filter_map(|accepted| future::ready(accepted.ok()))
-        .filter_map(move |socket| {
-            future::ready(connected(theirs, alloc, &timers, &asks, socket))
-        })
-        .map(move |(socket, desk)| http.serve_connection(socket, desk).map(|_| ()));
-    runtime.run_all(rt, connections)
+    Ok(Reception {
+        rt: *rt,
+        alloc: rt.alloc(),
+        http,
+        timers,
+        asks,
+    })
+}
+
+/// Serves every connection, on this thread.
+fn serve_all<R, H>(rt: &R, runtime: &mut LocalRuntime, visitors: Visitors<H>) -> io::Result<()>
+where
+    R: Wait + Clock + RandomSource + AllocGlobal,
+    H: Host,
+{
+    runtime.run_all(rt, visitors)
 }
 
 fn serve<R, S>(
@@ -109,7 +129,8 @@ where
     drop(taken);
     writeln!(output, "http://{listen}/")?;
     output.flush()?;
-    serve_all(rt, listener, &mut runtime, asks)?;
+    let reception = opened(rt, &runtime, asks)?;
+    serve_all(rt, &mut runtime, Visitors::new(listener.incoming(), reception))?;
     for worker in workers {
         worker.join(rt);
     }
