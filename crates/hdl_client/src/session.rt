@@ -40,8 +40,8 @@ impl<S: Read + Write> Session<S> {
         Ok(self.request)
     }
 
-    /// Sends a message, and takes the reply to it.
-    fn exchange(&mut self, session: u32, message: &[u8]) -> Result<Vec<u8>, ClientFault> {
+    /// Sends a message, and takes the frame of the reply to it.
+    fn exchange_within(&mut self, session: u32, message: &[u8]) -> Result<Vec<u8>, ClientFault> {
         let request = self.send_next(session, message)?;
         let octets = receive(self.alloc, &mut self.stream)?;
         if whole(&octets)?.envelope.request != request {
@@ -50,16 +50,24 @@ impl<S: Read + Write> Session<S> {
         Ok(octets)
     }
 
+    /// Sends the message of a request, as `write_request` makes it, and takes the message of the reply: that of one frame without TC,
+    /// whose RequestId is the request's. Behind a fault the stream may still bring the reply.
+    pub fn exchange(&mut self, message: &[u8]) -> Result<Vec<u8>, ClientFault> {
+        let octets = self.exchange_within(0, message)?;
+        let reply = Vec::from_slice(self.alloc, whole(&octets)?.payload())?;
+        Ok(reply)
+    }
+
     /// Asks, and answers the challenge where one comes and a key is there. What is given is one frame without TC, whose message is a
     /// reply (`read_reply`) to this request.
     pub fn ask(&mut self, body: &RequestBody, key: Option<&Key>) -> Result<Vec<u8>, ClientFault> {
         let message = request_message(self.alloc, body)?;
-        let octets = self.exchange(0, &message)?;
+        let octets = self.exchange_within(0, &message)?;
         let Some(answer) = self.answer(key, &message, &octets)? else {
             return Ok(octets);
         };
         let session = whole(&octets)?.envelope.session;
-        let octets = self.exchange(session, &answer)?;
+        let octets = self.exchange_within(session, &answer)?;
         match read_reply(whole(&octets)?.payload()) {
             Ok(_) => Ok(octets),
             Err(_) => Err(ClientFault::NoReply),

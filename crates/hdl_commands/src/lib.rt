@@ -4,6 +4,7 @@
 //! Question -> ask -> hdl_client -> a reply in words (hdl_words)
 //! text of a batch -> read_batch -> Batch -> run_batch, or write_script -> the script that `handled` takes
 //! lines with values in words -> write_tenants -> lines of a tenants text
+//! the message of a request -> Servers::ask -> that of the first reply which is no referral
 //! ```
 //!
 //! Requests are read from words and written by `hdl_msg`'s `write_request`, so what is sent is in the grammar; a value's words are
@@ -18,6 +19,7 @@ mod fault;
 mod key;
 mod request;
 mod scripts;
+mod servers;
 mod tenants;
 
 pub use asking::{Question, ask};
@@ -27,4 +29,5 @@ pub use connecting::{SECRET_VARIABLE, connect};
 pub use fault::WordFault;
 pub use key::read_reference;
 pub use scripts::write_script;
+pub use servers::Servers;
 pub use tenants::write_tenants;
