@@ -1,22 +1,18 @@
 //! `hdl proxy`: its words, and serving.
 
 use clap::{Arg, ArgAction, ArgMatches, Command, value_parser};
-use hdl_proxy::Resolver;
-use hdl_web::serve_http;
-use std::alloc::{AllocError, AllocGlobal, Global};
+use hdl_client::ClientFault;
+use hdl_commands::Servers;
+use hdl_proxy::{NoAnswer, Resolver};
+use std::alloc::{AllocError, Global};
 use std::io;
-use std::io::Write;
-use std::net::{Net, SocketAddr};
-use std::random::RandomSource;
-use std::sync::Wait;
-use std::thread::Threads;
-use std::time::Clock;
+use std::net::SocketAddr;
 
 /// Where the proxy listens, where no other address is named.
 const LISTEN: &str = "127.0.0.1:8080";
 
 /// How many questions are asked at once, where no other number is named.
-const ASKERS: u64 = 4;
+const ASKERS: u64 = 2;
 
 /// What `hdl proxy` is told.
 #[derive(Drop)]
@@ -52,7 +48,7 @@ pub fn proxy_command<'a>(alloc: Global) -> Result<Command<'a>, AllocError> {
             Arg::new(alloc, "askers")
                 .long("askers")
                 .value_name("N")
-                .help("How many questions are asked at once, 4 without it; each may hold a lane of each server")
+                .help("How many questions are asked at once, 2 without it; each may hold a lane of each server")
                 .action(ArgAction::Set)
                 .value_parser(value_parser!(u64).range(1..65)),
         )
@@ -71,20 +67,39 @@ pub fn proxy_words(alloc: Global, found: &ArgMatches<'_>) -> Result<ProxyWords, 
     })
 }
 
-/// Serves the proxy until the process ends, over these resolvers, one for each question that is asked at once. What it says goes to
-/// `output`: the line `http://ADDRESS:PORT/`, once it listens.
-pub fn serve_proxy<R, S>(
-    rt: &R,
-    listen: &str,
-    resolvers: Vec<S>,
-    output: &mut impl Write,
-) -> io::Result<()>
-where
-    R: Net + Wait + Threads + Clock + RandomSource + AllocGlobal + Copy + Send + Drop + 'static,
-    S: Resolver + Send + 'static,
-{
-    let Ok(listen) = listen.parse::<SocketAddr>() else {
+/// Who asks for one question at a time.
+#[derive(Drop)]
+pub struct Asker {
+    servers: Servers,
+}
+
+impl Resolver for Asker {
+    fn ask(&mut self, _alloc: Global, _handle: &[u8], message: &[u8]) -> Result<Vec<u8>, NoAnswer> {
+        match self.servers.ask(message) {
+            Ok(reply) => Ok(reply),
+            Err(ClientFault::Memory) => Err(NoAnswer::Memory),
+            Err(_) => Err(NoAnswer::Unreachable),
+        }
+    }
+}
+
+/// Who asks: as many as questions are asked at once.
+fn askers(rt: &HostRuntime, words: &ProxyWords) -> Result<Vec<Asker>, AllocError> {
+    let mut askers = Vec::new(rt.alloc());
+    for _ in 0..words.askers {
+        let servers = Servers::new(*rt, &words.servers)?;
+        match askers.push(Asker { servers }) {
+            Ok(()) => {}
+            Err(_) => return Err(AllocError),
+        }
+    }
+    Ok(askers)
+}
+
+/// What is served: where, and who asks.
+pub fn opened(rt: &HostRuntime, words: &ProxyWords) -> io::Result<(SocketAddr, Vec<Asker>)> {
+    let Ok(listen) = words.listen.parse::<SocketAddr>() else {
         return Err(io::Error::other("--listen wants an IP address and a port"));
     };
-    serve_http(rt, listen, resolvers, output)
+    Ok((listen, askers(rt, words)?))
 }

@@ -2,6 +2,7 @@
 
 ghost use Rattle.std.specs.Prelude.{◌≡◌, if◌then◌else◌};
 
+use crate::proxy::{ProxyWords, proxy_command, proxy_words};
 use clap::{Arg, ArgAction, ArgMatches, Command, Error};
 use hdl_commands::Question;
 use hdl_msg::OpCode;
@@ -21,6 +22,8 @@ pub enum Asked {
     Ask(Question),
     /// The batch on standard input.
     Batch { server: String },
+    /// Serving browsers.
+    Proxy(ProxyWords),
     /// The script of the words on standard input.
     Script,
     /// The tenants text of the words on standard input.
@@ -161,6 +164,7 @@ fn command<'a>(alloc: Global) -> Result<Command<'a>, AllocError> {
         .subcommand_required(true);
     questions(command, alloc)?
         .subcommand(batch(alloc)?)?
+        .subcommand(proxy_command(alloc)?)?
         .subcommand(explain(alloc)?)?
         .subcommand(Command::new(alloc, "script").about(
             "Makes the script for handled of a tenants text with values in words, a line `run`, and a batch, on standard input",
@@ -221,6 +225,7 @@ fn asked_of(alloc: Global, name: &str, matches: &ArgMatches<'_>) -> Result<Asked
         "batch" => Ok(Asked::Batch {
             server: server_of(alloc, matches)?,
         }),
+        "proxy" => Ok(Asked::Proxy(proxy_words(alloc, matches)?)),
         "script" => Ok(Asked::Script),
         "tenants" => Ok(Asked::Tenants),
         other => match operation_in(other) {
