@@ -1,0 +1,384 @@
+"""proxies.py: asks the proved program crates/hdl/out/hdl proxy over HTTP, and compares whole answers: of real servers behind it (the proved
+program crates/handled/out/handled), of servers in this program that answer badly, and of none; heads that are too long, clients that are
+slow, and a thousand that are idle.
+
+It takes some 12 seconds, of which most is waiting. Its last line is 'N passed, M failed', a case counting one."""
+
+import contextlib
+import os
+import resource
+import socket
+import struct
+import subprocess
+import sys
+import threading
+import time
+
+ROOT = os.path.dirname(os.path.dirname(os.path.abspath(__file__)))
+PROGRAM = os.environ.get("HDL", os.path.join(ROOT, "crates", "hdl", "out", "hdl"))
+SERVER = os.environ.get("HANDLED", os.path.join(ROOT, "crates", "handled", "out", "handled"))
+IDLE = 1000
+SECRET = b"never-shown"
+
+TENANTS = """publisher acme 8 %d
+publisher bolt 8 %d
+prefix 10 acme
+prefix 20 bolt
+value 10/a 3 URL 86400 1110 UTF8 https://example.org/three
+value 10/a 1 URL 86400 1110 UTF8 https://example.org/one?q=1&r="\u00fc"
+value 10/a 2 TEXT 3600 1110 UTF8 <b>Tom & "Jerry"</b>
+value 10/a 4 NOTE 86400 1100 UTF8 never-shown
+value 10/script 1 URL 86400 1110 UTF8 javascript:alert(1)
+value 10/script 2 URL 86400 1110 UTF8 https://example.org/
+value 10/admin 100 HS_ADMIN 86400 1110 ADMIN 300:111111111111:0.NA/10
+value 10/admin 101 HS_VLIST 86400 1110 LIST 200:10/x 201:10/y
+value 10/admin 102 OCTETS 86400 1110 HEX 00ff41
+value 10/admin 300 HS_SECKEY 86400 1100 UTF8 never-shown
+value 20/archive 1 URL 86400 1110 UTF8 https://example.org/archive
+"""
+
+PAGE = [("content-security-policy", "default-src 'none'; style-src 'unsafe-inline'; base-uri 'none'; frame-ancestors 'none'"),
+        ("content-type", "text/html; charset=utf-8"), ("referrer-policy", "no-referrer"), ("x-content-type-options", "nosniff")]
+JSON = [("access-control-allow-origin", "*"), ("content-type", "application/json"), ("x-content-type-options", "nosniff")]
+ANOTHER = '<p><a href="/">Another handle</a></p>\n</body>\n</html>\n'
+DAY = "<p><small>may be kept for 86400 seconds</small></p>\n"
+
+
+def refusal(title, why):
+    return "<h1>%s</h1>\n<p>%s</p>\n%s" % (title, why, ANOTHER)
+
+
+def values(title, *parts):
+    return "<h1>%s</h1>\n%s%s" % (title, "".join(parts), ANOTHER)
+
+
+def value(kind, index, data, times=DAY):
+    return "<h2>%s <small>index %d</small></h2>\n%s%s" % (kind, index, data, times)
+
+
+def text(shown):
+    return '<p class="data">%s</p>\n' % shown
+
+
+def link(to, shown):
+    return text('<a rel="noreferrer" href="%s">%s</a>' % (to, shown))
+
+
+def way(title, to):
+    return '<!DOCTYPE html>\n<meta charset="utf-8">\n<title>%s</title>\n<a href="%s">%s</a>\n' % (title, to, to)
+
+
+def json_value(index, kind, data, ttl=86400):
+    return '{"data":%s,"index":%d,"timestamp":"1970-01-01T00:00:00Z","ttl":%d,"type":"%s"}' % (data, index, ttl, kind)
+
+
+def json_text(shown):
+    return '{"format":"string","value":"%s"}' % shown
+
+
+def json_values(handle, *parts):
+    return '{"handle":"%s","responseCode":1,"values":[%s]}' % (handle, ",".join(parts))
+
+
+def json_refusal(handle, why, code):
+    return '{"handle":"%s","message":"%s","responseCode":%d}' % (handle, why, code)
+
+
+ONE = "https://example.org/one?q=1&amp;r=%22%C3%BC%22"
+A_PAGE = values("10/a", value("URL", 1, link(ONE, "https://example.org/one?q=1&amp;r=&quot;\u00fc&quot;")),
+                value("TEXT", 2, text("&lt;b&gt;Tom &amp; &quot;Jerry&quot;&lt;/b&gt;"), DAY.replace("86400", "3600")),
+                value("URL", 3, link("https://example.org/three", "https://example.org/three")))
+SCRIPT_PAGE = values("10/script", value("URL", 1, text("javascript:alert(1)")), value("URL", 2, link("https://example.org/", "https://example.org/")))
+ADMIN_PAGE = values("10/admin", value("HS_ADMIN", 100, text("administrator 300:0.NA/10, permissions 111111111111")),
+                    value("HS_VLIST", 101, text("200:10/x") + text("201:10/y")), value("OCTETS", 102, "<p>3 octets</p>\n" + text("00ff41")))
+A_ONE = json_value(1, "URL", json_text('https://example.org/one?q=1&r=\\"\u00fc\\"'))
+A_TWO = json_value(2, "TEXT", json_text('<b>Tom & \\"Jerry\\"</b>'), 3600)
+A_THREE = json_value(3, "URL", json_text("https://example.org/three"))
+ADMIN = json_values("10/admin", json_value(100, "HS_ADMIN", '{"format":"admin","value":{"handle":"0.NA/10","index":300,"permissions":"111111111111"}}'),
+                    json_value(101, "HS_VLIST", '{"format":"vlist","value":[{"handle":"10/x","index":200},{"handle":"10/y","index":201}]}'),
+                    json_value(102, "OCTETS", '{"format":"base64","value":"AP9B"}'))
+ABSENT = "This handle isn&#39;t there."
+ELSEWHERE = "No server that was asked has handles of this prefix."
+UNANSWERED = "No server answered."
+HIDDEN = "This handle is there, and has no such value that anybody may read."
+
+# What real servers' values are answered by: what is asked, the status, the Location if there is one, and the body from its heading on.
+PAGES = (
+    ("GET /10/a", 302, ONE.replace("&amp;", "&"), way("10/a", ONE)),
+    ("GET /20/archive", 302, "https://example.org/archive", way("20/archive", "https://example.org/archive")),
+    ("GET /?handle=+10%2Fa%20b%3F+", 302, "/10/a%20b%3F", way("10/a b?", "/10/a%20b%3F")),
+    ("GET /?handle=10/%0d%0ax:y", 302, "/10/%0D%0Ax%3Ay", way("10/\r\nx:y", "/10/%0D%0Ax%3Ay")),
+    ("GET /10/%61?noredirect", 200, None, A_PAGE),
+    ("GET /10/script", 200, None, SCRIPT_PAGE),
+    ("GET /10/admin", 200, None, ADMIN_PAGE),
+    ("GET /10/%2561", 404, None, refusal("10/%61", ABSENT)),
+    ("GET /10/%3Cscript%3E", 404, None, refusal("10/&lt;script&gt;", ABSENT)),
+    ("GET /30/a", 404, None, refusal("30/a", ELSEWHERE)),
+    ("GET /favicon.ico", 400, None, refusal("favicon.ico", "This is no handle: the name has no slash.")),
+    ("GET /10/%FF", 400, None, refusal("10/%FF", "This is no handle: the name is not UTF-8.")),
+    ("GET /?handle=//evil.example", 400, None, refusal("//evil.example", "This is no handle: the name has a bad segment.")),
+    ("GET /10/a?index=x", 400, None, refusal("10/a", "An index is a number below 4294967296.")),
+    ("POST /10/a", 405, None, refusal("/10/a", "A handle is asked for by GET or HEAD.")),
+)
+JSONS = (
+    ("/10/a", 200, json_values("10/a", A_ONE, A_TWO, A_THREE)),
+    ("/10/a?type=TEXT&type=NONE", 200, json_values("10/a", A_TWO)),
+    ("/10/a?index=3&index=9", 200, json_values("10/a", A_THREE)),
+    ("/10/a?index=4", 200, json_refusal("10/a", HIDDEN, 200)),
+    ("/10/admin?type=HS_SECKEY", 200, json_refusal("10/admin", HIDDEN, 200)),
+    ("/10/admin", 200, ADMIN),
+    ("/10/none", 404, json_refusal("10/none", "This handle isn't there.", 100)),
+    ("/30/a", 404, json_refusal("30/a", ELSEWHERE, 302)),
+    ("/10/a?index=x", 400, json_refusal("10/a", "An index is a number below 4294967296.", 102)),
+    ("/ten", 400, json_refusal("ten", "This is no handle: the name has no slash.", 102)),
+)
+
+
+def number(n):
+    return struct.pack(">I", n)
+
+
+def string(octets):
+    return number(len(octets)) + octets
+
+
+def message(code, body, flags=0):
+    return number(1) + number(code) + number(flags) + bytes(8) + string(body) + number(0)
+
+
+def frame(request, octets):
+    return b"\2\1\0\0" + number(0) + number(request) + number(0) + string(octets)
+
+
+def wire_value(index, kind, data, permissions):
+    return number(index) + string(kind) + string(data) + b"\0" + number(86400) + bytes([permissions]) + bytes(12)
+
+
+def shown(handle, *parts):
+    return message(1, string(handle) + number(len(parts)) + b"".join(parts))
+
+
+ASKED = message(0, string(b"10/a") + number(0) + number(0), 0x01000000)
+LEAKING = shown(b"10/a", wire_value(1, b"NOTE", SECRET, 0x0C), wire_value(2, b"HS_SECKEY", SECRET, 0x0E), wire_value(3, b"TEXT", b"open", 0x0E))
+GOOD = shown(b"10/a", wire_value(2, b"URL", b"https://example.org/second", 0x0E), wire_value(1, b"URL", b"HTTPS://example.org/first", 0x0E))
+
+# What a server in this program answers to the first question of a connection, and how the proxy answers then.
+REPLIES = (
+    ("values in any order", lambda n: frame(n, GOOD), 302, way("10/a", "HTTPS://example.org/first")),
+    ("hidden values and a key", lambda n: frame(n, LEAKING), 200, values("10/a", value("TEXT", 3, text("open")))),
+    ("it is busy", lambda n: frame(n, message(3, number(0))), 503, refusal("10/a", "The server is busy. Please try again.")),
+    ("another code", lambda n: frame(n, message(2, number(0))), 502, refusal("10/a", "The server couldn&#39;t answer.")),
+    ("another handle", lambda n: frame(n, shown(b"10/b")), 502, refusal("10/a", UNANSWERED)),
+    ("another request", lambda n: frame(n + 7, GOOD), 502, refusal("10/a", UNANSWERED)),
+    ("no frame", lambda n: b"HTTP/1.1 400 Bad Request\r\n\r\n", 502, refusal("10/a", UNANSWERED)),
+    ("it closes at once", lambda n: b"", 502, refusal("10/a", UNANSWERED)),
+)
+
+
+def ports(count):
+    """Ports that are free, as far as is known."""
+    listeners = [socket.create_server(("127.0.0.1", 0)) for _ in range(count)]
+    found = [listener.getsockname()[1] for listener in listeners]
+    for listener in listeners:
+        listener.close()
+    return found
+
+
+def more_files():
+    limit = resource.getrlimit(resource.RLIMIT_NOFILE)[1]
+    resource.setrlimit(resource.RLIMIT_NOFILE, (limit, limit))
+
+
+@contextlib.contextmanager
+def running(words, given, lines):
+    """A program, once it has said so many lines."""
+    process = subprocess.Popen(words, stdin=subprocess.PIPE, stdout=subprocess.PIPE, text=True)
+    try:
+        process.stdin.write(given)
+        process.stdin.close()
+        for _ in range(lines):
+            if not process.stdout.readline():
+                sys.exit("proxies.py: %s ended" % " ".join(words))
+        yield process
+    finally:
+        process.kill()
+        process.wait()
+
+
+@contextlib.contextmanager
+def proxy(servers):
+    """A proxy before the servers at these ports: its own port."""
+    (port,) = ports(1)
+    words = [PROGRAM, "proxy", "--listen", "127.0.0.1:%d" % port]
+    for server in servers:
+        words += ["--server", "127.0.0.1:%d" % server]
+    with running(words, "", 1):
+        yield port
+
+
+def heard(stream, patience=30):
+    """All that comes until the end."""
+    stream.settimeout(patience)
+    octets = b""
+    with contextlib.suppress(ConnectionResetError):
+        while piece := stream.recv(65536):
+            octets += piece
+    return octets
+
+
+def said(port, octets):
+    with socket.create_connection(("127.0.0.1", port)) as stream:
+        stream.sendall(octets)
+        return heard(stream)
+
+
+def request(line, close=True):
+    return ("%s HTTP/1.1\r\nhost: h\r\n%s\r\n" % (line, "connection: close\r\n" if close else "")).encode()
+
+
+def parts(answer):
+    """The status, the headers without `date` and `connection`, in order of names, and the body."""
+    head, _, body = answer.partition(b"\r\n\r\n")
+    lines = head.decode("latin-1").split("\r\n")
+    fields = sorted(tuple(line.split(": ", 1)) for line in lines[1:] if not line.startswith(("date: ", "connection: ")))
+    return int(lines[0].split(" ")[1]) if " " in lines[0] else 0, fields, body.decode("utf-8", "replace")
+
+
+def heading(body):
+    """A page from its heading on; what has none is as it is."""
+    found = body.find("<h1>")
+    return body[found:] if found >= 0 else body
+
+
+def is_page(answer, status, location, body):
+    found, fields, whole = parts(answer)
+    wanted = PAGE + [("content-length", str(len(whole.encode())))]
+    wanted += [("location", location)] if location else []
+    wanted += [("allow", "GET, HEAD")] if status == 405 else []
+    return found == status and fields == sorted(wanted) and heading(whole) == body and SECRET not in answer
+
+
+def is_json(answer, status, body):
+    wanted = JSON + [("content-length", str(len(body.encode())))]
+    return parts(answer) == (status, sorted(wanted), body)
+
+
+def pages(port):
+    for line, status, location, body in PAGES:
+        yield line, is_page(said(port, request(line)), status, location, body)
+    for path, status, body in JSONS:
+        yield path, is_json(said(port, request("GET /api/handles" + path)), status, body)
+    front = parts(said(port, request("GET /")))
+    yield "the front page", front[0] == 200 and '<form action="/" method="get">' in front[2] and "<script" not in front[2]
+    both = said(port, request("GET /10/none", False) + request("GET /20/archive"))
+    yield "two requests on a connection", both.count(b"HTTP/1.1 ") == 2 and both.index(b" 404 ") < both.index(b" 302 ")
+    status, fields, body = parts(said(port, request("HEAD /10/a")))
+    yield "HEAD", (status, body) == (302, "") and ("location", PAGES[0][2]) in fields
+    # the body of a request that has one isn't read for a handle
+    status, _, _ = parts(said(port, b"GET /10/a HTTP/1.1\r\n\r\n"))
+    yield "no host", status == 400
+
+
+def too_long(port):
+    line = "GET /10/%s" % ("a" * 9000)
+    yield "a first line of 9,000 octets", parts(said(port, request(line)))[0] == 414
+    head = b"GET /10/a HTTP/1.1\r\nhost: h\r\n" + b"x: %s\r\n" % (b"a" * 9000) + b"\r\n"
+    yield "a field of 9,000 octets", parts(said(port, head))[0] == 431
+    head = b"GET /10/a HTTP/1.1\r\nhost: h\r\n" + b"x: y\r\n" * 200 + b"\r\n"
+    yield "200 fields", parts(said(port, head))[0] == 431
+
+
+def slow(port, ended):
+    """A client that sends an octet a second: keeps after how many seconds it was dropped."""
+    began = time.monotonic()
+    with socket.create_connection(("127.0.0.1", port)) as stream:
+        stream.settimeout(1)
+        for octet in request("GET /10/a"):
+            with contextlib.suppress(socket.timeout):
+                try:
+                    stream.sendall(bytes([octet]))
+                    if not stream.recv(65536):
+                        break
+                except (ConnectionResetError, BrokenPipeError):
+                    break
+    ended.append(time.monotonic() - began)
+
+
+def is_ended(stream):
+    try:
+        return not stream.recv(65536)
+    except ConnectionResetError:
+        return True
+    except BlockingIOError:
+        return False
+
+
+def idle(port):
+    ended = []
+    client = threading.Thread(target=slow, args=(port, ended), daemon=True)
+    client.start()
+    with contextlib.ExitStack() as stack:
+        streams = [stack.enter_context(socket.create_connection(("127.0.0.1", port))) for _ in range(IDLE)]
+        began = time.monotonic()
+        answer = said(port, request("GET /20/archive"))
+        yield "%d idle clients, and one that is answered" % IDLE, parts(answer)[0] == 302 and time.monotonic() - began < 5
+        for stream in streams:
+            stream.setblocking(False)
+        yield "idle clients are left alone", not any(is_ended(stream) for stream in streams[:50])
+        time.sleep(max(0, 12 - (time.monotonic() - began)))
+        yield "idle clients are dropped behind 10 seconds", all(is_ended(stream) for stream in streams)
+    client.join(30)
+    yield "a slow client is dropped behind 10 seconds", len(ended) == 1 and 9 < ended[0] < 13
+    yield "others are answered behind them", parts(said(port, request("GET /20/archive")))[0] == 302
+
+
+def serve_badly(listener, reply, came):
+    """Answers the first question of each connection so, and closes it; keeps what came."""
+    with contextlib.suppress(OSError):
+        while True:
+            stream = listener.accept()[0]
+            with stream, contextlib.suppress(OSError):
+                stream.settimeout(10)
+                asked = stream.recv(65536)
+                came.append(asked)
+                stream.sendall(reply(struct.unpack(">I", asked[8:12])[0]))
+                stream.shutdown(socket.SHUT_WR)
+                while stream.recv(65536):
+                    pass
+
+
+def replies():
+    """Servers in this program: each is asked twice, the second time on a connection that has ended."""
+    for name, reply, status, body in REPLIES:
+        came = []
+        with socket.create_server(("127.0.0.1", 0)) as listener:
+            threading.Thread(target=serve_badly, args=(listener, reply, came), daemon=True).start()
+            with proxy([listener.getsockname()[1]]) as port:
+                for _ in range(4):
+                    answer = said(port, request("GET /10/a"))
+                    location = "HTTPS://example.org/first" if status == 302 else None
+                    yield name, is_page(answer, status, location, body)
+            yield name + ": what is asked", {asked[20:] for asked in came} == {ASKED}
+
+
+def main():
+    more_files()
+    cases = []
+    first, second = ports(2)
+    words = subprocess.run([PROGRAM, "tenants"], input=TENANTS % (first, second), capture_output=True, text=True, check=True, timeout=60)
+    with running([SERVER, "serve"], words.stdout, 2), proxy([first, second]) as port:
+        for part in (pages, too_long, idle):
+            cases += part(port)
+    cases += replies()
+    with proxy(ports(2)) as port:
+        cases.append(("nobody listens", is_page(said(port, request("GET /10/a")), 502, None, refusal("10/a", UNANSWERED))))
+        cases.append(("nobody listens: JSON", is_json(said(port, request("GET /api/handles/10/a")), 502, json_refusal("10/a", UNANSWERED, 2))))
+    for name, good in cases:
+        if not good:
+            print("%s: another answer than the one that should be" % name)
+    failed = sum(not good for _, good in cases)
+    print("%d passed, %d failed" % (len(cases) - failed, failed))
+    return 1 if failed else 0
+
+
+sys.exit(main())
