@@ -1,5 +1,5 @@
 """The gate of a submission, from nothing: the definitions quoted in docs/ and the map, ./test, memory refused in turn, random scripts,
-the examples, answers that are none, and what README shows.
+the examples, answers that are none, the proxy for browsers, and what README shows.
 
 Its last line is 'N passed, M failed', the sum of what the parts' last lines count; its status is 0 only where nothing failed."""
 
@@ -17,6 +17,7 @@ PARTS = (
     ["tools/fuzz.py", "300", "1"],
     [sys.executable, "tools/examples.py"],
     [sys.executable, "tools/asks.py"],
+    [sys.executable, "tools/proxies.py"],
     [sys.executable, "tools/readme.py"],
 )
 

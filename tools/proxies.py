@@ -18,6 +18,8 @@ ROOT = os.path.dirname(os.path.dirname(os.path.abspath(__file__)))
 PROGRAM = os.environ.get("HDL", os.path.join(ROOT, "crates", "hdl", "out", "hdl"))
 SERVER = os.environ.get("HANDLED", os.path.join(ROOT, "crates", "handled", "out", "handled"))
 IDLE = 1000
+# The most seconds in which something that takes ten should have come, on a machine that others use too.
+PATIENCE = 20
 SECRET = b"never-shown"
 
 TENANTS = """publisher acme 8 %d
@@ -203,6 +205,7 @@ def running(words, given, lines):
     finally:
         process.kill()
         process.wait()
+        process.stdout.close()
 
 
 @contextlib.contextmanager
@@ -274,7 +277,6 @@ def pages(port):
     yield "two requests on a connection", both.count(b"HTTP/1.1 ") == 2 and both.index(b" 404 ") < both.index(b" 302 ")
     status, fields, body = parts(said(port, request("HEAD /10/a")))
     yield "HEAD", (status, body) == (302, "") and ("location", PAGES[0][2]) in fields
-    # the body of a request that has one isn't read for a handle
     status, _, _ = parts(said(port, b"GET /10/a HTTP/1.1\r\n\r\n"))
     yield "no host", status == 400
 
@@ -324,11 +326,13 @@ def idle(port):
         yield "%d idle clients, and one that is answered" % IDLE, parts(answer)[0] == 302 and time.monotonic() - began < 5
         for stream in streams:
             stream.setblocking(False)
-        yield "idle clients are left alone", not any(is_ended(stream) for stream in streams[:50])
-        time.sleep(max(0, 12 - (time.monotonic() - began)))
-        yield "idle clients are dropped behind 10 seconds", all(is_ended(stream) for stream in streams)
-    client.join(30)
-    yield "a slow client is dropped behind 10 seconds", len(ended) == 1 and 9 < ended[0] < 13
+        yield "idle clients are left alone", not any(is_ended(stream) for stream in streams)
+        while streams and time.monotonic() - began < PATIENCE:
+            time.sleep(0.2)
+            streams = [stream for stream in streams if not is_ended(stream)]
+        yield "idle clients are dropped behind 10 seconds", not streams and time.monotonic() - began > 9
+    client.join(PATIENCE)
+    yield "a slow client is dropped behind 10 seconds", len(ended) == 1 and 9 < ended[0] < PATIENCE
     yield "others are answered behind them", parts(said(port, request("GET /20/archive")))[0] == 302
 
 
@@ -342,13 +346,10 @@ def serve_badly(listener, reply, came):
                 asked = stream.recv(65536)
                 came.append(asked)
                 stream.sendall(reply(struct.unpack(">I", asked[8:12])[0]))
-                stream.shutdown(socket.SHUT_WR)
-                while stream.recv(65536):
-                    pass
 
 
 def replies():
-    """Servers in this program: each is asked twice, the second time on a connection that has ended."""
+    """Servers in this program. Behind the first questions each is asked over connections that it has closed."""
     for name, reply, status, body in REPLIES:
         came = []
         with socket.create_server(("127.0.0.1", 0)) as listener:

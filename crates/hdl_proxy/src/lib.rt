@@ -34,6 +34,3 @@ pub use proxy::{Next, begin, finish};
 pub use question::{Form, Question};
 pub use resolver::{NoAnswer, Resolver};
 pub use url::is_followed;
-
-#[cfg(test)]
-mod tests;

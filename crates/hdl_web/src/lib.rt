@@ -22,6 +22,3 @@ pub use desk::Desk;
 pub use response::response_of;
 pub use serving::serve_http;
 pub use worker::Ask;
-
-#[cfg(test)]
-mod tests;
