@@ -4,10 +4,10 @@ use crate::made::{header, reply};
 use hdl_frame::Envelope;
 use hdl_limits::MESSAGE_MAX;
 use hdl_msg::{
-    Body, Digest, HandleList, Header, OpCode, OpFlag, Reply, ReplyContent, ResponseCode, ValueList,
+    Body, Digest, Header, OpCode, OpFlag, Reply, ReplyContent, ResponseCode,
     Values, answer_header, busy, read_request, refuse, reply_len, write_reply,
 };
-use hdl_value::{Octets, read_value};
+use hdl_value::{Listed, Octets, read_value};
 use std::alloc::{AllocError, Global};
 use std::test::Fail;
 
@@ -72,7 +72,7 @@ fn shows_a_value(rt: HostRuntime) -> Result<(), Fail> {
     let mut values = Vec::new(rt.alloc());
     values.push(value)?;
     let handle = octets(rt.alloc(), b"10/a")?;
-    let values = ValueList::new(values);
+    let values = Listed::new(values);
     let content = ReplyContent::Values { handle, values };
     let shown = reply(1, OpCode::Resolution, ResponseCode::Success, content);
     let printed =
@@ -142,7 +142,7 @@ fn lists_handles(rt: HostRuntime) -> Result<(), Fail> {
     let mut handles = Vec::new(rt.alloc());
     handles.push(octets(rt.alloc(), b"10/B")?)?;
     handles.push(octets(rt.alloc(), b"10/a")?)?;
-    let handles = HandleList::new(handles);
+    let handles = Listed::new(handles);
     let content = ReplyContent::Handles { handles };
     let mut listed = reply(10, OpCode::ListHandles, ResponseCode::Success, content);
     listed.session = 1;

@@ -3,9 +3,9 @@
 use crate::msg::{hex, octets};
 use hdl_limits::MESSAGE_MAX;
 use hdl_msg::{
-    HandleList, Header, IndexList, OpFlag, RequestBody, ValueList, request_len, write_request,
+    Header, OpFlag, RequestBody, request_len, write_request,
 };
-use hdl_value::{Octets, read_value};
+use hdl_value::{Listed, Octets, Value, read_value};
 use std::alloc::{AllocError, Global};
 use std::test::Fail;
 
@@ -53,8 +53,8 @@ fn resolution(
     indexes: &[u32],
     types: Vec<Octets>,
 ) -> Result<RequestBody, AllocError> {
-    let indexes = IndexList::new(Vec::from_slice(alloc, indexes)?);
-    let types = HandleList::new(types);
+    let indexes = Listed::new(Vec::from_slice(alloc, indexes)?);
+    let types = Listed::new(types);
     let handle = octets(alloc, handle)?;
     Ok(RequestBody::Resolution {
         handle,
@@ -94,12 +94,12 @@ fn resolution_by_type(rt: HostRuntime) -> Result<(), Fail> {
 }
 
 /// The list of the one value that these digits spell.
-fn values(alloc: Global, digits: &str) -> Result<ValueList, Fail> {
+fn values(alloc: Global, digits: &str) -> Result<Listed<Value>, Fail> {
     let spelt = hex(alloc, digits)?;
     let (value, _) = read_value(alloc, &spelt)?;
     let mut values = Vec::new(alloc);
     values.push(value)?;
-    Ok(ValueList::new(values))
+    Ok(Listed::new(values))
 }
 
 #[test]
@@ -161,7 +161,7 @@ fn list(rt: HostRuntime) -> Result<(), Fail> {
 
 #[test]
 fn remove(rt: HostRuntime) -> Result<(), Fail> {
-    let indexes = IndexList::new(Vec::from_slice(rt.alloc(), &[1, 9])?);
+    let indexes = Listed::new(Vec::from_slice(rt.alloc(), &[1, 9])?);
     let handle = octets(rt.alloc(), b"10/h")?;
     let body = RequestBody::Remove { handle, indexes };
     let frame =

@@ -3,8 +3,8 @@
 use crate::fault::WordFault;
 use crate::key::index_in;
 use hdl_lines::read_value_line;
-use hdl_msg::{HandleList, IndexList, OpCode, RequestBody, ValueList};
-use hdl_value::{Octets, Value};
+use hdl_msg::{OpCode, RequestBody};
+use hdl_value::{Listed, Octets, Value};
 use std::alloc::{AllocError, Global};
 
 /// Whether values go with an operation.
@@ -76,9 +76,9 @@ pub fn request_of(
     {
         return Err(WordFault::Missing);
     }
-    let indexes = IndexList::new(indexes);
-    let types = HandleList::new(types);
-    let values = ValueList::new(values);
+    let indexes = Listed::new(indexes);
+    let types = Listed::new(types);
+    let values = Listed::new(values);
     match operation {
         OpCode::Resolution => Ok(RequestBody::Resolution {
             handle,

@@ -1,8 +1,7 @@
-use hdl_msg::ValueList;
 use hdl_name::Name;
 use hdl_ops::{Change, apply};
 use hdl_rows::{PlainRows, Rows};
-use hdl_value::{Octets, RawRefs, Reference, Value};
+use hdl_value::{Listed, Octets, RawRefs, Reference, Value};
 use std::alloc::{AllocError, Global};
 use std::test::Fail;
 
@@ -25,7 +24,7 @@ fn create_is_stamped(rt: HostRuntime) -> Result<(), Fail> {
     let mut rows = PlainRows::new(rt.alloc());
     let name = Name::read(rt.alloc(), b"10/b")?;
     assert!(rt; !rows.exists(&name)?);
-    let values = ValueList::new(Vec::from_array(rt.alloc(), [value(rt.alloc())?])?);
+    let values = Listed::new(Vec::from_array(rt.alloc(), [value(rt.alloc())?])?);
     apply(&mut rows, Change::Create { name, values }, 1000)?;
     let name = Name::read(rt.alloc(), b"10/b")?;
     let found = rows.at(&Reference { name, index: 2 })?;
