@@ -8,9 +8,7 @@ ghost use Rattle.hdl_msg.specs.declared.codes.OpFlag.TheVariants.{PublicOnly};
 ghost use Rattle.hdl_proxy.specs.Question.{AsksInPublic};
 
 use hdl_limits::MESSAGE_MAX;
-use hdl_msg::{
-    HandleList, Header, IndexList, OpCode, OpFlag, RequestBody, request_len, write_request,
-};
+use hdl_msg::{Header, OpCode, OpFlag, RequestBody, request_len, write_request};
 use hdl_name::{Name, Octets};
 use std::alloc::{AllocError, Global};
 
@@ -64,8 +62,8 @@ impl Question {
         ensures { IfOk result (λ body. requested body ≡ resolution self.now.name self.now.indexes.items self.now.types.items) }
     {
         let handle = Octets::new(Vec::from_slice(alloc, self.name.sent())?);
-        let indexes = IndexList::new(Vec::from_slice(alloc, &self.indexes)?);
-        let types = HandleList::new(copies(alloc, &self.types)?);
+        let indexes = Listed::new(Vec::from_slice(alloc, &self.indexes)?);
+        let types = Listed::new(copies(alloc, &self.types)?);
         Ok(RequestBody::Resolution {
             handle,
             indexes,
