@@ -9,7 +9,7 @@ ghost use Rattle.hdl_proxy.specs.Question.{AsksInPublic};
 
 use hdl_limits::MESSAGE_MAX;
 use hdl_msg::{Header, OpCode, OpFlag, RequestBody, request_len, write_request};
-use hdl_name::{Name, Octets};
+use hdl_name::{Listed, Name, Octets};
 use std::alloc::{AllocError, Global};
 
 /// In which form a handle is answered.
