@@ -16,7 +16,7 @@ def listed():
     """Each crate of crates.txt with all that it stands on."""
     with open(os.path.join(ROOT, "crates.txt"), encoding="utf-8") as text:
         lines = [line.split("#")[0].strip() for line in text]
-    return {name.strip(): below.split() for name, _, below in (line.partition(":") for line in lines if line)}
+    return {name.split()[0]: below.split() for name, _, below in (line.partition(":") for line in lines if line)}
 
 
 def drawn():
