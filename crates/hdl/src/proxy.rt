@@ -40,7 +40,9 @@ pub fn proxy_command<'a>(alloc: Global) -> Result<Command<'a>, AllocError> {
             Arg::new(alloc, "server")
                 .long("server")
                 .value_name("HOST:PORT")
-                .help("A handle server to ask, repeated for more; the next is asked after a referral")
+                .help(
+                    "A handle server to ask, repeated for more; the next is asked after a referral",
+                )
                 .required(true)
                 .action(ArgAction::Append),
         )?
@@ -48,7 +50,9 @@ pub fn proxy_command<'a>(alloc: Global) -> Result<Command<'a>, AllocError> {
             Arg::new(alloc, "askers")
                 .long("askers")
                 .value_name("N")
-                .help("How many questions are asked at once, 2 without it; each may hold a lane of each server")
+                .help(
+                    "How many questions are asked at once, 2 without it; each may hold a lane of each server",
+                )
                 .action(ArgAction::Set)
                 .value_parser(value_parser!(u64).range(1..65)),
         )

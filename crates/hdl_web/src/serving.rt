@@ -130,7 +130,11 @@ where
     writeln!(output, "http://{listen}/")?;
     output.flush()?;
     let reception = opened(rt, &runtime, asks)?;
-    serve_all(rt, &mut runtime, Visitors::new(listener.incoming(), reception))?;
+    serve_all(
+        rt,
+        &mut runtime,
+        Visitors::new(listener.incoming(), reception),
+    )?;
     for worker in workers {
         worker.join(rt);
     }
