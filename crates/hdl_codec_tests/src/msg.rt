@@ -4,8 +4,8 @@ use crate::made::{header, reply};
 use hdl_frame::Envelope;
 use hdl_limits::MESSAGE_MAX;
 use hdl_msg::{
-    Body, Digest, Header, OpCode, OpFlag, Reply, ReplyContent, ResponseCode,
-    Values, answer_header, busy, read_request, refuse, reply_len, write_reply,
+    Body, Digest, Header, OpCode, OpFlag, Reply, ReplyContent, ResponseCode, Values, answer_header,
+    busy, read_request, refuse, reply_len, write_reply,
 };
 use hdl_value::{Listed, Octets, read_value};
 use std::alloc::{AllocError, Global};

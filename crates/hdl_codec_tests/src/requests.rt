@@ -2,9 +2,7 @@
 
 use crate::msg::{hex, octets};
 use hdl_limits::MESSAGE_MAX;
-use hdl_msg::{
-    Header, OpFlag, RequestBody, request_len, write_request,
-};
+use hdl_msg::{Header, OpFlag, RequestBody, request_len, write_request};
 use hdl_value::{Listed, Octets, Value, read_value};
 use std::alloc::{AllocError, Global};
 use std::test::Fail;
