@@ -12,7 +12,12 @@ use Rattle.sqlite_value.specs.Order.{Row, value_cmp}
 use Rattle.sqlite_trees.specs.Tree.{rowid, put_row}
 use Rattle.sqlite_rules.specs.Edit.{is_taken}
 use Rattle.hdl_value.proofs.Places.{tied}
-use Rattle.hdl_rows.proofs.RowsLemmas.{swapped}
+
+-- two tests that don't hold at once, in either order
+swapped : {A : Type 0} (a b : Bool) (x y z : A) → (a ≡ true → b ≡ true → ⊥) → cond a x (cond b y z) ≡ cond b y (cond a x z)
+swapped true true x y z apart = absurd (apart refl refl)
+swapped true false x y z apart = refl
+swapped false b x y z apart = refl
 
 -- the lists are equal but for one element more
 pub record HasOneMore {X : Type 0} (x : X) (old new : List X) : Type 0 where
