@@ -112,33 +112,44 @@ where
     runtime.run_all(rt, visitors)
 }
 
-fn serve<R, S>(
+/// Serves the connections of a listener, whose questions go to `asks`.
+fn serve_listener<R>(
     rt: &R,
-    listen: SocketAddr,
-    resolvers: Vec<S>,
-    output: &mut impl Write,
+    runtime: &mut LocalRuntime,
+    listener: TcpListener,
+    asks: Sender<Ask>,
 ) -> io::Result<()>
 where
-    R: Net + Wait + Threads + Clock + RandomSource + AllocGlobal + Copy + Send + Drop + 'static,
+    R: Wait + Clock + RandomSource + AllocGlobal + Copy + Drop,
+{
+    let reception = opened(rt, runtime, asks)?;
+    serve_all(rt, runtime, Visitors::new(listener.incoming(), reception))
+}
+
+/// A runtime, and a listener in it.
+fn listening<R>(rt: &R, listen: SocketAddr) -> io::Result<(LocalRuntime, TcpListener)>
+where
+    R: Net + Clock + RandomSource + AllocGlobal,
+{
+    let runtime = LocalRuntime::new(rt)?;
+    let listener = TcpListener::bind(rt, listen, runtime.handle().reactor())?;
+    Ok((runtime, listener))
+}
+
+/// Starts a thread for each resolver, and gives where questions go.
+fn start_asking<R, S>(rt: &R, resolvers: Vec<S>) -> io::Result<(Sender<Ask>, Vec<JoinHandle<()>>)>
+where
+    R: Wait + Threads + AllocGlobal + Copy + Send + Drop + 'static,
     S: Resolver + Send + 'static,
 {
-    let mut runtime = LocalRuntime::new(rt)?;
-    let listener = TcpListener::bind(rt, listen, runtime.handle().reactor())?;
     let (asks, taken) = unbounded(rt.alloc())?;
     let workers = start_workers(rt, rt.alloc(), resolvers, &taken)?;
-    drop(taken);
+    Ok((asks, workers))
+}
+
+fn say_address(output: &mut impl Write, listen: SocketAddr) -> io::Result<()> {
     writeln!(output, "http://{listen}/")?;
-    output.flush()?;
-    let reception = opened(rt, &runtime, asks)?;
-    serve_all(
-        rt,
-        &mut runtime,
-        Visitors::new(listener.incoming(), reception),
-    )?;
-    for worker in workers {
-        worker.join(rt);
-    }
-    Ok(())
+    output.flush()
 }
 
 /// Serves HTTP at this address until the process ends. Each resolver has a thread of its own, so as many questions are asked at once.
@@ -152,5 +163,12 @@ where
     R: Net + Wait + Threads + Clock + RandomSource + AllocGlobal + Copy + Send + Drop + 'static,
     S: Resolver + Send + 'static,
 {
-    serve(rt, listen, resolvers, output)
+    let (mut runtime, listener) = listening(rt, listen)?;
+    let (asks, workers) = start_asking(rt, resolvers)?;
+    say_address(output, listen)?;
+    serve_listener(rt, &mut runtime, listener, asks)?;
+    for worker in workers {
+        worker.join(rt);
+    }
+    Ok(())
 }
