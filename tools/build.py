@@ -1,8 +1,8 @@
 """build.py PROGRAM: builds this proved program for ./run or ./hdl, and says how far it is: which crate, how much of it, and about how many
 minutes are left.
 
-On four processors and more it is `rt run` alone, which proves a crate at a time with several jobs; on fewer `rt all check` comes before it, which
-takes less work. Both keep each proof as it is made, so a break (Ctrl-C) loses little and the next start goes on from there."""
+The libraries below it are proved side by side (`lanes.py`), and then `rt run` proves and builds the program itself. Each proof is kept as it is
+made, so a break (Ctrl-C) loses little and the next start goes on from there."""
 
 import glob
 import os
@@ -13,6 +13,8 @@ import sys
 import threading
 import time
 
+import lanes
+
 PROGRAM = sys.argv[1]
 # What runs it.
 SCRIPT = {"handled": "run"}.get(PROGRAM, PROGRAM)
@@ -22,9 +24,9 @@ LOAD, LARGE_LOAD = 15, 60
 LARGE = {"clap", "sqlite"}
 # Processor seconds to prove a line of code.
 PER_LINE = 0.22
-# How many processors such a build keeps busy.
-BUSY = {1: 1.0, 2: 1.7, 3: 1.8}
-MOST_BUSY = 1.9
+# How many processors such a build keeps busy (from four on by simulation, docs/GATE.md).
+BUSY = {1: 1.0, 2: 1.7, 3: 2.2}
+MOST_BUSY = 2.5
 EVERY = 20
 
 
@@ -83,8 +85,8 @@ class Progress:
     def __init__(self, crates, graph):
         self.weights = {crate: weight(crate, graph) for crate in crates}
         self.left, self.started = list(crates), time.time()
-        # The crate of which the checker last said that it begins, and how much of each crate it said is done.
-        self.current, self.said = None, {}
+        # How much of each crate the checker said is done.
+        self.said = {}
         self.before = self.done()
         self.ended = threading.Event()
 
@@ -103,22 +105,19 @@ class Progress:
         return max(1, round(rest / speed / 60))
 
     def say(self):
-        began = [crate for crate in self.left if self.part(crate) > 0 or crate == self.current]
+        began = [crate for crate in self.left if self.part(crate) > 0]
         parts = ", ".join(f"{crate} {self.part(crate):.0%}" for crate in began[:3]) or "reading the libraries"
         whole = len(self.weights)
         past = round((time.time() - self.started) / 60)
         tell(f"{whole - len(self.left)} of {whole} crates proved; {parts}; after {minutes(past)}, about {minutes(self.minutes_left())} left")
 
-    def heard(self, line):
+    def heard(self, crate, line):
         ended = re.match(r"crate (\w+): modules loaded=", line)
-        began = re.match(r"rt: chose --jobs \d+ for (\w+)", line)
         so_far = re.match(r"so far: (\d+) of (\d+) functions checked", line)
         if ended and ended[1] in self.left:
             self.left.remove(ended[1])
-        elif began:
-            self.current = began[1]
-        elif so_far and self.current:
-            self.said[self.current] = 0.95 * int(so_far[1]) / max(1, int(so_far[2]))
+        elif so_far and crate:
+            self.said[crate] = 0.95 * int(so_far[1]) / max(1, int(so_far[2]))
 
     def tick(self):
         while not self.ended.wait(EVERY):
@@ -141,7 +140,7 @@ def ran(words, folder, log, progress):
         for line in child.stdout:
             log.write(line)
             log.flush()
-            progress.heard(line)
+            progress.heard(PROGRAM, line)
         return child.wait()
     except KeyboardInterrupt:
         child.send_signal(signal.SIGINT)
@@ -149,10 +148,20 @@ def ran(words, folder, log, progress):
         raise
 
 
+def side_by_side(crates, log, progress):
+    """Proves and builds these libraries, several at a time."""
+
+    def hear(crate, line):
+        log.write(f"{crate}: {line}\n")
+        log.flush()
+        progress.heard(crate, line)
+
+    return lanes.in_lanes(os.getcwd(), crates, progress.weights, processors(), hear)
+
+
 def main():
     graph = stands_on()
     wanted = below(PROGRAM, graph)
-    is_small = processors() < 4
     left = [crate for crate in graph if crate in wanted and not is_built(crate, graph)]
     progress = Progress(left, graph)
     if 0 < len(left) < len(wanted):
@@ -164,8 +173,10 @@ def main():
     os.makedirs(os.path.dirname(LOG), exist_ok=True)
     try:
         with open(LOG, "w", encoding="utf-8") as log:
-            status = ran(["rt", "all", "check"], ".", log, progress) if is_small and len(left) > 1 else 0
-            status = status or ran(["rt", "run", "--", "--help"], f"crates/{PROGRAM}", log, progress)
+            libraries = [crate for crate in left if crate != PROGRAM]
+            status = side_by_side(libraries, log, progress) if libraries else 0
+            jobs = str(min(4, processors()))
+            status = status or ran(["rt", "run", "--jobs", jobs, "--", "--help"], f"crates/{PROGRAM}", log, progress)
     except KeyboardInterrupt:
         tell(f"stopped; the next ./{SCRIPT} goes on from here")
         return 130

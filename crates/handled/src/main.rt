@@ -56,9 +56,13 @@ fn main(rt: HostRuntime) -> ExitCode {
     match run(&rt) {
         Ok(Next::Ended(status)) => ExitCode::from(status),
         Ok(Next::Serve { text, turns }) => {
+            let Ok(rows) = SqlRows::new(rt.alloc()) else {
+                let _ = eprintln!(rt; "{}", Fault::StoreRefused);
+                return ExitCode::from(Fault::StoreRefused.status());
+            };
             let mut output = rt.stdout();
             let mut faults = rt.stderr();
-            ExitCode::from(host(&rt, text.as_str(), turns, &mut output, &mut faults))
+            ExitCode::from(host(&rt, rows, text.as_str(), turns, &mut output, &mut faults))
         }
         Err(fault) => {
             let _ = eprintln!(rt; "{fault}");

@@ -1,10 +1,10 @@
 //! Opening a service from a tenants text.
 
-ghost use Rattle.std.specs.Prelude.{◌≡◌, None, map, IfOk, OnOk};
+ghost use Rattle.std.specs.Prelude.{◌≡◌, [], None, map, IfOk, OnOk};
 ghost use Rattle.std.specs.List.Sorted.{IsPermutation};
 ghost use Rattle.hdl_rows.specs.Table.{no_rows, at};
 ghost use Rattle.hdl_tenants.specs.Register.{lane_count, place, AreDistinct};
-ghost use Rattle.hdl_core.specs.Opening.{IsOpening, opening_table, with_row, row_at, first_lanes};
+ghost use Rattle.hdl_core.specs.Opening.{IsOpening, closed_lanes as closed, opening_table, with_row, row_at, first_lanes};
 
 use crate::lane::Lane;
 use crate::lanes::Lanes;
@@ -99,6 +99,24 @@ fn load<R: Rows>(alloc: Global, rows: &mut R, opening: &[(Name, Value)]) -> Resu
     }
 }
 
+/// What is kept of all lanes, each closed, and of masks, none.
+fn room_for(alloc: Global, tenants: &Tenants) -> Result<(Lanes, Masks), OpenFault>
+    ensures lanes { IfOk result (λ room. room.0 ≡ closed (first_lanes tenants.now (lane_count tenants.now.publishers))) }
+    ensures masks { IfOk result (λ room. room.1 ≡ []) }
+{
+    let Ok(lanes) = closed_lanes(alloc, tenants) else {
+        return Err(OpenFault::Memory);
+    };
+    let _ = tenants.opening();
+    let Ok(lanes) = Lanes::new(alloc, lanes) else {
+        return Err(OpenFault::Memory);
+    };
+    let Ok(masks) = Masks::new(alloc) else {
+        return Err(OpenFault::Memory);
+    };
+    Ok((lanes, masks))
+}
+
 impl<R: Rows + Drop> Service<R> {
     /// The service of a tenants text over an empty table: every lane closed, and the opening rows in the table.
     ///
@@ -108,17 +126,9 @@ impl<R: Rows + Drop> Service<R> {
         requires empty { R.content rows ≡ no_rows }
         ensures opening { IfOk result (λ service. IsOpening tenants service) }
     {
-        let Ok(lanes) = closed_lanes(alloc, &tenants) else {
-            return Err(OpenFault::Memory);
-        };
-        let opening = tenants.opening();
-        let Ok(lanes) = Lanes::new(alloc, lanes) else {
-            return Err(OpenFault::Memory);
-        };
-        let Ok(masks) = Masks::new(alloc) else {
-            return Err(OpenFault::Memory);
-        };
-        load(alloc, &mut rows, opening)?;
+        let room = room_for(alloc, &tenants)?;
+        let (lanes, masks) = room;
+        load(alloc, &mut rows, tenants.opening())?;
         Ok(Service {
             alloc,
             tenants,

@@ -8,8 +8,7 @@ use crate::clock::MachineClock;
 use crate::workers::{join_all, start};
 use hdl_core::{Rows, Service, Tenants};
 use hdl_replay::{Fault, put_all};
-use hdl_serve::{Far, LaneEnds, lanes_of, serve};
-use hdl_sqlrows::SqlRows;
+use hdl_serve::{Clock as Pauses, Far, LaneEnds, lanes_of, serve};
 use std::alloc::Global;
 use std::io::{self, Write};
 use std::net::{IpAddr, Ipv4Addr, Net, SocketAddr, TcpListener, TcpStream, UdpSocket};
@@ -101,11 +100,26 @@ fn ready_for<R: Net<Listener = TcpListener, Stream = TcpStream>>(
     })
 }
 
+/// What serves lanes on the calling thread, until each of them ended or the turns are spent.
+///
+/// What starts and joins the workers is generic over it: proving a function that owns a `Service` costs several times as much.
+trait Serving {
+    /// Serves the lanes.
+    fn serve_lanes<C: Pauses>(self, alloc: Global, ends: Vec<LaneEnds>, clock: &mut C, turns: u64)
+        requires distinct { AreDistinct ends.items };
+}
+
+impl<T: Rows + Drop> Serving for Service<T> {
+    fn serve_lanes<C: Pauses>(self, alloc: Global, ends: Vec<LaneEnds>, clock: &mut C, turns: u64) {
+        drop(serve(alloc, self, ends, clock, turns));
+    }
+}
+
 /// Starts the workers, serves on this thread, and joins them.
-fn served<R: Threads + Clock + RandomSource + Copy + Send + Drop + 'static, T: Rows + Drop>(
+fn served<R: Threads + Clock + RandomSource + Copy + Send + Drop + 'static, S: Serving + Drop>(
     rt: &R,
     alloc: Global,
-    service: Service<T>,
+    service: S,
     ready: Ready,
     turns: u64,
 ) -> Result<(), Fault>
@@ -120,7 +134,7 @@ fn served<R: Threads + Clock + RandomSource + Copy + Send + Drop + 'static, T: R
     let lanes = u16::try_from(ends.len()).unwrap_or(u16::MAX);
     let workers = start(rt, alloc, places, far, turns)?;
     let mut clock = MachineClock::new(*rt, lanes);
-    drop(serve(alloc, service, ends, &mut clock, turns));
+    service.serve_lanes(alloc, ends, &mut clock, turns);
     join_all(rt, workers)
 }
 
@@ -130,6 +144,39 @@ fn tenants_of(alloc: Global, text: &str) -> Result<Tenants, Fault> {
         Ok(tenants) => Ok(tenants),
         Err((line, fault)) => Err(Fault::Tenants(line, fault)),
     }
+}
+
+/// Tells where it listens, and serves.
+fn tell_and_serve<
+    R: Threads + Clock + RandomSource + Copy + Send + Drop + 'static,
+    S: Serving + Drop,
+    W: Write,
+>(rt: &R, alloc: Global, service: S, ready: Ready, turns: u64, output: &mut W) -> Result<(), Fault>
+    requires distinct { AreDistinct ready.ends.items }
+{
+    put_all(output, ready.lines.as_bytes())?;
+    served(rt, alloc, service, ready, turns)
+}
+
+/// Opens the service of the tenants over an empty table, tells where it listens, and serves.
+fn open_and_serve<
+    R: Threads + Clock + RandomSource + Copy + Send + Drop + 'static,
+    T: Rows + Drop,
+    W: Write,
+>(
+    rt: &R,
+    alloc: Global,
+    rows: T,
+    tenants: Tenants,
+    ready: Ready,
+    turns: u64,
+    output: &mut W,
+) -> Result<(), Fault>
+    requires empty { T.content rows ≡ no_rows }
+    requires distinct { AreDistinct ready.ends.items }
+{
+    let service = Service::open(alloc, tenants, rows)?;
+    tell_and_serve(rt, alloc, service, ready, turns, output)
 }
 
 /// Serves the tenants of the text over an empty table. The lines that tell where are written once all sockets listen, and before
@@ -153,12 +200,10 @@ pub fn hosted<
 {
     let tenants = tenants_of(alloc, text)?;
     let ready = ready_for(rt, alloc, &tenants)?;
-    let service = Service::open(alloc, tenants, rows)?;
-    put_all(output, ready.lines.as_bytes())?;
-    served(rt, alloc, service, ready, turns)
+    open_and_serve(rt, alloc, rows, tenants, ready, turns, output)
 }
 
-/// Serves the tenants of the text over TCP and UDP on loopback, over a table in SQL, until each worker ended or the turns are
+/// Serves the tenants of the text over TCP and UDP on loopback, over an empty table, until each worker ended or the turns are
 /// spent. Writes `NAME 127.0.0.1:PORT` for each publisher to the output once all of them listen, and a fault line to the faults.
 /// Answers the exit status (docs/PROTOCOL.md, "The tenants text and scripts"); a fault line that can't be written changes none.
 pub fn host<
@@ -171,15 +216,13 @@ pub fn host<
         + Send
         + Drop
         + 'static,
+    T: Rows + Drop,
     W: Write,
     F: Write,
->(rt: &R, text: &str, turns: u64, output: &mut W, faults: &mut F) -> u8 {
-    let alloc = rt.alloc();
-    let served = match SqlRows::new(alloc) {
-        Ok(rows) => hosted(rt, alloc, rows, text, turns, output),
-        Err(_) => Err(Fault::StoreRefused),
-    };
-    match served {
+>(rt: &R, rows: T, text: &str, turns: u64, output: &mut W, faults: &mut F) -> u8
+    requires empty { T.content rows ≡ no_rows }
+{
+    match hosted(rt, rt.alloc(), rows, text, turns, output) {
         Ok(()) => 0,
         Err(fault) => {
             let _ = writeln!(faults, "{fault}");

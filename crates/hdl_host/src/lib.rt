@@ -1,7 +1,7 @@
 //! The server: the proved service behind the machine's sockets.
 //!
 //! ```text
-//! a TCP connection -> SocketDoor    -> stream_worker ─┐ ring ┌─ serve (Service over SqlRows), on the calling thread
+//! a TCP connection -> SocketDoor    -> stream_worker ─┐ ring ┌─ serve (Service over any table), on the calling thread
 //! a UDP socket     -> SocketPackets -> packet_worker ─┘ each └─
 //!                       a thread for each lane
 //! ```
@@ -11,7 +11,7 @@
 //! machine has: sockets, a clock, random numbers and threads. No contract can say what these give, so the doors here tell
 //! nothing, and nothing is promised of octets on a wire.
 //!
-//! It stands on `hdl_serve`, `hdl_core` and `hdl_sqlrows`, and on `hdl_replay` for the faults of the program.
+//! It stands on `hdl_serve`, `hdl_core` and `hdl_rows`, and on `hdl_replay` for the faults of the program.
 //!
 //! # Decisions
 //!

@@ -1,6 +1,7 @@
 //! The server with two real clients. Frames and replies are those of the worked examples (examples/absent.script).
 
 use crate::host;
+use hdl_rows::PlainRows;
 use std::alloc::Global;
 use std::io::{self, Read, Write};
 use std::net::{IpAddr, Ipv4Addr, SocketAddr, TcpStream, UdpSocket};
@@ -175,7 +176,14 @@ fn sockets(rt: HostRuntime) -> Result<(), Fail> {
         told,
     };
     let mut faults = Vec::new(alloc);
-    let status = host(&rt, TENANTS, 10_000, &mut output, &mut faults);
+    let status = host(
+        &rt,
+        PlainRows::new(rt.alloc()),
+        TENANTS,
+        10_000,
+        &mut output,
+        &mut faults,
+    );
     ended.store(true, SeqCst);
     let (whole, others) = streams.join(&rt)?;
     let reply = datagrams.join(&rt)?;

@@ -15,6 +15,7 @@ use std::random::RandomSource;
 use std::rt::Clock;
 use std::thread;
 use std::thread::{JoinHandle, Threads};
+use std::vec::IntoIter;
 
 /// Starts the worker of a stream lane.
 fn start_stream<R: Threads + Clock + RandomSource + Copy + Send + Drop + 'static>(
@@ -88,7 +89,33 @@ fn start_packets<R: Threads + Clock + RandomSource + Copy + Send + Drop + 'stati
     }
 }
 
-/// Starts a worker for each lane: a publisher's last is that of its datagrams.
+/// Starts the workers of a publisher's lanes: the last is that of its datagrams.
+fn start_place<R: Threads + Clock + RandomSource + Copy + Send + Drop + 'static>(
+    rt: &R,
+    alloc: Global,
+    place: Place,
+    far: &mut IntoIter<Far>,
+    turns: u64,
+    workers: &mut Vec<JoinHandle<WorkerEnd>>,
+) -> Result<(), Fault> {
+    let Place {
+        listener,
+        socket,
+        lanes,
+    } = place;
+    for _ in 1..lanes {
+        if let Some(side) = far.next() {
+            let listener = had(listener.try_clone())?;
+            workers.push(start_stream(rt, alloc, listener, side, turns)?)?;
+        }
+    }
+    if let Some(side) = far.next() {
+        workers.push(start_packets(rt, alloc, socket, side, turns)?)?;
+    }
+    Ok(())
+}
+
+/// Starts a worker for each lane.
 pub fn start<R: Threads + Clock + RandomSource + Copy + Send + Drop + 'static>(
     rt: &R,
     alloc: Global,
@@ -99,15 +126,7 @@ pub fn start<R: Threads + Clock + RandomSource + Copy + Send + Drop + 'static>(
     let mut workers = Vec::with_capacity(alloc, far.len())?;
     let mut far = far.into_iter();
     for place in places {
-        for _ in 1..place.lanes {
-            if let Some(side) = far.next() {
-                let listener = had(place.listener.try_clone())?;
-                workers.push(start_stream(rt, alloc, listener, side, turns)?)?;
-            }
-        }
-        if let Some(side) = far.next() {
-            workers.push(start_packets(rt, alloc, place.socket, side, turns)?)?;
-        }
+        start_place(rt, alloc, place, &mut far, turns, &mut workers)?;
     }
     Ok(workers)
 }

@@ -1,0 +1,100 @@
+"""Proves and builds the libraries below a program side by side, over the kit's own library of `rt`.
+
+`rt run` alone proves a crate at a time, and `rt lib` in several folders at once waits for locks; so this takes the locks once and builds each
+crate by `rt`'s own `build_rlib`, which keeps its work in out/ as `rt lib` does. The crate with the longest chain of crates behind it gets as many
+jobs as there are processors; the others get two and give way to it."""
+
+import importlib.machinery
+import importlib.util
+import os
+import queue
+import re
+import shutil
+import sys
+import threading
+
+# What a check of so many lines takes at most, in bytes, and what each job behind the first one takes.
+LEAST, PER_LINE, PER_JOB = 1_000_000_000, 1_000_000, 400_000_000
+
+
+def kit():
+    """The library that `rt` stands on, of the kit whose `rt` is on the PATH."""
+    file = os.path.join(os.path.dirname(os.path.realpath(shutil.which("rt"))), "rtlib.py")
+    loader = importlib.machinery.SourceFileLoader("rtlib", file)
+    made = importlib.util.module_from_spec(importlib.util.spec_from_loader("rtlib", loader))
+    sys.modules["rtlib"], sys.dont_write_bytecode = made, True
+    loader.exec_module(made)
+    made.guarded()
+    return made
+
+
+class Lines:
+    """A file to which `rt` prints what a crate's build says: each line is handed on."""
+
+    def __init__(self, hear):
+        self.hear, self.rest = hear, ""
+
+    def write(self, text):
+        *lines, self.rest = (self.rest + text).split("\n")
+        for line in lines:
+            self.hear(line)
+
+    def flush(self):
+        pass
+
+
+def free():
+    found = re.search(r"MemAvailable:\s+(\d+)", open("/proc/meminfo", encoding="utf-8").read())
+    return 1024 * int(found[1])
+
+
+def in_lanes(root, names, weights, processors, hear):
+    """Builds these libraries of the repository, each once those below it stand. Answers 0, or the first status that isn't.
+
+    `hear` gets a crate's name and each line that its build prints; `weights` are the crates' guessed processor seconds."""
+    rtlib = kit()
+    crates = [it for it in rtlib.crates_below(root) if it.name in names and it.makes_rlib()]
+    held = rtlib.lock(crates)
+    behind = {}
+    for it in sorted(crates, key=lambda one: -len(one.below())):
+        behind[it.name] = weights[it.name] + max([behind[up.name] for up in crates if it in up.deps], default=0)
+    saying = threading.Lock()
+
+    def work(crate, jobs):
+        def say(line):
+            with saying:
+                hear(crate.name, line)
+
+        crate.out = Lines(say)
+        os.makedirs(f"{crate.folder}/out", exist_ok=True)
+        return crate.build_rlib(["--jobs", str(jobs)], anew=False)
+
+    left, running, ended, status = sorted(crates, key=lambda it: -behind[it.name]), {}, queue.Queue(), 0
+    memory = 0.85 * free()
+
+    def run(crate, jobs):
+        try:
+            ended.put((crate, work(crate, jobs)))
+        except SystemExit as stopped:
+            ended.put((crate, stopped.code or 1))
+
+    try:
+        while running or left and not status:
+            for crate in [it for it in left if not status]:
+                if any(below in left or below in running for below in crate.below()):
+                    continue
+                is_first = all(behind[crate.name] >= behind[it.name] for it in [*left, *running])
+                jobs = processors if is_first else min(2, processors)
+                needs = LEAST + PER_LINE * crate.count(rb"\n") + PER_JOB * (jobs - 1)
+                if len(running) < processors and (not running or needs <= memory - sum(running.values())):
+                    left.remove(crate)
+                    running[crate] = needs
+                    # a daemon, so that Ctrl-C waits for none of them: `rt` sees to it that what they started ends too
+                    threading.Thread(target=run, args=(crate, jobs), daemon=True).start()
+            crate, given = ended.get()
+            running.pop(crate)
+            status = status or given
+    finally:
+        for it in held:
+            os.close(it)
+    return status
