@@ -1,8 +1,8 @@
 """build.py PROGRAM: builds this proved program for ./run or ./hdl, and says how far it is: which crate, how much of it, and about how many
 minutes are left.
 
-The libraries below it are proved side by side (`lanes.py`), and then `rt run` proves and builds the program itself. Each proof is kept as it is
-made, so a break (Ctrl-C) loses little and the next start goes on from there."""
+The libraries below it are proved side by side (`lanes.py`, where it knows the kit), and then `rt run` proves and builds the program itself, and what
+isn't proved yet. Each proof is kept as it is made, so a break (Ctrl-C) loses little and the next start goes on from there."""
 
 import glob
 import os
@@ -136,11 +136,14 @@ def ran(words, folder, log, progress):
     """Runs a command that takes no input, keeps what it says in the log, and answers its status."""
     how = {"stdin": subprocess.DEVNULL, "stdout": subprocess.PIPE, "stderr": subprocess.STDOUT}
     child = subprocess.Popen(words, cwd=folder, text=True, errors="replace", **how)
+    crate = PROGRAM
     try:
         for line in child.stdout:
             log.write(line)
             log.flush()
-            progress.heard(PROGRAM, line)
+            began = re.match(r"rt: chose --jobs \d+ for (\w+)", line)
+            crate = began[1] if began else crate
+            progress.heard(crate, line)
         return child.wait()
     except KeyboardInterrupt:
         child.send_signal(signal.SIGINT)
@@ -174,9 +177,10 @@ def main():
     try:
         with open(LOG, "w", encoding="utf-8") as log:
             libraries = [crate for crate in left if crate != PROGRAM]
-            status = side_by_side(libraries, log, progress) if libraries else 0
+            status = side_by_side(libraries, log, progress) if libraries and lanes.knows_kit() else 0
             jobs = str(min(4, processors()))
-            status = status or ran(["rt", "run", "--jobs", jobs, "--", "--help"], f"crates/{PROGRAM}", log, progress)
+            words = ["rt", "run", "--jobs", jobs, "--backend", "rattle", "--", "--help"]
+            status = status or ran(words, f"crates/{PROGRAM}", log, progress)
     except KeyboardInterrupt:
         tell(f"stopped; the next ./{SCRIPT} goes on from here")
         return 130
@@ -184,6 +188,10 @@ def main():
     if status:
         tell(f"not proved or not built; what was said stands in {LOG}, and ends so:")
         print(*open(LOG, encoding="utf-8").read().splitlines()[-20:], sep="\n", file=sys.stderr)
+    elif lanes.knows_kit():
+        tell("built by Rattle's own compiler, which is sooner; LLVM builds it once more behind this start, and the next one runs that")
+        how = {"stdin": subprocess.DEVNULL, "stdout": subprocess.DEVNULL, "stderr": subprocess.DEVNULL}
+        subprocess.Popen(["nice", sys.executable, "tools/lanes.py", PROGRAM], start_new_session=True, **how)
     return status
 
 

@@ -1,12 +1,16 @@
 """The gate of a submission, from nothing: the definitions quoted in docs/ and the map, ./test, memory refused in turn, random scripts,
 the examples, answers that are none, the proxy for browsers, and what README shows.
 
-Its last line is 'N passed, M failed', the sum of what the parts' last lines count; its status is 0 only where nothing failed."""
+Before its last line it prints what each crate and each part took, in processor minutes, and names the crates that took more than docs/GATE.md
+allows them. Its last line is 'N passed, M failed', the sum of what the parts' last lines count; its status is 0 only where nothing failed."""
 
 import os
 import re
 import subprocess
 import sys
+import time
+
+import spent
 
 ROOT = os.path.dirname(os.path.dirname(os.path.abspath(__file__)))
 PAGES = ("tools/quotes.py", "tools/map.py")
@@ -35,12 +39,41 @@ def counted(words):
     return passed, max(failed, int(part.returncode != 0))
 
 
+def limits():
+    """The processor minutes that docs/GATE.md allows each crate: the last column of its table of crates."""
+    with open(os.path.join(ROOT, "docs/GATE.md"), encoding="utf-8") as page:
+        rows = [re.fullmatch(r"\| (\w+) \|.*\| ([\d.]+) \|", line.strip()) for line in page]
+    return {row[1]: float(row[2]) for row in rows if row}
+
+
+def told(by_place, by_part, minutes):
+    """Prints the budget: what each crate took by part, each part of the gate, and the whole."""
+    for line in spent.table(by_place):
+        print(line)
+    for words, seconds in by_part:
+        print("%-40s %8.1f" % (" ".join(words).replace(sys.executable, "python3"), seconds / 60))
+    for crate, limit in limits().items():
+        took = sum(seconds for (name, _), seconds in by_place.items() if name == crate) / 60
+        if took > limit:
+            print("note: %s took %.1f processor minutes, and docs/GATE.md allows it %.1f" % (crate, took, limit))
+    whole = sum(seconds for _, seconds in by_part) / 60
+    print("the whole took %.1f processor minutes, and %.1f minutes on the clock of %d processors" % (whole, minutes, len(os.sched_getaffinity(0))))
+
+
 def main():
+    began = time.monotonic()
     counts = [(0, int(subprocess.run([sys.executable, page], cwd=ROOT, check=False).returncode != 0)) for page in PAGES]
-    counts += [counted(words) for words in PARTS]
+    by_place, by_part = {}, []
+    for words in PARTS:
+        with spent.Spent() as part:
+            counts.append(counted(words))
+        by_place = by_place or part.by_place
+        by_part.append((words, part.seconds))
+    told(by_place, by_part, (time.monotonic() - began) / 60)
     passed, failed = (sum(column) for column in zip(*counts))
     print("%d passed, %d failed" % (passed, failed))
     return 1 if failed else 0
 
 
-sys.exit(main())
+if __name__ == "__main__":
+    sys.exit(main())

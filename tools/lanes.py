@@ -2,7 +2,11 @@
 
 `rt run` alone proves a crate at a time, and `rt lib` in several folders at once waits for locks; so this takes the locks once and builds each
 crate by `rt`'s own `build_rlib`, which keeps its work in out/ as `rt lib` does. The crate with the longest chain of crates behind it gets as many
-jobs as there are processors; the others get two and give way to it."""
+jobs as there are processors; the others get two and give way to it.
+
+`lanes.py PROGRAM` has LLVM compile a program that is proved, and puts it in the place of the one that Rattle's own compiler made.
+
+Both call inner parts of the kit, so this holds for the one version that it was tried with. With another one `rt run` does all."""
 
 import importlib.machinery
 import importlib.util
@@ -10,11 +14,20 @@ import os
 import queue
 import re
 import shutil
+import subprocess
 import sys
 import threading
+import traceback
 
+# The kit whose inner parts these are, as `rt version` says it.
+KIT = "rattle-kit-13b logic dac8208d650f15bf"
 # What a check of so many lines takes at most, in bytes, and what each job behind the first one takes.
 LEAST, PER_LINE, PER_JOB = 1_000_000_000, 1_000_000, 400_000_000
+
+
+def knows_kit():
+    """Whether the kit on the PATH is the one that this was written for."""
+    return subprocess.run(["rt", "version"], capture_output=True, text=True, check=False).stdout.strip() == KIT
 
 
 def kit():
@@ -77,6 +90,10 @@ def in_lanes(root, names, weights, processors, hear):
             ended.put((crate, work(crate, jobs)))
         except SystemExit as stopped:
             ended.put((crate, stopped.code or 1))
+        except Exception:  # whatever it is, the others must not wait for this crate
+            for line in traceback.format_exc().splitlines():
+                hear(crate.name, line)
+            ended.put((crate, 2))
 
     try:
         while running or left and not status:
@@ -98,3 +115,28 @@ def in_lanes(root, names, weights, processors, hear):
         for it in held:
             os.close(it)
     return status
+
+
+def compiled_by_llvm(root, name):
+    """Has LLVM compile a proved program, and puts it into its place, if its text is still what it was."""
+    rtlib = kit()
+    crate = rtlib.Crate(f"{root}/crates/{name}", root, {})
+    # its own lock alone: those below it are only read, and another program may be built over them meanwhile
+    held = rtlib.lock([crate])
+    text, made = crate.stamp(), f"out/{name}.by-llvm"
+    try:
+        status = crate.compile(["--jobs", "1", "--backend", "llvm"], f"{made}.o")
+        words = ["--target", "x86_64-unknown-linux-gnu", "--toolchain", f"{rtlib.KIT}/toolchain", "-o", made, f"{made}.o"]
+        words += [f"{rtlib.KIT}/c/libos_c.a", f"{rtlib.KIT}/c/liblibc_c.a"]
+        status = status or crate.call(f"{rtlib.KIT}/bin/rattle-link", *words)
+        if not status and crate.stamp() == text:
+            os.replace(f"{crate.folder}/{made}", f"{crate.folder}/out/{name}")
+        return status
+    finally:
+        for it in held:
+            os.close(it)
+
+
+if __name__ == "__main__":
+    os.chdir(os.path.dirname(os.path.dirname(os.path.abspath(__file__))))
+    sys.exit(compiled_by_llvm(os.getcwd(), sys.argv[1]))
