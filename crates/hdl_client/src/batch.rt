@@ -67,6 +67,14 @@ enum Landing {
     Challenge(Vec<u8>),
 }
 
+/// Takes the flight of the request with this number out of those under way.
+fn take_flight(flights: &mut Vec<Flight>, request: u32) -> Result<Flight, ClientFault> {
+    match flights.iter().position(|flight| flight.request == request) {
+        Some(place) => Ok(flights.remove(place)),
+        None => Err(ClientFault::OtherRequest),
+    }
+}
+
 impl<S: Read + Write> Session<S> {
     /// What the frame is to the flight that it answers.
     fn landing(
@@ -120,6 +128,23 @@ impl<S: Read + Write> Session<S> {
         Ok(next)
     }
 
+    /// Answers the challenge of a task.
+    fn redeem_in_flight(
+        &mut self,
+        flights: &mut Vec<Flight>,
+        task: usize,
+        session: u32,
+        answer: &[u8],
+    ) -> Result<(), ClientFault> {
+        let request = self.send_next(session, answer)?;
+        flights.push(Flight {
+            task,
+            request,
+            is_answer: true,
+        })?;
+        Ok(())
+    }
+
     /// Takes one frame, and answers the challenge or tells the outcome.
     fn land<O: Outcomes>(
         &mut self,
@@ -129,11 +154,7 @@ impl<S: Read + Write> Session<S> {
     ) -> Result<(), ClientFault> {
         let octets = receive(self.alloc, &mut self.stream)?;
         let frame = whole(&octets)?;
-        let request = frame.envelope.request;
-        let Some(place) = flights.iter().position(|flight| flight.request == request) else {
-            return Err(ClientFault::OtherRequest);
-        };
-        let flight = flights.remove(place);
+        let flight = take_flight(flights, frame.envelope.request)?;
         match self.landing(batch, &flight, &frame)? {
             Landing::Done(code) => {
                 if let Some(task) = batch.tasks.get(flight.task) {
@@ -141,12 +162,7 @@ impl<S: Read + Write> Session<S> {
                 }
             }
             Landing::Challenge(answer) => {
-                let request = self.send_next(frame.envelope.session, &answer)?;
-                flights.push(Flight {
-                    task: flight.task,
-                    request,
-                    is_answer: true,
-                })?;
+                self.redeem_in_flight(flights, flight.task, frame.envelope.session, &answer)?;
             }
         }
         Ok(())

@@ -83,6 +83,21 @@ fn is_digest_of(request_digest: &Digest, message: &[u8]) -> bool
     digest(request_digest.algorithm(), signed_part(message)) == *request_digest
 }
 
+/// The message of the response by a key to the challenge with this nonce, of the request with this digest.
+fn response_message(
+    alloc: Global,
+    key: &Key,
+    nonce: &[u8; 16],
+    request_digest: &Digest,
+) -> Result<Vec<u8>, ClientFault>
+    ensures octets { IfOk result (λ v. v.items ≡ requests.request_message plain_header (response_of key.now nonce.now request_digest.now)) }
+    ensures short { IfOk result (λ v. length v.items ≤ MESSAGE_MAX) }
+    ensures refused { IfErr result (λ e. e ≢ OtherChallenge) }
+{
+    let body = challenge_response(alloc, key, nonce, request_digest)?;
+    request_message(alloc, &body)
+}
+
 /// The message that answers a challenge of the request with this message; None where the reply is no challenge. A challenge whose
 /// digest isn't that of the request is refused, since who answers it would sign another request.
 pub fn challenge_answer(
@@ -103,7 +118,6 @@ pub fn challenge_answer(
     if !is_digest_of(request_digest, message) {
         return Err(ClientFault::OtherChallenge);
     }
-    let body = challenge_response(alloc, key, nonce, request_digest)?;
-    let answer = request_message(alloc, &body)?;
+    let answer = response_message(alloc, key, nonce, request_digest)?;
     Ok(Some(answer))
 }

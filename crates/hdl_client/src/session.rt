@@ -63,11 +63,15 @@ impl<S: Read + Write> Session<S> {
     pub fn ask(&mut self, body: &RequestBody, key: Option<&Key>) -> Result<Vec<u8>, ClientFault> {
         let message = request_message(self.alloc, body)?;
         let octets = self.exchange_within(0, &message)?;
-        let Some(answer) = self.answer(key, &message, &octets)? else {
-            return Ok(octets);
-        };
-        let session = whole(&octets)?.envelope.session;
-        let octets = self.exchange_within(session, &answer)?;
+        match self.answer(key, &message, &octets)? {
+            Some(answer) => self.redeem(whole(&octets)?.envelope.session, &answer),
+            None => Ok(octets),
+        }
+    }
+
+    /// Sends the answer to a challenge, and takes the reply.
+    fn redeem(&mut self, session: u32, answer: &[u8]) -> Result<Vec<u8>, ClientFault> {
+        let octets = self.exchange_within(session, answer)?;
         match read_reply(whole(&octets)?.payload()) {
             Ok(_) => Ok(octets),
             Err(_) => Err(ClientFault::NoReply),
