@@ -13,6 +13,8 @@ import sys
 import threading
 import time
 
+# nothing is left beside the tools
+sys.dont_write_bytecode = True
 import lanes
 
 PROGRAM = sys.argv[1]

@@ -10,6 +10,8 @@ import subprocess
 import sys
 import time
 
+# nothing is left beside the tools
+sys.dont_write_bytecode = True
 import spent
 
 ROOT = os.path.dirname(os.path.dirname(os.path.abspath(__file__)))
