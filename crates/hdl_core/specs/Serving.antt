@@ -57,6 +57,10 @@ abbrev pub sent_of : Heard → List ℕ
 sent_of (Answered octets) = octets
 sent_of (Challenged octets digest) = octets
 
+-- the challenge of a request of this algorithm under this number
+abbrev pub challenge_of_request : Algorithm → Letter → ℕ → Content → Heard
+challenge_of_request a m next r = Challenged (challenge_octets a next m.envelope r m.nonce) (digest_of a r)
+
 -- a request of this algorithm is decided for anyone: it is answered, or challenged under the lane's next number
 abbrev pub IsAsked : (List ℕ → Bool) → Algorithm → Table → Letter → ℕ → Content → Heard → Table → Type 0
 IsAsked hosts a t m next r (Answered octets) t' =

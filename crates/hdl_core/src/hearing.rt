@@ -4,10 +4,9 @@ ghost use Rattle.std.specs.Prelude.{◌≡◌, ◌<◌, ℕ, List, length, IfOk,
 ghost use Rattle.hdl_msg.specs.ReplyView.{IsReplyFrame};
 ghost use Rattle.hdl_cache.specs.Kept.{AreTrue};
 ghost use Rattle.hdl_ops.specs.Admission.{request_algorithm};
-ghost use Rattle.hdl_ops.specs.Replies.{digest_of};
 ghost use Rattle.hdl_ops.specs.Views.{algorithms_by, hosted_by, response_view};
-ghost use Rattle.hdl_laws.specs.Worlds.{challenge_octets, is_late};
-ghost use Rattle.hdl_core.specs.Serving.{letter_of, sent_of, HasItsCode, IsAsked, IsRedeemed, RespondsAt, HearsAt};
+ghost use Rattle.hdl_laws.specs.Worlds.{is_late};
+ghost use Rattle.hdl_core.specs.Serving.{challenge_of_request, letter_of, sent_of, HasItsCode, IsAsked, IsRedeemed, RespondsAt, HearsAt};
 
 use crate::answering::{answer, malformed, tell};
 use crate::lanes::Lanes;
@@ -37,10 +36,9 @@ fn challenge(
     asked: &Asked<'_>,
     letter: &Letter,
     next: u32,
-) -> Result<(Octets, Digest), Refused>
-    ensures octets { IfOk result (λ sent. sent.0 ≡ challenge_octets asked.now.algorithm next letter.now.envelope asked.now.request.now letter.now.nonce) }
-    ensures digest { IfOk result (λ sent. sent.1 ≡ digest_of asked.now.algorithm asked.now.request.now) }
-    ensures read { IfOk result (λ sent. IsReplyFrame sent.0) }
+) -> Result<Heard, Refused>
+    ensures challenged { IfOk result (λ heard. heard ≡ challenge_of_request asked.now.algorithm letter.now next asked.now.request.now) }
+    ensures read { IfOk result (λ heard. IsReplyFrame (sent_of heard)) }
 {
     let envelope = Envelope {
         session: next,
@@ -50,7 +48,7 @@ fn challenge(
         return Err(Refused);
     };
     let (octets, digest) = sent;
-    Ok((Octets::new(octets), digest))
+    Ok(Heard::Challenged(Octets::new(octets), digest))
 }
 
 /// Decides a request for anyone. A challenge gets the lane's next number.
@@ -72,9 +70,7 @@ fn ask<R: Rows>(
     let asked = Asked { algorithm, request };
     let decision = decide(owner, &asked, rows, masks, &Level::Anyone)?;
     if decision.code == ResponseCode::AuthenticationNeeded {
-        let sent = challenge(owner.alloc, &asked, letter, next)?;
-        let (octets, digest) = sent;
-        return Ok(Heard::Challenged(octets, digest));
+        return challenge(owner.alloc, &asked, letter, next);
     }
     let octets = answer(owner.alloc, &asked, rows, masks, letter, decision)?;
     Ok(Heard::Answered(octets))

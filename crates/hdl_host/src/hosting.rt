@@ -28,13 +28,15 @@ pub struct Place {
     pub lanes: u16,
 }
 
-/// What is there before anything is served: every lane, every socket, and the lines that tell where they are.
+/// What is there before anything is served: every lane, every socket, the lines that tell where they are, and how many turns each
+/// worker and the service have.
 #[derive(Drop)]
 struct Ready {
     ends: Vec<LaneEnds>,
     far: Vec<Far>,
     places: Vec<Place>,
     lines: String,
+    turns: u64,
     ghost distinct: { AreDistinct ends.items },
 }
 
@@ -88,6 +90,7 @@ fn ready_for<R: Net<Listener = TcpListener, Stream = TcpStream>>(
     rt: &R,
     alloc: Global,
     tenants: &Tenants,
+    turns: u64,
 ) -> Result<Ready, Fault> {
     let (ends, far) = lanes_of(alloc, tenants.lanes(), RING)?;
     let (places, lines) = places_of(rt, alloc, tenants)?;
@@ -96,6 +99,7 @@ fn ready_for<R: Net<Listener = TcpListener, Stream = TcpStream>>(
         far,
         places,
         lines,
+        turns,
     })
 }
 
@@ -120,12 +124,12 @@ fn served<R: Threads + Clock + RandomSource + Copy + Send + Drop + 'static, S: S
     alloc: Global,
     service: S,
     ready: Ready,
-    turns: u64,
 ) -> Result<(), Fault> {
     let Ready {
         ends,
         far,
         places,
+        turns,
         ..
     } = ready;
     let lanes = u16::try_from(ends.len()).unwrap_or(u16::MAX);
@@ -153,11 +157,10 @@ fn tell_and_serve<
     alloc: Global,
     service: S,
     ready: Ready,
-    turns: u64,
     output: &mut W,
 ) -> Result<(), Fault> {
     put_all(output, ready.lines.as_bytes())?;
-    served(rt, alloc, service, ready, turns)
+    served(rt, alloc, service, ready)
 }
 
 /// Opens the service of the tenants over an empty table, tells where it listens, and serves.
@@ -171,13 +174,12 @@ fn open_and_serve<
     rows: T,
     tenants: Tenants,
     ready: Ready,
-    turns: u64,
     output: &mut W,
 ) -> Result<(), Fault>
     requires empty { T.content rows ≡ no_rows }
 {
     let service = Service::open(alloc, tenants, rows)?;
-    tell_and_serve(rt, alloc, service, ready, turns, output)
+    tell_and_serve(rt, alloc, service, ready, output)
 }
 
 /// Serves the tenants of the text over an empty table. The lines that tell where are written once all sockets listen, and before
@@ -200,8 +202,8 @@ pub fn hosted<
     requires empty { T.content rows ≡ no_rows }
 {
     let tenants = tenants_of(alloc, text)?;
-    let ready = ready_for(rt, alloc, &tenants)?;
-    open_and_serve(rt, alloc, rows, tenants, ready, turns, output)
+    let ready = ready_for(rt, alloc, &tenants, turns)?;
+    open_and_serve(rt, alloc, rows, tenants, ready, output)
 }
 
 /// Serves the tenants of the text over TCP and UDP on loopback, over an empty table, until each worker ended or the turns are

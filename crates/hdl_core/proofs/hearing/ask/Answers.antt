@@ -1,24 +1,34 @@
-use Rattle.std.proofs.Common.{◌≡◌, ◌==◌, true, false, ◌∙◌, ap, subst, rules}
+use Rattle.std.proofs.Common.{◌≡◌, ◌==◌, true, false, refl, sym, ◌∙◌, ap, subst, rules}
 use Rattle.hdl_msg.specs.Codes.{response_number}
 use Rattle.hdl_ops.proofs.Announced.{answer_announced_lem}
 use Rattle.hdl_ops.specs.Decisions.{Decides, Anyone}
-use Rattle.hdl_ops.specs.Replies.{digest_of}
 use Rattle.hdl_ops.specs.Tables.{apply_if}
-use Rattle.hdl_ops.specs.Views.{decision_of, hosted_by}
-use Rattle.hdl_laws.specs.Worlds.{answer_octets, challenge_octets}
+use Rattle.hdl_ops.specs.Admission.{request_algorithm}
+use Rattle.hdl_ops.specs.Views.{algorithms_by, decision_of, hosted_by}
+use Rattle.hdl_laws.specs.Worlds.{answer_octets}
+use Rattle.hdl_core.specs.Serving.{challenge_of_request, IsAsked}
+use Rattle.hdl_core.specs.declared.hearing.Heard.{Heard}
+use Rattle.hdl_core.proofs.Heard.{on_ok}
 use Rattle.hdl_core.proofs.hearing.ask.Goals as goal
 
 pub returns-then-eq-clause-asked : goal.returns-then-eq-clause-asked
 returns-then-eq-clause-asked g c =
     let r = c.args.request.now in
-    let needed : (response_number c.in_ok-decision.decision.code == 402) ≡ true = search rules in (
+    let m = c.args.letter.now in
+    let hosts = hosted_by c.args.owner.now in
+    let a = request_algorithm (algorithms_by c.args.owner.now) r in
+    let t = g.R.Rows.content c.args.rows.now in
+    let needed : (response_number c.in_ok-decision.decision.code == 402) ≡ true = search rules in
+    on_ok c.challenge.result _ _
+    (λ heard is. subst (λ (h : Heard). IsAsked hosts a t m c.args.next r h (g.R.Rows.content c.decide.new.rows)) (sym (is ∙ ap (λ b. challenge_of_request b m c.args.next r) c.in_ok-algorithm.ensures)) (
       decision_of c.in_ok-decision.decision,
-      subst (λ a. Decides (hosted_by c.args.owner.now) a (g.R.Rows.content c.args.rows.now) r Anyone (decision_of c.in_ok-decision.decision)) c.in_ok-algorithm.ensures c.in_ok-decision.ensures.decided,
+      subst (λ b. Decides hosts b t r Anyone (decision_of c.in_ok-decision.decision)) c.in_ok-algorithm.ensures c.in_ok-decision.ensures.decided,
       needed,
-      c.in_ok-sent.ensures.octets ∙ ap (λ a. challenge_octets a c.args.next c.args.letter.now.envelope r c.args.letter.now.nonce) c.in_ok-algorithm.ensures,
-      c.in_ok-sent.ensures.digest ∙ ap (λ a. digest_of a r) c.in_ok-algorithm.ensures,
+      refl,
+      refl,
       c.decide.ensures.unchanged,
-    )
+    ))
+    c.challenge.ensures.challenged
 
 pub returns-clause-asked : goal.returns-clause-asked
 returns-clause-asked g c =
