@@ -11,18 +11,23 @@
 //! twice here, the reading of the script too, so what is printed is the same whichever one request for memory is refused:
 //! `tools/refuse-memory` refuses each in turn. On standard error stands what a refusal came to: `busy`, `early`, or the fault of an opening.
 //!
+//! `lane NAME.script`: one script event by event through a lane and `serve`. `lanes`: rings by themselves, and each text of the folder that goes
+//! through lanes, in the order of the names ([`lanes`]). What they tell is printed. A text that isn't one ends the run.
+//!
 //! Scripts are data and not tests, since a test is proved: here a few functions are, however many scripts there are.
 #![tactic(auto)]
 
 ghost use Rattle.std.specs.Prelude.{◌≡◌, ◌≢◌, IsNone, IsSome};
 ghost use Rattle.hdl_rows.specs.Table.{no_rows};
 
+mod lanes;
 mod play;
 mod row;
 
 use hdl_replay::replay;
 use hdl_rows::{PlainRows, Rows};
 use hdl_sqlrows::SqlRows;
+use lanes::{print_rings, print_text};
 use play::{Ending, Table, each_call, play};
 use row::row_of;
 use std::alloc::Global;
@@ -33,12 +38,13 @@ use std::{fs, io};
 /// The most octets of standard input, which take no memory.
 const ROOM: usize = 4096;
 
-/// The names of the scripts in the folder, in order.
-fn names(rt: &HostRuntime, folder: &str) -> io::Result<Vec<String>> {
+/// The names of the files in the folder that have one of these endings, in order.
+fn files(rt: &HostRuntime, endings: &[&str]) -> io::Result<Vec<String>> {
     let mut names = Vec::new(rt.alloc());
-    for entry in fs::read_dir(rt, folder)? {
+    for entry in fs::read_dir(rt, ".")? {
         let entry = entry?;
-        if let Some(name) = entry.file_name().strip_suffix(".script") {
+        let name = entry.file_name();
+        if endings.iter().any(|ending| name.ends_with(*ending)) {
             names.push(String::from_str(rt.alloc(), name)?)?;
         }
     }
@@ -148,10 +154,37 @@ fn read_all(rt: &HostRuntime, room: &mut [u8]) -> io::Result<usize> {
 /// Runs each script of the folder over both tables.
 fn all_compared(rt: &HostRuntime) -> io::Result<bool> {
     let mut all = true;
-    for name in &names(rt, ".")? {
-        all &= compared(rt, name.as_str())?;
+    for file in &files(rt, &[".script"])? {
+        if let Some(name) = file.strip_suffix(".script") {
+            all &= compared(rt, name)?;
+        }
     }
     Ok(all)
+}
+
+/// Prints what rings tell, and each text of the folder that goes through lanes.
+fn print_lanes(rt: &HostRuntime) -> io::Result<()> {
+    print_rings(rt)?;
+    for file in &files(rt, &[".lanes", ".doors"])? {
+        print_text(rt, file.as_str())?;
+    }
+    Ok(())
+}
+
+/// Runs what a line of standard input says, and tells whether all came as expected. What goes through lanes is compared by who reads it.
+fn run_line(rt: &HostRuntime, line: &str) -> io::Result<bool> {
+    match line.split_once(' ') {
+        None if line == "scripts" => all_compared(rt),
+        None if line == "lanes" => {
+            print_lanes(rt)?;
+            Ok(true)
+        }
+        Some(("lane", name)) => {
+            print_text(rt, name)?;
+            Ok(true)
+        }
+        _ => printed(rt, line),
+    }
 }
 
 fn main(rt: HostRuntime) -> io::Result<ExitCode> {
@@ -162,11 +195,7 @@ fn main(rt: HostRuntime) -> io::Result<ExitCode> {
     };
     let mut all = true;
     for line in text.lines() {
-        all &= if line == "scripts" {
-            all_compared(&rt)?
-        } else {
-            printed(&rt, line)?
-        };
+        all &= run_line(&rt, line)?;
     }
     Ok(if all {
         ExitCode::SUCCESS

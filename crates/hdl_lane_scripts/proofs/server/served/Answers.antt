@@ -1,8 +1,0 @@
-use Rattle.hdl_lane_scripts.proofs.Same.{served_each}
-use Rattle.hdl_lane_scripts.proofs.server.served.Goals as goal
-
-pub returns : goal.returns
-returns c = record {
-  distinct = c.serve-served.ensures.distinct;
-  same = served_each _ _ _ _ _ c.serve-served.ensures.served;
-}

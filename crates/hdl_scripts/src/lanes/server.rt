@@ -1,0 +1,96 @@
+//! What serves lanes' ends, by whoever calls. All but [`Held`] is generic over it: no other function owns a service.
+
+ghost use Rattle.std.specs.Prelude.{All, List};
+ghost use Rattle.hdl_workers.specs.declared.ends.LaneEnds.{LaneEnds};
+ghost use Rattle.hdl_workers.specs.Ends.{AreDistinct};
+ghost use Rattle.hdl_scripts.specs.Same.{IsEach};
+
+use crate::lanes::words::bad;
+use hdl_core::{Service, Tenants};
+use hdl_rows::PlainRows;
+use hdl_serve::{Clock, LaneEnds, Served, serve};
+use std::alloc::Global;
+use std::{io, mem};
+
+/// A service that is opened, and serves lanes.
+pub trait Serving {
+    /// Opens the service of a tenants text over an empty table, in place of the one before.
+    fn open(&mut self, tenants: &str) -> io::Result<()>;
+
+    /// Serves so many turns, and answers how many of them served nothing. The lanes stay the same.
+    fn serve(&mut self, lanes: &mut Vec<LaneEnds>, turns: u64) -> u64
+        requires { AreDistinct lanes.old.items }
+        ensures distinct { AreDistinct lanes.new.items }
+        ensures same { (firsts : List LaneEnds) → All (IsEach firsts) lanes.old.items → All (IsEach firsts) lanes.new.items };
+}
+
+/// A clock that stands at 1000 and counts its pauses.
+#[derive(Drop)]
+pub struct Pauses {
+    pub count: u64,
+}
+
+impl Clock for Pauses {
+    ghost use Rattle.std.specs.Prelude.{false, []};
+
+    ghost tells = { false };
+
+    ghost answers = { λ _. [] };
+
+    fn now(&mut self) -> u64 {
+        1000
+    }
+
+    fn pause(&mut self) {
+        self.count = self.count.saturating_add(1);
+    }
+}
+
+/// A service, once it was opened.
+#[derive(Drop)]
+pub struct Held {
+    pub alloc: Global,
+    pub service: Option<Service<PlainRows>>,
+}
+
+/// Serves lanes, which stay the same, and counts the pauses.
+fn served(
+    alloc: Global,
+    service: Service<PlainRows>,
+    lanes: Vec<LaneEnds>,
+    turns: u64,
+) -> (Served<PlainRows>, u64)
+    requires { AreDistinct lanes.items }
+    ensures distinct { AreDistinct result.0.lanes.items }
+    ensures same { (firsts : List LaneEnds) → All (IsEach firsts) lanes.items → All (IsEach firsts) result.0.lanes.items }
+{
+    let mut clock = Pauses { count: 0 };
+    let served = serve(alloc, service, lanes, &mut clock, turns);
+    (served, clock.count)
+}
+
+impl Serving for Held {
+    fn open(&mut self, tenants: &str) -> io::Result<()> {
+        let Ok(tenants) = Tenants::read(self.alloc, tenants) else {
+            return Err(bad());
+        };
+        self.service = Service::open(self.alloc, tenants, PlainRows::new(self.alloc)).ok();
+        Ok(())
+    }
+
+    fn serve(&mut self, lanes: &mut Vec<LaneEnds>, turns: u64) -> u64 {
+        let Some(service) = self.service.take() else {
+            return turns;
+        };
+        let ends = mem::replace(lanes, Vec::new(self.alloc));
+        let (served, pauses) = served(self.alloc, service, ends, turns);
+        let Served {
+            service,
+            lanes: ends,
+            kept: _,
+        } = served;
+        *lanes = ends;
+        self.service = Some(service);
+        pauses
+    }
+}
