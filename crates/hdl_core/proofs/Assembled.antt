@@ -18,7 +18,7 @@ use Rattle.hdl_ops.specs.Requests.{Response, response_of}
 use Rattle.hdl_slots.specs.declared.pending.Pending.{Pending}
 use Rattle.hdl_slots.specs.Lanes.{challenge_of}
 use Rattle.hdl_msg.specs.declared.replies.ReplyContent.TheVariants.{Empty}
-use Rattle.hdl_laws.specs.declared.events.Outcome.TheVariants.{Reply, Silent}
+use Rattle.hdl_events.specs.declared.Outcome.TheVariants.{Reply, Silent}
 use Rattle.hdl_laws.specs.Lanes.{LaneState, fresh, with_partials}
 use Rattle.hdl_laws.specs.Worlds as worlds
 use Rattle.hdl_laws.specs.Worlds.{Received, Effect, Task, Ignore, Malformed, Unknown, Late, Ask, Redeem, is_late, redeemed, redeem_task, answer_effect, challenge_effect, ask_effect, IsReading, IsResponseTask, IsRequestTask, IsMessageTask, IsLetterTask, IsWholeTask, Does}

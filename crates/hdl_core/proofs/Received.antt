@@ -10,10 +10,10 @@ use Rattle.hdl_msg.specs.Reply.{reply_envelope, short_reply}
 use Rattle.hdl_msg.specs.ReplyView.{IsReplyFrame}
 use Rattle.hdl_msg.proofs.ReplyReadings.{short_reply_read}
 use Rattle.hdl_rows.specs.Table.{Table}
-use Rattle.hdl_laws.specs.declared.events.What.{What}
-use Rattle.hdl_laws.specs.declared.events.What.TheVariants.{Open, Bad, Close}
-use Rattle.hdl_laws.specs.declared.events.Outcome.{Outcome}
-use Rattle.hdl_laws.specs.declared.events.Outcome.TheVariants.{Reply, Busy, Silent, CloseAfter}
+use Rattle.hdl_events.specs.declared.What.{What}
+use Rattle.hdl_events.specs.declared.What.TheVariants.{Open, Bad, Close}
+use Rattle.hdl_events.specs.declared.Outcome.{Outcome}
+use Rattle.hdl_events.specs.declared.Outcome.TheVariants.{Reply, Busy, Silent, CloseAfter}
 use Rattle.hdl_laws.specs.Lanes.{LaneState, fresh}
 use Rattle.hdl_laws.specs.Told.{IsReadable}
 use Rattle.hdl_laws.specs.Worlds as worlds

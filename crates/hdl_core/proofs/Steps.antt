@@ -6,9 +6,9 @@ use Rattle.hdl_msg.specs.Reply.{short_reply}
 use Rattle.hdl_rows.specs.Table.{Table}
 use Rattle.hdl_tenants.specs.Register.{Register}
 use Rattle.hdl_tenants.specs.Register as register
-use Rattle.hdl_laws.specs.declared.events.Event.{Event}
-use Rattle.hdl_laws.specs.declared.events.Outcome.{Outcome}
-use Rattle.hdl_laws.specs.declared.events.Outcome.TheVariants.{Busy, Silent}
+use Rattle.hdl_events.specs.declared.Event.{Event}
+use Rattle.hdl_events.specs.declared.Outcome.{Outcome}
+use Rattle.hdl_events.specs.declared.Outcome.TheVariants.{Busy, Silent}
 use Rattle.hdl_laws.specs.Lanes.{LaneState, fresh}
 use Rattle.std.specs.Prelude.{IsFalse}
 use Rattle.hdl_laws.specs.Laws.{JoinsRuns, HostsNoRoot}

@@ -20,9 +20,9 @@ use Rattle.hdl_slots.specs.declared.pending.Pending.{Pending}
 use Rattle.hdl_slots.specs.Lanes.{challenge_of}
 use Rattle.hdl_ops.specs.Replies.{digest_of, reply_to}
 use Rattle.hdl_ops.specs.Tables.{apply_if}
-use Rattle.hdl_laws.specs.declared.events.What.{What}
-use Rattle.hdl_laws.specs.declared.events.Outcome.{Outcome}
-use Rattle.hdl_laws.specs.declared.events.Outcome.TheVariants.{Reply, Busy, Silent}
+use Rattle.hdl_events.specs.declared.What.{What}
+use Rattle.hdl_events.specs.declared.Outcome.{Outcome}
+use Rattle.hdl_events.specs.declared.Outcome.TheVariants.{Reply, Busy, Silent}
 use Rattle.hdl_laws.specs.Worlds as worlds
 use Rattle.hdl_laws.specs.Worlds.{answer_octets, challenge_octets, Effect, Task, IsReading, redeemed, redeem_task, IsResponseTask, IsTask, IsLetterTask, IsPieceTask, IsOctetsTask, Does, Received, arrived, moment_of}
 use Rattle.hdl_laws.specs.Lanes.{LaneState}

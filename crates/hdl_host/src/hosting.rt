@@ -1,8 +1,8 @@
 //! Listening, and the service on the calling thread.
 
-ghost use Rattle.std.specs.Prelude.{◌≡◌, IfOk};
+ghost use Rattle.std.specs.Prelude.{◌≡◌};
 ghost use Rattle.hdl_rows.specs.Table.{no_rows};
-ghost use Rattle.hdl_serve.specs.Served.{AreDistinct};
+ghost use Rattle.hdl_workers.specs.Ends.{AreDistinct};
 
 use crate::clock::MachineClock;
 use crate::workers::{join_all, start};
@@ -35,6 +35,7 @@ struct Ready {
     far: Vec<Far>,
     places: Vec<Place>,
     lines: String,
+    ghost distinct: { AreDistinct ends.items },
 }
 
 /// What the machine doesn't give is a device fault.
@@ -87,9 +88,7 @@ fn ready_for<R: Net<Listener = TcpListener, Stream = TcpStream>>(
     rt: &R,
     alloc: Global,
     tenants: &Tenants,
-) -> Result<Ready, Fault>
-    ensures distinct { IfOk result (λ ready. AreDistinct ready.ends.items) }
-{
+) -> Result<Ready, Fault> {
     let (ends, far) = lanes_of(alloc, tenants.lanes(), RING)?;
     let (places, lines) = places_of(rt, alloc, tenants)?;
     Ok(Ready {
@@ -122,9 +121,7 @@ fn served<R: Threads + Clock + RandomSource + Copy + Send + Drop + 'static, S: S
     service: S,
     ready: Ready,
     turns: u64,
-) -> Result<(), Fault>
-    requires distinct { AreDistinct ready.ends.items }
-{
+) -> Result<(), Fault> {
     let Ready {
         ends,
         far,
@@ -151,9 +148,14 @@ fn tell_and_serve<
     R: Threads + Clock + RandomSource + Copy + Send + Drop + 'static,
     S: Serving + Drop,
     W: Write,
->(rt: &R, alloc: Global, service: S, ready: Ready, turns: u64, output: &mut W) -> Result<(), Fault>
-    requires distinct { AreDistinct ready.ends.items }
-{
+>(
+    rt: &R,
+    alloc: Global,
+    service: S,
+    ready: Ready,
+    turns: u64,
+    output: &mut W,
+) -> Result<(), Fault> {
     put_all(output, ready.lines.as_bytes())?;
     served(rt, alloc, service, ready, turns)
 }
@@ -173,7 +175,6 @@ fn open_and_serve<
     output: &mut W,
 ) -> Result<(), Fault>
     requires empty { T.content rows ≡ no_rows }
-    requires distinct { AreDistinct ready.ends.items }
 {
     let service = Service::open(alloc, tenants, rows)?;
     tell_and_serve(rt, alloc, service, ready, turns, output)

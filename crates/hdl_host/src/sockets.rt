@@ -1,7 +1,6 @@
 //! The machine's sockets and random numbers as doors and nonces. They tell nothing.
 
-use hdl_limits::PEERS_MAX;
-use hdl_serve::{Door, DoorFault, Nonces, Packets};
+use hdl_serve::{Door, DoorFault, Nonces, Packets, Peers};
 use rand::RngExt;
 use rand::rngs::StdRng;
 use std::io::{ErrorKind, Read, Write};
@@ -44,7 +43,7 @@ impl<R> SocketDoor<R> {
 
 impl<R: std::rt::Clock> Door for SocketDoor<R> {
     ghost use Rattle.std.specs.Prelude.{false, true, []};
-    ghost use Rattle.hdl_serve.specs.Door.{fresh};
+    ghost use Rattle.hdl_workers.specs.Door.{fresh};
 
     ghost tells = { false };
 
@@ -107,32 +106,17 @@ impl<R: std::rt::Clock> Door for SocketDoor<R> {
 #[derive(Drop)]
 pub struct SocketPackets {
     socket: UdpSocket,
-    peers: Vec<SocketAddr>,
+    peers: Peers<SocketAddr>,
     faults: u64,
 }
 
 impl SocketPackets {
-    ghost use Rattle.std.specs.Prelude.{◌≡◌};
-
-    pub fn new(socket: UdpSocket, peers: Vec<SocketAddr>) -> SocketPackets {
+    pub fn new(socket: UdpSocket, peers: Peers<SocketAddr>) -> SocketPackets {
         SocketPackets {
             socket,
             peers,
             faults: 0,
         }
-    }
-
-    /// The number of a peer, if it has one or gets one.
-    fn number(&mut self, peer: SocketAddr) -> Option<u16>
-        ensures { self.new.faults ≡ self.old.faults }
-    {
-        if let Some(at) = self.peers.iter().position(|known| *known == peer) {
-            return u16::try_from(at + 1).ok();
-        }
-        if self.peers.len() >= PEERS_MAX || self.peers.push(peer).is_err() {
-            return None;
-        }
-        u16::try_from(self.peers.len()).ok()
     }
 }
 
@@ -149,11 +133,10 @@ impl Packets for SocketPackets {
 
     fn receive(&mut self, buffer: &mut [u8]) -> Result<Option<(u16, usize)>, DoorFault> {
         match self.socket.recv_from(buffer) {
-            Ok((length, from)) => Ok(
-                self.number(from)
-                    .filter(|peer| 0 < *peer && *peer as usize <= PEERS_MAX)
-                    .map(|peer| (peer, length)),
-            ),
+            Ok((length, from)) => match self.peers.number(from) {
+                Ok(Some(peer)) => Ok(Some((peer, length))),
+                Ok(None) | Err(_) => Ok(None),
+            },
             Err(e) if nothing_came(e.kind()) => Ok(None),
             Err(_) => {
                 self.faults = self.faults.saturating_add(1);
@@ -163,8 +146,8 @@ impl Packets for SocketPackets {
     }
 
     fn send(&mut self, peer: u16, octets: &[u8]) -> Result<(), DoorFault> {
-        if let Some(to) = self.peers.get((peer as usize).saturating_sub(1)) {
-            if self.socket.send_to(octets, *to).is_ok() {
+        if let Some(to) = self.peers.address(peer) {
+            if self.socket.send_to(octets, to).is_ok() {
                 return Ok(());
             }
         }

@@ -2,7 +2,7 @@
 
 ghost use Rattle.std.specs.Prelude.{◌≡◌, []};
 ghost use Rattle.hdl_lanes.specs.Lane.{put_into, taken_from};
-ghost use Rattle.hdl_serve.specs.Served.{AreDistinct};
+ghost use Rattle.hdl_workers.specs.Ends.{AreDistinct};
 
 use crate::tests::{FRAME, REPLY, TENANTS};
 use hdl_core::{Service, Tenants};
@@ -41,7 +41,7 @@ struct Paired<D> {
 
 impl<D: Door> Door for Paired<D> {
     ghost use Rattle.std.specs.Prelude.{false, []};
-    ghost use Rattle.hdl_serve.specs.Door.{fresh};
+    ghost use Rattle.hdl_workers.specs.Door.{fresh};
 
     ghost tells = { false };
 

@@ -7,7 +7,7 @@ use crate::clock::MachineClock;
 use crate::hosting::{Place, had};
 use crate::sockets::{MachineNonces, SocketDoor, SocketPackets};
 use hdl_replay::Fault;
-use hdl_serve::{Far, Why, WorkerEnd, packet_worker, stream_worker};
+use hdl_serve::{Far, Peers, Why, WorkerEnd, packet_worker, stream_worker};
 use rand::make_rng;
 use std::alloc::Global;
 use std::net::{TcpListener, UdpSocket};
@@ -69,7 +69,7 @@ fn start_packets<R: Threads + Clock + RandomSource + Copy + Send + Drop + 'stati
         move ||
             requires { (put_into inlet ≡ []) × (taken_from outcomes ≡ []) }
         {
-            let mut packets = SocketPackets::new(socket, Vec::new(alloc));
+            let mut packets = SocketPackets::new(socket, Peers::new(alloc));
             let mut clock = MachineClock::new(theirs, 1);
             let mut nonces = MachineNonces::new(rng);
             packet_worker(

@@ -2,19 +2,20 @@
 use Rattle.std.proofs.Common.{◌≡◌, List, [], ◌∷◌, All, length, get_or, sym, subst, refl, ◌∙◌, arith}
 use Rattle.std.specs.List.{AllZip}
 use Rattle.std.proofs.lemmas.List.Elements.{All-nil, All-cons, All-head, All-tail}
-use Rattle.hdl_laws.specs.declared.events.Event.{Event}
-use Rattle.hdl_laws.specs.declared.events.Outcome.{Outcome}
-use Rattle.hdl_lanes.specs.Lane.{AreEnds, AreEnded, IsEndOf, SameInlet, SameOutlet}
+use Rattle.hdl_events.specs.declared.Event.{Event}
+use Rattle.hdl_events.specs.declared.Outcome.{Outcome}
+use Rattle.hdl_lanes.specs.Lane.{AreEnds, SameOutlet}
 use Rattle.hdl_lanes.specs.declared.Inlet.{Inlet}
-use Rattle.hdl_lanes.specs.declared.Ended.{Ended}
 use Rattle.hdl_lanes.specs.declared.outlet.Outlet.{Outlet}
-use Rattle.hdl_serve.specs.Joined.{EndsLane}
-use Rattle.hdl_serve.specs.declared.item.Item.{Item}
-use Rattle.hdl_serve.specs.declared.worker.WorkerEnd.{WorkerEnd}
-use Rattle.hdl_serve.specs.declared.ends.LaneEnds.{LaneEnds}
-use Rattle.hdl_serve.specs.Served.{AreDistinct, LaneServed, IsServed}
+use Rattle.hdl_workers.specs.Joined.{EndsLane}
+use Rattle.hdl_workers.specs.declared.item.Item.{Item}
+use Rattle.hdl_workers.specs.declared.worker.WorkerEnd.{WorkerEnd}
+use Rattle.hdl_workers.specs.declared.ends.LaneEnds.{LaneEnds}
+use Rattle.hdl_workers.specs.Ends.{AreDistinct, Meet}
+use Rattle.hdl_serve.specs.Served.{LaneServed, IsServed}
+use Rattle.hdl_workers.proofs.Settled.{still_put, still_taken, still_ended}
 use Rattle.hdl_laws.specs.Worlds.{World}
-use Rattle.hdl_lane_scripts.specs.Same.{SameLane, IsEach, Meet}
+use Rattle.hdl_lane_scripts.specs.Same.{SameLane, IsEach}
 
 -- each end is one of four equations, and its capacity
 pub then_same : (a b c : LaneEnds) → SameLane a b → SameLane b c → SameLane a c
@@ -70,17 +71,6 @@ meets [] inlet first end b one pairs ends same each = absurd (omega (arith, one)
 meets (a ∷ xs) inlet first end b one pairs ends same each =
     let pair = All-head (λ x. AreEnds inlet x.items × AreEnds x.outcomes first) a xs pairs in
     settles inlet first a b end pair.0 pair.1 ends same (All-head (λ x. SameLane x b) a xs each)
-
--- an end that was used, or has ended, is still one of the two ends of its ring
-module _ {T : Type 0} where
-  pub still_put : (a b : Inlet T) (o : Outlet T) → AreEnds a o → SameInlet a b → AreEnds b o
-  still_put a b o p q = (p.0 ∙ sym q.0.0, p.1 ∙ sym q.0.1, p.2 ∙ sym q.0.2, p.3 ∙ sym q.0.3)
-
-  pub still_taken : (a : Inlet T) (o p : Outlet T) → AreEnds a o → SameOutlet o p → AreEnds a p
-  still_taken a o p e q = (q.0.0 ∙ e.0, q.0.1 ∙ e.1, q.0.2 ∙ e.2, q.0.3 ∙ e.3)
-
-  pub still_ended : (a : Inlet T) (e : Ended T) (o : Outlet T) → AreEnds a o → IsEndOf a e → AreEnded e o
-  still_ended a e o p q = (p.0 ∙ sym q.0.0.0, p.1 ∙ sym q.0.0.1, p.2 ∙ sym q.0.0.2, p.3 ∙ sym q.0.0.3)
 
 pub ruleset still = (still_put, still_taken, still_ended)
 

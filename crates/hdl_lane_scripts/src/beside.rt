@@ -1,11 +1,11 @@
 //! A server as the clock of a worker.
 
 ghost use Rattle.std.specs.Prelude.{◌≡◌, [], All, List, length};
-ghost use Rattle.hdl_serve.specs.declared.ends.LaneEnds.{LaneEnds};
-ghost use Rattle.hdl_serve.specs.Served.{AreDistinct};
-ghost use Rattle.hdl_lane_scripts.specs.Same.{IsEach, Meet};
+ghost use Rattle.hdl_workers.specs.declared.ends.LaneEnds.{LaneEnds};
+ghost use Rattle.hdl_workers.specs.Ends.{AreDistinct, Meet};
+ghost use Rattle.hdl_lane_scripts.specs.Same.{IsEach};
 
-use crate::joined::{Pair, settle};
+use crate::pair::Pair;
 use crate::server::Serving;
 use hdl_core::Outcome;
 use hdl_serve::{
@@ -132,7 +132,7 @@ fn settled<L: Made, S: Serving + Drop>(beside: Beside<L, S>, end: WorkerEnd) -> 
     } = beside;
     let ends = lanes.pop()?;
     let why = end.why;
-    let (unserved, untaken) = settle(end, ends);
+    let (unserved, untaken) = ends.settle(end);
     Some(Ran {
         serving,
         why,

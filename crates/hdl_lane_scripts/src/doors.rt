@@ -1,7 +1,7 @@
 //! Workers at doors in memory, line by line.
 
 use crate::beside::{Plan, Ran, run_packets, run_stream, source, used};
-use crate::joined::pair_of;
+use crate::pair::pair_of;
 use crate::recorder::record;
 use crate::server::Serving;
 use crate::words::{

@@ -1,6 +1,6 @@
 //! Lanes that one thread fills, serves and empties.
 
-ghost use Rattle.hdl_serve.specs.Served.{AreDistinct};
+ghost use Rattle.hdl_workers.specs.Ends.{AreDistinct};
 
 use crate::server::Serving;
 use crate::words::{bad, event_of, had, number, short, tell_outcome};

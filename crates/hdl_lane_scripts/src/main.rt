@@ -13,7 +13,7 @@
 mod beside;
 mod doors;
 mod hand;
-mod joined;
+mod pair;
 mod recorder;
 mod rings;
 mod server;

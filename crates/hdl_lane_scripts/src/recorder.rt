@@ -3,7 +3,7 @@
 ghost use Rattle.std.specs.Prelude.{◌≡◌, []};
 
 use crate::beside::{Plan, source};
-use crate::joined::{Pair, pair_of};
+use crate::pair::{Pair, pair_of};
 use crate::words::{tell_item, word_of};
 use hdl_core::{Octets, Outcome};
 use hdl_serve::{Clock, Door, DoorFault, LaneEnds, MemoryDoor, MemoryNonces, Why, stream_worker};
@@ -73,7 +73,7 @@ struct Counting<D> {
 
 impl<D: Door> Door for Counting<D> {
     ghost use Rattle.std.specs.Prelude.{false, []};
-    ghost use Rattle.hdl_serve.specs.Door.{fresh};
+    ghost use Rattle.hdl_workers.specs.Door.{fresh};
 
     ghost tells = { false };
 

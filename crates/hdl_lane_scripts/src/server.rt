@@ -1,8 +1,8 @@
 //! What serves lanes' ends, by whoever calls. All but [`Held`] is generic over it: no other function owns a service.
 
 ghost use Rattle.std.specs.Prelude.{All, List};
-ghost use Rattle.hdl_serve.specs.declared.ends.LaneEnds.{LaneEnds};
-ghost use Rattle.hdl_serve.specs.Served.{AreDistinct};
+ghost use Rattle.hdl_workers.specs.declared.ends.LaneEnds.{LaneEnds};
+ghost use Rattle.hdl_workers.specs.Ends.{AreDistinct};
 ghost use Rattle.hdl_lane_scripts.specs.Same.{IsEach};
 
 use crate::words::bad;

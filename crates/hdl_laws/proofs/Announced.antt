@@ -24,8 +24,8 @@ use Rattle.hdl_ops.specs.Decisions.{Anyone, Proven, Decision, Decides}
 use Rattle.hdl_ops.specs.Requests.{Response, response_of}
 use Rattle.hdl_ops.specs.Replies.{reply_to, challenge_to}
 use Rattle.hdl_ops.proofs.Announced.{answer_announced_lem, protocol_error_announced, timeout_announced, challenge_announced_lem, proven_code}
-use Rattle.hdl_laws.specs.declared.events.What.{What}
-use Rattle.hdl_laws.specs.declared.events.What.TheVariants.{Open, Bad, Close}
+use Rattle.hdl_events.specs.declared.What.{What}
+use Rattle.hdl_events.specs.declared.What.TheVariants.{Open, Bad, Close}
 use Rattle.hdl_laws.specs.Lanes.{LaneState, with_partials}
 use Rattle.hdl_laws.specs.Worlds.{World, Turn, Received, hosts, algorithms, owner, lane_of, Letter, letter, Effect, Task, Ignore, Break, Malformed, Unknown, Late, Ask, Redeem, is_late, redeemed, redeem_task, IsReading, IsResponseTask, IsRequestTask, IsMessageTask, IsLetterTask, IsWholeTask, IsFrameTask, IsOctetsTask, IsTask, Does, IsAnswerFor, IsStep, answer_effect, challenge_effect}
 use Rattle.hdl_laws.specs.Told.{IsSelfTold, sent_by, StepsAnnounce}

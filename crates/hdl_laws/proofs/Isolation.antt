@@ -1,8 +1,8 @@
 -- The laws of covers and of restriction, from what holds of one turn.
 use Rattle.std.proofs.Common.{◌≡◌, ℕ, List, [], ◌∷◌, Option, Some, None, map, refl, sym, ap, ◌∙◌, subst}
 use Rattle.hdl_value.specs.Place.{Place}
-use Rattle.hdl_laws.specs.declared.events.Event.{Event}
-use Rattle.hdl_laws.specs.declared.events.Outcome.TheVariants.{Silent}
+use Rattle.hdl_events.specs.declared.Event.{Event}
+use Rattle.hdl_events.specs.declared.Outcome.TheVariants.{Silent}
 use Rattle.hdl_laws.specs.Worlds.{World, Turn, hosts, algorithms, owner, Effect, Task, Does, IsTask, lane_of, turn, IsAnswerFor, IsAnswer}
 use Rattle.hdl_laws.specs.Runs.{IsRun, IsLonelyRun, Lonely, last, events, outcomes}
 use Rattle.hdl_laws.specs.Isolation.{IsCover, IsQuiet, restrict, turns_of}

@@ -23,7 +23,7 @@ use Rattle.hdl_ops.specs.Replies.{fits}
 use Rattle.hdl_ops.specs.Decisions.{Level, Anyone, Proven, Decision, DecidesBy, decision, refused, success, failure, carried, change_of}
 use Rattle.hdl_ops.proofs.Passed.{Passes, passes_unless_refused, canonical_is_hosted}
 use Rattle.hdl_ops.proofs.Decided.{one_decision_lem}
-use Rattle.hdl_laws.specs.declared.events.What.{What}
+use Rattle.hdl_events.specs.declared.What.{What}
 use Rattle.hdl_pool.specs.Partial as partial
 use Rattle.hdl_pool.specs.Partial.{piece_of}
 use Rattle.hdl_pool.specs.Taking.{taken, whole_message, freed}

@@ -15,7 +15,7 @@ use Rattle.hdl_ops.specs.Admission.{request_algorithm}
 use Rattle.hdl_ops.specs.Decisions.{Level, Anyone, Proven, Decision, Decides}
 use Rattle.hdl_ops.specs.Laws.{told}
 use Rattle.hdl_ops.proofs.Codes.{is_answer_code, code_fits, decides_code, tells_by_code_lem}
-use Rattle.hdl_laws.specs.declared.events.Outcome.TheVariants.{Reply, Busy, Silent, CloseAfter}
+use Rattle.hdl_events.specs.declared.Outcome.TheVariants.{Reply, Busy, Silent, CloseAfter}
 use Rattle.hdl_laws.specs.Lanes.{LaneState}
 use Rattle.hdl_laws.specs.Worlds.{World, Turn, hosts, algorithms, algorithms_for, owner, lane_of, Letter, Effect, Task, Ignore, Break, Malformed, Unknown, Late, Ask, Redeem, Does, IsTask, IsAnswerFor, IsStep, answer_octets, challenge_octets, answer_effect, challenge_effect}
 use Rattle.hdl_laws.specs.Told.{IsReplyBy, asked_octets, Tells, StepsTell}

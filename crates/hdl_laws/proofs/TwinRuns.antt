@@ -4,8 +4,8 @@ use Rattle.hdl_frame.specs.Envelope.{envelope_at}
 use Rattle.hdl_rows.specs.Table.{Table}
 use Rattle.hdl_msg.specs.Reply.{short_reply}
 use Rattle.hdl_ops.proofs.Codes.{not_busy}
-use Rattle.hdl_laws.specs.declared.events.Event.{Event}
-use Rattle.hdl_laws.specs.declared.events.Outcome.TheVariants.{Busy}
+use Rattle.hdl_events.specs.declared.Event.{Event}
+use Rattle.hdl_events.specs.declared.Outcome.TheVariants.{Busy}
 use Rattle.hdl_laws.specs.Worlds.{World, Received, arrived, Turn, hosts, algorithms, owner, Effect, Does, lane_of, IsBusy, IsStep, moment_of, after_effect}
 use Rattle.hdl_laws.specs.Runs.{IsRun, last, events, outcomes}
 use Rattle.hdl_laws.specs.Isolation.{AreTwins, AreTwinWorlds, code_of, AllowsTurn, Allows}

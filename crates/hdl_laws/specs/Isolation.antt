@@ -16,9 +16,9 @@ use Rattle.hdl_msg.specs.Laws.{response_code_at}
 use Rattle.hdl_ops.specs.declared.change.Change.{Change}
 use Rattle.hdl_ops.specs.declared.change.Change.TheVariants.{Create, Delete, Add, Remove, Modify}
 use Rattle.hdl_ops.specs.Requests.{resolves, handle_of}
-use Rattle.hdl_laws.specs.declared.events.Event.{Event}
-use Rattle.hdl_laws.specs.declared.events.Outcome.{Outcome}
-use Rattle.hdl_laws.specs.declared.events.Outcome.TheVariants.{Reply, Busy, Silent, CloseAfter}
+use Rattle.hdl_events.specs.declared.Event.{Event}
+use Rattle.hdl_events.specs.declared.Outcome.{Outcome}
+use Rattle.hdl_events.specs.declared.Outcome.TheVariants.{Reply, Busy, Silent, CloseAfter}
 use Rattle.hdl_laws.specs.Worlds.{World, Site, Turn, owner, hosts, lane_of, Task, IsTask, Ignore, Break, Malformed, Unknown, Late, Ask, Redeem}
 use Rattle.hdl_laws.specs.Runs.{is_busy}
 

@@ -2,8 +2,8 @@
 use Rattle.std.specs.Prelude.{◌≡◌, ℕ, List, [], ◌∷◌, ◌++◌, map, IsFalse, ⊤}
 use Rattle.hdl_value.specs.Place.{Place}
 use Rattle.hdl_tenants.specs.Register.{root}
-use Rattle.hdl_laws.specs.declared.events.Event.{Event}
-use Rattle.hdl_laws.specs.declared.events.Outcome.{Outcome}
+use Rattle.hdl_events.specs.declared.Event.{Event}
+use Rattle.hdl_events.specs.declared.Outcome.{Outcome}
 use Rattle.hdl_laws.specs.Worlds.{World, Site, Turn, hosts}
 use Rattle.hdl_laws.specs.Runs.{IsRun, Run, Lonely, last, events, outcomes}
 use Rattle.hdl_laws.specs.Isolation.{IsClosed, IsCover, IsQuiet, is_mine, restrict, turns_of, AreTwinWorlds, Allows, code_of}

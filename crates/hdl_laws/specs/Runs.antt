@@ -1,8 +1,8 @@
 -- Whole runs: one outcome for each event.
 use Rattle.std.specs.Prelude.{◌≡◌, List, [], ◌∷◌, Bool, true, false, map, ⊤}
-use Rattle.hdl_laws.specs.declared.events.Event.{Event}
-use Rattle.hdl_laws.specs.declared.events.Outcome.{Outcome}
-use Rattle.hdl_laws.specs.declared.events.Outcome.TheVariants.{Busy}
+use Rattle.hdl_events.specs.declared.Event.{Event}
+use Rattle.hdl_events.specs.declared.Outcome.{Outcome}
+use Rattle.hdl_events.specs.declared.Outcome.TheVariants.{Busy}
 use Rattle.hdl_laws.specs.Worlds.{World, Turn, IsStep, IsAnswer}
 
 -- each turn is a step from the world that the one before it left

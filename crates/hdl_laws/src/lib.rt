@@ -13,8 +13,6 @@
 //! what is said here is said of any service.
 #![tactic(auto)]
 
-mod events;
 pub mod laws;
 
-pub use events::{Event, Outcome, What};
-pub use hdl_value::Octets;
+pub use hdl_events::{Event, Octets, Outcome, What};

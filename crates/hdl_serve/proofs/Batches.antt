@@ -3,18 +3,19 @@ use Rattle.std.proofs.Common.{◌≡◌, ℕ, suc, ◌<◌, ◌≤◌, List, [],
 use Rattle.std.specs.List.{AllZip}
 use Rattle.std.proofs.lemmas.List.{append-nil, append_assoc, map-append, length-map, drop_all, take_all}
 use Rattle.hdl_lanes.specs.Lane.{put_into, taken_from}
-use Rattle.hdl_laws.specs.declared.events.What.{What}
-use Rattle.hdl_laws.specs.declared.events.Event.{Event}
-use Rattle.hdl_laws.specs.declared.events.Outcome.{Outcome}
+use Rattle.hdl_events.specs.declared.What.{What}
+use Rattle.hdl_events.specs.declared.Event.{Event}
+use Rattle.hdl_events.specs.declared.Outcome.{Outcome}
 use Rattle.hdl_laws.specs.Worlds.{World, Turn}
 use Rattle.hdl_laws.specs.Runs.{Run}
 use Rattle.hdl_laws.specs.Laws.{JoinsRuns, HostsNoRoot, RestrictsRuns, TwinsReplyAlike}
-use Rattle.hdl_serve.specs.declared.item.Item.{Item}
-use Rattle.hdl_serve.specs.declared.ends.LaneEnds.{LaneEnds}
-use Rattle.hdl_serve.specs.Sign.{WithEnd}
-use Rattle.hdl_serve.specs.Served.{events_in, items_of, beside, lanes_of, whats_of, events_on, outcomes_on, AreDistinct, LaneServed, IsServed}
+use Rattle.hdl_workers.specs.declared.item.Item.{Item}
+use Rattle.hdl_workers.specs.declared.ends.LaneEnds.{LaneEnds}
+use Rattle.hdl_workers.specs.Sign.{WithEnd}
+use Rattle.hdl_workers.specs.Ends.{AreDistinct}
+use Rattle.hdl_serve.specs.Served.{events_in, items_of, beside, lanes_of, whats_of, events_on, outcomes_on, LaneServed, IsServed}
 use Rattle.hdl_serve.specs.Rounds.{AreWithEnd, Takes, Answers, HaveRoom, IsOf, IsGathered, IsDelivered, LaneServing, IsServing}
-use Rattle.hdl_serve.proofs.Same.{same_inlet, same_outlet, itself_inlet, itself_outlet}
+use Rattle.hdl_workers.proofs.Same.{same_inlet, same_outlet, itself_inlet, itself_outlet}
 use Rattle.hdl_serve.proofs.Beside.{beside-append, once, by_number}
 
 -- ---- lists of events

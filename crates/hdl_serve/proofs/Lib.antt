@@ -1,12 +1,4 @@
-pub mod Writes
-pub mod Faults
-pub mod Used
-pub mod Talks
-pub mod Closes
-pub mod Mails
-pub mod Same
 pub mod Beside
 pub mod Steps
 pub mod Batches
-pub mod Distinct
 pub mod Joined

@@ -5,14 +5,14 @@ use Rattle.std.proofs.lemmas.Bool.{cases_eq}
 use Rattle.std.proofs.lemmas.List.{append-nil, append_assoc, drop_more, map-append, length-map, length-set, get_or-set_same, get_or-set_other, get_or_default}
 use Rattle.std.proofs.lemmas.List.Elements.{filter_map-append}
 use Rattle.hdl_lanes.specs.Lane.{put_into, taken_from, known_room, SameInlet, SameOutlet}
-use Rattle.hdl_laws.specs.declared.events.What.{What}
-use Rattle.hdl_laws.specs.declared.events.Event.{Event}
-use Rattle.hdl_laws.specs.declared.events.Outcome.{Outcome}
-use Rattle.hdl_serve.specs.declared.item.Item.{Item}
-use Rattle.hdl_serve.specs.declared.ends.LaneEnds.{LaneEnds}
+use Rattle.hdl_events.specs.declared.What.{What}
+use Rattle.hdl_events.specs.declared.Event.{Event}
+use Rattle.hdl_events.specs.declared.Outcome.{Outcome}
+use Rattle.hdl_workers.specs.declared.item.Item.{Item}
+use Rattle.hdl_workers.specs.declared.ends.LaneEnds.{LaneEnds}
 use Rattle.hdl_serve.specs.Served.{event_of, events_in, items_of, beside, whats_of}
 use Rattle.hdl_serve.specs.Rounds.{AreWithEnd, Takes, Answers, EachLane, HaveRoom, IsOf, IsGathered}
-use Rattle.hdl_serve.proofs.Same.{same_inlet, same_outlet, itself_inlet, itself_outlet}
+use Rattle.hdl_workers.proofs.Same.{same_inlet, same_outlet, itself_inlet, itself_outlet}
 use Rattle.hdl_serve.proofs.Beside.{beside_more, beside_other, beside_none, first_beside, first_not_beside}
 
 -- ---- one lane

@@ -2,14 +2,15 @@
 use Rattle.std.specs.Prelude.{◌≡◌, ◌≤◌, ◌<◌, ◌+◌, ℕ, Bool, true, false, List, [], ◌∷◌, ◌++◌, length, get_or, ⊤}
 use Rattle.std.specs.List.{AllZip}
 use Rattle.hdl_lanes.specs.Lane.{put_into, taken_from, known_room, SameInlet, SameOutlet}
-use Rattle.hdl_laws.specs.declared.events.What.{What}
-use Rattle.hdl_laws.specs.declared.events.Event.{Event}
-use Rattle.hdl_laws.specs.declared.events.Outcome.{Outcome}
+use Rattle.hdl_events.specs.declared.What.{What}
+use Rattle.hdl_events.specs.declared.Event.{Event}
+use Rattle.hdl_events.specs.declared.Outcome.{Outcome}
 use Rattle.hdl_laws.specs.Worlds.{World}
 use Rattle.hdl_laws.specs.Runs.{Run}
-use Rattle.hdl_serve.specs.declared.item.Item.{Item}
-use Rattle.hdl_serve.specs.declared.ends.LaneEnds.{LaneEnds}
-use Rattle.hdl_serve.specs.Served.{events_in, items_of, beside, whats_of, events_on, AreDistinct, LaneServed}
+use Rattle.hdl_workers.specs.declared.item.Item.{Item}
+use Rattle.hdl_workers.specs.declared.ends.LaneEnds.{LaneEnds}
+use Rattle.hdl_workers.specs.Ends.{AreDistinct}
+use Rattle.hdl_serve.specs.Served.{events_in, items_of, beside, whats_of, events_on, LaneServed}
 
 -- the items are these, and End behind them where the lane has ended
 abbrev pub AreWithEnd : Bool → List Item → List Item → Type 0

@@ -1,16 +1,16 @@
 -- What a serving loop does with its lanes.
-use Rattle.std.specs.Prelude.{◌≡◌, ◌≢◌, ◌≤◌, ℕ, List, [], ◌∷◌, ◌++◌, ◌==◌, if◌then◌else◌, Option, Some, None, length, map, filter_map, AllPairs}
+use Rattle.std.specs.Prelude.{◌≡◌, ◌≤◌, ℕ, List, [], ◌∷◌, ◌++◌, ◌==◌, if◌then◌else◌, Option, Some, None, length, map, filter_map}
 use Rattle.std.specs.List.{AllZip}
 use Rattle.hdl_lanes.specs.Lane.{put_into, taken_from, SameInlet, SameOutlet}
-use Rattle.hdl_laws.specs.declared.events.What.{What}
-use Rattle.hdl_laws.specs.declared.events.Event.{Event}
-use Rattle.hdl_laws.specs.declared.events.Outcome.{Outcome}
+use Rattle.hdl_events.specs.declared.What.{What}
+use Rattle.hdl_events.specs.declared.Event.{Event}
+use Rattle.hdl_events.specs.declared.Outcome.{Outcome}
 use Rattle.hdl_laws.specs.Worlds.{World}
 use Rattle.hdl_laws.specs.Runs.{Run}
 use Rattle.hdl_laws.specs.Laws.{Isolated, Hidden}
-use Rattle.hdl_serve.specs.Sign.{WithEnd}
-use Rattle.hdl_serve.specs.declared.item.Item.{Item}
-use Rattle.hdl_serve.specs.declared.ends.LaneEnds.{LaneEnds}
+use Rattle.hdl_workers.specs.Sign.{WithEnd}
+use Rattle.hdl_workers.specs.declared.item.Item.{Item}
+use Rattle.hdl_workers.specs.declared.ends.LaneEnds.{LaneEnds}
 
 -- what happened, if the item isn't End
 abbrev pub event_of : Item → Option What
@@ -44,10 +44,6 @@ events_on n es = beside n (lanes_of es) (whats_of es)
 -- what came of the events of the lane n, in order
 abbrev pub outcomes_on : ℕ → List Event → List Outcome → List Outcome
 outcomes_on n es os = beside n (lanes_of es) os
-
--- no two lanes have one number
-abbrev pub AreDistinct : List LaneEnds → Type 0
-AreDistinct lanes = AllPairs (λ a b. a.lane ≢ b.lane) lanes
 
 -- the same lane's ends, before and after: what was taken is, End aside, its events and then its kept ones, of which there is at
 -- most one; behind an End nothing was taken; what was put is its events' outcomes

@@ -4,8 +4,8 @@ ghost use Rattle.std.specs.Prelude.{◌≡◌, ◌≤◌, ◌<◌, ◌+◌, ◌�
 ghost use Rattle.hdl_lanes.specs.Lane.{known_room};
 ghost use Rattle.hdl_serve.specs.Rounds.{Answers, HaveRoom, IsDelivered, IsGathered, Takes};
 
-use crate::{Item, LaneEnds};
-use hdl_laws::{Event, Outcome, What};
+use hdl_events::{Event, Outcome, What};
+use hdl_workers::{Item, LaneEnds};
 use std::alloc::Global;
 
 /// Events that were taken and not yet answered, at most one of each lane, with the lanes' places.

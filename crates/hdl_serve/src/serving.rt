@@ -2,14 +2,15 @@
 
 ghost use Rattle.std.specs.Prelude.{◌≡◌, [], Bool, List, length};
 ghost use Rattle.hdl_laws.specs.Worlds.{World};
-ghost use Rattle.hdl_serve.specs.declared.ends.LaneEnds.{LaneEnds};
+ghost use Rattle.hdl_workers.specs.declared.ends.LaneEnds.{LaneEnds};
 ghost use Rattle.hdl_serve.specs.Rounds.{HaveRoom, IsGathered, IsServing};
-ghost use Rattle.hdl_serve.specs.Served.{AreDistinct, IsServed};
+ghost use Rattle.hdl_serve.specs.Served.{IsServed};
+ghost use Rattle.hdl_workers.specs.Ends.{AreDistinct};
 
 use crate::rounds::{Batch, deliver, gather};
-use crate::{Clock, LaneEnds};
 use hdl_core::{Early, Event, Rows, Service};
 use hdl_laws::laws::{restricted, runs_joined, twin_replies};
+use hdl_workers::{Clock, LaneEnds};
 use std::alloc::{AllocError, Global};
 use std::mem;
 

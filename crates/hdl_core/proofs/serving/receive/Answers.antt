@@ -3,7 +3,7 @@ use Rattle.hdl_frame.specs.Frames.{IsFrame}
 use Rattle.hdl_frame.specs.Splitting.{IsFrameOf}
 use Rattle.hdl_msg.specs.ReplyView.{IsReplyFrame}
 use Rattle.hdl_msg.proofs.ReplyReadings.{short_reply_read}
-use Rattle.hdl_laws.specs.declared.events.Outcome.TheVariants.{Busy}
+use Rattle.hdl_events.specs.declared.Outcome.TheVariants.{Busy}
 use Rattle.hdl_core.specs.declared.letter.Letter.{Letter}
 use Rattle.std.specs.Prelude.{IfOk}
 use Rattle.hdl_ops.specs.Views.{algorithms_by, hosted_by}

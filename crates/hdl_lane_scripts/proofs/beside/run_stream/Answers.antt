@@ -1,6 +1,6 @@
 use Rattle.std.proofs.Common.{◌≡◌, List, All, length, subst, sym}
 use Rattle.hdl_lanes.specs.Lane.{AreEnds}
-use Rattle.hdl_serve.specs.declared.ends.LaneEnds.{LaneEnds}
+use Rattle.hdl_workers.specs.declared.ends.LaneEnds.{LaneEnds}
 use Rattle.hdl_lane_scripts.proofs.Same.{meets}
 use Rattle.hdl_lane_scripts.proofs.beside.run_stream.Goals as goal
 

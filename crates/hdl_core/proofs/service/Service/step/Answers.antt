@@ -1,5 +1,5 @@
 use Rattle.std.proofs.Common.{arith, subst}
-use Rattle.hdl_laws.specs.declared.events.Outcome.TheVariants.{Silent}
+use Rattle.hdl_events.specs.declared.Outcome.TheVariants.{Silent}
 use Rattle.hdl_laws.specs.Runs.{Steps}
 use Rattle.hdl_tenants.specs.Register.{hosts, algorithm}
 use Rattle.hdl_core.specs.Worlds.{world_of}

@@ -1,5 +1,5 @@
 use Rattle.std.proofs.Common.{All, subst, sym}
-use Rattle.hdl_serve.specs.Served.{AreDistinct}
+use Rattle.hdl_workers.specs.Ends.{AreDistinct}
 use Rattle.hdl_lane_scripts.specs.Same.{IsEach}
 use Rattle.hdl_lane_scripts.proofs.server.HeldServing.serve.Goals as goal
 

@@ -1,9 +1,0 @@
-use Rattle.std.proofs.Common.{◌<◌, All}
-use Rattle.hdl_serve.specs.Served.{AreDistinct}
-use Rattle.hdl_serve.proofs.sides.lanes_of.Given as goal
-
-abbrev pub invariant-loop-number : goal.invariant-loop-number
-invariant-loop-number l = record {
-  distinct : AreDistinct l.ends.items;
-  below : All (λ e. e.lane < l.number) l.ends.items;
-}

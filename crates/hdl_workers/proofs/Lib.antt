@@ -1,0 +1,10 @@
+pub mod Writes
+pub mod Faults
+pub mod Used
+pub mod Talks
+pub mod Closes
+pub mod Mails
+pub mod Same
+pub mod Distinct
+pub mod Settled
+pub mod Numbers

@@ -1,0 +1,200 @@
+-- Datagrams and replies, one after the other.
+use Rattle.std.proofs.Common.{◌≡◌, ◌⊎◌, inl, inr, ℕ, ◌+◌, ◌<◌, ◌≤◌, ◌^◌, ◌-◌, suc, Bor, Bool, true, false, Option, Some, None, All, List, [], ◌∷◌, ◌++◌, length, map, refl, ap, sym, append_assoc, append-nil, length-append, ◌∙◌, arith}
+use Rattle.std.proofs.lemmas.List.{map-append}
+use Rattle.std.proofs.lemmas.List.Elements.{All-head, All-tail}
+use mathlib.Core.List.{IsPrefix}
+use Rattle.hdl_limits.specs.declared.TheConstants.{PIECE_LEN}
+use Rattle.hdl_frame.specs.Frames.{IsFrame}
+use Rattle.hdl_events.specs.declared.Outcome.{Outcome}
+use Rattle.hdl_events.specs.declared.What.TheVariants.{Open, Frame, Bad, Close}
+use Rattle.hdl_workers.specs.declared.item.Item.{Item}
+use Rattle.hdl_workers.specs.declared.item.Item.TheVariants.{Event, End}
+use Rattle.hdl_workers.specs.Octets.{octets_of}
+use Rattle.hdl_workers.specs.Sign.{Sign, opened, framed, faulty, closed, finished, sign_of, signs_of, PutOne}
+use Rattle.hdl_workers.specs.Mail.{FramesOf, MostFramesOf, to_peer, Failed, ArePieces, SendsReply, BeginsReply, Mails, Mailed, MostMailed, Traded, MostTraded, Trades, TradesOn, MostTradesOn, Sends}
+
+peer_in : Sign → ℕ
+peer_in (framed p b) = p
+peer_in opened = 0
+peer_in (faulty a b) = 0
+peer_in closed = 0
+peer_in finished = 0
+
+-- a datagram that is no frame
+pub frames_passed : (ds : List (ℕ × List ℕ)) (d : ℕ × List ℕ) (signs : List Sign) → FramesOf ds signs → (IsFrame d.1 → ⊥) → FramesOf (ds ++ d ∷ []) signs
+frames_passed [] d signs none not = inl (not, none)
+frames_passed (e ∷ ds) d signs (inl (other, rest)) not = inl (other, frames_passed ds d signs rest not)
+frames_passed (e ∷ ds) d signs (inr (is, (later, shown, rest))) not = inr (is, (later, shown, frames_passed ds d later rest not))
+
+-- a datagram that is one
+pub frames_more : (ds : List (ℕ × List ℕ)) (d : ℕ × List ℕ) (signs : List Sign) → FramesOf ds signs → IsFrame d.1 → FramesOf (ds ++ d ∷ []) (signs ++ framed d.0 d.1 ∷ [])
+frames_more [] d signs none is = inr (is, ([], ap (λ w. w ++ framed d.0 d.1 ∷ []) none, refl))
+frames_more (e ∷ ds) d signs (inl (other, rest)) is = inl (other, frames_more ds d signs rest is)
+frames_more (e ∷ ds) d signs (inr (one, (later, shown, rest))) is =
+    inr (one, (later ++ framed d.0 d.1 ∷ [], ap (λ w. w ++ framed d.0 d.1 ∷ []) shown, frames_more ds d later rest is))
+
+-- more items were put
+pub mailed_put : (items more : List Item) (os : List Outcome) (sent : List (ℕ × List ℕ)) (n m : ℕ) → Mailed items os sent n m → Mailed (items ++ more) os sent n m
+mailed_put items more [] sent n m all = all
+mailed_put [] more (o ∷ os) sent n m all = absurd all
+mailed_put (i ∷ is) more (o ∷ os) sent n m (first, later, h, k, up, e, one, rest) = (first, later, h, k, up, e, one, mailed_put is more os later k m rest)
+
+-- the outcome of the last item was sent
+pub mailed_more : (items : List Item) (os : List Outcome) (sent more : List (ℕ × List ℕ)) (n m p : ℕ) (i : Item) (o : Outcome) → Mailed items os sent n m → length os ≡ length items → Mails i o more m p
+    → Mailed (items ++ i ∷ []) (os ++ o ∷ []) (sent ++ more) n p
+mailed_more [] [] sent more n m p i o (none, le) len one =
+    rw none (more, [], m, p, le, sym (append-nil more), one, (refl, omega arith))
+mailed_more (j ∷ is) [] sent more n m p i o all len one = absurd (omega arith)
+mailed_more [] (q ∷ os) sent more n m p i o all len one = absurd all
+mailed_more (j ∷ is) (q ∷ os) sent more n m p i o (first, later, h, k, up, e, this, rest) len one =
+    let len' : length os ≡ length is = omega arith in (
+      first,
+      later ++ more,
+      h,
+      k,
+      up,
+      ap (λ w. w ++ more) e ∙ append_assoc first later more,
+      this,
+      mailed_more is os later more k m p i o rest len' one,
+    )
+
+framed_peer : (p q : ℕ) (b c : List ℕ) → framed p b ≡ framed q c → p ≡ q
+unfolding peer_in
+framed_peer p q b c e = ap peer_in e
+
+-- what is sent of a frame's outcome
+pub mails_frame : (i : Item) (peer : ℕ) (bytes : List ℕ) (o : Outcome) (more : List (ℕ × List ℕ)) (n m : ℕ) → sign_of i ≡ framed peer bytes → SendsReply peer (octets_of o) more n m → Mails i o more n m
+mails_frame (Event Open) peer bytes o more n m e s = absurd cc
+mails_frame (Event (Frame q moment nonce b)) peer bytes o more n m e s = rw (framed_peer q peer b bytes e) s
+mails_frame (Event (Bad a b)) peer bytes o more n m e s = absurd cc
+mails_frame (Event Close) peer bytes o more n m e s = absurd cc
+mails_frame End peer bytes o more n m e s = absurd cc
+
+-- nothing was put for the last datagram
+pub not_put : (d : ℕ × List ℕ) (received sent sent' : List (ℕ × List ℕ)) (m m' : ℕ) (items items' : List Item) (os os' : List Outcome)
+    → sent' ≡ sent → m' ≡ m → items' ≡ items → os' ≡ os → MostTradesOn d received sent m items os sent' m' items' os'
+not_put d received sent sent' m m' items items' os os' a b p q n earlier e (frames, shown, far, mailed, len) =
+    rw (a, b, p, q) (frames, shown, inr (earlier, d, e, far), inl mailed)
+
+-- the last datagram was dropped
+pub passed : (d : ℕ × List ℕ) (received sent sent' : List (ℕ × List ℕ)) (m m' : ℕ) (items items' : List Item) (os os' : List Outcome)
+    → (IsFrame d.1 → ⊥) → TradesOn d received sent m items os sent m items os
+passed d received sent sent' m m' items items' os os' not n earlier e (frames, shown, far, mailed, len) =
+    rw e (frames, shown, frames_passed earlier d frames far not, mailed, len)
+
+-- the last datagram was put
+put_signs : (frames : List Sign) (items items' : List Item) (s : Sign) → signs_of items ≡ opened ∷ frames → PutOne s items items' → signs_of items' ≡ opened ∷ (frames ++ s ∷ [])
+put_signs frames items items' s shown (item, e, is) =
+    ap signs_of e ∙ map-append sign_of items (item ∷ []) ∙ ap (λ w. w ++ sign_of item ∷ []) shown ∙ ap (λ (w : Sign). (opened ∷ frames) ++ w ∷ []) is
+
+pub not_answered : (d : ℕ × List ℕ) (received sent sent' : List (ℕ × List ℕ)) (m m' : ℕ) (items items' : List Item) (os os' : List Outcome)
+    → IsFrame d.1 → PutOne (framed d.0 d.1) items items' → os' ≡ os → sent' ≡ sent → m' ≡ m → MostTradesOn d received sent m items os sent' m' items' os'
+not_answered d received sent sent' m m' items items' os os' is put q a b n earlier e (frames, shown, far, mailed, len) =
+    let mailed' : Mailed items' os sent n m = rw put.1 (mailed_put items (put.0 ∷ []) os sent n m mailed) in
+    rw (e, q, a, b) (frames ++ framed d.0 d.1 ∷ [], put_signs frames items items' (framed d.0 d.1) shown put, inl (frames_more earlier d frames far is), inl mailed')
+
+pub answered : (d : ℕ × List ℕ) (received sent sent' : List (ℕ × List ℕ)) (m m' : ℕ) (items items' : List Item) (os os' : List Outcome) (o : Outcome)
+    → IsFrame d.1 → PutOne (framed d.0 d.1) items items' → os' ≡ os ++ o ∷ [] → Sends (SendsReply d.0 (octets_of o)) sent m sent' m' → TradesOn d received sent m items os sent' m' items' os'
+answered d received sent sent' m m' items items' os os' o is put q (more, w, sends) n earlier e (frames, shown, far, mailed, len) =
+    let one = mails_frame put.0 d.0 d.1 o more m m' put.2 sends in
+    let mailed' : Mailed items' os' sent' n m' = rw (put.1, q, w) (mailed_more items os sent more n m m' put.0 o mailed len one) in
+    let k1 : length items' ≡ length items + 1 = ap length put.1 ∙ length-append items (put.0 ∷ []) in
+    let k2 : length os' ≡ length os + 1 = ap length q ∙ length-append os (o ∷ []) in
+    let len' : length os' ≡ length items' = omega arith in
+    rw e (frames ++ framed d.0 d.1 ∷ [], put_signs frames items items' (framed d.0 d.1) shown put, frames_more earlier d frames far is, mailed', len')
+
+pub answered_part : (d : ℕ × List ℕ) (received sent sent' : List (ℕ × List ℕ)) (m m' : ℕ) (items items' : List Item) (os os' : List Outcome) (o : Outcome)
+    → IsFrame d.1 → PutOne (framed d.0 d.1) items items' → os' ≡ os ++ o ∷ [] → Sends (BeginsReply d.0 (octets_of o)) sent m sent' m' → MostTradesOn d received sent m items os sent' m' items' os'
+answered_part d received sent sent' m m' items items' os os' o is put q (more, w, (ds, are, le, (rest, x))) n earlier e (frames, shown, far, mailed, len) =
+    let whole = map (to_peer d.0) ds in
+    let one = mails_frame put.0 d.0 d.1 o whole m m' put.2 (ds, are, le, inl refl) in
+    let before : Mailed items' os sent n m = rw put.1 (mailed_put items (put.0 ∷ []) os sent n m mailed) in
+    let all : Mailed items' os' (sent ++ whole) n m' = rw (put.1, q) (mailed_more items os sent whole n m m' put.0 o mailed len one) in
+    let same : sent' ++ rest ≡ sent ++ whole = ap (λ z. z ++ rest) w ∙ append_assoc sent more rest ∙ ap (λ z. sent ++ z) x in
+    rw e (
+      frames ++ framed d.0 d.1 ∷ [],
+      put_signs frames items items' (framed d.0 d.1) shown put,
+      inl (frames_more earlier d frames far is),
+      inr (os, o, sent, more, rest, m, q, w, before, rw same all),
+    )
+
+-- Open, and its outcome
+pub begun : (items : List Item) (os : List Outcome) (o : Outcome) (n : ℕ) → items ≡ Event Open ∷ [] → os ≡ o ∷ [] → Traded [] [] n n items os
+begun items os o n e f = rw (e, f) ([], refl, refl, ([], [], n, n, omega arith, refl, (refl, omega arith), (refl, omega arith)), refl)
+
+pub begun_part : (items : List Item) (os : List Outcome) (n : ℕ) → items ≡ Event Open ∷ [] → os ≡ [] → Trades [] [] n n items os
+begun_part items os n e f = rw (e, f) (inr ([], refl, inl refl, inl (refl, omega arith)))
+
+pub not_begun : (items : List Item) (os : List Outcome) (n : ℕ) → items ≡ [] → os ≡ [] → Trades [] [] n n items os
+not_begun items os n e f = inl (refl, refl, e, f)
+
+pub most_of : (received sent : List (ℕ × List ℕ)) (n m : ℕ) (items : List Item) (os : List Outcome) → Traded received sent n m items os → Trades received sent n m items os
+most_of received sent n m items os (frames, shown, far, mailed, len) = inr (frames, shown, inl far, inl mailed)
+
+-- receives that failed are counted too
+mailed_later : (items : List Item) (os : List Outcome) (sent : List (ℕ × List ℕ)) (n m p : ℕ) → Mailed items os sent n m → m ≤ p → Mailed items os sent n p
+mailed_later items [] sent n m p (e, le) up = (e, omega arith)
+mailed_later [] (o ∷ os) sent n m p all up = absurd all
+mailed_later (i ∷ is) (o ∷ os) sent n m p (first, later, h, k, to, e, this, rest) up = (first, later, h, k, to, e, this, mailed_later is os later k m p rest up)
+
+pub traded_later : (received received' sent sent' : List (ℕ × List ℕ)) (n m p : ℕ) (items : List Item) (os : List Outcome) → Traded received sent n m items os → received' ≡ received → sent' ≡ sent → m ≤ p → Traded received' sent' n p items os
+traded_later received received' sent sent' n m p items os (frames, shown, far, mailed, len) a b up =
+    rw (a, b) (frames, shown, far, mailed_later items os sent n m p mailed up, len)
+
+-- the pieces that an iterator gave, by their octets
+abbrev pub seen : List (List ℕ × Bor (List ℕ)) → List (List ℕ × List ℕ)
+seen ps = map (λ p. (p.0, p.1.now)) ps
+
+-- the datagrams of a reply
+pub went_one : (peer : ℕ) (done : List (List ℕ × List ℕ)) (d : List ℕ × List ℕ) (old new last : List (ℕ × List ℕ)) → new ≡ old ++ map (to_peer peer) done → last ≡ new ++ to_peer peer d ∷ []
+    → last ≡ old ++ map (to_peer peer) (done ++ d ∷ [])
+went_one peer done d old new last f g =
+    g ∙ ap (λ w. w ++ to_peer peer d ∷ []) f ∙ append_assoc old (map (to_peer peer) done) (to_peer peer d ∷ []) ∙ ap (λ w. old ++ w) (sym (map-append (to_peer peer) done (d ∷ [])))
+
+pub went_all : (peer : ℕ) (octets : List ℕ) (ds : List (List ℕ × List ℕ)) (old new : List (ℕ × List ℕ)) (n m : ℕ) → ArePieces octets ds → new ≡ old ++ map (to_peer peer) ds → n ≤ m → Sends (SendsReply peer octets) old n new m
+went_all peer octets ds old new n m are e le = (map (to_peer peer) ds, e, (ds, are, le, inl refl))
+
+begins : (peer : ℕ) (ds done left : List (List ℕ × List ℕ)) → ds ≡ done ++ left → IsPrefix (map (to_peer peer) done) (map (to_peer peer) ds)
+begins peer ds done left e = (map (to_peer peer) left, sym (map-append (to_peer peer) done left) ∙ ap (map (to_peer peer)) (sym e))
+
+pub went_some : (peer : ℕ) (octets : List ℕ) (ds done left : List (List ℕ × List ℕ)) (old new : List (ℕ × List ℕ)) (n m : ℕ) → ArePieces octets ds → ds ≡ done ++ left → new ≡ old ++ map (to_peer peer) done → n ≤ m
+    → Sends (BeginsReply peer octets) old n new m
+went_some peer octets ds done left old new n m are e f le = (map (to_peer peer) done, f, (ds, are, le, begins peer ds done left e))
+
+pub went_to_fault : (peer : ℕ) (octets : List ℕ) (ds done left : List (List ℕ × List ℕ)) (old new : List (ℕ × List ℕ)) (n m : ℕ) → ArePieces octets ds → ds ≡ done ++ left → new ≡ old ++ map (to_peer peer) done → n ≤ m → Failed n m
+    → Sends (SendsReply peer octets) old n new m
+went_to_fault peer octets ds done left old new n m are e f le failed = (map (to_peer peer) done, f, (ds, are, le, inr (begins peer ds done left e, failed)))
+
+pub part_of_whole : (peer : ℕ) (octets : List ℕ) (old new : List (ℕ × List ℕ)) (n m : ℕ) → Sends (SendsReply peer octets) old n new m → Sends (BeginsReply peer octets) old n new m
+part_of_whole peer octets old new n m (more, e, (ds, are, le, inl all)) = (more, e, (ds, are, le, ([], append-nil more ∙ all)))
+part_of_whole peer octets old new n m (more, e, (ds, are, le, inr (part, failed))) = (more, e, (ds, are, le, part))
+
+-- one more piece was given
+pub seen_more : (ys : List (List ℕ × Bor (List ℕ))) (p : List ℕ × Bor (List ℕ)) (left left' all : List (List ℕ × List ℕ)) → seen ys ++ left ≡ all → left ≡ (p.0, p.1.now) ∷ left' → seen (ys ++ p ∷ []) ++ left' ≡ all
+seen_more ys p left left' all e f =
+    ap (λ w. w ++ left') (map-append (λ (q : List ℕ × Bor (List ℕ)). (q.0, q.1.now)) ys (p ∷ [])) ∙ append_assoc (seen ys) ((p.0, p.1.now) ∷ []) left' ∙ ap (λ w. seen ys ++ w) (sym f) ∙ e
+
+pub sent_more : (peer : ℕ) (ys : List (List ℕ × Bor (List ℕ))) (p : List ℕ × Bor (List ℕ)) (old new last : List (ℕ × List ℕ)) → new ≡ old ++ map (to_peer peer) (seen ys) → last ≡ new ++ to_peer peer (p.0, p.1.now) ∷ []
+    → last ≡ old ++ map (to_peer peer) (seen (ys ++ p ∷ []))
+sent_more peer ys p old new last f g =
+    went_one peer (seen ys) (p.0, p.1.now) old new last f g ∙ ap (λ w. old ++ map (to_peer peer) w) (sym (map-append (λ (q : List ℕ × Bor (List ℕ)). (q.0, q.1.now)) ys (p ∷ [])))
+
+-- what is given is short
+All-append-right : (xs ys : List (List ℕ × List ℕ)) → All (λ (p : List ℕ × List ℕ). length p.1 ≤ PIECE_LEN) (xs ++ ys) → All (λ (p : List ℕ × List ℕ). length p.1 ≤ PIECE_LEN) ys
+All-append-right [] ys all = all
+All-append-right (x ∷ xs) ys all = All-append-right xs ys (All-tail (λ (p : List ℕ × List ℕ). length p.1 ≤ PIECE_LEN) x (xs ++ ys) all)
+
+pub short_at : (done left left' all : List (List ℕ × List ℕ)) (d : List ℕ × List ℕ) → All (λ (p : List ℕ × List ℕ). length p.1 ≤ PIECE_LEN) all → done ++ left ≡ all → left ≡ d ∷ left' → length d.1 ≤ PIECE_LEN
+short_at done left left' all d short e f =
+    let whole : all ≡ done ++ d ∷ left' = sym e ∙ ap (λ w. done ++ w) f in
+    let short' : All (λ (p : List ℕ × List ℕ). length p.1 ≤ PIECE_LEN) (done ++ d ∷ left') = rw (← whole) short in
+    All-head (λ (p : List ℕ × List ℕ). length p.1 ≤ PIECE_LEN) d left' (All-append-right done (d ∷ left') short')
+
+-- a send that failed
+pub failed_by : (i l n : ℕ) → l ≡ i → ((n ≡ l + 1) ⊎ ((l ≡ 2 ^ 64 - 1) × (n ≡ l))) → Failed i n
+failed_by i l n e (inl up) = inl (omega arith)
+failed_by i l n e (inr (max, same)) = inr (sym e ∙ max)
+
+pub later_by : (i l n : ℕ) → l ≡ i → ((n ≡ l + 1) ⊎ ((l ≡ 2 ^ 64 - 1) × (n ≡ l))) → i ≤ n
+later_by i l n e (inl up) = omega arith
+later_by i l n e (inr (max, same)) = omega arith

@@ -1,0 +1,25 @@
+use Rattle.std.proofs.Common.{rules}
+use Rattle.hdl_workers.specs.Line.{taken_by, Relayed, RelayedPart}
+use Rattle.hdl_workers.proofs.Writes.{relayed_both, relayed_then_part}
+use Rattle.hdl_workers.proofs.relay.await_room.Goals as goal
+
+pub returns-in_err-relay-clause-part : goal.returns-in_err-relay-clause-part
+returns-in_err-relay-clause-part g c = λ t.
+    let step : RelayedPart (taken_by c.loop-line.line) (g.D.Door.current c.loop-line.door) (taken_by c.relay.new.line) (g.D.Door.current c.relay.new.door) =
+    rw (← c.has_room.ensures.taken) (c.in_err-relay.ensures.part t) in
+    relayed_then_part _ (taken_by c.loop-line.line) _ (g.D.Door.current c.args.door.now) (g.D.Door.current c.loop-line.door) (g.D.Door.current c.relay.new.door) (c.loop-line.invariant.whole t) step
+
+pub loop-line-preserved : goal.loop-line-preserved
+loop-line-preserved g c = record {
+  turns = search rules;
+  faults = search rules;
+  still_open = search rules;
+  line = search rules;
+  put = search rules;
+  answers = search rules;
+  ended = search rules;
+  whole = λ t.
+      let step : Relayed (taken_by c.loop-line.line) (g.D.Door.current c.loop-line.door) (taken_by c.relay.new.line) (g.D.Door.current c.relay.new.door) =
+      rw (← c.has_room.ensures.taken) (c.in_ok-relay.ensures.whole t) in
+      relayed_both _ (taken_by c.loop-line.line) _ (g.D.Door.current c.args.door.now) (g.D.Door.current c.loop-line.door) (g.D.Door.current c.relay.new.door) (c.loop-line.invariant.whole t) step;
+}

@@ -1,0 +1,12 @@
+pub mod Octets
+pub mod Door
+pub mod Line
+pub mod Sign
+pub mod Found
+pub mod Talk
+pub mod Joined
+pub mod Mail
+pub mod Memory
+pub mod Letters
+pub mod Ends
+pub mod Peers

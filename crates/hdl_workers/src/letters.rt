@@ -1,0 +1,97 @@
+//! A place for datagrams in memory.
+
+ghost use Rattle.std.specs.Prelude.{◌≡◌, [], map, true};
+
+use crate::failing::Faults;
+use crate::{DoorFault, Packets};
+use hdl_limits::PEERS_MAX;
+use std::alloc::Global;
+use std::collections::VecDeque;
+
+/// A datagram and its peer.
+#[derive(Debug, Drop)]
+pub struct Letter {
+    pub peer: u16,
+    pub octets: Vec<u8>,
+}
+
+/// A place in memory where these datagrams come in. One of its calls fails.
+#[derive(Drop)]
+pub struct MemoryPackets {
+    alloc: Global,
+    coming: VecDeque<Letter>,
+    received: Vec<Letter>,
+    sent: Vec<Letter>,
+    faults: Faults,
+}
+
+impl MemoryPackets {
+    /// A place where these datagrams come in. The call with this number fails, from 1 on.
+    pub fn new(alloc: Global, coming: VecDeque<Letter>, fails: u64) -> MemoryPackets
+        ensures fresh { (result.received.items ≡ []) × (result.sent.items ≡ []) }
+    {
+        MemoryPackets {
+            alloc,
+            coming,
+            received: Vec::new(alloc),
+            sent: Vec::new(alloc),
+            faults: Faults {
+                until: fails,
+                count: 0,
+            },
+        }
+    }
+
+    /// What was sent, oldest first.
+    pub fn sent(&self) -> &[Letter]
+        ensures { result.now ≡ self.now.sent.items }
+    {
+        self.sent.as_slice()
+    }
+}
+
+impl Packets for MemoryPackets {
+    ghost use Rattle.hdl_workers.specs.Letters.{letter_of};
+
+    ghost tells = { true };
+
+    ghost received = { λ p. map letter_of p.received.items };
+
+    ghost sent = { λ p. map letter_of p.sent.items };
+
+    ghost fault_count = { λ p. p.faults.count };
+
+    fn receive(&mut self, buffer: &mut [u8]) -> Result<Option<(u16, usize)>, DoorFault> {
+        self.faults.call()?;
+        if self.received.reserve(1).is_err() {
+            return Err(self.faults.raise());
+        }
+        let Some(letter) = self.coming.pop_front() else {
+            return Ok(None);
+        };
+        let Letter { peer, mut octets } = letter;
+        if peer == 0 || peer as usize > PEERS_MAX {
+            return Ok(None);
+        }
+        octets.truncate(buffer.len());
+        let count = octets.len();
+        buffer[..count].copy_from_slice(&octets);
+        self.received.push_reserved(Letter { peer, octets });
+        Ok(Some((peer, count)))
+    }
+
+    fn send(&mut self, peer: u16, octets: &[u8]) -> Result<(), DoorFault> {
+        self.faults.call()?;
+        let Ok(octets) = Vec::from_slice(self.alloc, octets) else {
+            return Err(self.faults.raise());
+        };
+        match self.sent.push(Letter { peer, octets }) {
+            Ok(()) => Ok(()),
+            Err(_) => Err(self.faults.raise()),
+        }
+    }
+
+    fn faults(&self) -> u64 {
+        self.faults.count
+    }
+}

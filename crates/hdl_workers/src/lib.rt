@@ -1,0 +1,57 @@
+//! Workers between a door and a lane.
+//!
+//! ```text
+//! Door    -> stream_worker -> Open, Frame, Bad, Close, End -> ring -> LaneEnds::next
+//! Packets -> packet_worker ->                      outcome <- ring <- LaneEnds::answer
+//! ```
+//!
+//! A lane has a ring for items, from a worker to the service, and a ring for outcomes back. [`stream_worker`] and [`packet_worker`]
+//! carry what comes through a door into a lane and its outcomes back out. [`LaneEnds`] is the service's side of a lane, of which
+//! this crate knows no more than that: it speaks of events, outcomes and octets, and `hdl_serve` serves them.
+//!
+//! Promised of a worker, over a door that tells its octets: every frame of what came is put, in order, with one moment and one nonce of its
+//! own, and what was written is the outcomes' octets. [`LaneEnds::settle`] gives what is left once both threads of a lane were joined.
+//! [`Peers`] numbers the addresses of a datagram socket.
+//!
+//! Nothing here takes a lock or waits for anybody: what finds nothing pauses by the caller's [`Clock`], and all is bounded by a
+//! number of turns. It stands on `hdl_events`, `hdl_frame` and `hdl_lanes`, and has doors, a clock and nonces in memory, of whose calls
+//! a given one fails.
+//!
+//! # Decisions
+//!
+//! - **A clock and a source of nonces tell what they have still to give, not what they gave.** With "zeros after the end" a history needs an
+//!   unbounded count, which a clock in memory can't hold.
+//! - **`leave` asks for an open connection, by a ghost item `is_open`.** A door in memory takes the room for its history in `accept`, so `leave`
+//!   can't be refused; without the condition no door in memory meets its clause.
+//! - **A failed send is told by the count of faults, not by an entry in a list**, since a list of failed tries would need memory that may be refused.
+//! - **Outcomes are joined in an array of 8,192 octets (`arrayvec`), which can't be refused.** One that finds no room behind the others is
+//!   written after them by itself.
+#![tactic(auto)]
+
+mod door;
+mod ends;
+mod failing;
+mod item;
+mod letters;
+mod line;
+mod memory;
+mod packet;
+mod peers;
+mod relay;
+mod sides;
+mod sources;
+mod stream;
+mod worker;
+
+pub use door::{Clock, Door, DoorFault, Nonces, Packets};
+pub use ends::LaneEnds;
+pub use hdl_events::{Octets, Outcome, What};
+pub use item::Item;
+pub use letters::{Letter, MemoryPackets};
+pub use memory::{MemoryConnection, MemoryDoor};
+pub use packet::packet_worker;
+pub use peers::Peers;
+pub use sides::{Far, lanes_of};
+pub use sources::{MemoryClock, MemoryNonces};
+pub use stream::stream_worker;
+pub use worker::{Why, WorkerEnd};

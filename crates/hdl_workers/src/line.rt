@@ -1,0 +1,61 @@
+//! A worker's side of its lane: events go in, and each has one outcome.
+
+ghost use Rattle.std.specs.Prelude.{◌≡◌, ◌+◌, length};
+ghost use Rattle.hdl_lanes.specs.Lane.{put_into, taken_from};
+
+use crate::Item;
+use hdl_events::{Outcome, What};
+use hdl_lanes::{Inlet, Outlet};
+
+#[derive(Drop)]
+pub(crate) struct Line {
+    pub(crate) inlet: Inlet<Item>,
+    pub(crate) outcomes: Outlet<Outcome>,
+    /// How many events have no outcome yet.
+    pub(crate) waiting: u64,
+    ghost balanced: { length (taken_from outcomes) + waiting ≡ length (put_into inlet) },
+}
+
+impl Line {
+    ghost use Rattle.std.specs.Prelude.{◌≡◌, ◌<◌, ◌++◌, ◌∷◌, [], IsSome, IsTrue, MatchOption};
+    ghost use Rattle.hdl_workers.specs.declared.item.Item.TheVariants.{Event};
+    ghost use Rattle.hdl_workers.specs.Line.{put_by, taken_by, HasPlace, SameLine};
+
+    /// Whether the next event is put at once.
+    pub(crate) fn has_room(&mut self) -> bool
+        ensures line { SameLine self.old self.new }
+        ensures room { IsTrue result → HasPlace self.new }
+        ensures put { put_by self.new ≡ put_by self.old }
+        ensures taken { taken_by self.new ≡ taken_by self.old }
+    {
+        self.waiting < u64::MAX && self.inlet.has_room()
+    }
+
+    /// Puts an event.
+    pub(crate) fn put(&mut self, what: What)
+        requires room { HasPlace self.old }
+        ensures line { SameLine self.old self.new }
+        ensures put { put_by self.new ≡ put_by self.old ++ Event what ∷ [] }
+        ensures taken { taken_by self.new ≡ taken_by self.old }
+    {
+        match self.inlet.put(Item::Event(what)) {
+            Ok(()) => self.waiting += 1,
+            Err(_) => unreachable!(),
+        }
+    }
+
+    /// One try to take the outcome of the oldest event that waits for one.
+    pub(crate) fn next(&mut self) -> Option<Outcome>
+        ensures line { SameLine self.old self.new }
+        ensures taken { MatchOption result (taken_by self.new ≡ taken_by self.old) (λ outcome. taken_by self.new ≡ taken_by self.old ++ outcome ∷ []) }
+        ensures put { put_by self.new ≡ put_by self.old }
+        ensures waiting { IsSome result → self.new.waiting < self.old.waiting }
+    {
+        if self.waiting == 0 {
+            return None;
+        }
+        let outcome = self.outcomes.take()?;
+        self.waiting -= 1;
+        Some(outcome)
+    }
+}

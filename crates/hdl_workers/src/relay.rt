@@ -1,0 +1,199 @@
+//! Outcomes on their way to the open connection.
+
+ghost use Rattle.std.specs.Prelude.{◌≡◌, ◌≤◌, ◌<◌, ◌++◌, ◌∷◌, [], List, IsTrue, MatchOption, OnOk, IfErr, true, length};
+ghost use mathlib.Core.List.{IsPrefix};
+ghost use Rattle.hdl_events.specs.declared.Outcome.{Outcome};
+ghost use Rattle.hdl_workers.specs.declared.worker.Stop.TheVariants.{Broken};
+ghost use Rattle.hdl_workers.specs.Octets.{octets_of};
+ghost use Rattle.hdl_workers.specs.Door.{say};
+ghost use Rattle.hdl_workers.specs.Line.{put_by, taken_by, HasPlace, SameLine, Joins, Relayed, RelayedPart};
+
+use crate::line::Line;
+use crate::worker::{Stop, spend};
+use crate::{Clock, Door};
+use arrayvec::ArrayVec;
+use hdl_events::Outcome;
+
+/// The most octets that are joined into one write.
+const JOINED: usize = 8192;
+
+/// Writes the octets to the open connection.
+fn write_all<D: Door>(door: &mut D, octets: &[u8], turns: &mut u64) -> Result<(), Stop>
+    ensures turns { turns.new ≤ turns.old }
+    ensures faults { D.fault_count door.old ≤ D.fault_count door.new }
+    ensures still_open { D.is_open door.new ≡ D.is_open door.old }
+    ensures ended { IsTrue D.tells → D.ended door.new ≡ D.ended door.old }
+    ensures whole { IsTrue D.tells → OnOk result (D.current door.new ≡ say octets.now (D.current door.old)) }
+    ensures part { IsTrue D.tells → IsPrefix (D.current door.new).written ((D.current door.old).written ++ octets.now) × ((D.current door.new).read ≡ (D.current door.old).read) }
+    ensures broken { IsTrue D.tells → IfErr result (λ stop. stop ≡ Broken → (D.current door.new).broken ≡ true) }
+{
+    let mut at = 0;
+    while at < octets.len() {
+        if !spend(turns) {
+            return Err(Stop::Turns);
+        }
+        match door.write(&octets[at..]) {
+            Ok(written) => at += written,
+            Err(_) => return Err(Stop::Broken),
+        }
+    }
+    Ok(())
+}
+
+/// The octets that are owed for an outcome.
+pub(crate) fn octets_of(outcome: &Outcome) -> &[u8]
+    ensures { result.now ≡ octets_of outcome.now }
+{
+    match outcome {
+        Outcome::Reply(octets) => octets.as_slice(),
+        Outcome::Busy(octets) | Outcome::CloseAfter(octets) => octets,
+        Outcome::Silent => &[],
+    }
+}
+
+/// Writes the octets of an outcome to the open connection.
+fn write_outcome<D: Door>(door: &mut D, outcome: &Outcome, turns: &mut u64) -> Result<(), Stop>
+    ensures turns { turns.new ≤ turns.old }
+    ensures faults { D.fault_count door.old ≤ D.fault_count door.new }
+    ensures still_open { D.is_open door.new ≡ D.is_open door.old }
+    ensures ended { IsTrue D.tells → D.ended door.new ≡ D.ended door.old }
+    ensures whole { IsTrue D.tells → OnOk result (D.current door.new ≡ say (octets_of outcome.now) (D.current door.old)) }
+    ensures part { IsTrue D.tells → IsPrefix (D.current door.new).written ((D.current door.old).written ++ octets_of outcome.now) × ((D.current door.new).read ≡ (D.current door.old).read) }
+    ensures broken { IsTrue D.tells → IfErr result (λ stop. stop ≡ Broken → (D.current door.new).broken ≡ true) }
+{
+    write_all(door, octets_of(outcome), turns)
+}
+
+/// Takes the outcomes that are there while their octets find room behind those that are joined. The one that found none.
+fn join(line: &mut Line, joined: &mut ArrayVec<u8, JOINED>) -> Option<Outcome>
+    ensures line { SameLine line.old line.new }
+    ensures put { put_by line.new ≡ put_by line.old }
+    ensures joined { MatchOption result
+        (Joins (taken_by line.old) joined.old.items (taken_by line.new) joined.new.items)
+        (λ last. (u : List Outcome) × (taken_by line.new ≡ u ++ last ∷ []) × Joins (taken_by line.old) joined.old.items u joined.new.items) }
+{
+    while line.waiting > 0 {
+        match line.next() {
+            None => return None,
+            Some(outcome) => match joined.try_extend_from_slice(octets_of(&outcome)) {
+                Ok(()) => {}
+                Err(_) => return Some(outcome),
+            },
+        }
+    }
+    None
+}
+
+/// Writes an outcome that was taken, and in the same write those that are there and find room in it.
+fn write_joined<D: Door>(
+    door: &mut D,
+    line: &mut Line,
+    first: Outcome,
+    turns: &mut u64,
+) -> Result<(), Stop>
+    ensures turns { turns.new ≤ turns.old }
+    ensures faults { D.fault_count door.old ≤ D.fault_count door.new }
+    ensures still_open { D.is_open door.new ≡ D.is_open door.old }
+    ensures line { SameLine line.old line.new }
+    ensures put { put_by line.new ≡ put_by line.old }
+    ensures ended { IsTrue D.tells → D.ended door.new ≡ D.ended door.old }
+    ensures whole { IsTrue D.tells → OnOk result ((t : List Outcome) → taken_by line.old ≡ t ++ first ∷ [] → Relayed t (D.current door.old) (taken_by line.new) (D.current door.new)) }
+    ensures part { IsTrue D.tells → (t : List Outcome) → taken_by line.old ≡ t ++ first ∷ [] → RelayedPart t (D.current door.old) (taken_by line.new) (D.current door.new) }
+    ensures broken { IsTrue D.tells → IfErr result (λ stop. stop ≡ Broken → (D.current door.new).broken ≡ true) }
+{
+    let mut joined = ArrayVec::new();
+    match joined.try_extend_from_slice(octets_of(&first)) {
+        Err(_) => write_outcome(door, &first, turns),
+        Ok(()) => {
+            let last = join(line, &mut joined);
+            write_all(door, joined.as_slice(), turns)?;
+            match last {
+                Some(outcome) => write_outcome(door, &outcome, turns),
+                None => Ok(()),
+            }
+        }
+    }
+}
+
+/// One try to take an outcome, which is then written, and with it those that are there.
+fn relay<D: Door, C: Clock>(
+    door: &mut D,
+    line: &mut Line,
+    clock: &mut C,
+    turns: &mut u64,
+) -> Result<(), Stop>
+    ensures turns { (turns.new ≤ turns.old) × OnOk result (turns.new < turns.old) }
+    ensures faults { D.fault_count door.old ≤ D.fault_count door.new }
+    ensures still_open { D.is_open door.new ≡ D.is_open door.old }
+    ensures line { SameLine line.old line.new }
+    ensures put { put_by line.new ≡ put_by line.old }
+    ensures answers { IsTrue C.tells → C.answers clock.new ≡ C.answers clock.old }
+    ensures ended { IsTrue D.tells → D.ended door.new ≡ D.ended door.old }
+    ensures whole { IsTrue D.tells → OnOk result (Relayed (taken_by line.old) (D.current door.old) (taken_by line.new) (D.current door.new)) }
+    ensures part { IsTrue D.tells → RelayedPart (taken_by line.old) (D.current door.old) (taken_by line.new) (D.current door.new) }
+    ensures broken { IsTrue D.tells → IfErr result (λ stop. stop ≡ Broken → (D.current door.new).broken ≡ true) }
+{
+    if !spend(turns) {
+        return Err(Stop::Turns);
+    }
+    match line.next() {
+        Some(outcome) => write_joined(door, line, outcome, turns),
+        None => {
+            clock.pause();
+            Ok(())
+        }
+    }
+}
+
+/// Waits until each event put has its outcome, and that was written.
+pub(crate) fn settle<D: Door, C: Clock>(
+    door: &mut D,
+    line: &mut Line,
+    clock: &mut C,
+    turns: &mut u64,
+) -> Result<(), Stop>
+    ensures turns { turns.new ≤ turns.old }
+    ensures faults { D.fault_count door.old ≤ D.fault_count door.new }
+    ensures still_open { D.is_open door.new ≡ D.is_open door.old }
+    ensures line { SameLine line.old line.new }
+    ensures put { put_by line.new ≡ put_by line.old }
+    ensures answers { IsTrue C.tells → C.answers clock.new ≡ C.answers clock.old }
+    ensures ended { IsTrue D.tells → D.ended door.new ≡ D.ended door.old }
+    ensures settled { OnOk result (length (taken_by line.new) ≡ length (put_by line.new)) }
+    ensures whole { IsTrue D.tells → OnOk result (Relayed (taken_by line.old) (D.current door.old) (taken_by line.new) (D.current door.new)) }
+    ensures part { IsTrue D.tells → RelayedPart (taken_by line.old) (D.current door.old) (taken_by line.new) (D.current door.new) }
+    ensures broken { IsTrue D.tells → IfErr result (λ stop. stop ≡ Broken → (D.current door.new).broken ≡ true) }
+{
+    while line.waiting > 0 {
+        relay(door, line, clock, turns)?;
+    }
+    Ok(())
+}
+
+/// Waits until the ring has room. Meanwhile outcomes are taken and written.
+pub(crate) fn await_room<D: Door, C: Clock>(
+    door: &mut D,
+    line: &mut Line,
+    clock: &mut C,
+    turns: &mut u64,
+) -> Result<(), Stop>
+    ensures turns { (turns.new ≤ turns.old) × OnOk result (turns.new < turns.old) }
+    ensures faults { D.fault_count door.old ≤ D.fault_count door.new }
+    ensures still_open { D.is_open door.new ≡ D.is_open door.old }
+    ensures line { SameLine line.old line.new }
+    ensures put { put_by line.new ≡ put_by line.old }
+    ensures room { OnOk result (HasPlace line.new) }
+    ensures answers { IsTrue C.tells → C.answers clock.new ≡ C.answers clock.old }
+    ensures ended { IsTrue D.tells → D.ended door.new ≡ D.ended door.old }
+    ensures whole { IsTrue D.tells → OnOk result (Relayed (taken_by line.old) (D.current door.old) (taken_by line.new) (D.current door.new)) }
+    ensures part { IsTrue D.tells → RelayedPart (taken_by line.old) (D.current door.old) (taken_by line.new) (D.current door.new) }
+    ensures broken { IsTrue D.tells → IfErr result (λ stop. stop ≡ Broken → (D.current door.new).broken ≡ true) }
+{
+    while spend(turns) {
+        if line.has_room() {
+            return Ok(());
+        }
+        relay(door, line, clock, turns)?;
+    }
+    Err(Stop::Turns)
+}

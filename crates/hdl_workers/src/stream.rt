@@ -1,0 +1,445 @@
+//! The worker of a stream lane.
+
+ghost use Rattle.std.specs.Prelude.{◌≡◌, ◌++◌, ◌∷◌, [], ◌≤◌, ◌<◌, IsTrue, IsFalse, OnOk, ◌⊎◌, ◌^◌, ◌-◌, IfErr, IfOk, OnErr, List, ℕ, true, length, None, replicate};
+ghost use Rattle.hdl_frame.specs.Held.{Held};
+ghost use Rattle.hdl_workers.specs.declared.worker.Stop.TheVariants.{Broken, Turns};
+ghost use Rattle.hdl_workers.specs.declared.worker.Why.TheVariants.{Device};
+ghost use Rattle.hdl_workers.specs.declared.item.Item.{Item};
+ghost use Rattle.hdl_workers.specs.declared.item.Item.TheVariants.{Event};
+ghost use Rattle.hdl_events.specs.declared.Outcome.{Outcome};
+ghost use Rattle.hdl_events.specs.declared.What.TheVariants.{Bad, Close};
+ghost use Rattle.hdl_lanes.specs.Lane.{put_into, taken_from, all_put, SameOutlet};
+ghost use Rattle.hdl_workers.specs.Door.{fresh, hear, Gives};
+ghost use Rattle.hdl_workers.specs.Found.{Finds, fault_found};
+ghost use Rattle.hdl_workers.specs.Joined.{EndsLane};
+ghost use Rattle.hdl_workers.specs.Line.{put_by, taken_by, SameLine, Relayed, RelayedPart};
+ghost use Rattle.hdl_workers.specs.Sign.{framed, moments_of, nonces_of, MomentsUsed, NoncesUsed, PutOne, WithEnd};
+ghost use Rattle.hdl_workers.specs.Talk.{fault_sign, FramesSoFar, Waiting, AllFrames, SomeFrames, AnyBeginning, Underway, CutOff, CanClose, History, Serves};
+
+use crate::line::Line;
+use crate::relay::{await_room, settle};
+use crate::worker::{Stop, Why, WorkerEnd, open, put_end, spend};
+use crate::{Clock, Door, Item, Nonces};
+use hdl_events::{Octets, Outcome, What};
+use hdl_frame::{Cutter, FrameFault};
+use hdl_lanes::{Inlet, Outlet};
+use std::alloc::Global;
+
+/// What stands next in a stream.
+#[derive(Drop)]
+enum Found {
+    /// A frame's octets.
+    Whole(Octets),
+    /// The two numbers of a faulty envelope.
+    Fault { session: u32, request: u32 },
+    /// Neither.
+    Nothing,
+}
+
+/// A copy of the octets. A growth that is refused is tried again.
+pub(crate) fn copy(alloc: Global, octets: &[u8], turns: &mut u64) -> Result<Octets, Stop>
+    ensures turns { turns.new ≤ turns.old }
+    ensures copied { IfOk result (λ copy. copy ≡ octets.now) }
+    ensures turns_only { IfErr result (λ stop. stop ≡ Turns) }
+{
+    while *turns > 0 {
+        match Vec::from_slice(alloc, octets) {
+            Ok(copy) => return Ok(Octets::new(copy)),
+            Err(_) => *turns -= 1,
+        }
+    }
+    Err(Stop::Turns)
+}
+
+/// A fault by the two numbers of its envelope.
+fn numbers(fault: FrameFault) -> Found
+    ensures { fault_found result ≡ fault_sign fault }
+{
+    match fault {
+        FrameFault::Version(e) | FrameFault::Flags(e) | FrameFault::TooLong(e) => Found::Fault {
+            session: e.session,
+            request: e.request,
+        },
+        FrameFault::Memory => Found::Nothing,
+    }
+}
+
+/// Takes what stands next.
+fn find(alloc: Global, cutter: &mut Cutter, turns: &mut u64) -> Result<Found, Stop>
+    requires sound { cutter.old.fault ≡ None }
+    ensures turns { turns.new ≤ turns.old }
+    ensures found { IfOk result (λ found. Finds cutter.old found cutter.new) }
+    ensures turns_only { IfErr result (λ stop. stop ≡ Turns) }
+{
+    match cutter.next_frame() {
+        Ok(Some(frame)) => Ok(Found::Whole(copy(alloc, frame.bytes, turns)?)),
+        Ok(None) => Ok(Found::Nothing),
+        Err(fault) => Ok(numbers(fault)),
+    }
+}
+
+/// Puts a frame, with the next moment and nonce.
+#[tactic(auto, using(crate::proofs::Used::used_rules))]
+fn submit_frame<D: Door, C: Clock, N: Nonces>(
+    door: &mut D,
+    line: &mut Line,
+    clock: &mut C,
+    nonces: &mut N,
+    turns: &mut u64,
+    bytes: Octets,
+) -> Result<(), Stop>
+    ensures turns { (turns.new ≤ turns.old) × OnOk result (turns.new < turns.old) }
+    ensures faults { D.fault_count door.old ≤ D.fault_count door.new }
+    ensures still_open { D.is_open door.new ≡ D.is_open door.old }
+    ensures line { SameLine line.old line.new }
+    ensures put { OnOk result (PutOne (framed 0 bytes) (put_by line.old) (put_by line.new)) }
+    ensures kept { OnErr result (put_by line.new ≡ put_by line.old) }
+    ensures moments { IsTrue C.tells → MomentsUsed (C.answers clock.old) (put_by line.old) (C.answers clock.new) (put_by line.new) }
+    ensures nonces { IsTrue N.tells → NoncesUsed (N.answers nonces.old) (put_by line.old) (N.answers nonces.new) (put_by line.new) }
+    ensures ended { IsTrue D.tells → D.ended door.new ≡ D.ended door.old }
+    ensures whole { IsTrue D.tells → OnOk result (Relayed (taken_by line.old) (D.current door.old) (taken_by line.new) (D.current door.new)) }
+    ensures part { IsTrue D.tells → RelayedPart (taken_by line.old) (D.current door.old) (taken_by line.new) (D.current door.new) }
+    ensures broken { IsTrue D.tells → IfErr result (λ stop. stop ≡ Broken → (D.current door.new).broken ≡ true) }
+{
+    await_room(door, line, clock, turns)?;
+    let moment = clock.now();
+    let nonce = nonces.next();
+    line.put(What::Frame {
+        peer: 0,
+        moment,
+        nonce,
+        bytes,
+    });
+    Ok(())
+}
+
+/// Puts the fault that stands next.
+fn submit_fault<D: Door, C: Clock>(
+    door: &mut D,
+    line: &mut Line,
+    clock: &mut C,
+    turns: &mut u64,
+    session: u32,
+    request: u32,
+) -> Result<(), Stop>
+    ensures turns { (turns.new ≤ turns.old) × OnOk result (turns.new < turns.old) }
+    ensures faults { D.fault_count door.old ≤ D.fault_count door.new }
+    ensures still_open { D.is_open door.new ≡ D.is_open door.old }
+    ensures line { SameLine line.old line.new }
+    ensures put { OnOk result (put_by line.new ≡ put_by line.old ++ Event (Bad session request) ∷ []) }
+    ensures kept { OnErr result (put_by line.new ≡ put_by line.old) }
+    ensures answers { IsTrue C.tells → C.answers clock.new ≡ C.answers clock.old }
+    ensures ended { IsTrue D.tells → D.ended door.new ≡ D.ended door.old }
+    ensures whole { IsTrue D.tells → OnOk result (Relayed (taken_by line.old) (D.current door.old) (taken_by line.new) (D.current door.new)) }
+    ensures part { IsTrue D.tells → RelayedPart (taken_by line.old) (D.current door.old) (taken_by line.new) (D.current door.new) }
+    ensures broken { IsTrue D.tells → IfErr result (λ stop. stop ≡ Broken → (D.current door.new).broken ≡ true) }
+{
+    await_room(door, line, clock, turns)?;
+    line.put(What::Bad { session, request });
+    Ok(())
+}
+
+/// Puts every frame that is there, and the fault behind them. Whether there was a fault.
+#[tactic(auto, using(crate::proofs::Used::used_rules))]
+fn submit_frames<D: Door, C: Clock, N: Nonces>(
+    alloc: Global,
+    door: &mut D,
+    line: &mut Line,
+    clock: &mut C,
+    nonces: &mut N,
+    turns: &mut u64,
+    cutter: &mut Cutter,
+) -> Result<bool, Stop>
+    requires sound { cutter.old.fault ≡ None }
+    requires talk { IsTrue D.tells → Underway (FramesSoFar cutter.old.rest) (D.ended door.old) (D.current door.old) (put_by line.old) (taken_by line.old) }
+    ensures turns { turns.new ≤ turns.old }
+    ensures faults { D.fault_count door.old ≤ D.fault_count door.new }
+    ensures still_open { D.is_open door.new ≡ D.is_open door.old }
+    ensures line { SameLine line.old line.new }
+    ensures sound { IfOk result (λ faulty. IsFalse faulty → cutter.new.fault ≡ None) }
+    ensures moments { IsTrue C.tells → MomentsUsed (C.answers clock.old) (put_by line.old) (C.answers clock.new) (put_by line.new) }
+    ensures nonces { IsTrue N.tells → NoncesUsed (N.answers nonces.old) (put_by line.old) (N.answers nonces.new) (put_by line.new) }
+    ensures ended { IsTrue D.tells → D.ended door.new ≡ D.ended door.old }
+    ensures waits { IsTrue D.tells → IfOk result (λ faulty. IsFalse faulty → Underway (Waiting cutter.new.rest) (D.ended door.new) (D.current door.new) (put_by line.new) (taken_by line.new)) }
+    ensures stops { IsTrue D.tells → IfOk result (λ faulty. IsTrue faulty → Underway AllFrames (D.ended door.new) (D.current door.new) (put_by line.new) (taken_by line.new)) }
+    ensures cut { IsTrue D.tells → CutOff SomeFrames (D.ended door.new) (D.current door.new) (put_by line.new) (taken_by line.new) }
+    ensures broken { IsTrue D.tells → IfErr result (λ stop. stop ≡ Broken → (D.current door.new).broken ≡ true) }
+{
+    while *turns > 0 {
+        match find(alloc, cutter, turns)? {
+            Found::Whole(bytes) => submit_frame(door, line, clock, nonces, turns, bytes)?,
+            Found::Nothing => return Ok(false),
+            Found::Fault { session, request } => {
+                submit_fault(door, line, clock, turns, session, request)?;
+                return Ok(true);
+            }
+        }
+    }
+    Err(Stop::Turns)
+}
+
+/// Reads once, and feeds the cutter. Whether octets came.
+fn hear<D: Door>(
+    door: &mut D,
+    turns: &mut u64,
+    cutter: &mut Cutter,
+    buffer: &mut [u8],
+) -> Result<bool, Stop>
+    requires sound { cutter.old.fault ≡ None }
+    ensures turns { (turns.new ≤ turns.old) × OnOk result (turns.new < turns.old) }
+    ensures faults { D.fault_count door.old ≤ D.fault_count door.new }
+    ensures still_open { D.is_open door.new ≡ D.is_open door.old }
+    ensures ended { IsTrue D.tells → D.ended door.new ≡ D.ended door.old }
+    ensures sound { OnOk result (cutter.new.fault ≡ None) }
+    ensures came { IsTrue D.tells → IfOk result (λ came. IsTrue came → (octets : List ℕ) × (D.current door.new ≡ hear octets (D.current door.old)) × (cutter.new ≡ record { rest = cutter.old.rest ++ octets; fault = None })) }
+    ensures closed { IsTrue D.tells → IfOk result (λ came. IsFalse came → (D.current door.new ≡ D.current door.old) × (cutter.new ≡ cutter.old)) }
+    ensures turns_only { IfErr result (λ stop. stop ≡ Turns) }
+    ensures heard { IsTrue D.tells → (octets : List ℕ) × (D.current door.new ≡ hear octets (D.current door.old)) }
+{
+    if !spend(turns) {
+        return Err(Stop::Turns);
+    }
+    match door.read(buffer) {
+        Err(_) | Ok(0) => Ok(false),
+        Ok(count) => {
+            while cutter.feed(&buffer[..count]).is_err() {
+                if !spend(turns) {
+                    return Err(Stop::Turns);
+                }
+            }
+            Ok(true)
+        }
+    }
+}
+
+/// Serves the open connection until its peer closes it, a frame is faulty or a call of the door fails.
+#[tactic(auto, using(crate::proofs::Used::used_rules))]
+fn converse<D: Door, C: Clock, N: Nonces>(
+    alloc: Global,
+    door: &mut D,
+    line: &mut Line,
+    clock: &mut C,
+    nonces: &mut N,
+    turns: &mut u64,
+    buffer: &mut [u8],
+) -> Result<(), Stop>
+    requires talk { IsTrue D.tells → Underway (Waiting []) (D.ended door.old) (D.current door.old) (put_by line.old) (taken_by line.old) }
+    ensures turns { turns.new ≤ turns.old }
+    ensures faults { D.fault_count door.old ≤ D.fault_count door.new }
+    ensures still_open { D.is_open door.new ≡ D.is_open door.old }
+    ensures line { SameLine line.old line.new }
+    ensures moments { IsTrue C.tells → MomentsUsed (C.answers clock.old) (put_by line.old) (C.answers clock.new) (put_by line.new) }
+    ensures nonces { IsTrue N.tells → NoncesUsed (N.answers nonces.old) (put_by line.old) (N.answers nonces.new) (put_by line.new) }
+    ensures ended { IsTrue D.tells → D.ended door.new ≡ D.ended door.old }
+    ensures settled { OnOk result (length (taken_by line.new) ≡ length (put_by line.new)) }
+    ensures whole { IsTrue D.tells → OnOk result (Underway AllFrames (D.ended door.new) (D.current door.new) (put_by line.new) (taken_by line.new)) }
+    ensures cut { IsTrue D.tells → CutOff SomeFrames (D.ended door.new) (D.current door.new) (put_by line.new) (taken_by line.new) }
+    ensures broken { IsTrue D.tells → IfErr result (λ stop. stop ≡ Broken → (D.current door.new).broken ≡ true) }
+{
+    let mut cutter = Cutter::new(alloc);
+    settle(door, line, clock, turns)?;
+    while hear(door, turns, &mut cutter, buffer)? {
+        let faulty = submit_frames(alloc, door, line, clock, nonces, turns, &mut cutter)?;
+        if faulty {
+            settle(door, line, clock, turns)?;
+            return Ok(());
+        }
+        settle(door, line, clock, turns)?;
+    }
+    Ok(())
+}
+
+/// As `converse`. Whether nothing more is owed to the peer, and not merely the turns were spent.
+#[tactic(auto, using(crate::proofs::Used::used_rules))]
+fn converse_to_end<D: Door, C: Clock, N: Nonces>(
+    alloc: Global,
+    door: &mut D,
+    line: &mut Line,
+    clock: &mut C,
+    nonces: &mut N,
+    turns: &mut u64,
+    buffer: &mut [u8],
+) -> bool
+    requires talk { IsTrue D.tells → Underway (Waiting []) (D.ended door.old) (D.current door.old) (put_by line.old) (taken_by line.old) }
+    ensures turns { turns.new ≤ turns.old }
+    ensures faults { D.fault_count door.old ≤ D.fault_count door.new }
+    ensures still_open { D.is_open door.new ≡ D.is_open door.old }
+    ensures line { SameLine line.old line.new }
+    ensures moments { IsTrue C.tells → MomentsUsed (C.answers clock.old) (put_by line.old) (C.answers clock.new) (put_by line.new) }
+    ensures nonces { IsTrue N.tells → NoncesUsed (N.answers nonces.old) (put_by line.old) (N.answers nonces.new) (put_by line.new) }
+    ensures ended { IsTrue D.tells → D.ended door.new ≡ D.ended door.old }
+    ensures can_close { IsTrue D.tells → IsTrue result → CanClose (D.ended door.new) (D.current door.new) (put_by line.new) (taken_by line.new) }
+    ensures cut { IsTrue D.tells → CutOff SomeFrames (D.ended door.new) (D.current door.new) (put_by line.new) (taken_by line.new) }
+{
+    match converse(alloc, door, line, clock, nonces, turns, buffer) {
+        Ok(()) => true,
+        Err(Stop::Broken) => true,
+        Err(Stop::Turns) => false,
+    }
+}
+
+/// Puts Close. Outcomes that are taken meanwhile go nowhere.
+fn put_close<C: Clock>(line: &mut Line, clock: &mut C, turns: &mut u64) -> bool
+    ensures turns { turns.new ≤ turns.old }
+    ensures line { SameLine line.old line.new }
+    ensures taken { (more : List Outcome) × (taken_by line.new ≡ taken_by line.old ++ more) }
+    ensures put { IsTrue result → put_by line.new ≡ put_by line.old ++ Event Close ∷ [] }
+    ensures kept { IsFalse result → put_by line.new ≡ put_by line.old }
+    ensures answers { IsTrue C.tells → C.answers clock.new ≡ C.answers clock.old }
+{
+    while spend(turns) {
+        if line.has_room() {
+            line.put(What::Close);
+            return true;
+        }
+        if line.next().is_none() {
+            clock.pause();
+        }
+    }
+    false
+}
+
+/// Takes the outcomes that are left, which go nowhere.
+fn drop_outcomes<C: Clock>(line: &mut Line, clock: &mut C, turns: &mut u64) -> bool
+    ensures turns { turns.new ≤ turns.old }
+    ensures line { SameLine line.old line.new }
+    ensures taken { (more : List Outcome) × (taken_by line.new ≡ taken_by line.old ++ more) }
+    ensures put { put_by line.new ≡ put_by line.old }
+    ensures answers { IsTrue C.tells → C.answers clock.new ≡ C.answers clock.old }
+    ensures settled { IsTrue result → length (taken_by line.new) ≡ length (put_by line.new) }
+{
+    while line.waiting > 0 {
+        if !spend(turns) {
+            return false;
+        }
+        if line.next().is_none() {
+            clock.pause();
+        }
+    }
+    true
+}
+
+/// Serves the connection that was accepted, and leaves it. Whether the turns sufficed.
+#[tactic(auto, using(crate::proofs::Used::used_rules))]
+fn serve_connection<D: Door, C: Clock, N: Nonces>(
+    alloc: Global,
+    door: &mut D,
+    line: &mut Line,
+    clock: &mut C,
+    nonces: &mut N,
+    turns: &mut u64,
+    buffer: &mut [u8],
+) -> bool
+    requires ready { D.is_open door.old ≡ true }
+    requires fresh { IsTrue D.tells → D.current door.old ≡ fresh }
+    requires history { IsTrue D.tells → History (D.ended door.old) (put_by line.old) (taken_by line.old) }
+    requires settled { length (taken_by line.old) ≡ length (put_by line.old) }
+    ensures turns { turns.new ≤ turns.old }
+    ensures faults { D.fault_count door.old ≤ D.fault_count door.new }
+    ensures line { SameLine line.old line.new }
+    ensures moments { IsTrue C.tells → MomentsUsed (C.answers clock.old) (put_by line.old) (C.answers clock.new) (put_by line.new) }
+    ensures nonces { IsTrue N.tells → NoncesUsed (N.answers nonces.old) (put_by line.old) (N.answers nonces.new) (put_by line.new) }
+    ensures settled { IsTrue result → length (taken_by line.new) ≡ length (put_by line.new) }
+    ensures history { IsTrue D.tells → IsTrue result → History (D.ended door.new) (put_by line.new) (taken_by line.new) }
+    ensures cut { IsTrue D.tells → IsFalse result → CutOff AnyBeginning (D.ended door.new) (D.current door.new) (put_by line.new) (taken_by line.new) }
+{
+    if !open(line, clock, turns) {
+        return false;
+    }
+    if !converse_to_end(alloc, door, line, clock, nonces, turns, buffer) {
+        return false;
+    }
+    if !put_close(line, clock, turns) {
+        return false;
+    }
+    if !drop_outcomes(line, clock, turns) {
+        return false;
+    }
+    if !spend(turns) {
+        return false;
+    }
+    door.leave();
+    true
+}
+
+/// One connection after the other.
+#[tactic(auto, using(crate::proofs::Used::used_rules))]
+fn serve_door<D: Door, C: Clock, N: Nonces>(
+    alloc: Global,
+    door: &mut D,
+    line: &mut Line,
+    clock: &mut C,
+    nonces: &mut N,
+    turns: &mut u64,
+) -> Why
+    requires history { IsTrue D.tells → History (D.ended door.old) (put_by line.old) (taken_by line.old) }
+    requires settled { length (taken_by line.old) ≡ length (put_by line.old) }
+    ensures line { SameLine line.old line.new }
+    ensures moments { IsTrue C.tells → MomentsUsed (C.answers clock.old) (put_by line.old) (C.answers clock.new) (put_by line.new) }
+    ensures nonces { IsTrue N.tells → NoncesUsed (N.answers nonces.old) (put_by line.old) (N.answers nonces.new) (put_by line.new) }
+    ensures device { result ≡ Device → (D.fault_count door.old < D.fault_count door.new) ⊎ (D.fault_count door.old ≡ 2 ^ 64 - 1) }
+    ensures whole { IsTrue D.tells → result ≡ Device → History (D.ended door.new) (put_by line.new) (taken_by line.new) }
+    ensures serves { IsTrue D.tells → Serves (D.ended door.new) (D.current door.new) (put_by line.new) (taken_by line.new) }
+{
+    let mut buffer = [0u8; 8192];
+    while spend(turns) {
+        match door.accept() {
+            Err(_) => return Why::Device,
+            Ok(false) => clock.pause(),
+            Ok(true) => {
+                if !serve_connection(alloc, door, line, clock, nonces, turns, &mut buffer) {
+                    return Why::Turns;
+                }
+            }
+        }
+    }
+    Why::Turns
+}
+
+/// Serves one connection after the other until the turns are spent or `accept` fails: then it puts End and ends with Device.
+///
+/// Of each connection it puts Open, every frame that was read, Bad where a faulty envelope stands next, and Close. It reads at most
+/// 8,192 octets at a time, and again only once each event that it put has its outcome and that was written. What it writes is the
+/// octets of the outcomes, in order. Where a read or a write fails it puts Close and goes on with the next connection; octets of
+/// an unfinished frame are dropped. A growth that is refused is tried again, as a turn; where the ring is full it takes outcomes and
+/// puts again. Each frame has the next moment of the clock and the next nonce of the source, and none of these is left out.
+pub fn stream_worker<D: Door, C: Clock, N: Nonces>(
+    alloc: Global,
+    door: &mut D,
+    clock: &mut C,
+    nonces: &mut N,
+    inlet: Inlet<Item>,
+    outcomes: Outlet<Outcome>,
+    turns: u64,
+) -> WorkerEnd
+    requires empty { (put_into inlet ≡ []) × (taken_from outcomes ≡ []) }
+    requires first { IsTrue D.tells → D.ended door.old ≡ [] }
+    ensures inlet { EndsLane inlet result.ended }
+    ensures outlet { SameOutlet outcomes result.outlet }
+    ensures device { result.why ≡ Device → (D.fault_count door.old < D.fault_count door.new) ⊎ (D.fault_count door.old ≡ 2 ^ 64 - 1) }
+    ensures moments { IsTrue C.tells → Gives 0 (C.answers clock.old) (moments_of (all_put result.ended)) (C.answers clock.new) }
+    ensures nonces { IsTrue N.tells → Gives (replicate 16 0) (N.answers nonces.old) (nonces_of (all_put result.ended)) (N.answers nonces.new) }
+    ensures whole { IsTrue D.tells → result.why ≡ Device → (events : List Item) × WithEnd events (all_put result.ended) × History (D.ended door.new) events (taken_from result.outlet) }
+    ensures serves { IsTrue D.tells → (events : List Item) × WithEnd events (all_put result.ended) × Serves (D.ended door.new) (D.current door.new) events (taken_from result.outlet) }
+{
+    let mut turns = turns;
+    let mut line = Line {
+        inlet,
+        outcomes,
+        waiting: 0,
+    };
+    let why = serve_door(alloc, door, &mut line, clock, nonces, &mut turns);
+    let Line {
+        mut inlet,
+        outcomes,
+        waiting: _,
+    } = line;
+    if why == Why::Device {
+        put_end(&mut inlet, clock, &mut turns);
+    }
+    WorkerEnd {
+        why,
+        ended: inlet.finish(),
+        outlet: outcomes,
+    }
+}
