@@ -19,7 +19,7 @@ import lanes
 
 PROGRAM = sys.argv[1]
 # What runs it.
-SCRIPT = {"handled": "run"}.get(PROGRAM, PROGRAM)
+SCRIPT = {"handled": "run", "hdl_web": "hdl proxy"}.get(PROGRAM, PROGRAM)
 LOG = f"crates/{PROGRAM}/out/build.log"
 # Processor seconds to load a crate's libraries: of any crate, and of one over a large library of the kit.
 LOAD, LARGE_LOAD = 15, 60

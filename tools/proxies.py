@@ -1,4 +1,4 @@
-"""proxies.py: asks the proved program crates/hdl/out/hdl proxy over HTTP, and compares whole answers: of real servers behind it (the proved
+"""proxies.py: asks the proved program crates/hdl_web/out/hdl_web (`hdl proxy`) over HTTP, and compares whole answers: of real servers behind it (the proved
 program crates/handled/out/handled), of servers in this program that answer badly, and of none; heads that are too long, clients that are
 slow, and a thousand that are idle.
 
@@ -15,7 +15,8 @@ import threading
 import time
 
 ROOT = os.path.dirname(os.path.dirname(os.path.abspath(__file__)))
-PROGRAM = os.environ.get("HDL", os.path.join(ROOT, "crates", "hdl", "out", "hdl"))
+PROGRAM = os.environ.get("PROXY", os.path.join(ROOT, "crates", "hdl_web", "out", "hdl_web"))
+WORDS = os.environ.get("HDL", os.path.join(ROOT, "crates", "hdl", "out", "hdl"))
 SERVER = os.environ.get("HANDLED", os.path.join(ROOT, "crates", "handled", "out", "handled"))
 IDLE = 1000
 # The most seconds in which something that takes ten should have come, on a machine that others use too.
@@ -212,7 +213,7 @@ def running(words, given, lines):
 def proxy(servers):
     """A proxy before the servers at these ports: its own port."""
     (port,) = ports(1)
-    words = [PROGRAM, "proxy", "--listen", "127.0.0.1:%d" % port]
+    words = [PROGRAM, "--listen", "127.0.0.1:%d" % port]
     for server in servers:
         words += ["--server", "127.0.0.1:%d" % server]
     with running(words, "", 1):
@@ -366,7 +367,7 @@ def main():
     more_files()
     cases = []
     first, second = ports(2)
-    words = subprocess.run([PROGRAM, "tenants"], input=TENANTS % (first, second), capture_output=True, text=True, check=True, timeout=60)
+    words = subprocess.run([WORDS, "tenants"], input=TENANTS % (first, second), capture_output=True, text=True, check=True, timeout=60)
     with running([SERVER, "serve"], words.stdout, 2), proxy([first, second]) as port:
         for part in (pages, too_long, idle):
             cases += part(port)

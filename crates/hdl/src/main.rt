@@ -3,38 +3,20 @@
 //! ```text
 //! hdl resolve HANDLE [--index N].. [--type TYPE]..    list, create, delete, add, remove, modify likewise: one request of a server
 //! hdl batch < BATCH                                   many requests of a server, over one connection
-//! hdl proxy --server HOST:PORT..                      leads browsers from a handle's address to its URL
 //! hdl explain [--keys] < LINES                        each line of a script, of what handled prints, or of octets alone, in words
 //! hdl script < WORDS, hdl tenants < WORDS             words to the lines that handled takes
 //! ```
 //!
-//! It is the command line of `hdl_commands` and `hdl_words`, which stand on the codecs that the service stands on: what it sends is in
-//! the grammar, and what it shows is what came. Nothing else needs `clap`.
+//! It is the command line of `hdl_commands`, which stands on the codecs that the service stands on: what it sends is in the grammar,
+//! and what it shows is what came. `./hdl proxy` is a program of its own, `hdl_web`.
 #![tactic(auto)]
 
-mod proxy;
 mod words;
 
-use hdl_commands::{BatchFault, ask, run_batch_text, write_script, write_tenants};
-use hdl_web::serve_http;
-use hdl_words::{Page, explain};
-use proxy::{Asker, opened};
+use hdl_commands::{BatchFault, Page, ask, explain, run_batch_text, write_script, write_tenants};
 use std::io::{self, Read};
-use std::net::SocketAddr;
 use std::process::ExitCode;
 use words::{Asked, read_words};
-
-/// What is left to do once the command line was read.
-#[derive(Drop)]
-enum Next {
-    /// Nothing: this is the exit status.
-    Ended(u8),
-    /// Serve browsers.
-    Serve {
-        listen: SocketAddr,
-        askers: Vec<Asker>,
-    },
-}
 
 /// Explains the lines of standard input.
 fn explain_all(rt: &HostRuntime, shows_keys: bool) -> io::Result<()> {
@@ -90,33 +72,27 @@ fn tenants_all(rt: &HostRuntime) -> io::Result<u8> {
     print_made(rt, write_tenants(rt.alloc(), &text))
 }
 
-fn run(rt: &HostRuntime) -> io::Result<Next> {
+/// Does what the command line asks for, and answers the exit status.
+fn run(rt: &HostRuntime) -> io::Result<u8> {
     match read_words(rt) {
         Asked::Explain { shows_keys } => {
             explain_all(rt, shows_keys)?;
-            Ok(Next::Ended(0))
+            Ok(0)
         }
-        Asked::Ask(question) => Ok(Next::Ended(ask(rt, &question))),
-        Asked::Batch { server } => Ok(Next::Ended(batch_all(rt, &server)?)),
-        Asked::Proxy(words) => {
-            let (listen, askers) = opened(rt, &words)?;
-            Ok(Next::Serve { listen, askers })
-        }
-        Asked::Script => Ok(Next::Ended(script_all(rt)?)),
-        Asked::Tenants => Ok(Next::Ended(tenants_all(rt)?)),
-        Asked::Ended(status) => Ok(Next::Ended(status)),
+        Asked::Ask(question) => Ok(ask(rt, &question)),
+        Asked::Batch { server } => batch_all(rt, &server),
+        Asked::Script => script_all(rt),
+        Asked::Tenants => tenants_all(rt),
+        Asked::Ended(status) => Ok(status),
     }
 }
 
 fn main(rt: HostRuntime) -> ExitCode {
-    let served = match run(&rt) {
-        Ok(Next::Ended(status)) => return ExitCode::from(status),
-        Ok(Next::Serve { listen, askers }) => serve_http(&rt, listen, askers, &mut rt.stdout()),
-        Err(fault) => Err(fault),
-    };
-    if let Err(fault) = served {
-        let _ = eprintln!(rt; "hdl: {fault}");
-        return ExitCode::from(1);
+    match run(&rt) {
+        Ok(status) => ExitCode::from(status),
+        Err(fault) => {
+            let _ = eprintln!(rt; "hdl: {fault}");
+            ExitCode::from(1)
+        }
     }
-    ExitCode::SUCCESS
 }

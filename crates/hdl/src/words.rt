@@ -1,12 +1,9 @@
 //! The words of the command line.
 
-ghost use Rattle.std.specs.Prelude.{◌≡◌, if◌then◌else◌};
-
-use crate::proxy::{ProxyWords, proxy_command, proxy_words};
 use clap::{Arg, ArgAction, ArgMatches, Command, Error};
-use hdl_commands::Question;
+use hdl_commands::{Question, operation_in};
 use hdl_msg::OpCode;
-use hdl_words::operation_in;
+use hdl_status::status_of_words;
 use std::alloc::{AllocError, Global};
 use std::{env, io};
 
@@ -22,8 +19,6 @@ pub enum Asked {
     Ask(Question),
     /// The batch on standard input.
     Batch { server: String },
-    /// Serving browsers.
-    Proxy(ProxyWords),
     /// The script of the words on standard input.
     Script,
     /// The tenants text of the words on standard input.
@@ -131,40 +126,70 @@ fn batch<'a>(alloc: Global) -> Result<Command<'a>, AllocError> {
         .arg(server(alloc))
 }
 
+/// Adds a command that asks about a handle.
+fn with_question<'a>(
+    command: Command<'a>,
+    alloc: Global,
+    name: &'a str,
+    about: &'a str,
+) -> Result<Command<'a>, AllocError> {
+    command.subcommand(question(alloc, name, about)?)
+}
+
+/// Adds one whose request says something of the handle's values.
+fn with_values_question<'a>(
+    command: Command<'a>,
+    alloc: Global,
+    name: &'a str,
+    about: &'a str,
+    word: &'a str,
+) -> Result<Command<'a>, AllocError> {
+    command.subcommand(values_question(alloc, name, about, word)?)
+}
+
 /// The commands that ask, one request each.
 fn questions<'a>(command: Command<'a>, alloc: Global) -> Result<Command<'a>, AllocError> {
-    command
-        .subcommand(resolve(alloc)?)?
-        .subcommand(question(alloc, "list", "Asks for the handles of a naming authority")?)?
-        .subcommand(values_question(
-            alloc,
-            "create",
-            "Creates a handle with these values",
-            "VALUE",
-        )?)?
-        .subcommand(question(alloc, "delete", "Deletes a handle")?)?
-        .subcommand(values_question(alloc, "add", "Adds values to a handle", "VALUE")?)?
-        .subcommand(values_question(
-            alloc,
-            "remove",
-            "Removes the values with these indexes",
-            "INDEX",
-        )?)?
-        .subcommand(values_question(
-            alloc,
-            "modify",
-            "Puts these values in the place of those with their indexes",
-            "VALUE",
-        )?)
+    let command = command.subcommand(resolve(alloc)?)?;
+    let command = with_question(
+        command,
+        alloc,
+        "list",
+        "Asks for the handles of a naming authority",
+    )?;
+    let command = with_values_question(
+        command,
+        alloc,
+        "create",
+        "Creates a handle with these values",
+        "VALUE",
+    )?;
+    let command = with_question(command, alloc, "delete", "Deletes a handle")?;
+    let command = with_values_question(command, alloc, "add", "Adds values to a handle", "VALUE")?;
+    let command = with_values_question(
+        command,
+        alloc,
+        "remove",
+        "Removes the values with these indexes",
+        "INDEX",
+    )?;
+    with_values_question(
+        command,
+        alloc,
+        "modify",
+        "Puts these values in the place of those with their indexes",
+        "VALUE",
+    )
 }
 
 fn command<'a>(alloc: Global) -> Result<Command<'a>, AllocError> {
     let command = Command::new(alloc, "hdl")
         .about("A handle service in words")
+        .after_help(
+            "./hdl proxy, a program of its own, leads browsers from a handle's address to its URL: see ./hdl proxy --help",
+        )
         .subcommand_required(true);
     questions(command, alloc)?
         .subcommand(batch(alloc)?)?
-        .subcommand(proxy_command(alloc)?)?
         .subcommand(explain(alloc)?)?
         .subcommand(Command::new(alloc, "script").about(
             "Makes the script for handled of a tenants text with values in words, a line `run`, and a batch, on standard input",
@@ -225,7 +250,6 @@ fn asked_of(alloc: Global, name: &str, matches: &ArgMatches<'_>) -> Result<Asked
         "batch" => Ok(Asked::Batch {
             server: server_of(alloc, matches)?,
         }),
-        "proxy" => Ok(Asked::Proxy(proxy_words(alloc, matches)?)),
         "script" => Ok(Asked::Script),
         "tenants" => Ok(Asked::Tenants),
         other => match operation_in(other) {
@@ -248,13 +272,6 @@ fn words_of(rt: &HostRuntime) -> io::Result<Vec<String>> {
     Ok(words)
 }
 
-/// The exit status where nothing is left to do: 0 behind help that was asked for, 2 behind a fault of the command line.
-fn status(is_help: bool) -> u8
-    ensures { result ≡ (if is_help then 0 else 2) }
-{
-    if is_help { 0 } else { 2 }
-}
-
 /// Reads the command line, and prints what `clap` has to say of it.
 pub fn read_words(rt: &HostRuntime) -> Asked {
     let Ok(words) = words_of(rt) else {
@@ -267,7 +284,7 @@ pub fn read_words(rt: &HostRuntime) -> Asked {
             let is_help = !error.use_stderr();
             match error.print(rt) {
                 Err(_) if is_help => Asked::Ended(1),
-                _ => Asked::Ended(status(is_help)),
+                _ => Asked::Ended(status_of_words(is_help)),
             }
         }
     }

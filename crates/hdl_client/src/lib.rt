@@ -1,4 +1,4 @@
-//! A client of a handle service, over any stream of octets.
+//! A client of a handle service, over any stream of octets; [`connect`] opens one over TCP.
 //!
 //! ```text
 //! RequestBody -> Session::ask -> a frame to the stream, a frame from it; with a key, the answer to its challenge -> the reply's frame
@@ -12,12 +12,14 @@
 
 mod batch;
 mod challenge;
+mod connecting;
 mod exchange;
 mod fault;
 mod session;
 
 pub use batch::{Batch, Outcomes, Task};
 pub use challenge::{Key, challenge_answer, challenge_response, request_message, signed_part};
+pub use connecting::connect;
 pub use exchange::{framed, receive, send};
 pub use fault::ClientFault;
 pub use session::Session;

@@ -1,13 +1,13 @@
 //! One request, asked of a server.
 
-use crate::connecting::{connect, key_of};
 use crate::fault::WordFault;
+use crate::key::key_of;
 use crate::request::{Details, request_of, takes_values};
-use hdl_client::{ClientFault, Key};
+use crate::words::{Page, code_name, push_reply, push_short_reply};
+use hdl_client::{ClientFault, Key, connect};
 use hdl_frame::{Envelope, one_datagram};
 use hdl_msg::{OpCode, ReplyView, RequestBody, read_reply};
 use hdl_name::is_name;
-use hdl_words::{Page, code_name, push_reply, push_short_reply};
 use std::alloc::{AllocError, Global};
 use std::io;
 use thiserror::Error;

@@ -3,11 +3,11 @@
 use crate::fault::WordFault;
 use crate::key::read_key;
 use crate::request::{Details, request_of, takes_values};
+use crate::words::operation_in;
 use hdl_client::{Batch, Task, request_message};
 use hdl_msg::OpCode;
 use hdl_name::Name;
 use hdl_value::Value;
-use hdl_words::operation_in;
 use std::alloc::Global;
 use thiserror::Error;
 

@@ -1,9 +1,8 @@
 //! A batch, asked of a server.
 
 use crate::batch_text::read_batch;
-use crate::connecting::connect;
-use hdl_client::{Batch, ClientFault, Outcomes, Task};
-use hdl_words::code_name;
+use crate::words::code_name;
+use hdl_client::{Batch, ClientFault, Outcomes, Task, connect};
 use std::io::IsTerminal;
 
 /// Prints what comes, and counts it.

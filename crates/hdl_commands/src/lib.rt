@@ -1,10 +1,10 @@
 //! What the program `hdl` does, but for its command line.
 //!
 //! ```text
-//! Question -> ask -> hdl_client -> a reply in words (hdl_words)
+//! Question -> ask -> hdl_client -> a reply in words ([`words`])
+//! octets -> explain -> the request, reply or value that they are, in words ([`words`])
 //! text of a batch -> read_batch -> Batch -> run_batch, or write_script -> the script that `handled` takes
 //! lines with values in words -> write_tenants -> lines of a tenants text
-//! the message of a request -> Servers::ask -> that of the first reply which is no referral
 //! ```
 //!
 //! Requests are read from words and written by `hdl_msg`'s `write_request`, so what is sent is in the grammar; a value's words are
@@ -14,20 +14,18 @@
 mod asking;
 mod batch_text;
 mod batches;
-mod connecting;
 mod fault;
 mod key;
 mod request;
 mod scripts;
-mod servers;
 mod tenants;
+mod words;
 
 pub use asking::{Question, ask};
 pub use batch_text::{BatchFault, read_batch};
 pub use batches::run_batch_text;
-pub use connecting::{SECRET_VARIABLE, connect};
 pub use fault::WordFault;
-pub use key::read_reference;
+pub use key::SECRET_VARIABLE;
 pub use scripts::write_script;
-pub use servers::Servers;
 pub use tenants::write_tenants;
+pub use words::{Page, explain, operation_in};

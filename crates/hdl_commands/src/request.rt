@@ -1,8 +1,7 @@
 //! Requests in words.
 
 use crate::fault::WordFault;
-use crate::key::index_in;
-use hdl_lines::read_value_line;
+use hdl_lines::{index_in, read_value_line};
 use hdl_msg::{OpCode, RequestBody};
 use hdl_value::{Listed, Octets, Value};
 use std::alloc::{AllocError, Global};

@@ -13,17 +13,20 @@
 //! such a line can't say is `OCTETS` and its digits.
 //!
 //! [`value_line`] writes the line of a value, [`read_value_line`] reads a line. The timestamp isn't part of a line, so a value that
-//! was read has timestamp 0.
+//! was read has timestamp 0. Of a key's data [`shown_data`] says whether it is shown, and a reference to a key stands in words as
+//! [`read_reference`] reads it.
 //!
 //! What it promises: `specs/Lines.antt` defines the line of each value (`line_of`), and for each list of octets the value that it
 //! says or the first field that is wrong (`value_in`). The two functions do just that, want of memory aside, and reading refuses a
 //! value that isn't sound with its first fault. [`written_is_read`] is the law: the line of every value says that value, but for its
-//! timestamp.
+//! timestamp. The data of a key is shown only where it is asked for, and a reference has an index from 1 on and a name.
 #![tactic(auto)]
 
 mod data;
 mod fault;
 mod fields;
+mod hiding;
+mod keys;
 mod laws;
 mod read;
 #[cfg(test)]
@@ -31,6 +34,8 @@ mod tests;
 mod write;
 
 pub use fault::LineFault;
+pub use hiding::shown_data;
+pub use keys::{index_in, read_reference};
 pub use laws::written_is_read;
 pub use read::read_value_line;
 pub use write::{has_fields, put_fields, value_line};

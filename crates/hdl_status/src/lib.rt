@@ -1,4 +1,4 @@
-//! The exit status of a command line, which `handled` and `hdl` share.
+//! The exit status of a command line, which `handled`, `hdl` and `hdl proxy` share.
 //!
 //! A program that has words on its command line reads them with `clap`. Where these leave nothing to do, [`status_of_words`] says
 //! with which status it ends (docs/PROTOCOL.md, "The tenants text and scripts"). It stands in a crate of its own, so that its wrong

@@ -1,8 +1,8 @@
 //! A reply in words.
 
-use crate::naming::{code_name, operation_name};
-use crate::page::{Page, text_of};
-use crate::value::{push_data, push_value};
+use crate::words::naming::{code_name, operation_name};
+use crate::words::page::{Page, text_of};
+use crate::words::value::{push_data, push_value};
 use hdl_frame::Envelope;
 use hdl_msg::{ContentView, Digest, ReplyView, Strings, Values};
 use std::alloc::AllocError;

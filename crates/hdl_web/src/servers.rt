@@ -1,9 +1,9 @@
 //! Servers that are asked one after another.
 
-use crate::connecting::connect;
-use hdl_client::{ClientFault, Session};
+use hdl_client::{ClientFault, Session, connect};
 use hdl_msg::read_reply;
-use std::alloc::AllocError;
+use hdl_proxy::{NoAnswer, Resolver};
+use std::alloc::{AllocError, Global};
 use std::net::TcpStream;
 
 /// The code of a reply that refers to another service.
@@ -17,7 +17,7 @@ struct Server {
     session: Option<Session<TcpStream>>,
 }
 
-/// Servers, each with the prefixes that it answers for. Connections are kept.
+/// Servers, each with the prefixes that it answers for, asked one question at a time. Connections are kept.
 #[derive(Drop)]
 pub struct Servers {
     rt: HostRuntime,
@@ -84,7 +84,7 @@ impl Servers {
 
     /// Sends the message of a request to one server after another, until one gives a reply that is no referral (code 302), and gives
     /// this reply's message. Else the fault of a server that didn't answer, or the last referral.
-    pub fn ask(&mut self, message: &[u8]) -> Result<Vec<u8>, ClientFault> {
+    fn reply_to(&mut self, message: &[u8]) -> Result<Vec<u8>, ClientFault> {
         let rt = self.rt;
         let mut last = Err(ClientFault::Connection);
         let mut failed = None;
@@ -99,6 +99,16 @@ impl Servers {
         match failed {
             Some(fault) => Err(fault),
             None => last,
+        }
+    }
+}
+
+impl Resolver for Servers {
+    fn ask(&mut self, _alloc: Global, _handle: &[u8], message: &[u8]) -> Result<Vec<u8>, NoAnswer> {
+        match self.reply_to(message) {
+            Ok(reply) => Ok(reply),
+            Err(ClientFault::Memory) => Err(NoAnswer::Memory),
+            Err(_) => Err(NoAnswer::Unreachable),
         }
     }
 }

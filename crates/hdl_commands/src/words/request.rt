@@ -1,8 +1,8 @@
 //! A request in words.
 
-use crate::naming::operation_name;
-use crate::page::{Page, text_of};
-use crate::value::push_value;
+use crate::words::naming::operation_name;
+use crate::words::page::{Page, text_of};
+use crate::words::value::push_value;
 use hdl_frame::Envelope;
 use hdl_msg::{Body, Numbers, OpFlag, Request, Strings, Values};
 use std::alloc::AllocError;

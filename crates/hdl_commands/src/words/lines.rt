@@ -1,9 +1,9 @@
 //! Lines of octets in words.
 
-use crate::page::Page;
-use crate::reply::push_reply;
-use crate::request::push_request;
-use crate::value::push_value;
+use crate::words::page::Page;
+use crate::words::reply::push_reply;
+use crate::words::request::push_request;
+use crate::words::value::push_value;
 use hdl_frame::{Frame, one_datagram};
 use hdl_msg::{read_reply, read_request};
 use hdl_value::cut_value;
@@ -73,20 +73,34 @@ fn is_reply(page: &Page, digits: &str) -> bool {
     }
 }
 
+/// Adds what a script says of a frame, and the frame.
+fn push_event(
+    page: &mut Page,
+    lane: &str,
+    peer: &str,
+    moment: &str,
+    digits: &str,
+) -> Result<(), AllocError> {
+    let said = format!(in page.alloc; ";; lane {lane}, peer {peer}, moment {moment}")?;
+    page.push(&said)?;
+    push_digits(page, digits, false)
+}
+
+/// Adds what `handled` says of a reply, and the reply.
+fn push_outcome(page: &mut Page, lane: &str, what: &str, digits: &str) -> Result<(), AllocError> {
+    let said = format!(in page.alloc; ";; lane {lane}: {what}")?;
+    page.push(&said)?;
+    push_digits(page, digits, true)
+}
+
 /// Adds what a line says: a line of a script or of what `handled` prints, or the digits of a frame alone. Any other line stays as it is.
 pub fn explain(page: &mut Page, line: &str) -> Result<(), AllocError> {
     let fields: Vec<&str> = line.split(' ').collect(page.alloc)?;
     match fields.as_slice() {
         ["value", handle, digits] => push_row(page, handle, digits),
-        ["frame", lane, peer, moment, _, digits] => {
-            let said = format!(in page.alloc; ";; lane {lane}, peer {peer}, moment {moment}")?;
-            page.push(&said)?;
-            push_digits(page, digits, false)
-        }
+        ["frame", lane, peer, moment, _, digits] => push_event(page, lane, peer, moment, digits),
         [lane, what, digits] if matches!(*what, "reply" | "busy" | "close") => {
-            let said = format!(in page.alloc; ";; lane {lane}: {what}")?;
-            page.push(&said)?;
-            push_digits(page, digits, true)
+            push_outcome(page, lane, what, digits)
         }
         [digits] if digits.len() >= 40 => push_digits(page, digits, is_reply(page, digits)),
         _ => page.push(line),

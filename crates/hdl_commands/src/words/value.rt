@@ -1,25 +1,12 @@
 //! A value as a line.
 
-ghost use Rattle.std.specs.Prelude.{◌≡◌, ◌⊎◌, true, false, Some, None, IsNone, IsSome};
-ghost use Rattle.hdl_value.specs.Refs.{is_secret_key};
 ghost use Rattle.hdl_value.specs.Spelling.{CanBeSpelt};
 
-use crate::page::{Page, text_of};
-use hdl_lines::{has_fields, put_fields, value_line};
+use crate::words::page::{Page, text_of};
+use hdl_lines::{has_fields, put_fields, shown_data, value_line};
 use hdl_value::{CutValue, HS_SECKEY, Value, read_value};
 use jiff::Timestamp;
 use std::alloc::{AllocError, Global};
-
-/// The data of a value, but that of a key where it isn't asked for.
-pub fn shown_data(value: &Value, shows_keys: bool) -> Option<&[u8]>
-    ensures hidden { is_secret_key value.now ≡ true → shows_keys ≡ false → IsNone result }
-    ensures shown { (is_secret_key value.now ≡ false) ⊎ (shows_keys ≡ true) → IsSome result }
-{
-    if value.is_secret_key() && !shows_keys {
-        return None;
-    }
-    Some(value.bytes.as_slice())
-}
 
 /// The line of a key whose data isn't shown. None where fields in words don't say the rest of it.
 fn hidden_line(alloc: Global, value: &Value) -> Result<Option<Vec<u8>>, AllocError> {
@@ -61,21 +48,35 @@ fn line_of(page: &Page, value: &Value) -> Result<Option<Vec<u8>>, AllocError>
     }
 }
 
-/// Adds a value: when it was written, as a comment, and its line.
-pub fn push_value(page: &mut Page, cut: &CutValue<'_>) -> Result<(), AllocError> {
-    if let Ok((value, _)) = read_value(page.alloc, cut.octets()) {
-        push_written(page, &value)?;
-        if let Some(line) = line_of(page, &value)? {
-            let text = text_of(page.alloc, &line)?;
-            return page.push(&text);
-        }
+/// The line of a value as text, where it may be shown so.
+fn text_line(page: &Page, value: &Value) -> Result<Option<String>, AllocError>
+    requires { CanBeSpelt value.now }
+{
+    match line_of(page, value)? {
+        Some(line) => Ok(Some(text_of(page.alloc, &line)?)),
+        None => Ok(None),
     }
+}
+
+/// Adds a value that can't be read or has no line: its digits, unless it is a key.
+fn push_unread(page: &mut Page, cut: &CutValue<'_>) -> Result<(), AllocError> {
     if cut.kind() == HS_SECKEY && !page.shows_keys {
         return page.push(";; a key");
     }
     let digits = hex::encode(page.alloc, cut.octets())?;
     let line = format!(in page.alloc; "OCTETS {digits}")?;
     page.push(&line)
+}
+
+/// Adds a value: when it was written, as a comment, and its line.
+pub fn push_value(page: &mut Page, cut: &CutValue<'_>) -> Result<(), AllocError> {
+    if let Ok((value, _)) = read_value(page.alloc, cut.octets()) {
+        push_written(page, &value)?;
+        if let Some(text) = text_line(page, &value)? {
+            return page.push(&text);
+        }
+    }
+    push_unread(page, cut)
 }
 
 /// What stands behind a value's line up to its format, or all of a line that has no fields.
@@ -89,8 +90,7 @@ fn data_of(line: &str) -> &str {
 /// Adds the data of a value alone, as it stands in the value's line behind the format.
 pub fn push_data(page: &mut Page, cut: &CutValue<'_>) -> Result<(), AllocError> {
     if let Ok((value, _)) = read_value(page.alloc, cut.octets()) {
-        if let Some(line) = line_of(page, &value)? {
-            let text = text_of(page.alloc, &line)?;
+        if let Some(text) = text_line(page, &value)? {
             return page.push(data_of(&text));
         }
     }

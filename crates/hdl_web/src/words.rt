@@ -1,12 +1,12 @@
-//! `hdl proxy`: its words, and serving.
+//! The words of the command line.
 
-use clap::{Arg, ArgAction, ArgMatches, Command, value_parser};
-use hdl_client::ClientFault;
-use hdl_commands::Servers;
-use hdl_proxy::{NoAnswer, Resolver};
+use clap::{Arg, ArgAction, ArgMatches, Command, Error, value_parser};
+use hdl_status::status_of_words;
 use std::alloc::{AllocError, Global};
-use std::io;
-use std::net::SocketAddr;
+use std::{env, io};
+
+/// How the program is called: ./hdl starts it where its first word is `proxy`.
+const NAME: &str = "hdl proxy";
 
 /// Where the proxy listens, where no other address is named.
 const LISTEN: &str = "127.0.0.1:8080";
@@ -25,9 +25,18 @@ pub struct ProxyWords {
     pub askers: u64,
 }
 
-/// The words of `hdl proxy`.
-pub fn proxy_command<'a>(alloc: Global) -> Result<Command<'a>, AllocError> {
-    Command::new(alloc, "proxy")
+/// What the command line asks for.
+#[derive(Drop)]
+pub enum Asked {
+    /// Serving browsers.
+    Proxy(ProxyWords),
+    /// Nothing: help or a fault was printed, and this is the exit status.
+    Ended(u8),
+}
+
+fn command<'a>(alloc: Global) -> Result<Command<'a>, AllocError> {
+    Command::new(alloc, NAME)
+        .bin_name(NAME)?
         .about("Leads browsers from a handle's address to its URL, over HTTP")
         .arg(
             Arg::new(alloc, "listen")
@@ -58,8 +67,8 @@ pub fn proxy_command<'a>(alloc: Global) -> Result<Command<'a>, AllocError> {
         )
 }
 
-/// What the words of `hdl proxy` say.
-pub fn proxy_words(alloc: Global, found: &ArgMatches<'_>) -> Result<ProxyWords, AllocError> {
+/// What the words say.
+fn proxy_words(alloc: Global, found: &ArgMatches<'_>) -> Result<ProxyWords, AllocError> {
     let mut servers = Vec::new(alloc);
     for server in found.get_strs("server").unwrap_or(&[]) {
         servers.push(String::from_str(alloc, server)?)?;
@@ -71,39 +80,30 @@ pub fn proxy_words(alloc: Global, found: &ArgMatches<'_>) -> Result<ProxyWords, 
     })
 }
 
-/// Who asks for one question at a time.
-#[derive(Drop)]
-pub struct Asker {
-    servers: Servers,
+fn parsed(alloc: Global, words: &[String]) -> Result<ProxyWords, Error> {
+    let matches = command(alloc)?.try_get_matches_from(words)?;
+    Ok(proxy_words(alloc, &matches)?)
 }
 
-impl Resolver for Asker {
-    fn ask(&mut self, _alloc: Global, _handle: &[u8], message: &[u8]) -> Result<Vec<u8>, NoAnswer> {
-        match self.servers.ask(message) {
-            Ok(reply) => Ok(reply),
-            Err(ClientFault::Memory) => Err(NoAnswer::Memory),
-            Err(_) => Err(NoAnswer::Unreachable),
-        }
-    }
+fn words_of(rt: &HostRuntime) -> io::Result<Vec<String>> {
+    let words = env::args(rt)?.collect(rt.alloc())?;
+    Ok(words)
 }
 
-/// Who asks: as many as questions are asked at once.
-fn askers(rt: &HostRuntime, words: &ProxyWords) -> Result<Vec<Asker>, AllocError> {
-    let mut askers = Vec::new(rt.alloc());
-    for _ in 0..words.askers {
-        let servers = Servers::new(*rt, &words.servers)?;
-        match askers.push(Asker { servers }) {
-            Ok(()) => {}
-            Err(_) => return Err(AllocError),
-        }
-    }
-    Ok(askers)
-}
-
-/// What is served: where, and who asks.
-pub fn opened(rt: &HostRuntime, words: &ProxyWords) -> io::Result<(SocketAddr, Vec<Asker>)> {
-    let Ok(listen) = words.listen.parse::<SocketAddr>() else {
-        return Err(io::Error::other("--listen wants an IP address and a port"));
+/// Reads the command line, and prints what `clap` has to say of it.
+pub fn read_words(rt: &HostRuntime) -> Asked {
+    let Ok(words) = words_of(rt) else {
+        let _ = eprintln!(rt; "error: the command line cannot be read");
+        return Asked::Ended(2);
     };
-    Ok((listen, askers(rt, words)?))
+    match parsed(rt.alloc(), words.as_slice()) {
+        Ok(found) => Asked::Proxy(found),
+        Err(error) => {
+            let is_help = !error.use_stderr();
+            match error.print(rt) {
+                Err(_) if is_help => Asked::Ended(1),
+                _ => Asked::Ended(status_of_words(is_help)),
+            }
+        }
+    }
 }
