@@ -5,7 +5,7 @@ use crate::names::text_of;
 use crate::words::{KeptFor, kept_for, permission_digits, written_words};
 use base64::engine::general_purpose::STANDARD;
 use hdl_value::{AdminMask, Reference, Value, admin_of, vlist_of};
-use serde_json::{Value as Json, json};
+use serde_json::{Map, Value as Json, put};
 use std::alloc::{AllocError, Global};
 
 fn json_answer(alloc: Global, status: Status, json: &Json) -> Result<Answer, AllocError> {
@@ -18,6 +18,17 @@ fn json_answer(alloc: Global, status: Status, json: &Json) -> Result<Answer, All
     })
 }
 
+/// Puts a member that is text.
+fn put_text(
+    alloc: Global,
+    object: &mut Map<String, Json>,
+    key: &str,
+    octets: &[u8],
+) -> Result<(), AllocError> {
+    let text = text_of(alloc, octets)?;
+    put(object, alloc, key, Json::from(text))
+}
+
 /// What was asked, and the code of a reply without values.
 pub(crate) fn refusal(
     alloc: Global,
@@ -26,22 +37,42 @@ pub(crate) fn refusal(
     code: u32,
     why: &str,
 ) -> Result<Answer, AllocError> {
-    let handle = text_of(alloc, asked)?;
-    let json = json!(in alloc; {"responseCode": code, "handle": handle, "message": why})?;
-    json_answer(alloc, status, &json)
+    let mut object = Map::new(alloc);
+    put(&mut object, alloc, "responseCode", Json::from(code))?;
+    put_text(alloc, &mut object, "handle", asked)?;
+    put_text(alloc, &mut object, "message", why.as_bytes())?;
+    json_answer(alloc, status, &Json::Object(object))
+}
+
+fn put_reference(
+    alloc: Global,
+    object: &mut Map<String, Json>,
+    reference: &Reference,
+) -> Result<(), AllocError> {
+    put_text(alloc, object, "handle", reference.name.sent())?;
+    put(object, alloc, "index", Json::from(reference.index))
 }
 
 fn reference_json(alloc: Global, reference: &Reference) -> Result<Json, AllocError> {
-    let handle = text_of(alloc, reference.name.sent())?;
-    json!(in alloc; {"handle": handle, "index": reference.index})
+    let mut object = Map::new(alloc);
+    put_reference(alloc, &mut object, reference)?;
+    Ok(Json::Object(object))
+}
+
+/// Data, and how it is told.
+fn formatted(alloc: Global, format: &str, data: Json) -> Result<Json, AllocError> {
+    let mut object = Map::new(alloc);
+    put_text(alloc, &mut object, "format", format.as_bytes())?;
+    put(&mut object, alloc, "value", data)?;
+    Ok(Json::Object(object))
 }
 
 fn admin_json(alloc: Global, mask: AdminMask, key: &Reference) -> Result<Json, AllocError> {
-    let handle = text_of(alloc, key.name.sent())?;
+    let mut object = Map::new(alloc);
+    put_reference(alloc, &mut object, key)?;
     let permissions = permission_digits(alloc, mask)?;
-    let value =
-        json!(in alloc; {"handle": handle, "index": key.index, "permissions": permissions})?;
-    json!(in alloc; {"format": "admin", "value": value})
+    put(&mut object, alloc, "permissions", Json::from(permissions))?;
+    formatted(alloc, "admin", Json::Object(object))
 }
 
 fn list_json(alloc: Global, references: &[Reference]) -> Result<Json, AllocError> {
@@ -49,16 +80,13 @@ fn list_json(alloc: Global, references: &[Reference]) -> Result<Json, AllocError
     for reference in references {
         list.push(reference_json(alloc, reference)?)?;
     }
-    json!(in alloc; {"format": "vlist", "value": list})
+    formatted(alloc, "vlist", Json::Array(list))
 }
 
 fn octets_json(alloc: Global, octets: &[u8]) -> Result<Json, AllocError> {
     match str::from_utf8(octets) {
-        Ok(text) => json!(in alloc; {"format": "string", "value": text}),
-        Err(_) => {
-            let text = STANDARD.encode(alloc, octets)?;
-            json!(in alloc; {"format": "base64", "value": text})
-        }
+        Ok(text) => formatted(alloc, "string", Json::from(String::from_str(alloc, text)?)),
+        Err(_) => formatted(alloc, "base64", Json::from(STANDARD.encode(alloc, octets)?)),
     }
 }
 
@@ -80,11 +108,22 @@ fn ttl_json(alloc: Global, value: &Value) -> Result<Json, AllocError> {
 }
 
 fn value_json(alloc: Global, value: &Value) -> Result<Json, AllocError> {
-    let kind = text_of(alloc, value.kind.as_slice())?;
-    let data = data_json(alloc, value)?;
-    let ttl = ttl_json(alloc, value)?;
+    let mut object = Map::new(alloc);
+    put(&mut object, alloc, "index", Json::from(value.index))?;
+    put_text(alloc, &mut object, "type", value.kind.as_slice())?;
+    put(&mut object, alloc, "data", data_json(alloc, value)?)?;
+    put(&mut object, alloc, "ttl", ttl_json(alloc, value)?)?;
     let written = written_words(alloc, value)?;
-    json!(in alloc; {"index": value.index, "type": kind, "data": data, "ttl": ttl, "timestamp": written})
+    put(&mut object, alloc, "timestamp", Json::from(written))?;
+    Ok(Json::Object(object))
+}
+
+fn values_json(alloc: Global, values: &[Value]) -> Result<Json, AllocError> {
+    let mut list = Vec::new(alloc);
+    for value in values {
+        list.push(value_json(alloc, value)?)?;
+    }
+    Ok(Json::Array(list))
 }
 
 /// The values of a handle.
@@ -93,11 +132,9 @@ pub(crate) fn values_answer(
     handle: &[u8],
     values: &[Value],
 ) -> Result<Answer, AllocError> {
-    let mut list = Vec::new(alloc);
-    for value in values {
-        list.push(value_json(alloc, value)?)?;
-    }
-    let handle = text_of(alloc, handle)?;
-    let json = json!(in alloc; {"responseCode": 1, "handle": handle, "values": list})?;
-    json_answer(alloc, Status::Success, &json)
+    let mut object = Map::new(alloc);
+    put(&mut object, alloc, "responseCode", Json::from(1u32))?;
+    put_text(alloc, &mut object, "handle", handle)?;
+    put(&mut object, alloc, "values", values_json(alloc, values)?)?;
+    json_answer(alloc, Status::Success, &Json::Object(object))
 }

@@ -42,6 +42,15 @@ impl<R: Wait + Drop> Desk<R> {
             Next::Ask(question) => self.hand_on(question),
         }
     }
+
+    /// What is answered to a request, whose body isn't read.
+    fn answering<B>(&self, req: &Request<B>) -> Answering {
+        let query = req.uri().query().unwrap_or("");
+        match self.take(req.method().as_str(), req.uri().path(), query) {
+            Ok(answering) => answering,
+            Err(refused) => Answering::made(self.alloc, Err(refused)),
+        }
+    }
 }
 
 impl<R: Wait + Drop, I: Drop> Service<Request<Incoming<I>>> for Desk<R> {
@@ -52,10 +61,6 @@ impl<R: Wait + Drop, I: Drop> Service<Request<Incoming<I>>> for Desk<R> {
     type Future = Answering;
 
     fn call(&self, req: Request<Incoming<I>>) -> Answering {
-        let query = req.uri().query().unwrap_or("");
-        match self.take(req.method().as_str(), req.uri().path(), query) {
-            Ok(answering) => answering,
-            Err(refused) => Answering::made(self.alloc, Err(refused)),
-        }
+        self.answering(&req)
     }
 }

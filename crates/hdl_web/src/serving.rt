@@ -152,6 +152,33 @@ fn say_address(output: &mut impl Write, listen: SocketAddr) -> io::Result<()> {
     output.flush()
 }
 
+/// Waits for these threads.
+fn join_all<R: Wait + Threads>(rt: &R, workers: Vec<JoinHandle<()>>) {
+    for worker in workers {
+        worker.join(rt);
+    }
+}
+
+/// Serves the connections of a listener, whose address is told once resolvers can be asked.
+fn serve_with<R, S>(
+    rt: &R,
+    runtime: &mut LocalRuntime,
+    listener: TcpListener,
+    listen: SocketAddr,
+    resolvers: Vec<S>,
+    output: &mut impl Write,
+) -> io::Result<()>
+where
+    R: Net + Wait + Threads + Clock + RandomSource + AllocGlobal + Copy + Send + Drop + 'static,
+    S: Resolver + Send + 'static,
+{
+    let (asks, workers) = start_asking(rt, resolvers)?;
+    say_address(output, listen)?;
+    serve_listener(rt, runtime, listener, asks)?;
+    join_all(rt, workers);
+    Ok(())
+}
+
 /// Serves HTTP at this address until the process ends. Each resolver has a thread of its own, so as many questions are asked at once.
 pub fn serve_http<R, S>(
     rt: &R,
@@ -164,11 +191,5 @@ where
     S: Resolver + Send + 'static,
 {
     let (mut runtime, listener) = listening(rt, listen)?;
-    let (asks, workers) = start_asking(rt, resolvers)?;
-    say_address(output, listen)?;
-    serve_listener(rt, &mut runtime, listener, asks)?;
-    for worker in workers {
-        worker.join(rt);
-    }
-    Ok(())
+    serve_with(rt, &mut runtime, listener, listen, resolvers, output)
 }
