@@ -26,8 +26,6 @@ mod fault;
 mod fields;
 mod laws;
 mod read;
-#[cfg(test)]
-mod tests;
 mod write;
 
 pub use fault::LineFault;
