@@ -1,3 +1,4 @@
+use crate::assertion::same;
 use hdl_auth::algorithm::{Algorithm, Digest};
 use hdl_auth::{Verdict, check, digest, has_response_form, mac};
 use std::process::Abort;
@@ -26,7 +27,7 @@ fn digests_of_the_standard(rt: HostRuntime) -> Result<(), Fail> {
     for (octets, sha1, sha256) in cases {
         for (algorithm, expected) in [(Algorithm::Sha1, sha1), (Algorithm::Sha256, sha256)] {
             let text = hex::encode(rt.alloc(), digest(algorithm, octets).as_slice())?;
-            assert_eq!(rt; text.as_str(), expected);
+            same(&rt, "text", text.as_str(), expected);
         }
     }
     Ok(())
@@ -37,7 +38,12 @@ fn digest_of_a_long_message(rt: HostRuntime) -> Result<(), Fail> {
     let mut octets = Vec::new(rt.alloc());
     octets.resize(1_000_000, b'a')?;
     let text = hex::encode(rt.alloc(), digest(Algorithm::Sha1, &octets).as_slice())?;
-    assert_eq!(rt; text.as_str(), "34aa973cd4c4daa4f61eeb2bdbad27316534016f");
+    same(
+        &rt,
+        "text",
+        text.as_str(),
+        "34aa973cd4c4daa4f61eeb2bdbad27316534016f",
+    );
     Ok(())
 }
 
@@ -56,7 +62,7 @@ fn keyed_digests(rt: HostRuntime) -> Result<(), Fail> {
     for (algorithm, expected) in cases {
         let keyed = mac(b"k1", &NONCE, &digest(algorithm, b"abc"));
         let text = hex::encode(rt.alloc(), keyed.as_slice())?;
-        assert_eq!(rt; text.as_str(), expected);
+        same(&rt, "text", text.as_str(), expected);
     }
     Ok(())
 }
@@ -71,8 +77,8 @@ fn response_to(rt: &HostRuntime, request_digest: &Digest) -> Result<Vec<u8>, Fai
 
 fn compare(rt: &impl Abort, key: &[u8], digest: &Digest, response: &[u8], wanted: Verdict) {
     let verdict = check(key, &NONCE, digest, response);
-    assert_eq!(rt; verdict, wanted);
-    assert_eq!(rt; verdict.is_good(), wanted == Verdict::Good);
+    same(rt, "verdict", verdict, wanted);
+    same(rt, "is good", verdict.is_good(), wanted == Verdict::Good);
 }
 
 #[test]
@@ -98,8 +104,18 @@ fn a_response_by_another_function(rt: HostRuntime) -> Result<(), Fail> {
     let sha1 = digest(Algorithm::Sha1, b"abc");
     let sha256 = digest(Algorithm::Sha256, b"abc");
     let response = response_to(&rt, &sha1)?;
-    assert_eq!(rt; check(b"k1", &NONCE, &sha256, &response), Verdict::BadForm);
+    same(
+        &rt,
+        "check",
+        check(b"k1", &NONCE, &sha256, &response),
+        Verdict::BadForm,
+    );
     let response = response_to(&rt, &sha256)?;
-    assert_eq!(rt; check(b"k1", &NONCE, &sha1, &response), Verdict::BadForm);
+    same(
+        &rt,
+        "check",
+        check(b"k1", &NONCE, &sha1, &response),
+        Verdict::BadForm,
+    );
     Ok(())
 }

@@ -1,5 +1,6 @@
 //! Rows of the protocol.
 
+use crate::assertion::same;
 use hdl_frame::{Cutter, Envelope, FrameFault, one_datagram, pieces};
 use std::alloc::Global;
 use std::test::Fail;
@@ -45,13 +46,9 @@ fn one_octet_at_a_time(rt: HostRuntime) -> Result<(), Fail> {
     let mut cutter = Cutter::new(rt.alloc());
     for (i, octet) in RESOLUTION.iter().enumerate() {
         cutter.feed(&[*octet])?;
-        assert_eq!(rt;
-            next(&mut cutter),
-            Ok(if i == 63 { 64 } else { 0 }),
-            "octet {i}"
-        );
+        same(&rt, i, next(&mut cutter), Ok(if i == 63 { 64 } else { 0 }));
     }
-    assert_eq!(rt; next(&mut cutter), Ok(0));
+    same(&rt, "next", next(&mut cutter), Ok(0));
     Ok(())
 }
 
@@ -64,7 +61,7 @@ fn two_frames_and_a_rest(rt: HostRuntime) -> Result<(), Fail> {
     let mut cutter = Cutter::new(rt.alloc());
     cutter.feed(&stream)?;
     for want in [64, 64, 0] {
-        assert_eq!(rt; next(&mut cutter), Ok(want));
+        same(&rt, "next", next(&mut cutter), Ok(want));
     }
     Ok(())
 }
@@ -75,9 +72,9 @@ fn frames_across_feeds(rt: HostRuntime) -> Result<(), Fail> {
     let mut cutter = Cutter::new(rt.alloc());
     for cut in [1, 19, 20, 21, 63] {
         cutter.feed(&RESOLUTION[..cut])?;
-        assert_eq!(rt; next(&mut cutter), Ok(0), "cut at {cut}");
+        same(&rt, cut, next(&mut cutter), Ok(0));
         cutter.feed(&RESOLUTION[cut..])?;
-        assert_eq!(rt; next(&mut cutter), Ok(64), "cut at {cut}");
+        same(&rt, cut, next(&mut cutter), Ok(64));
     }
     Ok(())
 }
@@ -89,40 +86,42 @@ fn answer(alloc: Global, envelope: Envelope) -> Result<Result<usize, &'static st
     Ok(next(&mut cutter))
 }
 
+/// What it is, versions, flags, number and length of an envelope, and what it gives.
+const FAULTS: [(&str, u8, u8, u16, u32, u32, Result<usize, &str>); 12] = [
+    ("longest", 2, 1, 0, 0, 65_536, Ok(0)),
+    ("too long", 2, 1, 0, 0, 65_537, Err("too long")),
+    ("minor version 9", 2, 9, 0, 0, 4096, Ok(0)),
+    ("version 1.1", 1, 1, 0x8000, 0, 65_537, Err("version")),
+    (
+        "compressed and too long",
+        2,
+        1,
+        0x8000,
+        0,
+        65_537,
+        Err("flags"),
+    ),
+    ("encrypted", 2, 1, 0x4000, 0, 4096, Err("flags")),
+    ("all other flags", 2, 1, 0x1fff, 9, 4096, Ok(0)),
+    ("last piece", 2, 1, 0x2000, 8, 4096, Ok(0)),
+    ("past the end", 2, 1, 0x2000, 9, 4096, Err("flags")),
+    ("no piece of nothing", 2, 1, 0x2000, 0, 0, Err("flags")),
+    (
+        "492 times it is over 32 bits",
+        2,
+        1,
+        0x2000,
+        0x0085_340e,
+        4096,
+        Err("flags"),
+    ),
+    ("nothing", 2, 1, 0, 0, 0, Ok(20)),
+];
+
 /// Which envelopes are refused, and the first fault of those with several.
 #[test]
 fn first_faults(rt: HostRuntime) -> Result<(), Fail> {
-    let rows = [
-        ("longest", 2, 1, 0, 0, 65_536, Ok(0)),
-        ("too long", 2, 1, 0, 0, 65_537, Err("too long")),
-        ("minor version 9", 2, 9, 0, 0, 4096, Ok(0)),
-        ("version 1.1", 1, 1, 0x8000, 0, 65_537, Err("version")),
-        (
-            "compressed and too long",
-            2,
-            1,
-            0x8000,
-            0,
-            65_537,
-            Err("flags"),
-        ),
-        ("encrypted", 2, 1, 0x4000, 0, 4096, Err("flags")),
-        ("all other flags", 2, 1, 0x1fff, 9, 4096, Ok(0)),
-        ("last piece", 2, 1, 0x2000, 8, 4096, Ok(0)),
-        ("past the end", 2, 1, 0x2000, 9, 4096, Err("flags")),
-        ("no piece of nothing", 2, 1, 0x2000, 0, 0, Err("flags")),
-        (
-            "492 times it is over 32 bits",
-            2,
-            1,
-            0x2000,
-            0x0085_340e,
-            4096,
-            Err("flags"),
-        ),
-        ("nothing", 2, 1, 0, 0, 0, Ok(20)),
-    ];
-    for (what, major, minor, flags, sequence, length, want) in rows {
+    for &(what, major, minor, flags, sequence, length, want) in &FAULTS {
         let envelope = Envelope {
             major,
             minor,
@@ -131,7 +130,7 @@ fn first_faults(rt: HostRuntime) -> Result<(), Fail> {
             length,
             ..MESSAGE
         };
-        assert_eq!(rt; answer(rt.alloc(), envelope)?, want, "{what}");
+        same(&rt, what, answer(rt.alloc(), envelope)?, want);
     }
     Ok(())
 }
@@ -146,7 +145,12 @@ fn faults_stay(rt: HostRuntime) -> Result<(), Fail> {
     let mut cutter = Cutter::new(rt.alloc());
     cutter.feed(&long.to_octets())?;
     assert!(rt; cutter.next_frame().err() == Some(FrameFault::TooLong(long)));
-    assert_eq!(rt; cutter.feed(&RESOLUTION), Err(FrameFault::TooLong(long)));
+    same(
+        &rt,
+        "fed",
+        cutter.feed(&RESOLUTION),
+        Err(FrameFault::TooLong(long)),
+    );
     assert!(rt; cutter.next_frame().err() == Some(FrameFault::TooLong(long)));
     Ok(())
 }
@@ -158,9 +162,9 @@ fn envelopes(rt: HostRuntime) -> Result<(), Fail> {
         2, 9, 0x20, 0, 1, 2, 3, 4, 5, 6, 7, 8, 0, 0x85, 0x34, 0x0e, 0, 0, 0x10, 0,
     ];
     let envelope = Envelope::read(&octets);
-    assert_eq!(rt; envelope.request, 0x0506_0708);
-    assert_eq!(rt; envelope.sequence, 0x0085_340e);
-    assert_eq!(rt; envelope.to_octets(), octets);
+    same(&rt, "request", envelope.request, 0x0506_0708);
+    same(&rt, "sequence", envelope.sequence, 0x0085_340e);
+    same(&rt, "to octets", envelope.to_octets(), octets);
     assert!(rt; envelope.is_truncated());
     assert!(rt; !envelope.is_compressed() && !envelope.is_encrypted());
     Ok(())
@@ -170,10 +174,10 @@ fn envelopes(rt: HostRuntime) -> Result<(), Fail> {
 #[test]
 fn datagrams(rt: HostRuntime) -> Result<(), Fail> {
     for len in 0..64 {
-        assert!(rt; one_datagram(&RESOLUTION[..len]).is_err(), "{len} octets");
+        same(&rt, len, one_datagram(&RESOLUTION[..len]).is_err(), true);
     }
     let frame = one_datagram(&RESOLUTION)?;
-    assert_eq!(rt; frame.payload(), &RESOLUTION[20..]);
+    same(&rt, "payload", frame.payload(), &RESOLUTION[20..]);
     let mut more = RESOLUTION.to_vec(rt.alloc())?;
     more.push(0)?;
     assert!(rt; one_datagram(&more).is_err());
@@ -189,34 +193,44 @@ fn reply(alloc: Global, envelope: Envelope) -> Result<Vec<u8>, Fail> {
     Ok(octets)
 }
 
-/// How many datagrams a reply has, how many octets of the message the first and the last carry, and the flags and the
-/// number of the last.
+/// Of a reply's datagrams: how many there are, how many octets of the message the first and the last carry, and the last one's envelope.
+type Sent = (usize, Option<usize>, Option<usize>, Option<[u8; 20]>);
+
+fn cut(octets: &[u8]) -> Sent {
+    let mut told: Sent = (0, None, None, None);
+    for (envelope, payload) in pieces(octets) {
+        let len = payload.len();
+        told = (
+            told.0.saturating_add(1),
+            told.1.or(Some(len)),
+            Some(len),
+            Some(envelope),
+        );
+    }
+    told
+}
+
+/// The length of a message, then of its datagrams: how many there are, how many octets of the message the first and the last carry, and
+/// the flags and the number of the last.
+const REPLIES: [(u32, usize, usize, usize, u16, u32); 4] = [
+    (0, 1, 0, 0, 0, 0),
+    (492, 1, 492, 492, 0, 0),
+    (493, 2, 492, 1, 0x2000, 1),
+    (65_536, 134, 492, 100, 0x2000, 133),
+];
+
 #[test]
 fn replies_in_datagrams(rt: HostRuntime) -> Result<(), Fail> {
-    let rows = [
-        (0, 1, 0, 0, 0, 0),
-        (492, 1, 492, 492, 0, 0),
-        (493, 2, 492, 1, 0x2000, 1),
-        (65_536, 134, 492, 100, 0x2000, 133),
-    ];
-    for (length, count, first, last, flags, sequence) in rows {
+    for &(length, count, first, last, flags, sequence) in &REPLIES {
         let octets = reply(rt.alloc(), Envelope { length, ..MESSAGE })?;
-        assert_eq!(rt; pieces(&octets).count(), count, "{length} octets");
-        let lens: Vec<usize> = pieces(&octets)
-            .map(|piece| piece.1.len())
-            .collect(rt.alloc())?;
-        assert_eq!(rt;
-            (lens.first().copied(), lens.last().copied()),
-            (Some(first), Some(last))
-        );
         let envelope = Envelope {
             flags,
             length,
             sequence,
             ..MESSAGE
         };
-        let seen = pieces(&octets).last().map(|piece| piece.0);
-        assert_eq!(rt; seen, Some(envelope.to_octets()), "{length} octets");
+        let expected = (count, Some(first), Some(last), Some(envelope.to_octets()));
+        same(&rt, length, cut(&octets), expected);
     }
     Ok(())
 }
@@ -232,10 +246,10 @@ fn no_datagrams(rt: HostRuntime) -> Result<(), Fail> {
             ..MESSAGE
         },
     )?;
-    assert_eq!(rt; pieces(&octets).count(), 0);
-    assert_eq!(rt; pieces(&RESOLUTION[..63]).count(), 0);
-    assert_eq!(rt; pieces(&RESOLUTION).count(), 1);
+    same(&rt, "of a piece", pieces(&octets).count(), 0);
+    same(&rt, "of a part", pieces(&RESOLUTION[..63]).count(), 0);
+    same(&rt, "of a whole one", pieces(&RESOLUTION).count(), 1);
     let text = format!(in rt.alloc(); "{}", FrameFault::Memory)?;
-    assert_eq!(rt; text.as_str(), "out of memory");
+    same(&rt, "text", text.as_str(), "out of memory");
     Ok(())
 }

@@ -1,5 +1,6 @@
 //! Requests and replies as the protocol's worked rows print them.
 
+use crate::assertion::same;
 use crate::made::{header, reply};
 use hdl_frame::Envelope;
 use hdl_limits::MESSAGE_MAX;
@@ -51,8 +52,7 @@ fn is_written(alloc: Global, reply: &Reply, digits: &str) -> Result<bool, AllocE
     Ok(written.as_slice() == expected.as_slice() && written.len() == 20 + reply_len(reply))
 }
 
-#[test]
-fn handle_not_found(rt: HostRuntime) -> Result<(), Fail> {
+fn handle_not_found(alloc: Global) -> Result<bool, Fail> {
     let absent = reply(
         1,
         OpCode::Resolution,
@@ -61,29 +61,25 @@ fn handle_not_found(rt: HostRuntime) -> Result<(), Fail> {
     );
     let printed =
         "02010000 00000000 00000001 00000000 00000020 00000001 00000064 00000000 00000000 00000000 00000004 00000000 00000000";
-    assert!(rt; is_written(rt.alloc(), &absent, printed)?);
-    Ok(())
+    Ok(is_written(alloc, &absent, printed)?)
 }
 
-#[test]
-fn shows_a_value(rt: HostRuntime) -> Result<(), Fail> {
-    let spelt = hex(rt.alloc(), VALUE)?;
-    let (value, _) = read_value(rt.alloc(), &spelt)?;
-    let mut values = Vec::new(rt.alloc());
+fn shows_a_value(alloc: Global) -> Result<bool, Fail> {
+    let spelt = hex(alloc, VALUE)?;
+    let (value, _) = read_value(alloc, &spelt)?;
+    let mut values = Vec::new(alloc);
     values.push(value)?;
-    let handle = octets(rt.alloc(), b"10/a")?;
+    let handle = octets(alloc, b"10/a")?;
     let values = Listed::new(values);
     let content = ReplyContent::Values { handle, values };
     let shown = reply(1, OpCode::Resolution, ResponseCode::Success, content);
     let printed =
         "02010000 00000000 00000001 00000000 00000052 00000001 00000001 00000000 00000000 00000000 00000036 00000004 31302f61 00000001 00000001 00000003 55524c 00000009 687474703a2f2f612f 00 00015180 06 0000000000000000 00000000 00000000";
-    assert!(rt; is_written(rt.alloc(), &shown, printed)?);
-    Ok(())
+    Ok(is_written(alloc, &shown, printed)?)
 }
 
-#[test]
-fn refers(rt: HostRuntime) -> Result<(), Fail> {
-    let prefix = octets(rt.alloc(), b"20")?;
+fn refers(alloc: Global) -> Result<bool, Fail> {
+    let prefix = octets(alloc, b"20")?;
     let content = ReplyContent::Referral { prefix };
     let referral = reply(
         2,
@@ -93,13 +89,11 @@ fn refers(rt: HostRuntime) -> Result<(), Fail> {
     );
     let printed =
         "02010000 00000000 00000002 00000000 0000002b 00000001 0000012e 00000000 00000000 00000000 0000000f 00000007 302e4e412f3230 00000000 00000000";
-    assert!(rt; is_written(rt.alloc(), &referral, printed)?);
-    Ok(())
+    Ok(is_written(alloc, &referral, printed)?)
 }
 
-#[test]
-fn refers_with_a_digest(rt: HostRuntime) -> Result<(), Fail> {
-    let prefix = octets(rt.alloc(), b"20")?;
+fn refers_with_a_digest(alloc: Global) -> Result<bool, Fail> {
+    let prefix = octets(alloc, b"20")?;
     let content = ReplyContent::Referral { prefix };
     let mut referral = reply(
         2,
@@ -111,12 +105,10 @@ fn refers_with_a_digest(rt: HostRuntime) -> Result<(), Fail> {
     referral.digest = Some(Digest::Sha1([0xdd; 20]));
     let printed =
         "02010000 00000000 00000002 00000000 00000040 00000001 0000012e 00800000 00000000 00000000 00000024 02 dddddddddddddddddddddddddddddddddddddddd 00000007 302e4e412f3230 00000000 00000000";
-    assert!(rt; is_written(rt.alloc(), &referral, printed)?);
-    Ok(())
+    Ok(is_written(alloc, &referral, printed)?)
 }
 
-#[test]
-fn challenges(rt: HostRuntime) -> Result<(), Fail> {
+fn challenges(alloc: Global) -> Result<bool, Fail> {
     let nonce = [0, 1, 2, 3, 4, 5, 6, 7, 8, 9, 10, 11, 12, 13, 14, 15];
     let content = ReplyContent::Nonce { nonce };
     let mut challenge = reply(
@@ -129,31 +121,27 @@ fn challenges(rt: HostRuntime) -> Result<(), Fail> {
     challenge.digest = Some(Digest::Sha1([0xdd; 20]));
     let printed =
         "02010000 00000001 00000007 00000000 00000045 00000001 00000192 00000000 00000000 00000000 00000029 02 dddddddddddddddddddddddddddddddddddddddd 00000010 000102030405060708090a0b0c0d0e0f 00000000";
-    assert!(rt; is_written(rt.alloc(), &challenge, printed)?);
+    let by_sha1 = is_written(alloc, &challenge, printed)?;
     challenge.digest = Some(Digest::Sha256([0xee; 32]));
     let printed =
         "02010000 00000001 00000007 00000000 00000051 00000001 00000192 00000000 00000000 00000000 00000035 03 eeeeeeeeeeeeeeeeeeeeeeeeeeeeeeeeeeeeeeeeeeeeeeeeeeeeeeeeeeeeeeee 00000010 000102030405060708090a0b0c0d0e0f 00000000";
-    assert!(rt; is_written(rt.alloc(), &challenge, printed)?);
-    Ok(())
+    Ok(by_sha1 && is_written(alloc, &challenge, printed)?)
 }
 
-#[test]
-fn lists_handles(rt: HostRuntime) -> Result<(), Fail> {
-    let mut handles = Vec::new(rt.alloc());
-    handles.push(octets(rt.alloc(), b"10/B")?)?;
-    handles.push(octets(rt.alloc(), b"10/a")?)?;
+fn lists_handles(alloc: Global) -> Result<bool, Fail> {
+    let mut handles = Vec::new(alloc);
+    handles.push(octets(alloc, b"10/B")?)?;
+    handles.push(octets(alloc, b"10/a")?)?;
     let handles = Listed::new(handles);
     let content = ReplyContent::Handles { handles };
     let mut listed = reply(10, OpCode::ListHandles, ResponseCode::Success, content);
     listed.session = 1;
     let printed =
         "02010000 00000001 0000000a 00000000 00000030 00000069 00000001 00000000 00000000 00000000 00000014 00000002 00000004 31302f42 00000004 31302f61 00000000";
-    assert!(rt; is_written(rt.alloc(), &listed, printed)?);
-    Ok(())
+    Ok(is_written(alloc, &listed, printed)?)
 }
 
-#[test]
-fn deletes(rt: HostRuntime) -> Result<(), Fail> {
+fn deletes(alloc: Global) -> Result<bool, Fail> {
     let mut deleted = reply(
         9,
         OpCode::DeleteHandle,
@@ -163,7 +151,25 @@ fn deletes(rt: HostRuntime) -> Result<(), Fail> {
     deleted.session = 1;
     let printed =
         "02010000 00000001 00000009 00000000 0000001c 00000065 00000001 00000000 00000000 00000000 00000000 00000000";
-    assert!(rt; is_written(rt.alloc(), &deleted, printed)?);
+    Ok(is_written(alloc, &deleted, printed)?)
+}
+
+/// Each reply is written as it is printed.
+#[test]
+fn writes_what_is_printed(rt: HostRuntime) -> Result<(), Fail> {
+    let alloc = rt.alloc();
+    same(&rt, "handle not found", handle_not_found(alloc)?, true);
+    same(&rt, "shows a value", shows_a_value(alloc)?, true);
+    same(&rt, "refers", refers(alloc)?, true);
+    same(
+        &rt,
+        "refers with a digest",
+        refers_with_a_digest(alloc)?,
+        true,
+    );
+    same(&rt, "challenges", challenges(alloc)?, true);
+    same(&rt, "lists handles", lists_handles(alloc)?, true);
+    same(&rt, "deletes", deletes(alloc)?, true);
     Ok(())
 }
 
@@ -182,12 +188,12 @@ fn answers_without_deciding(rt: HostRuntime) -> Result<(), Fail> {
         rt.alloc(),
         "02010000 00000000 00000005 00000000 00000020 00000000 00000004 00000000 00000000 00000000 00000004 00000000 00000000",
     )?;
-    assert_eq!(rt; refuse(&came).as_slice(), refused.as_slice());
+    same(&rt, "refused", refuse(&came).as_slice(), refused.as_slice());
     let busy_reply = hex(
         rt.alloc(),
         "02010000 00000000 00000005 00000000 00000020 00000000 00000003 00000000 00000000 00000000 00000004 00000000 00000000",
     )?;
-    assert_eq!(rt; busy(&came).as_slice(), busy_reply.as_slice());
+    same(&rt, "busy", busy(&came).as_slice(), busy_reply.as_slice());
     Ok(())
 }
 
@@ -203,15 +209,19 @@ fn answers_echo_one_flag(rt: HostRuntime) {
     };
     assert!(rt; asked.has(OpFlag::PublicOnly));
     let answer = answer_header(asked, ResponseCode::Error.number());
-    assert_eq!(rt;
+    same(
+        &rt,
+        "op code, response code, op flag",
         (answer.op_code, answer.response_code, answer.op_flag),
-        (102, 2, 0x0080_0000)
+        (102, 2, 0x0080_0000),
     );
-    assert_eq!(rt;
+    same(
+        &rt,
+        "serial, recursion, reserved",
         (answer.serial, answer.recursion, answer.reserved),
-        (7, 8, 0)
+        (7, 8, 0),
     );
-    assert_eq!(rt; answer.expiration, 0);
+    same(&rt, "expiration", answer.expiration, 0);
 }
 
 /// What the octets read as: the operation, its handle's length, and how many items its lists have.
@@ -254,69 +264,72 @@ fn message(alloc: Global, op_code: &str, len: &str, body: &str) -> Result<Vec<u8
     Ok(out)
 }
 
+/// A message, and what it reads as.
+const READ: [(&str, (OpCode, usize, usize)); 3] = [
+    (RESOLUTION, (OpCode::Resolution, 4, 0)),
+    (
+        "00000068 00000000 00000000 00000000 00000000 0000002c 00000004 31302f62 00000001 00000002 00000001 58 00000001 62 00 00000000 03 0000000000000000 00000000 00000000",
+        (OpCode::ModifyValue, 4, 1),
+    ),
+    (
+        "000000c8 00000000 00000000 00000000 00000000 00000035 00000009 48535f5345434b4559 00000007 32302f6b657973 00000003 00000015 02 dddddddddddddddddddddddddddddddddddddddd 00000000",
+        (OpCode::ChallengeResponse, 7, 21),
+    ),
+];
+
 #[test]
-fn reads_resolutions(rt: HostRuntime) -> Result<(), Fail> {
-    let all = reads(rt.alloc(), RESOLUTION)?;
-    assert_eq!(rt; all, Some((OpCode::Resolution, 4, 0)));
-    let some = message(
-        rt.alloc(),
+fn reads_what_is_printed(rt: HostRuntime) -> Result<(), Fail> {
+    for &(digits, expected) in &READ {
+        same(&rt, digits, reads(rt.alloc(), digits)?, Some(expected));
+    }
+    Ok(())
+}
+
+/// The handle `10/b`, and a value of index 2.
+const ONE_VALUE: &str =
+    "00000004 31302f62 00000001 00000002 00000001 58 00000001 62 00 00000000 03 0000000000000000 00000000";
+
+/// An operation, the length of its body, the body, and what the message reads as.
+const BODIES: [(&str, &str, &str, (OpCode, usize, usize)); 6] = [
+    (
         "00000001",
         "00000021",
         "00000004 31302f61 00000002 00000001 00000009 00000001 00000005 582e 2f 41 42",
-    )?;
-    assert_eq!(rt; told(&some), Some((OpCode::Resolution, 4, 3)));
-    Ok(())
-}
-
-#[test]
-fn reads_a_printed_modify(rt: HostRuntime) -> Result<(), Fail> {
-    let modify = reads(
-        rt.alloc(),
-        "00000068 00000000 00000000 00000000 00000000 0000002c 00000004 31302f62 00000001 00000002 00000001 58 00000001 62 00 00000000 03 0000000000000000 00000000 00000000",
-    )?;
-    assert_eq!(rt; modify, Some((OpCode::ModifyValue, 4, 1)));
-    Ok(())
-}
-
-#[test]
-fn reads_creates_and_adds(rt: HostRuntime) -> Result<(), Fail> {
-    let values =
-        "00000004 31302f62 00000001 00000002 00000001 58 00000001 62 00 00000000 03 0000000000000000 00000000";
-    let create = message(rt.alloc(), "00000064", "0000002c", values)?;
-    assert_eq!(rt; told(&create), Some((OpCode::CreateHandle, 4, 1)));
-    let add = message(rt.alloc(), "00000066", "0000002c", values)?;
-    assert_eq!(rt; told(&add), Some((OpCode::AddValue, 4, 1)));
-    Ok(())
-}
-
-#[test]
-fn reads_deletes_and_lists(rt: HostRuntime) -> Result<(), Fail> {
-    let delete = message(rt.alloc(), "00000065", "00000008", "00000004 31302f63")?;
-    assert_eq!(rt; told(&delete), Some((OpCode::DeleteHandle, 4, 0)));
-    let list = message(
-        rt.alloc(),
+        (OpCode::Resolution, 4, 3),
+    ),
+    (
+        "00000064",
+        "0000002c",
+        ONE_VALUE,
+        (OpCode::CreateHandle, 4, 1),
+    ),
+    ("00000066", "0000002c", ONE_VALUE, (OpCode::AddValue, 4, 1)),
+    (
+        "00000065",
+        "00000008",
+        "00000004 31302f63",
+        (OpCode::DeleteHandle, 4, 0),
+    ),
+    (
         "00000069",
         "0000000b",
         "00000007 302e4e412f3130",
-    )?;
-    assert_eq!(rt; told(&list), Some((OpCode::ListHandles, 7, 0)));
-    let remove = message(
-        rt.alloc(),
+        (OpCode::ListHandles, 7, 0),
+    ),
+    (
         "00000067",
         "00000014",
         "00000004 31302f63 00000002 00000001 00000000",
-    )?;
-    assert_eq!(rt; told(&remove), Some((OpCode::RemoveValue, 4, 2)));
-    Ok(())
-}
+        (OpCode::RemoveValue, 4, 2),
+    ),
+];
 
 #[test]
-fn reads_a_printed_response(rt: HostRuntime) -> Result<(), Fail> {
-    let response = reads(
-        rt.alloc(),
-        "000000c8 00000000 00000000 00000000 00000000 00000035 00000009 48535f5345434b4559 00000007 32302f6b657973 00000003 00000015 02 dddddddddddddddddddddddddddddddddddddddd 00000000",
-    )?;
-    assert_eq!(rt; response, Some((OpCode::ChallengeResponse, 7, 21)));
+fn reads_each_operation(rt: HostRuntime) -> Result<(), Fail> {
+    for &(op_code, len, body, expected) in &BODIES {
+        let octets = message(rt.alloc(), op_code, len, body)?;
+        same(&rt, op_code, told(&octets), Some(expected));
+    }
     Ok(())
 }
 
@@ -324,8 +337,8 @@ fn reads_a_printed_response(rt: HostRuntime) -> Result<(), Fail> {
 fn signs_header_and_body(rt: HostRuntime) -> Result<(), Fail> {
     let octets = hex(rt.alloc(), RESOLUTION)?;
     let request = read_request(&octets)?;
-    assert_eq!(rt; request.signed().len(), 40);
-    assert_eq!(rt; request.header(), header(OpCode::Resolution));
+    same(&rt, "signed", request.signed().len(), 40);
+    same(&rt, "header", request.header(), header(OpCode::Resolution));
     Ok(())
 }
 
@@ -338,9 +351,11 @@ fn unknown_operations_are_other(rt: HostRuntime) -> Result<(), Fail> {
     let request = read_request(&unknown)?;
     let is_other = matches!(request.body(), Body::Other { .. });
     assert!(rt; is_other);
-    assert_eq!(rt;
+    same(
+        &rt,
+        "OpCode::of(2), OpCode::of(200)",
         (OpCode::of(2), OpCode::of(200)),
-        (None, Some(OpCode::ChallengeResponse))
+        (None, Some(OpCode::ChallengeResponse)),
     );
     Ok(())
 }
@@ -351,59 +366,64 @@ fn is_malformed(alloc: Global, digits: &str) -> Result<bool, AllocError> {
     Ok(read_request(&message).is_err())
 }
 
+/// What lies, and the message.
+const LENGTHS: [(&str, &str); 4] = [
+    (
+        "a body one octet longer than it is",
+        "00000001 00000000 00000000 00000000 00000000 00000011 00000004 31302f61 00000000 00000000 00000000",
+    ),
+    (
+        "a body one octet shorter than it is",
+        "00000001 00000000 00000000 00000000 00000000 0000000f 00000004 31302f61 00000000 00000000 00000000",
+    ),
+    (
+        "an octet behind the credential",
+        "00000001 00000000 00000000 00000000 00000000 00000010 00000004 31302f61 00000000 00000000 00000000 00",
+    ),
+    ("no octets", ""),
+];
+
 #[test]
 fn lengths_that_lie_are_malformed(rt: HostRuntime) -> Result<(), Fail> {
-    let one_more =
-        "00000001 00000000 00000000 00000000 00000000 00000011 00000004 31302f61 00000000 00000000 00000000";
-    assert!(rt;
-        is_malformed(rt.alloc(), one_more)?,
-        "a body one octet longer than it is"
-    );
-    let one_less =
-        "00000001 00000000 00000000 00000000 00000000 0000000f 00000004 31302f61 00000000 00000000 00000000";
-    assert!(rt;
-        is_malformed(rt.alloc(), one_less)?,
-        "a body one octet shorter than it is"
-    );
-    let behind =
-        "00000001 00000000 00000000 00000000 00000000 00000010 00000004 31302f61 00000000 00000000 00000000 00";
-    assert!(rt;
-        is_malformed(rt.alloc(), behind)?,
-        "an octet behind the credential"
-    );
-    assert!(rt; is_malformed(rt.alloc(), "")?, "no octets");
+    for &(what, digits) in &LENGTHS {
+        same(&rt, what, is_malformed(rt.alloc(), digits)?, true);
+    }
     Ok(())
 }
 
-#[test]
-fn counts_that_lie_are_malformed(rt: HostRuntime) -> Result<(), Fail> {
-    let handle = message(
-        rt.alloc(),
+/// What lies, an operation, the length of its body, and the body.
+const COUNTS: [(&str, &str, &str, &str); 4] = [
+    (
+        "a handle's length",
         "00000001",
         "00000010",
         "ffffffff 31302f61 00000000 00000000",
-    )?;
-    assert!(rt; read_request(&handle).is_err(), "a handle's length");
-    let indexes = message(
-        rt.alloc(),
+    ),
+    (
+        "a count of indexes",
         "00000001",
         "00000010",
         "00000004 31302f61 40000000 00000000",
-    )?;
-    assert!(rt; read_request(&indexes).is_err(), "a count of indexes");
-    let values = message(
-        rt.alloc(),
+    ),
+    (
+        "a count of values",
         "00000066",
         "0000000c",
         "00000004 31302f61 ffffffff",
-    )?;
-    assert!(rt; read_request(&values).is_err(), "a count of values");
-    let types = message(
-        rt.alloc(),
+    ),
+    (
+        "a count of types",
         "00000001",
         "00000010",
         "00000004 31302f61 00000000 7fffffff",
-    )?;
-    assert!(rt; read_request(&types).is_err(), "a count of types");
+    ),
+];
+
+#[test]
+fn counts_that_lie_are_malformed(rt: HostRuntime) -> Result<(), Fail> {
+    for &(what, op_code, len, body) in &COUNTS {
+        let octets = message(rt.alloc(), op_code, len, body)?;
+        same(&rt, what, read_request(&octets).is_err(), true);
+    }
     Ok(())
 }

@@ -1,3 +1,4 @@
+use crate::assertion::same;
 use hdl_name::{Name, NameFault, Octets, is_name};
 use std::test::Fail;
 
@@ -8,18 +9,18 @@ fn fault(rt: &HostRuntime, octets: &[u8]) -> Option<NameFault> {
 #[test]
 fn parts_of_a_handle(rt: HostRuntime) -> Result<(), Fail> {
     let name = Name::read(rt.alloc(), b"10.ABC/X")?;
-    assert_eq!(rt; name.sent(), b"10.ABC/X".as_slice());
-    assert_eq!(rt; name.canon(), b"10.abc/X".as_slice());
-    assert_eq!(rt; name.authority(), b"10.abc".as_slice());
-    assert_eq!(rt; name.local(), b"X".as_slice());
+    same(&rt, "sent", name.sent(), b"10.ABC/X".as_slice());
+    same(&rt, "canon", name.canon(), b"10.abc/X".as_slice());
+    same(&rt, "authority", name.authority(), b"10.abc".as_slice());
+    same(&rt, "local", name.local(), b"X".as_slice());
     Ok(())
 }
 
 #[test]
 fn prefix_of_a_handle(rt: HostRuntime) -> Result<(), Fail> {
     let name = Name::read(rt.alloc(), b"10.ABC/X")?;
-    assert_eq!(rt; name.prefix(), b"10.abc".as_slice());
-    assert_eq!(rt; name.prefix_sent(), b"10.ABC".as_slice());
+    same(&rt, "prefix", name.prefix(), b"10.abc".as_slice());
+    same(&rt, "prefix sent", name.prefix_sent(), b"10.ABC".as_slice());
     assert!(rt; !name.is_admin_handle());
     Ok(())
 }
@@ -27,9 +28,9 @@ fn prefix_of_a_handle(rt: HostRuntime) -> Result<(), Fail> {
 #[test]
 fn administrative_handle(rt: HostRuntime) -> Result<(), Fail> {
     let name = Name::read(rt.alloc(), b"0.Na/10.ABC")?;
-    assert_eq!(rt; name.canon(), b"0.na/10.abc".as_slice());
-    assert_eq!(rt; name.prefix(), b"10.abc".as_slice());
-    assert_eq!(rt; name.prefix_sent(), b"10.ABC".as_slice());
+    same(&rt, "canon", name.canon(), b"0.na/10.abc".as_slice());
+    same(&rt, "prefix", name.prefix(), b"10.abc".as_slice());
+    same(&rt, "prefix sent", name.prefix_sent(), b"10.ABC".as_slice());
     assert!(rt; name.is_admin_handle());
     Ok(())
 }
@@ -37,8 +38,8 @@ fn administrative_handle(rt: HostRuntime) -> Result<(), Fail> {
 #[test]
 fn empty_local_name(rt: HostRuntime) -> Result<(), Fail> {
     let name = Name::read(rt.alloc(), b"10/")?;
-    assert_eq!(rt; name.local(), b"".as_slice());
-    assert_eq!(rt; name.prefix(), b"10".as_slice());
+    same(&rt, "local", name.local(), b"".as_slice());
+    same(&rt, "prefix", name.prefix(), b"10".as_slice());
     Ok(())
 }
 
@@ -46,41 +47,43 @@ fn empty_local_name(rt: HostRuntime) -> Result<(), Fail> {
 #[test]
 fn letters_beyond_ascii(rt: HostRuntime) -> Result<(), Fail> {
     let name = Name::read(rt.alloc(), b"A\xc3\x84/X")?;
-    assert_eq!(rt; name.canon(), b"a\xc3\x84/X".as_slice());
+    same(&rt, "canon", name.canon(), b"a\xc3\x84/X".as_slice());
     Ok(())
 }
 
+/// What it is, the octets, and the fault that they have.
+const NEAR_NAMES: [(&str, &[u8], Option<NameFault>); 8] = [
+    ("no slash", b"10", Some(NameFault::NoSlash)),
+    ("the local name is a slash", b"10//", None),
+    ("no authority", b"/a", Some(NameFault::BadSegment)),
+    ("an empty segment", b"10./a", Some(NameFault::BadSegment)),
+    (
+        "nothing administered",
+        b"0.NA/",
+        Some(NameFault::BadSegment),
+    ),
+    (
+        "an authority with a slash",
+        b"0.na/10/a",
+        Some(NameFault::BadSegment),
+    ),
+    (
+        "bad UTF-8 in the authority",
+        b"1\xff/a",
+        Some(NameFault::NotUtf8),
+    ),
+    (
+        "bad UTF-8 in the local name",
+        b"10/\xc3",
+        Some(NameFault::NotUtf8),
+    ),
+];
+
 #[test]
 fn names_and_near_names(rt: HostRuntime) -> Result<(), Fail> {
-    let cases: [(&str, &[u8], Option<NameFault>); 8] = [
-        ("no slash", b"10", Some(NameFault::NoSlash)),
-        ("the local name is a slash", b"10//", None),
-        ("no authority", b"/a", Some(NameFault::BadSegment)),
-        ("an empty segment", b"10./a", Some(NameFault::BadSegment)),
-        (
-            "nothing administered",
-            b"0.NA/",
-            Some(NameFault::BadSegment),
-        ),
-        (
-            "an authority with a slash",
-            b"0.na/10/a",
-            Some(NameFault::BadSegment),
-        ),
-        (
-            "bad UTF-8 in the authority",
-            b"1\xff/a",
-            Some(NameFault::NotUtf8),
-        ),
-        (
-            "bad UTF-8 in the local name",
-            b"10/\xc3",
-            Some(NameFault::NotUtf8),
-        ),
-    ];
-    for (what, octets, expected) in cases {
-        assert_eq!(rt; fault(&rt, octets), expected, "{what}");
-        assert_eq!(rt; is_name(octets), expected.is_none(), "{what}");
+    for &(what, octets, expected) in &NEAR_NAMES {
+        same(&rt, what, fault(&rt, octets), expected);
+        same(&rt, what, is_name(octets), expected.is_none());
     }
     Ok(())
 }
@@ -90,17 +93,32 @@ fn longest_name(rt: HostRuntime) -> Result<(), Fail> {
     let mut octets = Vec::new(rt.alloc());
     octets.extend_from_slice(b"10/")?;
     octets.resize(2048, b'a')?;
-    assert_eq!(rt; fault(&rt, &octets), None);
+    same(&rt, "longest", fault(&rt, &octets), None);
     octets.push(b'a')?;
-    assert_eq!(rt; fault(&rt, &octets), Some(NameFault::TooLong));
+    same(
+        &rt,
+        "longest",
+        fault(&rt, &octets),
+        Some(NameFault::TooLong),
+    );
     Ok(())
 }
 
 /// The length is tested before UTF-8.
 #[test]
 fn first_fault(rt: HostRuntime) -> Result<(), Fail> {
-    assert_eq!(rt; fault(&rt, &[0xff; 2049]), Some(NameFault::TooLong));
-    assert_eq!(rt; fault(&rt, &[0xff; 2048]), Some(NameFault::NotUtf8));
+    same(
+        &rt,
+        "2,049 octets",
+        fault(&rt, &[0xff; 2049]),
+        Some(NameFault::TooLong),
+    );
+    same(
+        &rt,
+        "2,048 octets",
+        fault(&rt, &[0xff; 2048]),
+        Some(NameFault::NotUtf8),
+    );
     Ok(())
 }
 
@@ -115,7 +133,7 @@ fn texts_of_faults(rt: HostRuntime) -> Result<(), Fail> {
     ];
     for (fault, expected) in cases {
         let text = format!(in rt.alloc(); "{fault}")?;
-        assert_eq!(rt; text.as_str(), expected);
+        same(&rt, "text", text.as_str(), expected);
     }
     Ok(())
 }
@@ -123,7 +141,12 @@ fn texts_of_faults(rt: HostRuntime) -> Result<(), Fail> {
 #[test]
 fn octets_and_back(rt: HostRuntime) -> Result<(), Fail> {
     let octets = Octets::new(Vec::from_slice(rt.alloc(), b"10/a")?);
-    assert_eq!(rt; octets.as_slice(), b"10/a".as_slice());
-    assert_eq!(rt; octets.into_vec().as_slice(), b"10/a".as_slice());
+    same(&rt, "octets", octets.as_slice(), b"10/a".as_slice());
+    same(
+        &rt,
+        "into vec",
+        octets.into_vec().as_slice(),
+        b"10/a".as_slice(),
+    );
     Ok(())
 }

@@ -1,5 +1,6 @@
 //! Replies, read as the frames of `crates/hdl_scripts/data` have them.
 
+use crate::assertion::same;
 use crate::msg::hex;
 use hdl_msg::{ContentView, Digest, ReplyForm, read_reply};
 use std::alloc::{AllocError, Global};
@@ -65,15 +66,136 @@ fn is_read(
 const TWO_VALUES: &str =
     "020100000000000000000002000000000000006d0000000100000001000000000000000000000000000000510000000431302f680000000200000005000000015800000004666976650000000000020000000000001388000000000000000600000001580000000373697800000000000200000000000013880000000000000000";
 
+const NONCE: &[u8] = &[0, 1, 2, 3, 4, 5, 6, 7, 8, 9, 10, 11, 12, 13, 14, 15];
+
+/// What it is, a frame, and the reply that it is: its code, its digest, and of its content the form, the handle, prefix or nonce, and how
+/// many items it has.
+const REPLIES: [(&str, &str, u32, &str, ReplyForm, &[u8], usize); 13] = [
+    (
+        "two values",
+        TWO_VALUES,
+        1,
+        "",
+        ReplyForm::Values,
+        b"10/h",
+        2,
+    ),
+    (
+        "a value with a digest by SHA-256",
+        "020100000000000000000001000000000000006900000001000000010080000000000000000000000000004d036ce27d942cbe3228b00038592f9e788a4d6b991ac74a37149ef9d06b7508ecda0000000432302f7000000001000000010000000158000000016100000000000200000000000000000000000000000000",
+        1,
+        "036ce27d942cbe3228b00038592f9e788a4d6b991ac74a37149ef9d06b7508ecda",
+        ReplyForm::Values,
+        b"20/p",
+        1,
+    ),
+    (
+        "handles",
+        "02010000000000010000000b000000000000003800000069000000010000000000000000000000000000001c000000030000000431302f420000000431302f620000000431302f6b00000000",
+        1,
+        "",
+        ReplyForm::Handles,
+        b"",
+        3,
+    ),
+    (
+        "an add",
+        "02010000000000010000000b000000000000001c00000066000000010000000000000000000000000000000000000000",
+        1,
+        "",
+        ReplyForm::Nothing,
+        b"",
+        0,
+    ),
+    (
+        "a delete with a digest",
+        "020100000000000100000009000000000000003100000065000000010080000000000000000000000000001502a39a7131cb99fe8f550975a2e95703e56d6be76000000000",
+        1,
+        "02a39a7131cb99fe8f550975a2e95703e56d6be760",
+        ReplyForm::Nothing,
+        b"",
+        0,
+    ),
+    (
+        "a referral",
+        "020100000000000000000002000000000000002b000000010000012e0000000000000000000000000000000f00000007302e4e412f33300000000000000000",
+        302,
+        "",
+        ReplyForm::Referral,
+        b"30",
+        0,
+    ),
+    (
+        "a referral with a digest",
+        "0201000000000000000000020000000000000040000000010000012e0080000000000000000000000000002402d15cb7747bbadef25b130d46a57f1317e16886b900000007302e4e412f32300000000000000000",
+        302,
+        "02d15cb7747bbadef25b130d46a57f1317e16886b9",
+        ReplyForm::Referral,
+        b"20",
+        0,
+    ),
+    (
+        "a challenge, which has a digest though none was asked for",
+        "02010000000000010000000a000000000000004500000066000001920000000000000000000000000000002902d66ad0790b080c15d1d57987f44c30767740d3c800000010000102030405060708090a0b0c0d0e0f00000000",
+        402,
+        "02d66ad0790b080c15d1d57987f44c30767740d3c8",
+        ReplyForm::Nonce,
+        NONCE,
+        0,
+    ),
+    (
+        "a challenge whose digest was asked for",
+        "020100000000000100000008000000000000004500000065000001920080000000000000000000000000002902a39a7131cb99fe8f550975a2e95703e56d6be76000000010000102030405060708090a0b0c0d0e0f00000000",
+        402,
+        "02a39a7131cb99fe8f550975a2e95703e56d6be760",
+        ReplyForm::Nonce,
+        NONCE,
+        0,
+    ),
+    (
+        "a challenge by SHA-256",
+        "0201000000000001000000070000000000000051000000010000019200000000000000000000000000000035036a3bec575f75aee57ff5aa63729b41ab97e4555bc9666f87a3abf50bf2de5b0200000010000102030405060708090a0b0c0d0e0f00000000",
+        402,
+        "036a3bec575f75aee57ff5aa63729b41ab97e4555bc9666f87a3abf50bf2de5b02",
+        ReplyForm::Nonce,
+        NONCE,
+        0,
+    ),
+    (
+        "a handle that is absent",
+        "02010000000000000000000100000000000000200000000100000064000000000000000000000000000000040000000000000000",
+        100,
+        "",
+        ReplyForm::Empty,
+        b"",
+        0,
+    ),
+    (
+        "one that is absent, with a digest",
+        "020100000000000000000001000000000000004100000001000000640080000000000000000000000000002503fb138edebec079d3d35d2f84840f63983df8a9b632c86e2acffd073b90e8309b0000000000000000",
+        100,
+        "03fb138edebec079d3d35d2f84840f63983df8a9b632c86e2acffd073b90e8309b",
+        ReplyForm::Empty,
+        b"",
+        0,
+    ),
+    (
+        "a short reply",
+        "02010000000000000000000100000000000000200000000000000004000000000000000000000000000000040000000000000000",
+        4,
+        "",
+        ReplyForm::Empty,
+        b"",
+        0,
+    ),
+];
+
 #[test]
-fn values(rt: HostRuntime) -> Result<(), Fail> {
-    let shown = (ReplyForm::Values, b"10/h".as_slice(), 2);
-    assert!(rt; is_read(rt.alloc(), TWO_VALUES, 1, "", shown)?);
-    let frame =
-        "020100000000000000000001000000000000006900000001000000010080000000000000000000000000004d036ce27d942cbe3228b00038592f9e788a4d6b991ac74a37149ef9d06b7508ecda0000000432302f7000000001000000010000000158000000016100000000000200000000000000000000000000000000";
-    let digest = "036ce27d942cbe3228b00038592f9e788a4d6b991ac74a37149ef9d06b7508ecda";
-    let shown = (ReplyForm::Values, b"20/p".as_slice(), 1);
-    assert!(rt; is_read(rt.alloc(), frame, 1, digest, shown)?);
+fn each_reply(rt: HostRuntime) -> Result<(), Fail> {
+    for &(what, frame, code, digest, form, octets, items) in &REPLIES {
+        let read = is_read(rt.alloc(), frame, code, digest, (form, octets, items))?;
+        same(&rt, what, read, true);
+    }
     Ok(())
 }
 
@@ -97,96 +219,11 @@ fn values_where_they_stand(rt: HostRuntime) -> Result<(), Fail> {
         "00000006 00000001 58 00000003 736978 0000000000 02 0000000000001388 00000000",
     )?;
     let (_, message) = frame.split_at_checked(20).expect(&rt, "an envelope");
-    assert_eq!(rt; last_value(message), Some(value.as_slice()));
-    Ok(())
-}
-
-#[test]
-fn handles(rt: HostRuntime) -> Result<(), Fail> {
-    let frame =
-        "02010000000000010000000b000000000000003800000069000000010000000000000000000000000000001c000000030000000431302f420000000431302f620000000431302f6b00000000";
-    let listed = (ReplyForm::Handles, b"".as_slice(), 3);
-    assert!(rt; is_read(rt.alloc(), frame, 1, "", listed)?);
-    Ok(())
-}
-
-#[test]
-fn writes(rt: HostRuntime) -> Result<(), Fail> {
-    let done = (ReplyForm::Nothing, b"".as_slice(), 0);
-    let frame =
-        "02010000000000010000000b000000000000001c00000066000000010000000000000000000000000000000000000000";
-    assert!(rt; is_read(rt.alloc(), frame, 1, "", done)?, "an add");
-    let frame =
-        "020100000000000100000009000000000000003100000065000000010080000000000000000000000000001502a39a7131cb99fe8f550975a2e95703e56d6be76000000000";
-    let digest = "02a39a7131cb99fe8f550975a2e95703e56d6be760";
-    assert!(rt;
-        is_read(rt.alloc(), frame, 1, digest, done)?,
-        "a delete with a digest"
-    );
-    Ok(())
-}
-
-#[test]
-fn referrals(rt: HostRuntime) -> Result<(), Fail> {
-    let frame =
-        "020100000000000000000002000000000000002b000000010000012e0000000000000000000000000000000f00000007302e4e412f33300000000000000000";
-    let referral = (ReplyForm::Referral, b"30".as_slice(), 0);
-    assert!(rt; is_read(rt.alloc(), frame, 302, "", referral)?);
-    let frame =
-        "0201000000000000000000020000000000000040000000010000012e0080000000000000000000000000002402d15cb7747bbadef25b130d46a57f1317e16886b900000007302e4e412f32300000000000000000";
-    let digest = "02d15cb7747bbadef25b130d46a57f1317e16886b9";
-    let referral = (ReplyForm::Referral, b"20".as_slice(), 0);
-    assert!(rt;
-        is_read(rt.alloc(), frame, 302, digest, referral)?,
-        "with a digest"
-    );
-    Ok(())
-}
-
-/// A challenge has a digest whether or not it was asked for.
-#[test]
-fn challenges(rt: HostRuntime) -> Result<(), Fail> {
-    let nonce = [0, 1, 2, 3, 4, 5, 6, 7, 8, 9, 10, 11, 12, 13, 14, 15];
-    let challenge = (ReplyForm::Nonce, nonce.as_slice(), 0);
-    let frame =
-        "02010000000000010000000a000000000000004500000066000001920000000000000000000000000000002902d66ad0790b080c15d1d57987f44c30767740d3c800000010000102030405060708090a0b0c0d0e0f00000000";
-    let digest = "02d66ad0790b080c15d1d57987f44c30767740d3c8";
-    assert!(rt; is_read(rt.alloc(), frame, 402, digest, challenge)?);
-    let frame =
-        "020100000000000100000008000000000000004500000065000001920080000000000000000000000000002902a39a7131cb99fe8f550975a2e95703e56d6be76000000010000102030405060708090a0b0c0d0e0f00000000";
-    let digest = "02a39a7131cb99fe8f550975a2e95703e56d6be760";
-    assert!(rt;
-        is_read(rt.alloc(), frame, 402, digest, challenge)?,
-        "asked for"
-    );
-    let frame =
-        "0201000000000001000000070000000000000051000000010000019200000000000000000000000000000035036a3bec575f75aee57ff5aa63729b41ab97e4555bc9666f87a3abf50bf2de5b0200000010000102030405060708090a0b0c0d0e0f00000000";
-    let digest = "036a3bec575f75aee57ff5aa63729b41ab97e4555bc9666f87a3abf50bf2de5b02";
-    assert!(rt;
-        is_read(rt.alloc(), frame, 402, digest, challenge)?,
-        "by SHA-256"
-    );
-    Ok(())
-}
-
-#[test]
-fn other_codes(rt: HostRuntime) -> Result<(), Fail> {
-    let nothing = (ReplyForm::Empty, b"".as_slice(), 0);
-    let frame =
-        "02010000000000000000000100000000000000200000000100000064000000000000000000000000000000040000000000000000";
-    assert!(rt; is_read(rt.alloc(), frame, 100, "", nothing)?);
-    let frame =
-        "020100000000000000000001000000000000004100000001000000640080000000000000000000000000002503fb138edebec079d3d35d2f84840f63983df8a9b632c86e2acffd073b90e8309b0000000000000000";
-    let digest = "03fb138edebec079d3d35d2f84840f63983df8a9b632c86e2acffd073b90e8309b";
-    assert!(rt;
-        is_read(rt.alloc(), frame, 100, digest, nothing)?,
-        "with a digest"
-    );
-    let frame =
-        "02010000000000000000000100000000000000200000000000000004000000000000000000000000000000040000000000000000";
-    assert!(rt;
-        is_read(rt.alloc(), frame, 4, "", nothing)?,
-        "a short reply"
+    same(
+        &rt,
+        "last value of message",
+        last_value(message),
+        Some(value.as_slice()),
     );
     Ok(())
 }

@@ -1,5 +1,6 @@
 //! Requests, written as the frames of `crates/hdl_scripts/data` have them.
 
+use crate::assertion::same;
 use crate::msg::{hex, octets};
 use hdl_limits::MESSAGE_MAX;
 use hdl_msg::{Header, OpFlag, RequestBody, request_len, write_request};
@@ -61,34 +62,28 @@ fn resolution(
     })
 }
 
-#[test]
-fn resolution_of_all_values(rt: HostRuntime) -> Result<(), Fail> {
-    let body = resolution(rt.alloc(), b"10/a", &[], Vec::new(rt.alloc()))?;
+fn resolution_of_all_values(alloc: Global) -> Result<bool, Fail> {
+    let body = resolution(alloc, b"10/a", &[], Vec::new(alloc))?;
     let frame =
         "020100000000000000000001000000000000002c0000000100000000000000000000000000000000000000100000000431302f61000000000000000000000000";
-    assert!(rt; is_written(rt.alloc(), 0, body, frame)?);
-    Ok(())
+    Ok(is_written(alloc, 0, body, frame)?)
 }
 
-#[test]
-fn resolution_by_index(rt: HostRuntime) -> Result<(), Fail> {
-    let body = resolution(rt.alloc(), b"10/t", &[3, 1, 3], Vec::new(rt.alloc()))?;
+fn resolution_by_index(alloc: Global) -> Result<bool, Fail> {
+    let body = resolution(alloc, b"10/t", &[3, 1, 3], Vec::new(alloc))?;
     let frame =
         "020100000000000000000001000000000000003800000001000000000000000000000000000000000000001c0000000431302f74000000030000000300000001000000030000000000000000";
-    assert!(rt; is_written(rt.alloc(), 0, body, frame)?);
-    Ok(())
+    Ok(is_written(alloc, 0, body, frame)?)
 }
 
-#[test]
-fn resolution_by_type(rt: HostRuntime) -> Result<(), Fail> {
-    let mut types = Vec::new(rt.alloc());
-    types.push(octets(rt.alloc(), b"URL.")?)?;
-    types.push(octets(rt.alloc(), b"EMAIL.")?)?;
-    let body = resolution(rt.alloc(), b"10/t", &[], types)?;
+fn resolution_by_type(alloc: Global) -> Result<bool, Fail> {
+    let mut types = Vec::new(alloc);
+    types.push(octets(alloc, b"URL.")?)?;
+    types.push(octets(alloc, b"EMAIL.")?)?;
+    let body = resolution(alloc, b"10/t", &[], types)?;
     let frame =
         "020100000000000000000001000000000000003e0000000100000000000000000000000000000000000000220000000431302f7400000000000000020000000455524c2e00000006454d41494c2e00000000";
-    assert!(rt; is_written(rt.alloc(), 0, body, frame)?);
-    Ok(())
+    Ok(is_written(alloc, 0, body, frame)?)
 }
 
 /// The list of the one value that these digits spell.
@@ -100,72 +95,60 @@ fn values(alloc: Global, digits: &str) -> Result<Listed<Value>, Fail> {
     Ok(Listed::new(values))
 }
 
-#[test]
-fn create(rt: HostRuntime) -> Result<(), Fail> {
+fn create(alloc: Global) -> Result<bool, Fail> {
     let digits =
         "00000001 00000008 48535f41444d494e 0000000e 0fff0000000431302f6b00000001 0000000000 00 0000000000000000 00000000";
-    let values = values(rt.alloc(), digits)?;
-    let handle = octets(rt.alloc(), b"0.NA/10")?;
+    let values = values(alloc, digits)?;
+    let handle = octets(alloc, b"0.NA/10")?;
     let body = RequestBody::Create { handle, values };
     let frame =
         "02010000000000000000000d000000000000005f00000064000000000000000000000000000000000000004300000007302e4e412f313000000001000000010000000848535f41444d494e0000000e0fff0000000431302f6b0000000100000000000000000000000000000000000000000000";
-    assert!(rt; is_written(rt.alloc(), 0, body, frame)?);
-    Ok(())
+    Ok(is_written(alloc, 0, body, frame)?)
 }
 
-#[test]
-fn add(rt: HostRuntime) -> Result<(), Fail> {
+fn add(alloc: Global) -> Result<bool, Fail> {
     let digits = "00000006 00000001 58 00000003 736978 0000000000 02 0000000000000000 00000000";
-    let values = values(rt.alloc(), digits)?;
-    let handle = octets(rt.alloc(), b"10/h")?;
+    let values = values(alloc, digits)?;
+    let handle = octets(alloc, b"10/h")?;
     let body = RequestBody::Add { handle, values };
     let frame =
         "02010000000000000000000c000000000000004a00000066000000000000000000000000000000000000002e0000000431302f68000000010000000600000001580000000373697800000000000200000000000000000000000000000000";
-    assert!(rt; is_written(rt.alloc(), 0, body, frame)?);
-    Ok(())
+    Ok(is_written(alloc, 0, body, frame)?)
 }
 
-#[test]
-fn modify(rt: HostRuntime) -> Result<(), Fail> {
+fn modify(alloc: Global) -> Result<bool, Fail> {
     let digits = "00000002 00000001 58 00000001 62 0000000000 03 0000000000000000 00000000";
-    let values = values(rt.alloc(), digits)?;
-    let handle = octets(rt.alloc(), b"10/b")?;
+    let values = values(alloc, digits)?;
+    let handle = octets(alloc, b"10/b")?;
     let body = RequestBody::Modify { handle, values };
     let frame =
         "020100000000000000000003000000000000004800000068000000000000000000000000000000000000002c0000000431302f6200000001000000020000000158000000016200000000000300000000000000000000000000000000";
-    assert!(rt; is_written(rt.alloc(), 0, body, frame)?);
-    Ok(())
+    Ok(is_written(alloc, 0, body, frame)?)
 }
 
-#[test]
-fn delete_with_a_flag(rt: HostRuntime) -> Result<(), Fail> {
-    let handle = octets(rt.alloc(), b"10/c")?;
+fn delete_with_a_flag(alloc: Global) -> Result<bool, Fail> {
+    let handle = octets(alloc, b"10/c")?;
     let body = RequestBody::Delete { handle };
     let frame =
         "02010000000000000000000800000000000000240000006500000000008000000000000000000000000000080000000431302f6300000000";
-    assert!(rt; is_written(rt.alloc(), OpFlag::ReturnDigest.bit(), body, frame)?);
-    Ok(())
+    Ok(is_written(alloc, OpFlag::ReturnDigest.bit(), body, frame)?)
 }
 
-#[test]
-fn list(rt: HostRuntime) -> Result<(), Fail> {
-    let handle = octets(rt.alloc(), b"0.NA/10")?;
+fn list(alloc: Global) -> Result<bool, Fail> {
+    let handle = octets(alloc, b"0.NA/10")?;
     let body = RequestBody::List { handle };
     let frame =
         "02010000000000000000000a000000000000002700000069000000000000000000000000000000000000000b00000007302e4e412f313000000000";
-    assert!(rt; is_written(rt.alloc(), 0, body, frame)?);
-    Ok(())
+    Ok(is_written(alloc, 0, body, frame)?)
 }
 
-#[test]
-fn remove(rt: HostRuntime) -> Result<(), Fail> {
-    let indexes = Listed::new(Vec::from_slice(rt.alloc(), &[1, 9])?);
-    let handle = octets(rt.alloc(), b"10/h")?;
+fn remove(alloc: Global) -> Result<bool, Fail> {
+    let indexes = Listed::new(Vec::from_slice(alloc, &[1, 9])?);
+    let handle = octets(alloc, b"10/h")?;
     let body = RequestBody::Remove { handle, indexes };
     let frame =
         "02010000000000000000000a00000000000000300000006700000000000000000000000000000000000000140000000431302f6800000002000000010000000900000000";
-    assert!(rt; is_written(rt.alloc(), 0, body, frame)?);
-    Ok(())
+    Ok(is_written(alloc, 0, body, frame)?)
 }
 
 fn response(
@@ -185,12 +168,37 @@ fn response(
     })
 }
 
-#[test]
-fn challenge_response(rt: HostRuntime) -> Result<(), Fail> {
+fn challenge_response(alloc: Global) -> Result<bool, Fail> {
     let answer = "02b484422fab3c661700ff8757ff2b9e89681c3fa0";
-    let body = response(rt.alloc(), b"20/keys", 3, answer)?;
+    let body = response(alloc, b"20/keys", 3, answer)?;
     let frame =
         "0201000000000001000000090000000000000051000000c800000000000000000000000000000000000000350000000948535f5345434b45590000000732302f6b657973000000030000001502b484422fab3c661700ff8757ff2b9e89681c3fa000000000";
-    assert!(rt; is_written(rt.alloc(), 0, body, frame)?);
+    Ok(is_written(alloc, 0, body, frame)?)
+}
+
+/// Each request is written as the message that its frame has.
+#[test]
+fn each_request(rt: HostRuntime) -> Result<(), Fail> {
+    let alloc = rt.alloc();
+    same(
+        &rt,
+        "resolution of all values",
+        resolution_of_all_values(alloc)?,
+        true,
+    );
+    same(
+        &rt,
+        "resolution by index",
+        resolution_by_index(alloc)?,
+        true,
+    );
+    same(&rt, "resolution by type", resolution_by_type(alloc)?, true);
+    same(&rt, "create", create(alloc)?, true);
+    same(&rt, "add", add(alloc)?, true);
+    same(&rt, "modify", modify(alloc)?, true);
+    same(&rt, "delete with a flag", delete_with_a_flag(alloc)?, true);
+    same(&rt, "list", list(alloc)?, true);
+    same(&rt, "remove", remove(alloc)?, true);
+    same(&rt, "challenge response", challenge_response(alloc)?, true);
     Ok(())
 }

@@ -1,3 +1,4 @@
+use crate::assertion::same;
 use hdl_value::{
     AdminMask, AdminPermission, Class, ValueFault, admin_of, cut_value, put_value, read_value,
     vlist_of, write_value,
@@ -56,13 +57,20 @@ const PRINTED: [u8; 66] = [
 #[test]
 fn reads_what_is_printed(rt: HostRuntime) -> Result<(), Fail> {
     let (value, count) = read_value(rt.alloc(), &PRINTED)?;
-    assert_eq!(rt;
+    same(
+        &rt,
+        "count, index, perm, stamp",
         (count, value.index, value.perm, value.stamp),
-        (66, 1, 6, 7)
+        (66, 1, 6, 7),
     );
-    assert_eq!(rt; value.kind.as_slice(), b"URL".as_slice());
-    assert_eq!(rt; value.bytes.as_slice(), b"http://a/".as_slice());
-    assert_eq!(rt; value.ttl, [0, 0, 1, 0x51, 0x80]);
+    same(&rt, "kind", value.kind.as_slice(), b"URL".as_slice());
+    same(
+        &rt,
+        "bytes",
+        value.bytes.as_slice(),
+        b"http://a/".as_slice(),
+    );
+    same(&rt, "ttl", value.ttl, [0, 0, 1, 0x51, 0x80]);
     Ok(())
 }
 
@@ -70,9 +78,14 @@ fn reads_what_is_printed(rt: HostRuntime) -> Result<(), Fail> {
 fn reads_printed_references(rt: HostRuntime) -> Result<(), Fail> {
     let (value, _) = read_value(rt.alloc(), &PRINTED)?;
     let references = value.refs.into_vec();
-    assert_eq!(rt; references.len(), 2);
-    assert_eq!(rt; references[1].handle.as_slice(), b"10/b".as_slice());
-    assert_eq!(rt; references[1].index, 9);
+    assert!(rt; references.len() == 2);
+    same(
+        &rt,
+        "handle",
+        references[1].handle.as_slice(),
+        b"10/b".as_slice(),
+    );
+    same(&rt, "index", references[1].index, 9);
     Ok(())
 }
 
@@ -80,10 +93,10 @@ fn reads_printed_references(rt: HostRuntime) -> Result<(), Fail> {
 fn writes_what_is_printed(rt: HostRuntime) -> Result<(), Fail> {
     let (value, _) = read_value(rt.alloc(), &PRINTED)?;
     let written = write_value(rt.alloc(), &value)?;
-    assert_eq!(rt; written.as_slice(), PRINTED.as_slice());
+    same(&rt, "written", written.as_slice(), PRINTED.as_slice());
     let mut behind = vec![in rt.alloc(); 1, 2]?;
     put_value(&mut behind, &value)?;
-    assert_eq!(rt; behind.len(), 68);
+    same(&rt, "len", behind.len(), 68);
     Ok(())
 }
 
@@ -91,8 +104,8 @@ fn writes_what_is_printed(rt: HostRuntime) -> Result<(), Fail> {
 fn copies(rt: HostRuntime) -> Result<(), Fail> {
     let (value, _) = read_value(rt.alloc(), &PRINTED)?;
     let copy = value.copy(rt.alloc())?;
-    assert_eq!(rt; copy.bytes.as_slice(), b"http://a/".as_slice());
-    assert_eq!(rt; copy.refs.as_slice().len(), 2);
+    same(&rt, "bytes", copy.bytes.as_slice(), b"http://a/".as_slice());
+    same(&rt, "len", copy.refs.as_slice().len(), 2);
     Ok(())
 }
 
@@ -101,9 +114,14 @@ fn octets_may_stand_behind(rt: HostRuntime) -> Result<(), Fail> {
     let mut octets = spelt(rt.alloc(), 1, b"URL", b"http://a/", 6)?;
     octets.push(0xff)?;
     let (_, count) = read_value(rt.alloc(), &octets)?;
-    assert_eq!(rt; count, 42);
+    same(&rt, "count", count, 42);
     octets.truncate(41);
-    assert_eq!(rt; fault(rt.alloc(), &octets), Some(ValueFault::Short));
+    same(
+        &rt,
+        "fault",
+        fault(rt.alloc(), &octets),
+        Some(ValueFault::Short),
+    );
     Ok(())
 }
 
@@ -111,51 +129,77 @@ fn octets_may_stand_behind(rt: HostRuntime) -> Result<(), Fail> {
 fn cuts_where_it_stands(rt: HostRuntime) -> Result<(), Fail> {
     let octets = spelt(rt.alloc(), 0, b"HS_ADMIN", b"", 6)?;
     let (cut, behind) = cut_value(&octets).ok_or("a value by its layout")?;
-    assert_eq!(rt; (cut.index(), behind.len()), (0, 0));
-    assert_eq!(rt; cut.kind(), b"HS_ADMIN".as_slice());
-    assert_eq!(rt; cut.octets(), octets.as_slice());
-    assert_eq!(rt; cut.check(), Err(ValueFault::IndexZero));
+    same(&rt, "index, len", (cut.index(), behind.len()), (0, 0));
+    same(&rt, "kind", cut.kind(), b"HS_ADMIN".as_slice());
+    same(&rt, "octets", cut.octets(), octets.as_slice());
+    same(&rt, "check", cut.check(), Err(ValueFault::IndexZero));
     Ok(())
 }
 
 #[test]
 fn reads_what_was_cut(rt: HostRuntime) -> Result<(), Fail> {
     let (cut, _) = cut_value(&PRINTED).ok_or("a value by its layout")?;
-    assert_eq!(rt; cut.check(), Ok(()));
+    same(&rt, "check", cut.check(), Ok(()));
     let value = cut.read(rt.alloc())?;
-    assert_eq!(rt; value.bytes.as_slice(), b"http://a/".as_slice());
+    same(
+        &rt,
+        "bytes",
+        value.bytes.as_slice(),
+        b"http://a/".as_slice(),
+    );
     Ok(())
 }
 
 #[test]
 fn index_zero_comes_first(rt: HostRuntime) -> Result<(), Fail> {
     let octets = spelt(rt.alloc(), 0, &[0; 256], b"", 2)?;
-    assert_eq!(rt; fault(rt.alloc(), &octets), Some(ValueFault::IndexZero));
+    same(
+        &rt,
+        "fault",
+        fault(rt.alloc(), &octets),
+        Some(ValueFault::IndexZero),
+    );
     let text = format!(in rt.alloc(); "{}", ValueFault::IndexZero)?;
-    assert_eq!(rt; text.as_str(), "the value's index is 0");
+    same(&rt, "text", text.as_str(), "the value's index is 0");
     Ok(())
 }
 
 #[test]
 fn types_have_255_octets(rt: HostRuntime) -> Result<(), Fail> {
-    assert_eq!(rt; fault_of(rt.alloc(), &[0x41; 255], b"")?, None);
-    assert_eq!(rt;
+    same(
+        &rt,
+        "a type of 255 octets",
+        fault_of(rt.alloc(), &[0x41; 255], b"")?,
+        None,
+    );
+    same(
+        &rt,
+        "a type of 256 octets",
         fault_of(rt.alloc(), &[0x41; 256], b"")?,
-        Some(ValueFault::TypeLong)
+        Some(ValueFault::TypeLong),
     );
     Ok(())
 }
 
 #[test]
 fn data_has_32768_octets(rt: HostRuntime) -> Result<(), Fail> {
-    assert_eq!(rt; fault_of(rt.alloc(), b"URL", &[0; 32_768])?, None);
-    assert_eq!(rt;
-        fault_of(rt.alloc(), b"URL", &[0; 32_769])?,
-        Some(ValueFault::DataLong)
+    same(
+        &rt,
+        "32,768 octets of data",
+        fault_of(rt.alloc(), b"URL", &[0; 32_768])?,
+        None,
     );
-    assert_eq!(rt;
+    same(
+        &rt,
+        "32,769 octets of data",
+        fault_of(rt.alloc(), b"URL", &[0; 32_769])?,
+        Some(ValueFault::DataLong),
+    );
+    same(
+        &rt,
+        "both too long",
         fault_of(rt.alloc(), &[0; 256], &[0; 32_769])?,
-        Some(ValueFault::TypeLong)
+        Some(ValueFault::TypeLong),
     );
     Ok(())
 }
@@ -163,9 +207,14 @@ fn data_has_32768_octets(rt: HostRuntime) -> Result<(), Fail> {
 #[test]
 fn references_are_64(rt: HostRuntime) -> Result<(), Fail> {
     let octets = spelt_with(rt.alloc(), 64)?;
-    assert_eq!(rt; fault(rt.alloc(), &octets), None);
+    same(&rt, "fault", fault(rt.alloc(), &octets), None);
     let octets = spelt_with(rt.alloc(), 65)?;
-    assert_eq!(rt; fault(rt.alloc(), &octets), Some(ValueFault::RefsMany));
+    same(
+        &rt,
+        "fault",
+        fault(rt.alloc(), &octets),
+        Some(ValueFault::RefsMany),
+    );
     Ok(())
 }
 
@@ -191,56 +240,68 @@ fn lies_are_short(alloc: Global, front: &[u8], back: &[u8]) -> Result<bool, Allo
 
 #[test]
 fn lengths_that_lie_are_short(rt: HostRuntime) -> Result<(), Fail> {
-    assert!(rt;
+    same(
+        &rt,
+        "the type's length",
         lies_are_short(rt.alloc(), &PRINTED[..4], &PRINTED[8..])?,
-        "the type's length"
+        true,
     );
-    assert!(rt;
+    same(
+        &rt,
+        "the data's length",
         lies_are_short(rt.alloc(), &PRINTED[..11], &PRINTED[15..])?,
-        "the data's length"
+        true,
     );
-    assert!(rt;
+    same(
+        &rt,
+        "the references' count",
         lies_are_short(rt.alloc(), &PRINTED[..38], &PRINTED[42..])?,
-        "the references' count"
+        true,
     );
-    assert!(rt;
+    same(
+        &rt,
+        "a handle's length",
         lies_are_short(rt.alloc(), &PRINTED[..42], &PRINTED[46..])?,
-        "a handle's length"
+        true,
     );
     Ok(())
 }
 
-#[test]
-fn bad_administrators(rt: HostRuntime) -> Result<(), Fail> {
-    let behind = fault_of(
-        rt.alloc(),
+/// What it is, a type and data, and the fault of a value with these.
+const BY_DATA: [(&str, &[u8], &[u8], Option<ValueFault>); 6] = [
+    (
+        "one octet behind",
         b"HS_ADMIN",
         b"\x0f\xff\0\0\0\x0410/g\0\0\0\x01\0",
-    )?;
-    assert_eq!(rt; behind, Some(ValueFault::BadAdmin), "one octet behind");
-    let no_slash = fault_of(rt.alloc(), b"HS_ADMIN", b"\x0f\xff\0\0\0\x0210\0\0\0\x01")?;
-    assert_eq!(rt;
-        no_slash,
         Some(ValueFault::BadAdmin),
-        "a handle without a slash"
-    );
-    let other = fault_of(rt.alloc(), b"hs_admin", b"")?;
-    assert_eq!(rt; other, None, "another type");
-    Ok(())
-}
+    ),
+    (
+        "a handle without a slash",
+        b"HS_ADMIN",
+        b"\x0f\xff\0\0\0\x0210\0\0\0\x01",
+        Some(ValueFault::BadAdmin),
+    ),
+    ("another type", b"hs_admin", b"", None),
+    (
+        "a reference is missing",
+        b"HS_VLIST",
+        b"\0\0\0\x01",
+        Some(ValueFault::BadList),
+    ),
+    (
+        "a count that lies",
+        b"HS_VLIST",
+        b"\xff\xff\xff\xff",
+        Some(ValueFault::BadList),
+    ),
+    ("an empty list", b"HS_VLIST", b"\0\0\0\0", None),
+];
 
 #[test]
-fn bad_lists(rt: HostRuntime) -> Result<(), Fail> {
-    let missing = fault_of(rt.alloc(), b"HS_VLIST", b"\0\0\0\x01")?;
-    assert_eq!(rt;
-        missing,
-        Some(ValueFault::BadList),
-        "a reference is missing"
-    );
-    let lie = fault_of(rt.alloc(), b"HS_VLIST", b"\xff\xff\xff\xff")?;
-    assert_eq!(rt; lie, Some(ValueFault::BadList), "a count that lies");
-    let empty = fault_of(rt.alloc(), b"HS_VLIST", b"\0\0\0\0")?;
-    assert_eq!(rt; empty, None, "an empty list");
+fn bad_administrators_and_lists(rt: HostRuntime) -> Result<(), Fail> {
+    for &(what, kind, data, expected) in &BY_DATA {
+        same(&rt, what, fault_of(rt.alloc(), kind, data)?, expected);
+    }
     Ok(())
 }
 
@@ -250,8 +311,13 @@ fn administrators(rt: HostRuntime) -> Result<(), Fail> {
     let octets = spelt(rt.alloc(), 1, b"HS_ADMIN", data, 2)?;
     let (value, _) = read_value(rt.alloc(), &octets)?;
     let (mask, reference) = admin_of(rt.alloc(), &value)?.ok_or("an administrator")?;
-    assert_eq!(rt; (mask, reference.index), (AdminMask(0x0fff), 1));
-    assert_eq!(rt; reference.name.canon(), b"10/g".as_slice());
+    same(
+        &rt,
+        "mask, index",
+        (mask, reference.index),
+        (AdminMask(0x0fff), 1),
+    );
+    same(&rt, "canon", reference.name.canon(), b"10/g".as_slice());
     assert!(rt; vlist_of(rt.alloc(), &value)?.is_none());
     Ok(())
 }
@@ -272,9 +338,9 @@ fn lists_keep_index_zero(rt: HostRuntime) -> Result<(), Fail> {
     let octets = spelt(rt.alloc(), 1, b"HS_VLIST", data, 2)?;
     let (value, _) = read_value(rt.alloc(), &octets)?;
     let listed = vlist_of(rt.alloc(), &value)?.ok_or("a list")?;
-    assert_eq!(rt; listed.len(), 1);
-    assert_eq!(rt; listed[0].name.sent(), b"10/G".as_slice());
-    assert_eq!(rt; listed[0].index, 0);
+    assert!(rt; listed.len() == 1);
+    same(&rt, "sent", listed[0].name.sent(), b"10/G".as_slice());
+    same(&rt, "index", listed[0].index, 0);
     Ok(())
 }
 
@@ -287,10 +353,25 @@ fn class(alloc: Global, perm: u8) -> Result<Class, Fail> {
 
 #[test]
 fn classes(rt: HostRuntime) -> Result<(), Fail> {
-    assert_eq!(rt; class(rt.alloc(), 0x0a)?, Class::Public, "both read bits");
-    assert_eq!(rt; class(rt.alloc(), 0x02)?, Class::Public);
-    assert_eq!(rt; class(rt.alloc(), 0x08)?, Class::Kept);
-    assert_eq!(rt; class(rt.alloc(), 0xf5)?, Class::Hidden);
+    same(
+        &rt,
+        "both read bits",
+        class(rt.alloc(), 0x0a)?,
+        Class::Public,
+    );
+    same(
+        &rt,
+        "class of 0x02",
+        class(rt.alloc(), 0x02)?,
+        Class::Public,
+    );
+    same(&rt, "class of 0x08", class(rt.alloc(), 0x08)?, Class::Kept);
+    same(
+        &rt,
+        "class of 0xf5",
+        class(rt.alloc(), 0xf5)?,
+        Class::Hidden,
+    );
     Ok(())
 }
 

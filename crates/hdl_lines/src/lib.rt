@@ -29,8 +29,6 @@ mod hiding;
 mod keys;
 mod laws;
 mod read;
-#[cfg(test)]
-mod tests;
 mod write;
 
 pub use fault::LineFault;

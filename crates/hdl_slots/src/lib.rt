@@ -36,6 +36,3 @@ pub use hdl_name::Octets;
 pub use laws::{at_most_eight, put_is_found, taken_is_gone};
 pub use pending::{Challenge, Pending};
 pub use slots::Slots;
-
-#[cfg(test)]
-mod tests;

@@ -91,14 +91,3 @@ impl Slots {
         self.numbers[lane] = 1;
     }
 }
-
-#[cfg(test)]
-impl Slots {
-    /// For tests of numbers that go round: the lane's next number is this one.
-    pub(crate) fn renumber(&mut self, lane: u16, number: u32)
-        requires { lane < LANES }
-    {
-        let lane = lane as usize;
-        self.numbers[lane] = number;
-    }
-}

@@ -1,8 +1,7 @@
 //! Lines and values of a program that writes both layouts by itself.
 
-use crate::fault::LineFault;
-use crate::read::read_value_line;
-use crate::write::value_line;
+use crate::assertion::same;
+use hdl_lines::{LineFault, read_value_line, value_line};
 use hdl_value::{ValueFault, read_value, write_value};
 use std::process::Abort;
 use std::test::Fail;
@@ -157,11 +156,11 @@ const FAULTS: [(&str, LineFault); 38] = [
 
 #[test]
 fn lines_are_written(rt: HostRuntime) -> Result<(), Fail> {
-    for (digits, line) in WRITTEN {
+    for &(digits, line) in &WRITTEN {
         let octets = hex::decode(rt.alloc(), digits)?;
         let (value, _) = read_value(rt.alloc(), &octets)?;
         let written = value_line(rt.alloc(), &value)?;
-        assert_eq!(rt; str::from_utf8(&written), Ok(line));
+        same(&rt, line, str::from_utf8(&written), Ok(line));
     }
     Ok(())
 }
@@ -172,15 +171,15 @@ fn lines_are_read(rt: HostRuntime) -> Result<(), Fail> {
         let value = read_value_line(rt.alloc(), line.as_bytes())?;
         let octets = write_value(rt.alloc(), &value)?;
         let text = hex::encode(rt.alloc(), octets)?;
-        assert_eq!(rt; text.as_str(), *digits, "{line}");
+        same(&rt, line, text.as_str(), *digits);
     }
     Ok(())
 }
 
 #[test]
 fn faults_are_told(rt: HostRuntime) {
-    for (line, fault) in FAULTS {
+    for &(line, fault) in &FAULTS {
         let read = read_value_line(rt.alloc(), line.as_bytes());
-        assert_eq!(rt; read.err(), Some(fault), "{line}");
+        same(&rt, line, read.err(), Some(fault));
     }
 }
