@@ -1,10 +1,9 @@
 //! The words of the command line.
 
-ghost use Rattle.std.specs.Prelude.{◌≡◌, if◌then◌else◌};
-
 use clap::error::ErrorKind;
 use clap::{Arg, ArgAction, Command, Error, value_parser};
 use hdl_replay::Fault;
+use hdl_status::status_of_words;
 use std::alloc::{AllocError, Global};
 use std::{env, io};
 
@@ -56,13 +55,6 @@ fn words_of(rt: &HostRuntime) -> io::Result<Vec<String>> {
     Ok(words)
 }
 
-/// The exit status where nothing is left to do: 0 behind help that was asked for, 2 behind a fault of the command line.
-fn status(is_help: bool) -> u8
-    ensures { result ≡ (if is_help then 0 else 2) }
-{
-    if is_help { 0 } else { 2 }
-}
-
 /// Reads the command line, and prints what `clap` has to say of it.
 pub fn read_words(rt: &HostRuntime) -> Result<Asked, Fault> {
     let Ok(words) = words_of(rt) else {
@@ -78,7 +70,7 @@ pub fn read_words(rt: &HostRuntime) -> Result<Asked, Fault> {
                 let is_help = !error.use_stderr();
                 match error.print(rt) {
                     Err(_) if is_help => Err(Fault::Device),
-                    _ => Ok(Asked::Ended(status(is_help))),
+                    _ => Ok(Asked::Ended(status_of_words(is_help))),
                 }
             }
         },

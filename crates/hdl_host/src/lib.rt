@@ -33,8 +33,3 @@ mod sockets;
 mod workers;
 
 pub use hosting::{host, hosted};
-
-#[cfg(test)]
-mod tests;
-#[cfg(test)]
-mod two_workers;

@@ -1,5 +1,6 @@
 //! Inputs at their limit, and devices that are faulty.
 
+use crate::assertion::same;
 use crate::scripts::{behind_tenants, expect};
 use hdl_replay::replay;
 use hdl_rows::PlainRows;
@@ -61,8 +62,8 @@ fn failed_read(rt: HostRuntime) -> Result<(), Fail> {
     let mut told = Vec::new(rt.alloc());
     let rows = PlainRows::new(rt.alloc());
     let ended = replay(rt.alloc(), rows, &mut Interrupted, &mut printed, &mut told);
-    assert_eq!(rt; told.as_slice(), b"device fault\n".as_slice());
-    assert_eq!(rt; ended, 1);
+    same(&rt, "told", told.as_slice(), b"device fault\n".as_slice());
+    same(&rt, "ended", ended, 1);
     Ok(())
 }
 
@@ -80,7 +81,7 @@ fn failed_write(rt: HostRuntime) -> Result<(), Fail> {
     let mut told = Vec::new(rt.alloc());
     let rows = PlainRows::new(rt.alloc());
     let ended = replay(rt.alloc(), rows, &mut input, &mut output, &mut told);
-    assert_eq!(rt; told.as_slice(), b"device fault\n".as_slice());
-    assert_eq!(rt; ended, 1);
+    same(&rt, "told", told.as_slice(), b"device fault\n".as_slice());
+    same(&rt, "ended", ended, 1);
     Ok(())
 }

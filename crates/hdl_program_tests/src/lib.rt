@@ -1,9 +1,12 @@
-//! Tests of what stands on several crates: tables through their bound, in memory and in SQL, and runs of scripts that are made by a loop.
+//! Tests of what stands on several crates: tables through their bound, in memory and in SQL, runs of scripts that are made by a loop, and
+//! the two that need threads: the server with real clients, and two workers at a time.
 //!
 //! They stand apart from those of `hdl_tests` and `hdl_codec_tests`, which need neither SQL nor the machine and so begin earlier. Beside the tests it has
 //! the values that a table is to keep ([`values`]); nothing stands on it.
 #![tactic(auto)]
 
+#[cfg(test)]
+mod assertion;
 #[cfg(test)]
 mod devices;
 #[cfg(test)]
@@ -15,7 +18,11 @@ mod rows;
 #[cfg(test)]
 mod scripts;
 #[cfg(test)]
+mod sockets;
+#[cfg(test)]
 mod sql_rows;
+#[cfg(test)]
+mod two_workers;
 pub mod values;
 #[cfg(test)]
 mod writes;

@@ -1,5 +1,6 @@
 //! Every call through the bound, over a table in memory and over a fuse of it.
 
+use crate::assertion::same;
 use crate::writes::{add, create, delete, modify, reference, remove};
 use hdl_name::Name;
 use hdl_rows::{Fuse, PlainRows, Refused, Rows};
@@ -41,7 +42,7 @@ fn other_local_name<R: Rows>(rt: &impl Abort, alloc: Global, rows: &mut R) -> Re
     assert!(rt; !rows.exists(&other.name)?);
     assert!(rt; rows.at(&other)?.is_none());
     assert!(rt; are(&rows.values(&other.name)?, &[]));
-    assert_eq!(rt; rows.refusals(), 0);
+    same(rt, "refusals", rows.refusals(), 0);
     Ok(())
 }
 
@@ -129,7 +130,12 @@ pub(crate) fn lists<R: Rows>(rt: &impl Abort, alloc: Global, rows: &mut R) -> Re
         create(rt, rows, &Name::read(alloc, text)?, &[])?;
     }
     let all = listed(alloc, rows, b"10.abc")?;
-    assert_eq!(rt; all.as_slice(), b"10.abc/B 10.abc/a 10.abc/b ".as_slice());
+    same(
+        rt,
+        "all",
+        all.as_slice(),
+        b"10.abc/B 10.abc/a 10.abc/b ".as_slice(),
+    );
     Ok(())
 }
 
@@ -168,9 +174,11 @@ fn fuses(rt: HostRuntime) -> Result<(), Fail> {
     ];
     for ((first, last), refused, count) in rows {
         let mut fuse = Fuse::new(PlainRows::new(rt.alloc()), first, last);
-        assert!(rt;
+        same(
+            &rt,
+            format_args!("{first} to {last}"),
             refuses(&mut fuse, &name, &refused, count),
-            "{first} to {last}"
+            true,
         );
     }
     Ok(())
@@ -179,7 +187,7 @@ fn fuses(rt: HostRuntime) -> Result<(), Fail> {
 /// A refused write leaves the table as it was.
 fn refused_and_made(rt: &impl Abort, fuse: &mut Fuse<PlainRows>, name: &Name) -> Result<(), Fail> {
     assert!(rt; !fuse.exists(name)?);
-    assert_eq!(rt; fuse.create(name, &[]), Err(Refused));
+    same(rt, "refused", fuse.create(name, &[]), Err(Refused));
     create(rt, fuse, name, &[])?;
     assert!(rt; fuse.exists(name)?);
     Ok(())

@@ -1,5 +1,6 @@
 //! How a script is run here. The scripts that aren't made by a loop are files of `hdl_scripts`.
 
+use crate::assertion::same;
 use hdl_replay::replay;
 use hdl_rows::PlainRows;
 use std::alloc::Global;
@@ -28,9 +29,19 @@ pub(crate) fn expect(
     let mut told = Vec::new(alloc);
     let rows = PlainRows::new(alloc);
     let ended = replay(alloc, rows, &mut input, &mut printed, &mut told);
-    assert_eq!(rt; printed.as_slice(), output.as_bytes(), "{what}: output");
-    assert_eq!(rt; told.as_slice(), faults.as_bytes(), "{what}: faults");
-    assert_eq!(rt; ended, status, "{what}: status");
+    same(
+        rt,
+        format_args!("{what}: output"),
+        printed.as_slice(),
+        output.as_bytes(),
+    );
+    same(
+        rt,
+        format_args!("{what}: faults"),
+        told.as_slice(),
+        faults.as_bytes(),
+    );
+    same(rt, format_args!("{what}: status"), ended, status);
     Ok(())
 }
 

@@ -2,6 +2,7 @@
 
 ghost use Rattle.std.specs.Prelude.{◌≡◌, IfOk};
 
+use crate::assertion::same;
 use crate::rows::{each_call, lists};
 use crate::values::great;
 use crate::writes::{add, create, delete, modify, reference, remove};
@@ -131,10 +132,10 @@ fn holds_named<R: Rows>(alloc: Global, rows: &mut R, text: &[u8]) -> Result<bool
 
 /// A handle of each name, with one value whose data is the name.
 fn holds_awkward<R: Rows>(rt: &impl Abort, alloc: Global, rows: &mut R) -> Result<(), Fail> {
-    for text in AWKWARD {
+    for &text in &AWKWARD {
         create_named(rt, alloc, rows, text)?;
     }
-    for text in AWKWARD {
+    for &text in &AWKWARD {
         assert!(rt; holds_named(alloc, rows, text)?);
     }
     assert!(rt; lists_just(rows, b"10.abc", &AWKWARD)?);
@@ -165,7 +166,7 @@ fn deletes_one<R: Rows>(rt: &impl Abort, alloc: Global, rows: &mut R) -> Result<
     delete(rt, rows, &Name::read(alloc, AWKWARD[2])?)?;
     for (number, text) in AWKWARD.iter().enumerate() {
         let want = number != 2;
-        assert_eq!(rt; is_there(alloc, rows, text)?, (want, want), "at {number}");
+        same(rt, number, is_there(alloc, rows, text)?, (want, want));
     }
     Ok(())
 }
@@ -184,9 +185,14 @@ fn long(alloc: Global, front: &[u8], end: &[u8]) -> Result<Vec<u8>, AllocError> 
 fn holds_long<R: Rows>(rt: &impl Abort, alloc: Global, rows: &mut R) -> Result<(), Fail> {
     let a = long(alloc, b"10.long/", b"a")?;
     let b = long(alloc, b"10.long/", b"b")?;
-    assert_eq!(rt; a.len(), 2048);
+    same(rt, "len", a.len(), 2048);
     create_named(rt, alloc, rows, &a)?;
-    assert_eq!(rt; is_there(alloc, rows, &b)?, (false, false));
+    same(
+        rt,
+        "the other",
+        is_there(alloc, rows, &b)?,
+        (false, false),
+    );
     create(rt, rows, &Name::read(alloc, &b)?, &[])?;
     assert!(rt; lists_just(rows, b"10.long", &[&a, &b])?);
     assert!(rt; holds_named(alloc, rows, &a)?);
@@ -204,11 +210,11 @@ fn named(alloc: Global, authority: &[u8]) -> Result<Vec<u8>, AllocError> {
 }
 
 fn parts_authorities<R: Rows>(rt: &impl Abort, alloc: Global, rows: &mut R) -> Result<(), Fail> {
-    for authority in AUTHORITIES {
+    for &authority in &AUTHORITIES {
         let text = named(alloc, authority)?;
         create(rt, rows, &Name::read(alloc, &text)?, &[])?;
     }
-    for authority in AUTHORITIES {
+    for &authority in &AUTHORITIES {
         let text = named(alloc, authority)?;
         assert!(rt; lists_just(rows, authority, &[&text])?);
     }
@@ -251,7 +257,7 @@ fn each_awkward<R: Rows>(rt: &impl Abort, alloc: Global, rows: &mut R) -> Result
     holds_long(rt, alloc, rows)?;
     parts_authorities(rt, alloc, rows)?;
     holds_many(rt, alloc, rows)?;
-    assert_eq!(rt; rows.refusals(), 0);
+    same(rt, "refusals", rows.refusals(), 0);
     Ok(())
 }
 
@@ -328,9 +334,11 @@ fn writes_agree(
         state = state.wrapping_mul(1_664_525).wrapping_add(1_013_904_223);
         let number = state >> 16;
         let place = reference(alloc, names[(number % 4) as usize], number / 4 % 5 + 1)?;
-        assert!(rt;
+        same(
+            rt,
+            turn,
             agree(rt, plain, sql, &place, number / 20, alloc)?,
-            "turn {turn}"
+            true,
         );
     }
     Ok(())

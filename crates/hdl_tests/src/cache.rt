@@ -1,3 +1,4 @@
+use crate::assertion::same;
 use hdl_cache::Masks;
 use hdl_name::Name;
 use hdl_value::{AdminMask, Reference};
@@ -16,12 +17,17 @@ fn what_is_kept_is_found(rt: HostRuntime) -> Result<(), Fail> {
     let mut masks = Masks::new(rt.alloc())?;
     let name = Name::read(rt.alloc(), b"10.ABC/c")?;
     let key = key(rt.alloc(), 3)?;
-    assert_eq!(rt; masks.find(&name, &key)?, None);
+    same(&rt, "found", masks.find(&name, &key)?, None);
     masks.keep(&name, &key, Some(AdminMask(0x0fff)));
-    let same = Name::read(rt.alloc(), b"10.abc/c")?;
-    assert_eq!(rt; masks.find(&same, &key)?, Some(Some(AdminMask(0x0fff))));
+    let lowered = Name::read(rt.alloc(), b"10.abc/c")?;
+    same(
+        &rt,
+        "in another case",
+        masks.find(&lowered, &key)?,
+        Some(Some(AdminMask(0x0fff))),
+    );
     masks.clear();
-    assert_eq!(rt; masks.find(&name, &key)?, None);
+    same(&rt, "found", masks.find(&name, &key)?, None);
     Ok(())
 }
 
@@ -32,8 +38,8 @@ fn that_there_is_no_mask_is_kept(rt: HostRuntime) -> Result<(), Fail> {
     let other = Name::read(rt.alloc(), b"10/d")?;
     let key = key(rt.alloc(), 3)?;
     masks.keep(&name, &key, None);
-    assert_eq!(rt; masks.find(&name, &key)?, Some(None));
-    assert_eq!(rt; masks.find(&other, &key)?, None);
+    same(&rt, "found", masks.find(&name, &key)?, Some(None));
+    same(&rt, "of another handle", masks.find(&other, &key)?, None);
     Ok(())
 }
 
@@ -45,16 +51,25 @@ fn the_least_recently_used_goes(rt: HostRuntime) -> Result<(), Fail> {
     for index in 1..=256 {
         masks.keep(&name, &key(rt.alloc(), index)?, Some(AdminMask(1)));
     }
-    assert_eq!(rt;
+    same(
+        &rt,
+        "key 1",
         masks.find(&name, &key(rt.alloc(), 1)?)?,
-        Some(Some(AdminMask(1)))
+        Some(Some(AdminMask(1))),
     );
     masks.keep(&name, &key(rt.alloc(), 257)?, None);
-    assert_eq!(rt;
+    same(
+        &rt,
+        "key 1",
         masks.find(&name, &key(rt.alloc(), 1)?)?,
-        Some(Some(AdminMask(1)))
+        Some(Some(AdminMask(1))),
     );
-    assert_eq!(rt; masks.find(&name, &key(rt.alloc(), 2)?)?, None);
-    assert_eq!(rt; masks.find(&name, &key(rt.alloc(), 257)?)?, Some(None));
+    same(&rt, "key 2", masks.find(&name, &key(rt.alloc(), 2)?)?, None);
+    same(
+        &rt,
+        "key 257",
+        masks.find(&name, &key(rt.alloc(), 257)?)?,
+        Some(None),
+    );
     Ok(())
 }

@@ -6,6 +6,8 @@
 #![tactic(auto)]
 
 #[cfg(test)]
+mod assertion;
+#[cfg(test)]
 mod cache;
 pub mod made;
 #[cfg(test)]

@@ -1,3 +1,4 @@
+use crate::assertion::same;
 use hdl_name::Name;
 use hdl_ops::{Change, apply};
 use hdl_rows::{PlainRows, Rows};
@@ -28,7 +29,7 @@ fn create_is_stamped(rt: HostRuntime) -> Result<(), Fail> {
     apply(&mut rows, Change::Create { name, values }, 1000)?;
     let name = Name::read(rt.alloc(), b"10/b")?;
     let found = rows.at(&Reference { name, index: 2 })?;
-    assert_eq!(rt; found.map(|value| value.stamp), Some(1000));
+    same(&rt, "stamp", found.map(|value| value.stamp), Some(1000));
     Ok(())
 }
 

@@ -2,6 +2,7 @@
 
 ghost use Rattle.std.specs.Prelude.{◌<◌};
 
+use crate::assertion::same;
 use hdl_frame::{Envelope, one_datagram};
 use hdl_limits::LANES;
 use hdl_pool::{Pool, Taken};
@@ -59,69 +60,90 @@ fn send(
     }
 }
 
+/// The number of a piece, whether it has another payload, and what becomes of it.
+const TWICE_SENT: [(u32, bool, &str); 5] = [
+    (0, false, "kept"),
+    (0, true, "ignored"),
+    (2, false, "kept"),
+    (2, true, "ignored"),
+    (1, false, "whole"),
+];
+
 /// A piece that comes twice counts once, and its first payload counts.
 #[test]
 fn a_piece_twice(rt: HostRuntime) -> Result<(), Fail> {
     let mut pool = Pool::new(rt.alloc())?;
     let sent = message(rt.alloc(), 1000)?;
     let other = vec![in rt.alloc(); 7; 1000]?;
-    let cases = [
-        (0, false, "kept"),
-        (0, true, "ignored"),
-        (2, false, "kept"),
-        (2, true, "ignored"),
-        (1, false, "whole"),
-    ];
-    for (number, again, expected) in cases {
+    for &(number, again, expected) in &TWICE_SENT {
         let message = if again { &other } else { &sent };
         let became = send(rt.alloc(), &mut pool, 0, 0, 1, number, message)?;
-        assert_eq!(rt; became, expected, "piece {number}, again {again}");
+        same(
+            &rt,
+            format_args!("piece {number}, again {again}"),
+            became,
+            expected,
+        );
     }
     Ok(())
 }
+
+/// The length of a message, the number of its piece, and what becomes of it.
+const LENGTHS: [(usize, u32, &str); 5] = [
+    (1000, 0, "kept"),
+    (999, 1, "ignored"),
+    (492, 0, "ignored"),
+    (1000, 1, "kept"),
+    (1000, 2, "whole"),
+];
 
 /// A piece that says another length than those before it is ignored, also where its own message would have one piece.
 #[test]
 fn another_length(rt: HostRuntime) -> Result<(), Fail> {
     let mut pool = Pool::new(rt.alloc())?;
-    let cases = [
-        (1000, 0, "kept"),
-        (999, 1, "ignored"),
-        (492, 0, "ignored"),
-        (1000, 1, "kept"),
-        (1000, 2, "whole"),
-    ];
-    for (len, number, expected) in cases {
+    for &(len, number, expected) in &LENGTHS {
         let sent = message(rt.alloc(), len)?;
         let became = send(rt.alloc(), &mut pool, 0, 0, 1, number, &sent)?;
-        assert_eq!(rt; became, expected, "piece {number} of {len} octets");
+        same(
+            &rt,
+            format_args!("piece {number} of {len} octets"),
+            became,
+            expected,
+        );
     }
     Ok(())
 }
+
+/// A message, the number of its piece, and what becomes of it.
+const FIVE: [(u32, u32, &str); 13] = [
+    (1, 0, "kept"),
+    (2, 0, "kept"),
+    (3, 0, "kept"),
+    (4, 0, "kept"),
+    (5, 0, "displaced"),
+    (2, 1, "whole"),
+    (1, 1, "displaced"),
+    (2, 1, "displaced"),
+    (4, 1, "whole"),
+    (5, 1, "whole"),
+    (1, 0, "whole"),
+    (2, 0, "whole"),
+    (3, 1, "displaced"),
+];
 
 /// A first piece of a fifth message displaces the oldest, which then begins anew and displaces the next.
 #[test]
 fn five_first_pieces(rt: HostRuntime) -> Result<(), Fail> {
     let mut pool = Pool::new(rt.alloc())?;
     let sent = message(rt.alloc(), 500)?;
-    let cases = [
-        (1, 0, "kept"),
-        (2, 0, "kept"),
-        (3, 0, "kept"),
-        (4, 0, "kept"),
-        (5, 0, "displaced"),
-        (2, 1, "whole"),
-        (1, 1, "displaced"),
-        (2, 1, "displaced"),
-        (4, 1, "whole"),
-        (5, 1, "whole"),
-        (1, 0, "whole"),
-        (2, 0, "whole"),
-        (3, 1, "displaced"),
-    ];
-    for (request, number, expected) in cases {
+    for &(request, number, expected) in &FIVE {
         let became = send(rt.alloc(), &mut pool, 63, 0, request, number, &sent)?;
-        assert_eq!(rt; became, expected, "piece {number} of {request}");
+        same(
+            &rt,
+            format_args!("piece {number} of {request}"),
+            became,
+            expected,
+        );
     }
     Ok(())
 }
@@ -134,32 +156,39 @@ fn pieces_in_reverse(rt: HostRuntime) -> Result<(), Fail> {
     for number in (0..134u32).rev() {
         let became = send(rt.alloc(), &mut pool, 0, 0, 1, number, &sent)?;
         let expected = if number == 0 { "whole" } else { "kept" };
-        assert_eq!(rt; became, expected, "piece {number}");
+        same(&rt, number, became, expected);
     }
     Ok(())
 }
+
+/// The length of a message, the number of its piece, and what becomes of it.
+const WHOLE: [(usize, u32, &str); 6] = [
+    (492, 0, "whole"),
+    (492, 0, "whole"),
+    (984, 0, "kept"),
+    (984, 1, "whole"),
+    (984, 0, "ignored"),
+    (984, 1, "whole"),
+];
 
 /// A message of one piece is whole at once and takes no slot. A whole message leaves what came before it, until it's freed.
 #[test]
 fn whole_leaves_the_pool(rt: HostRuntime) -> Result<(), Fail> {
     let mut pool = Pool::new(rt.alloc())?;
-    let cases = [
-        (492, 0, "whole"),
-        (492, 0, "whole"),
-        (984, 0, "kept"),
-        (984, 1, "whole"),
-        (984, 0, "ignored"),
-        (984, 1, "whole"),
-    ];
-    for (len, number, expected) in cases {
+    for &(len, number, expected) in &WHOLE {
         let sent = message(rt.alloc(), len)?;
         let became = send(rt.alloc(), &mut pool, 0, 0, 1, number, &sent)?;
-        assert_eq!(rt; became, expected, "piece {number} of {len} octets");
+        same(
+            &rt,
+            format_args!("piece {number} of {len} octets"),
+            became,
+            expected,
+        );
     }
     pool.free(0, 0, &envelope(1));
     let sent = message(rt.alloc(), 984)?;
     let became = send(rt.alloc(), &mut pool, 0, 0, 1, 1, &sent)?;
-    assert_eq!(rt; became, "kept");
+    same(&rt, "became", became, "kept");
     Ok(())
 }
 
@@ -178,7 +207,12 @@ fn peers_and_lanes_apart(rt: HostRuntime) -> Result<(), Fail> {
     ];
     for (lane, peer, number, expected) in cases {
         let became = send(rt.alloc(), &mut pool, lane, peer, 1, number, &sent)?;
-        assert_eq!(rt; became, expected, "lane {lane}, peer {peer}");
+        same(
+            &rt,
+            format_args!("lane {lane}, peer {peer}"),
+            became,
+            expected,
+        );
     }
     Ok(())
 }
@@ -203,7 +237,12 @@ fn freed_and_dropped(rt: HostRuntime) -> Result<(), Fail> {
     let sent = message(rt.alloc(), 984)?;
     for (lane, peer) in [(0, 1), (0, 2), (1, 1), (2, 1), (2, 2)] {
         let became = send(rt.alloc(), &mut pool, lane, peer, 1, 0, &sent)?;
-        assert_eq!(rt; became, "kept", "lane {lane}, peer {peer}");
+        same(
+            &rt,
+            format_args!("lane {lane}, peer {peer}"),
+            became,
+            "kept",
+        );
     }
     pool.free(0, 1, &envelope(1));
     pool.free(0, 2, &envelope(2));
@@ -217,7 +256,12 @@ fn freed_and_dropped(rt: HostRuntime) -> Result<(), Fail> {
     ];
     for (lane, peer, expected) in cases {
         let became = send(rt.alloc(), &mut pool, lane, peer, 1, 1, &sent)?;
-        assert_eq!(rt; became, expected, "lane {lane}, peer {peer}");
+        same(
+            &rt,
+            format_args!("lane {lane}, peer {peer}"),
+            became,
+            expected,
+        );
     }
     Ok(())
 }

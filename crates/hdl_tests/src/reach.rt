@@ -2,6 +2,7 @@
 
 ghost use Rattle.std.specs.Prelude.{◌≡◌, IfOk};
 
+use crate::assertion::same;
 use crate::made::value;
 use hdl_name::Name;
 use hdl_reach::mask;
@@ -19,6 +20,9 @@ const SECRET_KEY: &[u8] = b"HS_SECKEY";
 
 /// A handle, and of one value of it the index, the type and the data.
 type Row = (&'static [u8], u32, &'static [u8], &'static [u8]);
+
+/// A reference, and its mask.
+type Want = (&'static [u8], u32, Option<AdminMask>);
 
 fn reference(alloc: Global, handle: &[u8], index: u32) -> Result<Reference, Fail>
     ensures { IfOk result (λ r. r.index ≡ index) }
@@ -61,78 +65,75 @@ fn table(rt: &impl Abort, alloc: Global, values: &[Row]) -> Result<PlainRows, Fa
     Ok(rows)
 }
 
-/// Whether these are the masks of the references for a handle.
+/// Sees that these are the masks of the references for a handle.
 fn are_masks<R: Rows>(
     rt: &impl Abort,
     alloc: Global,
+    what: &str,
     rows: &mut R,
     handle: &[u8],
-    wanted: &[(&[u8], u32, Option<AdminMask>)],
+    wanted: &[Want],
 ) -> Result<(), Fail> {
     let name = Name::read(alloc, handle)?;
-    for (key, index, want) in wanted {
-        let key = reference(alloc, key, *index)?;
-        assert_eq!(rt; mask(alloc, rows, &name, &key)?, *want, "index {index}");
+    for &(key, index, want) in wanted {
+        let key = reference(alloc, key, index)?;
+        let found = mask(alloc, rows, &name, &key)?;
+        same(rt, what, (key.index, found), (index, want));
     }
     Ok(())
 }
 
-/// The administrator of `10/c` is a list, which leads to a second one, and that to a key.
-const TWO_LISTS: [Row; 4] = [
-    (b"10/c", 100, ADMIN, b"\x0f\xff\0\0\0\x0410/g\0\0\0\x01"),
-    (b"10/g", 1, LIST, b"\0\0\0\x01\0\0\0\x0410/g\0\0\0\x02"),
-    (b"10/g", 2, LIST, b"\0\0\0\x01\0\0\0\x0720/keys\0\0\0\x03"),
-    (b"20/keys", 3, SECRET_KEY, b"k1"),
-];
+/// The administrator of `10/c` is a list,
+const ADMIN_LIST: Row = (b"10/c", 100, ADMIN, b"\x0f\xff\0\0\0\x0410/g\0\0\0\x01");
 
-#[test]
-fn lists_lead_to_the_key(rt: HostRuntime) -> Result<(), Fail> {
-    let mut rows = table(&rt, rt.alloc(), &TWO_LISTS)?;
-    let wanted: [(&[u8], u32, Option<AdminMask>); 6] = [
-        (b"10/g", 1, Some(AdminMask(0x0fff))),
-        (b"10/g", 2, Some(AdminMask(0x0fff))),
-        (b"20/keys", 3, Some(AdminMask(0x0fff))),
-        (b"20/keys", 2, None),
-        (b"20/Keys", 3, None),
-        (b"10/c", 100, None),
-    ];
-    are_masks(&rt, rt.alloc(), &mut rows, b"10/c", &wanted)?;
-    are_masks(
-        &rt,
-        rt.alloc(),
-        &mut rows,
+/// which leads to a second one,
+const FIRST: Row = (b"10/g", 1, LIST, b"\0\0\0\x01\0\0\0\x0410/g\0\0\0\x02");
+
+/// and that to a key.
+const SECOND: Row = (b"10/g", 2, LIST, b"\0\0\0\x01\0\0\0\x0720/keys\0\0\0\x03");
+
+const KEY: Row = (b"20/keys", 3, SECRET_KEY, b"k1");
+
+const TWO_LISTS: [Row; 4] = [ADMIN_LIST, FIRST, SECOND, KEY];
+
+/// What it is, a table, a handle, and the masks of references for it.
+const CASES: [(&str, &[Row], &[u8], &[Want]); 9] = [
+    (
+        "lists lead to the key",
+        &TWO_LISTS,
+        b"10/c",
+        &[
+            (b"10/g", 1, Some(AdminMask(0x0fff))),
+            (b"10/g", 2, Some(AdminMask(0x0fff))),
+            (b"20/keys", 3, Some(AdminMask(0x0fff))),
+            (b"20/keys", 2, None),
+            (b"20/Keys", 3, None),
+            (b"10/c", 100, None),
+        ],
+    ),
+    (
+        "of another handle",
+        &TWO_LISTS,
         b"10/g",
         &[(b"20/keys", 3, None)],
-    )
-}
-
-/// Two lists that refer to each other lead to themselves and to nothing else.
-#[test]
-fn circle_of_two(rt: HostRuntime) -> Result<(), Fail> {
-    let mut rows = table(
-        &rt,
-        rt.alloc(),
+    ),
+    (
+        "two lists that refer to each other lead to themselves and to nothing else",
         &[
-            TWO_LISTS[0],
-            TWO_LISTS[1],
-            TWO_LISTS[3],
+            ADMIN_LIST,
+            FIRST,
+            KEY,
             (b"10/g", 2, LIST, b"\0\0\0\x01\0\0\0\x0410/g\0\0\0\x01"),
         ],
-    )?;
-    let wanted: [(&[u8], u32, Option<AdminMask>); 3] = [
-        (b"10/g", 1, Some(AdminMask(0x0fff))),
-        (b"10/g", 2, Some(AdminMask(0x0fff))),
-        (b"20/keys", 3, None),
-    ];
-    are_masks(&rt, rt.alloc(), &mut rows, b"10/c", &wanted)
-}
-
-/// Three lists in a circle, the last of which lists a key, itself and nothing.
-#[test]
-fn circle_of_three(rt: HostRuntime) -> Result<(), Fail> {
-    let mut rows = table(
-        &rt,
-        rt.alloc(),
+        b"10/c",
+        &[
+            (b"10/g", 1, Some(AdminMask(0x0fff))),
+            (b"10/g", 2, Some(AdminMask(0x0fff))),
+            (b"20/keys", 3, None),
+        ],
+    ),
+    (
+        "three lists in a circle, the last of which lists a key, itself and nothing",
         &[
             (b"10/c", 1, ADMIN, b"\0\x10\0\0\0\x0410/g\0\0\0\x02"),
             (b"10/g", 1, LIST, b"\0\0\0\x01\0\0\0\x0410/g\0\0\0\x02"),
@@ -144,55 +145,38 @@ fn circle_of_three(rt: HostRuntime) -> Result<(), Fail> {
                 b"\0\0\0\x04\0\0\0\x0410/G\0\0\0\x03\0\0\0\x0410/g\0\0\0\x01\0\0\0\x0410/g\0\0\0\0\0\0\0\x0420/k\0\0\0\x01",
             ),
         ],
-    )?;
-    let wanted: [(&[u8], u32, Option<AdminMask>); 4] = [
-        (b"10/g", 1, Some(AdminMask(0x0010))),
-        (b"10/G", 3, Some(AdminMask(0x0010))),
-        (b"20/k", 1, Some(AdminMask(0x0010))),
-        (b"10/g", 0, None),
-    ];
-    are_masks(&rt, rt.alloc(), &mut rows, b"10/c", &wanted)
-}
-
-/// Two administrators of one handle for one key, which is absent, and one for another.
-#[test]
-fn union_of_masks(rt: HostRuntime) -> Result<(), Fail> {
-    let mut rows = table(
-        &rt,
-        rt.alloc(),
+        b"10/c",
+        &[
+            (b"10/g", 1, Some(AdminMask(0x0010))),
+            (b"10/G", 3, Some(AdminMask(0x0010))),
+            (b"20/k", 1, Some(AdminMask(0x0010))),
+            (b"10/g", 0, None),
+        ],
+    ),
+    (
+        "two administrators of one handle for one key, which is absent, and one for another",
         &[
             (b"10/c", 1, ADMIN, b"\0\x03\0\0\0\x0720/keys\0\0\0\x03"),
             (b"10/c", 2, ADMIN, b"\0\x50\0\0\0\x0720/keys\0\0\0\x03"),
             (b"10/c", 3, ADMIN, b"\x08\0\0\0\0\x0720/keys\0\0\0\x04"),
             (b"10/c", 4, ADMIN, b"\0\0\0\0\0\x0720/keys\0\0\0\x05"),
         ],
-    )?;
-    let wanted: [(&[u8], u32, Option<AdminMask>); 4] = [
-        (b"20/keys", 3, Some(AdminMask(0x0053))),
-        (b"20/keys", 4, Some(AdminMask(0x0800))),
-        (b"20/keys", 5, Some(AdminMask(0))),
-        (b"20/keys", 6, None),
-    ];
-    are_masks(&rt, rt.alloc(), &mut rows, b"10/c", &wanted)
-}
-
-/// An absent list lists nothing, and is an administrator itself.
-#[test]
-fn absent_list(rt: HostRuntime) -> Result<(), Fail> {
-    let mut rows = table(&rt, rt.alloc(), &[TWO_LISTS[0], TWO_LISTS[1], TWO_LISTS[3]])?;
-    let wanted: [(&[u8], u32, Option<AdminMask>); 2] = [
-        (b"10/g", 2, Some(AdminMask(0x0fff))),
-        (b"20/keys", 3, None),
-    ];
-    are_masks(&rt, rt.alloc(), &mut rows, b"10/c", &wanted)
-}
-
-/// Index 0 refers to nothing, in HS_ADMIN and HS_VLIST values and where it is asked for.
-#[test]
-fn index_zero(rt: HostRuntime) -> Result<(), Fail> {
-    let mut rows = table(
-        &rt,
-        rt.alloc(),
+        b"10/c",
+        &[
+            (b"20/keys", 3, Some(AdminMask(0x0053))),
+            (b"20/keys", 4, Some(AdminMask(0x0800))),
+            (b"20/keys", 5, Some(AdminMask(0))),
+            (b"20/keys", 6, None),
+        ],
+    ),
+    (
+        "an absent list lists nothing, and is an administrator itself",
+        &[ADMIN_LIST, FIRST, KEY],
+        b"10/c",
+        &[(b"10/g", 2, Some(AdminMask(0x0fff))), (b"20/keys", 3, None)],
+    ),
+    (
+        "index 0 refers to nothing, in HS_ADMIN and HS_VLIST values and where it is asked for",
         &[
             (b"10/c", 1, ADMIN, b"\0\x03\0\0\0\x0420/k\0\0\0\0"),
             (b"10/c", 2, ADMIN, b"\0\x50\0\0\0\x0410/g\0\0\0\x01"),
@@ -203,23 +187,17 @@ fn index_zero(rt: HostRuntime) -> Result<(), Fail> {
                 b"\0\0\0\x02\0\0\0\x0420/k\0\0\0\0\0\0\0\x0420/k\0\0\0\x02",
             ),
         ],
-    )?;
-    let wanted: [(&[u8], u32, Option<AdminMask>); 3] = [
-        (b"20/k", 0, None),
-        (b"20/k", 1, None),
-        (b"20/k", 2, Some(AdminMask(0x0050))),
-    ];
-    are_masks(&rt, rt.alloc(), &mut rows, b"10/c", &wanted)
-}
-
-/// A value of another type, or with bad data, lists nothing and gives no mask.
-#[test]
-fn no_list(rt: HostRuntime) -> Result<(), Fail> {
-    let mut rows = table(
-        &rt,
-        rt.alloc(),
+        b"10/c",
         &[
-            TWO_LISTS[0],
+            (b"20/k", 0, None),
+            (b"20/k", 1, None),
+            (b"20/k", 2, Some(AdminMask(0x0050))),
+        ],
+    ),
+    (
+        "a value of another type, or with bad data, lists nothing and gives no mask",
+        &[
+            ADMIN_LIST,
             (b"10/g", 1, b"URL", b"\0\0\0\x01\0\0\0\x0720/keys\0\0\0\x03"),
             (
                 b"10/c",
@@ -229,20 +207,11 @@ fn no_list(rt: HostRuntime) -> Result<(), Fail> {
             ),
             (b"10/c", 2, ADMIN, b"\0\x03\0\0\0\x0720/keys\0\0\0\x03\0"),
         ],
-    )?;
-    let wanted: [(&[u8], u32, Option<AdminMask>); 2] = [
-        (b"10/g", 1, Some(AdminMask(0x0fff))),
-        (b"20/keys", 3, None),
-    ];
-    are_masks(&rt, rt.alloc(), &mut rows, b"10/c", &wanted)
-}
-
-/// Handles are compared in canonical form, and an administrative handle's list is a list.
-#[test]
-fn administrative_list(rt: HostRuntime) -> Result<(), Fail> {
-    let mut rows = table(
-        &rt,
-        rt.alloc(),
+        b"10/c",
+        &[(b"10/g", 1, Some(AdminMask(0x0fff))), (b"20/keys", 3, None)],
+    ),
+    (
+        "handles are compared in canonical form, and an administrative handle's list is a list",
         &[
             (
                 b"10.abc/c",
@@ -257,13 +226,22 @@ fn administrative_list(rt: HostRuntime) -> Result<(), Fail> {
                 b"\0\0\0\x01\0\0\0\x0710.Ab/k\0\0\0\x03",
             ),
         ],
-    )?;
-    let wanted: [(&[u8], u32, Option<AdminMask>); 3] = [
-        (b"0.na/10.Abc", 7, Some(AdminMask(0x0fff))),
-        (b"10.aB/k", 3, Some(AdminMask(0x0fff))),
-        (b"10.ab/K", 3, None),
-    ];
-    are_masks(&rt, rt.alloc(), &mut rows, b"10.ABC/c", &wanted)
+        b"10.ABC/c",
+        &[
+            (b"0.na/10.Abc", 7, Some(AdminMask(0x0fff))),
+            (b"10.aB/k", 3, Some(AdminMask(0x0fff))),
+            (b"10.ab/K", 3, None),
+        ],
+    ),
+];
+
+#[test]
+fn chains(rt: HostRuntime) -> Result<(), Fail> {
+    for &(what, values, handle, wanted) in &CASES {
+        let mut rows = table(&rt, rt.alloc(), values)?;
+        are_masks(&rt, rt.alloc(), what, &mut rows, handle, wanted)?;
+    }
+    Ok(())
 }
 
 /// The data of a list of 64 references to one handle, from this index on.
@@ -289,13 +267,13 @@ fn long_lists(rt: HostRuntime) -> Result<(), Fail> {
         let list = value(rt.alloc(), index, LIST, data.as_slice())?;
         put(&rt, rt.alloc(), &mut rows, b"10/g", list)?;
     }
-    let wanted: [(&[u8], u32, Option<AdminMask>); 4] = [
+    let wanted: [Want; 4] = [
         (b"10/g", 65, Some(AdminMask(1))),
         (b"10/g", 193, Some(AdminMask(1))),
         (b"10/g", 256, Some(AdminMask(1))),
         (b"10/g", 257, None),
     ];
-    are_masks(&rt, rt.alloc(), &mut rows, b"10/c", &wanted)
+    are_masks(&rt, rt.alloc(), "long lists", &mut rows, b"10/c", &wanted)
 }
 
 /// The look that a fuse refuses is passed on and counted once, and the table stays.
@@ -306,33 +284,36 @@ fn behind_a_fuse(rt: HostRuntime) -> Result<(), Fail> {
     for look in 1..=3u64 {
         let inner = table(&rt, rt.alloc(), &TWO_LISTS)?;
         let mut rows = Fuse::new(inner, look, look);
-        assert_eq!(rt;
+        same(
+            &rt,
+            look,
             mask(rt.alloc(), &mut rows, &name, &key),
             Err(Refused),
-            "look {look}"
         );
-        assert_eq!(rt; rows.refusals(), 1, "look {look}");
+        same(&rt, look, rows.refusals(), 1);
         let again = mask(rt.alloc(), &mut rows, &name, &key)?;
-        assert_eq!(rt; again, Some(AdminMask(0x0fff)), "look {look}");
+        same(&rt, look, again, Some(AdminMask(0x0fff)));
     }
     Ok(())
 }
 
-/// Two administrators that share a list: each reference is looked up once for both, and the key never.
+/// Two administrators that share a list.
+const SHARED_LIST: [Row; 4] = [
+    (b"10/c", 1, ADMIN, b"\0\x01\0\0\0\x0410/g\0\0\0\x01"),
+    (b"10/c", 2, ADMIN, b"\0\x02\0\0\0\x0410/g\0\0\0\x02"),
+    (b"10/g", 2, LIST, b"\0\0\0\x01\0\0\0\x0410/g\0\0\0\x01"),
+    (b"10/g", 1, LIST, b"\0\0\0\x01\0\0\0\x0720/keys\0\0\0\x03"),
+];
+
+/// Of two administrators that share a list, each reference is looked up once for both, and the key never.
 #[test]
 fn looks_once(rt: HostRuntime) -> Result<(), Fail> {
-    let values: [Row; 4] = [
-        (b"10/c", 1, ADMIN, b"\0\x01\0\0\0\x0410/g\0\0\0\x01"),
-        (b"10/c", 2, ADMIN, b"\0\x02\0\0\0\x0410/g\0\0\0\x02"),
-        (b"10/g", 2, LIST, b"\0\0\0\x01\0\0\0\x0410/g\0\0\0\x01"),
-        (b"10/g", 1, LIST, b"\0\0\0\x01\0\0\0\x0720/keys\0\0\0\x03"),
-    ];
     let name = Name::read(rt.alloc(), b"10/c")?;
     let key = reference(rt.alloc(), b"20/keys", 3)?;
     for (look, want) in [(3, Err(Refused)), (4, Ok(Some(AdminMask(3))))] {
-        let mut rows = Fuse::new(table(&rt, rt.alloc(), &values)?, look, look);
+        let mut rows = Fuse::new(table(&rt, rt.alloc(), &SHARED_LIST)?, look, look);
         let found = mask(rt.alloc(), &mut rows, &name, &key);
-        assert_eq!(rt; found, want, "look {look}");
+        same(&rt, look, found, want);
     }
     Ok(())
 }

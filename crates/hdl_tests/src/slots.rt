@@ -1,3 +1,4 @@
+use crate::assertion::same;
 use hdl_slots::{Digest, Octets, Pending, Slots};
 use std::alloc::{AllocError, Global};
 use std::test::Fail;
@@ -29,9 +30,9 @@ fn nine_challenges_on_one_lane(rt: HostRuntime) -> Result<(), Fail> {
     slots.put(6, challenge(rt.alloc(), 0, 900)?);
     for k in 1..=9u32 {
         let number = slots.put(5, challenge(rt.alloc(), 0, k as u64)?);
-        assert_eq!(rt; number, k);
+        same(&rt, "number", number, k);
     }
-    assert_eq!(rt; slots.next_number(5), 10);
+    same(&rt, "next number", slots.next_number(5), 10);
     let cases = [
         (1, None),
         (2, Some(2)),
@@ -40,13 +41,9 @@ fn nine_challenges_on_one_lane(rt: HostRuntime) -> Result<(), Fail> {
         (10, None),
     ];
     for (number, expected) in cases {
-        assert_eq!(rt;
-            moment(slots.find(5, 0, number)),
-            expected,
-            "number {number}"
-        );
+        same(&rt, number, moment(slots.find(5, 0, number)), expected);
     }
-    assert_eq!(rt; moment(slots.find(6, 0, 1)), Some(900));
+    same(&rt, "found on 6", moment(slots.find(6, 0, 1)), Some(900));
     Ok(())
 }
 
@@ -59,7 +56,7 @@ fn taken_leaves_room(rt: HostRuntime) -> Result<(), Fail> {
     }
     slots.take(3, 0, 4);
     slots.put(3, challenge(rt.alloc(), 0, 9)?);
-    assert_eq!(rt; moment(slots.find(3, 0, 1)), Some(1));
+    same(&rt, "the oldest", moment(slots.find(3, 0, 1)), Some(1));
     slots.put(3, challenge(rt.alloc(), 0, 10)?);
     let cases = [
         (1, None),
@@ -70,11 +67,7 @@ fn taken_leaves_room(rt: HostRuntime) -> Result<(), Fail> {
         (10, Some(10)),
     ];
     for (number, expected) in cases {
-        assert_eq!(rt;
-            moment(slots.find(3, 0, number)),
-            expected,
-            "number {number}"
-        );
+        same(&rt, number, moment(slots.find(3, 0, number)), expected);
     }
     Ok(())
 }
@@ -90,10 +83,11 @@ fn every_lane_full(rt: HostRuntime) -> Result<(), Fail> {
     }
     for lane in 0..64u16 {
         for number in 1..=8u32 {
-            assert_eq!(rt;
+            same(
+                &rt,
+                format_args!("lane {lane}, number {number}"),
                 moment(slots.find(lane, lane, number)),
                 Some(number as u64),
-                "lane {lane}, number {number}"
             );
         }
     }
@@ -106,11 +100,16 @@ fn equal_numbers_on_two_lanes(rt: HostRuntime) -> Result<(), Fail> {
     let mut slots = Slots::new(rt.alloc())?;
     let first = slots.put(0, challenge(rt.alloc(), 0, 10)?);
     let second = slots.put(63, challenge(rt.alloc(), 0, 20)?);
-    assert_eq!(rt; (first, second), (1, 1));
+    same(&rt, "first, second", (first, second), (1, 1));
     slots.drop_lane(0);
-    assert_eq!(rt; (slots.next_number(0), slots.next_number(63)), (1, 2));
-    assert_eq!(rt; moment(slots.find(0, 0, 1)), None);
-    assert_eq!(rt; moment(slots.find(63, 0, 1)), Some(20));
+    same(
+        &rt,
+        "next number(0), next number(63)",
+        (slots.next_number(0), slots.next_number(63)),
+        (1, 2),
+    );
+    same(&rt, "found on 0", moment(slots.find(0, 0, 1)), None);
+    same(&rt, "found on 63", moment(slots.find(63, 0, 1)), Some(20));
     Ok(())
 }
 
@@ -129,10 +128,11 @@ fn taken_by_its_peer_and_once(rt: HostRuntime) -> Result<(), Fail> {
     ];
     for (peer, number, expected) in cases {
         let taken = slots.take(1, peer, number);
-        assert_eq!(rt;
+        same(
+            &rt,
+            format_args!("peer {peer}, number {number}"),
             taken.map(|p| p.moment),
             expected,
-            "peer {peer}, number {number}"
         );
     }
     Ok(())
@@ -146,8 +146,18 @@ fn taken_as_it_was_put(rt: HostRuntime) -> Result<(), Fail> {
     let Some(taken) = slots.take(2, 7, 1) else {
         return Err(Fail::from("nothing was taken"));
     };
-    assert_eq!(rt; (taken.peer, taken.moment), (7, 1000));
-    assert_eq!(rt; (taken.nonce, taken.digest), (NONCE, DIGEST));
-    assert_eq!(rt; taken.message.as_slice(), [1, 2, 3].as_slice());
+    same(&rt, "peer, moment", (taken.peer, taken.moment), (7, 1000));
+    same(
+        &rt,
+        "nonce, digest",
+        (taken.nonce, taken.digest),
+        (NONCE, DIGEST),
+    );
+    same(
+        &rt,
+        "message",
+        taken.message.as_slice(),
+        [1, 2, 3].as_slice(),
+    );
     Ok(())
 }

@@ -1,3 +1,4 @@
+use crate::assertion::same;
 use hdl_auth::algorithm::Algorithm;
 use hdl_name::Name;
 use hdl_tenants::{TenantFault, Tenants};
@@ -25,7 +26,7 @@ fn fault(rt: &HostRuntime, text: &str) -> Option<(usize, TenantFault)> {
 #[test]
 fn owners(rt: HostRuntime) -> Result<(), Fail> {
     let tenants = read(&rt, TEXT)?;
-    assert_eq!(rt; tenants.lanes(), 4);
+    same(&rt, "lanes", tenants.lanes(), 4);
     for (lane, owner) in [
         (0, Some(0)),
         (1, Some(0)),
@@ -33,7 +34,7 @@ fn owners(rt: HostRuntime) -> Result<(), Fail> {
         (3, Some(1)),
         (4, None),
     ] {
-        assert_eq!(rt; tenants.owner(lane), owner, "lane {lane}");
+        same(&rt, lane, tenants.owner(lane), owner);
     }
     Ok(())
 }
@@ -41,32 +42,51 @@ fn owners(rt: HostRuntime) -> Result<(), Fail> {
 #[test]
 fn publishers(rt: HostRuntime) -> Result<(), Fail> {
     let tenants = read(&rt, TEXT)?;
-    assert_eq!(rt; tenants.publisher(0), Some(("acme", 2, 2641)));
-    assert_eq!(rt; tenants.publisher(1), Some(("bolt", 2, 2642)));
-    assert_eq!(rt; tenants.publisher(2), None);
-    assert_eq!(rt; tenants.lanes_of(1), Some((2, 3)));
-    assert_eq!(rt; tenants.lanes_of(2), None);
+    same(
+        &rt,
+        "publisher 0",
+        tenants.publisher(0),
+        Some(("acme", 2, 2641)),
+    );
+    same(
+        &rt,
+        "publisher 1",
+        tenants.publisher(1),
+        Some(("bolt", 2, 2642)),
+    );
+    same(&rt, "publisher 2", tenants.publisher(2), None);
+    same(&rt, "lanes of 1", tenants.lanes_of(1), Some((2, 3)));
+    same(&rt, "lanes of 2", tenants.lanes_of(2), None);
     Ok(())
 }
+
+/// A handle, and whether its prefix is hosted for acme and for bolt.
+const HOSTED: [(&str, bool, bool); 6] = [
+    ("10/a", true, false),
+    ("10.ABC/x", true, false),
+    ("10.abcd/x", false, false),
+    ("0.NA/20", false, true),
+    ("0.na/0.na", false, false),
+    ("20.10/", false, false),
+];
 
 #[test]
 fn hosting(rt: HostRuntime) -> Result<(), Fail> {
     let tenants = read(&rt, TEXT)?;
-    let rows = [
-        ("10/a", true, false),
-        ("10.ABC/x", true, false),
-        ("10.abcd/x", false, false),
-        ("0.NA/20", false, true),
-        ("0.na/0.na", false, false),
-        ("20.10/", false, false),
-    ];
-    for (text, acme, bolt) in rows {
+    for &(text, acme, bolt) in &HOSTED {
         let name = name(&rt, text)?;
-        assert_eq!(rt; tenants.hosts(0, &name), acme, "{text}");
-        assert_eq!(rt; tenants.hosts(1, &name), bolt, "{text}");
+        same(&rt, text, tenants.hosts(0, &name), acme);
+        same(&rt, text, tenants.hosts(1, &name), bolt);
     }
     Ok(())
 }
+
+/// A handle, and whether its prefix is hosted for a, b and c.
+const SHARED: [(&str, [bool; 3]); 3] = [
+    ("10/x", [true, false, true]),
+    ("0.na/10", [true, false, true]),
+    ("20/x", [false, true, false]),
+];
 
 #[test]
 fn a_prefix_of_two_publishers(rt: HostRuntime) -> Result<(), Fail> {
@@ -74,18 +94,35 @@ fn a_prefix_of_two_publishers(rt: HostRuntime) -> Result<(), Fail> {
         &rt,
         "publisher a 2 1\npublisher b 2 2\npublisher c 2 3\nprefix 10 c\nprefix 10 a\nprefix 20 b\n",
     )?;
-    for (text, expected) in [
-        ("10/x", [true, false, true]),
-        ("0.na/10", [true, false, true]),
-        ("20/x", [false, true, false]),
-    ] {
+    for &(text, expected) in &SHARED {
         let name = name(&rt, text)?;
-        for (place, hosts) in expected.into_iter().enumerate() {
-            assert_eq!(rt; tenants.hosts(place, &name), hosts, "{text} {place}");
-        }
+        let hosts = [
+            tenants.hosts(0, &name),
+            tenants.hosts(1, &name),
+            tenants.hosts(2, &name),
+        ];
+        same(&rt, text, hosts, expected);
     }
     Ok(())
 }
+
+/// A handle, and the hash functions of its prefix for a and b.
+const HASHED: [(&str, [Algorithm; 2]); 5] = [
+    ("10/x", [Algorithm::Sha1, Algorithm::Sha256]),
+    ("0.na/10", [Algorithm::Sha1, Algorithm::Sha256]),
+    ("20/x", [Algorithm::Sha256, Algorithm::Sha1]),
+    ("30/x", [Algorithm::Sha1, Algorithm::Sha1]),
+    ("20.1/x", [Algorithm::Sha1, Algorithm::Sha1]),
+];
+
+/// Texts whose second line has no hash function.
+const HASH_FAULTS: [&str; 5] = [
+    "publisher a 2 1\nprefix 10 a 1\n",
+    "publisher a 2 1\nprefix 10 a 03\n",
+    "publisher a 2 1\nprefix 10 a \n",
+    "publisher a 2 1\nprefix 10 a 3 \n",
+    "publisher a 2 1\nprefix 10 a 3 3\n",
+];
 
 #[test]
 fn hash_functions(rt: HostRuntime) -> Result<(), Fail> {
@@ -93,33 +130,21 @@ fn hash_functions(rt: HostRuntime) -> Result<(), Fail> {
         &rt,
         "publisher a 2 1\npublisher b 2 2\nprefix 10 a\nprefix 20 a 3\nprefix 10 b 3\nprefix 30 b 2\n",
     )?;
-    for (text, expected) in [
-        ("10/x", [Algorithm::Sha1, Algorithm::Sha256]),
-        ("0.na/10", [Algorithm::Sha1, Algorithm::Sha256]),
-        ("20/x", [Algorithm::Sha256, Algorithm::Sha1]),
-        ("30/x", [Algorithm::Sha1, Algorithm::Sha1]),
-        ("20.1/x", [Algorithm::Sha1, Algorithm::Sha1]),
-    ] {
+    for &(text, expected) in &HASHED {
         let name = name(&rt, text)?;
-        for (place, algorithm) in expected.into_iter().enumerate() {
-            assert_eq!(rt;
-                tenants.algorithm(place, &name),
-                algorithm,
-                "{text} {place}"
-            );
-        }
+        let algorithms = [tenants.algorithm(0, &name), tenants.algorithm(1, &name)];
+        same(&rt, text, algorithms, expected);
     }
-    for text in [
-        "publisher a 2 1\nprefix 10 a 1\n",
-        "publisher a 2 1\nprefix 10 a 03\n",
-        "publisher a 2 1\nprefix 10 a \n",
-        "publisher a 2 1\nprefix 10 a 3 \n",
-        "publisher a 2 1\nprefix 10 a 3 3\n",
-    ] {
-        assert_eq!(rt; fault(&rt, text), Some((2, TenantFault::BadLine)), "{text}");
+    for &text in &HASH_FAULTS {
+        same(&rt, text, fault(&rt, text), Some((2, TenantFault::BadLine)));
     }
     let twice = "publisher a 2 1\nprefix 10 a\nprefix 10 a 3\n";
-    assert_eq!(rt; fault(&rt, twice), Some((3, TenantFault::TwicePrefix)));
+    same(
+        &rt,
+        "fault of twice",
+        fault(&rt, twice),
+        Some((3, TenantFault::TwicePrefix)),
+    );
     Ok(())
 }
 
@@ -128,114 +153,132 @@ fn opening(rt: HostRuntime) -> Result<(), Fail> {
     let text = "publisher acme 2 2641
 prefix 10 acme
 value 10/a 000000010000000355524C00000009687474703a2f2f612f00000151800600000000000000000000000";
-    assert_eq!(rt; fault(&rt, text), Some((3, TenantFault::BadLine)));
+    same(
+        &rt,
+        "fault of text",
+        fault(&rt, text),
+        Some((3, TenantFault::BadLine)),
+    );
     let text = "publisher acme 2 2641
 prefix 10 acme
 value 10/a 000000010000000355524C00000009687474703a2f2f612f000001518006000000000000000000000000
 ";
     let tenants = read(&rt, text)?;
     let (name, value) = tenants.opening().first().ok_or("no row")?;
-    assert_eq!(rt; name.sent(), b"10/a".as_slice());
-    assert_eq!(rt; value.index, 1);
-    assert_eq!(rt; value.bytes.as_slice(), b"http://a/".as_slice());
+    same(&rt, "sent", name.sent(), b"10/a".as_slice());
+    same(&rt, "index", value.index, 1);
+    same(
+        &rt,
+        "bytes",
+        value.bytes.as_slice(),
+        b"http://a/".as_slice(),
+    );
     Ok(())
 }
 
+/// A text, and its first faulty line with the fault.
+const GIVEN_TWICE: [(&str, (usize, TenantFault)); 5] = [
+    (
+        "publisher a 2 1\npublisher b 2 2\nprefix 10 a\nprefix 10 b\n\nprefix 10 a\n",
+        (6, TenantFault::TwicePrefix),
+    ),
+    (
+        "publisher a 2 1\nprefix 10 a\nprefix 10 a\n",
+        (3, TenantFault::TwicePrefix),
+    ),
+    (
+        "publisher a 2 1\npublisher a 2 2\n",
+        (2, TenantFault::TwicePublisher),
+    ),
+    (
+        "publisher a 64 1\npublisher a 2 2\n",
+        (2, TenantFault::TwicePublisher),
+    ),
+    (
+        "publisher a 61 1\npublisher b 2 2\npublisher c 2 3\n",
+        (3, TenantFault::TooMany),
+    ),
+];
+
 #[test]
 fn twice(rt: HostRuntime) {
-    let rows = [
-        (
-            "publisher a 2 1\npublisher b 2 2\nprefix 10 a\nprefix 10 b\n\nprefix 10 a\n",
-            (6, TenantFault::TwicePrefix),
-        ),
-        (
-            "publisher a 2 1\nprefix 10 a\nprefix 10 a\n",
-            (3, TenantFault::TwicePrefix),
-        ),
-        (
-            "publisher a 2 1\npublisher a 2 2\n",
-            (2, TenantFault::TwicePublisher),
-        ),
-        (
-            "publisher a 64 1\npublisher a 2 2\n",
-            (2, TenantFault::TwicePublisher),
-        ),
-        (
-            "publisher a 61 1\npublisher b 2 2\npublisher c 2 3\n",
-            (3, TenantFault::TooMany),
-        ),
-    ];
-    for (text, expected) in rows {
-        assert_eq!(rt; fault(&rt, text), Some(expected), "{text}");
+    for &(text, expected) in &GIVEN_TWICE {
+        same(&rt, text, fault(&rt, text), Some(expected));
     }
 }
+
+/// Texts without a fault.
+const ACCEPTED: [&str; 6] = [
+    "",
+    "\n\n# nothing\n#\n",
+    "publisher a-0 2 00001\r\n",
+    "publisher abcdefghijklmnopqrstuvwxyz012345 064 65535",
+    "publisher a 62 1\npublisher b 2 1\nprefix 10 b\nprefix 20 a\nprefix 0.na.x b",
+    "publisher a 2 1\npublisher b 2 2\nprefix 10 a\nprefix 20 b\n\nprefix 10 b\n",
+];
 
 #[test]
 fn accepted_lines(rt: HostRuntime) {
-    let texts = [
-        "",
-        "\n\n# nothing\n#\n",
-        "publisher a-0 2 00001\r\n",
-        "publisher abcdefghijklmnopqrstuvwxyz012345 064 65535",
-        "publisher a 62 1\npublisher b 2 1\nprefix 10 b\nprefix 20 a\nprefix 0.na.x b",
-        "publisher a 2 1\npublisher b 2 2\nprefix 10 a\nprefix 20 b\n\nprefix 10 b\n",
-    ];
-    for text in texts {
-        assert_eq!(rt; fault(&rt, text), None, "{text}");
+    for &text in &ACCEPTED {
+        same(&rt, text, fault(&rt, text), None);
     }
 }
+
+/// Lines that are bad as the first.
+const PUBLISHER_FAULTS: [&str; 23] = [
+    "publisher",
+    "publisher a",
+    "publisher a 2",
+    "publisher a 2 1 ",
+    "publisher a 2 1 1",
+    "publisher  a 2 1",
+    "publisher\ta 2 1",
+    " publisher a 2 1",
+    "Publisher a 2 1",
+    "publisher A 2 1",
+    "publisher a_b 2 1",
+    "publisher  2 1",
+    "publisher abcdefghijklmnopqrstuvwxyz0123456 2 1",
+    "publisher a 1 1",
+    "publisher a 65 1",
+    "publisher a 2 0",
+    "publisher a 2 65536",
+    "publisher a +2 1",
+    "publisher a 2 +1",
+    "publisher a 0x2 1",
+    "publisher a 2 1\r",
+    "\r",
+    " # no comment",
+];
 
 #[test]
 fn bad_publishers(rt: HostRuntime) {
-    let lines = [
-        "publisher",
-        "publisher a",
-        "publisher a 2",
-        "publisher a 2 1 ",
-        "publisher a 2 1 1",
-        "publisher  a 2 1",
-        "publisher\ta 2 1",
-        " publisher a 2 1",
-        "Publisher a 2 1",
-        "publisher A 2 1",
-        "publisher a_b 2 1",
-        "publisher  2 1",
-        "publisher abcdefghijklmnopqrstuvwxyz0123456 2 1",
-        "publisher a 1 1",
-        "publisher a 65 1",
-        "publisher a 2 0",
-        "publisher a 2 65536",
-        "publisher a +2 1",
-        "publisher a 2 +1",
-        "publisher a 0x2 1",
-        "publisher a 2 1\r",
-        "\r",
-        " # no comment",
-    ];
-    for line in lines {
-        assert_eq!(rt; fault(&rt, line), Some((1, TenantFault::BadLine)), "{line}");
+    for &line in &PUBLISHER_FAULTS {
+        same(&rt, line, fault(&rt, line), Some((1, TenantFault::BadLine)));
     }
 }
 
+/// Texts whose second line is bad.
+const PREFIX_FAULTS: [&str; 13] = [
+    "publisher a 2 1\nprefix",
+    "publisher a 2 1\nprefix 10",
+    "publisher a 2 1\nprefix 10 a ",
+    "publisher a 2 1\nprefix 10 a 4",
+    "publisher a 2 1\nprefix  a",
+    "publisher a 2 1\nprefix 10 b",
+    "publisher a 2 1\nprefix 10.A a",
+    "publisher a 2 1\nprefix 10. a",
+    "publisher a 2 1\nprefix 10..1 a",
+    "publisher a 2 1\nprefix 10/ a",
+    "publisher a 2 1\nprefix 0.na a",
+    "publisher a 2 1\nprefix 0.NA a",
+    "#\nprefix 10 a\npublisher a 2 1",
+];
+
 #[test]
 fn bad_prefixes(rt: HostRuntime) {
-    let texts = [
-        "publisher a 2 1\nprefix",
-        "publisher a 2 1\nprefix 10",
-        "publisher a 2 1\nprefix 10 a ",
-        "publisher a 2 1\nprefix 10 a 4",
-        "publisher a 2 1\nprefix  a",
-        "publisher a 2 1\nprefix 10 b",
-        "publisher a 2 1\nprefix 10.A a",
-        "publisher a 2 1\nprefix 10. a",
-        "publisher a 2 1\nprefix 10..1 a",
-        "publisher a 2 1\nprefix 10/ a",
-        "publisher a 2 1\nprefix 0.na a",
-        "publisher a 2 1\nprefix 0.NA a",
-        "#\nprefix 10 a\npublisher a 2 1",
-    ];
-    for text in texts {
-        assert_eq!(rt; fault(&rt, text), Some((2, TenantFault::BadLine)), "{text}");
+    for &text in &PREFIX_FAULTS {
+        same(&rt, text, fault(&rt, text), Some((2, TenantFault::BadLine)));
     }
 }
 
@@ -252,49 +295,54 @@ fn value_fault(
     Ok(fault(rt, &text))
 }
 
+/// What stands before and behind `TAIL` in a text without a fault.
+const GOOD_VALUES: [(&str, &str); 5] = [
+    ("b/x 00000001", ""),
+    ("B/x ffffffff", "\r\n"),
+    ("b/ FFFFFFFF", "\n#"),
+    ("0.NA/B 00000001", ""),
+    (
+        "b/x 00000002",
+        "\nvalue b/X 000000020000000000000000000000000000000000000000000000000000",
+    ),
+];
+
 #[test]
 fn values(rt: HostRuntime) -> Result<(), Fail> {
-    let rows = [
-        ("b/x 00000001", ""),
-        ("B/x ffffffff", "\r\n"),
-        ("b/ FFFFFFFF", "\n#"),
-        ("0.NA/B 00000001", ""),
-        (
-            "b/x 00000002",
-            "\nvalue b/X 000000020000000000000000000000000000000000000000000000000000",
-        ),
-    ];
-    for (front, back) in rows {
-        assert_eq!(rt; value_fault(&rt, front, back)?, None, "{front}");
+    for &(front, back) in &GOOD_VALUES {
+        same(&rt, front, value_fault(&rt, front, back)?, None);
     }
     Ok(())
 }
 
+/// What stands before and behind `TAIL` where the third line is bad.
+const VALUE_FAULTS: [(&str, &str); 16] = [
+    ("b/x 00000000", ""),
+    ("b/x 00000001", "00"),
+    ("b/x 00000001", "0"),
+    ("b/x 00000001", " "),
+    ("b/x 00000001", "\r"),
+    ("b/x 0000001", ""),
+    ("b/x 000001", ""),
+    ("b/x 0000000g", ""),
+    ("b/x  00000001", ""),
+    ("b/x ", ""),
+    ("b 00000001", ""),
+    ("b/x00000001", ""),
+    ("c/x 00000001", "\nprefix c a"),
+    ("b.c/x 00000001", ""),
+    ("0.na/c 00000001", ""),
+    ("0.na/0.na 00000001", ""),
+];
+
 #[test]
 fn bad_values(rt: HostRuntime) -> Result<(), Fail> {
-    let rows = [
-        ("b/x 00000000", ""),
-        ("b/x 00000001", "00"),
-        ("b/x 00000001", "0"),
-        ("b/x 00000001", " "),
-        ("b/x 00000001", "\r"),
-        ("b/x 0000001", ""),
-        ("b/x 000001", ""),
-        ("b/x 0000000g", ""),
-        ("b/x  00000001", ""),
-        ("b/x ", ""),
-        ("b 00000001", ""),
-        ("b/x00000001", ""),
-        ("c/x 00000001", "\nprefix c a"),
-        ("b.c/x 00000001", ""),
-        ("0.na/c 00000001", ""),
-        ("0.na/0.na 00000001", ""),
-    ];
-    for (front, back) in rows {
-        assert_eq!(rt;
+    for &(front, back) in &VALUE_FAULTS {
+        same(
+            &rt,
+            front,
             value_fault(&rt, front, back)?,
             Some((3, TenantFault::BadLine)),
-            "{front}"
         );
     }
     Ok(())
@@ -307,13 +355,18 @@ fn values_of_one_handle(rt: HostRuntime) -> Result<(), Fail> {
         let line = format!(in rt.alloc(); "value b/x {index:08x}{TAIL}\n")?;
         text.push_str(&line)?;
     }
-    assert_eq!(rt; fault(&rt, &text), None);
+    same(&rt, "fault of text", fault(&rt, &text), None);
     let line = format!(in rt.alloc(); "value b/X 00000001{TAIL}\n")?;
     text.push_str(&line)?;
-    assert_eq!(rt; fault(&rt, &text), None);
+    same(&rt, "fault of text", fault(&rt, &text), None);
     let line = format!(in rt.alloc(); "value B/x 00000401{TAIL}\n")?;
     text.push_str(&line)?;
-    assert_eq!(rt; fault(&rt, &text), Some((1028, TenantFault::BadLine)));
+    same(
+        &rt,
+        "fault of text",
+        fault(&rt, &text),
+        Some((1028, TenantFault::BadLine)),
+    );
     Ok(())
 }
 
@@ -322,11 +375,16 @@ fn an_index_twice(rt: HostRuntime) -> Result<(), Fail> {
     let text = format!(in rt.alloc();
         "publisher a 2 1\nprefix b a\nvalue b/x 00000007{TAIL}\n\nvalue B/x 00000007{TAIL}"
     )?;
-    assert_eq!(rt; fault(&rt, &text), Some((5, TenantFault::BadLine)));
+    same(
+        &rt,
+        "fault of text",
+        fault(&rt, &text),
+        Some((5, TenantFault::BadLine)),
+    );
     let text = format!(in rt.alloc();
         "publisher a 2 1\nprefix b a\nvalue b/x 00000007{TAIL}\n\nvalue b/X 00000007{TAIL}"
     )?;
-    assert_eq!(rt; fault(&rt, &text), None);
+    same(&rt, "fault of text", fault(&rt, &text), None);
     Ok(())
 }
 
@@ -341,7 +399,7 @@ fn fault_texts(rt: HostRuntime) -> Result<(), Fail> {
     ];
     for (fault, text) in rows {
         let shown = format!(in rt.alloc(); "{fault}")?;
-        assert_eq!(rt; shown.as_str(), text);
+        same(&rt, "shown", shown.as_str(), text);
     }
     Ok(())
 }

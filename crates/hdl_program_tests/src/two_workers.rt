@@ -4,7 +4,8 @@ ghost use Rattle.std.specs.Prelude.{◌≡◌, []};
 ghost use Rattle.hdl_lanes.specs.Lane.{put_into, taken_from};
 ghost use Rattle.hdl_workers.specs.Ends.{AreDistinct};
 
-use crate::tests::{FRAME, REPLY, TENANTS};
+use crate::assertion::same;
+use crate::sockets::{FRAME, REPLY, TENANTS};
 use hdl_core::{Service, Tenants};
 use hdl_rows::PlainRows;
 use hdl_serve::{
@@ -219,10 +220,10 @@ fn two_workers(rt: HostRuntime) -> Result<(), Fail> {
     serve_both(&rt, alloc, ends, &left)?;
     for worker in workers {
         let paired = worker.join(&rt);
-        assert_eq!(rt; paired.door.left().len(), 2);
+        same(&rt, "connections", paired.door.left().len(), 2);
         for connection in paired.door.left() {
             let written = hex::encode(alloc, connection.written())?;
-            assert_eq!(rt; written.as_str(), REPLY);
+            same(&rt, "written", written.as_str(), REPLY);
         }
     }
     Ok(())

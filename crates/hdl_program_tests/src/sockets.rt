@@ -1,6 +1,7 @@
 //! The server with two real clients. Frames and replies are those of the worked examples (examples/absent.script).
 
-use crate::host;
+use crate::assertion::same;
+use hdl_host::host;
 use hdl_rows::PlainRows;
 use std::alloc::Global;
 use std::io::{self, Read, Write};
@@ -187,14 +188,21 @@ fn sockets(rt: HostRuntime) -> Result<(), Fail> {
     ended.store(true, SeqCst);
     let (whole, others) = streams.join(&rt)?;
     let reply = datagrams.join(&rt)?;
-    assert_eq!(rt; status, 0);
-    assert_eq!(rt;
+    same(&rt, "status", status, 0);
+    same(
+        &rt,
+        "printed",
         output.octets.as_slice(),
-        b"acme 127.0.0.1:2641\n".as_slice()
+        b"acme 127.0.0.1:2641\n".as_slice(),
     );
-    assert_eq!(rt; faults.as_slice(), b"".as_slice());
-    assert_eq!(rt; others, 0);
+    same(&rt, "faults", faults.as_slice(), b"".as_slice());
+    same(&rt, "others", others, 0);
     assert!(rt; whole > 0);
-    assert_eq!(rt; reply.get(24..28), Some([0u8, 0, 0, 100].as_slice()));
+    same(
+        &rt,
+        "the code by UDP",
+        reply.get(24..28),
+        Some([0u8, 0, 0, 100].as_slice()),
+    );
     Ok(())
 }
