@@ -187,12 +187,7 @@ fn holds_long<R: Rows>(rt: &impl Abort, alloc: Global, rows: &mut R) -> Result<(
     let b = long(alloc, b"10.long/", b"b")?;
     same(rt, "len", a.len(), 2048);
     create_named(rt, alloc, rows, &a)?;
-    same(
-        rt,
-        "the other",
-        is_there(alloc, rows, &b)?,
-        (false, false),
-    );
+    same(rt, "the other", is_there(alloc, rows, &b)?, (false, false));
     create(rt, rows, &Name::read(alloc, &b)?, &[])?;
     assert!(rt; lists_just(rows, b"10.long", &[&a, &b])?);
     assert!(rt; holds_named(alloc, rows, &a)?);
