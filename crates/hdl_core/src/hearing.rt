@@ -31,12 +31,7 @@ pub(crate) enum Heard {
 }
 
 /// The challenge of a request under this number, with the request's digest.
-fn challenge(
-    alloc: Global,
-    asked: &Asked<'_>,
-    letter: &Letter,
-    next: u32,
-) -> Result<Heard, Refused>
+fn challenge(alloc: Global, asked: &Asked<'_>, letter: &Letter, next: u32) -> Result<Heard, Refused>
     ensures challenged { IfOk result (λ heard. heard ≡ challenge_of_request asked.now.algorithm letter.now next asked.now.request.now) }
     ensures read { IfOk result (λ heard. IsReplyFrame (sent_of heard)) }
 {

@@ -152,13 +152,7 @@ fn tell_and_serve<
     R: Threads + Clock + RandomSource + Copy + Send + Drop + 'static,
     S: Serving + Drop,
     W: Write,
->(
-    rt: &R,
-    alloc: Global,
-    service: S,
-    ready: Ready,
-    output: &mut W,
-) -> Result<(), Fault> {
+>(rt: &R, alloc: Global, service: S, ready: Ready, output: &mut W) -> Result<(), Fault> {
     put_all(output, ready.lines.as_bytes())?;
     served(rt, alloc, service, ready)
 }
