@@ -21,6 +21,8 @@ PROGRAM = sys.argv[1]
 # What runs it.
 SCRIPT = {"handled": "run", "hdl_web": "hdl proxy"}.get(PROGRAM, PROGRAM)
 LOG = f"crates/{PROGRAM}/out/build.log"
+# Which process has LLVM compile the program behind a start.
+BEHIND = f"crates/{PROGRAM}/out/behind.pid"
 # Processor seconds to load a crate's libraries: of any crate, and of one over a large library of the kit.
 LOAD, LARGE_LOAD = 15, 60
 LARGE = {"clap", "sqlite"}
@@ -164,7 +166,28 @@ def side_by_side(crates, log, progress):
     return lanes.in_lanes(os.getcwd(), crates, progress.weights, processors(), hear)
 
 
+def compile_behind():
+    """Has LLVM compile the program behind this start."""
+    how = {"stdin": subprocess.DEVNULL, "stdout": subprocess.DEVNULL, "stderr": subprocess.DEVNULL}
+    started = subprocess.Popen(["nice", sys.executable, "tools/lanes.py", PROGRAM], start_new_session=True, **how)
+    with open(BEHIND, "w", encoding="utf-8") as file:
+        file.write(str(started.pid))
+
+
+def stop_behind():
+    """Ends what compiles an older text behind an earlier start, for which this build would wait."""
+    try:
+        with open(BEHIND, encoding="utf-8") as file:
+            number = int(file.read())
+        with open(f"/proc/{number}/cmdline", encoding="utf-8") as file:
+            if f"tools/lanes.py\0{PROGRAM}\0" in file.read():
+                os.killpg(number, signal.SIGTERM)
+    except (OSError, ValueError):
+        pass
+
+
 def main():
+    stop_behind()
     graph = stands_on()
     wanted = below(PROGRAM, graph)
     left = [crate for crate in graph if crate in wanted and not is_built(crate, graph)]
@@ -192,8 +215,7 @@ def main():
         print(*open(LOG, encoding="utf-8").read().splitlines()[-20:], sep="\n", file=sys.stderr)
     elif lanes.knows_kit():
         tell("built by Rattle's own compiler, which is sooner; LLVM builds it once more behind this start, and the next one runs that")
-        how = {"stdin": subprocess.DEVNULL, "stdout": subprocess.DEVNULL, "stderr": subprocess.DEVNULL}
-        subprocess.Popen(["nice", sys.executable, "tools/lanes.py", PROGRAM], start_new_session=True, **how)
+        compile_behind()
     return status
 
 
