@@ -61,6 +61,66 @@ def free():
     return 1024 * int(found[1])
 
 
+def longest_behind(crates, weights):
+    """Of each crate the guessed seconds of itself and of the longest chain of crates that wait for it."""
+    behind = {}
+    for it in sorted(crates, key=lambda one: -len(one.below())):
+        behind[it.name] = weights[it.name] + max([behind[up.name] for up in crates if it in up.deps], default=0)
+    return behind
+
+
+class Lanes:
+    """Libraries that are built side by side: those that are left, those that run, each with the memory that it may take, and the first status that isn't 0."""
+
+    def __init__(self, crates, weights, processors, hear):
+        self.behind, self.processors, self.hear = longest_behind(crates, weights), processors, hear
+        self.left, self.running = sorted(crates, key=lambda it: -self.behind[it.name]), {}
+        self.ended, self.status = queue.Queue(), 0
+        self.memory, self.saying = 0.85 * free(), threading.Lock()
+
+    def say(self, crate, line):
+        with self.saying:
+            self.hear(crate.name, line)
+
+    def build(self, crate, jobs):
+        """What a thread does for one crate: `ended` gets the crate and its status, whatever happens, since others wait for it."""
+        status = 2
+        try:
+            crate.out = Lines(lambda line: self.say(crate, line))
+            os.makedirs(f"{crate.folder}/out", exist_ok=True)
+            status = crate.build_rlib(["--jobs", str(jobs)], anew=False)
+        except SystemExit as stopped:
+            status = stopped.code or 1
+        except Exception:
+            for line in traceback.format_exc().splitlines():
+                self.say(crate, line)
+        finally:
+            self.ended.put((crate, status))
+
+    def start_ready(self):
+        """Starts each crate below which all stands, as far as processors and memory go."""
+        for crate in list(self.left):
+            if any(below in self.left or below in self.running for below in crate.below()):
+                continue
+            is_first = all(self.behind[crate.name] >= self.behind[it.name] for it in [*self.left, *self.running])
+            jobs = self.processors if is_first else min(2, self.processors)
+            needs = LEAST + PER_LINE * crate.count(rb"\n") + PER_JOB * (jobs - 1)
+            if len(self.running) < self.processors and (not self.running or needs <= self.memory - sum(self.running.values())):
+                self.left.remove(crate)
+                self.running[crate] = needs
+                # a daemon, so that Ctrl-C waits for none of them: `rt` sees to it that what they started ends too
+                threading.Thread(target=self.build, args=(crate, jobs), daemon=True).start()
+
+    def run(self):
+        while self.running or self.left and not self.status:
+            if not self.status:
+                self.start_ready()
+            crate, status = self.ended.get()
+            self.running.pop(crate)
+            self.status = self.status or status
+        return self.status
+
+
 def in_lanes(root, names, weights, processors, hear):
     """Builds these libraries of the repository, each once those below it stand. Answers 0, or the first status that isn't.
 
@@ -68,53 +128,11 @@ def in_lanes(root, names, weights, processors, hear):
     rtlib = kit()
     crates = [it for it in rtlib.crates_below(root) if it.name in names and it.makes_rlib()]
     held = rtlib.lock(crates)
-    behind = {}
-    for it in sorted(crates, key=lambda one: -len(one.below())):
-        behind[it.name] = weights[it.name] + max([behind[up.name] for up in crates if it in up.deps], default=0)
-    saying = threading.Lock()
-
-    def work(crate, jobs):
-        def say(line):
-            with saying:
-                hear(crate.name, line)
-
-        crate.out = Lines(say)
-        os.makedirs(f"{crate.folder}/out", exist_ok=True)
-        return crate.build_rlib(["--jobs", str(jobs)], anew=False)
-
-    left, running, ended, status = sorted(crates, key=lambda it: -behind[it.name]), {}, queue.Queue(), 0
-    memory = 0.85 * free()
-
-    def run(crate, jobs):
-        try:
-            ended.put((crate, work(crate, jobs)))
-        except SystemExit as stopped:
-            ended.put((crate, stopped.code or 1))
-        except Exception:  # whatever it is, the others must not wait for this crate
-            for line in traceback.format_exc().splitlines():
-                hear(crate.name, line)
-            ended.put((crate, 2))
-
     try:
-        while running or left and not status:
-            for crate in [it for it in left if not status]:
-                if any(below in left or below in running for below in crate.below()):
-                    continue
-                is_first = all(behind[crate.name] >= behind[it.name] for it in [*left, *running])
-                jobs = processors if is_first else min(2, processors)
-                needs = LEAST + PER_LINE * crate.count(rb"\n") + PER_JOB * (jobs - 1)
-                if len(running) < processors and (not running or needs <= memory - sum(running.values())):
-                    left.remove(crate)
-                    running[crate] = needs
-                    # a daemon, so that Ctrl-C waits for none of them: `rt` sees to it that what they started ends too
-                    threading.Thread(target=run, args=(crate, jobs), daemon=True).start()
-            crate, given = ended.get()
-            running.pop(crate)
-            status = status or given
+        return Lanes(crates, weights, processors, hear).run()
     finally:
         for it in held:
             os.close(it)
-    return status
 
 
 def compiled_by_llvm(root, name):
