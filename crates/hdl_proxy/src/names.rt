@@ -1,5 +1,8 @@
 //! Names where they stand in an address.
 
+ghost use Rattle.std.specs.Prelude.{◌≡◌, IfOk, string_bytes};
+ghost use Rattle.hdl_proxy.specs.Words.{text_of};
+
 use hdl_name::{Name, NameFault};
 use percent_encoding::percent_decode;
 use std::alloc::{AllocError, Global};
@@ -23,7 +26,9 @@ pub(crate) fn unescaped(alloc: Global, text: &str) -> Result<Vec<u8>, AllocError
 }
 
 /// Octets as text: as they are where they are text, and else their hexadecimal digits.
-pub(crate) fn text_of(alloc: Global, octets: &[u8]) -> Result<String, AllocError> {
+pub(crate) fn text_of(alloc: Global, octets: &[u8]) -> Result<String, AllocError>
+    ensures { IfOk result (λ text. string_bytes text ≡ text_of octets.now) }
+{
     match str::from_utf8(octets) {
         Ok(text) => String::from_str(alloc, text),
         Err(_) => hex::encode(alloc, octets),

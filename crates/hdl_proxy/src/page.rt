@@ -1,7 +1,8 @@
 //! Pages of HTML that grow.
 
-ghost use Rattle.std.specs.Prelude.{◌≡◌, ◌++◌, OnOk};
+ghost use Rattle.std.specs.Prelude.{◌≡◌, ◌++◌, IfOk, OnOk, decimal};
 ghost use Rattle.hdl_proxy.specs.Escape.{escaped};
+ghost use Rattle.hdl_proxy.specs.Pages.{element, top};
 
 use crate::escape::put_escaped;
 use std::alloc::{AllocError, Global};
@@ -37,7 +38,10 @@ pub(crate) struct Page {
 
 impl Page {
     /// A page with this title, which is its heading too.
-    pub(crate) fn new(alloc: Global, title: &[u8]) -> Result<Page, AllocError> {
+    #[tactic(auto, unfolding(crate::specs::Pages::top))]
+    pub(crate) fn new(alloc: Global, title: &[u8]) -> Result<Page, AllocError>
+        ensures { IfOk result (λ page. page.octets.items ≡ top title.now) }
+    {
         let mut page = Page {
             alloc,
             octets: Vec::new(alloc),
@@ -78,20 +82,32 @@ impl Page {
         put_escaped(&mut self.octets, text)
     }
 
-    /// Adds text in an element that is opened and closed by this markup.
+    /// Adds text between this markup.
     pub(crate) fn element(
         &mut self,
-        open: &'static str,
+        front: &'static str,
         text: &[u8],
-        close: &'static str,
-    ) -> Result<(), AllocError> {
-        self.markup(open)?;
+        back: &'static str,
+    ) -> Result<(), AllocError>
+        ensures { OnOk result (self.new.octets.items ≡ self.old.octets.items ++ element front.now text.now back.now) }
+    {
+        self.markup(front)?;
         self.text(text)?;
-        self.markup(close)
+        self.markup(back)
+    }
+
+    /// Adds a number in decimal.
+    pub(crate) fn number(&mut self, number: u32) -> Result<(), AllocError>
+        ensures { OnOk result (self.new.octets.items ≡ self.old.octets.items ++ escaped (decimal number)) }
+    {
+        let digits = format!(in self.alloc; "{number}")?;
+        self.text(digits.as_bytes())
     }
 
     /// The octets so far.
-    pub(crate) fn into_octets(self) -> Vec<u8> {
+    pub(crate) fn into_octets(self) -> Vec<u8>
+        ensures { result ≡ self.octets }
+    {
         let Page { octets, .. } = self;
         octets
     }
