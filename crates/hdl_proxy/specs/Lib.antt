@@ -1,5 +1,10 @@
+pub mod Answer
+pub mod Begin
 pub mod Choice
 pub mod Escape
+pub mod Found
+pub mod Link
+pub mod Query
 pub mod Question
 pub mod Status
 pub mod Url

@@ -1,5 +1,8 @@
 //! Values as JSON, in the form of the Handle.Net proxy's REST interface.
 
+ghost use Rattle.std.specs.Prelude.{IfOk};
+ghost use Rattle.hdl_proxy.specs.Answer.{Tells};
+
 use crate::answer::{Answer, Media, Status};
 use crate::names::text_of;
 use crate::words::{KeptFor, kept_for, permission_digits, written_words};
@@ -8,7 +11,9 @@ use hdl_value::{AdminMask, Reference, Value, admin_of, vlist_of};
 use serde_json::{Map, Value as Json, put};
 use std::alloc::{AllocError, Global};
 
-fn json_answer(alloc: Global, status: Status, json: &Json) -> Result<Answer, AllocError> {
+fn json_answer(alloc: Global, status: Status, json: &Json) -> Result<Answer, AllocError>
+    ensures { IfOk result (Tells status Media.Json) }
+{
     let text = json.to_string(alloc)?;
     Ok(Answer {
         status,
@@ -36,7 +41,9 @@ pub(crate) fn refusal(
     asked: &[u8],
     code: u32,
     why: &str,
-) -> Result<Answer, AllocError> {
+) -> Result<Answer, AllocError>
+    ensures { IfOk result (Tells status Media.Json) }
+{
     let mut object = Map::new(alloc);
     put(&mut object, alloc, "responseCode", Json::from(code))?;
     put_text(alloc, &mut object, "handle", asked)?;
@@ -131,7 +138,9 @@ pub(crate) fn values_answer(
     alloc: Global,
     handle: &[u8],
     values: &[Value],
-) -> Result<Answer, AllocError> {
+) -> Result<Answer, AllocError>
+    ensures { IfOk result (Tells Status.Success Media.Json) }
+{
     let mut object = Map::new(alloc);
     put(&mut object, alloc, "responseCode", Json::from(1u32))?;
     put_text(alloc, &mut object, "handle", handle)?;

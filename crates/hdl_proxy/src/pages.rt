@@ -1,13 +1,18 @@
 //! The pages of the proxy.
 
+ghost use Rattle.std.specs.Prelude.{IfOk};
+ghost use Rattle.hdl_proxy.specs.Answer.{IsLocated, LeadsTo, Tells};
+
 use crate::answer::{Answer, Media, Status};
+use crate::link::Link;
 use crate::page::Page;
-use crate::url::{address, is_followed};
 use crate::words::{KeptFor, kept_for, permission_digits, written_words};
 use hdl_value::{AdminMask, Reference, Value, admin_of, vlist_of};
 use std::alloc::{AllocError, Global};
 
-fn page_answer(status: Status, mut page: Page) -> Result<Answer, AllocError> {
+fn page_answer(status: Status, mut page: Page) -> Result<Answer, AllocError>
+    ensures { IfOk result (Tells status Media.Page) }
+{
     page.markup("</body>\n</html>\n")?;
     Ok(Answer {
         status,
@@ -23,7 +28,9 @@ pub(crate) fn refusal(
     status: Status,
     asked: &[u8],
     why: &str,
-) -> Result<Answer, AllocError> {
+) -> Result<Answer, AllocError>
+    ensures { IfOk result (Tells status Media.Page) }
+{
     let mut page = Page::new(alloc, asked)?;
     page.element(
         "<p>",
@@ -34,7 +41,9 @@ pub(crate) fn refusal(
 }
 
 /// What this is, and a form.
-pub(crate) fn front(alloc: Global) -> Result<Answer, AllocError> {
+pub(crate) fn front(alloc: Global) -> Result<Answer, AllocError>
+    ensures { IfOk result (Tells Status.Success Media.Page) }
+{
     let mut page = Page::new(alloc, b"Handles")?;
     page.markup(
         "<p>A handle is a name that stays, such as <code>10/a</code>. This address and a handle lead to what it names.</p>
@@ -48,14 +57,17 @@ pub(crate) fn front(alloc: Global) -> Result<Answer, AllocError> {
     page_answer(Status::Success, page)
 }
 
-/// The way to an address, which a browser goes by itself.
-pub(crate) fn redirect(alloc: Global, title: &[u8], to: String) -> Result<Answer, AllocError> {
+/// The way that a link leads, which a browser goes by itself.
+pub(crate) fn redirect(alloc: Global, title: &[u8], to: Link) -> Result<Answer, AllocError>
+    ensures leads { IfOk result (LeadsTo to) }
+    ensures located { IfOk result IsLocated }
+{
     let mut page = Page::bare(alloc, title)?;
-    page.element("<a href=\"", to.as_bytes(), "\">")?;
-    page.element("", to.as_bytes(), "</a>\n")?;
+    page.element("<a href=\"", to.octets(), "\">")?;
+    page.element("", to.octets(), "</a>\n")?;
     Ok(Answer {
         status: Status::Found,
-        location: Some(to),
+        location: Some(to.into_text()),
         media: Media::Page,
         body: page.into_octets(),
     })
@@ -89,19 +101,26 @@ fn put_list(page: &mut Page, references: &[Reference]) -> Result<(), AllocError>
     Ok(())
 }
 
-fn put_link(page: &mut Page, url: &[u8]) -> Result<(), AllocError> {
-    let to = address(page.alloc, url)?;
+fn put_link(page: &mut Page, to: &Link, text: &str) -> Result<(), AllocError> {
     page.element(
         "<p class=\"data\"><a rel=\"noreferrer\" href=\"",
-        to.as_bytes(),
+        to.octets(),
         "\">",
     )?;
-    page.element("", url, "</a></p>\n")
+    page.element("", text.as_bytes(), "</a></p>\n")
+}
+
+/// Text, which is a link where it is a URL to be followed.
+fn put_text(page: &mut Page, text: &str) -> Result<(), AllocError> {
+    match Link::followed(page.alloc, text.as_bytes())? {
+        Some(link) => put_link(page, &link, text),
+        None => page.element("<p class=\"data\">", text.as_bytes(), "</p>\n"),
+    }
 }
 
 fn put_octets(page: &mut Page, octets: &[u8]) -> Result<(), AllocError> {
     if let Some(text) = plain(octets) {
-        return page.element("<p class=\"data\">", text.as_bytes(), "</p>\n");
+        return put_text(page, text);
     }
     let digits = hex::encode(page.alloc, octets)?;
     let count = format!(in page.alloc; "{}", octets.len())?;
@@ -116,11 +135,7 @@ fn put_data(page: &mut Page, value: &Value) -> Result<(), AllocError> {
     if let Some(references) = vlist_of(page.alloc, value)? {
         return put_list(page, &references);
     }
-    let octets = value.bytes.as_slice();
-    if is_followed(octets) && plain(octets).is_some() {
-        return put_link(page, octets);
-    }
-    put_octets(page, octets)
+    put_octets(page, value.bytes.as_slice())
 }
 
 fn put_times(page: &mut Page, value: &Value) -> Result<(), AllocError> {
@@ -150,7 +165,9 @@ pub(crate) fn values_page(
     alloc: Global,
     handle: &[u8],
     values: &[Value],
-) -> Result<Answer, AllocError> {
+) -> Result<Answer, AllocError>
+    ensures { IfOk result (Tells Status.Success Media.Page) }
+{
     let mut page = Page::new(alloc, handle)?;
     if values.is_empty() {
         page.markup("<p>This handle is there, and has no value that anybody may read.</p>\n")?;
