@@ -43,3 +43,6 @@ kept_graphic set covers b kept =
 
 pub graphic : (set : AsciiSet) → Covers set → (octets : List ℕ) → All IsGraphic (percent_encode set octets)
 graphic set covers octets = All-percent_encode IsGraphic set octets (kept_graphic set covers) graphic_escape
+
+pub slash_graphic : IsGraphic 47
+slash_graphic = (omega arith, omega arith)

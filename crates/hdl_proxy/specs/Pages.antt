@@ -3,16 +3,15 @@ use Rattle.std.specs.Prelude.{◌≡◌, ◌<◌, ℕ, ◌==◌, nat_le, Bool, t
 use Rattle.std.specs.List.{AllZip, concat, list_all}
 use Rattle.std.specs.Str.{is_utf8}
 use Rattle.hex.specs.Hex.{encode_lower}
-use Rattle.percent_encoding.specs.Percent.{percent_encode}
 use Rattle.hdl_value.specs.declared.references.RawRef.{RawRef}
 use Rattle.hdl_value.specs.declared.value.Value.{Value}
 use Rattle.hdl_value.specs.Refs.{admin_read, list_read}
 use Rattle.hdl_proxy.specs.declared.page.TheConstants.{HEAD, STYLE}
 use Rattle.hdl_proxy.specs.declared.pages.TheConstants.{NO_VALUES, ANOTHER}
-use Rattle.hdl_proxy.specs.declared.url.TheConstants.{IN_LOCATION}
 use Rattle.hdl_proxy.specs.declared.words.KeptFor.{KeptFor}
 use Rattle.hdl_proxy.specs.declared.words.KeptFor.TheVariants.{Seconds, Until}
 use Rattle.hdl_proxy.specs.Escape.{escaped}
+use Rattle.hdl_proxy.specs.Link.{address_of}
 use Rattle.hdl_proxy.specs.Url.{IsFollowed}
 use Rattle.hdl_proxy.specs.Words.{permission_digits, IsKeptFor, IsWritten}
 
@@ -59,18 +58,16 @@ digits_part octets = codes "<p>" ++ (escaped (decimal (length octets)) ++ (codes
 abbrev pub octets_part : List ℕ → List ℕ
 octets_part octets = if is_plain octets then plain_part octets else digits_part octets
 
--- a link to a URL, whose address is the one that stands in a Location
-unfoldable pub link_part : List ℕ → List ℕ
-link_part url =
-    codes "<p class=\"data\"><a rel=\"noreferrer\" href=\"" ++ (escaped (percent_encode IN_LOCATION url)
-    ++ (codes "\">" ++ (escaped url ++ codes "</a></p>\n")))
+-- a link to this address, under this text
+unfoldable pub link_part : List ℕ → List ℕ → List ℕ
+link_part to text = codes "<p class=\"data\"><a rel=\"noreferrer\" href=\"" ++ (escaped to ++ (codes "\">" ++ (escaped text ++ codes "</a></p>\n")))
 
--- octets are a link where they are plain and a URL that is followed, and else they stand as they are
+-- octets are a link where they are plain and a URL that is followed, by its address as it stands in a Location, and else they stand as they are
 abbrev pub IsLinked : List ℕ → Type 0
 IsLinked octets = IsFollowed octets × (is_plain octets ≡ true)
 
 abbrev pub IsOctetsPart : List ℕ → List ℕ → Type 0
-IsOctetsPart octets part = (IsLinked octets × (part ≡ link_part octets)) ⊎ ((IsLinked octets → ⊥) × (part ≡ octets_part octets))
+IsOctetsPart octets part = (IsLinked octets × (part ≡ link_part (address_of octets) octets)) ⊎ ((IsLinked octets → ⊥) × (part ≡ octets_part octets))
 
 -- what the data is: an administrator, a list of references, or octets
 abbrev pub IsDataPart : Value → List ℕ → Type 0
@@ -123,3 +120,10 @@ IsPageOf handle values body = (part : List ℕ) × IsValuesPart values part × (
 -- the page that says why there are no values
 unfoldable pub refusal_page : List ℕ → List ℕ → List ℕ
 refusal_page asked why = top asked ++ (codes "<p>" ++ (escaped why ++ (codes "</p>\n" ++ (ANOTHER.now ++ bottom))))
+
+-- ---- a way
+
+-- the page that a browser leaves at once, by a link to where it is led
+unfoldable pub redirect_page : List ℕ → List ℕ → List ℕ
+redirect_page title to =
+    codes "<!DOCTYPE html>\n<meta charset=\"utf-8\">\n<title>" ++ (escaped title ++ (codes "</title>\n<a href=\"" ++ (escaped to ++ (codes "\">" ++ (escaped to ++ codes "</a>\n")))))

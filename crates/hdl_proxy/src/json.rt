@@ -7,6 +7,7 @@ ghost use Rattle.serde_json.specs.View.{view, items_of, members_view};
 ghost use Rattle.serde_json.specs.Written.{compact_text, has_float};
 ghost use Rattle.hdl_value.specs.Refs.{raw, raws};
 ghost use Rattle.hdl_proxy.specs.Json.{put_text as with_text, formatted, reference_members, reference_json, admin_json, list_json, octets_json, data_json, kept_json, written_json, value_json, answer_json, refusal_json, IsValueJson, IsJsonOf};
+ghost use Rattle.hdl_proxy.specs.Answer.{Tells};
 
 use crate::answer::{Answer, Media, Status};
 use crate::names::text_of;
@@ -17,7 +18,8 @@ use serde_json::{Map, Value as Json, put};
 use std::alloc::{AllocError, Global};
 
 fn json_answer(alloc: Global, status: Status, json: &Json) -> Result<Answer, AllocError>
-    ensures { IfOk result (λ a. has_float (view json.now) ≡ false → a.body.items ≡ compact_text (view json.now)) }
+    ensures told { IfOk result (Tells status Media.Json) }
+    ensures body { IfOk result (λ a. has_float (view json.now) ≡ false → a.body.items ≡ compact_text (view json.now)) }
 {
     let text = json.to_string(alloc)?;
     Ok(Answer {
@@ -60,7 +62,8 @@ pub(crate) fn refusal(
     code: u32,
     why: &str,
 ) -> Result<Answer, AllocError>
-    ensures { IfOk result (λ a. a.body.items ≡ compact_text (refusal_json asked.now code why.now)) }
+    ensures told { IfOk result (Tells status Media.Json) }
+    ensures body { IfOk result (λ a. a.body.items ≡ compact_text (refusal_json asked.now code why.now)) }
 {
     let json = refusal_json(alloc, asked, code, why)?;
     json_answer(alloc, status, &json)
@@ -201,7 +204,8 @@ pub(crate) fn values_answer(
     handle: &[u8],
     values: &[Value],
 ) -> Result<Answer, AllocError>
-    ensures { IfOk result (λ a. IsJsonOf handle.now values.now a.body.items) }
+    ensures told { IfOk result (Tells Status.Success Media.Json) }
+    ensures body { IfOk result (λ a. IsJsonOf handle.now values.now a.body.items) }
 {
     let json = answer_json(alloc, handle, values)?;
     json_answer(alloc, Status::Success, &json)

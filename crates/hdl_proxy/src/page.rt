@@ -1,6 +1,6 @@
 //! Pages of HTML that grow.
 
-ghost use Rattle.std.specs.Prelude.{◌≡◌, ◌++◌, IfOk, OnOk, decimal};
+ghost use Rattle.std.specs.Prelude.{◌≡◌, ◌++◌, [], IfOk, OnOk, decimal};
 ghost use Rattle.hdl_proxy.specs.Escape.{escaped};
 ghost use Rattle.hdl_proxy.specs.Pages.{element, top};
 
@@ -42,10 +42,7 @@ impl Page {
     pub(crate) fn new(alloc: Global, title: &[u8]) -> Result<Page, AllocError>
         ensures { IfOk result (λ page. page.octets.items ≡ top title.now) }
     {
-        let mut page = Page {
-            alloc,
-            octets: Vec::new(alloc),
-        };
+        let mut page = Page::empty(alloc);
         page.markup(HEAD)?;
         page.text(title)?;
         page.markup(STYLE)?;
@@ -54,18 +51,14 @@ impl Page {
         Ok(page)
     }
 
-    /// A page that is hardly seen, with this title and no heading.
-    pub(crate) fn bare(alloc: Global, title: &[u8]) -> Result<Page, AllocError> {
-        let mut page = Page {
+    /// A page on which nothing stands.
+    pub(crate) fn empty(alloc: Global) -> Page
+        ensures { result.octets.items ≡ [] }
+    {
+        Page {
             alloc,
             octets: Vec::new(alloc),
-        };
-        page.element(
-            "<!DOCTYPE html>\n<meta charset=\"utf-8\">\n<title>",
-            title,
-            "</title>\n",
-        )?;
-        Ok(page)
+        }
     }
 
     /// Adds markup of this crate.

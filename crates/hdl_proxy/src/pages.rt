@@ -3,11 +3,12 @@
 ghost use Rattle.std.specs.Prelude.{◌≡◌, ◌++◌, List, ℕ, IfOk, OnOk, flat_map, option_map, string_bytes};
 ghost use Rattle.std.specs.List.{list_all};
 ghost use Rattle.hdl_value.specs.Refs.{raw, raws};
-ghost use Rattle.hdl_proxy.specs.Pages.{bottom, heading, is_plain, is_plain_octet, kept_part, link_part, octets_part, digits_part, admin_part, reference_part, written_part, refusal_page, IsDataPart, IsOctetsPart, IsTimesPart, IsSection, IsSections, IsValuesPart, IsPageOf};
+ghost use Rattle.hdl_proxy.specs.Pages.{bottom, heading, is_plain, is_plain_octet, kept_part, link_part, octets_part, digits_part, admin_part, reference_part, written_part, refusal_page, redirect_page, IsDataPart, IsOctetsPart, IsTimesPart, IsSection, IsSections, IsValuesPart, IsPageOf};
+ghost use Rattle.hdl_proxy.specs.Answer.{IsLocated, LeadsTo, Tells};
 
 use crate::answer::{Answer, Media, Status};
+use crate::link::Link;
 use crate::page::Page;
-use crate::url::{address, is_followed};
 use crate::words::{KeptFor, kept_for, permission_digits, written_words};
 use hdl_value::{AdminMask, Reference, Value, admin_of, vlist_of};
 use std::alloc::{AllocError, Global};
@@ -17,7 +18,8 @@ const NO_VALUES: &str = "<p>This handle is there, and has no value that anybody 
 const ANOTHER: &str = "<p><a href=\"/\">Another handle</a></p>\n";
 
 fn page_answer(status: Status, mut page: Page) -> Result<Answer, AllocError>
-    ensures { IfOk result (λ a. a.body.items ≡ page.octets.items ++ bottom) }
+    ensures told { IfOk result (Tells status Media.Page) }
+    ensures body { IfOk result (λ a. a.body.items ≡ page.octets.items ++ bottom) }
 {
     page.markup("</body>\n</html>\n")?;
     Ok(Answer {
@@ -36,7 +38,8 @@ pub(crate) fn refusal(
     asked: &[u8],
     why: &str,
 ) -> Result<Answer, AllocError>
-    ensures { IfOk result (λ a. a.body.items ≡ refusal_page asked.now why.now) }
+    ensures told { IfOk result (Tells status Media.Page) }
+    ensures body { IfOk result (λ a. a.body.items ≡ refusal_page asked.now why.now) }
 {
     let mut page = Page::new(alloc, asked)?;
     page.markup("<p>")?;
@@ -47,7 +50,9 @@ pub(crate) fn refusal(
 }
 
 /// What this is, and a form.
-pub(crate) fn front(alloc: Global) -> Result<Answer, AllocError> {
+pub(crate) fn front(alloc: Global) -> Result<Answer, AllocError>
+    ensures { IfOk result (Tells Status.Success Media.Page) }
+{
     let mut page = Page::new(alloc, b"Handles")?;
     page.markup(
         "<p>A handle is a name that stays, such as <code>10/a</code>. This address and a handle lead to what it names.</p>
@@ -61,14 +66,29 @@ pub(crate) fn front(alloc: Global) -> Result<Answer, AllocError> {
     page_answer(Status::Success, page)
 }
 
-/// The way to an address, which a browser goes by itself.
-pub(crate) fn redirect(alloc: Global, title: &[u8], to: String) -> Result<Answer, AllocError> {
-    let mut page = Page::bare(alloc, title)?;
-    page.element("<a href=\"", to.as_bytes(), "\">")?;
-    page.element("", to.as_bytes(), "</a>\n")?;
+#[tactic(auto, unfolding(crate::specs::Pages::redirect_page))]
+fn put_way(page: &mut Page, title: &[u8], to: &Link) -> Result<(), AllocError>
+    ensures { OnOk result (page.new.octets.items ≡ page.old.octets.items ++ redirect_page title.now to.now) }
+{
+    page.markup("<!DOCTYPE html>\n<meta charset=\"utf-8\">\n<title>")?;
+    page.text(title)?;
+    page.markup("</title>\n<a href=\"")?;
+    page.text(to.octets())?;
+    page.markup("\">")?;
+    page.text(to.octets())?;
+    page.markup("</a>\n")
+}
+
+/// The way that a link leads, which a browser goes by itself.
+pub(crate) fn redirect(alloc: Global, title: &[u8], to: Link) -> Result<Answer, AllocError>
+    ensures leads { IfOk result (LeadsTo title.now to) }
+    ensures located { IfOk result IsLocated }
+{
+    let mut page = Page::empty(alloc);
+    put_way(&mut page, title, &to)?;
     Ok(Answer {
         status: Status::Found,
-        location: Some(to),
+        location: Some(to.into_text()),
         media: Media::Page,
         body: page.into_octets(),
     })
@@ -132,14 +152,13 @@ fn put_list(page: &mut Page, references: &[Reference]) -> Result<(), AllocError>
 }
 
 #[tactic(auto, unfolding(crate::specs::Pages::link_part))]
-fn put_link(page: &mut Page, url: &[u8]) -> Result<(), AllocError>
-    ensures { OnOk result (page.new.octets.items ≡ page.old.octets.items ++ link_part url.now) }
+fn put_link(page: &mut Page, to: &Link, text: &[u8]) -> Result<(), AllocError>
+    ensures { OnOk result (page.new.octets.items ≡ page.old.octets.items ++ link_part to.now text.now) }
 {
-    let to = address(page.alloc, url)?;
     page.markup("<p class=\"data\"><a rel=\"noreferrer\" href=\"")?;
-    page.text(to.as_bytes())?;
+    page.text(to.octets())?;
     page.markup("\">")?;
-    page.text(url)?;
+    page.text(text)?;
     page.markup("</a></p>\n")
 }
 
@@ -161,10 +180,10 @@ fn put_octets(page: &mut Page, octets: &[u8]) -> Result<(), AllocError>
     if !is_plain(octets) {
         return put_digits(page, octets);
     }
-    if is_followed(octets) {
-        return put_link(page, octets);
+    match Link::followed(page.alloc, octets)? {
+        Some(link) => put_link(page, &link, octets),
+        None => page.element("<p class=\"data\">", octets, "</p>\n"),
     }
-    page.element("<p class=\"data\">", octets, "</p>\n")
 }
 
 fn put_data(page: &mut Page, value: &Value) -> Result<(), AllocError>
@@ -263,7 +282,8 @@ pub(crate) fn values_page(
     handle: &[u8],
     values: &[Value],
 ) -> Result<Answer, AllocError>
-    ensures { IfOk result (λ a. IsPageOf handle.now values.now a.body.items) }
+    ensures told { IfOk result (Tells Status.Success Media.Page) }
+    ensures body { IfOk result (λ a. IsPageOf handle.now values.now a.body.items) }
 {
     let mut page = Page::new(alloc, handle)?;
     put_values(&mut page, values)?;

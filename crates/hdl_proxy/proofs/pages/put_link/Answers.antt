@@ -1,8 +1,5 @@
-use Rattle.std.proofs.Common.{◌∙◌}
 use Rattle.std.specs.Prelude.{codes}
 use Rattle.std.proofs.lemmas.Result.{on_ok_weaker}
-use Rattle.percent_encoding.specs.Percent.{percent_encode}
-use Rattle.hdl_proxy.specs.declared.url.TheConstants.{IN_LOCATION}
 use Rattle.hdl_proxy.specs.Escape.{escaped}
 use Rattle.hdl_proxy.specs.Pages.{link_part}
 use Rattle.hdl_proxy.proofs.Joined.{five, said}
@@ -11,12 +8,12 @@ use Rattle.hdl_proxy.proofs.pages.put_link.Goals as goal
 pub returns : goal.returns
 unfolding link_part
 returns c =
-    let url = c.args.url.now in
+    let to = c.args.to.now in
     on_ok_weaker c.markup-3.result (λ put.
     five c.args.page.now.octets.items _ _ _ _ _
-    (codes "<p class=\"data\"><a rel=\"noreferrer\" href=\"") (escaped (percent_encode IN_LOCATION url)) (codes "\">") (escaped url) (codes "</a></p>\n")
+    (codes "<p class=\"data\"><a rel=\"noreferrer\" href=\"") (escaped to) (codes "\">") (escaped c.args.text.now) (codes "</a></p>\n")
     c.in_ok-markup.ensures
-    (said c.markup.new.self.octets.items _ c.as_bytes.result.now (percent_encode IN_LOCATION url) c.in_ok-text.ensures (c.as_bytes.ensures.value ∙ c.in_ok-to.ensures.spelt))
+    (said c.markup.new.self.octets.items _ c.octets.result.now to c.in_ok-text.ensures c.octets.ensures.octets)
     c.in_ok-markup-2.ensures
     c.in_ok-text-2.ensures
     put)

@@ -7,9 +7,9 @@ use Rattle.hdl_proxy.specs.Pages.{bottom, refusal_page}
 use Rattle.hdl_proxy.proofs.Joined.{five, said}
 use Rattle.hdl_proxy.proofs.pages.refusal.Goals as goal
 
-pub returns : goal.returns
+pub returns-clause-body : goal.returns-clause-body
 unfolding refusal_page
-returns c =
+returns-clause-body c =
     let why = c.args.why.now in
     let rest = codes "<p>" ++ (escaped why ++ (codes "</p>\n" ++ (ANOTHER.now ++ bottom))) in
     IfOk-weaker c.page_answer.result _ _ (λ a put.
@@ -20,4 +20,4 @@ returns c =
     c.in_ok-markup-3.ensures
     put
     ∙ ap (λ (t : List ℕ). t ++ rest) c.in_ok-page.ensures)
-    c.page_answer.ensures
+    c.page_answer.ensures.body
