@@ -6,6 +6,7 @@ use hdl_rows::PlainRows;
 use std::alloc::Global;
 use std::io::{self, Read, Write};
 use std::net::{IpAddr, Ipv4Addr, SocketAddr, TcpStream, UdpSocket};
+use std::process::Abort;
 use std::sync::Arc;
 use std::sync::atomic::AtomicBool;
 use std::sync::atomic::Ordering::SeqCst;
@@ -189,7 +190,7 @@ fn ask_datagrams(
 }
 
 /// A reply has this RequestId, and code 100.
-fn same_reply(rt: &HostRuntime, what: &str, reply: &[u8], request: u8) {
+fn same_reply(rt: &impl Abort, what: &str, reply: &[u8], request: u8) {
     same(
         rt,
         what,
