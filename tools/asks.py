@@ -12,6 +12,7 @@ import struct
 import subprocess
 import sys
 import threading
+import time
 
 ROOT = os.path.dirname(os.path.dirname(os.path.abspath(__file__)))
 PROGRAM = os.path.join(ROOT, "crates", "hdl", "out", "hdl")
@@ -49,19 +50,34 @@ LONG = frame(0, 1, message(101, 1, b"") + b"\0")
 
 
 
-def response(octet, mac):
-    body = string(b"HS_SECKEY") + string(b"0.NA/10") + number(300) + string(bytes([octet]) + mac)
-    return frame(1, 2, message(200, 0, body))
+def response(octet, mac, request=2, handle=b"0.NA/10", index=300):
+    body = string(b"HS_SECKEY") + string(handle) + number(index) + string(bytes([octet]) + mac)
+    return frame(1, request, message(200, 0, body))
 
 
-def keyed(make, digest):
-    key = SECRET.encode()
+def keyed(make, digest, secret=SECRET):
+    key = secret.encode()
     return make(key + bytes(16) + digest + key).digest()
 
 
 ASKED = frame(0, 1, DELETE)
 ANSWER = response(2, keyed(hashlib.sha1, DIGEST))
 ANSWER_256 = response(3, keyed(hashlib.sha256, DIGEST_256))
+
+# A batch with two keys, each of which answers for what stands below it.
+SECRETS = ("first-never-shown", "second-never-shown")
+KEYS = "AUTHENTICATE SECKEY:300:0.NA/10\n%s\nDELETE 10/c\n\nAUTHENTICATE SECKEY:301:0.NA/20\n%s\nDELETE 20/c\n" % SECRETS
+DELETE_20 = message(101, 0, string(b"20/c"))
+DIGEST_20 = hashlib.sha1(DELETE_20[:-4]).digest()
+KEYS_SENT = [OWN, DONE_SECOND, frame(1, 3, message(101, 402, b"\2" + DIGEST_20 + string(bytes(16)))), frame(1, 4, message(101, 1, b""))]
+KEYS_ASKED = [ASKED, response(2, keyed(hashlib.sha1, DIGEST, SECRETS[0])), frame(0, 3, DELETE_20),
+              response(2, keyed(hashlib.sha1, DIGEST_20, SECRETS[1]), 4, b"0.NA/20", 301)]
+KEYS_SAID = ["line 3: DELETE 10/c: 1 success", "line 7: DELETE 20/c: 1 success", "2 succeeded, 0 failed"]
+
+# A batch with a delete among creates, and which requests (RequestId and operation) come before an answer is given.
+VALUE = "1 URL 86400 1110 UTF8 a"
+ALONE = "CREATE 10/a\n%s\n\nCREATE 10/d\n%s\n\nDELETE 10/b\n\nCREATE 10/c\n%s\n" % (VALUE, VALUE, VALUE)
+ALONE_ASKED = [[(1, 100), (2, 100)], [(3, 101)], [(4, 100)]]
 
 # What a whole exchange sends: a server's octets, and the client's.
 WHOLE = (
@@ -187,6 +203,47 @@ def served_together(listener, came):
         end(stream)
 
 
+def asked_in(octets):
+    """The RequestId and the operation of each frame."""
+    found = []
+    while octets:
+        request, length = struct.unpack(">8xI4xI", octets[:20])
+        found.append((request, struct.unpack(">I", octets[20:24])[0]))
+        octets = octets[20 + length:]
+    return found
+
+
+def served_in_turn(listener, came):
+    """Takes what comes until nothing more does for a while, and answers that all of it is done, again and again."""
+    with listener.accept()[0] as stream:
+        stream.settimeout(0.5)
+        waiting = b""
+        while True:
+            try:
+                octets = stream.recv(65536)
+                if not octets:
+                    break
+                waiting += octets
+            except TimeoutError:
+                requests = asked_in(waiting)
+                if not requests:
+                    continue
+                came.append(requests)
+                stream.sendall(b"".join(frame(0, request, message(operation, 1, b"")) for request, operation in requests))
+                waiting = b""
+        end(stream)
+
+
+def served_slowly(listener, octets):
+    """Answers an octet each second, so that no read waits long and the whole answer does."""
+    with listener.accept()[0] as stream:
+        stream.recv(65536)
+        with contextlib.suppress(OSError):
+            for octet in octets:
+                stream.sendall(bytes([octet]))
+                time.sleep(1)
+
+
 def run(words, text=""):
     environment = dict(os.environ, HDL_SECRET=SECRET)
     return subprocess.run([PROGRAM, *words], input=text, env=environment, capture_output=True, text=True, check=False, timeout=60)
@@ -223,12 +280,19 @@ def exchanges():
     came = []
     done = asked(lambda listener: served_together(listener, came), ["batch"], FLIGHT)
     yield "requests in flight", done.returncode == 1 and came == FLIGHT_ASKED and done.stdout.splitlines() == FLIGHT_SAID
+    came = []
+    done = asked(lambda listener: served(listener, KEYS_SENT, came), ["batch"], KEYS)
+    yield "two keys", done.returncode == 0 and came == KEYS_ASKED and done.stdout.splitlines() == KEYS_SAID
+    came = []
+    done = asked(lambda listener: served_in_turn(listener, came), ["batch"], ALONE)
+    yield "a delete among creates", done.returncode == 0 and came == ALONE_ASKED
 
 
 def cases():
     """What is asked, what came, and the status and the words that should."""
     for name, sent, status, said in SERVERS:
         yield name, deleted(sent, []), status, said
+    yield "an octet a second", asked(lambda listener: served_slowly(listener, DONE), ["delete", "10/c", "--key", "300:0.NA/10"]), 3, "hdl: no answer in time"
     yield "nobody listens", run(["resolve", "10/a", "--server", "127.0.0.1:1"]), 3, "hdl: the connection failed"
     for words, text, said in WORDS:
         yield " ".join(words), run(words, text), 2, said

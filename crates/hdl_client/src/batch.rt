@@ -1,12 +1,16 @@
 //! Many requests on one connection, several of them in flight.
 
+ghost use Rattle.std.specs.Prelude.{◌≡◌, ◌↔◌, IsTrue, All, IfOk, option_copied};
+ghost use Rattle.hdl_msg.specs.ReplyView.{reply_seen};
+ghost use Rattle.hdl_client.specs.Batch.{OrderMatters, key_of, Lands};
+
 use crate::challenge::{Key, challenge_answer};
-use crate::exchange::{receive, send};
+use crate::exchange::receive;
 use crate::fault::ClientFault;
 use crate::session::{Session, whole};
-use hdl_frame::Frame;
 use hdl_limits::CHALLENGES_MAX;
-use hdl_msg::read_reply;
+use hdl_msg::{ReplyView, read_reply};
+use std::alloc::Global;
 use std::io::{Read, Write};
 
 /// A request of a batch.
@@ -38,24 +42,36 @@ pub trait Outcomes {
     fn done(&mut self, task: &Task, code: u32);
 }
 
-/// A request that waits for its reply: which task it is, the RequestId of what was sent last for it, and whether that answers a
-/// challenge.
+/// A request that waits for its reply: its task, the RequestId of what was sent last for it, and whether that answers a challenge.
 #[derive(Clone, Copy)]
-struct Flight {
-    task: usize,
+struct Flight<'b> {
+    task: &'b Task,
     request: u32,
     is_answer: bool,
 }
 
-/// Whether a task may fly with those in flight: their handles are others, and none of them flies alone.
-fn may_fly(tasks: &[Task], next: &Task, flights: &[Flight]) -> bool {
-    if next.is_alone {
-        return flights.is_empty();
-    }
-    flights.iter().all(|flight| match tasks.get(flight.task) {
-        Some(other) => !other.is_alone && other.handle.as_slice() != next.handle.as_slice(),
-        None => true,
-    })
+/// Whether two tasks have to be done one after the other: they are of one handle, or one of them flies alone.
+fn order_matters(one: &Task, other: &Task) -> bool
+    ensures { IsTrue result ↔ OrderMatters one.now other.now }
+{
+    one.is_alone || other.is_alone || one.handle.as_slice() == other.handle.as_slice()
+}
+
+/// Whether a task may fly with those in flight: with none of them its order matters.
+fn may_fly(next: &Task, flights: &[Flight<'_>]) -> bool
+    ensures { IsTrue result ↔ All (λ flight. ¬ (OrderMatters flight.task.now next.now)) flights.now }
+{
+    flights
+        .iter()
+        .all(|flight| !order_matters(flight.task, next))
+}
+
+/// The key that stands above a task in the batch's text, if one does.
+fn key_of<'b>(keys: &'b [Key], task: &Task) -> Option<&'b Key>
+    ensures { option_copied result ≡ key_of keys.now task.now }
+{
+    let place = task.key?;
+    keys.get(place)
 }
 
 /// What a frame that came is to a flight.
@@ -67,8 +83,30 @@ enum Landing {
     Challenge(Vec<u8>),
 }
 
+/// What a reply is to the flight that it answers. A challenge is answered once, by the task's key.
+fn land_reply(
+    alloc: Global,
+    keys: &[Key],
+    flight: &Flight<'_>,
+    reply: &ReplyView<'_>,
+) -> Result<Landing, ClientFault>
+    ensures { IfOk result (λ landing. Lands keys.now flight.now.task.now (reply_seen reply.now) landing) }
+{
+    let code = reply.header.response_code;
+    let Some(key) = key_of(keys, flight.task) else {
+        return Ok(Landing::Done(code));
+    };
+    if flight.is_answer {
+        return Ok(Landing::Done(code));
+    }
+    match challenge_answer(alloc, key, &flight.task.message, reply)? {
+        Some(answer) => Ok(Landing::Challenge(answer)),
+        None => Ok(Landing::Done(code)),
+    }
+}
+
 /// Takes the flight of the request with this number out of those under way.
-fn take_flight(flights: &mut Vec<Flight>, request: u32) -> Result<Flight, ClientFault> {
+fn take_flight<'b>(flights: &mut Vec<Flight<'b>>, request: u32) -> Result<Flight<'b>, ClientFault> {
     match flights.iter().position(|flight| flight.request == request) {
         Some(place) => Ok(flights.remove(place)),
         None => Err(ClientFault::OtherRequest),
@@ -76,37 +114,11 @@ fn take_flight(flights: &mut Vec<Flight>, request: u32) -> Result<Flight, Client
 }
 
 impl<S: Read + Write> Session<S> {
-    /// What the frame is to the flight that it answers.
-    fn landing(
-        &self,
-        batch: &Batch,
-        flight: &Flight,
-        frame: &Frame<'_>,
-    ) -> Result<Landing, ClientFault> {
-        let Ok(reply) = read_reply(frame.payload()) else {
-            return Err(ClientFault::NoReply);
-        };
-        let code = reply.header.response_code;
-        let Some(task) = batch.tasks.get(flight.task) else {
-            return Ok(Landing::Done(code));
-        };
-        let key = task.key.and_then(|key| batch.keys.get(key));
-        match key {
-            Some(key) if !flight.is_answer => {
-                match challenge_answer(self.alloc, key, &task.message, &reply)? {
-                    Some(answer) => Ok(Landing::Challenge(answer)),
-                    None => Ok(Landing::Done(code)),
-                }
-            }
-            _ => Ok(Landing::Done(code)),
-        }
-    }
-
     /// Sends what may fly, from the task `next` on; answers which task is next then.
-    fn fill(
+    fn fill<'b>(
         &mut self,
-        batch: &Batch,
-        flights: &mut Vec<Flight>,
+        batch: &'b Batch,
+        flights: &mut Vec<Flight<'b>>,
         next: usize,
     ) -> Result<usize, ClientFault> {
         let mut next = next;
@@ -114,12 +126,12 @@ impl<S: Read + Write> Session<S> {
             let Some(task) = batch.tasks.get(next) else {
                 break;
             };
-            if !may_fly(&batch.tasks, task, flights) {
+            if !may_fly(task, flights) {
                 break;
             }
             let request = self.send_next(0, &task.message)?;
             flights.push(Flight {
-                task: next,
+                task,
                 request,
                 is_answer: false,
             })?;
@@ -128,41 +140,28 @@ impl<S: Read + Write> Session<S> {
         Ok(next)
     }
 
-    /// Answers the challenge of a task.
-    fn redeem_in_flight(
-        &mut self,
-        flights: &mut Vec<Flight>,
-        task: usize,
-        session: u32,
-        answer: &[u8],
-    ) -> Result<(), ClientFault> {
-        let request = self.send_next(session, answer)?;
-        flights.push(Flight {
-            task,
-            request,
-            is_answer: true,
-        })?;
-        Ok(())
-    }
-
     /// Takes one frame, and answers the challenge or tells the outcome.
-    fn land<O: Outcomes>(
+    fn land<'b, O: Outcomes>(
         &mut self,
-        batch: &Batch,
-        flights: &mut Vec<Flight>,
+        batch: &'b Batch,
+        flights: &mut Vec<Flight<'b>>,
         outcomes: &mut O,
     ) -> Result<(), ClientFault> {
         let octets = receive(self.alloc, &mut self.stream)?;
         let frame = whole(&octets)?;
         let flight = take_flight(flights, frame.envelope.request)?;
-        match self.landing(batch, &flight, &frame)? {
-            Landing::Done(code) => {
-                if let Some(task) = batch.tasks.get(flight.task) {
-                    outcomes.done(task, code);
-                }
-            }
+        let Ok(reply) = read_reply(frame.payload()) else {
+            return Err(ClientFault::NoReply);
+        };
+        match land_reply(self.alloc, &batch.keys, &flight, &reply)? {
+            Landing::Done(code) => outcomes.done(flight.task, code),
             Landing::Challenge(answer) => {
-                self.redeem_in_flight(flights, flight.task, frame.envelope.session, &answer)?;
+                let request = self.send_next(frame.envelope.session, &answer)?;
+                flights.push(Flight {
+                    task: flight.task,
+                    request,
+                    is_answer: true,
+                })?;
             }
         }
         Ok(())

@@ -6,6 +6,7 @@ use hdl_rows::PlainRows;
 use std::alloc::Global;
 use std::io::{self, Read, Write};
 use std::net::{IpAddr, Ipv4Addr, SocketAddr, TcpStream, UdpSocket};
+use std::process::Abort;
 use std::sync::Arc;
 use std::sync::atomic::AtomicBool;
 use std::sync::atomic::Ordering::SeqCst;
@@ -136,33 +137,76 @@ fn pieces(alloc: Global) -> io::Result<Vec<Vec<u8>>> {
     Ok(pieces)
 }
 
-/// Sends the pieces by UDP until the server has ended, and then reads one reply.
+/// A datagram client at a port of its own.
+fn datagram_client(rt: &HostRuntime) -> io::Result<UdpSocket> {
+    let socket = UdpSocket::bind(rt, SocketAddr::new(IpAddr::V4(Ipv4Addr::LOCALHOST), 0))?;
+    socket.set_read_timeout(Some(Duration::from_secs(2)))?;
+    Ok(socket)
+}
+
+/// The first datagram that came to a client.
+fn first_datagram(alloc: Global, socket: &UdpSocket) -> io::Result<Vec<u8>> {
+    let mut buffer = [0u8; 512];
+    let (length, _) = socket.recv_from(&mut buffer)?;
+    Ok(Vec::from_slice(alloc, &buffer[..length.min(512)])?)
+}
+
+/// The frame with RequestId 2.
+fn second_frame(alloc: Global) -> io::Result<Vec<u8>> {
+    let mut frame = decoded(alloc, FRAME)?;
+    if let Some(last) = frame.get_mut(11) {
+        *last = 2;
+    }
+    Ok(frame)
+}
+
+/// Two clients ask by UDP in turn until the server has ended, one in pieces under RequestId 1, one in a frame under RequestId 2; then
+/// each reads one reply.
 fn ask_datagrams(
     rt: &HostRuntime,
     alloc: Global,
     told: &AtomicBool,
     ended: &AtomicBool,
-) -> io::Result<Vec<u8>> {
+) -> io::Result<(Vec<u8>, Vec<u8>)> {
     let pieces = pieces(alloc)?;
-    let socket = UdpSocket::bind(rt, SocketAddr::new(IpAddr::V4(Ipv4Addr::LOCALHOST), 0))?;
-    socket.set_read_timeout(Some(Duration::from_secs(2)))?;
+    let frame = second_frame(alloc)?;
+    let (first, second) = (datagram_client(rt)?, datagram_client(rt)?);
     for _ in 0..60_000 {
         if ended.load(SeqCst) {
             break;
         }
         if told.load(SeqCst) {
             for piece in &pieces {
-                socket.send_to(piece.as_slice(), server())?;
+                first.send_to(piece.as_slice(), server())?;
             }
+            second.send_to(frame.as_slice(), server())?;
         }
         thread::sleep(rt, Duration::from_millis(1));
     }
-    let mut buffer = [0u8; 512];
-    let (length, _) = socket.recv_from(&mut buffer)?;
-    Ok(Vec::from_slice(alloc, &buffer[..length.min(512)])?)
+    Ok((
+        first_datagram(alloc, &first)?,
+        first_datagram(alloc, &second)?,
+    ))
 }
 
-/// Each whole answer over TCP is the reply, at least one is whole, and the message in pieces is answered over UDP.
+/// A reply has this RequestId, and code 100.
+fn same_reply(rt: &impl Abort, what: &str, reply: &[u8], request: u8) {
+    same(
+        rt,
+        what,
+        reply.get(8..12),
+        Some([0u8, 0, 0, request].as_slice()),
+    );
+    same(
+        rt,
+        what,
+        reply.get(24..28),
+        Some([0u8, 0, 0, 100].as_slice()),
+    );
+}
+
+/// Each whole answer over TCP is the reply, at least one is whole, and of two clients over UDP each gets its own answer, one to a
+/// message in pieces.
 #[test]
 fn sockets(rt: HostRuntime) -> Result<(), Fail> {
     let alloc = rt.alloc();
@@ -187,7 +231,7 @@ fn sockets(rt: HostRuntime) -> Result<(), Fail> {
     );
     ended.store(true, SeqCst);
     let (whole, others) = streams.join(&rt)?;
-    let reply = datagrams.join(&rt)?;
+    let (first, second) = datagrams.join(&rt)?;
     same(&rt, "status", status, 0);
     same(
         &rt,
@@ -198,11 +242,7 @@ fn sockets(rt: HostRuntime) -> Result<(), Fail> {
     same(&rt, "faults", faults.as_slice(), b"".as_slice());
     same(&rt, "others", others, 0);
     assert!(rt; whole > 0);
-    same(
-        &rt,
-        "the code by UDP",
-        reply.get(24..28),
-        Some([0u8, 0, 0, 100].as_slice()),
-    );
+    same_reply(&rt, "the first client by UDP", &first, 1);
+    same_reply(&rt, "the second client by UDP", &second, 2);
     Ok(())
 }

@@ -1,7 +1,8 @@
 -- Serving goes on by a batch that is gathered, and by one that is answered.
-use Rattle.std.proofs.Common.{◌≡◌, ℕ, suc, ◌<◌, ◌≤◌, List, [], ◌∷◌, ◌++◌, length, get_or, take, drop, Bool, true, false, refl, inl, inr, sym, ap, ◌∙◌, subst, arith}
+use Rattle.std.proofs.Common.{◌≡◌, ℕ, zero, suc, ◌<◌, ◌≤◌, List, [], ◌∷◌, ◌++◌, length, get_or, take, drop, Bool, true, false, All, refl, inl, inr, sym, ap, ◌∙◌, subst, arith}
 use Rattle.std.specs.List.{AllZip}
 use Rattle.std.proofs.lemmas.List.{append-nil, append_assoc, map-append, length-map, drop_all, take_all}
+use Rattle.std.proofs.lemmas.List.Elements.{All-nil, All-cons, All-append}
 use Rattle.hdl_lanes.specs.Lane.{put_into, taken_from}
 use Rattle.hdl_events.specs.declared.What.{What}
 use Rattle.hdl_events.specs.declared.Event.{Event}
@@ -13,7 +14,7 @@ use Rattle.hdl_workers.specs.declared.item.Item.{Item}
 use Rattle.hdl_workers.specs.declared.ends.LaneEnds.{LaneEnds}
 use Rattle.hdl_workers.specs.Sign.{WithEnd}
 use Rattle.hdl_workers.specs.Ends.{AreDistinct}
-use Rattle.hdl_serve.specs.Served.{events_in, items_of, beside, lanes_of, whats_of, events_on, outcomes_on, LaneServed, IsServed}
+use Rattle.hdl_serve.specs.Served.{events_in, items_of, beside, lanes_of, whats_of, events_on, outcomes_on, IsOnOne, LaneServed, IsServed}
 use Rattle.hdl_serve.specs.Rounds.{AreWithEnd, Takes, Answers, HaveRoom, IsOf, IsGathered, IsDelivered, LaneServing, IsServing}
 use Rattle.hdl_workers.proofs.Same.{same_inlet, same_outlet, itself_inlet, itself_outlet}
 use Rattle.hdl_serve.proofs.Beside.{beside-append, once, by_number}
@@ -46,6 +47,21 @@ of_before olds news (p ∷ ps) (e ∷ es) long same of =
     let there : p < length olds = subst (λ n. p < n) long of.0.0 in
     ((there, λ d. sym (same p d there) ∙ of.0.1 d), of_before olds news ps es long same of.1)
 
+-- ---- each event is of a lane
+
+on_one : (lanes : List LaneEnds) (p : ℕ) (e : Event) → IsOf lanes p e → IsOnOne lanes e
+on_one [] p e is = absurd (omega (arith, is.0))
+on_one (a ∷ lanes) zero e is = (0, omega arith, is.1 a)
+on_one (a ∷ lanes) (suc p) e is =
+    let rest = on_one lanes p e (omega (arith, is.0), is.1) in
+    (suc rest.0, omega (arith, rest.1), rest.2)
+
+all_on_one : (lanes : List LaneEnds) (ps : List ℕ) (es : List Event) → AllZip (IsOf lanes) ps es → All (IsOnOne lanes) es
+all_on_one lanes [] [] of = All-nil (IsOnOne lanes)
+all_on_one lanes [] (e ∷ es) of = absurd of
+all_on_one lanes (p ∷ ps) [] of = absurd of
+all_on_one lanes (p ∷ ps) (e ∷ es) of = All-cons (IsOnOne lanes) e es (on_one lanes p e of.0) (all_on_one lanes ps es of.1)
+
 -- ---- steps of serving
 
 -- an End that was taken is the last item
@@ -60,6 +76,7 @@ serving_first w lanes ended ps es distinct going none nowhere =
       events = [];
       outcomes = [];
       run = ([], tt, refl, refl, refl);
+      given = All-nil (IsOnOne lanes);
       lanes = record {
         long = refl;
         each = λ n d below. record {
@@ -120,6 +137,7 @@ filled w mid before lanes after was now ps qs es fs none g h =
       events = h.events;
       outcomes = h.outcomes;
       run = h.run;
+      given = h.given;
       lanes = record { long = g.each.long ∙ h.lanes.long; each = each };
       room = subst (λ m. HaveRoom after 0 m qs) h.lanes.long g.room;
       of = of;
@@ -163,6 +181,7 @@ answered_on joins w mid new before lanes after ended ps qs es fs os nowhere none
       events = h.events ++ es;
       outcomes = h.outcomes ++ os;
       run = joins w mid new h.events es h.outcomes os h.run run;
+      given = All-append (IsOnOne before) h.events es h.given (all_on_one before ps es h.of);
       lanes = record { long = g.long ∙ h.lanes.long; each = each };
       room = tt;
       of = tt;
@@ -193,6 +212,8 @@ served restricts twins w new before after ended ps es no_root h = record {
   isolated = λ ts run is os. restricts w ts no_root run;
   hidden = λ ts run is os. twins w ts run;
   lanes = zip_each (LaneServed h.events h.outcomes es) before after h.lanes.long (λ n d below. (h.lanes.each n d below).served);
+  of = h.given;
+  kept_of = all_on_one before ps es h.of;
 }
 
 -- the lanes that come back still have numbers of their own

@@ -1,5 +1,5 @@
 -- What one round does, lane by lane, by the lanes' places.
-use Rattle.std.specs.Prelude.{◌≡◌, ◌≤◌, ◌<◌, ◌+◌, ℕ, Bool, true, false, List, [], ◌∷◌, ◌++◌, length, get_or, ⊤}
+use Rattle.std.specs.Prelude.{◌≡◌, ◌≤◌, ◌<◌, ◌+◌, ℕ, Bool, true, false, List, [], ◌∷◌, ◌++◌, All, length, get_or, ⊤}
 use Rattle.std.specs.List.{AllZip}
 use Rattle.hdl_lanes.specs.Lane.{put_into, taken_from, known_room, SameInlet, SameOutlet}
 use Rattle.hdl_events.specs.declared.What.{What}
@@ -10,7 +10,7 @@ use Rattle.hdl_laws.specs.Runs.{Run}
 use Rattle.hdl_workers.specs.declared.item.Item.{Item}
 use Rattle.hdl_workers.specs.declared.ends.LaneEnds.{LaneEnds}
 use Rattle.hdl_workers.specs.Ends.{AreDistinct}
-use Rattle.hdl_serve.specs.Served.{events_in, items_of, beside, whats_of, events_on, LaneServed}
+use Rattle.hdl_serve.specs.Served.{events_in, items_of, beside, whats_of, events_on, IsOnOne, LaneServed}
 
 -- the items are these, and End behind them where the lane has ended
 abbrev pub AreWithEnd : Bool → List Item → List Item → Type 0
@@ -70,6 +70,7 @@ pub record IsServing (w : World) (before : List LaneEnds) (new : World) (after :
   pub events : List Event
   pub outcomes : List Outcome
   pub run : Run w events outcomes new
+  pub given : All (IsOnOne before) events
   pub lanes : EachLane (λ place a b. LaneServing (get_or ended place false) events outcomes batch a b) before after
   pub room : HaveRoom after 0 (length before) places
   pub of : AllZip (IsOf before) places batch

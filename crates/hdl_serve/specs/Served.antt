@@ -1,5 +1,5 @@
 -- What a serving loop does with its lanes.
-use Rattle.std.specs.Prelude.{◌≡◌, ◌≤◌, ℕ, List, [], ◌∷◌, ◌++◌, ◌==◌, if◌then◌else◌, Option, Some, None, length, map, filter_map}
+use Rattle.std.specs.Prelude.{◌≡◌, ◌≤◌, ℕ, List, [], ◌∷◌, ◌++◌, ◌==◌, if◌then◌else◌, Option, Some, None, All, Contains, length, map, filter_map}
 use Rattle.std.specs.List.{AllZip}
 use Rattle.hdl_lanes.specs.Lane.{put_into, taken_from, SameInlet, SameOutlet}
 use Rattle.hdl_events.specs.declared.What.{What}
@@ -56,8 +56,13 @@ pub record LaneServed (events : List Event) (outcomes : List Outcome) (kept : Li
   pub end_last : WithEnd (taken_from a.items ++ items_of (events_on a.lane events ++ events_on a.lane kept)) (taken_from b.items)
   pub put : put_into b.outcomes ≡ put_into a.outcomes ++ outcomes_on a.lane events outcomes
 
+-- the event bears the number of one of the lanes
+abbrev pub IsOnOne : List LaneEnds → Event → Type 0
+IsOnOne lanes e = Contains (map (λ a. a.lane) lanes) e.lane
+
 -- there are one list of events and one of outcomes that are a run from one world to the other, isolate each publisher and hide what
--- may not be read; and each lane gave its events of that list, and was given their outcomes
+-- may not be read; each lane gave its events of that list, and was given their outcomes; and no event of it, nor a kept one, is of
+-- another lane
 pub record IsServed (w : World) (before : List LaneEnds) (new : World) (after : List LaneEnds) (kept : List Event) : Type 0 where
   pub events : List Event
   pub outcomes : List Outcome
@@ -65,3 +70,5 @@ pub record IsServed (w : World) (before : List LaneEnds) (new : World) (after : 
   pub isolated : Isolated w events outcomes
   pub hidden : Hidden w events outcomes
   pub lanes : AllZip (LaneServed events outcomes kept) before after
+  pub of : All (IsOnOne before) events
+  pub kept_of : All (IsOnOne before) kept

@@ -9,8 +9,8 @@
 //! each outcome into its event's lane. What stands between a lane and a socket is `hdl_workers`, which knows no service; its names are
 //! passed on here.
 //!
-//! Promised of `serve`: what the lanes gave is a run of the service, in which publishers are isolated and no reply tells of a value
-//! that may not be read, and each lane was given its events' outcomes. [`laws`] joins this with what the workers promise: after the joins
+//! Promised of `serve`: what the lanes gave, and nothing else, is a run of the service, in which publishers are isolated and no reply
+//! tells of a value that may not be read, and each lane was given its events' outcomes. [`laws`] joins this with what the workers promise: after the joins
 //! what was put is what was served and what is left.
 //!
 //! Nothing here takes a lock or waits for anybody: what finds nothing pauses by the caller's [`Clock`], and all is bounded by a

@@ -91,7 +91,8 @@ fn turn<R: Rows + Drop>(
 /// There are one list of events and one list of their outcomes that are a run from the service handed in to the one given back;
 /// each publisher is isolated in it, and no reply tells of a value that may not be read. The lanes' ends come back in their
 /// order. What was taken from each lane is its events in that list, followed by at most one that is kept, and then by at most one
-/// End; what was put into it is its events' outcomes, in order. The lanes that come back may be served again.
+/// End; what was put into it is its events' outcomes, in order. Each event of that list, and each that is kept, bears the number of a
+/// lane that was handed in: the list is what was taken from the lanes, and nothing else. The lanes that come back may be served again.
 pub fn serve<R: Rows + Drop, C: Clock>(
     alloc: Global,
     service: Service<R>,

@@ -1,10 +1,9 @@
 //! Servers that are asked one after another.
 
-use hdl_client::{ClientFault, Session, connect};
+use hdl_client::{ClientFault, Connection, Session, connect};
 use hdl_msg::read_reply;
 use hdl_proxy::{NoAnswer, Resolver};
 use std::alloc::{AllocError, Global};
-use std::net::TcpStream;
 
 /// The code of a reply that refers to another service.
 const REFERRAL: u32 = 302;
@@ -14,7 +13,7 @@ const REFERRAL: u32 = 302;
 struct Server {
     /// `HOST:PORT`
     name: String,
-    session: Option<Session<TcpStream>>,
+    session: Option<Session<Connection>>,
 }
 
 /// Servers, each with the prefixes that it answers for, asked one question at a time. Connections are kept.

@@ -1,0 +1,123 @@
+#!/usr/bin/env python3
+"""Sees that what README.md, docs/ and comments cite is there, and that docs/PROTOCOL.md has the numbers of the limits.
+
+- `FUNCTION` (`CLAUSE`, ..) of README.md and docs/: some function of that name has each clause, or a record of specs/ has a field of that name.
+- must-fail `NAME`, ..: there is an edit of that name; and each edit is named in docs/PROMISES.md.
+- docs/PAGE.md, "SECTION" of crates/ and docs/: the page has a heading that begins so.
+- tools/NAME, bench/NAME and examples/NAME, wherever they are named: there is such a file (words in capitals stand for any). A file of tools/ or
+  bench/ that nothing names or imports is told too.
+- docs/PROTOCOL.md, "Limits": each row has the number of its constant, and each number of hdl_limits' `numbers` has a row.
+
+Prints what isn't there, and then the exit status is 1."""
+
+import glob
+import os
+import re
+import sys
+
+ROOT = os.path.dirname(os.path.dirname(os.path.abspath(__file__)))
+NAME = r"`(?:\w+::)*(\w+)`"
+LIST = r"((?:`\w+`(?:, | and )?)+)"
+FUNCTION = re.compile(r"^\s*(?:pub(?:\(crate\))? )?fn (\w+)")
+CLAUSE = re.compile(r"^\s*(?:ensures|requires)\*? (\w+) \{")
+LIMIT = re.compile(r"^    ensures \w+ \{ (\w+) ≡ (\d+) \}$", re.MULTILINE)
+INPUT_LIMIT = re.compile(r"^pub const (INPUT_LIMIT): usize = ([\d_]+);$", re.MULTILINE)
+ROW = re.compile(r"^\| [^|]* \| ([\d,]+) \| `(\w+)` \|$", re.MULTILINE)
+SCRIPTS = ("check", "run", "hdl", "test", "try", ".ci/*")
+
+
+def text_of(path):
+    with open(path, encoding="utf-8") as text:
+        return text.read()
+
+
+def files(*patterns):
+    found = sorted(path for pattern in patterns for path in glob.glob(pattern, recursive=True) if os.path.isfile(path))
+    return [path for path in found if "/out/" not in path and "__pycache__" not in path]
+
+
+def clauses():
+    """The clauses of the functions of each name."""
+    found = {}
+    for path in files("crates/*/src/**/*.rt"):
+        current = None
+        for line in text_of(path).splitlines():
+            if FUNCTION.match(line):
+                current = found.setdefault(FUNCTION.match(line)[1], set())
+            elif CLAUSE.match(line) and current is not None:
+                current.add(CLAUSE.match(line)[1])
+    return found
+
+
+def fields():
+    """The fields of all records of definitions."""
+    return {name for path in files("crates/*/specs/*.antt") for name in re.findall(r"^  pub (\w+) :", text_of(path), re.MULTILINE)}
+
+
+def pages():
+    """Each line of README.md and docs/, with its page and number."""
+    for path in files("README.md", "docs/*.md"):
+        for number, line in enumerate(text_of(path).splitlines(), 1):
+            yield path, number, line
+
+
+def missing_clauses():
+    of, records = clauses(), fields()
+    for path, number, line in pages():
+        for name, cited in re.findall(NAME + r" \(" + LIST + r"\)", line):
+            for clause in re.findall(r"\w+", cited.replace(" and ", " ")):
+                if name in of and clause not in of[name] and clause not in records:
+                    yield "%s:%d: %s has no clause %s" % (path, number, name, clause)
+
+
+def missing_edits():
+    edits = {os.path.basename(path)[: -len(".edit")] for path in files("crates/*/must-fail/*.edit")}
+    named = set()
+    for path, number, line in pages():
+        for cited in re.findall(r"must-fail " + LIST, line):
+            for edit in re.findall(r"`(\w+)`", cited):
+                named.add(edit)
+                if edit not in edits:
+                    yield "%s:%d: there is no edit %s" % (path, number, edit)
+    for edit in sorted(edits - named):
+        yield "docs/PROMISES.md doesn't name the edit %s" % edit
+
+
+def missing_places():
+    headings = {os.path.basename(path): re.findall(r"^#+ (.*)$", text_of(path), re.MULTILINE) for path in files("docs/*.md")}
+    named = set()
+    for path in files("README.md", "docs/*.md", "crates/**/*.rt", "crates/**/*.antt", "tools/*", "bench/*", *SCRIPTS):
+        for number, line in enumerate(text_of(path).splitlines(), 1):
+            for page, section in re.findall(r'docs/(\w+\.md), "([^"]+)"', line):
+                if not section.isupper() and not any(heading.startswith(section) for heading in headings.get(page, [])):
+                    yield "%s:%d: docs/%s has no section %s" % (path, number, page, section)
+            named |= {"tools/%s.py" % module for module in re.findall(r"^import (\w+)$", line)}
+            for cited in re.findall(r"\b((?:tools|bench|examples)/[\w.-]*\w)", line):
+                if os.path.isfile(cited):
+                    named |= {cited} if cited != path else set()
+                elif not cited.split("/")[1].split(".")[0].isupper() and not os.path.isdir(cited) and not os.path.isfile(cited.rstrip("s")):
+                    yield "%s:%d: there is no %s" % (path, number, cited)
+    for path in files("tools/*", "bench/*"):
+        if path not in named:
+            yield "%s: nothing names it" % path
+
+
+def wrong_limits():
+    limits = {name: int(number) for name, number in LIMIT.findall(text_of("crates/hdl_limits/src/lib.rt"))}
+    limits.update((name, int(number)) for name, number in INPUT_LIMIT.findall(text_of("crates/hdl_replay/src/input.rt")))
+    rows = {name: int(number.replace(",", "")) for number, name in ROW.findall(text_of("docs/PROTOCOL.md"))}
+    for name in sorted(limits.keys() | rows.keys()):
+        if limits.get(name) != rows.get(name):
+            yield "docs/PROTOCOL.md: %s is %s there, and %s in the code" % (name, rows.get(name), limits.get(name))
+
+
+def main():
+    os.chdir(ROOT)
+    found = [fault for faults in (missing_clauses, missing_edits, missing_places, wrong_limits) for fault in faults()]
+    for fault in found:
+        print(fault)
+    print("citations: %d faults" % len(found))
+    sys.exit(1 if found else 0)
+
+
+main()
