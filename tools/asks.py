@@ -101,6 +101,7 @@ FLIGHT_ASKED = [resolution(1, b"10/a") + resolution(2, b"10/b") + resolution(3, 
 FLIGHT_SAID = ["line 3: RESOLVE 10/b: 100 handle not found", "line 1: RESOLVE 10/a: 100 handle not found",
                "line 5: RESOLVE 10/a: 100 handle not found", "0 succeeded, 3 failed", "failed: line 3", "failed: line 1", "failed: line 5"]
 
+
 def value(index, kind, data, permissions):
     return number(index) + string(kind) + string(data) + bytes([0]) + number(86400) + bytes([permissions]) + bytes(8) + number(0)
 
