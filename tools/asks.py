@@ -1,5 +1,5 @@
 """asks.py: asks with the proved program crates/hdl/out/hdl, and compares the octets that it sends, what it says and its exit status: of whole
-exchanges, challenges and requests in flight among them, and where no good answer comes.
+exchanges, challenges and requests in flight among them, of answers with a key or with control characters, and where no good answer comes.
 
 Servers stand in this program: they send the octets of a case, written here from docs/PROTOCOL.md, and close. Words that are no request
 are asked of nobody. Its last line is 'N passed, M failed', a case counting one."""
@@ -101,6 +101,32 @@ FLIGHT_ASKED = [resolution(1, b"10/a") + resolution(2, b"10/b") + resolution(3, 
 FLIGHT_SAID = ["line 3: RESOLVE 10/b: 100 handle not found", "line 1: RESOLVE 10/a: 100 handle not found",
                "line 5: RESOLVE 10/a: 100 handle not found", "0 succeeded, 3 failed", "failed: line 3", "failed: line 1", "failed: line 5"]
 
+
+def value(index, kind, data, permissions):
+    return number(index) + string(kind) + string(data) + bytes([0]) + number(86400) + bytes([permissions]) + bytes(8) + number(0)
+
+
+KEY = value(300, b"HS_SECKEY", SECRET.encode(), 12)
+KEY_LINE = "300 HS_SECKEY 86400 1100 UTF8 %s" % SECRET
+KEY_ANSWER = frame(0, 1, message(1, 1, string(b"10/k") + number(1) + KEY))
+LIST_ANSWER = frame(0, 1, message(105, 1, number(2) + string(b"10/a\n10/b") + string(b"10/\x1b[2J\xc2\x9b")))
+
+# Of an answer: its name, its octets, what is asked, and what is printed on both outputs.
+ANSWERS = (
+    ("a key", KEY_ANSWER, ["resolve", "10/k"], ";; reply to resolve 1, session 0: 1 success\n10/k\n300 HS_SECKEY HIDDEN 11 octets\n"),
+    ("a key, short", KEY_ANSWER, ["resolve", "10/k", "--short"], "HIDDEN 11 octets\n"),
+    ("a key that is asked for", KEY_ANSWER, ["resolve", "10/k", "--keys"], ";; reply to resolve 1, session 0: 1 success\n10/k\n%s\n" % KEY_LINE),
+    ("a key that is asked for, short", KEY_ANSWER, ["resolve", "10/k", "--keys", "--short"], SECRET + "\n"),
+    ("control characters in handles", LIST_ANSWER, ["list", "10", "--short"], "10/a\\u{a}10/b\n10/\\u{1b}[2J\\u{9b}\n"),
+)
+
+# A batch that writes a key, and one whose handle would drive a terminal.
+KEY_BATCH = "CREATE 10/k\n%s\n" % KEY_LINE
+KEY_ASKED = frame(0, 1, message(100, 0, string(b"10/k") + number(1) + KEY))
+KEY_DONE = frame(0, 1, message(100, 1, b""))
+CONTROL_BATCH = "RESOLVE 10/\x1b[2J\n"
+CONTROL_SAID = ["line 1: RESOLVE 10/\\u{1b}[2J: 100 handle not found", "0 succeeded, 1 failed", "failed: line 1"]
+
 # Of a server: its name, what it sends to each frame that comes, and what `hdl delete 10/c --key 300:0.NA/10` answers.
 SERVERS = (
     ("it is done", [DONE], 0, ""),
@@ -119,11 +145,18 @@ SERVERS = (
     ("its challenge again", [OWN, frame(1, 2, OWN[20:])], 1, "hdl: 402 authentication needed"),
 )
 
+KEY_REFUSED = ("hdl: a key can't stand on the command line, where others on this machine can read its secret: "
+               "write it by `hdl batch`, from standard input")
+
 # Words that are no request: arguments, standard input, and what is said.
 WORDS = (
     (["resolve", "10/a", "--index", "0"], "", "hdl: an index isn't a number from 1 on"),
     (["create", "10/a", "1 URL 86400 111 UTF8 a"], "", "hdl: the permissions aren't four digits 0 or 1"),
     (["create", "10/a", "0 URL 86400 1110 UTF8 a"], "", "hdl: the value's index is 0"),
+    (["create", "10/k", KEY_LINE], "", KEY_REFUSED),
+    (["add", "10/k", "1 URL 86400 1110 UTF8 a", KEY_LINE], "", KEY_REFUSED),
+    (["modify", "10/k", "OCTETS " + KEY.hex()], "", KEY_REFUSED),
+    (["create", "10/k", "300 HS_SECKEY HIDDEN 11 octets"], "", "hdl: its data is hidden"),
     (["delete", "10/c", "--key", "10/c"], "", "hdl: a key isn't INDEX:HANDLE"),
     (["batch"], "CREATE\n", "hdl: line 1: no such operation"),
     (["batch"], "MOVE 10/a\n", "hdl: line 1: no such operation"),
@@ -237,6 +270,14 @@ def exchanges():
         came = []
         done = deleted(sent, came)
         yield name, done.returncode == 0 and came == wanted
+    for name, sent, words, said in ANSWERS:
+        done = asked(lambda listener: served(listener, [sent], []), words)
+        yield name, (done.returncode, done.stdout + done.stderr) == (0, said)
+    came = []
+    done = asked(lambda listener: served(listener, [KEY_DONE], came), ["batch"], KEY_BATCH)
+    yield "a key by a batch", done.returncode == 0 and came == [KEY_ASKED] and SECRET not in done.stdout + done.stderr
+    done = asked(lambda listener: served(listener, [absent(1)], []), ["batch"], CONTROL_BATCH)
+    yield "control characters in a batch", done.returncode == 1 and done.stdout.splitlines() == CONTROL_SAID
     came = []
     done = asked(lambda listener: served_together(listener, came), ["batch"], FLIGHT)
     yield "requests in flight", done.returncode == 1 and came == FLIGHT_ASKED and done.stdout.splitlines() == FLIGHT_SAID

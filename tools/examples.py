@@ -1,7 +1,8 @@
 """examples.py [--write]: the examples say in comments what `hdl explain` prints of their octets, and are what `hdl` makes of words.
 
 - Of each script in examples/: behind a line with octets (`value`, `frame`, or a comment with what `handled` prints) stand comments that
-  begin with `#:`, one for each line that `hdl explain` prints of it.
+  begin with `#:`, one for each line that `hdl explain` prints of it, and then some that begin with `#+`, one for each other line that
+  `hdl explain --keys` prints.
 - examples/NAME.tenants is what `hdl tenants` makes of examples/NAME.words, and examples/NAME.script what `hdl script` makes of
   examples/NAME.batch, comments aside.
 
@@ -17,11 +18,12 @@ ROOT = os.path.dirname(os.path.dirname(os.path.abspath(__file__)))
 FOLDER = os.path.join(ROOT, "examples")
 PROGRAM = os.path.join(ROOT, "crates", "hdl", "out", "hdl")
 MARK = "#: "
+KEYS_MARK = "#+ "
 MADE = {".words": ("tenants", ".tenants"), ".batch": ("script", ".script")}
 
 
-def said(command, text):
-    return subprocess.run([PROGRAM, command], input=text, capture_output=True, text=True, check=True, timeout=60).stdout
+def said(command, text, *options):
+    return subprocess.run([PROGRAM, command, *options], input=text, capture_output=True, text=True, check=True, timeout=60).stdout
 
 
 def uncommented(line):
@@ -37,11 +39,14 @@ def explained(text):
     """The script with a comment for each line that is said of its octets, in place of those that stand there."""
     lines = []
     for line in text.splitlines():
-        if line.startswith(MARK.strip()):
+        if line.startswith((MARK.strip(), KEYS_MARK.strip())):
             continue
         lines.append(line)
         if has_octets(line):
-            lines += [MARK + it for it in said("explain", uncommented(line) + "\n").splitlines()]
+            octets = uncommented(line) + "\n"
+            shown = said("explain", octets).splitlines()
+            lines += [MARK + it for it in shown]
+            lines += [KEYS_MARK + it for it in said("explain", octets, "--keys").splitlines() if it not in shown]
     return "\n".join(lines) + "\n"
 
 

@@ -17,7 +17,7 @@ use thiserror::Error;
 pub struct Question {
     pub operation: OpCode,
     pub handle: String,
-    /// Values in words or indexes, as the operation takes them; of a resolution the indexes of values.
+    /// Values in words, none a key, or indexes, as the operation takes them; of a resolution the indexes of values.
     pub words: Vec<String>,
     /// The types of values, of a resolution.
     pub types: Vec<String>,
@@ -90,7 +90,7 @@ fn body_of(alloc: Global, question: &Question) -> Result<RequestBody, WordFault>
     let mut details = Details::new(alloc);
     for word in &question.words {
         if takes_values(question.operation) {
-            details.push_value(alloc, word)?;
+            details.push_word(alloc, word)?;
         } else {
             details.push_index(word)?;
         }

@@ -3,6 +3,7 @@
 use crate::batch_text::read_batch;
 use crate::words::code_name;
 use hdl_client::{Batch, ClientFault, Outcomes, Task, connect};
+use hdl_lines::printed;
 use std::io::IsTerminal;
 
 /// Prints what comes, and counts it.
@@ -34,12 +35,10 @@ impl Outcomes for Tally<'_> {
             // without memory for it the line is missing from the last one
             let _ = self.failed.push(task.line);
         }
-        let _ = println!(self.rt;
-            "line {}: {}: {code} {}",
-            task.line,
-            task.title,
-            code_name(code)
-        );
+        // likewise the title
+        let alloc = self.rt.alloc();
+        let title = printed(alloc, task.title.as_bytes()).unwrap_or_else(|_| String::new(alloc));
+        let _ = println!(self.rt; "line {}: {title}: {code} {}", task.line, code_name(code));
         self.show_progress();
     }
 }

@@ -20,6 +20,8 @@ pub enum WordFault {
     Key,
     #[error("{0}")]
     Value(LineFault),
+    #[error("a key can't stand on the command line, where others on this machine can read its secret: write it by `hdl batch`, from standard input")]
+    KeyInWords,
     #[error("a value stands behind no operation that takes one")]
     Stray,
     #[error("the operation needs values or indexes")]

@@ -8,7 +8,8 @@
 //! ```
 //!
 //! Requests are read from words and written by `hdl_msg`'s `write_request`, so what is sent is in the grammar; a value's words are
-//! those of `hdl_lines`. Promised is that everything here is total; what is printed is tested alone.
+//! those of `hdl_lines`. Promised is that everything here is total, that a line of a [`Page`] has no control character, and that the
+//! line of a hidden key is a function of its index and the length of its data; what else is printed is tested.
 #![tactic(auto)]
 
 mod asking;

@@ -49,6 +49,16 @@ impl Details {
         }
     }
 
+    /// Adds a value by a word of the command line. A key is refused: others on the machine can read that line.
+    pub fn push_word(&mut self, alloc: Global, word: &str) -> Result<(), WordFault> {
+        let value = read_value_line(alloc, word.as_bytes())?;
+        if value.is_secret_key() {
+            return Err(WordFault::KeyInWords);
+        }
+        self.values.push(value)?;
+        Ok(())
+    }
+
     /// Adds a value by its line.
     pub fn push_value(&mut self, alloc: Global, line: &str) -> Result<(), WordFault> {
         let value = read_value_line(alloc, line.as_bytes())?;

@@ -7,6 +7,7 @@ use hdl_auth::algorithm::Algorithm;
 use hdl_auth::digest;
 use hdl_client::{Batch, Key, Task, challenge_response, framed, request_message, signed_part};
 use hdl_limits::MESSAGE_MAX;
+use hdl_lines::printed;
 use hdl_msg::{Body, read_request};
 use hdl_name::Name;
 use hdl_tenants::{TenantFault, Tenants};
@@ -104,6 +105,7 @@ fn task_key<'b>(batch: &'b Batch, task: &Task) -> Option<&'b Key> {
 
 /// Adds a comment that says what is asked.
 fn push_title(script: &mut String, alloc: Global, title: &str) -> Result<(), AllocError> {
+    let title = printed(alloc, title.as_bytes())?;
     let line = format!(in alloc; "# {title}\n")?;
     script.push_str(&line)
 }

@@ -4,8 +4,8 @@
 //! octets of a frame -> one_datagram -> read_request or read_reply -> Page: lines that begin with `;;`, and a line for each value
 //! ```
 //!
-//! A value is one line, that of `hdl_lines`, which reads back as the value; of a key's data it shows what `shown_data` says. Octets
-//! that are in no grammar are said to be so.
+//! A value is the line that `hdl_lines` shows of it, which reads back as the value, or of a hidden key says how many octets its data
+//! has. Octets that are in no grammar are said to be so. No line has a control character, whatever stands in handles, types and text.
 
 mod lines;
 mod naming;

@@ -28,7 +28,7 @@ use Rattle.hdl_lines.specs.Fields.{space, colon, is_word, is_text, is_handle_wor
 use Rattle.hdl_lines.specs.declared.fault.LineFault.TheVariants as fault
 use Rattle.hdl_lines.specs.Data.{admin_parts, reference_in, each_in, references_in, hex_in, admin_words, reference_text, list_words, list_text, plain_text, data_text}
 use Rattle.hdl_lines.specs.Lines.{data_in, unstamped, value_in_octets, value_in_digits, value_in_fields, value_in, has_fields, field, fields_text, line_of}
-use Rattle.hdl_lines.proofs.Readings.{Lacks, cut_again, word_again, is_word_lacks, decimal_digits, decimal_lacks_space, decimal_lacks_colon, number_again, number_field_again, bits_lack_colon, mask_again, permissions_field_again}
+use Rattle.hdl_lines.proofs.Readings.{either, Lacks, cut_again, word_again, is_word_lacks, decimal_digits, decimal_lacks_space, decimal_lacks_colon, number_again, number_field_again, bits_lack_colon, mask_again, permissions_field_again}
 use Rattle.hdl_lines.proofs.Spelt.{spelt_again}
 
 -- ---- octets
@@ -65,7 +65,7 @@ refs_octets (r ∷ rs) h =
     (octets_joined (string r.handle) (to_be_bytes w32 r.index) (string_octets r.handle h.0.handle) (octets32 r.index))
     (refs_octets rs h.1)
 
-spelling_octets : (v : Value) → Fits v → AreOctets (spelling v)
+pub spelling_octets : (v : Value) → Fits v → AreOctets (spelling v)
 unfolding spelling
 spelling_octets v h =
     let behind_stamp = references v.refs in
@@ -96,13 +96,6 @@ nothing_again : data_in (codes "HEX") ≡ Ok []
 unfolding data_in encode_with
 nothing_again = ap (λ (o : Option (List ℕ)). ok_or o fault.Hex) (hex_again [] (octets_at [] tt))
 
-abbrev cases : (b : Bool) → Type 0
-cases b = (b ≡ true) ⊎ (b ≡ false)
-
-either : (b : Bool) → cases b
-either true = inl refl
-either false = inr refl
-
 plain_again : (octets : List ℕ) → AreOctets octets → data_in (plain_text octets) ≡ Ok octets
 plain_again octets h = elim (either (is_text octets)) [
   | inl text ↦ rw text (text_again octets text)
@@ -128,7 +121,7 @@ unfolding reference_in
 reference_again r i h =
     rw (cut_again colon (decimal r.index) r.handle (decimal_lacks_colon r.index i)) (rw (number_again r.index i) (rw h refl))
 
-abbrev Worded : List RawRef → Type 0
+abbrev pub Worded : List RawRef → Type 0
 Worded rs = AllByRecursion (λ r. (r.index < 2 ^ 32) × (is_word r.handle ≡ true) × (is_handle r.handle ≡ true)) rs
 
 each_again : (rs : List RawRef) → Worded rs → each_in (map reference_text rs) ≡ Some rs
@@ -169,7 +162,7 @@ list_again : (r : RawRef) (rs : List RawRef) → Worded (r ∷ rs) → length (r
 unfolding data_in
 list_again r rs h few = rw (references_again r rs h) (rw (lt-ltb (length (r ∷ rs)) (2 ^ 32) few) refl)
 
-worded_from : (rs : List RawRef) → AllByRecursion RefFits rs → AllByRecursion (λ r. IsHandle r.handle) rs → list_all (λ r. is_word r.handle) rs ≡ true → Worded rs
+pub worded_from : (rs : List RawRef) → AllByRecursion RefFits rs → AllByRecursion (λ r. IsHandle r.handle) rs → list_all (λ r. is_word r.handle) rs ≡ true → Worded rs
 worded_from [] fits names words = tt
 worded_from (r ∷ rs) fits names words =
     let both = and_parts (is_word r.handle) (list_all (λ (q : RawRef). is_word q.handle) rs) words in
@@ -177,7 +170,7 @@ worded_from (r ∷ rs) fits names words =
 
 -- ---- the data of a value
 
-if_some : {A : Type 0} (b : Bool) (o : Option A) (x : A) → cond b o None ≡ Some x → o ≡ Some x
+pub if_some : {A : Type 0} (b : Bool) (o : Option A) (x : A) → cond b o None ≡ Some x → o ≡ Some x
 if_some true o x e = e
 if_some false o x e = absurd cc
 
@@ -218,7 +211,7 @@ data_again v fits = admin_data v fits (admin_read v) refl
 -- ---- lines
 
 -- a number isn't the word OCTETS
-number_no_octets : (n : ℕ) → n < 2 ^ 32 → bytes_eq (decimal n) (codes "OCTETS") ≡ false
+pub number_no_octets : (n : ℕ) → n < 2 ^ 32 → bytes_eq (decimal n) (codes "OCTETS") ≡ false
 number_no_octets n lt =
     false_from_ne_true _ (λ t.
     let same : decimal n ≡ codes "OCTETS" = (bytes_eq-Decides (decimal n) (codes "OCTETS")).0 t in
@@ -230,13 +223,13 @@ octets_again : (v : Value) → Fits v → value_in (codes "OCTETS " ++ encode_lo
 unfolding value_in value_in_digits value_in_octets
 octets_again v fits = rw (hex_again (spelling v) (spelling_octets v fits)) (rw (spelt_again (spelling v) v fits refl) refl)
 
-record Plain (v : Value) : Type 0 where
-  how : get_or v.ttl 0 0 ≡ 0
-  perm : v.perm < 2 ^ 4
-  refs : v.refs ≡ []
-  kind : is_word v.kind ≡ true
+pub record Plain (v : Value) : Type 0 where
+  pub how : get_or v.ttl 0 0 ≡ 0
+  pub perm : v.perm < 2 ^ 4
+  pub refs : v.refs ≡ []
+  pub kind : is_word v.kind ≡ true
 
-plain_from : (v : Value) → has_fields v ≡ true → Plain v
+pub plain_from : (v : Value) → has_fields v ≡ true → Plain v
 plain_from v h =
     let a = and_parts (eqb (get_or v.ttl 0 0) 0 && ltb v.perm (2 ^ 4) && eqb (length v.refs) 0) (is_word v.kind) h in
     let b = and_parts (eqb (get_or v.ttl 0 0) 0 && ltb v.perm (2 ^ 4)) (eqb (length v.refs) 0) a.0 in
@@ -259,7 +252,7 @@ value_made v fits h =
     let refs = sym h.refs in
     λ i. record { index = v.index; kind = v.kind; bytes = v.bytes; ttl = ttl i; perm = v.perm; stamp = 0; refs = refs i }
 
-ttl_number : (v : Value) → Fits v → from_be_bytes w32 (drop 1 v.ttl) < 2 ^ 32
+pub ttl_number : (v : Value) → Fits v → from_be_bytes w32 (drop 1 v.ttl) < 2 ^ 32
 ttl_number v fits = wide32.below (drop 1 v.ttl) (AreOctets-drop 1 v.ttl fits.ttl_octets)
 
 fields_again : (v : Value) → Fits v → Plain v → value_in (fields_text v ++ data_text v) ≡ Ok (unstamped v)

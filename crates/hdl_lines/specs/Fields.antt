@@ -1,7 +1,8 @@
 -- What the fields of a line are made of: words, numbers, binary digits, and how each is read.
-use Rattle.std.specs.Prelude.{ℕ, zero, suc, ◌+◌, ◌-◌, ◌*◌, ◌/◌, ◌%◌, ◌^◌, ◌==◌, nat_lt, nat_le, Bool, not, ◌&&◌, ◌||◌, if◌then◌else◌, List, [], ◌∷◌, length, slice_index, reverse, Option, Some, None, decimal}
+use Rattle.std.specs.Prelude.{ℕ, zero, suc, ◌+◌, ◌-◌, ◌*◌, ◌/◌, ◌%◌, ◌^◌, ◌==◌, nat_lt, Bool, not, ◌&&◌, ◌||◌, if◌then◌else◌, List, [], ◌∷◌, length, slice_index, reverse, Option, Some, None, decimal}
 use Rattle.std.specs.List.{list_all}
-use Rattle.std.specs.Str.{bytes_eq, is_utf8}
+use Rattle.std.specs.Char.{is_control}
+use Rattle.std.specs.Str.{bytes_eq, chars, is_utf8}
 use Rattle.std.specs.Str.Parse.{digits_value}
 use Rattle.hdl_name.specs.Tests.{is_handle}
 use Rattle.hdl_value.specs.Reading.{◌>>=◌}
@@ -26,13 +27,13 @@ is_handle_word octets = is_word octets && is_handle octets
 
 -- text on one line, not empty, with no space at an end
 abbrev pub is_printed : ℕ → Bool
-is_printed octet = nat_le space octet && not (octet == 127)
+is_printed character = not (is_control character)
 
 abbrev pub has_end : ℕ → List ℕ → Bool
 has_end octet octets = slice_index octets 0 == octet || slice_index octets (length octets - 1) == octet
 
 abbrev pub is_line : List ℕ → Bool
-is_line octets = is_utf8 octets && list_all is_printed octets
+is_line octets = is_utf8 octets && list_all is_printed (chars octets)
 
 abbrev pub is_text : List ℕ → Bool
 is_text octets = not (length octets == 0) && (not (has_end space octets) && is_line octets)

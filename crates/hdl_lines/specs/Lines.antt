@@ -51,11 +51,15 @@ value_in_octets octets = do
 unfoldable pub value_in_digits : List ℕ → Result Value LineFault
 value_in_digits digits = ok_or (hex_in digits) fault.Octets >>= value_in_octets
 
+-- the fault of a TTL that is none: HIDDEN in its place says that the data isn't there
+abbrev pub ttl_fault : List ℕ → LineFault
+ttl_fault text = if bytes_eq (format_and_data text).0 (codes "HIDDEN") then fault.Hidden else fault.Ttl
+
 -- TYPE TTL PERMISSIONS FORMAT DATA
 unfoldable pub value_in_fields : ℕ → List ℕ → Result Value LineFault
 value_in_fields index text = do
   kind ← ok_or (word_at text) fault.Type
-  ttl ← ok_or (number_at kind.1) fault.Ttl
+  ttl ← ok_or (number_at kind.1) (ttl_fault kind.1)
   perm ← ok_or (permissions_at ttl.1) fault.Permissions
   bytes ← data_in perm.1
   Ok (record { index = index; kind = kind.0; bytes = bytes; ttl = 0 ∷ to_be_bytes w32 ttl.0; perm = perm.0; stamp = 0; refs = [] })
@@ -83,5 +87,8 @@ field octets = octets ++ space ∷ []
 unfoldable pub fields_text : Value → List ℕ
 fields_text v = field (decimal v.index) ++ (field v.kind ++ (field (decimal (from_be_bytes w32 (drop 1 v.ttl))) ++ field (permission_digits v.perm)))
 
+abbrev pub octets_text : Value → List ℕ
+octets_text v = codes "OCTETS " ++ encode_lower (spelling v)
+
 unfoldable pub line_of : Value → List ℕ
-line_of v = if has_fields v then fields_text v ++ data_text v else codes "OCTETS " ++ encode_lower (spelling v)
+line_of v = if has_fields v then fields_text v ++ data_text v else octets_text v

@@ -2,6 +2,7 @@
 
 ghost use Rattle.std.specs.Prelude.{◌≡◌, ◌+◌, ◌%◌, ◌++◌, ◌<◌, ◌≤◌, ◌^◌, length, decimal, IfSome, OnOk};
 ghost use Rattle.std.specs.List.{list_all};
+ghost use Rattle.std.specs.Str.{chars};
 ghost use Rattle.hdl_value.specs.Reading.{Reads};
 ghost use Rattle.hdl_lines.specs.Fields.{is_graphic, is_printed, is_line, has_end, is_word, is_text, is_handle_word, cut_at, number_in, number_at, word_at, bits, bit_in, bits_in, mask_in, permissions_in, permissions_at, permission_digits};
 
@@ -29,20 +30,25 @@ pub(crate) fn is_handle_word(octets: &[u8]) -> bool
     is_word(octets) && is_name(octets)
 }
 
-fn are_printed(octets: &[u8]) -> bool
-    ensures { result ≡ list_all is_printed octets.now }
+fn are_printed(text: &str) -> bool
+    ensures { result ≡ list_all is_printed (chars text.now) }
 {
-    octets.iter().all(|octet| *octet >= b' ' && *octet != 127)
+    for c in text.chars() {
+        if c.is_control() {
+            return false;
+        }
+    }
+    true
 }
 
-/// Whether the octets are UTF-8 without a control character of ASCII.
+/// Whether the octets are UTF-8 without a control character.
 fn is_line(octets: &[u8]) -> bool
     ensures { result ≡ is_line octets.now }
 {
     let Ok(text) = str::from_utf8(octets) else {
         return false;
     };
-    are_printed(text.as_bytes())
+    are_printed(text)
 }
 
 /// Whether this is the first octet or the last.

@@ -13,13 +13,16 @@
 //! such a line can't say is `OCTETS` and its digits.
 //!
 //! [`value_line`] writes the line of a value, [`read_value_line`] reads a line. The timestamp isn't part of a line, so a value that
-//! was read has timestamp 0. Of a key's data [`shown_data`] says whether it is shown, and a reference to a key stands in words as
-//! [`read_reference`] reads it.
+//! was read has timestamp 0. [`shown_line`] and [`shown_data`] write what of a value is shown: where the data of keys isn't asked for
+//! that of a key is a function of its index, its type and the length of its data. [`printed`] escapes control characters, so that no
+//! octets of a stranger drive a terminal. A reference to a key stands in words as [`read_reference`] reads it.
 //!
 //! What it promises: `specs/Lines.antt` defines the line of each value (`line_of`), and for each list of octets the value that it
 //! says or the first field that is wrong (`value_in`). The two functions do just that, want of memory aside, and reading refuses a
 //! value that isn't sound with its first fault. [`written_is_read`] is the law: the line of every value says that value, but for its
-//! timestamp. The data of a key is shown only where it is asked for, and a reference has an index from 1 on and a name.
+//! timestamp; [`printed_is_line`] that what is printed has no control character, and [`written_is_printed`] that the line of a value is
+//! printed as it is; [`hidden_is_refused`] that the line of a hidden key says no value. A
+//! reference has an index from 1 on and a name.
 #![tactic(auto)]
 
 mod data;
@@ -28,12 +31,14 @@ mod fields;
 mod hiding;
 mod keys;
 mod laws;
+mod printing;
 mod read;
 mod write;
 
 pub use fault::LineFault;
-pub use hiding::shown_data;
+pub use hiding::{is_hidden, shown_data, shown_line};
 pub use keys::{index_in, read_reference};
-pub use laws::written_is_read;
+pub use laws::{hidden_is_refused, printed_is_line, written_is_printed, written_is_read};
+pub use printing::printed;
 pub use read::read_value_line;
-pub use write::{has_fields, put_fields, value_line};
+pub use write::value_line;

@@ -3,7 +3,7 @@
 ghost use Rattle.std.specs.Prelude.{◌≡◌, [], IfOk, IfErr, OnOk};
 ghost use Rattle.hdl_value.specs.Spelling.{CanBeSpelt};
 ghost use Rattle.hdl_value.specs.Fault.{IsSound};
-ghost use Rattle.hdl_lines.specs.Lines.{value_in, value_in_digits, value_in_fields, value_in_octets, IsFaultIn};
+ghost use Rattle.hdl_lines.specs.Lines.{value_in, value_in_digits, value_in_fields, value_in_octets, ttl_fault, IsFaultIn};
 
 use crate::data::{data_in, octets_in};
 use crate::fault::LineFault;
@@ -73,6 +73,18 @@ fn check(alloc: Global, value: &Value) -> Result<(), LineFault>
     }
 }
 
+/// What is wrong where a TTL should stand: the data is hidden, or it is no number.
+fn ttl_fault(text: &[u8]) -> LineFault
+    ensures { result ≡ ttl_fault text.now }
+{
+    let (word, _) = cut_at(text, b' ').unwrap_or((text, b""));
+    if word == b"HIDDEN".as_slice() {
+        LineFault::Hidden
+    } else {
+        LineFault::Ttl
+    }
+}
+
 /// The value of the fields behind its index.
 #[tactic(auto, unfolding(crate::specs::Lines::value_in_fields))]
 fn value_in_fields(alloc: Global, index: u32, fields: &[u8]) -> Result<Value, LineFault>
@@ -85,7 +97,7 @@ fn value_in_fields(alloc: Global, index: u32, fields: &[u8]) -> Result<Value, Li
         return Err(LineFault::Type);
     };
     let Some((ttl, rest)) = number_at(rest) else {
-        return Err(LineFault::Ttl);
+        return Err(ttl_fault(rest));
     };
     let Some((perm, rest)) = permissions_at(rest) else {
         return Err(LineFault::Permissions);
@@ -108,7 +120,7 @@ fn value_in_fields(alloc: Global, index: u32, fields: &[u8]) -> Result<Value, Li
 /// Reads the line of a value, which has no line end.
 ///
 /// Refuses with the first field that is wrong, from the left; then what is wrong with the value itself, as `hdl_value` says it: index
-/// 0, a limit that is broken, data of HS_ADMIN or HS_VLIST that is none. `HIDDEN` can't be read. The format says how the data is
+/// 0, a limit that is broken, data of HS_ADMIN or HS_VLIST that is none. `HIDDEN` can't be read, behind the type or as a format. The format says how the data is
 /// written, whatever the type is. Hexadecimal digits may be in either case. The value has timestamp 0.
 #[tactic(auto, unfolding(crate::specs::Lines::value_in))]
 pub fn read_value_line(alloc: Global, line: &[u8]) -> Result<Value, LineFault>

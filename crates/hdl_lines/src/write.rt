@@ -3,7 +3,7 @@
 ghost use Rattle.std.specs.Prelude.{◌≡◌, ◌++◌, ◌∷◌, codes, decimal, IfOk, OnOk, option_map};
 ghost use Rattle.std.specs.List.{list_all};
 ghost use Rattle.hex.specs.Hex.{encode_lower};
-ghost use Rattle.hdl_value.specs.Spelling.{CanBeSpelt, spelling};
+ghost use Rattle.hdl_value.specs.Spelling.{CanBeSpelt};
 ghost use Rattle.hdl_value.specs.Refs.{raw, raws};
 ghost use Rattle.hdl_lines.specs.Fields.{space, is_word};
 ghost use Rattle.hdl_lines.specs.Data.{admin_text, reference_text, have_words, list_text, plain_text, data_text};
@@ -15,7 +15,7 @@ use std::alloc::{AllocError, Global};
 
 /// Whether fields in words say all of the value: its TTL is relative, no permission but the four is set, it has no references, and its
 /// type is a word.
-pub fn has_fields(value: &Value) -> bool
+pub(crate) fn has_fields(value: &Value) -> bool
     ensures { result ≡ has_fields value.now }
 {
     let [how, ..] = value.ttl;
@@ -26,7 +26,7 @@ pub fn has_fields(value: &Value) -> bool
 }
 
 /// Puts a field and a space at the end.
-fn put_field(out: &mut Vec<u8>, octets: &[u8]) -> Result<(), AllocError>
+pub(crate) fn put_field(out: &mut Vec<u8>, octets: &[u8]) -> Result<(), AllocError>
     ensures { OnOk result (out.new.items ≡ out.old.items ++ field octets.now) }
 {
     out.extend_from_slice(octets)?;
@@ -35,7 +35,7 @@ fn put_field(out: &mut Vec<u8>, octets: &[u8]) -> Result<(), AllocError>
 }
 
 /// Puts a number and a space at the end.
-fn put_number_field(out: &mut Vec<u8>, number: u32) -> Result<(), AllocError>
+pub(crate) fn put_number_field(out: &mut Vec<u8>, number: u32) -> Result<(), AllocError>
     ensures { OnOk result (out.new.items ≡ out.old.items ++ field (decimal number)) }
 {
     put_number(out, number)?;
@@ -46,7 +46,7 @@ fn put_number_field(out: &mut Vec<u8>, number: u32) -> Result<(), AllocError>
 /// Puts index, type, TTL and permissions at the end, and a space behind each. They say all but the data of a value that
 /// [`has_fields`].
 #[tactic(auto, unfolding(crate::specs::Lines::fields_text))]
-pub fn put_fields(out: &mut Vec<u8>, value: &Value) -> Result<(), AllocError>
+fn put_fields(out: &mut Vec<u8>, value: &Value) -> Result<(), AllocError>
     ensures { OnOk result (out.new.items ≡ out.old.items ++ fields_text value.now) }
 {
     let [_, a, b, c, d] = value.ttl;
@@ -137,7 +137,7 @@ fn plain_text(alloc: Global, octets: &[u8]) -> Result<Vec<u8>, AllocError>
 
 /// FORMAT and DATA.
 #[tactic(auto, unfolding(crate::specs::Data::data_text))]
-fn data_text(alloc: Global, value: &Value) -> Result<Vec<u8>, AllocError>
+pub(crate) fn data_text(alloc: Global, value: &Value) -> Result<Vec<u8>, AllocError>
     ensures { IfOk result (λ v. v.items ≡ data_text value.now) }
 {
     if let Some(text) = admin_text(alloc, value)? {
@@ -149,14 +149,23 @@ fn data_text(alloc: Global, value: &Value) -> Result<Vec<u8>, AllocError>
     }
 }
 
-/// `OCTETS` and the digits of the value.
-fn octets_line(alloc: Global, value: &Value) -> Result<Vec<u8>, AllocError>
-    requires { CanBeSpelt value.now }
-    ensures { IfOk result (λ v. v.items ≡ codes "OCTETS " ++ encode_lower (spelling value.now)) }
+/// `OCTETS` and the digits of a value's octets.
+pub(crate) fn octets_line(alloc: Global, octets: &[u8]) -> Result<Vec<u8>, AllocError>
+    ensures { IfOk result (λ v. v.items ≡ codes "OCTETS " ++ encode_lower octets.now) }
 {
-    let octets = write_value(alloc, value)?;
     let mut line = Vec::from_slice(alloc, b"OCTETS ")?;
-    line.extend_from_slice(hex::encode(alloc, octets.as_slice())?.as_bytes())?;
+    line.extend_from_slice(hex::encode(alloc, octets)?.as_bytes())?;
+    Ok(line)
+}
+
+/// Fields, FORMAT and DATA.
+pub(crate) fn fields_line(alloc: Global, value: &Value) -> Result<Vec<u8>, AllocError>
+    ensures { IfOk result (λ v. v.items ≡ fields_text value.now ++ data_text value.now) }
+{
+    let mut line = Vec::new(alloc);
+    put_fields(&mut line, value)?;
+    let data = data_text(alloc, value)?;
+    line.extend_from_slice(&data)?;
     Ok(line)
 }
 
@@ -169,12 +178,9 @@ pub fn value_line(alloc: Global, value: &Value) -> Result<Vec<u8>, AllocError>
     requires { CanBeSpelt value.now }
     ensures { IfOk result (λ v. v.items ≡ line_of value.now) }
 {
-    if !has_fields(value) {
-        return octets_line(alloc, value);
+    if has_fields(value) {
+        return fields_line(alloc, value);
     }
-    let mut line = Vec::new(alloc);
-    put_fields(&mut line, value)?;
-    let data = data_text(alloc, value)?;
-    line.extend_from_slice(&data)?;
-    Ok(line)
+    let octets = write_value(alloc, value)?;
+    octets_line(alloc, &octets)
 }

@@ -1,8 +1,13 @@
 //! Lines that grow.
 
-use std::alloc::{AllocError, Global};
+ghost use Rattle.std.specs.Prelude.{◌≡◌, [], OnOk};
+ghost use Rattle.hdl_commands.specs.Page.{with_line};
 
-/// Lines in words, and whether the data of keys is shown in them.
+use hdl_lines::printed;
+use std::alloc::{AllocError, Global};
+use std::marker::Model;
+
+/// Lines in words, and whether the data of keys is shown in them. Contracts see their text.
 #[derive(Drop)]
 pub struct Page {
     pub(crate) alloc: Global,
@@ -10,9 +15,20 @@ pub struct Page {
     text: String,
 }
 
+impl Model for Page {
+    ghost use Rattle.std.specs.String.{string_bytes};
+    ghost use Rattle.hdl_commands.specs.Page.{PageText};
+
+    ghost Value = { PageText };
+
+    ghost view = { λ p. record { shows_keys = p.shows_keys; text = string_bytes p.text } };
+}
+
 impl Page {
     /// A page without a line.
-    pub fn new(alloc: Global, shows_keys: bool) -> Page {
+    pub fn new(alloc: Global, shows_keys: bool) -> Page
+        ensures { result ≡ record { shows_keys = shows_keys; text = [] } }
+    {
         Page {
             alloc,
             shows_keys,
@@ -21,21 +37,25 @@ impl Page {
     }
 
     /// The lines so far.
-    pub fn as_str(&self) -> &str {
+    pub fn as_str(&self) -> &str
+        ensures { result.now ≡ self.now.text }
+    {
         &self.text
     }
 
-    /// Adds a line.
-    pub fn push(&mut self, line: &str) -> Result<(), AllocError> {
-        self.text.push_str(line)?;
-        self.text.push('\n')
+    /// Adds a line as `hdl_lines` prints it: without a control character.
+    pub fn push(&mut self, line: &str) -> Result<(), AllocError>
+        ensures { OnOk result (self.new ≡ with_line self.old line.now) }
+    {
+        self.push_octets(line.as_bytes())
     }
-}
 
-/// The octets as text where they are text, and else their digits.
-pub(crate) fn text_of(alloc: Global, octets: &[u8]) -> Result<String, AllocError> {
-    match str::from_utf8(octets) {
-        Ok(text) => Ok(String::from_str(alloc, text)?),
-        Err(_) => Ok(hex::encode(alloc, octets)?),
+    /// Adds a line of octets: where they are no text, of their digits.
+    pub(crate) fn push_octets(&mut self, line: &[u8]) -> Result<(), AllocError>
+        ensures { OnOk result (self.new ≡ with_line self.old line.now) }
+    {
+        let line = printed(self.alloc, line)?;
+        self.text.push_str(&line)?;
+        self.text.push('\n')
     }
 }

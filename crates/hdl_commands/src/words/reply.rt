@@ -1,15 +1,15 @@
 //! A reply in words.
 
 use crate::words::naming::{code_name, operation_name};
-use crate::words::page::{Page, text_of};
+use crate::words::page::Page;
 use crate::words::value::{push_data, push_value};
 use hdl_frame::Envelope;
+use hdl_lines::printed;
 use hdl_msg::{ContentView, Digest, ReplyView, Strings, Values};
 use std::alloc::AllocError;
 
 fn push_values(page: &mut Page, handle: &[u8], values: Values<'_>) -> Result<(), AllocError> {
-    let name = text_of(page.alloc, handle)?;
-    page.push(&name)?;
+    page.push_octets(handle)?;
     for value in values {
         push_value(page, &value)?;
     }
@@ -18,8 +18,7 @@ fn push_values(page: &mut Page, handle: &[u8], values: Values<'_>) -> Result<(),
 
 fn push_handles(page: &mut Page, handles: Strings<'_>) -> Result<(), AllocError> {
     for handle in handles {
-        let name = text_of(page.alloc, handle)?;
-        page.push(&name)?;
+        page.push_octets(handle)?;
     }
     Ok(())
 }
@@ -39,7 +38,7 @@ fn push_content(page: &mut Page, content: ContentView<'_>) -> Result<(), AllocEr
         ContentView::Values { handle, values } => push_values(page, handle, values),
         ContentView::Handles { handles } => push_handles(page, handles),
         ContentView::Referral { prefix } => {
-            let name = text_of(page.alloc, prefix)?;
+            let name = printed(page.alloc, prefix)?;
             let line = format!(in page.alloc; ";; ask the service of 0.NA/{name}")?;
             page.push(&line)
         }

@@ -1,15 +1,16 @@
 //! A request in words.
 
 use crate::words::naming::operation_name;
-use crate::words::page::{Page, text_of};
+use crate::words::page::Page;
 use crate::words::value::push_value;
 use hdl_frame::Envelope;
+use hdl_lines::printed;
 use hdl_msg::{Body, Numbers, OpFlag, Request, Strings, Values};
 use std::alloc::AllocError;
 
 /// Adds a line of a word and a handle.
 fn push_handle(page: &mut Page, word: &str, handle: &[u8]) -> Result<(), AllocError> {
-    let name = text_of(page.alloc, handle)?;
+    let name = printed(page.alloc, handle)?;
     let line = format!(in page.alloc; "{word} {name}")?;
     page.push(&line)
 }
@@ -89,7 +90,7 @@ fn push_response(
     index: u32,
     answer: &[u8],
 ) -> Result<(), AllocError> {
-    let name = text_of(page.alloc, handle)?;
+    let name = printed(page.alloc, handle)?;
     let digits = hex::encode(page.alloc, answer)?;
     let line = format!(in page.alloc; "{word} {index}:{name} {digits}")?;
     page.push(&line)

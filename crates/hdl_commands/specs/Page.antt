@@ -1,0 +1,12 @@
+-- A page: lines for people to read.
+use Rattle.std.specs.Prelude.{ℕ, Bool, List, [], ◌∷◌, ◌++◌}
+use Rattle.hdl_lines.specs.Printed.{printed}
+
+-- its lines so far, and whether the data of keys is shown in them
+pub record PageText : Type 0 where
+  pub shows_keys : Bool
+  pub text : List ℕ
+
+-- the page with one line more, as it is printed: without a control character but the line end
+abbrev pub with_line : PageText → List ℕ → PageText
+with_line page line = record page { text = page.text ++ (printed line ++ 10 ∷ []) }
