@@ -2,7 +2,7 @@
 
 ghost use Rattle.std.specs.Prelude.{◌≡◌, ◌↔◌, IsTrue, All, IfOk, option_copied};
 ghost use Rattle.hdl_msg.specs.ReplyView.{reply_seen};
-ghost use Rattle.hdl_client.specs.Batch.{OrderMatters, key_of, Lands};
+ghost use Rattle.hdl_client.specs.Batch.{OrderMatters, IsApart, AreApart, key_of, Lands};
 
 use crate::challenge::{Key, challenge_answer};
 use crate::exchange::receive;
@@ -59,7 +59,7 @@ fn order_matters(one: &Task, other: &Task) -> bool
 
 /// Whether a task may fly with those in flight: with none of them its order matters.
 fn may_fly(next: &Task, flights: &[Flight<'_>]) -> bool
-    ensures { IsTrue result ↔ All (λ flight. ¬ (OrderMatters flight.task.now next.now)) flights.now }
+    ensures { IsTrue result ↔ All (IsApart next.now) flights.now }
 {
     flights
         .iter()
@@ -106,7 +106,11 @@ fn land_reply(
 }
 
 /// Takes the flight of the request with this number out of those under way.
-fn take_flight<'b>(flights: &mut Vec<Flight<'b>>, request: u32) -> Result<Flight<'b>, ClientFault> {
+fn take_flight<'b>(flights: &mut Vec<Flight<'b>>, request: u32) -> Result<Flight<'b>, ClientFault>
+    requires { AreApart flights.old.items }
+    ensures apart { AreApart flights.new.items }
+    ensures taken { IfOk result (λ flight. All (IsApart flight.task.now) flights.new.items) }
+{
     match flights.iter().position(|flight| flight.request == request) {
         Some(place) => Ok(flights.remove(place)),
         None => Err(ClientFault::OtherRequest),
@@ -114,13 +118,38 @@ fn take_flight<'b>(flights: &mut Vec<Flight<'b>>, request: u32) -> Result<Flight
 }
 
 impl<S: Read + Write> Session<S> {
+    /// Sends a message for a task, which is under way then.
+    fn launch<'b>(
+        &mut self,
+        flights: &mut Vec<Flight<'b>>,
+        task: &'b Task,
+        session: u32,
+        message: &[u8],
+        is_answer: bool,
+    ) -> Result<(), ClientFault>
+        requires apart { AreApart flights.old.items }
+        requires free { All (IsApart task.now) flights.old.items }
+        ensures apart { AreApart flights.new.items }
+    {
+        let request = self.send_next(session, message)?;
+        flights.push(Flight {
+            task,
+            request,
+            is_answer,
+        })?;
+        Ok(())
+    }
+
     /// Sends what may fly, from the task `next` on; answers which task is next then.
     fn fill<'b>(
         &mut self,
         batch: &'b Batch,
         flights: &mut Vec<Flight<'b>>,
         next: usize,
-    ) -> Result<usize, ClientFault> {
+    ) -> Result<usize, ClientFault>
+        requires { AreApart flights.old.items }
+        ensures apart { AreApart flights.new.items }
+    {
         let mut next = next;
         for _ in flights.len()..CHALLENGES_MAX {
             let Some(task) = batch.tasks.get(next) else {
@@ -129,12 +158,7 @@ impl<S: Read + Write> Session<S> {
             if !may_fly(task, flights) {
                 break;
             }
-            let request = self.send_next(0, &task.message)?;
-            flights.push(Flight {
-                task,
-                request,
-                is_answer: false,
-            })?;
+            self.launch(flights, task, 0, &task.message, false)?;
             next = next.saturating_add(1);
         }
         Ok(next)
@@ -146,7 +170,10 @@ impl<S: Read + Write> Session<S> {
         batch: &'b Batch,
         flights: &mut Vec<Flight<'b>>,
         outcomes: &mut O,
-    ) -> Result<(), ClientFault> {
+    ) -> Result<(), ClientFault>
+        requires { AreApart flights.old.items }
+        ensures apart { AreApart flights.new.items }
+    {
         let octets = receive(self.alloc, &mut self.stream)?;
         let frame = whole(&octets)?;
         let flight = take_flight(flights, frame.envelope.request)?;
@@ -154,17 +181,15 @@ impl<S: Read + Write> Session<S> {
             return Err(ClientFault::NoReply);
         };
         match land_reply(self.alloc, &batch.keys, &flight, &reply)? {
-            Landing::Done(code) => outcomes.done(flight.task, code),
+            Landing::Done(code) => {
+                outcomes.done(flight.task, code);
+                Ok(())
+            }
             Landing::Challenge(answer) => {
-                let request = self.send_next(frame.envelope.session, &answer)?;
-                flights.push(Flight {
-                    task: flight.task,
-                    request,
-                    is_answer: true,
-                })?;
+                let session = frame.envelope.session;
+                self.launch(flights, flight.task, session, &answer, true)
             }
         }
-        Ok(())
     }
 
     /// Asks all of a batch, and tells the outcome of each request as it comes. Requests whose order may matter aren't in flight

@@ -1,14 +1,14 @@
 //! The limits of the profile (docs/PROTOCOL.md), each once.
 //!
 //! A limit is one constant here. Code compares with it, clauses name it, and the definitions of the crates above import it
-//! from `specs.declared.TheConstants`, so the number stands in no other file of `src/` or `specs/`. To change a limit, change
-//! it here and in docs/PROTOCOL.md.
+//! from `specs.declared.TheConstants`, so the number stands in no other file of `src/` or `specs/`. [`numbers`] says each number, so
+//! that none changes unseen. To change a limit, change its constant, its clause there, and docs/PROTOCOL.md.
 //!
 //! This crate is the lowest of the service and stands on no other. The definition of octets, which each layer above shares,
 //! stands here too (`specs/Octets.antt`).
 #![tactic(auto)]
 
-ghost use Rattle.std.specs.Prelude.{◌≤◌, ◌<◌, ◌*◌, ◌-◌};
+ghost use Rattle.std.specs.Prelude.{◌≡◌, ◌≤◌, ◌<◌, ◌*◌, ◌-◌};
 
 /// How many lanes there are, and so the most lanes of all publishers together.
 pub const LANES: usize = 64;
@@ -62,4 +62,24 @@ pub const MASKS_MAX: usize = 256;
 pub fn pieces_hold_a_message()
     ensures enough { MESSAGE_MAX ≤ PIECES_MAX * PIECE_LEN }
     ensures no_more { (PIECES_MAX - 1) * PIECE_LEN < MESSAGE_MAX }
+{}
+
+/// The numbers of the profile (docs/PROTOCOL.md, "Limits", has those that clients see).
+pub fn numbers()
+    ensures lanes { LANES ≡ 64 }
+    ensures publisher_name { PUBLISHER_NAME_MAX ≡ 32 }
+    ensures challenges { CHALLENGES_MAX ≡ 8 }
+    ensures challenge_life { CHALLENGE_LIFE ≡ 60000 }
+    ensures partials { PARTIALS_MAX ≡ 4 }
+    ensures peers { PEERS_MAX ≡ 1024 }
+    ensures message { MESSAGE_MAX ≡ 65536 }
+    ensures piece { PIECE_LEN ≡ 492 }
+    ensures pieces { PIECES_MAX ≡ 134 }
+    ensures name { NAME_MAX ≡ 2048 }
+    ensures kind { TYPE_MAX ≡ 255 }
+    ensures data { DATA_MAX ≡ 32768 }
+    ensures references { REFERENCES_MAX ≡ 64 }
+    ensures values { VALUES_MAX ≡ 1024 }
+    ensures written { WRITTEN_MAX ≡ 256 }
+    ensures masks { MASKS_MAX ≡ 256 }
 {}

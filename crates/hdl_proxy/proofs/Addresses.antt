@@ -1,5 +1,5 @@
 -- What stands in a Location is graphic ASCII.
-use Rattle.std.proofs.Common.{◌≡◌, ◌<◌, ◌≤◌, ◌≢◌, ℕ, List, ◌∷◌, true, false, Bool, All, ◌||◌, ◌==◌, nat_lt, refl, sym, ◌∙◌, arith, rules}
+use Rattle.std.proofs.Common.{◌≡◌, ◌<◌, ℕ, List, true, false, Bool, All, ◌||◌, ◌==◌, nat_lt, refl, ◌∙◌, arith}
 use Rattle.std.proofs.lemmas.Bool.{agree_below, agree_below_at}
 use Rattle.std.proofs.lemmas.Bool.Decides.{nat_tests}
 use Rattle.percent_encoding.specs.declared.ascii_set.AsciiSet.{AsciiSet}
@@ -43,3 +43,6 @@ kept_graphic set covers b kept =
 
 pub graphic : (set : AsciiSet) → Covers set → (octets : List ℕ) → All IsGraphic (percent_encode set octets)
 graphic set covers octets = All-percent_encode IsGraphic set octets (kept_graphic set covers) graphic_escape
+
+pub slash_graphic : IsGraphic 47
+slash_graphic = (omega arith, omega arith)

@@ -1,1 +1,13 @@
 pub mod Addresses
+pub mod Bits
+pub mod Inert
+pub mod Joined
+pub mod Located
+pub mod Made
+pub mod NoFloats
+pub mod NoName
+pub mod Pairs
+pub mod Paths
+pub mod Sections
+pub mod Texts
+pub mod Unsound

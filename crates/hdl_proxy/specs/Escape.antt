@@ -1,5 +1,5 @@
 -- Text inside a page of HTML.
-use Rattle.std.specs.Prelude.{◌≢◌, ℕ, List, [], ◌∷◌, ◌==◌, if◌then◌else◌, codes}
+use Rattle.std.specs.Prelude.{◌≢◌, ℕ, All, List, [], ◌∷◌, ◌==◌, if◌then◌else◌, codes}
 use Rattle.std.specs.List.{flat_map}
 
 -- what stands for an octet: an entity for `&`, `<`, `>`, `"` and `'`, and else the octet itself
@@ -19,3 +19,7 @@ escaped text = flat_map entity text
 -- an octet that begins no markup and ends no attribute
 abbrev pub IsInert : ℕ → Type 0
 IsInert octet = (octet ≢ 60) × (octet ≢ 62) × (octet ≢ 34) × (octet ≢ 39)
+
+-- the law of escaping: text is inert wherever it stands in a page
+abbrev pub TextIsInert : Type 0
+TextIsInert = (text : List ℕ) → All IsInert (escaped text)

@@ -1,5 +1,13 @@
+pub mod Answer
+pub mod Begin
 pub mod Choice
 pub mod Escape
+pub mod Found
+pub mod Json
+pub mod Link
+pub mod Pages
+pub mod Query
 pub mod Question
 pub mod Status
 pub mod Url
+pub mod Words

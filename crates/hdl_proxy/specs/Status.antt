@@ -1,5 +1,5 @@
--- The statuses of HTTP (RFC 9110, section 15), and that of each response code.
-use Rattle.std.specs.Prelude.{ℕ, ◌==◌, ◌||◌, if◌then◌else◌}
+-- The statuses of HTTP (RFC 9110, section 15), and the status and the words of each response code.
+use Rattle.std.specs.Prelude.{ℕ, ◌==◌, ◌||◌, List, codes, if◌then◌else◌}
 use Rattle.hdl_proxy.specs.declared.answer.Status.{Status}
 use Rattle.hdl_proxy.specs.declared.answer.Status.TheVariants.{Success, Found, BadRequest, NotFound, MethodNotAllowed, BadGateway, Unavailable}
 
@@ -20,3 +20,13 @@ status_of_code code =
     else if code == 102 then BadRequest
     else if code == 3 then Unavailable
     else BadGateway
+
+-- why there are no values, by the code
+abbrev pub refused_words : ℕ → List ℕ
+refused_words code =
+    if code == 100 then codes "This handle isn't there."
+    else if code == 102 then codes "The server says that this is no handle."
+    else if code == 200 then codes "This handle is there, and has no such value that anybody may read."
+    else if code == 302 then codes "No server that was asked has handles of this prefix."
+    else if code == 3 then codes "The server is busy. Please try again."
+    else codes "The server couldn't answer."

@@ -1,5 +1,5 @@
 -- Which URLs are followed, and how they stand in a Location.
-use Rattle.std.specs.Prelude.{◌≡◌, ◌<◌, ◌≤◌, ◌≢◌, ◌⊎◌, ℕ, List, ◌∷◌, ◌++◌, All, codes, length, take, map}
+use Rattle.std.specs.Prelude.{◌≡◌, ◌≤◌, ◌≢◌, ◌⊎◌, ℕ, List, All, codes, length, take, map}
 use Rattle.std.specs.Char.{to_ascii_lowercase}
 
 -- the URL begins with these octets, in any case of letters

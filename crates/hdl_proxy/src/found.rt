@@ -1,9 +1,10 @@
 //! What a reply says of a handle.
 
-ghost use Rattle.std.specs.Prelude.{◌≡◌, IfOk, IfSome};
-ghost use Rattle.std.specs.List.{filter};
+ghost use Rattle.std.specs.Prelude.{IfOk};
 ghost use Rattle.hdl_msg.specs.Views.{values_of};
 ghost use Rattle.hdl_proxy.specs.Choice.{is_shown};
+ghost use Rattle.hdl_msg.specs.ReplyView.{content_seen};
+ghost use Rattle.hdl_proxy.specs.Found.{IsFoundIn, IsFoundOf, IsSaidBy, AreShown};
 
 use crate::choice::is_shown;
 use crate::resolver::NoAnswer;
@@ -24,7 +25,7 @@ pub enum Found {
 
 /// The values that are shown, each whole. None where one of them breaks the limits of values.
 fn shown_values(alloc: Global, mut values: Values<'_>) -> Result<Option<Vec<Value>>, AllocError>
-    ensures { IfOk result (λ o. IfSome o (λ v. v.items ≡ filter is_shown (values_of values.entry))) }
+    ensures { IfOk result (AreShown (values_of values.entry)) }
 {
     let mut shown = Vec::new(alloc);
     while let Some(cut) = values.next() {
@@ -40,12 +41,16 @@ fn shown_values(alloc: Global, mut values: Values<'_>) -> Result<Option<Vec<Valu
     Ok(Some(shown))
 }
 
-/// What the message of a reply says of this handle.
-fn found_in(alloc: Global, handle: &[u8], message: &[u8]) -> Result<Found, AllocError> {
-    let Ok(reply) = read_reply(message) else {
-        return Ok(Found::Nothing);
-    };
-    match reply.content {
+/// What a reply with this code and content says of this handle.
+fn said_by(
+    alloc: Global,
+    handle: &[u8],
+    code: u32,
+    content: ContentView<'_>,
+) -> Result<Found, AllocError>
+    ensures { IfOk result (IsSaidBy handle.now code (content_seen content.entry)) }
+{
+    match content {
         ContentView::Values {
             handle: answered,
             values,
@@ -53,10 +58,18 @@ fn found_in(alloc: Global, handle: &[u8], message: &[u8]) -> Result<Found, Alloc
             Some(shown) => Ok(Found::Values(shown)),
             None => Ok(Found::Nothing),
         },
-        ContentView::Referral { .. } | ContentView::Empty => {
-            Ok(Found::Refused(reply.header.response_code))
-        }
+        ContentView::Referral { .. } | ContentView::Empty => Ok(Found::Refused(code)),
         _ => Ok(Found::Nothing),
+    }
+}
+
+/// What a message says of this handle.
+fn found_in(alloc: Global, handle: &[u8], message: &[u8]) -> Result<Found, AllocError>
+    ensures { IfOk result (IsFoundIn handle.now message.now) }
+{
+    match read_reply(message) {
+        Ok(reply) => said_by(alloc, handle, reply.header.response_code, reply.content),
+        Err(_) => Ok(Found::Nothing),
     }
 }
 
@@ -65,7 +78,9 @@ pub(crate) fn read_answer(
     alloc: Global,
     handle: &[u8],
     answered: Result<&[u8], NoAnswer>,
-) -> Result<Found, AllocError> {
+) -> Result<Found, AllocError>
+    ensures { IfOk result (IsFoundOf handle.now answered.entry) }
+{
     match answered {
         Ok(message) => found_in(alloc, handle, message),
         Err(NoAnswer::Memory) => Err(AllocError),

@@ -1,5 +1,14 @@
 //! Values as JSON, in the form of the Handle.Net proxy's REST interface.
 
+ghost use Rattle.std.specs.Prelude.{◌≡◌, false, List, IfOk, OnOk, option_map, string_bytes};
+ghost use Rattle.std.specs.List.{AllZip};
+ghost use Rattle.serde_json.specs.Data.{Data, array, object, no_members};
+ghost use Rattle.serde_json.specs.View.{view, items_of, members_view};
+ghost use Rattle.serde_json.specs.Written.{compact_text, has_float};
+ghost use Rattle.hdl_value.specs.Refs.{raw, raws};
+ghost use Rattle.hdl_proxy.specs.Json.{put_text as with_text, formatted, reference_members, reference_json, admin_json, list_json, octets_json, data_json, kept_json, written_json, value_json, answer_json, refusal_json, IsValueJson, IsJsonOf};
+ghost use Rattle.hdl_proxy.specs.Answer.{Tells};
+
 use crate::answer::{Answer, Media, Status};
 use crate::names::text_of;
 use crate::words::{KeptFor, kept_for, permission_digits, written_words};
@@ -8,7 +17,10 @@ use hdl_value::{AdminMask, Reference, Value, admin_of, vlist_of};
 use serde_json::{Map, Value as Json, put};
 use std::alloc::{AllocError, Global};
 
-fn json_answer(alloc: Global, status: Status, json: &Json) -> Result<Answer, AllocError> {
+fn json_answer(alloc: Global, status: Status, json: &Json) -> Result<Answer, AllocError>
+    ensures told { IfOk result (Tells status Media.Json) }
+    ensures body { IfOk result (λ a. has_float (view json.now) ≡ false → a.body.items ≡ compact_text (view json.now)) }
+{
     let text = json.to_string(alloc)?;
     Ok(Answer {
         status,
@@ -24,9 +36,22 @@ fn put_text(
     object: &mut Map<String, Json>,
     key: &str,
     octets: &[u8],
-) -> Result<(), AllocError> {
+) -> Result<(), AllocError>
+    ensures { OnOk result (members_view object.new.entries ≡ with_text key.now octets.now (members_view object.old.entries)) }
+{
     let text = text_of(alloc, octets)?;
     put(object, alloc, key, Json::from(text))
+}
+
+#[tactic(auto, unfolding(crate::specs::Json::refusal_json))]
+fn refusal_json(alloc: Global, asked: &[u8], code: u32, why: &str) -> Result<Json, AllocError>
+    ensures { IfOk result (λ json. view json ≡ refusal_json asked.now code why.now) }
+{
+    let mut object = Map::new(alloc);
+    put(&mut object, alloc, "responseCode", Json::from(code))?;
+    put_text(alloc, &mut object, "handle", asked)?;
+    put_text(alloc, &mut object, "message", why.as_bytes())?;
+    Ok(Json::from(object))
 }
 
 /// What was asked, and the code of a reply without values.
@@ -36,61 +61,80 @@ pub(crate) fn refusal(
     asked: &[u8],
     code: u32,
     why: &str,
-) -> Result<Answer, AllocError> {
-    let mut object = Map::new(alloc);
-    put(&mut object, alloc, "responseCode", Json::from(code))?;
-    put_text(alloc, &mut object, "handle", asked)?;
-    put_text(alloc, &mut object, "message", why.as_bytes())?;
-    json_answer(alloc, status, &Json::Object(object))
+) -> Result<Answer, AllocError>
+    ensures told { IfOk result (Tells status Media.Json) }
+    ensures body { IfOk result (λ a. a.body.items ≡ compact_text (refusal_json asked.now code why.now)) }
+{
+    let json = refusal_json(alloc, asked, code, why)?;
+    json_answer(alloc, status, &json)
 }
 
+#[tactic(auto, unfolding(crate::specs::Json::reference_members))]
 fn put_reference(
     alloc: Global,
     object: &mut Map<String, Json>,
     reference: &Reference,
-) -> Result<(), AllocError> {
+) -> Result<(), AllocError>
+    ensures { OnOk result (members_view object.old.entries ≡ no_members → members_view object.new.entries ≡ reference_members (raw reference.now)) }
+{
     put_text(alloc, object, "handle", reference.name.sent())?;
     put(object, alloc, "index", Json::from(reference.index))
 }
 
-fn reference_json(alloc: Global, reference: &Reference) -> Result<Json, AllocError> {
+fn reference_json(alloc: Global, reference: &Reference) -> Result<Json, AllocError>
+    ensures { IfOk result (λ json. view json ≡ reference_json (raw reference.now)) }
+{
     let mut object = Map::new(alloc);
     put_reference(alloc, &mut object, reference)?;
-    Ok(Json::Object(object))
+    Ok(Json::from(object))
 }
 
 /// Data, and how it is told.
-fn formatted(alloc: Global, format: &str, data: Json) -> Result<Json, AllocError> {
+#[tactic(auto, unfolding(crate::specs::Json::formatted))]
+fn formatted(alloc: Global, format: &str, told: Json) -> Result<Json, AllocError>
+    ensures { IfOk result (λ json. view json ≡ formatted format.now (view told)) }
+{
     let mut object = Map::new(alloc);
-    put_text(alloc, &mut object, "format", format.as_bytes())?;
-    put(&mut object, alloc, "value", data)?;
-    Ok(Json::Object(object))
+    let format = String::from_str(alloc, format)?;
+    put(&mut object, alloc, "format", Json::from(format))?;
+    put(&mut object, alloc, "value", told)?;
+    Ok(Json::from(object))
 }
 
-fn admin_json(alloc: Global, mask: AdminMask, key: &Reference) -> Result<Json, AllocError> {
+fn admin_json(alloc: Global, mask: AdminMask, key: &Reference) -> Result<Json, AllocError>
+    ensures { IfOk result (λ json. view json ≡ admin_json (mask.0, raw key.now)) }
+{
     let mut object = Map::new(alloc);
     put_reference(alloc, &mut object, key)?;
     let permissions = permission_digits(alloc, mask)?;
     put(&mut object, alloc, "permissions", Json::from(permissions))?;
-    formatted(alloc, "admin", Json::Object(object))
+    formatted(alloc, "admin", Json::from(object))
 }
 
-fn list_json(alloc: Global, references: &[Reference]) -> Result<Json, AllocError> {
+fn list_json(alloc: Global, references: &[Reference]) -> Result<Json, AllocError>
+    ensures { IfOk result (λ json. view json ≡ list_json (raws references.now)) }
+{
     let mut list = Vec::new(alloc);
     for reference in references {
         list.push(reference_json(alloc, reference)?)?;
     }
-    formatted(alloc, "vlist", Json::Array(list))
+    formatted(alloc, "vlist", Json::from(list))
 }
 
-fn octets_json(alloc: Global, octets: &[u8]) -> Result<Json, AllocError> {
+#[tactic(auto, unfolding(crate::specs::Json::octets_json))]
+fn octets_json(alloc: Global, octets: &[u8]) -> Result<Json, AllocError>
+    ensures { IfOk result (λ json. view json ≡ octets_json octets.now) }
+{
     match str::from_utf8(octets) {
         Ok(text) => formatted(alloc, "string", Json::from(String::from_str(alloc, text)?)),
         Err(_) => formatted(alloc, "base64", Json::from(STANDARD.encode(alloc, octets)?)),
     }
 }
 
-fn data_json(alloc: Global, value: &Value) -> Result<Json, AllocError> {
+#[tactic(auto, unfolding(crate::specs::Json::data_json))]
+fn data_json(alloc: Global, value: &Value) -> Result<Json, AllocError>
+    ensures { IfOk result (λ json. view json ≡ data_json value.now) }
+{
     if let Some((mask, key)) = admin_of(alloc, value)? {
         return admin_json(alloc, mask, &key);
     }
@@ -100,30 +144,58 @@ fn data_json(alloc: Global, value: &Value) -> Result<Json, AllocError> {
     }
 }
 
-fn ttl_json(alloc: Global, value: &Value) -> Result<Json, AllocError> {
-    match kept_for(alloc, value)? {
-        KeptFor::Seconds(seconds) => Ok(Json::from(seconds)),
-        KeptFor::Until(moment) => Ok(Json::from(moment)),
+fn kept_json(kept: KeptFor) -> Json
+    ensures { view result ≡ kept_json kept }
+{
+    match kept {
+        KeptFor::Seconds(seconds) => Json::from(seconds),
+        KeptFor::Until(moment) => Json::from(moment),
     }
 }
 
-fn value_json(alloc: Global, value: &Value) -> Result<Json, AllocError> {
+fn written_json(written: Option<String>) -> Json
+    ensures { view result ≡ written_json (option_map string_bytes written) }
+{
+    match written {
+        Some(moment) => Json::from(moment),
+        None => Json::Null,
+    }
+}
+
+#[tactic(auto, unfolding(crate::specs::Json::value_json))]
+fn value_json(alloc: Global, value: &Value) -> Result<Json, AllocError>
+    ensures { IfOk result (λ json. IsValueJson value.now (view json)) }
+{
+    let kept = kept_for(alloc, value)?;
+    let written = written_words(alloc, value)?;
     let mut object = Map::new(alloc);
     put(&mut object, alloc, "index", Json::from(value.index))?;
     put_text(alloc, &mut object, "type", value.kind.as_slice())?;
     put(&mut object, alloc, "data", data_json(alloc, value)?)?;
-    put(&mut object, alloc, "ttl", ttl_json(alloc, value)?)?;
-    let written = written_words(alloc, value)?;
-    put(&mut object, alloc, "timestamp", Json::from(written))?;
-    Ok(Json::Object(object))
+    put(&mut object, alloc, "ttl", kept_json(kept))?;
+    put(&mut object, alloc, "timestamp", written_json(written))?;
+    Ok(Json::from(object))
 }
 
-fn values_json(alloc: Global, values: &[Value]) -> Result<Json, AllocError> {
+fn values_json(alloc: Global, values: &[Value]) -> Result<Json, AllocError>
+    ensures { IfOk result (λ json. (ds : List Data) × AllZip IsValueJson values.now ds × (view json ≡ array (items_of ds))) }
+{
     let mut list = Vec::new(alloc);
     for value in values {
         list.push(value_json(alloc, value)?)?;
     }
-    Ok(Json::Array(list))
+    Ok(Json::from(list))
+}
+
+#[tactic(auto, unfolding(crate::specs::Json::answer_json))]
+fn answer_json(alloc: Global, handle: &[u8], values: &[Value]) -> Result<Json, AllocError>
+    ensures { IfOk result (λ json. (ds : List Data) × AllZip IsValueJson values.now ds × (view json ≡ answer_json handle.now ds)) }
+{
+    let mut object = Map::new(alloc);
+    put(&mut object, alloc, "responseCode", Json::from(1u32))?;
+    put_text(alloc, &mut object, "handle", handle)?;
+    put(&mut object, alloc, "values", values_json(alloc, values)?)?;
+    Ok(Json::from(object))
 }
 
 /// The values of a handle.
@@ -131,10 +203,10 @@ pub(crate) fn values_answer(
     alloc: Global,
     handle: &[u8],
     values: &[Value],
-) -> Result<Answer, AllocError> {
-    let mut object = Map::new(alloc);
-    put(&mut object, alloc, "responseCode", Json::from(1u32))?;
-    put_text(alloc, &mut object, "handle", handle)?;
-    put(&mut object, alloc, "values", values_json(alloc, values)?)?;
-    json_answer(alloc, Status::Success, &Json::Object(object))
+) -> Result<Answer, AllocError>
+    ensures told { IfOk result (Tells Status.Success Media.Json) }
+    ensures body { IfOk result (λ a. IsJsonOf handle.now values.now a.body.items) }
+{
+    let json = answer_json(alloc, handle, values)?;
+    json_answer(alloc, Status::Success, &json)
 }

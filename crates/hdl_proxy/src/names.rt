@@ -1,29 +1,38 @@
 //! Names where they stand in an address.
 
+ghost use Rattle.std.specs.Prelude.{◌≡◌, IfOk, MatchResult, string_bytes};
+ghost use Rattle.percent_encoding.specs.Percent.{percent_decode};
+ghost use Rattle.hdl_name.specs.Name.{IsHandle};
+ghost use Rattle.hdl_proxy.specs.Words.{text_of};
+
 use hdl_name::{Name, NameFault};
 use percent_encoding::percent_decode;
 use std::alloc::{AllocError, Global};
 
 /// The name that these octets are, or its fault, which is never want of memory.
-pub(crate) fn read_name(
-    alloc: Global,
-    octets: &[u8],
-) -> Result<Result<Name, NameFault>, AllocError> {
+pub(crate) fn read_name(alloc: Global, octets: &[u8]) -> Result<Result<Name, NameFault>, AllocError>
+    ensures { IfOk result (λ read. MatchResult read (λ name. (name ≡ octets.now) × IsHandle octets.now) (λ _. ¬ (IsHandle octets.now))) }
+{
     match Name::read(alloc, octets) {
+        Ok(name) => Ok(Ok(name)),
         Err(NameFault::Memory) => Err(AllocError),
-        read => Ok(read),
+        Err(fault) => Ok(Err(fault)),
     }
 }
 
 /// The octets that a part of a path stands for: its escapes are read once.
-pub(crate) fn unescaped(alloc: Global, text: &str) -> Result<Vec<u8>, AllocError> {
+pub(crate) fn unescaped(alloc: Global, text: &str) -> Result<Vec<u8>, AllocError>
+    ensures { IfOk result (λ octets. octets.items ≡ percent_decode text.now) }
+{
     let mut octets = Vec::new(alloc);
     percent_decode(text.as_bytes()).append_to(&mut octets)?;
     Ok(octets)
 }
 
 /// Octets as text: as they are where they are text, and else their hexadecimal digits.
-pub(crate) fn text_of(alloc: Global, octets: &[u8]) -> Result<String, AllocError> {
+pub(crate) fn text_of(alloc: Global, octets: &[u8]) -> Result<String, AllocError>
+    ensures { IfOk result (λ text. string_bytes text ≡ text_of octets.now) }
+{
     match str::from_utf8(octets) {
         Ok(text) => String::from_str(alloc, text),
         Err(_) => hex::encode(alloc, octets),

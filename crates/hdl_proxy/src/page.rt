@@ -1,7 +1,8 @@
 //! Pages of HTML that grow.
 
-ghost use Rattle.std.specs.Prelude.{◌≡◌, ◌++◌, OnOk};
+ghost use Rattle.std.specs.Prelude.{◌≡◌, ◌++◌, [], IfOk, OnOk, decimal};
 ghost use Rattle.hdl_proxy.specs.Escape.{escaped};
+ghost use Rattle.hdl_proxy.specs.Pages.{element, top};
 
 use crate::escape::put_escaped;
 use std::alloc::{AllocError, Global};
@@ -37,11 +38,11 @@ pub(crate) struct Page {
 
 impl Page {
     /// A page with this title, which is its heading too.
-    pub(crate) fn new(alloc: Global, title: &[u8]) -> Result<Page, AllocError> {
-        let mut page = Page {
-            alloc,
-            octets: Vec::new(alloc),
-        };
+    #[tactic(auto, unfolding(crate::specs::Pages::top))]
+    pub(crate) fn new(alloc: Global, title: &[u8]) -> Result<Page, AllocError>
+        ensures { IfOk result (λ page. page.octets.items ≡ top title.now) }
+    {
+        let mut page = Page::empty(alloc);
         page.markup(HEAD)?;
         page.text(title)?;
         page.markup(STYLE)?;
@@ -50,18 +51,14 @@ impl Page {
         Ok(page)
     }
 
-    /// A page that is hardly seen, with this title and no heading.
-    pub(crate) fn bare(alloc: Global, title: &[u8]) -> Result<Page, AllocError> {
-        let mut page = Page {
+    /// A page on which nothing stands.
+    pub(crate) fn empty(alloc: Global) -> Page
+        ensures { result.octets.items ≡ [] }
+    {
+        Page {
             alloc,
             octets: Vec::new(alloc),
-        };
-        page.element(
-            "<!DOCTYPE html>\n<meta charset=\"utf-8\">\n<title>",
-            title,
-            "</title>\n",
-        )?;
-        Ok(page)
+        }
     }
 
     /// Adds markup of this crate.
@@ -78,20 +75,32 @@ impl Page {
         put_escaped(&mut self.octets, text)
     }
 
-    /// Adds text in an element that is opened and closed by this markup.
+    /// Adds text between this markup.
     pub(crate) fn element(
         &mut self,
-        open: &'static str,
+        front: &'static str,
         text: &[u8],
-        close: &'static str,
-    ) -> Result<(), AllocError> {
-        self.markup(open)?;
+        back: &'static str,
+    ) -> Result<(), AllocError>
+        ensures { OnOk result (self.new.octets.items ≡ self.old.octets.items ++ element front.now text.now back.now) }
+    {
+        self.markup(front)?;
         self.text(text)?;
-        self.markup(close)
+        self.markup(back)
+    }
+
+    /// Adds a number in decimal.
+    pub(crate) fn number(&mut self, number: u32) -> Result<(), AllocError>
+        ensures { OnOk result (self.new.octets.items ≡ self.old.octets.items ++ escaped (decimal number)) }
+    {
+        let digits = format!(in self.alloc; "{number}")?;
+        self.text(digits.as_bytes())
     }
 
     /// The octets so far.
-    pub(crate) fn into_octets(self) -> Vec<u8> {
+    pub(crate) fn into_octets(self) -> Vec<u8>
+        ensures { result ≡ self.octets }
+    {
         let Page { octets, .. } = self;
         octets
     }

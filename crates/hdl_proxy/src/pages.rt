@@ -1,13 +1,26 @@
 //! The pages of the proxy.
 
+ghost use Rattle.std.specs.Prelude.{◌≡◌, ◌++◌, List, ℕ, IfOk, OnOk, flat_map, option_map, string_bytes};
+ghost use Rattle.std.specs.List.{list_all};
+ghost use Rattle.hdl_value.specs.Refs.{raw, raws};
+ghost use Rattle.hdl_proxy.specs.Pages.{bottom, heading, is_plain, is_plain_octet, kept_part, link_part, octets_part, digits_part, admin_part, reference_part, written_part, refusal_page, redirect_page, IsDataPart, IsOctetsPart, IsTimesPart, IsSection, IsSections, IsValuesPart, IsPageOf};
+ghost use Rattle.hdl_proxy.specs.Answer.{IsLocated, LeadsTo, Tells};
+
 use crate::answer::{Answer, Media, Status};
+use crate::link::Link;
 use crate::page::Page;
-use crate::url::{address, is_followed};
 use crate::words::{KeptFor, kept_for, permission_digits, written_words};
 use hdl_value::{AdminMask, Reference, Value, admin_of, vlist_of};
 use std::alloc::{AllocError, Global};
 
-fn page_answer(status: Status, mut page: Page) -> Result<Answer, AllocError> {
+const NO_VALUES: &str = "<p>This handle is there, and has no value that anybody may read.</p>\n";
+
+const ANOTHER: &str = "<p><a href=\"/\">Another handle</a></p>\n";
+
+fn page_answer(status: Status, mut page: Page) -> Result<Answer, AllocError>
+    ensures told { IfOk result (Tells status Media.Page) }
+    ensures body { IfOk result (λ a. a.body.items ≡ page.octets.items ++ bottom) }
+{
     page.markup("</body>\n</html>\n")?;
     Ok(Answer {
         status,
@@ -18,23 +31,28 @@ fn page_answer(status: Status, mut page: Page) -> Result<Answer, AllocError> {
 }
 
 /// A page that says why there are no values: what was asked, and why not.
+#[tactic(auto, unfolding(crate::specs::Pages::refusal_page))]
 pub(crate) fn refusal(
     alloc: Global,
     status: Status,
     asked: &[u8],
     why: &str,
-) -> Result<Answer, AllocError> {
+) -> Result<Answer, AllocError>
+    ensures told { IfOk result (Tells status Media.Page) }
+    ensures body { IfOk result (λ a. a.body.items ≡ refusal_page asked.now why.now) }
+{
     let mut page = Page::new(alloc, asked)?;
-    page.element(
-        "<p>",
-        why.as_bytes(),
-        "</p>\n<p><a href=\"/\">Another handle</a></p>\n",
-    )?;
+    page.markup("<p>")?;
+    page.text(why.as_bytes())?;
+    page.markup("</p>\n")?;
+    page.markup(ANOTHER)?;
     page_answer(status, page)
 }
 
 /// What this is, and a form.
-pub(crate) fn front(alloc: Global) -> Result<Answer, AllocError> {
+pub(crate) fn front(alloc: Global) -> Result<Answer, AllocError>
+    ensures { IfOk result (Tells Status.Success Media.Page) }
+{
     let mut page = Page::new(alloc, b"Handles")?;
     page.markup(
         "<p>A handle is a name that stays, such as <code>10/a</code>. This address and a handle lead to what it names.</p>
@@ -48,101 +66,214 @@ pub(crate) fn front(alloc: Global) -> Result<Answer, AllocError> {
     page_answer(Status::Success, page)
 }
 
-/// The way to an address, which a browser goes by itself.
-pub(crate) fn redirect(alloc: Global, title: &[u8], to: String) -> Result<Answer, AllocError> {
-    let mut page = Page::bare(alloc, title)?;
-    page.element("<a href=\"", to.as_bytes(), "\">")?;
-    page.element("", to.as_bytes(), "</a>\n")?;
+#[tactic(auto, unfolding(crate::specs::Pages::redirect_page))]
+fn put_way(page: &mut Page, title: &[u8], to: &Link) -> Result<(), AllocError>
+    ensures { OnOk result (page.new.octets.items ≡ page.old.octets.items ++ redirect_page title.now to.now) }
+{
+    page.markup("<!DOCTYPE html>\n<meta charset=\"utf-8\">\n<title>")?;
+    page.text(title)?;
+    page.markup("</title>\n<a href=\"")?;
+    page.text(to.octets())?;
+    page.markup("\">")?;
+    page.text(to.octets())?;
+    page.markup("</a>\n")
+}
+
+/// The way that a link leads, which a browser goes by itself.
+pub(crate) fn redirect(alloc: Global, title: &[u8], to: Link) -> Result<Answer, AllocError>
+    ensures leads { IfOk result (LeadsTo title.now to) }
+    ensures located { IfOk result IsLocated }
+{
+    let mut page = Page::empty(alloc);
+    put_way(&mut page, title, &to)?;
     Ok(Answer {
         status: Status::Found,
-        location: Some(to),
+        location: Some(to.into_text()),
         media: Media::Page,
         body: page.into_octets(),
     })
 }
 
-/// The octets as text without control octets but tabs and line ends.
-fn plain(octets: &[u8]) -> Option<&str> {
-    if octets
-        .iter()
-        .any(|octet| matches!(*octet, 0..=8 | 11..=31 | 127))
-    {
-        return None;
-    }
-    str::from_utf8(octets).ok()
+/// Whether an octet of a text stands on a page: control octets don't, but for tabs and line ends.
+fn is_plain_octet(octet: u8) -> bool
+    ensures { result ≡ is_plain_octet octet }
+{
+    octet == b'\t' || octet == b'\n' || (octet >= b' ' && octet != 127)
 }
 
-fn put_admin(page: &mut Page, mask: AdminMask, key: &Reference) -> Result<(), AllocError> {
+fn are_plain(octets: &[u8]) -> bool
+    ensures { result ≡ list_all is_plain_octet octets.now }
+{
+    octets.iter().all(|octet| is_plain_octet(*octet))
+}
+
+/// Whether the octets are text without control octets but tabs and line ends.
+fn is_plain(octets: &[u8]) -> bool
+    ensures { result ≡ is_plain octets.now }
+{
+    let Ok(text) = str::from_utf8(octets) else {
+        return false;
+    };
+    are_plain(text.as_bytes())
+}
+
+#[tactic(auto, unfolding(crate::specs::Pages::admin_part))]
+fn put_admin(page: &mut Page, mask: AdminMask, key: &Reference) -> Result<(), AllocError>
+    ensures { OnOk result (page.new.octets.items ≡ page.old.octets.items ++ admin_part (mask.0, raw key.now)) }
+{
     let digits = permission_digits(page.alloc, mask)?;
-    let index = format!(in page.alloc; "administrator {}:", key.index)?;
-    page.element("<p class=\"data\">", index.as_bytes(), "")?;
+    page.markup("<p class=\"data\">administrator ")?;
+    page.number(key.index)?;
+    page.markup(":")?;
     page.text(key.name.sent())?;
-    page.element(", permissions ", digits.as_bytes(), "</p>\n")
+    page.markup(", permissions ")?;
+    page.text(digits.as_bytes())?;
+    page.markup("</p>\n")
 }
 
-fn put_list(page: &mut Page, references: &[Reference]) -> Result<(), AllocError> {
+#[tactic(auto, unfolding(crate::specs::Pages::reference_part))]
+fn put_reference(page: &mut Page, reference: &Reference) -> Result<(), AllocError>
+    ensures { OnOk result (page.new.octets.items ≡ page.old.octets.items ++ reference_part (raw reference.now)) }
+{
+    page.markup("<p class=\"data\">")?;
+    page.number(reference.index)?;
+    page.markup(":")?;
+    page.text(reference.name.sent())?;
+    page.markup("</p>\n")
+}
+
+fn put_list(page: &mut Page, references: &[Reference]) -> Result<(), AllocError>
+    ensures { OnOk result (page.new.octets.items ≡ page.old.octets.items ++ flat_map reference_part (raws references.now)) }
+{
     for reference in references {
-        let index = format!(in page.alloc; "{}:", reference.index)?;
-        page.element("<p class=\"data\">", index.as_bytes(), "")?;
-        page.element("", reference.name.sent(), "</p>\n")?;
+        put_reference(page, reference)?;
     }
     Ok(())
 }
 
-fn put_link(page: &mut Page, url: &[u8]) -> Result<(), AllocError> {
-    let to = address(page.alloc, url)?;
-    page.element(
-        "<p class=\"data\"><a rel=\"noreferrer\" href=\"",
-        to.as_bytes(),
-        "\">",
-    )?;
-    page.element("", url, "</a></p>\n")
+#[tactic(auto, unfolding(crate::specs::Pages::link_part))]
+fn put_link(page: &mut Page, to: &Link, text: &[u8]) -> Result<(), AllocError>
+    ensures { OnOk result (page.new.octets.items ≡ page.old.octets.items ++ link_part to.now text.now) }
+{
+    page.markup("<p class=\"data\"><a rel=\"noreferrer\" href=\"")?;
+    page.text(to.octets())?;
+    page.markup("\">")?;
+    page.text(text)?;
+    page.markup("</a></p>\n")
 }
 
-fn put_octets(page: &mut Page, octets: &[u8]) -> Result<(), AllocError> {
-    if let Some(text) = plain(octets) {
-        return page.element("<p class=\"data\">", text.as_bytes(), "</p>\n");
-    }
+#[tactic(auto, unfolding(crate::specs::Pages::digits_part))]
+fn put_digits(page: &mut Page, octets: &[u8]) -> Result<(), AllocError>
+    ensures { OnOk result (page.new.octets.items ≡ page.old.octets.items ++ digits_part octets.now) }
+{
     let digits = hex::encode(page.alloc, octets)?;
     let count = format!(in page.alloc; "{}", octets.len())?;
-    page.element("<p>", count.as_bytes(), " octets</p>\n")?;
+    page.markup("<p>")?;
+    page.text(count.as_bytes())?;
+    page.markup(" octets</p>\n")?;
     page.element("<p class=\"data\">", digits.as_bytes(), "</p>\n")
 }
 
-fn put_data(page: &mut Page, value: &Value) -> Result<(), AllocError> {
+fn put_octets(page: &mut Page, octets: &[u8]) -> Result<(), AllocError>
+    ensures { OnOk result ((part : List ℕ) × IsOctetsPart octets.now part × (page.new.octets.items ≡ page.old.octets.items ++ part)) }
+{
+    if !is_plain(octets) {
+        return put_digits(page, octets);
+    }
+    match Link::followed(page.alloc, octets)? {
+        Some(link) => put_link(page, &link, octets),
+        None => page.element("<p class=\"data\">", octets, "</p>\n"),
+    }
+}
+
+fn put_data(page: &mut Page, value: &Value) -> Result<(), AllocError>
+    ensures { OnOk result ((part : List ℕ) × IsDataPart value.now part × (page.new.octets.items ≡ page.old.octets.items ++ part)) }
+{
     if let Some((mask, key)) = admin_of(page.alloc, value)? {
         return put_admin(page, mask, &key);
     }
     if let Some(references) = vlist_of(page.alloc, value)? {
         return put_list(page, &references);
     }
-    let octets = value.bytes.as_slice();
-    if is_followed(octets) && plain(octets).is_some() {
-        return put_link(page, octets);
-    }
-    put_octets(page, octets)
+    put_octets(page, value.bytes.as_slice())
 }
 
-fn put_times(page: &mut Page, value: &Value) -> Result<(), AllocError> {
-    let kept = match kept_for(page.alloc, value)? {
-        KeptFor::Seconds(seconds) => format!(in page.alloc; "may be kept for {seconds} seconds")?,
-        KeptFor::Until(moment) => format!(in page.alloc; "may be kept until {moment}")?,
-    };
-    page.element("<p><small>", kept.as_bytes(), "")?;
-    if value.stamp != 0 {
-        if let Some(moment) = written_words(page.alloc, value)? {
-            page.element(", written ", moment.as_bytes(), "")?;
+fn put_kept(page: &mut Page, kept: KeptFor) -> Result<(), AllocError>
+    ensures { OnOk result (page.new.octets.items ≡ page.old.octets.items ++ kept_part kept) }
+{
+    match kept {
+        KeptFor::Seconds(seconds) => {
+            page.markup("may be kept for ")?;
+            page.number(seconds)?;
+            page.markup(" seconds")
+        }
+        KeptFor::Until(moment) => {
+            page.markup("may be kept until ")?;
+            page.text(moment.as_bytes())
         }
     }
+}
+
+/// When a value was written. A timestamp of 0 says nothing.
+fn put_written(page: &mut Page, stamp: u64, written: Option<String>) -> Result<(), AllocError>
+    ensures { OnOk result (page.new.octets.items ≡ page.old.octets.items ++ written_part stamp (option_map string_bytes written)) }
+{
+    let Some(moment) = written else {
+        return Ok(());
+    };
+    if stamp == 0 {
+        return Ok(());
+    }
+    page.markup(", written ")?;
+    page.text(moment.as_bytes())
+}
+
+fn put_times(page: &mut Page, value: &Value) -> Result<(), AllocError>
+    ensures { OnOk result ((part : List ℕ) × IsTimesPart value.now part × (page.new.octets.items ≡ page.old.octets.items ++ part)) }
+{
+    let kept = kept_for(page.alloc, value)?;
+    let written = written_words(page.alloc, value)?;
+    page.markup("<p><small>")?;
+    put_kept(page, kept)?;
+    put_written(page, value.stamp, written)?;
     page.markup("</small></p>\n")
 }
 
-fn put_value(page: &mut Page, value: &Value) -> Result<(), AllocError> {
-    let index = format!(in page.alloc; "{}", value.index)?;
-    page.element("<h2>", value.kind.as_slice(), "")?;
-    page.element(" <small>index ", index.as_bytes(), "</small></h2>\n")?;
+#[tactic(auto, unfolding(crate::specs::Pages::heading))]
+fn put_heading(page: &mut Page, value: &Value) -> Result<(), AllocError>
+    ensures { OnOk result (page.new.octets.items ≡ page.old.octets.items ++ heading value.now) }
+{
+    page.markup("<h2>")?;
+    page.text(value.kind.as_slice())?;
+    page.markup(" <small>index ")?;
+    page.number(value.index)?;
+    page.markup("</small></h2>\n")
+}
+
+fn put_value(page: &mut Page, value: &Value) -> Result<(), AllocError>
+    ensures { OnOk result ((section : List ℕ) × IsSection value.now section × (page.new.octets.items ≡ page.old.octets.items ++ section)) }
+{
+    put_heading(page, value)?;
     put_data(page, value)?;
     put_times(page, value)
+}
+
+fn put_sections(page: &mut Page, values: &[Value]) -> Result<(), AllocError>
+    ensures { OnOk result ((part : List ℕ) × IsSections values.now part × (page.new.octets.items ≡ page.old.octets.items ++ part)) }
+{
+    for value in values {
+        put_value(page, value)?;
+    }
+    Ok(())
+}
+
+fn put_values(page: &mut Page, values: &[Value]) -> Result<(), AllocError>
+    ensures { OnOk result ((part : List ℕ) × IsValuesPart values.now part × (page.new.octets.items ≡ page.old.octets.items ++ part)) }
+{
+    if values.is_empty() {
+        return page.markup(NO_VALUES);
+    }
+    put_sections(page, values)
 }
 
 /// The values of a handle.
@@ -150,14 +281,12 @@ pub(crate) fn values_page(
     alloc: Global,
     handle: &[u8],
     values: &[Value],
-) -> Result<Answer, AllocError> {
+) -> Result<Answer, AllocError>
+    ensures told { IfOk result (Tells Status.Success Media.Page) }
+    ensures body { IfOk result (λ a. IsPageOf handle.now values.now a.body.items) }
+{
     let mut page = Page::new(alloc, handle)?;
-    if values.is_empty() {
-        page.markup("<p>This handle is there, and has no value that anybody may read.</p>\n")?;
-    }
-    for value in values {
-        put_value(&mut page, value)?;
-    }
-    page.markup("<p><a href=\"/\">Another handle</a></p>\n")?;
+    put_values(&mut page, values)?;
+    page.markup(ANOTHER)?;
     page_answer(Status::Success, page)
 }

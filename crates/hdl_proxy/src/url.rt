@@ -9,7 +9,7 @@ use percent_encoding::{AsciiSet, CONTROLS, NON_ALPHANUMERIC, ascii_set, percent_
 use std::alloc::{AllocError, Global};
 
 /// What is escaped in a URL that is followed: what isn't graphic ASCII, and quotes and brackets that no URL has.
-const IN_LOCATION: AsciiSet = ascii_set!(
+pub(crate) const IN_LOCATION: AsciiSet = ascii_set!(
     CONTROLS
         .add(b' ')
         .add(b'"')
@@ -20,7 +20,7 @@ const IN_LOCATION: AsciiSet = ascii_set!(
 );
 
 /// What is escaped in a path: all but letters, digits, `-`, `.`, `_`, `~` and `/`.
-const IN_PATH: AsciiSet = ascii_set!(
+pub(crate) const IN_PATH: AsciiSet = ascii_set!(
     NON_ALPHANUMERIC
         .remove(b'-')
         .remove(b'.')

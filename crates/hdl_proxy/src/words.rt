@@ -1,36 +1,58 @@
 //! The numbers of values in words.
 
+ghost use Rattle.std.specs.Prelude.{◌≡◌, ◌+◌, ◌<◌, ◌++◌, IfOk, OnOk, option_map, string_bytes};
+ghost use Rattle.hdl_proxy.specs.Words.{bits, permission_digits, IsMomentText, IsKeptFor, IsWritten};
+
 use hdl_value::{AdminMask, Value};
-use jiff::Timestamp;
+use jiff_core::Timestamp;
+use jiff_fmt::temporal::DateTimePrinter;
 use std::alloc::{AllocError, Global};
 
-fn digit(is_set: bool) -> char {
-    if is_set { '1' } else { '0' }
+fn digit(bit: u16) -> char
+    requires { bit < 2 }
+    ensures { result ≡ 48 + bit }
+{
+    if bit == 0 { '0' } else { '1' }
+}
+
+/// Puts so many binary digits of a number at the end, the lowest first.
+fn put_bits(out: &mut String, count: u32, number: u16) -> Result<(), AllocError>
+    ensures { OnOk result (string_bytes out.new ≡ string_bytes out.old ++ bits count number) }
+{
+    let mut rest = number;
+    for _ in 0..count {
+        out.push(digit(rest % 2))?;
+        rest /= 2;
+    }
+    Ok(())
 }
 
 /// The twelve permissions of an administrator, from the lowest bit on.
-pub(crate) fn permission_digits(alloc: Global, mask: AdminMask) -> Result<String, AllocError> {
+pub(crate) fn permission_digits(alloc: Global, mask: AdminMask) -> Result<String, AllocError>
+    ensures { IfOk result (λ digits. string_bytes digits ≡ permission_digits mask.0) }
+{
     let mut digits = String::new(alloc);
-    for bit in 0..12u32 {
-        digits.push(digit(mask.0.rotate_right(bit) & 1 == 1))?;
-    }
+    put_bits(&mut digits, 12, mask.0)?;
     Ok(digits)
 }
 
-fn moment_words(alloc: Global, moment: Option<Timestamp>) -> Result<Option<String>, AllocError> {
-    match moment {
-        Some(moment) => Ok(Some(format!(in alloc; "{moment}")?)),
-        None => Ok(None),
-    }
+/// A moment in RFC 3339, at UTC.
+fn moment_words(alloc: Global, moment: Timestamp) -> Result<String, AllocError>
+    ensures { IfOk result (λ words. IsMomentText moment.nanosecond (string_bytes words)) }
+{
+    let text = DateTimePrinter::new().timestamp_text(moment);
+    String::from_str(alloc, text.as_str())
 }
 
 /// When a value was written, as in RFC 3339, where the calendar has it.
-pub(crate) fn written_words(alloc: Global, value: &Value) -> Result<Option<String>, AllocError> {
-    let moment = match i64::try_from(value.stamp) {
-        Ok(milliseconds) => Timestamp::from_millisecond(milliseconds).ok(),
-        Err(_) => None,
-    };
-    moment_words(alloc, moment)
+pub(crate) fn written_words(alloc: Global, value: &Value) -> Result<Option<String>, AllocError>
+    ensures { IfOk result (λ o. IsWritten value.now (option_map string_bytes o)) }
+{
+    let nanoseconds = i128::from(value.stamp) * 1_000_000;
+    match Timestamp::from_nanosecond(nanoseconds) {
+        Ok(moment) => Ok(Some(moment_words(alloc, moment)?)),
+        Err(_) => Ok(None),
+    }
 }
 
 /// How long a value may be kept (RFC 3651, section 3.1): so many seconds, or until then.
@@ -41,15 +63,16 @@ pub(crate) enum KeptFor {
 }
 
 /// How long a value may be kept: kind 1 is a moment, every other kind counts seconds.
-pub(crate) fn kept_for(alloc: Global, value: &Value) -> Result<KeptFor, AllocError> {
+pub(crate) fn kept_for(alloc: Global, value: &Value) -> Result<KeptFor, AllocError>
+    ensures { IfOk result (IsKeptFor value.now) }
+{
     let [kind, a, b, c, d] = value.ttl;
     let seconds = u32::from_be_bytes([a, b, c, d]);
     if kind != 1 {
         return Ok(KeptFor::Seconds(seconds));
     }
-    let moment = Timestamp::from_second(i64::from(seconds)).ok();
-    match moment_words(alloc, moment)? {
-        Some(text) => Ok(KeptFor::Until(text)),
-        None => Ok(KeptFor::Seconds(seconds)),
-    }
+    let Ok(moment) = Timestamp::from_nanosecond(i128::from(seconds) * 1_000_000_000) else {
+        unreachable!()
+    };
+    Ok(KeptFor::Until(moment_words(alloc, moment)?))
 }

@@ -1,7 +1,8 @@
 //! The outside of a worker: where streams and datagrams come in, a clock, and a source of nonces.
 //!
-//! No call of these traits may wait for another thread without end, and none is given a handle, so each returns. A door in
-//! memory tells its octets; of one that tells nothing, as a socket's, contracts count faults alone.
+//! None of these calls is given a handle of threads or of waiting, so none waits for another thread. A read or a write of a socket waits for
+//! its peer, as long as the socket lets it. A door in memory tells its octets; of one that tells nothing, as a socket's, contracts count
+//! faults alone.
 
 ghost use Rattle.std.specs.Prelude.{◌≡◌, ◌≤◌, ◌<◌, ◌++◌, ◌∷◌, [], List, ℕ, Bool, true, length, take, replicate, IfOk, IfSome, IsTrue, MatchOption, MatchResult};
 ghost use Rattle.hdl_workers.specs.Door.{Connection, fresh, hear, say, break_off, Counts, Takes};

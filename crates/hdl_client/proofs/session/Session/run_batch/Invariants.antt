@@ -1,0 +1,5 @@
+use Rattle.hdl_client.specs.Batch.{AreApart}
+use Rattle.hdl_client.proofs.session.Session.run_batch.Given as goal
+
+abbrev pub invariant-loop : goal.invariant-loop
+invariant-loop g l = AreApart l.flights.items

@@ -1,0 +1,79 @@
+-- A Location stands just with status Found, and is graphic ASCII.
+use Rattle.std.proofs.Common.{◌≡◌, ◌≢◌, ℕ, Bool, true, false, cond, List, All, Option, Some, None, MatchOption, String, string_bytes, option_map, sym, ◌∙◌, subst, inl, inr}
+use Rattle.std.specs.Global.{Global}
+use Rattle.std.proofs.lemmas.List.Elements.{All-cons}
+use Rattle.hdl_value.specs.declared.value.Value.{Value}
+use Rattle.hdl_proxy.specs.Answer.{LeadsTo, Tells, IsLocated, IsWayOf, IsWayOfValue, Goes, ShowsValues, ShowsFound}
+use Rattle.hdl_proxy.specs.Link.{IsLink, address_of, path_to}
+use Rattle.hdl_proxy.specs.Status.{status_of_code}
+use Rattle.hdl_proxy.specs.Url.{IsGraphic}
+use Rattle.hdl_proxy.specs.declared.answer.Answer.{Answer}
+use Rattle.hdl_proxy.specs.declared.answer.Media.{Media}
+use Rattle.hdl_proxy.specs.declared.answer.Status.{Status}
+use Rattle.hdl_proxy.specs.declared.answer.Status.TheVariants as status
+use Rattle.hdl_proxy.specs.declared.found.Found.{Found}
+use Rattle.hdl_proxy.specs.declared.found.Found.TheVariants.{Values, Refused, Nothing}
+use Rattle.hdl_proxy.specs.declared.question.Form.{Form}
+use Rattle.hdl_proxy.specs.declared.question.Form.TheVariants.{Follow, Page, Json}
+use Rattle.hdl_proxy.proofs.Addresses.{graphic, location_covers, path_covers, slash_graphic}
+
+-- ---- links are graphic ASCII
+
+pub address_graphic : (url : List ℕ) → All IsGraphic (address_of url)
+address_graphic url = graphic _ location_covers url
+
+pub path_graphic : (name : List ℕ) → All IsGraphic (path_to name)
+path_graphic name = All-cons IsGraphic 47 _ slash_graphic (graphic _ path_covers name)
+
+pub link_graphic : (to : List ℕ) → IsLink to → All IsGraphic to
+link_graphic to (inl w) = subst (All IsGraphic) (sym w.1.1) (address_graphic w.0)
+link_graphic to (inr w) = subst (All IsGraphic) (sym w.1.1) (path_graphic w.0)
+
+-- ---- answers
+
+located_some : (o : Option (String Global)) (s : Status) (to : List ℕ) → option_map string_bytes o ≡ Some to → s ≡ status.Found → All IsGraphic to → MatchOption o (s ≢ status.Found) (λ text. (s ≡ status.Found) × All IsGraphic (string_bytes text))
+located_some None s to e f g = absurd cc
+located_some (Some text) s to e f g =
+    let same : to ≡ string_bytes text = cc in
+    (f, subst (All IsGraphic) same g)
+
+pub leads_located : (title to : List ℕ) (a : Answer) → All IsGraphic to → LeadsTo title to a → IsLocated a
+leads_located title to a g h = located_some a.location a.status to h.location h.status g
+
+located_none : (o : Option (String Global)) (s : Status) → o ≡ None → s ≢ status.Found → MatchOption o (s ≢ status.Found) (λ text. (s ≡ status.Found) × All IsGraphic (string_bytes text))
+located_none None s e f = f
+located_none (Some text) s e f = absurd cc
+
+pub tells_located : (s : Status) (m : Media) (a : Answer) → s ≢ status.Found → Tells s m a → IsLocated a
+tells_located s m a other h = located_none a.location a.status h.location (λ e. other (sym h.status ∙ e))
+
+-- ---- what is found
+
+either : (b : Bool) (x y : Status) → x ≢ status.Found → y ≢ status.Found → cond b x y ≢ status.Found
+either true x y p q = p
+either false x y p q = q
+
+no_code_follows : (code : ℕ) → status_of_code code ≢ status.Found
+no_code_follows code =
+    either _ status.Success _ (λ e. cc)
+    (either _ status.NotFound _ (λ e. cc)
+    (either _ status.BadRequest _ (λ e. cc)
+    (either _ status.Unavailable status.BadGateway (λ e. cc) (λ e. cc))))
+
+way_located : (handle to : List ℕ) (first : Option Value) (a : Answer) → IsWayOfValue first (Some to) → LeadsTo handle to a → IsLocated a
+way_located handle to None a w h = absurd cc
+way_located handle to (Some v) a w h = leads_located handle to a (subst (All IsGraphic) (sym w.1) (address_graphic v.bytes)) h
+
+goes_located : (handle : List ℕ) (values : List Value) (way : Option (List ℕ)) (a : Answer) → IsWayOf values way → Goes handle values way a → IsLocated a
+goes_located handle values None a w h = tells_located status.Success _ a (λ e. cc) h.told
+goes_located handle values (Some to) a w h = way_located handle to w.0 a w.1.1 h
+
+values_located : (form : Form) (handle : List ℕ) (values : List Value) (a : Answer) → ShowsValues form handle values a → IsLocated a
+values_located Follow handle values a h = goes_located handle values h.0 a h.1.0 h.1.1
+values_located Page handle values a h = tells_located status.Success _ a (λ e. cc) h.told
+values_located Json handle values a h = tells_located status.Success _ a (λ e. cc) h.told
+
+pub found_located : (form : Form) (handle : List ℕ) (found : Found) (a : Answer) → ShowsFound form handle found a → IsLocated a
+found_located form handle (Values values) a h = values_located form handle values.items a h
+found_located form handle (Refused code) a h = tells_located (status_of_code code) _ a (no_code_follows code) h.told
+found_located form handle Nothing a h = tells_located status.BadGateway _ a (λ e. cc) h.told

@@ -1,0 +1,6 @@
+-- What two clauses say of an answer, said at once.
+use Rattle.std.specs.Prelude.{Result, Ok, Err, IfOk}
+
+pub made : {A E : Type 0} (r : Result A E) (P Q R : A → Type 0) → ((a : A) → P a → Q a → R a) → IfOk r P → IfOk r Q → IfOk r R
+made (Ok a) P Q R f p q = f a p q
+made (Err e) P Q R f p q = tt

@@ -1,0 +1,25 @@
+-- Where links lead.
+use Rattle.std.specs.Prelude.{◌≡◌, ◌⊎◌, ℕ, List, ◌∷◌, Option, Some, None}
+use Rattle.percent_encoding.specs.Percent.{percent_encode}
+use Rattle.hdl_name.specs.Name.{IsHandle}
+use Rattle.hdl_proxy.specs.Url.{IsFollowed}
+use Rattle.hdl_proxy.specs.declared.url.TheConstants.{IN_LOCATION, IN_PATH}
+
+-- a URL as it stands in a Location
+abbrev pub address_of : List ℕ → List ℕ
+address_of url = percent_encode IN_LOCATION url
+
+-- the path of a handle's own address: '/', and the name with its escapes
+abbrev pub path_to : List ℕ → List ℕ
+path_to name = 47 ∷ percent_encode IN_PATH name
+
+-- the address of a URL that is followed, or the path of a handle
+abbrev pub IsLink : List ℕ → Type 0
+IsLink to =
+    ((url : List ℕ) × (IsFollowed url × (to ≡ address_of url)))
+    ⊎ ((name : List ℕ) × (IsHandle name × (to ≡ path_to name)))
+
+-- the way to this URL: its address, and none just where it isn't followed
+abbrev pub IsWayTo : List ℕ → Option (List ℕ) → Type 0
+IsWayTo url None = ¬ (IsFollowed url)
+IsWayTo url (Some to) = IsFollowed url × (to ≡ address_of url)

@@ -1,0 +1,56 @@
+-- The numbers of a value in words, and octets as text.
+use Rattle.std.specs.Prelude.{◌≡◌, ◌≢◌, ℕ, zero, suc, ◌+◌, ◌*◌, ◌/◌, ◌%◌, ℤ, pos, List, [], ◌∷◌, ◌++◌, drop, slice_index, if◌then◌else◌, Option, Some, None, string_bytes}
+use Rattle.std.specs.Int.{w32, from_be_bytes}
+use Rattle.std.specs.Str.{is_utf8}
+use Rattle.hex.specs.Hex.{encode_lower}
+use Rattle.jiff_core.specs.declared.civil.datetime.DateTime.{DateTime}
+use Rattle.jiff_core.specs.DateTime.{civil_nanos}
+use Rattle.jiff_core.specs.Timestamp.{IsTimestampNanos}
+use Rattle.jiff_fmt.specs.Text.{datetime_text, zulu_text}
+use Rattle.std.specs.Prelude.{false}
+use Rattle.hdl_value.specs.declared.value.Value.{Value}
+use Rattle.hdl_proxy.specs.declared.words.KeptFor.{KeptFor}
+use Rattle.hdl_proxy.specs.declared.words.KeptFor.TheVariants.{Seconds, Until}
+
+-- ---- octets
+
+-- octets as text: as they are where they are text, and else their hexadecimal digits
+abbrev pub text_of : List ℕ → List ℕ
+text_of octets = if is_utf8 octets then octets else encode_lower octets
+
+-- ---- permissions
+
+-- so many binary digits of a number, the lowest first
+unfoldable pub bits : ℕ → ℕ → List ℕ
+bits zero n = []
+bits (suc k) n = (48 + n % 2) ∷ bits k (n / 2)
+
+-- an administrator's permissions are twelve of them
+abbrev pub permission_digits : ℕ → List ℕ
+permission_digits mask = bits 12 mask
+
+-- ---- moments
+
+-- the words are this moment in RFC 3339, in nanoseconds since 1970: what a clock at UTC shows then, and Z
+abbrev pub IsMomentText : ℤ → List ℕ → Type 0
+IsMomentText nanoseconds words =
+    (shown : DateTime) × (civil_nanos shown ≡ nanoseconds) × (words ≡ datetime_text false 84 None shown ++ zulu_text false)
+
+-- the words are when the value was written, by its timestamp in milliseconds; there are none where the calendar hasn't that moment
+abbrev pub written_at : Value → ℤ
+written_at v = pos (v.stamp * 1_000_000)
+
+abbrev pub IsWritten : Value → Option (List ℕ) → Type 0
+IsWritten v None = ¬ IsTimestampNanos (written_at v)
+IsWritten v (Some words) = IsMomentText (written_at v) words
+
+-- how long a value may be kept (RFC 3651, section 3.1): kind 1 of TTL is a moment in seconds, every other kind counts seconds
+abbrev pub ttl_kind : Value → ℕ
+ttl_kind v = slice_index v.ttl 0
+
+abbrev pub ttl_seconds : Value → ℕ
+ttl_seconds v = from_be_bytes w32 (drop 1 v.ttl)
+
+abbrev pub IsKeptFor : Value → KeptFor → Type 0
+IsKeptFor v (Seconds n) = (ttl_kind v ≢ 1) × (n ≡ ttl_seconds v)
+IsKeptFor v (Until words) = (ttl_kind v ≡ 1) × IsMomentText (pos (ttl_seconds v * 1_000_000_000)) (string_bytes words)
