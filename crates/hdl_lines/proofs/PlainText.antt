@@ -1,6 +1,6 @@
 -- Text without a control character: what is printed of octets.
-use Rattle.std.proofs.Common.{◌≡◌, ℕ, zero, suc, ◌/◌, ◌%◌, ◌<◌, ◌≤◌, ◌⊎◌, Bool, true, false, eqb, ltb, List, [], ◌∷◌, ◌++◌, length, get_or, refl, sym, ap, ◌∙◌, arith, inl, inr, tests}
-use Rattle.std.specs.Prelude.{not, ◌&&◌, nat_le, nat_lt, codes}
+use Rattle.std.proofs.Common.{◌≡◌, ℕ, zero, suc, ◌/◌, ◌%◌, ◌<◌, ◌≤◌, Bool, true, false, ltb, List, [], ◌∷◌, ◌++◌, length, get_or, refl, sym, ap, ◌∙◌, arith, inl, inr, tests}
+use Rattle.std.specs.Prelude.{not, ◌&&◌, nat_lt, codes}
 use Rattle.std.specs.Char.{IsScalar, is_control, encode_utf8}
 use Rattle.std.specs.Fmt.{digits, digit_glyph}
 use Rattle.std.specs.List.{AllByRecursion, flat_map, list_all}

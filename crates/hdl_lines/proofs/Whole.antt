@@ -1,5 +1,5 @@
 -- The line of a value that fields say, and of any other.
-use Rattle.std.proofs.Common.{◌≡◌, ℕ, List, ◌++◌, Some, None, true, false, refl, sym, ap, inl, inr}
+use Rattle.std.proofs.Common.{◌≡◌, ◌++◌, Some, None, refl, ap, inl, inr}
 use Rattle.std.specs.Prelude.{◌&&◌}
 use Rattle.std.proofs.lemmas.Bool.{and_parts}
 use Rattle.std.proofs.lemmas.Option.{cond_some}

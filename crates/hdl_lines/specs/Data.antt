@@ -1,21 +1,19 @@
 -- The data of a value in words: how each format is read, and which one says it.
-use Rattle.std.specs.Prelude.{ℕ, ◌^◌, ◌==◌, nat_lt, Bool, not, ◌&&◌, if◌then◌else◌, List, [], ◌∷◌, ◌++◌, length, drop, slice_index, codes, decimal, Option, Some, None, unwrap_or}
+use Rattle.std.specs.Prelude.{ℕ, ◌^◌, ◌==◌, nat_lt, Bool, not, ◌&&◌, if◌then◌else◌, List, [], ◌∷◌, ◌++◌, length, codes, decimal, Option, Some, None, unwrap_or}
 use Rattle.std.specs.Option.{option_map}
 use Rattle.std.specs.Result.{result_ok}
 use Rattle.std.specs.List.{list_all, flat_map, slice_split}
-use Rattle.std.specs.Int.{w16, w32, to_be_bytes, from_be_bytes}
+use Rattle.std.specs.Int.{w16, to_be_bytes}
 use Rattle.std.specs.Str.{bytes_eq}
 use Rattle.hex.specs.Hex.{decode_of, encode_lower}
 use Rattle.hdl_value.specs.declared.references.RawRef.{RawRef}
 use Rattle.hdl_value.specs.declared.value.Value.{Value}
-use Rattle.hdl_value.specs.Spelling.{reference, references, spelling}
-use Rattle.hdl_value.specs.Reading.{◌>>=◌, whole_of}
-use Rattle.hdl_value.specs.Cut.{value_at}
+use Rattle.hdl_value.specs.Spelling.{reference, references}
+use Rattle.hdl_value.specs.Reading.{◌>>=◌}
 use Rattle.hdl_value.specs.Refs.{admin_read, list_read}
-use Rattle.hdl_value.specs.Tests.{is_sound}
 use Rattle.hdl_lines.specs.declared.data.Format.{Format}
 use Rattle.hdl_lines.specs.declared.data.Format.TheVariants as format
-use Rattle.hdl_lines.specs.Fields.{space, colon, is_word, is_text, is_handle_word, cut_at, number_in, bits, mask_in, permission_digits, number_at, word_at, permissions_at}
+use Rattle.hdl_lines.specs.Fields.{space, colon, is_word, is_text, is_handle_word, cut_at, number_in, bits, mask_in}
 
 -- ---- data, by its format
 

@@ -1,4 +1,4 @@
-use Rattle.std.proofs.Common.{◌≡◌, sym, ap, subst, refl, ◌∙◌, inl, inr}
+use Rattle.std.proofs.Common.{◌≡◌, sym, subst, refl, ◌∙◌, inr}
 use Rattle.hdl_value.specs.declared.value.Value.{Value}
 use Rattle.hdl_value.specs.Fault.{IsSound, IsFirstFault}
 use Rattle.hdl_lines.proofs.Spelt.{spelt_again, spelt_is}
