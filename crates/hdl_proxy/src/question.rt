@@ -1,11 +1,11 @@
 //! What a resolution asks for.
 
-ghost use Rattle.std.specs.Prelude.{◌≡◌, true, IfOk, IfSome};
+ghost use Rattle.std.specs.Prelude.{◌≡◌, true, IfOk, IfNone, IfSome};
 ghost use Rattle.hdl_msg.specs.Codes.{has_flag};
 ghost use Rattle.hdl_msg.specs.Message.{resolution};
 ghost use Rattle.hdl_msg.specs.RequestBody.{requested};
 ghost use Rattle.hdl_msg.specs.declared.codes.OpFlag.TheVariants.{PublicOnly};
-ghost use Rattle.hdl_proxy.specs.Question.{AsksInPublic};
+ghost use Rattle.hdl_proxy.specs.Question.{AsksInPublic, IsTooLong};
 
 use hdl_limits::MESSAGE_MAX;
 use hdl_msg::{Header, OpCode, OpFlag, RequestBody, request_len, write_request};
@@ -73,7 +73,8 @@ impl Question {
 
     /// The message that asks it, of anybody and without a key. None where it would have more octets than a message may.
     pub fn message(&self, alloc: Global) -> Result<Option<Vec<u8>>, AllocError>
-        ensures { IfOk result (λ o. IfSome o (λ v. AsksInPublic v.items self.now)) }
+        ensures asks { IfOk result (λ o. IfSome o (λ v. AsksInPublic v.items self.now)) }
+        ensures too_long { IfOk result (λ o. IfNone o (IsTooLong self.now)) }
     {
         let body = self.body(alloc)?;
         if request_len(&body) > MESSAGE_MAX as usize {
