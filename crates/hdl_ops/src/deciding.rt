@@ -59,13 +59,19 @@ fn look<R: Rows>(
     ensures by_index { OnOk result (HaveTheirIndexes (R.content rows.old) (handle_of request.now) (sight (R.content rows.old) request.now).values) }
     ensures count { R.refused rows.new ≡ counted result (R.refused rows.old) }
 {
-    let there = rows.exists(name)?;
-    let values = rows.values(name)?;
+    let found = rows.look(name)?;
     let names = names(alloc, rows, request, name)?;
-    Ok(Sight {
-        there,
-        values,
-        names,
+    Ok(match found {
+        Some(values) => Sight {
+            there: true,
+            values,
+            names,
+        },
+        None => Sight {
+            there: false,
+            values: Vec::new(alloc),
+            names,
+        },
     })
 }
 

@@ -1,13 +1,13 @@
 //! From the code of a table of decision to the whole decision.
 
-ghost use Rattle.std.specs.Prelude.{◌≡◌, ◌&&◌, filter, IfOk, IsTrue};
+ghost use Rattle.std.specs.Prelude.{◌≡◌, ◌&&◌, filter, if◌then◌else◌, Some, None, IfOk, IsTrue};
 ghost use Rattle.hdl_msg.specs.Bodies.{operation_of};
 ghost use Rattle.hdl_msg.specs.Codes.{response_number};
 ghost use Rattle.hdl_msg.specs.Views.{values_of};
 ghost use Rattle.hdl_ops.specs.Decisions as decisions;
 ghost use Rattle.hdl_ops.specs.Decisions.{may_read, carried, change_of};
 ghost use Rattle.hdl_ops.specs.Replies.{fits};
-ghost use Rattle.hdl_ops.specs.Requests.{named};
+ghost use Rattle.hdl_ops.specs.Requests.{named, resolves};
 ghost use Rattle.hdl_ops.specs.Sights.{asks};
 ghost use Rattle.hdl_ops.specs.Views.{decision_of, level_of, sight_of};
 
@@ -38,30 +38,34 @@ fn shown(body: &Body<'_>, level: &Level<'_>, mut values: Vec<Value>) -> Vec<Valu
     values
 }
 
-/// What the reply carries with code 1.
+/// What the reply carries with code 1, and the name of the request, unless the reply carries that.
 fn carried(
-    alloc: Global,
     request: &Request<'_>,
     level: &Level<'_>,
     sight: Sight,
-) -> Result<ReplyContent, AllocError>
-    ensures { IfOk result (λ content. content ≡ carried (sight_of sight) request.now (level_of level.now)) }
+    name: Name,
+) -> (ReplyContent, Option<Name>)
+    requires named { name ≡ named request.now.operation }
+    ensures content { result.0 ≡ carried (sight_of sight) request.now (level_of level.now) }
+    ensures left { result.1 ≡ (if resolves request.now.operation then None else Some (named request.now.operation)) }
 {
-    match *request.body() {
-        Body::Resolution { handle, .. } => Ok(ReplyContent::Values {
-            handle: Octets::new(Vec::from_slice(alloc, handle)?),
-            values: Listed::new(shown(request.body(), level, sight.values)),
-        }),
-        Body::List { .. } => Ok(ReplyContent::Handles {
-            handles: Listed::new(sight.names),
-        }),
-        Body::Create { .. } => Ok(ReplyContent::Nothing),
-        Body::Delete { .. } => Ok(ReplyContent::Nothing),
-        Body::Add { .. } => Ok(ReplyContent::Nothing),
-        Body::Remove { .. } => Ok(ReplyContent::Nothing),
-        Body::Modify { .. } => Ok(ReplyContent::Nothing),
-        Body::Response { .. } => Ok(ReplyContent::Nothing),
-        Body::Other { .. } => Ok(ReplyContent::Nothing),
+    match request.body() {
+        Body::Resolution { .. } => {
+            let values = Listed::new(shown(request.body(), level, sight.values));
+            let handle = Octets::new(name.into_sent());
+            (ReplyContent::Values { handle, values }, None)
+        }
+        Body::List { .. } => {
+            let handles = Listed::new(sight.names);
+            (ReplyContent::Handles { handles }, Some(name))
+        }
+        Body::Create { .. } => (ReplyContent::Nothing, Some(name)),
+        Body::Delete { .. } => (ReplyContent::Nothing, Some(name)),
+        Body::Add { .. } => (ReplyContent::Nothing, Some(name)),
+        Body::Remove { .. } => (ReplyContent::Nothing, Some(name)),
+        Body::Modify { .. } => (ReplyContent::Nothing, Some(name)),
+        Body::Response { .. } => (ReplyContent::Nothing, Some(name)),
+        Body::Other { .. } => (ReplyContent::Nothing, Some(name)),
     }
 }
 
@@ -71,11 +75,18 @@ fn value_list(alloc: Global, values: Values<'_>) -> Result<Listed<Value>, AllocE
     Ok(Listed::new(copied_values(alloc, values)?))
 }
 
-/// The write that the operation asks for.
-fn change_of(alloc: Global, body: &Body<'_>, name: Name) -> Result<Option<Change>, AllocError>
-    requires named { name ≡ named (operation_of body.now) }
+/// The write that the operation asks for. A resolution, which asks for none, has no name left.
+fn change_of(
+    alloc: Global,
+    body: &Body<'_>,
+    name: Option<Name>,
+) -> Result<Option<Change>, AllocError>
+    requires named { name ≡ (if resolves (operation_of body.now) then None else Some (named (operation_of body.now))) }
     ensures { IfOk result (λ change. change ≡ change_of (operation_of body.now)) }
 {
+    let Some(name) = name else {
+        return Ok(None);
+    };
     match body {
         Body::Create { values, .. } => {
             let values = value_list(alloc, *values)?;
@@ -128,9 +139,7 @@ pub(crate) fn settle(
     if code != ResponseCode::Success {
         return Ok(failure(code));
     }
-    let Ok(content) = carried(alloc, asked.request, level, sight) else {
-        return Err(Refused);
-    };
+    let (content, name) = carried(asked.request, level, sight, name);
     let Some(content) = fitting(asked, content) else {
         return Ok(failure(ResponseCode::Error));
     };

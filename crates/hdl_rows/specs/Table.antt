@@ -1,6 +1,7 @@
 -- What a table holds, what is read of it, and what each write makes of it.
-use Rattle.std.specs.Prelude.{refl, ℕ, ◌+◌, ◌^◌, ◌-◌, min, List, [], ◌∷◌, Bool, true, not, ◌==◌, map, find, Option, Some, None, Result, Ok, Err, OnOk, OnErr, ◌⊎◌, ◌≡◌, ◌≢◌}
+use Rattle.std.specs.Prelude.{refl, Vec, ℕ, ◌+◌, ◌^◌, ◌-◌, min, List, [], ◌∷◌, Bool, true, not, ◌==◌, map, find, Option, Some, None, Result, Ok, Err, OnOk, OnErr, ◌⊎◌, ◌≡◌, ◌≢◌}
 use Rattle.std.specs.List.{AllByRecursion}
+use Rattle.std.specs.declared.alloc.Global.{Global}
 use Rattle.std.specs.FinMap as map
 use Rattle.std.specs.FinSet as set
 use Rattle.std.specs.Coded.{Coded, code_by, coded×, coded_ℕ}
@@ -31,6 +32,11 @@ at t p = map.get t.values p
 -- the values of a handle, by rising index
 abbrev pub values_of : Table → List ℕ → List Value
 values_of t h = map.values (map.retain_keys t.values (λ p. same_handle p.handle h))
+
+-- the values that were found, none where the handle is absent
+abbrev pub values_in : Option (Vec Value Global) → List Value
+values_in None = []
+values_in (Some vs) = vs.items
 
 -- the value of this index among values
 abbrev pub value_with : ℕ → List Value → Option Value

@@ -1,9 +1,9 @@
 //! A table of which some calls are refused, for tests.
 
-ghost use Rattle.std.specs.Prelude.{◌≡◌, ◌+◌, min, map, true, false, IfOk, OnOk, OnErr};
+ghost use Rattle.std.specs.Prelude.{◌≡◌, ◌+◌, min, map, true, false, is_some, IfOk, OnOk, OnErr};
 ghost use Rattle.hdl_name.specs.Name.{canonical};
 ghost use Rattle.hdl_value.specs.Refs.{place_of};
-ghost use Rattle.hdl_rows.specs.Table.{most, counted, has, at, values_of, names_of, HaveTheirIndexes, created, with_values, without_values, without_handle, AreDistinct, AreAbsent, ArePresent, indexes};
+ghost use Rattle.hdl_rows.specs.Table.{most, counted, has, at, values_of, values_in, names_of, HaveTheirIndexes, created, with_values, without_values, without_handle, AreDistinct, AreAbsent, ArePresent, indexes};
 
 use crate::rows::{Refused, Rows};
 use hdl_name::Name;
@@ -112,6 +112,22 @@ impl<R: Rows> Rows for Fuse<R> {
             return Err(Refused);
         }
         self.inner.values(name)
+    }
+
+    fn look(&mut self, name: &Name) -> Result<Option<Vec<Value>>, Refused>
+        ensures there { IfOk result (λ all. is_some all ≡ has (R.content (inner_of self.old)) (canonical name.now)) }
+        ensures found { IfOk result (λ all. values_in all ≡ values_of (R.content (inner_of self.old)) (canonical name.now)) }
+        ensures by_index { IfOk result (λ all. HaveTheirIndexes (R.content (inner_of self.old)) (canonical name.now) (values_in all)) }
+        ensures unchanged { R.content (inner_of self.new) ≡ R.content (inner_of self.old) }
+        ensures count { refusals_of R.refused self.new ≡ counted result (refusals_of R.refused self.old) }
+        ensures wire { wire_of self.new ≡ after_call (wire_of self.old) }
+        ensures blown { Blows self.old self.new result }
+        ensures passed { Passes R.refused self.old self.new result }
+    {
+        if self.wire.blows() {
+            return Err(Refused);
+        }
+        self.inner.look(name)
     }
 
     fn names(&mut self, authority: &[u8]) -> Result<Vec<Octets>, Refused>

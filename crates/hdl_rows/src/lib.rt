@@ -13,6 +13,8 @@
 //!
 //! - **Handles stand in a `BTreeMap`, each with a vector of its values by rising index**: the map's order gives the handles of an authority as
 //!   they are listed, and neither a look-up nor a create goes over the others. A handle has few values, and they are listed in order.
+//! - **`look` stands beside `exists` and `values`**: a resolution asks both, and a table that keeps each value at a handle that is there can answer
+//!   both by one query. `IsPlaced` is asked of no table for it.
 //! - **That a look-up takes few steps stands in no clause**: contracts say what is found. `bench/replay` measures it.
 #![tactic(auto)]
 

@@ -86,6 +86,11 @@ impl Rows for PlainRows {
         tally(&mut self.refusals, found)
     }
 
+    fn look(&mut self, name: &Name) -> Result<Option<Vec<Value>>, Refused> {
+        let found = self.shelf.look(self.alloc, name.canon());
+        tally(&mut self.refusals, found)
+    }
+
     fn names(&mut self, authority: &[u8]) -> Result<Vec<Octets>, Refused> {
         let found = self.shelf.names(self.alloc, authority);
         tally(&mut self.refusals, found)

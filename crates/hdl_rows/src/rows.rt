@@ -1,9 +1,9 @@
 //! The contract of a table.
 
-ghost use Rattle.std.specs.Prelude.{◌≡◌, ℕ, map, true, false, IfOk, OnOk, OnErr};
+ghost use Rattle.std.specs.Prelude.{◌≡◌, ℕ, map, true, false, is_some, IfOk, OnOk, OnErr};
 ghost use Rattle.hdl_name.specs.Name.{canonical};
 ghost use Rattle.hdl_value.specs.Refs.{place_of};
-ghost use Rattle.hdl_rows.specs.Table.{Table, has, at, values_of, names_of, HaveTheirIndexes, created, with_values, without_values, without_handle, AreDistinct, AreAbsent, ArePresent, indexes, counted};
+ghost use Rattle.hdl_rows.specs.Table.{Table, has, at, values_of, values_in, names_of, HaveTheirIndexes, created, with_values, without_values, without_handle, AreDistinct, AreAbsent, ArePresent, indexes, counted};
 
 use hdl_name::Name;
 use hdl_value::{Octets, Reference, Value};
@@ -39,6 +39,15 @@ pub trait Rows {
     fn values(&mut self, name: &Name) -> Result<Vec<Value>, Refused>
         ensures found { IfOk result (λ all. all.items ≡ values_of (content self.old) (canonical name.now)) }
         ensures by_index { IfOk result (λ all. HaveTheirIndexes (content self.old) (canonical name.now) all.items) }
+        ensures unchanged { content self.new ≡ content self.old }
+        ensures count { refused self.new ≡ counted result (refused self.old) };
+
+    /// The values of a handle, by rising index, each at the index that it has, or `None` where the handle is absent: what
+    /// [`exists`](Rows::exists) and [`values`](Rows::values) answer, in one call.
+    fn look(&mut self, name: &Name) -> Result<Option<Vec<Value>>, Refused>
+        ensures there { IfOk result (λ all. is_some all ≡ has (content self.old) (canonical name.now)) }
+        ensures found { IfOk result (λ all. values_in all ≡ values_of (content self.old) (canonical name.now)) }
+        ensures by_index { IfOk result (λ all. HaveTheirIndexes (content self.old) (canonical name.now) (values_in all)) }
         ensures unchanged { content self.new ≡ content self.old }
         ensures count { refused self.new ≡ counted result (refused self.old) };
 

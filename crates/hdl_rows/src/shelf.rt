@@ -1,12 +1,12 @@
 //! Rows in order: the table in a map of handles.
 
-ghost use Rattle.std.specs.Prelude.{◌≡◌, ◌↔◌, IsTrue, map, true, false, option_copied, [], IfOk, OnOk, OnErr};
+ghost use Rattle.std.specs.Prelude.{◌≡◌, ◌↔◌, IsTrue, is_some, map, true, false, option_copied, [], IfOk, OnOk, OnErr};
 ghost use Rattle.std.specs.List.{position_or_len};
 ghost use Rattle.std.specs.Char.{to_ascii_lowercase};
 ghost use Rattle.hdl_name.specs.Name.{authority, sent_authority, is_slash};
 ghost use Rattle.hdl_value.specs.Place.{same_handle};
 ghost use Rattle.hdl_rows.specs.Shelf.{by_index, put_all};
-ghost use Rattle.hdl_rows.specs.Table.{no_rows, place, has, at, values_of, names_of, HaveTheirIndexes, created, with_values, without_values, without_handle};
+ghost use Rattle.hdl_rows.specs.Table.{no_rows, place, has, at, values_of, values_in, names_of, HaveTheirIndexes, created, with_values, without_values, without_handle};
 
 use crate::row::{copies, put_copies, take_away, value_of};
 use hdl_value::{Octets, Value};
@@ -113,6 +113,18 @@ impl Shelf {
         match self.rows.get(name) {
             Some(values) => copies(alloc, values),
             None => Ok(Vec::new(alloc)),
+        }
+    }
+
+    /// The values of a handle, or that it is absent.
+    pub(crate) fn look(&self, alloc: Global, name: &[u8]) -> Result<Option<Vec<Value>>, AllocError>
+        ensures there { IfOk result (λ all. is_some all ≡ has self.now name.now) }
+        ensures found { IfOk result (λ all. values_in all ≡ values_of self.now name.now) }
+        ensures by_index { IfOk result (λ all. HaveTheirIndexes self.now name.now (values_in all)) }
+    {
+        match self.rows.get(name) {
+            Some(values) => Ok(Some(copies(alloc, values)?)),
+            None => Ok(None),
         }
     }
 

@@ -1,5 +1,5 @@
 -- Rows that are taken out by their rowids, and what DELETE makes of the table.
-use Rattle.std.proofs.Common.{true≢false, ◌≡◌, inl, inr, ℕ, ◌≤◌, ◌+◌, suc, ℤ, pos, List, [], ◌∷◌, map, filter, length, get_or, drop, add-one, drop-cons, ◌<◌, Bool, true, false, cond, not, ◌&&◌, ◌||◌, ◌==◌, None, Some, Option, Ok, Err, Result, OnOk, refl, sym, ap, subst, ◌∙◌, arith, is_eq}
+use Rattle.std.proofs.Common.{true≢false, ◌≡◌, inl, inr, ℕ, ◌≤◌, ◌+◌, suc, ℤ, pos, List, [], ◌∷◌, map, filter, length, get_or, drop, add-one, drop-cons, ◌<◌, Bool, true, false, cond, not, ◌&&◌, ◌||◌, ◌==◌, None, Option, Ok, refl, sym, ap, subst, ◌∙◌, arith, is_eq}
 use Rattle.std.specs.FinMap as map
 use Rattle.std.specs.FinSet as set
 use Rattle.std.specs.List.{AllByRecursion, list_any}
@@ -34,7 +34,7 @@ use Rattle.sqlite.proofs.Callers.{runs_as, statement_of, one_step, memory_is_cle
 use Rattle.hdl_value.specs.Place.{Place, place_cmp, same_place}
 use Rattle.hdl_value.specs.declared.value.Value.{Value}
 use Rattle.hdl_value.proofs.Places.{place_total, place_antisymmetric}
-use Rattle.hdl_rows.specs.Table.{Table, place, at, with_values, without_values}
+use Rattle.hdl_rows.specs.Table.{Table, place, at, without_values}
 use Rattle.hdl_sqlrows.specs.Layout.{layout, entries}
 use Rattle.hdl_sqlrows.specs.Kept.{IsWhole, IsInside, AreKept, IsHandleRow, IsEntryRow, place_in, entry_in, value_in, handle_in, table_in, has_place, has_handle, seen, shown}
 use Rattle.hdl_sqlrows.proofs.Texts.{delete_entry, delete_entry_is, plain, is_param, rows_where}
@@ -168,7 +168,7 @@ turn : (a b : Bool) (x : Option Value) → a ≡ b → cond (not a) x None ≡ c
 turn true b x e = ap (λ c. cond c None x) e
 turn false b x e = ap (λ c. cond c None x) e
 
-without_entry : (db next : Trees) (p : Place) → AreKept db → next 2 ≡ filter (λ r. not (has_place p r)) (db 2) → next 0 ≡ db 0
+pub without_entry : (db next : Trees) (p : Place) → AreKept db → next 2 ≡ filter (λ r. not (has_place p r)) (db 2) → next 0 ≡ db 0
     → AreKept next × (table_in next ≡ record (table_in db) { values = map.remove (table_in db).values p })
 without_entry db next p kept gone same =
     let keep : Row → Bool = λ r. not (has_place p r) in
@@ -201,45 +201,11 @@ drops_entry old new h i count inside ran =
 
 -- ---- one after the other
 
-abbrev removed : Table → Place → Table
-removed t p = record t { values = map.remove t.values p }
-
-abbrev inserted : Table → Place → Value → Table
-inserted t p v = record t { values = map.insert t.values p v }
-
--- nothing stands where a value was taken away
-pub free_after : (t mid : Table) (p : Place) → mid ≡ record t { values = map.remove t.values p } → at mid p ≡ None
-free_after t mid p is = ap (λ (m : Table). at m p) is ∙ map.get-remove place_total t.values p p ∙ ap (λ b. cond b None (at t p)) ((eq_by_cmp_equiv place_total).refl p)
-
--- a value that is taken away and put is put over the one that stood there
-pub replaced : (t mid next : Table) (p : Place) (v : Value) → mid ≡ record t { values = map.remove t.values p } → next ≡ record mid { values = map.insert mid.values p v } → next ≡ record t { values = map.insert t.values p v }
-replaced t mid next p v first second =
-    second ∙ ap (λ (m : Table). record m { values = map.insert m.values p v }) first ∙ (λ i. record t { values = same i })
-  where
-    over : (b : Bool) (x : Option Value) → cond b (Some v) (cond b None x) ≡ cond b (Some v) x
-    over true x = refl
-    over false x = refl
-
-    same : map.insert (map.remove t.values p) p v ≡ map.insert t.values p v
-    same = map.same_map place_total place_antisymmetric _ _ (λ q.
-        map.get-insert place_total (map.remove t.values p) p v q ∙ ap (cond (eq_by_cmp place_cmp q p) (Some v)) (map.get-remove place_total t.values p q)
-        ∙ over (eq_by_cmp place_cmp q p) (map.get t.values q) ∙ sym (map.get-insert place_total t.values p v q))
-
 pub drop_more : (t next : Table) (h : List ℕ) (is : List ℕ) (n i : ℕ) → i ≡ get_or is n i → n < length is → next ≡ record t { values = map.remove t.values (place h i) }
     → without_values next h (drop (n + 1) is) ≡ without_values t h (drop n is)
 drop_more t next h is n i at low gone =
     let split : drop n is ≡ i ∷ drop (n + 1) is = rw (add-one, drop-cons is n i) (ap (λ x. x ∷ drop (suc n) is) (sym at)) in
     ap (λ x. without_values x h (drop (n + 1) is)) gone ∙ ap (without_values t h) (sym split)
 
-pub replace_more : (t next : Table) (h : List ℕ) (vs : List Value) (n : ℕ) (v : Value) → v ≡ get_or vs n v → n < length vs → next ≡ record t { values = map.insert t.values (place h v.index) v }
-    → with_values next h (drop (n + 1) vs) ≡ with_values t h (drop n vs)
-replace_more t next h vs n v at low put =
-    let split : drop n vs ≡ v ∷ drop (n + 1) vs = rw (add-one, drop-cons vs n v) (ap (λ x. x ∷ drop (suc n) vs) (sym at)) in
-    ap (λ x. with_values x h (drop (n + 1) vs)) put ∙ ap (with_values t h) (sym split)
-
 pub drop_next : (t next : Table) (h : List ℕ) (is : List ℕ) (n : ℕ) → n < length is → next ≡ record t { values = map.remove t.values (place h (get_or is n 0)) } → without_values next h (drop (n + 1) is) ≡ without_values t h (drop n is)
 drop_next t next h is n low gone = drop_more t next h is n (get_or is n 0) (get_or_default is n 0 (get_or is n 0) low) low gone
-
-pub replaced_on : {E : Type 0} (r : Result (Unit {0}) E) (t mid next : Table) (p : Place) (v : Value) → mid ≡ record t { values = map.remove t.values p } → OnOk r (next ≡ record mid { values = map.insert mid.values p v }) → OnOk r (next ≡ record t { values = map.insert t.values p v })
-replaced_on (Ok u) t mid next p v first second = replaced t mid next p v first second
-replaced_on (Err e) t mid next p v first second = tt

@@ -1,5 +1,5 @@
 -- What the two INSERTs write.
-use Rattle.std.proofs.Common.{inl, inr, ◌≡◌, ℕ, pos, List, [], ◌∷◌, Bool, true, false, cond, not, ◌&&◌, None, Ok, refl, sym, ap, subst, ◌∙◌, arith}
+use Rattle.std.proofs.Common.{inl, inr, ◌≡◌, ℕ, ℤ, pos, List, [], ◌∷◌, Bool, true, false, cond, not, ◌&&◌, None, Ok, refl, sym, ap, subst, ◌∙◌, arith}
 use Rattle.sqlite_value.specs.declared.value.Value.{Value}
 use Rattle.sqlite_value.specs.declared.value.Value.TheVariants.{Null, Int, Blob}
 use Rattle.sqlite_value.specs.Order.{Row}
@@ -34,9 +34,9 @@ cast_null : cast Integer Null ≡ Null
 unfolding unary
 cast_null = either _ Null
 
-cast_int : (n : ℕ) → cast Integer (Int (pos n)) ≡ Int (pos n)
+pub cast_int : (n : ℤ) → cast Integer (Int n) ≡ Int n
 unfolding unary
-cast_int n = either _ (Int (pos n))
+cast_int n = either _ (Int n)
 
 -- a row with a new rowid, and the rows with it
 abbrev pub Adds : Row → List Row → List Row → Type 0
@@ -52,7 +52,7 @@ handle_source name authority = Null ∷ Blob name ∷ Blob authority ∷ []
 handle_news : (rows : List Row) (name authority : List ℕ) → with_rowid Chosen rows (cast_row handles (handle_source name authority)) ≡ handle_row rows name authority
 handle_news rows name authority = ap (λ c. with_rowid Chosen rows (c ∷ Blob name ∷ Blob authority ∷ [])) cast_null
 
-left_fresh : (taken : Bool) → (not taken && true) ≡ true → taken ≡ false
+pub left_fresh : (taken : Bool) → (not taken && true) ≡ true → taken ≡ false
 left_fresh true h = absurd cc
 left_fresh false h = refl
 
@@ -89,26 +89,26 @@ inserts_handle old new name authority count has h =
 abbrev pub entry_cells : List ℕ → Kept → Row
 entry_cells name v = Blob name ∷ Int (pos v.index) ∷ Blob v.kind ∷ Blob v.bytes ∷ Blob v.ttl ∷ Int (pos v.perm) ∷ Blob (to_be_bytes w64 v.stamp) ∷ Blob (references v.refs) ∷ []
 
-abbrev pub entry_row : List Row → List ℕ → Kept → Row
-entry_row rows name v = Int (next_rowid rows) ∷ entry_cells name v
+abbrev pub entry_row : ℤ → List ℕ → Kept → Row
+entry_row id name v = Int id ∷ entry_cells name v
 
 abbrev entry_source : List ℕ → Kept → Row
 entry_source name v = Null ∷ entry_cells name v
 
-entry_news : (rows : List Row) (name : List ℕ) (v : Kept) → with_rowid Chosen rows (cast_row (record entries { tree = 2 }) (entry_source name v)) ≡ entry_row rows name v
+entry_news : (rows : List Row) (name : List ℕ) (v : Kept) → with_rowid Chosen rows (cast_row (record entries { tree = 2 }) (entry_source name v)) ≡ entry_row (next_rowid rows) name v
 entry_news rows name v =
-    (λ i. with_rowid Chosen rows (cast_null i ∷ Blob name ∷ cast_int v.index i ∷ Blob v.kind ∷ Blob v.bytes ∷ Blob v.ttl ∷ cast_int v.perm i ∷ Blob (to_be_bytes w64 v.stamp) ∷ Blob (references v.refs) ∷ []))
+    (λ i. with_rowid Chosen rows (cast_null i ∷ Blob name ∷ cast_int (pos v.index) i ∷ Blob v.kind ∷ Blob v.bytes ∷ Blob v.ttl ∷ cast_int (pos v.perm) i ∷ Blob (to_be_bytes w64 v.stamp) ∷ Blob (references v.refs) ∷ []))
 
-entry_edit : (keys : Keys) (db next : Trees) (name : List ℕ) (v : Kept) → Applies layout keys db (edit_of db entries [] Chosen 0 (entry_source name v ∷ [])) next → Adds (entry_row (db 2) name v) (db 2) (next 2) × (next 0 ≡ db 0)
+entry_edit : (keys : Keys) (db next : Trees) (name : List ℕ) (v : Kept) → Applies layout keys db (edit_of db entries [] Chosen 0 (entry_source name v ∷ [])) next → Adds (entry_row (next_rowid (db 2)) name v) (db 2) (next 2) × (next 0 ≡ db 0)
 entry_edit keys db next name v made =
-    let row = entry_row (db 2) name v in
+    let row = entry_row (next_rowid (db 2)) name v in
     let is = entry_news (db 2) name v in
     let fresh = subst (λ r. (not (is_taken (db 2) r) && true) ≡ true) is made.fresh in
     let rows : next 2 ≡ put_row row (db 2) = made.rows ∙ ap (λ r. put_row r (db 2)) is in
     ((left_fresh _ fresh, subst (HasOneMore row (db 2)) (sym rows) (put_fresh row (db 2) (left_fresh _ fresh))), made.others 0 (λ e. omega (arith, e)) (no_index 0 (inl refl)))
 
 pub inserts_entry : (old new : State) (name : List ℕ) (v : Kept) (count : ℕ) → old.now.schema ≡ layout → Executes insert_entry (entry_cells name v) old new (Ok count)
-    → (new.now.schema ≡ layout) × Adds (entry_row (old.now.trees 2) name v) (old.now.trees 2) (new.now.trees 2) × (new.now.trees 0 ≡ old.now.trees 0)
+    → (new.now.schema ≡ layout) × Adds (entry_row (next_rowid (old.now.trees 2)) name v) (old.now.trees 2) (new.now.trees 2) × (new.now.trees 0 ≡ old.now.trees 0)
 inserts_entry old new name v count has h =
     let params = entry_cells name v in
     let db = old.now.trees in
@@ -126,4 +126,4 @@ inserts_entry old new name v count has h =
     let wrote = subst (λ all. Edited layout keys db (edit all) (Ok written.0)) given.1.1 written.1 in
     let made = entry_edit keys db written.0 name v (one_step layout keys db written.0 (edit (entry_source name v ∷ [])) refl wrote) in
     let all : new.now.trees ≡ written.0 = ap (λ (d : Database). d.trees) now ∙ trees in
-    (ap (λ (d : Database). d.schema) now, subst (λ (t : Trees). Adds (entry_row (db 2) name v) (db 2) (t 2)) (sym all) made.0, ap (λ (t : Trees). t 0) all ∙ made.1)
+    (ap (λ (d : Database). d.schema) now, subst (λ (t : Trees). Adds (entry_row (next_rowid (db 2)) name v) (db 2) (t 2)) (sym all) made.0, ap (λ (t : Trees). t 0) all ∙ made.1)

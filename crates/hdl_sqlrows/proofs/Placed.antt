@@ -1,12 +1,12 @@
 -- Each value stays at a handle that is there, and what a connection begins with.
-use Rattle.std.proofs.Common.{true≢false, ◌≡◌, ◌⊎◌, inl, inr, ℕ, List, [], ◌∷◌, false, None, Some, Option, Ok, Err, Result, OnOk, OnErr, refl, sym, subst, ◌∙◌}
+use Rattle.std.proofs.Common.{true≢false, true, cond, ap, eq-eqb, length, ◌==◌, ◌≡◌, ◌⊎◌, inl, inr, ℕ, List, [], ◌∷◌, false, None, Some, Option, Ok, Err, Result, OnOk, OnErr, refl, sym, subst, ◌∙◌}
 use Rattle.std.specs.FinMap as map
 use Rattle.sqlite.specs.Held.{Held as MemHeld, state}
 use Rattle.sqlite.specs.Steps.{over_memory, IsEmpty}
 use Rattle.sqlite_trees.specs.declared.memory.MemStore.{MemStore}
 use Rattle.hdl_value.specs.Place.{place_cmp}
 use Rattle.hdl_value.specs.declared.value.Value.{Value}
-use Rattle.hdl_rows.specs.Table.{Table, Held, place, has, at, no_rows, AreAbsent, IsPlaced}
+use Rattle.hdl_rows.specs.Table.{Table, Held, place, has, at, value_with, no_rows, AreAbsent, HaveTheirIndexes, IsPlaced}
 use Rattle.hdl_rows.specs.Write.{Write, written, CanWrite}
 use Rattle.hdl_rows.proofs.Writes.{stay_placed_lem, some_none}
 use Rattle.hdl_sqlrows.specs.Kept.{IsBare, seen}
@@ -21,6 +21,11 @@ pub absent_from : (t : Table) (h : List ℕ) (is : List ℕ) → IsPlaced t → 
 absent_from t h [] placed none = tt
 absent_from t h (i ∷ is) placed none =
     (elim (none_or_some (at t (place h i))) [ inl e ↦ e | inr some ↦ absurd (true≢false (sym (placed (place h i) some.0 some.1) ∙ none)) ], absent_from t h is placed none)
+
+-- where values stand at a handle it is there
+pub there_if_some : (t : Table) (h : List ℕ) (vs : List Value) → IsPlaced t → HaveTheirIndexes t h vs → (length vs == 0) ≡ false → has t h ≡ true
+there_if_some t h [] placed all some = absurd (true≢false some)
+there_if_some t h (v ∷ vs) placed all some = placed (place h v.index) v (sym (all v.index) ∙ ap (λ b. cond b (Some v) (value_with v.index vs)) (eq-eqb v.index v.index refl))
 
 pub placed_by : {E : Type 0} (old new : Table) (w : Write) (r : Result (Unit {0}) E) → IsPlaced old → CanWrite old w → OnOk r (new ≡ written old w) → OnErr r (new ≡ old) → IsPlaced new
 placed_by old new w (Ok u) placed can done undone = subst IsPlaced (sym done) (stay_placed_lem old w placed can)

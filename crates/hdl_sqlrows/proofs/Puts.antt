@@ -101,14 +101,14 @@ puts_handle old new name count inside absent h =
     (record { whole = record { layout = did.0; kept = made.0 }; inside = ran.1.mode }, made.1)
 
 -- the row of a value says that value
-entry_is : (rows : List Row) (name : List ℕ) (v : Value) → v.stamp < 2 ^ 64 → AreShort v.refs → entry_in (entry_row rows name v) ≡ (place name v.index, v)
-entry_is rows name v stamp short = λ i. (place name v.index, record v { stamp = stamp_again v.stamp stamp i; refs = refs_again v.refs short i })
+entry_is : (id : ℤ) (name : List ℕ) (v : Value) → v.stamp < 2 ^ 64 → AreShort v.refs → entry_in (entry_row id name v) ≡ (place name v.index, v)
+entry_is id name v stamp short = λ i. (place name v.index, record v { stamp = stamp_again v.stamp stamp i; refs = refs_again v.refs short i })
 
-with_entry : (db next : Trees) (name : List ℕ) (v : Value) → AreKept db → v.stamp < 2 ^ 64 → AreShort v.refs → Adds (entry_row (db 2) name v) (db 2) (next 2) → next 0 ≡ db 0 → at (table_in db) (place name v.index) ≡ None
+pub with_entry : (db next : Trees) (id : ℤ) (name : List ℕ) (v : Value) → AreKept db → v.stamp < 2 ^ 64 → AreShort v.refs → Adds (entry_row id name v) (db 2) (next 2) → next 0 ≡ db 0 → at (table_in db) (place name v.index) ≡ None
     → AreKept next × (table_in next ≡ record (table_in db) { values = map.insert (table_in db).values (place name v.index) v })
-with_entry db next name v kept stamp short more same absent =
-    let row : Row = entry_row (db 2) name v in
-    let entries = subst (λ e. HasOneMore e (map entry_in (db 2)) (map entry_in (next 2))) (entry_is (db 2) name v stamp short) (map_put entry_in _ _ _ more.1) in
+with_entry db next id name v kept stamp short more same absent =
+    let row : Row = entry_row id name v in
+    let entries = subst (λ e. HasOneMore e (map entry_in (db 2)) (map entry_in (next 2))) (entry_is id name v stamp short) (map_put entry_in _ _ _ more.1) in
     let values = map_of_more place_total place_antisymmetric (map entry_in (db 2)) (map entry_in (next 2)) (place name v.index) v entries absent in (
       record {
         handles = subst (AllByRecursion IsHandleRow) (sym same) kept.handles;
@@ -116,7 +116,7 @@ with_entry db next name v kept stamp short more same absent =
         names = subst (λ rows. (h : List ℕ) → length (filter (has_handle h) rows) ≤ 1) (sym same) kept.names;
         places = single_put has_place row (db 2) (next 2) more.1 kept.places (λ p here. no_place db p (ap (at (table_in db)) (places_equal p (place name v.index) here) ∙ absent));
         handle_ids = subst (λ rows. (id : ℤ) → length (filter (has_rowid id) rows) ≤ 1) (sym same) kept.handle_ids;
-        entry_ids = single_put has_rowid row (db 2) (next 2) more.1 kept.entry_ids (no_rowid (db 2) row (next_rowid (db 2)) refl more.0);
+        entry_ids = single_put has_rowid row (db 2) (next 2) more.1 kept.entry_ids (no_rowid (db 2) row id refl more.0);
       },
       (λ i. record { handles = set.from_list (map handle_in (same i)); values = values i }),
     )
@@ -128,7 +128,7 @@ unfolding seen
 puts_entry old new name v count inside stamp short absent h =
     let ran = h (memory_is_clean new) inside.inside in
     let did = inserts_entry (seen old) (seen new) name v count inside.whole.layout ran.0 in
-    let made = with_entry (seen old).now.trees (seen new).now.trees name v inside.whole.kept stamp short did.1 did.2 absent in
+    let made = with_entry (seen old).now.trees (seen new).now.trees (next_rowid ((seen old).now.trees 2)) name v inside.whole.kept stamp short did.1 did.2 absent in
     (record { whole = record { layout = did.0; kept = made.0 }; inside = ran.1.mode }, made.1)
 
 -- ---- one after the other

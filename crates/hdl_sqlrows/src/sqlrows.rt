@@ -89,6 +89,11 @@ impl Rows for SqlRows {
         tally(&mut self.refusals, found)
     }
 
+    fn look(&mut self, name: &Name) -> Result<Option<Vec<Value>>, Refused> {
+        let found = queries::look(&mut self.conn, self.alloc, name.canon());
+        tally(&mut self.refusals, found)
+    }
+
     fn names(&mut self, authority: &[u8]) -> Result<Vec<Octets>, Refused> {
         let found = queries::names_of(&mut self.conn, self.alloc, authority);
         tally(&mut self.refusals, found)
