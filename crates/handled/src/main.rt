@@ -1,16 +1,21 @@
 //! The program `handled`: replays a script, or serves over TCP and UDP.
 //!
 //! `handled` and `handled replay` are [`hdl_replay::replay`], handed the standard streams and a table in SQL, in memory.
-//! `handled serve` is [`hdl_host::host`], handed the tenants text on standard input. What is printed, the fault lines and the exit
-//! statuses are those of docs/PROTOCOL.md, "The tenants text and scripts". This crate has the command line alone, since nothing else
-//! needs `clap`.
+//! `handled serve` is [`hdl_host::host`], handed the tenants text on standard input and such a table, whose handles are kept where they
+//! were read last (hdl_cachedrows). What is printed, the fault lines and the exit statuses are those of docs/PROTOCOL.md, "The tenants
+//! text and scripts". This crate has the command line alone, since nothing else needs `clap`.
 #![tactic(auto)]
+
+ghost use Rattle.std.specs.Prelude.{◌≡◌, IfOk};
+ghost use Rattle.hdl_rows.specs.Table.{no_rows};
 
 mod words;
 
+use hdl_cachedrows::CachedRows;
 use hdl_host::host;
 use hdl_replay::{Fault, read_input, replay};
 use hdl_sqlrows::SqlRows;
+use std::hash::RandomState;
 use std::process::ExitCode;
 use words::{Asked, read_words};
 
@@ -20,7 +25,11 @@ enum Next {
     /// Nothing: this is the exit status.
     Ended(u8),
     /// Serve this tenants text.
-    Serve { text: String, turns: u64 },
+    Serve {
+        text: String,
+        turns: u64,
+        row_cache: usize,
+    },
 }
 
 /// The whole input as a text.
@@ -45,28 +54,51 @@ fn run(rt: &HostRuntime) -> Result<Next, Fault> {
             let status = replay(rt.alloc(), rows, &mut input, &mut output, &mut faults);
             Ok(Next::Ended(status))
         }
-        Asked::Serve { turns } => Ok(Next::Serve {
+        Asked::Serve { turns, row_cache } => Ok(Next::Serve {
             text: read_text(rt)?,
             turns,
+            row_cache,
         }),
     }
 }
 
+/// An empty table in SQL, of which at most so many octets are kept where they were read last.
+fn served_rows(rt: &HostRuntime, row_cache: usize) -> Result<CachedRows<SqlRows>, Fault>
+    ensures empty { IfOk result (λ rows. rows.table ≡ no_rows) }
+{
+    let Ok(hasher) = RandomState::new(rt) else {
+        return Err(Fault::Device);
+    };
+    let Ok(rows) = SqlRows::new(rt.alloc()) else {
+        return Err(Fault::StoreRefused);
+    };
+    Ok(CachedRows::new(rt.alloc(), rows, row_cache, hasher)?)
+}
+
+/// Prints the fault line, and answers the exit status.
+fn failed(rt: &HostRuntime, fault: Fault) -> ExitCode {
+    let _ = eprintln!(rt; "{fault}");
+    ExitCode::from(fault.status())
+}
+
 fn main(rt: HostRuntime) -> ExitCode {
-    match run(&rt) {
-        Ok(Next::Ended(status)) => ExitCode::from(status),
-        Ok(Next::Serve { text, turns }) => {
-            let Ok(rows) = SqlRows::new(rt.alloc()) else {
-                let _ = eprintln!(rt; "{}", Fault::StoreRefused);
-                return ExitCode::from(Fault::StoreRefused.status());
-            };
-            let mut output = rt.stdout();
-            let mut faults = rt.stderr();
-            ExitCode::from(host(&rt, rows, text.as_str(), turns, &mut output, &mut faults))
-        }
-        Err(fault) => {
-            let _ = eprintln!(rt; "{fault}");
-            ExitCode::from(fault.status())
-        }
+    let next = match run(&rt) {
+        Ok(next) => next,
+        Err(fault) => return failed(&rt, fault),
+    };
+    match next {
+        Next::Ended(status) => ExitCode::from(status),
+        Next::Serve {
+            text,
+            turns,
+            row_cache,
+        } => match served_rows(&rt, row_cache) {
+            Ok(rows) => {
+                let mut output = rt.stdout();
+                let mut faults = rt.stderr();
+                ExitCode::from(host(&rt, rows, text.as_str(), turns, &mut output, &mut faults))
+            }
+            Err(fault) => failed(&rt, fault),
+        },
     }
 }

@@ -1,7 +1,8 @@
 //! The words of the command line.
 
 use clap::error::ErrorKind;
-use clap::{Arg, ArgAction, Command, Error, value_parser};
+use clap::{Arg, ArgAction, ArgMatches, Command, Error, value_parser};
+use hdl_cachedrows::LIMIT_DEFAULT;
 use hdl_replay::Fault;
 use hdl_status::status_of_words;
 use std::alloc::{AllocError, Global};
@@ -12,8 +13,9 @@ use std::{env, io};
 pub enum Asked {
     /// A script on standard input.
     Replay,
-    /// The tenants text is on standard input, and each worker and the service have so many turns.
-    Serve { turns: u64 },
+    /// The tenants text is on standard input, each worker and the service have so many turns, and of the table at most so many octets
+    /// are kept where they were read last.
+    Serve { turns: u64, row_cache: usize },
     /// Nothing: help or a fault was printed, and this is the exit status.
     Ended(u8),
 }
@@ -28,6 +30,16 @@ fn serve_command<'a>(alloc: Global) -> Result<Command<'a>, AllocError> {
                 .help("Ends after N turns of each worker and of the service")
                 .action(ArgAction::Set)
                 .value_parser(value_parser!(u64).range(1..)),
+        )?
+        .arg(
+            Arg::new(alloc, "row-cache")
+                .long("row-cache")
+                .value_name("OCTETS")
+                .help(
+                    "Keeps the handles read last, in at most so many octets; 41943040 by default, 0 for none",
+                )
+                .action(ArgAction::Set)
+                .value_parser(value_parser!(u64)),
         )
 }
 
@@ -40,11 +52,20 @@ fn command<'a>(alloc: Global) -> Result<Command<'a>, AllocError> {
         .subcommand(serve_command(alloc)?)
 }
 
+/// How many octets the handles that were read last may take.
+fn row_cache(found: &ArgMatches) -> usize {
+    match found.get_one::<u64>("row-cache") {
+        Some(octets) => usize::try_from(octets).unwrap_or(usize::MAX),
+        None => LIMIT_DEFAULT,
+    }
+}
+
 fn parsed(alloc: Global, words: &[String]) -> Result<Asked, Error> {
     let matches = command(alloc)?.try_get_matches_from(words)?;
     match matches.subcommand_matches("serve") {
         Some(found) => Ok(Asked::Serve {
             turns: found.get_one::<u64>("turns").unwrap_or(u64::MAX),
+            row_cache: row_cache(found),
         }),
         None => Ok(Asked::Replay),
     }

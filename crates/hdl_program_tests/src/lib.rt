@@ -8,6 +8,8 @@
 #[cfg(test)]
 mod assertion;
 #[cfg(test)]
+mod cached_rows;
+#[cfg(test)]
 mod devices;
 #[cfg(test)]
 mod long_scripts;

@@ -11,15 +11,25 @@ use std::process::Abort;
 use std::test::Fail;
 
 /// Whether the values have these indexes and data, in this order.
-fn are(values: &[Value], wanted: &[(u32, &[u8])]) -> bool {
+pub(crate) fn are(values: &[Value], wanted: &[(u32, &[u8])]) -> bool {
     values.len() == wanted.len()
         && values.iter().zip(wanted).all(|(value, want)| value.index == want.0
             && value.bytes.as_slice() == want.1)
 }
 
-/// Whether the handle is there with these values.
+/// Whether the handle is there with these values, by one call and by two.
 fn holds<R: Rows>(rows: &mut R, name: &Name, wanted: &[(u32, &[u8])]) -> Result<bool, Fail> {
-    Ok(rows.exists(name)? && are(&rows.values(name)?, wanted))
+    match rows.look(name)? {
+        Some(values) => Ok(
+            are(&values, wanted) && rows.exists(name)? && are(&rows.values(name)?, wanted),
+        ),
+        None => Ok(false),
+    }
+}
+
+/// Whether the handle is absent, by one call and by two.
+fn lacks<R: Rows>(rows: &mut R, name: &Name) -> Result<bool, Fail> {
+    Ok(rows.look(name)?.is_none() && !rows.exists(name)? && are(&rows.values(name)?, &[]))
 }
 
 /// Values come out by rising index, in whatever order they were given, and a name stands for its canonical form.
@@ -39,9 +49,8 @@ fn creates<R: Rows>(rt: &impl Abort, alloc: Global, rows: &mut R) -> Result<(), 
 /// A handle of the local name `X` is another one.
 fn other_local_name<R: Rows>(rt: &impl Abort, alloc: Global, rows: &mut R) -> Result<(), Fail> {
     let other = reference(alloc, b"10.abc/X", 2)?;
-    assert!(rt; !rows.exists(&other.name)?);
+    assert!(rt; lacks(rows, &other.name)?);
     assert!(rt; rows.at(&other)?.is_none());
-    assert!(rt; are(&rows.values(&other.name)?, &[]));
     same(rt, "refusals", rows.refusals(), 0);
     Ok(())
 }
@@ -79,8 +88,15 @@ fn removes<R: Rows>(rt: &impl Abort, alloc: Global, rows: &mut R) -> Result<(), 
 fn deletes<R: Rows>(rt: &impl Abort, alloc: Global, rows: &mut R) -> Result<(), Fail> {
     let name = Name::read(alloc, b"10.abc/x")?;
     delete(rt, rows, &name)?;
-    assert!(rt; !rows.exists(&name)?);
-    assert!(rt; are(&rows.values(&name)?, &[]));
+    assert!(rt; lacks(rows, &name)?);
+    Ok(())
+}
+
+/// A handle without values is there.
+fn creates_empty<R: Rows>(rt: &impl Abort, alloc: Global, rows: &mut R) -> Result<(), Fail> {
+    let name = Name::read(alloc, b"10.abc/empty")?;
+    create(rt, rows, &name, &[])?;
+    assert!(rt; holds(rows, &name, &[])?);
     Ok(())
 }
 
@@ -90,7 +106,8 @@ pub(crate) fn each_call<R: Rows>(rt: &impl Abort, alloc: Global, rows: &mut R) -
     adds(rt, alloc, rows)?;
     modifies(rt, alloc, rows)?;
     removes(rt, alloc, rows)?;
-    deletes(rt, alloc, rows)
+    deletes(rt, alloc, rows)?;
+    creates_empty(rt, alloc, rows)
 }
 
 #[test]

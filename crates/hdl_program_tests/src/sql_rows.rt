@@ -291,6 +291,7 @@ fn write<R: Rows>(
 /// What the table answers of the handle and of its authority.
 fn answers<R: Rows>(alloc: Global, rows: &mut R, name: &Name) -> Result<Vec<u8>, Fail> {
     let mut all = Vec::new(alloc);
+    all.push(u8::from(rows.look(name)?.is_some()))?;
     for value in &rows.values(name)? {
         all.extend_from_slice(&value.index.to_be_bytes())?;
         all.extend_from_slice(value.bytes.as_slice())?;
@@ -302,25 +303,25 @@ fn answers<R: Rows>(alloc: Global, rows: &mut R, name: &Name) -> Result<Vec<u8>,
 }
 
 /// The same write to both tables, and whether they then answer alike.
-fn agree(
+fn agree<R: Rows>(
     rt: &impl Abort,
     plain: &mut PlainRows,
-    sql: &mut SqlRows,
+    other: &mut R,
     place: &Reference,
     number: u32,
     alloc: Global,
 ) -> Result<bool, Fail> {
     write(rt, alloc, &mut *plain, place, number)?;
-    write(rt, alloc, &mut *sql, place, number)?;
-    let told = answers(alloc, sql, &place.name)?;
+    write(rt, alloc, &mut *other, place, number)?;
+    let told = answers(alloc, other, &place.name)?;
     Ok(told.as_slice() == answers(alloc, plain, &place.name)?.as_slice())
 }
 
 /// Five hundred writes in no order.
-fn writes_agree(
+pub(crate) fn writes_agree<R: Rows>(
     rt: &impl Abort,
     plain: &mut PlainRows,
-    sql: &mut SqlRows,
+    other: &mut R,
     alloc: Global,
 ) -> Result<(), Fail> {
     let names: [&[u8]; 4] = [b"10.abc/b", b"10.abc/a", b"10.abcd/a", b"10.abc/ab"];
@@ -332,7 +333,7 @@ fn writes_agree(
         same(
             rt,
             turn,
-            agree(rt, plain, sql, &place, number / 20, alloc)?,
+            agree(rt, plain, other, &place, number / 20, alloc)?,
             true,
         );
     }

@@ -106,6 +106,8 @@ impl<R: std::rt::Clock> Clock for Sleeping<R> {
             thread::sleep(&self.rt, Duration::from_micros(100));
         }
     }
+
+    fn worked(&mut self) {}
 }
 
 /// A door at which two peers ask, one after the other.

@@ -1,0 +1,50 @@
+use Rattle.std.proofs.Common.{ap, sym, ◌∙◌, arith, ◌+◌, ◌≡◌, ◌≤◌, ◌<◌, ◌-◌}
+use Rattle.hdl_cachedrows.specs.Cost.{cost, entry_cost, total, capped}
+use Rattle.hdl_cachedrows.proofs.Totals.{given, let_go, total-put}
+use Rattle.hdl_cachedrows.proofs.Truth.{kept_true}
+use Rattle.hdl_cachedrows.proofs.cache.Cache.keep.Goals as goal
+use Rattle.hdl_cachedrows.proofs.cache.Cache.keep.Goals.{In-Ok-push, After-entry_cost}
+
+-- the copies cost what was asked
+paid : (c : In-Ok-push) → c.entry_cost-cost.result ≡ capped (entry_cost (c.in-Ok.key, c.in-Ok-copies.copy))
+paid c = c.entry_cost-cost.ensures ∙ ap (λ h. capped (cost h c.args.values.now)) (sym c.in-Ok.ensures.items) ∙ ap (λ vs. capped (cost c.in-Ok.key.items vs)) (sym c.in-Ok-copies.ensures)
+
+put : (c : In-Ok-push) → total c.push.new.self.entries + given c.in-Ok-push.displaced ≡ c.shrink.new.self.octets + c.entry_cost-cost.result
+put c =
+    let old = c.shrink.new.self.kept in
+    let is = total-put old c.in-Ok.key c.in-Ok-copies.copy c.push.new.self c.len.ensures.valid c.in-Ok-push.ensures.entries in
+    let counted = c.shrink.new.self.counted in
+    let cost = paid c in
+    let out = ap given c.in-Ok-push.ensures.old in
+    let small = c.if-cost-self.false in
+    omega arith
+
+bound : (c : In-Ok-push) → c.shrink.new.self.octets + c.entry_cost-cost.result ≤ c.shrink.new.self.limit
+bound c = let small = c.if-cost-self.false in omega (arith, c.shrink.ensures.fits, c.shrink.ensures.same_limit)
+
+left : (c : After-entry_cost) → total c.push.new.self.entries + given c.in-Ok-push.displaced ≡ c.shrink.new.self.octets + c.entry_cost-cost.result
+    → (c.entry_cost.result ≤ c.shrink.new.self.octets + c.entry_cost-cost.result) × (c.shrink.new.self.octets + c.entry_cost-cost.result - c.entry_cost.result ≡ total c.push.new.self.entries) × (0 < c.entry_cost.result)
+left c is =
+    let_go c.in-Ok-push.displaced (c.in-Some.name, c.in-Some.values) c.deref.result.now c.deref-in-Some.result.now (c.shrink.new.self.octets + c.entry_cost-cost.result) (total c.push.new.self.entries) c.entry_cost.result
+    (omega arith) is c.in-Some.is c.deref.ensures.value c.deref-in-Some.ensures.value c.entry_cost.ensures
+
+pub overflow_sub-self-in-Some : goal.overflow_sub-self-in-Some
+overflow_sub-self-in-Some c = (left c (put (goal.at.overflow_sub-self-in-Some c).In-Ok-push)).0
+
+pub invariant_of-self : goal.invariant_of-self
+invariant_of-self c = record { counted = (left c (put (goal.at.invariant_of-self c).In-Ok-push)).1; bounded = let b = bound (goal.at.invariant_of-self c).In-Ok-push in omega arith }
+
+pub invariant_of-self-in_default-displaced : goal.invariant_of-self-in_default-displaced
+invariant_of-self-in_default-displaced c =
+    let is = put (goal.at.invariant_of-self-in_default-displaced c).In-Ok-push in
+    let none = ap given c.in_default-displaced.is in
+    record { counted = omega arith; bounded = bound (goal.at.invariant_of-self-in_default-displaced c).In-Ok-push }
+
+pub returns-in-Some-clause-still_true : goal.returns-in-Some-clause-still_true
+returns-in-Some-clause-still_true c = λ t all of. kept_true c.push.result t c.shrink.new.self.kept c.push.new.self c.in-Ok.key c.in-Ok-copies.copy c.args.name.now c.args.values.now c.push.ensures.entries c.push.ensures.err c.in-Ok.ensures.items c.in-Ok-copies.ensures (c.shrink.ensures.still_true t all) of
+
+pub returns-in_default-displaced-clause-still_true : goal.returns-in_default-displaced-clause-still_true
+returns-in_default-displaced-clause-still_true c = λ t all of. kept_true c.push.result t c.shrink.new.self.kept c.push.new.self c.in-Ok.key c.in-Ok-copies.copy c.args.name.now c.args.values.now c.push.ensures.entries c.push.ensures.err c.in-Ok.ensures.items c.in-Ok-copies.ensures (c.shrink.ensures.still_true t all) of
+
+pub returns-in_default-push-clause-still_true : goal.returns-in_default-push-clause-still_true
+returns-in_default-push-clause-still_true c = λ t all of. kept_true c.push.result t c.shrink.new.self.kept c.push.new.self c.in-Ok.key c.in-Ok-copies.copy c.args.name.now c.args.values.now c.push.ensures.entries c.push.ensures.err c.in-Ok.ensures.items c.in-Ok-copies.ensures (c.shrink.ensures.still_true t all) of

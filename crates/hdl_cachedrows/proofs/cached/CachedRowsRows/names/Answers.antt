@@ -1,0 +1,6 @@
+use Rattle.std.proofs.Common.{sym, subst}
+use Rattle.hdl_cachedrows.specs.Cache.{AreTrue}
+use Rattle.hdl_cachedrows.proofs.cached.CachedRowsRows.names.Goals as goal
+
+pub invariant_of-self : goal.invariant_of-self
+invariant_of-self g c = subst (λ t. AreTrue t c.self.inside.cache.kept.entries) (sym c.names.ensures.unchanged) c.self.invariant

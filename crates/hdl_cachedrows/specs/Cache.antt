@@ -1,0 +1,19 @@
+-- When what is kept is a table's.
+use Rattle.std.specs.Prelude.{ℕ, List, true, ◌≡◌, ◌≢◌, Contains}
+use Rattle.hdl_value.specs.declared.value.Value.{Value}
+use Rattle.hdl_rows.specs.Table.{Table, place, has, at, values_of, HaveTheirIndexes}
+use Rattle.hdl_cachedrows.specs.Cost.{Entry}
+
+-- The handle is there, and these are its values.
+pub record IsFound (t : Table) (h : List ℕ) (vs : List Value) : Type 0 where
+  pub there : has t h ≡ true
+  pub found : vs ≡ values_of t h
+  pub by_index : HaveTheirIndexes t h vs
+
+-- what is kept is the table's
+abbrev pub AreTrue : Table → List Entry → Type 0
+AreTrue t es = (e : Entry) → Contains es e → IsFound t e.0.items e.1.items
+
+-- at every handle but one the second table answers as the first
+abbrev pub AgreeBut : List ℕ → Table → Table → Type 0
+AgreeBut h t u = (g : List ℕ) → g ≢ h → (has u g ≡ has t g) × ((i : ℕ) → at u (place g i) ≡ at t (place g i)) × (values_of u g ≡ values_of t g)

@@ -1,0 +1,33 @@
+-- What keeping the values of a handle costs, in octets.
+use Rattle.std.specs.Prelude.{Vec, ℕ, ◌+◌, ◌-◌, ◌^◌, min, List, length, sum_by}
+use Rattle.std.specs.declared.alloc.Global.{Global}
+use Rattle.hdl_value.specs.declared.references.RawRef.{RawRef}
+use Rattle.hdl_value.specs.declared.value.Value.{Value}
+use Rattle.hdl_cachedrows.specs.declared.cost.TheConstants.{HANDLE_COST, VALUE_COST, REFERENCE_COST}
+
+-- a reference: its parts, and its handle
+abbrev pub reference_cost : RawRef → ℕ
+reference_cost r = REFERENCE_COST + length r.handle
+
+-- a value: its parts, its type, its data and its references
+abbrev pub value_cost : Value → ℕ
+value_cost v = VALUE_COST + length v.kind + length v.bytes + sum_by reference_cost v.refs
+
+-- a handle with its values: its place among those that are kept, its octets, and its values
+abbrev pub cost : List ℕ → List Value → ℕ
+cost h vs = HANDLE_COST + length h + sum_by value_cost vs
+
+-- a handle that is kept, with its values
+abbrev pub Entry : Type 0
+Entry = Vec ℕ Global × Vec Value Global
+
+abbrev pub entry_cost : Entry → ℕ
+entry_cost e = cost e.0.items e.1.items
+
+-- all that is kept
+abbrev pub total : List Entry → ℕ
+total es = sum_by entry_cost es
+
+-- a number as a `usize`, whose greatest stands for all that are more
+abbrev pub capped : ℕ → ℕ
+capped n = min n (2 ^ 64 - 1)

@@ -1,0 +1,152 @@
+//! The values of the handles that were read last.
+
+ghost use Rattle.std.specs.Prelude.{◌≡◌, ◌≤◌, [], true, option_copied, IfOk, IfSome};
+ghost use Rattle.hdl_rows.specs.Table.{Table, place, has, at, value_with};
+ghost use Rattle.hdl_cachedrows.specs.Cost.{total};
+ghost use Rattle.hdl_cachedrows.specs.Cache.{AgreeBut, AreTrue, IsFound};
+
+use crate::cost::entry_cost;
+use hdl_value::Value;
+use lru::LruCache;
+use std::alloc::{AllocError, Global};
+use std::hash::RandomState;
+
+/// The share of the bound that the values of one handle may take: one part of so many.
+const SHARES: usize = 64;
+
+/// Values by canonical handle, the most recently used first. What they cost is counted, and never more than the bound.
+#[derive(Drop)]
+pub(crate) struct Cache {
+    alloc: Global,
+    pub(crate) limit: usize,
+    pub(crate) octets: usize,
+    pub(crate) kept: LruCache<Vec<u8>, Vec<Value>, RandomState>,
+    ghost counted: { octets ≡ total kept.entries },
+    ghost bounded: { octets ≤ limit },
+}
+
+fn copies(alloc: Global, values: &[Value]) -> Result<Vec<Value>, AllocError>
+    ensures { IfOk result (λ all. all.items ≡ values.now) }
+{
+    let mut all = Vec::with_capacity(alloc, values.len())?;
+    for value in values {
+        all.push(value.copy(alloc)?)?;
+    }
+    Ok(all)
+}
+
+/// The value with this index.
+fn value_with(values: &[Value], index: u32) -> Option<&Value>
+    ensures { option_copied result ≡ value_with index values.now }
+{
+    values.iter().find(|value| value.index == index)
+}
+
+/// A copy of the value with this index, if there is one.
+fn copy_with(alloc: Global, values: &[Value], index: u32) -> Result<Option<Value>, AllocError>
+    ensures { IfOk result (λ value. value ≡ value_with index values.now) }
+{
+    match value_with(values, index) {
+        Some(value) => Ok(Some(value.copy(alloc)?)),
+        None => Ok(None),
+    }
+}
+
+impl Cache {
+    /// Nothing is kept. Refused only for want of memory.
+    pub(crate) fn new(alloc: Global, limit: usize, hasher: RandomState) -> Result<Cache, AllocError>
+        ensures empty { IfOk result (λ cache. cache.kept.entries ≡ []) }
+        ensures limit { IfOk result (λ cache. cache.limit ≡ limit) }
+    {
+        let kept = LruCache::unbounded_with_hasher(alloc, hasher)?;
+        Ok(Cache {
+            alloc,
+            limit,
+            octets: 0,
+            kept,
+        })
+    }
+
+    /// Whether the values of a handle are kept.
+    pub(crate) fn has(&self, name: &[u8]) -> bool
+        ensures of_table { (t : Table) → AreTrue t self.now.kept.entries → result ≡ true → has t name.now ≡ true }
+    {
+        self.kept.contains(name)
+    }
+
+    /// A copy of the values of a handle, which are then the most recently used. None: they aren't kept, or memory for the copy was refused.
+    pub(crate) fn find(&mut self, name: &[u8]) -> Option<Vec<Value>>
+        ensures of_table { (t : Table) → AreTrue t self.old.kept.entries → IfSome result (λ all. IsFound t name.now all.items) }
+        ensures still_true { (t : Table) → AreTrue t self.old.kept.entries → AreTrue t self.new.kept.entries }
+        ensures same_limit { self.new.limit ≡ self.old.limit }
+    {
+        match self.kept.get(name) {
+            Some(values) => copies(self.alloc, values).ok(),
+            None => None,
+        }
+    }
+
+    /// A copy of the value at an index of a handle, or that there is none. None: its values aren't kept, or memory was refused.
+    pub(crate) fn find_at(&mut self, name: &[u8], index: u32) -> Option<Option<Value>>
+        ensures of_table { (t : Table) → AreTrue t self.old.kept.entries → IfSome result (λ value. value ≡ at t (place name.now index)) }
+        ensures still_true { (t : Table) → AreTrue t self.old.kept.entries → AreTrue t self.new.kept.entries }
+        ensures same_limit { self.new.limit ≡ self.old.limit }
+    {
+        match self.kept.get(name) {
+            Some(values) => copy_with(self.alloc, values, index).ok(),
+            None => None,
+        }
+    }
+
+    /// Forgets what was used longest ago, until what is kept costs at most so much.
+    fn shrink(&mut self, most: usize)
+        ensures fits { self.new.octets ≤ most }
+        ensures still_true { (t : Table) → AreTrue t self.old.kept.entries → AreTrue t self.new.kept.entries }
+        ensures same_limit { self.new.limit ≡ self.old.limit }
+    {
+        while self.octets > most {
+            match self.kept.pop_lru() {
+                Some((name, values)) => self.octets -= entry_cost(&name, &values),
+                None => unreachable!(),
+            }
+        }
+    }
+
+    /// Keeps the values of a handle, unless they cost more than their share. Want of memory keeps nothing.
+    pub(crate) fn keep(&mut self, name: &[u8], values: &[Value])
+        ensures still_true { (t : Table) → AreTrue t self.old.kept.entries → IsFound t name.now values.now → AreTrue t self.new.kept.entries }
+        ensures same_limit { self.new.limit ≡ self.old.limit }
+    {
+        let cost = entry_cost(name, values);
+        if cost > self.limit / SHARES {
+            return;
+        }
+        let Ok(key) = Vec::from_slice(self.alloc, name) else {
+            return;
+        };
+        let Ok(copy) = copies(self.alloc, values) else {
+            return;
+        };
+        self.shrink(self.limit - cost);
+        // `len` says that there are no more than the map has room for, so `push` tells of each that it lets go.
+        let _ = self.kept.len();
+        if let Ok(displaced) = self.kept.push(key, copy) {
+            self.octets += cost;
+            if let Some((name, values)) = displaced {
+                self.octets -= entry_cost(&name, &values);
+            }
+        }
+    }
+
+    /// Forgets what is kept of a handle.
+    pub(crate) fn forget(&mut self, name: &[u8])
+        ensures still_true { (t : Table) (u : Table) → AreTrue t self.old.kept.entries → AgreeBut name.now t u → AreTrue u self.new.kept.entries }
+        ensures same_limit { self.new.limit ≡ self.old.limit }
+    {
+        // `len` says that no handle is there twice, so what is left is of others.
+        let _ = self.kept.len();
+        if let Some((name, values)) = self.kept.pop_entry(name) {
+            self.octets -= entry_cost(&name, &values);
+        }
+    }
+}

@@ -1,0 +1,36 @@
+//! A table that keeps what was read last: the contract of `hdl_rows::Rows`, word for word, over any other table.
+//!
+//! [`CachedRows`] has a table of any kind behind it. A read of a handle whose values are kept is answered from a hash map, in memory, and
+//! takes no call of that table; any other goes to it, and what [`look`](hdl_rows::Rows::look) found is kept. A write forgets the handle that
+//! it names, and reaches the table as it came. So the table behind decides all that is said and refused, and its count is the count.
+//!
+//! What is kept has a bound in octets. Where a handle more would be too much, those that were used longest ago go. That the bound is kept is
+//! proved ([`CachedRows::octets`]), and that what is kept is the table's (`AreTrue` of `specs/Cache.antt`).
+//!
+//! It stands on `hdl_rows` and the kit's `lru`. Crates above know it through `Rows`.
+//!
+//! # Decisions
+//!
+//! - **One bound, in octets, and none for the number of handles**: a handle costs 192 at least, so the bound is one for handles too. The fixed
+//!   sums of `specs/Cost.antt` are what glibc takes at most; a handle with one short value costs some 390 and was seen to take 320.
+//! - **One handle takes at most a sixty-fourth of the bound**: a handle with much more is asked of the table each time, and can't push all
+//!   others out.
+//! - **Handles that are absent aren't kept**: whoever asks for names that nobody made would push out those that are asked for.
+//! - **Only `look` keeps**: no other call tells both whether a handle is there and all of its values. `values`, `at` and `exists` are answered
+//!   from what it kept.
+//! - **A copy that memory was refused for is asked of the table**, which answers or refuses as it would have without.
+//! - **Every write forgets its handle, refused ones too**: that costs a look-up, and one rule is easier than two.
+//! - **The hasher has random keys**: names are chosen by publishers, and with a fixed seed one of them could choose names that all fall into
+//!   one place, and each look-up would go over all of them.
+//! - **No room is taken before it is used**: `lru` reserves the map's room for a cache with a number of entries, so this one has none, and
+//!   what is too much is let go before a handle is put.
+//! - **All publishers share what is kept**: one can push out what another's clients ask for. That changes times, and no octet of an answer.
+//! - **No clause says that a read is answered from what is kept**: contracts say what is found. hdl_program_tests sees it, over a table that
+//!   refuses a second call.
+#![tactic(auto)]
+
+mod cache;
+mod cached;
+mod cost;
+
+pub use cached::{CachedRows, LIMIT_DEFAULT};

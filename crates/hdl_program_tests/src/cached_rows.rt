@@ -1,0 +1,127 @@
+//! A table that keeps what was read last: through the bound, beside one that keeps nothing, over one that refuses to be asked again, and with
+//! more handles than it keeps.
+
+use crate::assertion::same;
+use crate::rows::{are, each_call};
+use crate::sql_rows::writes_agree;
+use crate::writes::{create, reference};
+use hdl_cachedrows::{CachedRows, LIMIT_DEFAULT};
+use hdl_name::Name;
+use hdl_rows::{Fuse, PlainRows, Refused, Rows};
+use hdl_sqlrows::SqlRows;
+use hdl_tests::made::value;
+use hdl_value::Reference;
+use std::alloc::Global;
+use std::hash::RandomState;
+use std::process::Abort;
+use std::test::Fail;
+
+/// A bound for 85 handles of one short value, and how many are made.
+const SMALL: usize = 32_768;
+
+const HANDLES: u32 = 200;
+
+#[test]
+fn each_call_through_a_cache(rt: HostRuntime) -> Result<(), Fail> {
+    let rows = PlainRows::new(rt.alloc());
+    let mut cached = CachedRows::new(rt.alloc(), rows, LIMIT_DEFAULT, RandomState::new(&rt)?)?;
+    each_call(&rt, rt.alloc(), &mut cached)
+}
+
+/// A cache over the table in SQL answers as the table in memory after each of five hundred writes in no order.
+#[test]
+fn a_cache_agrees(rt: HostRuntime) -> Result<(), Fail> {
+    let rows = SqlRows::new(rt.alloc())?;
+    let mut cached = CachedRows::new(rt.alloc(), rows, LIMIT_DEFAULT, RandomState::new(&rt)?)?;
+    writes_agree(
+        &rt,
+        &mut PlainRows::new(rt.alloc()),
+        &mut cached,
+        rt.alloc(),
+    )
+}
+
+/// Whether each call that reads tells just this value of the handle.
+fn tells<R: Rows>(rows: &mut R, place: &Reference, data: &[u8]) -> Result<bool, Fail> {
+    let wanted = [(place.index, data)];
+    let looked = match rows.look(&place.name)? {
+        Some(values) => are(&values, &wanted),
+        None => false,
+    };
+    Ok(
+        looked
+            && rows.exists(&place.name)?
+            && are(&rows.values(&place.name)?, &wanted)
+            && rows.at(place)?.is_some(),
+    )
+}
+
+/// A refused write forgets the handle too, so a look behind it is refused.
+fn forgets<R: Rows>(rt: &impl Abort, rows: &mut R, name: &Name) -> Result<(), Fail> {
+    assert!(rt; rows.exists(name)?);
+    same(rt, "a write", rows.delete(name), Err(Refused));
+    same(rt, "a look", rows.look(name).is_err(), true);
+    same(rt, "refusals", rows.refusals(), 2);
+    Ok(())
+}
+
+/// A handle that was made and looked at is read again and again without a call of the table, until it is written.
+fn keeps<R: Rows>(rt: &impl Abort, alloc: Global, rows: &mut R) -> Result<(), Fail> {
+    let place = reference(alloc, b"10.abc/x", 2)?;
+    let two = value(alloc, 2, b"URL", b"two")?;
+    create(rt, rows, &place.name, &[two])?;
+    for turn in 0..2u32 {
+        same(rt, turn, tells(rows, &place, b"two")?, true);
+    }
+    forgets(rt, rows, &place.name)
+}
+
+/// The table answers three calls, two to make a handle and one to look at it.
+#[test]
+fn a_kept_handle_is_not_asked_for(rt: HostRuntime) -> Result<(), Fail> {
+    let fuse = Fuse::new(PlainRows::new(rt.alloc()), 4, u64::MAX);
+    let mut cached = CachedRows::new(rt.alloc(), fuse, LIMIT_DEFAULT, RandomState::new(&rt)?)?;
+    keeps(&rt, rt.alloc(), &mut cached)
+}
+
+fn place_of(alloc: Global, number: u32) -> Result<Reference, Fail> {
+    let text = format!(in alloc; "10.abc/{number}")?;
+    reference(alloc, text.as_bytes(), 1)
+}
+
+/// Makes handles, each with its number as data.
+fn makes<R: Rows>(rt: &impl Abort, alloc: Global, rows: &mut R) -> Result<(), Fail> {
+    for number in 0..HANDLES {
+        let place = place_of(alloc, number)?;
+        let data = value(alloc, 1, b"URL", &number.to_be_bytes())?;
+        create(rt, rows, &place.name, &[data])?;
+    }
+    Ok(())
+}
+
+/// Reads all of them, in turn.
+fn reads<R: Rows>(rt: &impl Abort, alloc: Global, rows: &mut R) -> Result<(), Fail> {
+    for number in 0..HANDLES {
+        let place = place_of(alloc, number)?;
+        let told = tells(rows, &place, &number.to_be_bytes())?;
+        same(rt, number, told, true);
+    }
+    Ok(())
+}
+
+/// Where more handles are read in turn than fit, each is pushed out before it is read again.
+fn pushes_out<R: Rows>(rt: &impl Abort, alloc: Global, rows: &mut R) -> Result<(), Fail> {
+    makes(rt, alloc, rows)?;
+    reads(rt, alloc, rows)?;
+    reads(rt, alloc, rows)
+}
+
+#[test]
+fn handles_push_out_others(rt: HostRuntime) -> Result<(), Fail> {
+    let rows = PlainRows::new(rt.alloc());
+    let mut cached = CachedRows::new(rt.alloc(), rows, SMALL, RandomState::new(&rt)?)?;
+    pushes_out(&rt, rt.alloc(), &mut cached)?;
+    let octets = cached.octets();
+    same(&rt, "full", SMALL - 512 < octets && octets <= SMALL, true);
+    Ok(())
+}
