@@ -1,17 +1,31 @@
 //! The machine's clock, and its pauses: short while what is waited for comes soon, and asleep otherwise.
 
+use crate::waking::{Bell, Sleep};
 use hdl_serve::Clock;
+use std::sync::Arc;
 use std::thread;
 use std::time::{Duration, Instant, SystemTime};
 
-/// How many microseconds a long pause sleeps.
+/// How many microseconds a worker's long pause sleeps.
 const SLEEP: u64 = 100;
 
 /// For how many microseconds a wait has short pauses.
 const SHORT: u64 = 30;
 
+/// A long pause that begins so many milliseconds after its wait says nothing of the next one: nobody asked.
+const IDLE: u64 = 10;
+
 /// Of the waits behind one that needed a long pause, each so-manieth begins with short pauses again.
 const TRIED_AGAIN: u32 = 8;
+
+/// What a pause is to a thread.
+#[derive(Drop)]
+pub enum Part {
+    /// The thread serves: its long pause ends once a worker rings.
+    Serves(Sleep),
+    /// The thread is a worker's: it rings at each pause, and its long one sleeps a little.
+    Works(Arc<Bell>),
+}
 
 /// The machine's clock in milliseconds, and pauses.
 ///
@@ -20,12 +34,11 @@ const TRIED_AGAIN: u32 = 8;
 #[derive(Drop)]
 pub struct MachineClock<R> {
     rt: R,
+    part: Part,
     /// The last moment that was told.
     told: u64,
-    /// What takes this long between two pauses was work: the next pause begins a wait.
-    work: Duration,
-    /// When the wait began, and when its last pause ended.
-    wait: Option<(Instant, Instant)>,
+    /// When the wait began, if one is under way.
+    began: Option<Instant>,
     /// Whether the wait begins with short pauses, and whether it had a long one.
     is_short: bool,
     has_slept: bool,
@@ -34,13 +47,13 @@ pub struct MachineClock<R> {
 }
 
 impl<R: std::rt::Clock> MachineClock<R> {
-    /// A clock for a thread that looks at so many lanes between two pauses.
-    pub fn new(rt: R, lanes: u16) -> MachineClock<R> {
+    /// The clock of a thread with this part.
+    pub fn new(rt: R, part: Part) -> MachineClock<R> {
         MachineClock {
             rt,
+            part,
             told: 0,
-            work: Duration::from_nanos(4000 + 200 * u64::from(lanes)),
-            wait: None,
+            began: None,
             is_short: true,
             has_slept: false,
             long_waits: 0,
@@ -58,24 +71,37 @@ impl<R: std::rt::Clock> MachineClock<R> {
         self.is_short = self.long_waits.is_multiple_of(TRIED_AGAIN);
     }
 
-    /// When the wait of a pause at this moment began: now, if something was done since the last pause.
+    /// When the wait of a pause at this moment began: now, if none is under way.
     fn wait_of(&mut self, now: Instant) -> Instant {
-        match self.wait {
-            Some((began, paused)) if now.saturating_duration_since(paused) < self.work => began,
-            _ => {
+        match self.began {
+            Some(began) => began,
+            None => {
                 self.begin_wait();
+                self.began = Some(now);
                 now
             }
         }
     }
 
-    /// Pauses at this moment of a wait, long or short.
+    /// A long pause.
+    fn sleep(&mut self) {
+        let slept = match &mut self.part {
+            Part::Serves(sleep) => sleep.rest(),
+            Part::Works(_) => false,
+        };
+        if !slept {
+            thread::sleep(&self.rt, Duration::from_micros(SLEEP));
+        }
+    }
+
+    /// Pauses so long after the wait began. A wait's first pause is short in any case: a worker may have outcomes in hand.
     fn rest(&mut self, waited: Duration) {
-        if self.is_short && waited < Duration::from_micros(SHORT) {
+        let short = if self.is_short { SHORT } else { 0 };
+        if waited <= Duration::from_micros(short) {
             thread::yield_now();
         } else {
-            self.has_slept = true;
-            thread::sleep(&self.rt, Duration::from_micros(SLEEP));
+            self.has_slept = waited < Duration::from_millis(IDLE);
+            self.sleep();
         }
     }
 }
@@ -99,12 +125,19 @@ impl<R: std::rt::Clock> Clock for MachineClock<R> {
     }
 
     fn pause(&mut self) {
-        let Ok(now) = Instant::now(&self.rt) else {
-            thread::sleep(&self.rt, Duration::from_micros(SLEEP));
-            return;
-        };
-        let began = self.wait_of(now);
-        self.rest(now.saturating_duration_since(began));
-        self.wait = Instant::now(&self.rt).ok().map(|paused| (began, paused));
+        if let Part::Works(bell) = &self.part {
+            bell.ring();
+        }
+        match Instant::now(&self.rt) {
+            Ok(now) => {
+                let began = self.wait_of(now);
+                self.rest(now.saturating_duration_since(began));
+            }
+            Err(_) => self.sleep(),
+        }
+    }
+
+    fn worked(&mut self) {
+        self.began = None;
     }
 }

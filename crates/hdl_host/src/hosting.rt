@@ -4,7 +4,8 @@ ghost use Rattle.std.specs.Prelude.{◌≡◌};
 ghost use Rattle.hdl_rows.specs.Table.{no_rows};
 ghost use Rattle.hdl_workers.specs.Ends.{AreDistinct};
 
-use crate::clock::MachineClock;
+use crate::clock::{MachineClock, Part};
+use crate::waking::{Patience, Sleep};
 use crate::workers::{join_all, start};
 use hdl_core::{Rows, Service, Tenants};
 use hdl_replay::{Fault, put_all};
@@ -12,6 +13,7 @@ use hdl_serve::{Clock as Pauses, Far, LaneEnds, lanes_of, serve};
 use std::alloc::Global;
 use std::io::{self, Write};
 use std::net::{IpAddr, Ipv4Addr, Net, SocketAddr, TcpListener, TcpStream, UdpSocket};
+use std::os::fd::OwnedFd;
 use std::random::RandomSource;
 use std::rt::Clock;
 use std::thread::Threads;
@@ -28,14 +30,15 @@ pub struct Place {
     pub lanes: u16,
 }
 
-/// What is there before anything is served: every lane, every socket, the lines that tell where they are, and how many turns each
-/// worker and the service have.
+/// What is there before anything is served: every lane, every socket, the lines that tell where they are, the sleep of the thread that
+/// serves, and how many turns each worker and the service have.
 #[derive(Drop)]
 struct Ready {
     ends: Vec<LaneEnds>,
     far: Vec<Far>,
     places: Vec<Place>,
     lines: String,
+    sleep: Sleep,
     turns: u64,
     ghost distinct: { AreDistinct ends.items },
 }
@@ -48,17 +51,24 @@ pub fn had<T: Drop>(gained: io::Result<T>) -> Result<T, Fault> {
     }
 }
 
-/// Listens on loopback, so that `accept` doesn't wait and `recv_from` waits a millisecond at most.
+/// Has `accept` wait so long at most. A socket's time to receive holds for it too, but listeners have no call to set it.
+fn limit_accept(listener: &TcpListener, most: Duration) -> io::Result<()> {
+    let same = TcpStream::from(OwnedFd::from(listener.try_clone()?));
+    same.set_read_timeout(Some(most))
+}
+
+/// Listens on loopback, so that `accept` and `recv_from` wait so long at most.
 fn listen<R: Net<Listener = TcpListener, Stream = TcpStream>>(
     rt: &R,
     lanes: u16,
     port: u16,
+    most: Duration,
 ) -> io::Result<Place> {
     let addr = SocketAddr::new(IpAddr::V4(Ipv4Addr::LOCALHOST), port);
     let listener = TcpListener::bind(rt, addr)?;
-    listener.set_nonblocking(true)?;
+    limit_accept(&listener, most)?;
     let socket = UdpSocket::bind(rt, addr)?;
-    socket.set_read_timeout(Some(Duration::from_millis(1)))?;
+    socket.set_read_timeout(Some(most))?;
     Ok(Place {
         listener,
         socket,
@@ -71,6 +81,7 @@ fn places_of<R: Net<Listener = TcpListener, Stream = TcpStream>>(
     rt: &R,
     alloc: Global,
     tenants: &Tenants,
+    most: Duration,
 ) -> Result<(Vec<Place>, String), Fault> {
     let mut places = Vec::new(alloc);
     let mut lines = String::new(alloc);
@@ -78,7 +89,7 @@ fn places_of<R: Net<Listener = TcpListener, Stream = TcpStream>>(
         let Some((name, lanes, port)) = tenants.publisher(i) else {
             break;
         };
-        places.push(had(listen(rt, lanes, port))?)?;
+        places.push(had(listen(rt, lanes, port, most))?)?;
         let line = format!(in alloc; "{name} 127.0.0.1:{port}\n")?;
         lines.push_str(line.as_str())?;
     }
@@ -92,13 +103,16 @@ fn ready_for<R: Net<Listener = TcpListener, Stream = TcpStream>>(
     tenants: &Tenants,
     turns: u64,
 ) -> Result<Ready, Fault> {
+    let patience = Patience::of(turns);
     let (ends, far) = lanes_of(alloc, tenants.lanes(), RING)?;
-    let (places, lines) = places_of(rt, alloc, tenants)?;
+    let (places, lines) = places_of(rt, alloc, tenants, patience.door)?;
+    let sleep = had(Sleep::new(rt, alloc, patience.events))?;
     Ok(Ready {
         ends,
         far,
         places,
         lines,
+        sleep,
         turns,
     })
 }
@@ -129,12 +143,12 @@ fn served<R: Threads + Clock + RandomSource + Copy + Send + Drop + 'static, S: S
         ends,
         far,
         places,
+        sleep,
         turns,
         ..
     } = ready;
-    let lanes = u16::try_from(ends.len()).unwrap_or(u16::MAX);
-    let workers = start(rt, alloc, places, far, turns)?;
-    let mut clock = MachineClock::new(*rt, lanes);
+    let workers = start(rt, alloc, places, far, &sleep, turns)?;
+    let mut clock = MachineClock::new(*rt, Part::Serves(sleep));
     service.serve_lanes(alloc, ends, &mut clock, turns);
     join_all(rt, workers)
 }

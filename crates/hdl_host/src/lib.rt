@@ -15,21 +15,28 @@
 //!
 //! # Decisions
 //!
-//! - **An `accept` that finds nothing waits a millisecond before it says so**, and a datagram socket waits as long for a datagram. A failed
-//!   `accept` makes and frees a socket in the kernel, so 62 idle lanes without that wait used nearly two processors. Interrupted calls, and
-//!   a peer that gave up before it was accepted, count as nothing that came; any other failure ends the worker, and the server with status 1
-//!   in the end.
-//! - **A pause is short first.** A thread that found nothing lets others run for 30 microseconds and sleeps 100 after that; the shortest sleep
-//!   of this machine takes 160. Waits that needed the sleep make the next ones begin with it, seven of eight times. A lone client waits some
-//!   25 microseconds for its answer in place of 170, 60 clients are answered as fast as before,
-//!   and where many requests are in flight it costs up to a quarter of the rate (docs/GATE.md). What was done between two pauses can't be
-//!   seen by a clock, so it goes by time: what took 4 microseconds, and 0.2 more for each lane that the thread looks at, was work.
+//! - **Calls that wait for a peer wait in the kernel, a second at most**: `accept` and `recv_from` by the sockets' time to receive, which an
+//!   accepted connection would have too and is freed from. So an idle worker makes one call a second. Interrupted calls, and a peer that gave
+//!   up before it was accepted, count as nothing that came; any other failure ends the worker, and the server with status 1 in the end.
+//! - **The thread that serves sleeps until a worker rings** (`waking`), 100 milliseconds at most. It says that it sleeps and then sleeps, without
+//!   a look between; a worker that waits for an outcome looks at each of its pauses whether that thread sleeps, and then wakes it. So an event
+//!   that was put between the last look at the lanes and the sleep is noticed at that worker's next pause, a microsecond later or, where the
+//!   worker sleeps, 160. Only an End, behind which no worker pauses, may wait for the sleep to end by itself.
+//! - **No handle of waiting is taken**: the sleep is a `poll` of the system's with a limit (mio), so each pause returns. A server whose turns are
+//!   counted is one of a test, which shall not take long: its calls may wait a millisecond. The kernel counts a socket's time in its own
+//!   ticks, so it was seen to take eight.
+//! - **A pause is short first.** A thread that found nothing lets others run for 30 microseconds; then the thread that serves sleeps, and a worker
+//!   that waits for its outcome sleeps 100 at a time, of which the shortest takes 160 on this machine. Waits that needed the sleep make
+//!   the next ones begin with it, seven of eight times. A wait ends when something was done (`worked`), which the clock is told: it can't see it.
+//!   A sleep that begins ten milliseconds behind its wait isn't counted, since nobody asked then. The first pause of any wait is short: a worker
+//!   that has outcomes in hand pauses once before it writes them, and shall not sleep over them.
 //! - **Shared listeners**: a publisher's stream workers have clones of one listener, so whichever is free takes the next connection.
 #![tactic(auto)]
 
 mod clock;
 mod hosting;
 mod sockets;
+mod waking;
 mod workers;
 
 pub use hosting::{host, hosted};

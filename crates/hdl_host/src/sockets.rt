@@ -5,8 +5,6 @@ use rand::RngExt;
 use rand::rngs::StdRng;
 use std::io::{ErrorKind, Read, Write};
 use std::net::{SocketAddr, TcpListener, TcpStream, UdpSocket};
-use std::thread;
-use std::time::Duration;
 
 /// Whether a call that failed says only that nothing came: it would wait or was interrupted, or the peer gave up before it was
 /// accepted.
@@ -20,20 +18,18 @@ fn nothing_came(kind: ErrorKind) -> bool {
     )
 }
 
-/// A listener that several workers share, and the connection of this one. Where no connection came `accept` answers after a
-/// millisecond, so that a worker without a connection costs little.
+/// A listener that several workers share, and the connection of this one. `accept` waits as long as the listener lets it, so that a
+/// worker without a connection costs little.
 #[derive(Drop)]
-pub struct SocketDoor<R> {
-    rt: R,
+pub struct SocketDoor {
     listener: TcpListener,
     stream: Option<TcpStream>,
     faults: u64,
 }
 
-impl<R> SocketDoor<R> {
-    pub fn new(rt: R, listener: TcpListener) -> SocketDoor<R> {
+impl SocketDoor {
+    pub fn new(listener: TcpListener) -> SocketDoor {
         SocketDoor {
-            rt,
             listener,
             stream: None,
             faults: 0,
@@ -41,7 +37,7 @@ impl<R> SocketDoor<R> {
     }
 }
 
-impl<R: std::rt::Clock> Door for SocketDoor<R> {
+impl Door for SocketDoor {
     ghost use Rattle.std.specs.Prelude.{false, true, []};
     ghost use Rattle.hdl_workers.specs.Door.{fresh};
 
@@ -59,13 +55,12 @@ impl<R: std::rt::Clock> Door for SocketDoor<R> {
         match self.listener.accept() {
             Ok((stream, _)) => {
                 let _ = stream.set_nodelay(true);
+                // a connection has its listener's time to receive
+                let _ = stream.set_read_timeout(None);
                 self.stream = Some(stream);
                 Ok(true)
             }
-            Err(e) if nothing_came(e.kind()) => {
-                thread::sleep(&self.rt, Duration::from_millis(1));
-                Ok(false)
-            }
+            Err(e) if nothing_came(e.kind()) => Ok(false),
             Err(_) => {
                 self.faults = self.faults.saturating_add(1);
                 Err(DoorFault)

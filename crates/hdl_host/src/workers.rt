@@ -3,9 +3,10 @@
 ghost use Rattle.std.specs.Prelude.{◌≡◌, []};
 ghost use Rattle.hdl_lanes.specs.Lane.{put_into, taken_from};
 
-use crate::clock::MachineClock;
+use crate::clock::{MachineClock, Part};
 use crate::hosting::{Place, had};
 use crate::sockets::{MachineNonces, SocketDoor, SocketPackets};
+use crate::waking::{Bell, Sleep};
 use hdl_replay::Fault;
 use hdl_serve::{Far, Peers, Why, WorkerEnd, packet_worker, stream_worker};
 use rand::make_rng;
@@ -13,18 +14,27 @@ use std::alloc::Global;
 use std::net::{TcpListener, UdpSocket};
 use std::random::RandomSource;
 use std::rt::Clock;
+use std::sync::Arc;
 use std::thread;
 use std::thread::{JoinHandle, Threads};
 use std::vec::IntoIter;
+
+/// What a worker has beside its door: its side of the lane, the bell of the thread that serves, and its turns.
+#[derive(Drop)]
+struct Side {
+    far: Far,
+    bell: Arc<Bell>,
+    turns: u64,
+}
 
 /// Starts the worker of a stream lane.
 fn start_stream<R: Threads + Clock + RandomSource + Copy + Send + Drop + 'static>(
     rt: &R,
     alloc: Global,
     listener: TcpListener,
-    far: Far,
-    turns: u64,
+    side: Side,
 ) -> Result<JoinHandle<WorkerEnd>, Fault> {
+    let Side { far, bell, turns } = side;
     let Far { inlet, outcomes } = far;
     let rng = had(make_rng(rt))?;
     let theirs = *rt;
@@ -33,8 +43,8 @@ fn start_stream<R: Threads + Clock + RandomSource + Copy + Send + Drop + 'static
         move ||
             requires { (put_into inlet ≡ []) × (taken_from outcomes ≡ []) }
         {
-            let mut door = SocketDoor::new(theirs, listener);
-            let mut clock = MachineClock::new(theirs, 1);
+            let mut door = SocketDoor::new(listener);
+            let mut clock = MachineClock::new(theirs, Part::Works(bell));
             let mut nonces = MachineNonces::new(rng);
             stream_worker(
                 alloc,
@@ -58,9 +68,9 @@ fn start_packets<R: Threads + Clock + RandomSource + Copy + Send + Drop + 'stati
     rt: &R,
     alloc: Global,
     socket: UdpSocket,
-    far: Far,
-    turns: u64,
+    side: Side,
 ) -> Result<JoinHandle<WorkerEnd>, Fault> {
+    let Side { far, bell, turns } = side;
     let Far { inlet, outcomes } = far;
     let rng = had(make_rng(rt))?;
     let theirs = *rt;
@@ -70,7 +80,7 @@ fn start_packets<R: Threads + Clock + RandomSource + Copy + Send + Drop + 'stati
             requires { (put_into inlet ≡ []) × (taken_from outcomes ≡ []) }
         {
             let mut packets = SocketPackets::new(socket, Peers::new(alloc));
-            let mut clock = MachineClock::new(theirs, 1);
+            let mut clock = MachineClock::new(theirs, Part::Works(bell));
             let mut nonces = MachineNonces::new(rng);
             packet_worker(
                 alloc,
@@ -94,8 +104,7 @@ fn start_place<R: Threads + Clock + RandomSource + Copy + Send + Drop + 'static>
     rt: &R,
     alloc: Global,
     place: Place,
-    far: &mut IntoIter<Far>,
-    turns: u64,
+    sides: &mut IntoIter<Side>,
     workers: &mut Vec<JoinHandle<WorkerEnd>>,
 ) -> Result<(), Fault> {
     let Place {
@@ -104,13 +113,13 @@ fn start_place<R: Threads + Clock + RandomSource + Copy + Send + Drop + 'static>
         lanes,
     } = place;
     for _ in 1..lanes {
-        if let Some(side) = far.next() {
+        if let Some(side) = sides.next() {
             let listener = had(listener.try_clone())?;
-            workers.push(start_stream(rt, alloc, listener, side, turns)?)?;
+            workers.push(start_stream(rt, alloc, listener, side)?)?;
         }
     }
-    if let Some(side) = far.next() {
-        workers.push(start_packets(rt, alloc, socket, side, turns)?)?;
+    if let Some(side) = sides.next() {
+        workers.push(start_packets(rt, alloc, socket, side)?)?;
     }
     Ok(())
 }
@@ -121,12 +130,18 @@ pub fn start<R: Threads + Clock + RandomSource + Copy + Send + Drop + 'static>(
     alloc: Global,
     places: Vec<Place>,
     far: Vec<Far>,
+    sleep: &Sleep,
     turns: u64,
 ) -> Result<Vec<JoinHandle<WorkerEnd>>, Fault> {
     let mut workers = Vec::with_capacity(alloc, far.len())?;
-    let mut far = far.into_iter();
+    let mut sides = Vec::with_capacity(alloc, far.len())?;
+    for far in far {
+        let bell = had(sleep.bell())?;
+        sides.push(Side { far, bell, turns })?;
+    }
+    let mut sides = sides.into_iter();
     for place in places {
-        start_place(rt, alloc, place, &mut far, turns, &mut workers)?;
+        start_place(rt, alloc, place, &mut sides, &mut workers)?;
     }
     Ok(workers)
 }

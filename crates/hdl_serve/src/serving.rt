@@ -86,7 +86,7 @@ fn turn<R: Rows + Drop>(
 /// Goes round the lanes by rising number of place until each has given End or the turns are spent. A round takes at most one item
 /// of each lane whose inlet for outcomes has room, and of none that gave End; serves the events as one batch by [`Service::run`];
 /// and puts each outcome into its event's lane. Where the room for a round is refused nothing is taken. A batch whose outcomes
-/// find no room is kept and tried again. After a round that served nothing it calls `pause`.
+/// find no room is kept and tried again. After a round that served nothing it calls `pause`, after any other `worked`.
 ///
 /// There are one list of events and one list of their outcomes that are a run from the service handed in to the one given back;
 /// each publisher is isolated in it, and no reply tells of a value that may not be read. The lanes' ends come back in their
@@ -116,13 +116,15 @@ pub fn serve<R: Rows + Drop, C: Clock>(
         if over && batch.events.is_empty() {
             break;
         }
-        if !turn(
+        if turn(
             alloc,
             &mut service,
             lanes.as_mut_slice(),
             &mut ended,
             &mut batch,
         ) {
+            clock.worked();
+        } else {
             clock.pause();
         }
     }

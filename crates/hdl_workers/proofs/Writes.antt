@@ -71,6 +71,19 @@ joins_more t u v s r q o taken more (os, p, e) = (
       ∙ ap (λ w. s ++ w) (ap (λ w. flat_map octets_of os ++ w) (sym (append-nil (octets_of o))) ∙ sym (flat_map-append octets_of os (o ∷ []))),
 )
 
+-- outcomes were joined, and then others
+joins_both : (t u v : List Outcome) (s r q : List ℕ) → Joins t s u r → Joins u r v q → Joins t s v q
+joins_both t u v s r q (os, p, e) (os', p', e') = (
+  os ++ os',
+  p' ∙ ap (λ w. w ++ os') p ∙ append_assoc t os os',
+  e' ∙ ap (λ w. w ++ flat_map octets_of os') e ∙ append_assoc s (flat_map octets_of os) (flat_map octets_of os') ∙ ap (λ w. s ++ w) (sym (flat_map-append octets_of os os')),
+)
+
+pub joins_then : (o : Option Outcome) (t u v : List Outcome) (s r q : List ℕ) → Joins t s u r
+    → MatchOption o (Joins u r v q) (λ last. (w : List Outcome) × (v ≡ w ++ last ∷ []) × Joins u r w q) → MatchOption o (Joins t s v q) (λ last. (w : List Outcome) × (v ≡ w ++ last ∷ []) × Joins t s w q)
+joins_then None t u v s r q first then = joins_both t u v s r q first then
+joins_then (Some last) t u v s r q first then = (then.0, then.1, joins_both t u then.0 s r q first then.2)
+
 -- they were written with the outcome that was taken first
 pub joined_whole : (t u v : List Outcome) (s r : List ℕ) (first : Outcome) (c d : Connection) → u ≡ t ++ first ∷ [] → s ≡ octets_of first → Joins u s v r → d ≡ say r c → Relayed t c v d
 joined_whole t u v s r first c d taken begins (os, p, e) written = (

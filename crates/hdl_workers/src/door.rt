@@ -1,7 +1,7 @@
 //! The outside of a worker: where streams and datagrams come in, a clock, and a source of nonces.
 //!
-//! None of these calls is given a handle of threads or of waiting, so none waits for another thread. A read or a write of a socket waits for
-//! its peer, as long as the socket lets it. A door in memory tells its octets; of one that tells nothing, as a socket's, contracts count
+//! None of these calls is given a handle of threads or of waiting, so none waits for another thread. Calls of a socket wait for its peer, as
+//! long as the socket lets them. A door in memory tells its octets; of one that tells nothing, as a socket's, contracts count
 //! faults alone.
 
 ghost use Rattle.std.specs.Prelude.{◌≡◌, ◌≤◌, ◌<◌, ◌++◌, ◌∷◌, [], List, ℕ, Bool, true, length, take, replicate, IfOk, IfSome, IsTrue, MatchOption, MatchResult};
@@ -31,7 +31,7 @@ pub trait Door {
     /// How many calls failed, up to the greatest u64.
     ghost fault_count: { Self → ℕ };
 
-    /// Whether a connection came, which is then open. It doesn't wait for one.
+    /// Whether a connection came, which is then open. It may wait for one for a while.
     fn accept(&mut self) -> Result<bool, DoorFault>
         ensures faults { Counts result (fault_count self.old) (fault_count self.new) }
         ensures ended { IsTrue tells → ended self.new ≡ ended self.old }
@@ -81,6 +81,11 @@ pub trait Clock {
     /// Lets other threads run. Workers and `serve` call it after a try that gave nothing.
     fn pause(&mut self)
         ensures { IsTrue tells → answers self.new ≡ answers self.old };
+
+    /// Something was done, so the next pause begins a wait. Workers call it once they put what came through their door, and when they took
+    /// an outcome or wrote one; `serve` after a turn that answered.
+    fn worked(&mut self)
+        ensures { IsTrue tells → answers self.new ≡ answers self.old };
 }
 
 /// Numbers used once, for challenges.
@@ -111,7 +116,8 @@ pub trait Packets {
     /// How many calls failed, up to the greatest u64.
     ghost fault_count: { Self → ℕ };
 
-    /// A datagram at the front of the buffer: its peer, from 1 to `PEERS_MAX`, and its length. None: none came, or one of a peer beyond.
+    /// A datagram at the front of the buffer: its peer, from 1 to `PEERS_MAX`, and its length. None: none came for a while, or one of a peer
+    /// beyond.
     /// A datagram longer than the buffer is cut to it.
     fn receive(&mut self, buffer: &mut [u8]) -> Result<Option<(u16, usize)>, DoorFault>
         ensures faults { Counts result (fault_count self.old) (fault_count self.new) }

@@ -104,6 +104,7 @@ fn put_frame<C: Clock, N: Nonces>(
                 nonce,
                 bytes,
             });
+            clock.worked();
             return true;
         }
         clock.pause();
@@ -121,6 +122,7 @@ fn await_outcome<C: Clock>(line: &mut Line, clock: &mut C, turns: &mut u64) -> O
 {
     while spend(turns) {
         if let Some(outcome) = line.next() {
+            clock.worked();
             return Some(outcome);
         }
         clock.pause();

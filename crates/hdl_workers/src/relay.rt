@@ -65,7 +65,7 @@ fn write_outcome<D: Door>(door: &mut D, outcome: &Outcome, turns: &mut u64) -> R
 }
 
 /// Takes the outcomes that are there while their octets find room behind those that are joined. The one that found none.
-fn join(line: &mut Line, joined: &mut ArrayVec<u8, JOINED>) -> Option<Outcome>
+fn join_ready(line: &mut Line, joined: &mut ArrayVec<u8, JOINED>) -> Option<Outcome>
     ensures line { SameLine line.old line.new }
     ensures put { put_by line.new ≡ put_by line.old }
     ensures joined { MatchOption result
@@ -84,10 +84,33 @@ fn join(line: &mut Line, joined: &mut ArrayVec<u8, JOINED>) -> Option<Outcome>
     None
 }
 
-/// Writes an outcome that was taken, and in the same write those that are there and find room in it.
-fn write_joined<D: Door>(
+/// As `join_ready`. Where outcomes are still owed then, it pauses once, and takes those that came meanwhile too.
+fn join<C: Clock>(
+    line: &mut Line,
+    clock: &mut C,
+    joined: &mut ArrayVec<u8, JOINED>,
+) -> Option<Outcome>
+    ensures line { SameLine line.old line.new }
+    ensures put { put_by line.new ≡ put_by line.old }
+    ensures answers { IsTrue C.tells → C.answers clock.new ≡ C.answers clock.old }
+    ensures joined { MatchOption result
+        (Joins (taken_by line.old) joined.old.items (taken_by line.new) joined.new.items)
+        (λ last. (u : List Outcome) × (taken_by line.new ≡ u ++ last ∷ []) × Joins (taken_by line.old) joined.old.items u joined.new.items) }
+{
+    if let Some(last) = join_ready(line, joined) {
+        return Some(last);
+    }
+    if line.waiting > 0 {
+        clock.pause();
+    }
+    join_ready(line, joined)
+}
+
+/// Writes an outcome that was taken, and in the same write those that come soon and find room in it.
+fn write_joined<D: Door, C: Clock>(
     door: &mut D,
     line: &mut Line,
+    clock: &mut C,
     first: Outcome,
     turns: &mut u64,
 ) -> Result<(), Stop>
@@ -96,6 +119,7 @@ fn write_joined<D: Door>(
     ensures still_open { D.is_open door.new ≡ D.is_open door.old }
     ensures line { SameLine line.old line.new }
     ensures put { put_by line.new ≡ put_by line.old }
+    ensures answers { IsTrue C.tells → C.answers clock.new ≡ C.answers clock.old }
     ensures ended { IsTrue D.tells → D.ended door.new ≡ D.ended door.old }
     ensures whole { IsTrue D.tells → OnOk result ((t : List Outcome) → taken_by line.old ≡ t ++ first ∷ [] → Relayed t (D.current door.old) (taken_by line.new) (D.current door.new)) }
     ensures part { IsTrue D.tells → (t : List Outcome) → taken_by line.old ≡ t ++ first ∷ [] → RelayedPart t (D.current door.old) (taken_by line.new) (D.current door.new) }
@@ -105,7 +129,7 @@ fn write_joined<D: Door>(
     match joined.try_extend_from_slice(octets_of(&first)) {
         Err(_) => write_outcome(door, &first, turns),
         Ok(()) => {
-            let last = join(line, &mut joined);
+            let last = join(line, clock, &mut joined);
             write_all(door, joined.as_slice(), turns)?;
             match last {
                 Some(outcome) => write_outcome(door, &outcome, turns),
@@ -137,7 +161,12 @@ fn relay<D: Door, C: Clock>(
         return Err(Stop::Turns);
     }
     match line.next() {
-        Some(outcome) => write_joined(door, line, outcome, turns),
+        Some(outcome) => {
+            clock.worked();
+            let written = write_joined(door, line, clock, outcome, turns);
+            clock.worked();
+            written
+        }
         None => {
             clock.pause();
             Ok(())

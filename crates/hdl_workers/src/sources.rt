@@ -24,6 +24,8 @@ impl Clock for MemoryClock {
     }
 
     fn pause(&mut self) {}
+
+    fn worked(&mut self) {}
 }
 
 /// A source that gives these nonces, and zeros after their end.

@@ -292,7 +292,9 @@ fn put_close<C: Clock>(line: &mut Line, clock: &mut C, turns: &mut u64) -> bool
             line.put(What::Close);
             return true;
         }
-        if line.next().is_none() {
+        if line.next().is_some() {
+            clock.worked();
+        } else {
             clock.pause();
         }
     }
@@ -312,7 +314,9 @@ fn drop_outcomes<C: Clock>(line: &mut Line, clock: &mut C, turns: &mut u64) -> b
         if !spend(turns) {
             return false;
         }
-        if line.next().is_none() {
+        if line.next().is_some() {
+            clock.worked();
+        } else {
             clock.pause();
         }
     }

@@ -60,6 +60,7 @@ pub(crate) fn open<C: Clock>(line: &mut Line, clock: &mut C, turns: &mut u64) ->
     while spend(turns) {
         if line.has_room() {
             line.put(What::Open);
+            clock.worked();
             return true;
         }
         clock.pause();

@@ -94,6 +94,8 @@ impl<L: Made, S: Serving> Clock for Beside<L, S> {
             self.serve();
         }
     }
+
+    fn worked(&mut self) {}
 }
 
 /// How a worker runs: its lane, the room of its rings, the most octets that a read gives, which call of its door fails, its turns, and

@@ -60,6 +60,8 @@ impl Clock for Recorder {
     fn pause(&mut self) {
         let _ = self.answer_all(self.most);
     }
+
+    fn worked(&mut self) {}
 }
 
 /// A door that counts its writes.

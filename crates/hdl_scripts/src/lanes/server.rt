@@ -44,6 +44,8 @@ impl Clock for Pauses {
     fn pause(&mut self) {
         self.count = self.count.saturating_add(1);
     }
+
+    fn worked(&mut self) {}
 }
 
 /// A service, once it was opened.

@@ -1,6 +1,6 @@
 use Rattle.std.proofs.Common.{◌≡◌}
 use Rattle.hdl_workers.specs.Line.{put_by, taken_by, SameLine, Joins}
-use Rattle.hdl_workers.proofs.relay.join.Given as goal
+use Rattle.hdl_workers.proofs.relay.join_ready.Given as goal
 
 abbrev pub invariant-loop-line : goal.invariant-loop-line
 invariant-loop-line l = record {
