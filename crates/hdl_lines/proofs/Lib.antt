@@ -5,3 +5,4 @@ pub mod RoundTrip
 pub mod PlainText
 pub mod PrintedLines
 pub mod Whole
+pub mod References

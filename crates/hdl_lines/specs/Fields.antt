@@ -1,9 +1,10 @@
 -- What the fields of a line are made of: words, numbers, binary digits, and how each is read.
-use Rattle.std.specs.Prelude.{ℕ, zero, suc, ◌+◌, ◌-◌, ◌*◌, ◌/◌, ◌%◌, ◌^◌, ◌==◌, nat_lt, Bool, not, ◌&&◌, ◌||◌, if◌then◌else◌, List, [], ◌∷◌, length, slice_index, reverse, Option, Some, None, decimal}
+use Rattle.std.specs.Prelude.{◌≡◌, ◌<◌, ◌++◌, ◌⊎◌, ℕ, zero, suc, ◌+◌, ◌-◌, ◌*◌, ◌/◌, ◌%◌, ◌^◌, ◌==◌, nat_lt, Bool, not, ◌&&◌, ◌||◌, if◌then◌else◌, List, [], ◌∷◌, length, slice_index, reverse, Option, Some, None, decimal}
 use Rattle.std.specs.List.{list_all}
 use Rattle.std.specs.Char.{is_control}
 use Rattle.std.specs.Str.{bytes_eq, chars, is_utf8}
-use Rattle.std.specs.Str.Parse.{digits_value}
+use Rattle.std.specs.Str.Parse.{digits_value, IsNumeral}
+use Rattle.hdl_name.specs.Name.{IsHandle}
 use Rattle.hdl_name.specs.Tests.{is_handle}
 use Rattle.hdl_value.specs.Reading.{◌>>=◌}
 
@@ -46,6 +47,16 @@ cut_at stop (octet ∷ octets) = if octet == stop then Some ([], octets) else (c
 -- the number below 2^32 that is written so in decimal
 unfoldable pub number_in : List ℕ → Option ℕ
 number_in word = if bytes_eq (decimal (digits_value 10 word)) word && nat_lt (digits_value 10 word) (2 ^ 32) then Some (digits_value 10 word) else None
+
+-- ---- references to keys
+
+-- the index, from 1 on, that decimal digits spell: leading zeros are allowed, and no sign
+abbrev pub IsIndexOf : List ℕ → ℕ → Type 0
+IsIndexOf digits index = IsNumeral 10 digits × (digits_value 10 digits ≡ index) × (0 < index) × (index < 2 ^ 32)
+
+-- an index and the name of a handle with a colon between them, in either order
+abbrev pub IsReferenceOf : List ℕ → ℕ → List ℕ → Type 0
+IsReferenceOf words index handle = IsHandle handle × ((digits : List ℕ) × IsIndexOf digits index × ((words ≡ digits ++ colon ∷ handle) ⊎ (words ≡ handle ++ colon ∷ digits)))
 
 -- ---- binary digits
 

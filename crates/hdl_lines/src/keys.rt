@@ -1,13 +1,14 @@
 //! References in words, by which a key is named.
 
-ghost use Rattle.std.specs.Prelude.{◌<◌, IfSome};
+ghost use Rattle.std.specs.Prelude.{◌≡◌, ℕ, ◌<◌, IfSome, MatchOption};
 ghost use Rattle.hdl_name.specs.Name.{IsHandle};
+ghost use Rattle.hdl_lines.specs.Fields.{IsIndexOf, IsReferenceOf};
 
 use hdl_name::is_name;
 
 /// The index, from 1 on, that decimal digits spell: leading zeros are allowed, and no sign.
 pub fn index_in(digits: &str) -> Option<u32>
-    ensures from_one { IfSome result (λ index. 0 < index) }
+    ensures index { MatchOption result ((index : ℕ) → ¬ IsIndexOf digits.now index) (IsIndexOf digits.now) }
 {
     if digits.starts_with('+') {
         return None;
@@ -20,8 +21,7 @@ pub fn index_in(digits: &str) -> Option<u32>
 
 /// The reference, where its handle is a name.
 fn named(index: u32, handle: &str) -> Option<(u32, &str)>
-    requires from_one { 0 < index }
-    ensures reference { IfSome result (λ r. (0 < r.0) × IsHandle r.1.now) }
+    ensures reference { IfSome result (λ r. (r.0 ≡ index) × (r.1.now ≡ handle.now) × IsHandle handle.now) }
 {
     if !is_name(handle.as_bytes()) {
         return None;
@@ -32,7 +32,7 @@ fn named(index: u32, handle: &str) -> Option<(u32, &str)>
 /// The index and the handle of a reference: `INDEX:HANDLE` as the Handle.Net tools write it, or `HANDLE:INDEX`. The octets before the
 /// first colon are the index where they are digits. None where it is neither, or the handle is no name.
 pub fn read_reference(words: &str) -> Option<(u32, &str)>
-    ensures reference { IfSome result (λ r. (0 < r.0) × IsHandle r.1.now) }
+    ensures reference { IfSome result (λ r. IsReferenceOf words.now r.0 r.1.now) }
 {
     if let Some((index, handle)) = words.split_once(':') {
         if let Some(index) = index_in(index) {

@@ -21,8 +21,8 @@
 //! says or the first field that is wrong (`value_in`). The two functions do just that, want of memory aside, and reading refuses a
 //! value that isn't sound with its first fault. [`written_is_read`] is the law: the line of every value says that value, but for its
 //! timestamp; [`printed_is_line`] that what is printed has no control character, and [`written_is_printed`] that the line of a value is
-//! printed as it is; [`hidden_is_refused`] that the line of a hidden key says no value. A
-//! reference has an index from 1 on and a name.
+//! printed as it is; [`hidden_is_refused`] that the line of a hidden key says no value. An index in words is just the number that its
+//! digits spell, and a reference that is read is one that its words spell.
 #![tactic(auto)]
 
 mod data;
