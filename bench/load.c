@@ -1,10 +1,12 @@
-// A load generator for bench/serve and bench/peers: one thread, real sockets on loopback, each reply compared.
+// A load generator for bench/serve, bench/peers and bench/soak: one thread, real sockets on loopback, each reply compared whole.
 //
-//     load tcp|udp PORT CLIENTS DEPTH SECONDS REQUEST REPLY
+//     load tcp|udp PORT CLIENTS DEPTH SECONDS REQUEST REPLY HANDLES one|uniform|falling
 //
-// Every client sends the request again and again with DEPTH of them in flight; REQUEST and REPLY are hexadecimal. After a tenth of
-// the time it counts, and then prints on one line: replies a second, the 50th, 99th and 99.9th percentile of the time to answer in
-// microseconds, the processor share of this program in percent, and how often half a second passed without a reply.
+// REQUEST and REPLY are hexadecimal. Wherever their octets have the six digits 000000, a request has the number of one of HANDLES handles, and so
+// must its reply: always the same number, each as likely, or by Zipf's law with the exponent 1.
+// Every client sends again and again with DEPTH requests in flight. After a tenth of the time it counts, and then prints on one line:
+// replies a second, the 50th, 99th and 99.9th percentile of the time to answer in microseconds, the processor share of this program
+// in percent, and how often half a second passed without a reply.
 #define _GNU_SOURCE
 #include <arpa/inet.h>
 #include <errno.h>
@@ -19,16 +21,26 @@
 #include <time.h>
 #include <unistd.h>
 
-enum { MOST_OCTETS = 512, MOST_DEPTH = 256 };
+enum { MOST_OCTETS = 512, MOST_DEPTH = 256, DIGITS = 6, MOST_PLACES = 4 };
+enum choice { ONE, UNIFORM, FALLING };
 
-static uint8_t request[MOST_OCTETS], reply[MOST_OCTETS];
-static int request_length, reply_length, is_udp;
+// Octets in which the number of a handle stands at some places.
+struct pattern {
+    uint8_t octets[MOST_OCTETS];
+    int length, places[MOST_PLACES], many;
+};
+
+static struct pattern request, reply;
+static int is_udp, handles;
+static enum choice choice;
+static double *shares;  // of the first k handles together
 
 struct client {
     int socket;
     uint8_t in[MOST_OCTETS * MOST_DEPTH];
     int have;
     uint64_t sent[MOST_DEPTH];  // when each request in flight was sent, a ring
+    int asked[MOST_DEPTH];      // and for which handle
     unsigned first, next;
 };
 
@@ -46,15 +58,50 @@ static void die(const char *what) {
     exit(1);
 }
 
-static int octets(const char *digits, uint8_t *out) {
-    int length = strlen(digits) / 2;
-    if (length > MOST_OCTETS) die("too many octets");
-    for (int i = 0; i < length; i++) {
+static uint64_t draw(void) {
+    static uint64_t state = 88172645463325252ull;
+    state ^= state << 13;
+    state ^= state >> 7;
+    state ^= state << 17;
+    return state * 0x2545F4914F6CDD1Dull >> 20;
+}
+
+static int pick(void) {
+    if (choice == ONE) return 7 % handles;
+    if (choice == UNIFORM) return draw() % handles;
+    double u = (draw() & 0xffffffffffull) / (double)0x10000000000ull;
+    int low = 0, high = handles - 1;
+    while (low < high) {
+        int middle = (low + high) / 2;
+        if (shares[middle] < u) low = middle + 1; else high = middle;
+    }
+    return (long)low * 7919 % handles;  // the handles that are asked for most stand far from each other
+}
+
+static void read_shares(void) {
+    shares = malloc(handles * sizeof *shares);
+    if (!shares) die("no memory");
+    double sum = 0;
+    for (int k = 0; k < handles; k++) shares[k] = sum += 1.0 / (k + 1);
+    for (int k = 0; k < handles; k++) shares[k] /= sum;
+}
+
+static struct pattern read_pattern(const char *digits) {
+    struct pattern p = {.length = strlen(digits) / 2};
+    if (p.length > MOST_OCTETS) die("too many octets");
+    for (int i = 0; i < p.length; i++) {
         unsigned octet;
         if (sscanf(digits + 2 * i, "%2x", &octet) != 1) die("not hexadecimal");
-        out[i] = octet;
+        p.octets[i] = octet;
     }
-    return length;
+    for (int i = 0; i + DIGITS <= p.length && p.many < MOST_PLACES; i++)
+        if (!memcmp(p.octets + i, "000000", DIGITS)) p.places[p.many++] = i, i += DIGITS - 1;
+    return p;
+}
+
+static void put_number(const struct pattern *p, uint8_t *octets, int number) {
+    for (int i = 0; i < p->many; i++)
+        for (int k = DIGITS - 1, n = number; k >= 0; k--, n /= 10) octets[p->places[i] + k] = '0' + n % 10;
 }
 
 static void count(uint64_t nanoseconds) {
@@ -83,11 +130,15 @@ static void send_requests(struct client *c, int many) {
     static uint8_t all[MOST_OCTETS * MOST_DEPTH];
     uint64_t t = now();
     for (int i = 0; i < many; i++) {
-        memcpy(all + i * request_length, request, request_length);
-        c->sent[c->next++ % MOST_DEPTH] = t;
-        if (is_udp) send(c->socket, request, request_length, 0);
+        uint8_t *one = all + i * request.length;
+        unsigned place = c->next++ % MOST_DEPTH;
+        c->asked[place] = pick();
+        c->sent[place] = t;
+        memcpy(one, request.octets, request.length);
+        put_number(&request, one, c->asked[place]);
+        if (is_udp) send(c->socket, one, request.length, 0);
     }
-    if (!is_udp && write(c->socket, all, many * request_length) != many * request_length) die("a short write");
+    if (!is_udp && write(c->socket, all, many * request.length) != many * request.length) die("a short write");
 }
 
 // Takes the replies that came, and sends as many requests again.
@@ -98,23 +149,27 @@ static void take_replies(struct client *c, int counts) {
         die("the server closed a connection");
     }
     c->have += got;
-    int whole = c->have / reply_length;
+    int whole = c->have / reply.length;
     uint64_t t = now();
     for (int i = 0; i < whole; i++) {
-        if (memcmp(c->in + i * reply_length, reply, reply_length)) die("another reply");
-        if (counts) count(t - c->sent[c->first % MOST_DEPTH]);
-        c->first++;
+        unsigned place = c->first++ % MOST_DEPTH;
+        put_number(&reply, reply.octets, c->asked[place]);
+        if (memcmp(c->in + i * reply.length, reply.octets, reply.length)) die("another reply");
+        if (counts) count(t - c->sent[place]);
     }
-    c->have -= whole * reply_length;
-    memmove(c->in, c->in + whole * reply_length, c->have);
+    c->have -= whole * reply.length;
+    memmove(c->in, c->in + whole * reply.length, c->have);
     if (whole) send_requests(c, whole);
 }
 
-// Datagrams may be lost: after half a second without a reply each client begins again with one.
+// Datagrams may be lost: after half a second without a reply each client forgets what may still come, and begins again with one.
 static void begin_again(struct client *clients, int many) {
     for (int i = 0; i < many && is_udp; i++) {
-        clients[i].next = clients[i].first;
-        send_requests(&clients[i], 1);
+        struct client *c = &clients[i];
+        while (recv(c->socket, c->in, sizeof c->in, MSG_DONTWAIT) > 0) {}
+        c->have = 0;
+        c->first = c->next;
+        send_requests(c, 1);
     }
 }
 
@@ -123,13 +178,16 @@ static double percentile(double share) {
 }
 
 int main(int argc, char **argv) {
-    if (argc != 8) die("usage: load tcp|udp PORT CLIENTS DEPTH SECONDS REQUEST REPLY");
+    if (argc != 10) die("usage: load tcp|udp PORT CLIENTS DEPTH SECONDS REQUEST REPLY HANDLES one|uniform|falling");
     is_udp = !strcmp(argv[1], "udp");
     int port = atoi(argv[2]), many = atoi(argv[3]), depth = atoi(argv[4]);
     double seconds = atof(argv[5]);
-    request_length = octets(argv[6], request);
-    reply_length = octets(argv[7], reply);
-    if (many < 1 || depth < 1 || depth >= MOST_DEPTH) die("a number out of range");
+    request = read_pattern(argv[6]);
+    reply = read_pattern(argv[7]);
+    handles = atoi(argv[8]);
+    choice = !strcmp(argv[9], "one") ? ONE : !strcmp(argv[9], "uniform") ? UNIFORM : FALLING;
+    if (many < 1 || depth < 1 || depth >= MOST_DEPTH || handles < 1 || handles > 1000000) die("a number out of range");
+    read_shares();
     struct client *clients = calloc(many, sizeof *clients);
     int poll = epoll_create1(0);
     for (int i = 0; i < many; i++) {

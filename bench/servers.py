@@ -1,0 +1,192 @@
+"""The servers that the benchmarks start, and the load that asks them: `handled serve`, redis and NSD, each on a port of its own.
+
+Every server holds the same: a number of handles, `10/000000` and on, each with one value of its own text. bench/load.c puts the number of the
+handle that it asks for into each request and expects it in the reply, twice where the value's text comes back.
+"""
+
+import os
+import socket
+import struct
+import subprocess
+import sys
+import time
+
+HERE = os.path.dirname(os.path.abspath(__file__))
+PROGRAM = os.path.join(HERE, "..", "crates", "handled", "out", "handled")
+TICKS = os.sysconf("SC_CLK_TCK")
+
+
+def string(octets):
+    return struct.pack(">I", len(octets)) + octets
+
+
+def handle(number):
+    return b"10/%06d" % number
+
+
+def text(number):
+    return b"http://a/%06d" % number
+
+
+def value(number):
+    fields = struct.pack(">I", 1) + string(b"URL") + string(text(number)) + bytes(5) + bytes([6])
+    return fields + struct.pack(">QI", 0, 0)
+
+
+def message(code, body):
+    return struct.pack(">IIIHBBII", 1, code, 0, 0, 0, 0, 0, len(body)) + body + string(b"")
+
+
+def frame(whole):
+    return struct.pack(">BBHIIII", 2, 1, 0, 0, 1, 0, len(whole)) + whole
+
+
+def request(number):
+    return frame(message(0, string(handle(number)) + struct.pack(">II", 0, 0)))
+
+
+def reply(number):
+    return frame(message(1, string(handle(number)) + struct.pack(">I", 1) + value(number)))
+
+
+def tenants(lanes, port, values):
+    lines = ["publisher acme %d %d" % (lanes, port), "prefix 10 acme"]
+    lines += ["value %s %s" % (handle(k).decode(), value(k).hex()) for k in range(values)]
+    return ("\n".join(lines) + "\n").encode()
+
+
+def free_port():
+    with socket.socket() as one:
+        one.bind(("127.0.0.1", 0))
+        return one.getsockname()[1]
+
+
+def stat(folder):
+    """The fields of a process or a thread behind its name; of one that ended, zeros."""
+    try:
+        with open(folder + "/stat") as line:
+            return line.read().rsplit(")", 1)[1].split()
+    except OSError:
+        return ["0"] * 50
+
+
+def descendants(pid):
+    """The process and all below it."""
+    parents = {int(name): int(stat("/proc/" + name)[1]) for name in os.listdir("/proc") if name.isdigit()}
+    found = [pid]
+    for one in found:
+        found += [child for child, parent in parents.items() if parent == one]
+    return found
+
+
+class Server:
+    """A server that listens, what it is asked, and the seconds until it listened."""
+
+    def __init__(self, process, port, request, reply, seconds):
+        self.process, self.port, self.request, self.reply, self.seconds = process, port, request, reply, seconds
+
+    def processor_times(self):
+        """The processor seconds of the first thread, which serves, and of all others; NSD's are processes of their own."""
+        first, others = 0.0, 0.0
+        for pid in descendants(self.process.pid):
+            for task in os.listdir("/proc/%d/task" % pid):
+                fields = stat("/proc/%d/task/%s" % (pid, task))
+                used = (int(fields[11]) + int(fields[12])) / TICKS
+                if int(task) == self.process.pid:
+                    first += used
+                else:
+                    others += used
+        return first, others
+
+    def resident(self):
+        """Its resident memory in megabytes."""
+        with open("/proc/%d/status" % self.process.pid) as status:
+            return [int(line.split()[1]) for line in status if line.startswith("VmRSS")][0] / 1024
+
+    def stop(self):
+        self.process.terminate()
+        self.process.wait()
+
+
+def start_handled(program, lanes, values):
+    """`handled serve`; a program `PATH@NAME=VALUE` has that in its environment, as `LD_PRELOAD`."""
+    port = free_port()
+    words = program.split("@")
+    environment = dict(os.environ, **dict(word.split("=", 1) for word in words[1:]))
+    begin = time.monotonic()
+    process = subprocess.Popen([words[0], "serve"], stdin=subprocess.PIPE, stdout=subprocess.PIPE, stderr=subprocess.PIPE, env=environment)
+    process.stdin.write(tenants(lanes, port, values))
+    process.stdin.close()
+    if not process.stdout.readline():
+        sys.exit("bench: " + process.stderr.read().decode().strip())
+    return Server(process, port, request(0), reply(0), time.monotonic() - begin)
+
+
+def bulk(octets):
+    return b"$%d\r\n%s\r\n" % (len(octets), octets)
+
+
+def start_redis(folder, values):
+    port = free_port()
+    words = ["redis-server", "--port", str(port), "--bind", "127.0.0.1", "--save", "", "--appendonly", "no", "--dir", folder]
+    process = subprocess.Popen(words, stdout=subprocess.DEVNULL, stderr=subprocess.DEVNULL)
+    time.sleep(0.5)
+    with socket.create_connection(("127.0.0.1", port)) as stream:
+        lines = stream.makefile("rb")
+        for begin in range(0, values, 100):
+            part = range(begin, min(begin + 100, values))
+            stream.sendall(b"".join(b"*3\r\n" + bulk(b"SET") + bulk(handle(k)) + bulk(text(k)) for k in part))
+            for _ in part:
+                lines.readline()
+    return Server(process, port, b"*2\r\n" + bulk(b"GET") + bulk(handle(0)), bulk(text(0)), 0.5)
+
+
+def start_nsd(folder, values):
+    port = free_port()
+    with open(os.path.join(folder, "zone"), "w") as zone:
+        zone.write("$ORIGIN a.\n$TTL 86400\n@ IN SOA n.a. m.a. 1 3600 600 86400 60\n@ IN NS n.a.\nn IN A 127.0.0.1\n")
+        zone.writelines("h%06d IN TXT \"%s\"\n" % (k, text(k).decode()) for k in range(values))
+    with open(os.path.join(folder, "conf"), "w") as conf:
+        conf.write("server:\n  ip-address: 127.0.0.1@%d\n  username: \"\"\n  chroot: \"\"\n  zonesdir: \"%s\"\n  pidfile: \"%s/pid\"\n" % (port, folder, folder))
+        conf.write("  xfrdfile: \"%s/xfrd\"\n  zonelistfile: \"%s/list\"\n  xfrdir: \"%s\"\n  server-count: 1\n  rrl-ratelimit: 0\n" % (folder, folder, folder))
+        conf.write("remote-control:\n  control-enable: no\nzone:\n  name: \"a\"\n  zonefile: \"zone\"\n")
+    process = subprocess.Popen(["nsd", "-d", "-c", os.path.join(folder, "conf")], stdout=subprocess.DEVNULL, stderr=subprocess.DEVNULL)
+    time.sleep(1)
+    query = struct.pack(">HHHHHH", 7, 0, 1, 0, 0, 0) + b"\x07h000000\x01a\x00" + struct.pack(">HH", 16, 1)
+    with socket.socket(socket.AF_INET, socket.SOCK_DGRAM) as one:
+        one.settimeout(2)
+        one.sendto(query, ("127.0.0.1", port))
+        answer = one.recv(512)
+    return Server(process, port, query, answer, 1.0)
+
+
+def built_load(folder):
+    load = os.path.join(folder, "load")
+    subprocess.run(["cc", "-O2", "-o", load, os.path.join(HERE, "load.c")], check=True)
+    return load
+
+
+def load_words(load, server, case, seconds, values, choice):
+    kind, clients, depth = case
+    asked = [server.request.hex(), server.reply.hex()]
+    return [load, kind, str(server.port), str(clients), str(depth), str(seconds)] + asked + [str(values), choice]
+
+
+class Load:
+    """What a load measured: replies a second, percentiles in microseconds, and shares of a processor in percent."""
+
+    def __init__(self, load, server, case, seconds, values, choice):
+        before = server.processor_times()
+        words = load_words(load, server, case, seconds, values, choice)
+        done = subprocess.run(words, stdout=subprocess.PIPE, stderr=subprocess.PIPE, check=False)
+        after = server.processor_times()
+        if done.returncode != 0:
+            sys.exit("bench: %s" % done.stderr.decode().strip())
+        fields = done.stdout.decode().split()
+        self.rate, self.own, self.stalls = float(fields[0]), float(fields[4]), int(fields[5])
+        self.half, self.most, self.nearly = (int(field) for field in fields[1:4])
+        self.first, self.others = (100 * (b - a) / seconds for a, b in zip(before, after))
+
+    def cost(self):
+        """The server's processor microseconds of a reply, on all its threads."""
+        return (self.first + self.others) * 1e4 / max(self.rate, 1)
