@@ -4,4 +4,7 @@ pub mod Listings
 pub mod Searches
 pub mod Chains
 pub mod Masks
+pub mod Found
+pub mod Stays
+pub mod Ranges
 pub mod Agreement

@@ -19,7 +19,7 @@ use Rattle.hdl_reach.specs.declared.sources.Sources.{Sources}
 use Rattle.hdl_reach.specs.Reach.{is_among, listed_in, lists}
 use Rattle.hdl_reach.specs.Seen.{places, PlaceKey, place_at, key_cmp}
 use Rattle.hdl_reach.specs.Sources.{places_in, sources_of, with_source, HasSources}
-use Rattle.hdl_reach.specs.Search.{onward, reachable, IsReached, IsWalk}
+use Rattle.hdl_reach.specs.Search.{IsReached, IsWalk}
 use Rattle.hdl_reach.proofs.Members.{among_append, among_front, among_back, among_first, or_true}
 
 -- ---- a list as it reads
@@ -123,25 +123,3 @@ walk_in s end p (r ∷ ps) q here walk = walk_in s end r ps q (or_true (same_pla
 
 pub reached_in : (s : Sources) (end q : Place) → IsReached (sources_of s) end q → IsTrue (is_among q (sources_from s end))
 reached_in s end q reached = walk_in s end end reached.0 q (among_first end _) reached.1
-
-in_values : (es : List (Place × Value)) (p q : Place) → IsTrue (is_among q (listed_in (map.find place_cmp p es))) → IsTrue (is_among q (flat_map listed (map_list (λ (e : Place × Value). e.1) es)))
-in_values [] p q h = h
-in_values (e ∷ es) p q h =
-    elim (eq_by_cmp place_cmp p e.0) as (λ b. IsTrue (is_among q (listed_in (cond b (Some e.1) (map.find place_cmp p es)))) → IsTrue (is_among q (listed e.1 ++ flat_map listed (map_list (λ (f : Place × Value). f.1) es)))) [
-      | true ↦ λ k. among_front (listed e.1) _ q k
-      | false ↦ λ k. among_back (listed e.1) _ q (in_values es p q k)
-    ] h
-
--- what leads on, is listed
-pub from_onward : (t : Table) (end p q : Place) → IsTrue (is_among q (onward t end p)) → IsTrue (is_among q (lists t p))
-from_onward t end p q h = elim (same_place p end) as (λ b. IsTrue (is_among q (if b then [] else lists t p)) → IsTrue (is_among q (lists t p))) [
-  | true ↦ λ no. absurd (let never : false ≡ true = no in cc)
-  | false ↦ λ here. here
-] h
-
-pub listed_reachable : (t : Table) (starts : List Place) (end p q : Place) → IsTrue (is_among q (onward t end p)) → IsTrue (is_among q (reachable t starts))
-listed_reachable t starts end p q h =
-    among_back starts _ q (in_values (map.entries t.values) p q (subst (λ o. IsTrue (is_among q (listed_in o))) (map.get-entries t.values p) (from_onward t end p q h)))
-
-pub start_reachable : (t : Table) (starts : List Place) (p : Place) → IsTrue (is_among p starts) → IsTrue (is_among p (reachable t starts))
-start_reachable t starts p h = among_front starts _ p h

@@ -1,13 +1,13 @@
 -- A search over places, each of which leads on to others.
-use Rattle.std.specs.Prelude.{◌≡◌, ◌≤◌, ℕ, List, [], ◌∷◌, ◌++◌, take, length, IsTrue, if◌then◌else◌}
-use Rattle.std.specs.List.{AllByRecursion, flat_map, IsDistinct}
-use Rattle.std.specs.FinMap as map
+use Rattle.std.specs.Prelude.{◌≡◌, ◌≢◌, ◌≤◌, ⊤, ℕ, List, [], ◌∷◌, take, length, IsTrue}
+use Rattle.std.specs.List.{AllByRecursion, IsDistinct}
 use Rattle.hdl_value.specs.Place.{Place, same_place}
-use Rattle.hdl_value.specs.Refs.{listed}
-use Rattle.hdl_rows.specs.Table.{Table}
-use Rattle.hdl_reach.specs.declared.sources.Sources.{Sources}
-use Rattle.hdl_reach.specs.Reach.{is_among, lists}
+use Rattle.hdl_rows.specs.Table.{Table, at, place, values_of}
+use Rattle.hdl_reach.specs.declared.search.Search.{Search}
+use Rattle.hdl_reach.specs.Reach.{is_among, lists, grants}
+use Rattle.hdl_reach.specs.Seen.{places, AreKept}
 use Rattle.hdl_reach.specs.Sources.{HasSources}
+use Rattle.hdl_reach.specs.Views.{grants_in, starts}
 
 -- from p over these places, the last of which is q, each among those to which the one before leads on
 abbrev pub IsWalk : (Place → List Place) → Place → List Place → Place → Type 0
@@ -29,19 +29,23 @@ pub record IsSearched (on : Place → List Place) (P : Place → Type 0) (starts
   pub begun : AllByRecursion (λ p. IsTrue (is_among p seen)) starts
   pub distinct : IsDistinct same_place seen
 
--- ---- over lists, towards an end
+-- ---- over lists, from the grants of a handle
 
--- what the value at p lists; at the end nothing, since no search goes further
-abbrev pub onward : Table → Place → Place → List Place
-onward t end p = if same_place p end then [] else lists t p
+-- the handle whose administrators are searched for
+abbrev pub handle_of : Search → List ℕ
+handle_of s = s.handle.items
 
--- every place that a search from these can come to
-abbrev pub reachable : Table → List Place → List Place
-reachable t starts = starts ++ flat_map listed (map.values t.values)
+-- Its grants are the handle's in this table; of what it has seen, over the table's lists from these, it passed the first, and knows their sources.
+pub record IsSearch (t : Table) (s : Search) : Type 0 where
+  pub granted : grants_in s.grants.items ≡ grants (values_of t (handle_of s))
+  pub searched : IsSearched (lists t) (λ p. ⊤) (starts s.grants.items) s.passed (places s.seen.references.items)
+  pub sources : HasSources (lists t) (take s.passed (places s.seen.references.items)) s.sources
+  pub kept : AreKept s.seen
 
--- The sources are those of places among which the starts are, and all to which these lead on.
-pub record IsGathered (t : Table) (end : Place) (starts : List Place) (s : Sources) : Type 0 where
-  pub seen : List Place
-  pub begun : AllByRecursion (λ p. IsTrue (is_among p seen)) starts
-  pub closed : IsClosed (onward t end) seen seen
-  pub kept : HasSources (onward t end) seen s
+-- all that it has seen was passed
+abbrev pub IsDone : Search → Type 0
+IsDone s = length s.seen.references.items ≤ s.passed
+
+-- two tables that have the same at every other handle
+abbrev pub AgreeBeside : List ℕ → Table → Table → Type 0
+AgreeBeside h t u = (g : List ℕ) → g ≢ h → ((i : ℕ) → at t (place g i) ≡ at u (place g i)) × (values_of t g ≡ values_of u g)

@@ -27,12 +27,12 @@
 //!   the second of its two growths is refused the two parts differ, and the search ends there.
 #![tactic(auto)]
 
-mod administrators;
 mod grants;
 mod laws;
+mod lists;
 mod search;
 mod seen;
 mod sources;
 
-pub use administrators::mask;
 pub use laws::{administrators_among, none_at_zero, one_mask, same_chains, same_masks};
+pub use search::Search;

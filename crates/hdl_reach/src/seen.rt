@@ -1,6 +1,8 @@
 //! The references that a search has seen.
 
-ghost use Rattle.std.specs.Prelude.{◌≡◌, [], IfOk, OnOk};
+ghost use Rattle.std.specs.Prelude.{◌≡◌, ◌≢◌, [], IfOk, OnOk, IsTrue};
+ghost use Rattle.std.specs.List.{AllByRecursion};
+ghost use Rattle.hdl_name.specs.Name.{canonical};
 ghost use Rattle.hdl_value.specs.Refs.{place_of};
 ghost use Rattle.hdl_reach.specs.Reach.{is_among};
 ghost use Rattle.hdl_reach.specs.Seen.{places, with_place, place_at, AreKept, Extends};
@@ -79,5 +81,15 @@ impl Seen {
     {
         let key = key_of(alloc, one)?;
         Ok(self.keys.contains(&key))
+    }
+    /// Whether none of them is of this handle.
+    pub(crate) fn is_apart_from(&self, alloc: Global, name: &Name) -> Result<bool, AllocError>
+        ensures { AreKept self.now → IfOk result (λ apart. IsTrue apart → AllByRecursion (λ p. p.handle ≢ canonical name.now) (places self.now.references.items)) }
+    {
+        let first = (Vec::from_slice(alloc, name.canon())?, 0);
+        let mut next = Vec::from_slice(alloc, name.canon())?;
+        // the octets that follow in order are these and a zero
+        next.push(0)?;
+        Ok(self.keys.range(first..(next, 0)).next().is_none())
     }
 }

@@ -4,8 +4,8 @@ use Rattle.hdl_reach.specs.Reach.{is_among}
 use Rattle.hdl_reach.specs.Seen.{places}
 use Rattle.hdl_reach.specs.Views.{mask_of}
 use Rattle.hdl_reach.proofs.Masks.{union_joins, union_passes}
-use Rattle.hdl_reach.proofs.administrators.union_of.Goals as goal
-use Rattle.hdl_reach.proofs.administrators.union_of.Goals.{then-branch, else-branch}
+use Rattle.hdl_reach.proofs.grants.union_of.Goals as goal
+use Rattle.hdl_reach.proofs.grants.union_of.Goals.{then-branch, else-branch}
 
 pub loop-grant-preserved : goal.loop-grant-preserved
 loop-grant-preserved c =

@@ -2,7 +2,7 @@ use Rattle.std.proofs.Common.{◌≡◌, Some, IfOk, rules, subst}
 use Rattle.hdl_value.specs.Refs.{raws, list_read}
 use Rattle.hdl_reach.specs.Seen.{places}
 use Rattle.hdl_reach.proofs.Listings.{as_read}
-use Rattle.hdl_reach.proofs.search.references_of.Goals as goal
+use Rattle.hdl_reach.proofs.lists.references_of.Goals as goal
 
 pub returns-in-Some : goal.returns-in-Some
 returns-in-Some c =
