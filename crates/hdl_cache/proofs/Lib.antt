@@ -1,3 +1,4 @@
 pub mod Entries
 pub mod Views
 pub mod Truth
+pub mod Held

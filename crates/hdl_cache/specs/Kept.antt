@@ -32,9 +32,9 @@ is_asked h k = same_asked (asked_for h k)
 abbrev pub with_mask : List Kept → Asked → Option ℕ → List Kept
 with_mask kept a m = put_entries same_asked (lru_cache kept MASKS_MAX) a m
 
--- what is kept is the table's
-abbrev pub AreTrue : Table → List Kept → Type 0
-AreTrue t kept = (e : Kept) → Contains kept e → IsMask t e.0.handle e.0.key e.1
+-- the masks that are kept are the table's
+abbrev pub AreMasks : Table → List Kept → Type 0
+AreMasks t kept = (e : Kept) → Contains kept e → IsMask t e.0.handle e.0.key e.1
 
 -- ---- the code's entries, as they are seen
 

@@ -20,7 +20,9 @@
 //!   and `keep` copy two names; a `find` that is refused counts as not kept, and a `keep` that is refused keeps nothing.
 #![tactic(auto)]
 
+mod kept;
 mod masks;
 mod pair;
 
+pub use kept::KeptMasks;
 pub use masks::Masks;

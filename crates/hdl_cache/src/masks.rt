@@ -1,92 +1,186 @@
-//! The masks that are kept.
+//! What is known of administrators: masks that were found, and searches that go on.
 
-ghost use Rattle.std.specs.Prelude.{◌≡◌, ◌⊎◌, [], option_map, IfOk, IfSome, OnOk, OnErr};
-ghost use Rattle.std.specs.Map.{lookup};
+ghost use Rattle.std.specs.Prelude.{◌≡◌, IfOk, IfSome};
 ghost use Rattle.hdl_name.specs.Name.{canonical};
 ghost use Rattle.hdl_value.specs.Refs.{place_of};
-ghost use Rattle.hdl_rows.specs.Table.{Table};
+ghost use Rattle.hdl_rows.specs.Table.{Table, IsCounted};
 ghost use Rattle.hdl_reach.specs.Reach.{IsMask};
+ghost use Rattle.hdl_reach.specs.Search.{handle_of, IsSearch, AgreeBeside};
 ghost use Rattle.hdl_reach.specs.Views.{mask_of};
-ghost use Rattle.lru.specs.LruCache.{promoted};
-ghost use Rattle.hdl_cache.specs.Kept.{asked_for, is_asked, with_mask, AreTrue};
+ghost use Rattle.hdl_cache.specs.Truth.{AreTrue};
 
-use crate::pair::Pair;
-use hdl_limits::MASKS_MAX;
+use crate::KeptMasks;
 use hdl_name::Name;
+use hdl_reach::Search;
+use hdl_rows::{Refused, Rows};
 use hdl_value::{AdminMask, Reference};
-use lru::LruCache;
 use std::alloc::{AllocError, Global};
-use std::marker::Model;
-use std::num::NonZeroUsize;
+use std::mem;
 
-/// Masks by handle and key. Contracts see them as a list, the most recently used first.
+/// How many searches are kept.
+const SEARCHES: usize = 16;
+
+/// How many references one call looks up.
+const LOOKED_UP: usize = 2_048;
+
+/// A search that ends in one call and saw no more references isn't kept: to search anew costs as little.
+const SOON_SEEN: usize = 64;
+
+/// How many references the searches that are kept have seen in all, unless it is one search.
+const SEEN: usize = 262_144;
+
+/// Masks by handle and key, and searches by handle.
 #[derive(Drop)]
 pub struct Masks {
     alloc: Global,
-    kept: LruCache<Pair, Option<AdminMask>>,
+    kept: KeptMasks,
+    /// The one that went on last stands at the end.
+    searches: Vec<Search>,
 }
 
-impl Model for Masks {
-    ghost use Rattle.std.specs.Prelude.{◌≡◌, List};
-    ghost use Rattle.hdl_limits.specs.declared.TheConstants.{MASKS_MAX};
-    ghost use Rattle.hdl_cache.specs.Kept.{Kept, kept_in};
-
-    ghost Value = { List Kept };
-
-    ghost view = { λ m. kept_in m.kept.entries };
-
-    ghost invariant = { λ m. m.kept.cap ≡ MASKS_MAX };
+/// The mask of this key by a search that is done. Refused: it isn't, or memory was refused.
+fn found_by(alloc: Global, search: &Search, key: &Reference) -> Result<Option<AdminMask>, Refused>
+    ensures { (t : Table) → IsSearch t search.now → IfOk result (λ mask. IsMask t (handle_of search.now) (place_of key.now) (mask_of mask)) }
+{
+    if !search.is_done() {
+        return Err(Refused);
+    }
+    match search.mask(alloc, key) {
+        Ok(mask) => Ok(mask),
+        Err(_) => Err(Refused),
+    }
 }
 
 impl Masks {
-    /// None are kept. Refused only for want of memory.
+    /// Nothing is known. Refused only for want of memory.
     pub fn new(alloc: Global) -> Result<Masks, AllocError>
-        ensures { IfOk result (λ masks. masks ≡ []) }
+        ensures { IfOk result (λ masks. (t : Table) → AreTrue t masks) }
     {
-        let Some(most) = NonZeroUsize::new(MASKS_MAX) else {
-            unreachable!()
-        };
-        let kept = LruCache::new(alloc, most)?;
-        Ok(Masks { alloc, kept })
+        let kept = KeptMasks::new(alloc)?;
+        let searches = Vec::with_capacity(alloc, SEARCHES)?;
+        Ok(Masks {
+            alloc,
+            kept,
+            searches,
+        })
     }
 
-    /// The mask that is kept of this key for this handle; None: it isn't kept. It is then the most recently used.
+    /// The search that is kept of this handle, which isn't kept any more.
+    fn take(&mut self, name: &Name) -> Option<Search>
+        ensures handle { IfSome result (λ search. handle_of search ≡ canonical name.now) }
+        ensures of_table { (t : Table) → AreTrue t self.old → AreTrue t self.new × IfSome result (IsSearch t) }
+    {
+        let place = self.searches.iter().position(|search| search.is_for(name))?;
+        Some(self.searches.remove(place))
+    }
+
+    /// How many references the searches have seen.
+    fn seen(&self) -> usize {
+        let mut seen: usize = 0;
+        for search in &self.searches {
+            seen = seen.saturating_add(search.references());
+        }
+        seen
+    }
+
+    /// Where many are kept, the search that went on least lately goes.
+    fn make_room(&mut self)
+        ensures { (t : Table) → AreTrue t self.old → AreTrue t self.new }
+    {
+        if self.searches.len() < SEARCHES {
+            return;
+        }
+        drop(self.searches.remove(0));
+    }
+
+    /// Where those that are kept and one more have seen too much, all go.
+    fn make_room_for(&mut self, references: usize)
+        ensures { (t : Table) → AreTrue t self.old → AreTrue t self.new }
+    {
+        if self.seen().saturating_add(references) <= SEEN {
+            return;
+        }
+        self.searches.clear();
+    }
+
+    /// Keeps a search, if it is worth that.
+    fn hold(&mut self, search: Search)
+        ensures { (t : Table) → AreTrue t self.old → IsSearch t search → AreTrue t self.new }
+    {
+        let references = search.references();
+        if references <= SOON_SEEN && search.is_done() {
+            return;
+        }
+        self.make_room();
+        self.make_room_for(references);
+        let _ = self.searches.push(search);
+    }
+
+    /// The search for the administrators of this handle that was kept, else a new one.
+    fn search_for<R: Rows>(&mut self, rows: &mut R, name: &Name) -> Result<Search, Refused>
+        requires of_table { AreTrue (R.content rows.old) self.old }
+        ensures unchanged { R.content rows.new ≡ R.content rows.old }
+        ensures of_table { AreTrue (R.content rows.old) self.new }
+        ensures search { IfOk result (λ search. IsSearch (R.content rows.old) search × (handle_of search ≡ canonical name.now)) }
+        ensures count { IsCounted result (R.refused rows.old) (R.refused rows.new) }
+    {
+        if let Some(search) = self.take(name) {
+            return Ok(search);
+        }
+        Search::begin(self.alloc, rows, name)
+    }
+
+    /// The same, gone on by one call's references.
+    fn searched<R: Rows>(&mut self, rows: &mut R, name: &Name) -> Result<Search, Refused>
+        requires of_table { AreTrue (R.content rows.old) self.old }
+        ensures unchanged { R.content rows.new ≡ R.content rows.old }
+        ensures of_table { AreTrue (R.content rows.old) self.new }
+        ensures search { IfOk result (λ search. IsSearch (R.content rows.old) search × (handle_of search ≡ canonical name.now)) }
+        ensures count { IsCounted result (R.refused rows.old) (R.refused rows.new) }
+    {
+        let search = self.search_for(rows, name)?;
+        search.go_on(self.alloc, rows, LOOKED_UP)
+    }
+
+    /// What the key may do as an administrator of the handle: as it was found, or by a search over this table, of which what was
+    /// seen is kept.
     ///
-    /// Where what is kept is a table's, what is found is the table's mask (`of_table`). Refused only for want of memory;
-    /// nothing changed then.
-    pub fn find(
+    /// Refused: the table refused a look, and its count rose by one; or memory was refused, or the search looked up as many references as
+    /// one call may and isn't done, and the count is as it was. The next call goes on from there.
+    pub fn mask<R: Rows>(
         &mut self,
+        rows: &mut R,
         name: &Name,
         key: &Reference,
-    ) -> Result<Option<Option<AdminMask>>, AllocError>
-        ensures found { IfOk result (λ found. option_map mask_of found ≡ lookup (is_asked (canonical name.now) (place_of key.now)) self.old) }
-        ensures used { OnOk result (self.new ≡ promoted (is_asked (canonical name.now) (place_of key.now)) self.old) }
-        ensures unchanged { OnErr result (self.new ≡ self.old) }
-        ensures of_table { (t : Table) → AreTrue t self.old → IfOk result (λ found. IfSome found (λ mask. IsMask t (canonical name.now) (place_of key.now) (mask_of mask))) }
-        ensures still_true { (t : Table) → AreTrue t self.old → AreTrue t self.new }
+    ) -> Result<Option<AdminMask>, Refused>
+        requires of_table { AreTrue (R.content rows.old) self.old }
+        ensures unchanged { R.content rows.new ≡ R.content rows.old }
+        ensures of_table { AreTrue (R.content rows.new) self.new }
+        ensures mask { IfOk result (λ mask. IsMask (R.content rows.old) (canonical name.now) (place_of key.now) (mask_of mask)) }
+        ensures count { IsCounted result (R.refused rows.old) (R.refused rows.new) }
     {
-        let pair = Pair::new(self.alloc, name, key)?;
-        let found = self.kept.peek(&pair).copied();
-        self.kept.promote(&pair);
-        Ok(found)
+        if let Ok(Some(mask)) = self.kept.find(name, key) {
+            return Ok(mask);
+        }
+        let search = self.searched(rows, name)?;
+        let found = found_by(self.alloc, &search, key);
+        self.hold(search);
+        let mask = found?;
+        self.kept.keep(name, key, mask);
+        Ok(mask)
     }
 
-    /// Keeps the mask of this key for this handle, in the place of the least recently used one where 256 are kept.
-    /// Want of memory changes nothing.
-    pub fn keep(&mut self, name: &Name, key: &Reference, mask: Option<AdminMask>)
-        ensures kept { (self.new ≡ self.old) ⊎ (self.new ≡ with_mask self.old (asked_for (canonical name.now) (place_of key.now)) (mask_of mask)) }
-        ensures still_true { (t : Table) → AreTrue t self.old → IsMask t (canonical name.now) (place_of key.now) (mask_of mask) → AreTrue t self.new }
-    {
-        let Ok(pair) = Pair::new(self.alloc, name, key) else {
-            return;
-        };
-        let _ = self.kept.put(pair, mask);
-    }
-
-    /// Forgets all.
-    pub fn clear(&mut self)
-        ensures { self.new ≡ [] }
+    /// Forgets what may not be so when values of this handle change: all masks, and each search for this handle, or that saw a reference
+    /// of it.
+    pub fn forget(&mut self, name: &Name)
+        ensures { (t u : Table) → AgreeBeside (canonical name.now) t u → AreTrue t self.old → AreTrue u self.new }
     {
         self.kept.clear();
+        let searches = mem::replace(&mut self.searches, Vec::new(self.alloc));
+        for search in searches {
+            if search.is_apart_from(self.alloc, name) {
+                let _ = self.searches.push(search);
+            }
+        }
     }
 }

@@ -5,7 +5,7 @@ ghost use Rattle.hdl_msg.specs.Codes.{response_number};
 ghost use Rattle.hdl_msg.specs.Reply.{short_reply};
 ghost use Rattle.hdl_msg.specs.ReplyView.{IsReplyFrame};
 ghost use Rattle.hdl_msg.specs.declared.replies.ReplyContent.TheVariants as content;
-ghost use Rattle.hdl_cache.specs.Kept.{AreTrue};
+ghost use Rattle.hdl_cache.specs.Truth.{AreTrue};
 ghost use Rattle.hdl_ops.specs.Replies.{fits};
 ghost use Rattle.hdl_ops.specs.Tables.{apply_if, CanApply};
 ghost use Rattle.hdl_laws.specs.Worlds.{answer_octets};
@@ -19,7 +19,7 @@ use hdl_ops::laws::empty_fits;
 use hdl_ops::{Asked, Change, Decision, Masks, Refused, Rows, apply, render};
 use std::alloc::Global;
 
-/// Makes the change of a decision, if there is one. No mask of the table before it is kept then.
+/// Makes the change of a decision, if there is one. What is known of administrators that it may touch is forgotten first.
 fn make<R: Rows>(
     rows: &mut R,
     masks: &mut Masks,
@@ -34,9 +34,8 @@ fn make<R: Rows>(
 {
     match change {
         Some(change) => {
-            apply(rows, change, moment)?;
-            masks.clear();
-            Ok(())
+            masks.forget(change.name());
+            apply(rows, change, moment)
         }
         None => Ok(()),
     }

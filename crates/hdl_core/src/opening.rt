@@ -2,7 +2,8 @@
 
 ghost use Rattle.std.specs.Prelude.{◌≡◌, [], None, map, IfOk, OnOk};
 ghost use Rattle.std.specs.List.Sorted.{IsPermutation};
-ghost use Rattle.hdl_rows.specs.Table.{no_rows, at};
+ghost use Rattle.hdl_rows.specs.Table.{Table, no_rows, at};
+ghost use Rattle.hdl_cache.specs.Truth.{AreTrue};
 ghost use Rattle.hdl_tenants.specs.Register.{lane_count, place, AreDistinct};
 ghost use Rattle.hdl_core.specs.Opening.{IsOpening, closed_lanes as closed, opening_table, with_row, row_at, first_lanes};
 
@@ -102,7 +103,7 @@ fn load<R: Rows>(alloc: Global, rows: &mut R, opening: &[(Name, Value)]) -> Resu
 /// What is kept of all lanes, each closed, and of masks, none.
 fn room_for(alloc: Global, tenants: &Tenants) -> Result<(Lanes, Masks), OpenFault>
     ensures lanes { IfOk result (λ room. room.0 ≡ closed (first_lanes tenants.now (lane_count tenants.now.publishers))) }
-    ensures masks { IfOk result (λ room. room.1 ≡ []) }
+    ensures masks { IfOk result (λ room. (t : Table) → AreTrue t room.1) }
 {
     let Ok(lanes) = closed_lanes(alloc, tenants) else {
         return Err(OpenFault::Memory);

@@ -40,7 +40,7 @@ impl<R: Rows + Drop> Model for Service<R> {
 
     ghost view = { λ s. world_of s.tenants s.lanes (R.content s.rows) };
 
-    ghost use Rattle.hdl_cache.specs.Kept.{AreTrue};
+    ghost use Rattle.hdl_cache.specs.Truth.{AreTrue};
 
     ghost invariant = { λ s. AreTrue (R.content s.rows) s.masks };
 }

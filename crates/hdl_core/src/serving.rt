@@ -5,7 +5,7 @@ ghost use Rattle.hdl_frame.specs.Envelope.{envelope_at, is_truncated};
 ghost use Rattle.hdl_frame.specs.Splitting.{IsFrameOf};
 ghost use Rattle.hdl_msg.specs.Reply.{reply_envelope};
 ghost use Rattle.hdl_msg.specs.ReplyView.{IsReplyFrame};
-ghost use Rattle.hdl_cache.specs.Kept.{AreTrue};
+ghost use Rattle.hdl_cache.specs.Truth.{AreTrue};
 ghost use Rattle.hdl_ops.specs.Views.{algorithms_by, hosted_by};
 ghost use Rattle.hdl_laws.specs.Told.{IsReadable};
 ghost use Rattle.hdl_core.specs.Serving.{AssemblesAt, outcome_of, received_as, received_of, ReceivesAt, ServesAt};

@@ -3,7 +3,7 @@
 ghost use Rattle.std.specs.Prelude.{◌≡◌, [], None, if◌then◌else◌, IfOk, IfSome, OnOk, IsTrue};
 ghost use Rattle.hdl_name.specs.Name.{prefix};
 ghost use Rattle.hdl_rows.specs.Table.{counted, names_of, values_of, HaveTheirIndexes, IsCounted};
-ghost use Rattle.hdl_cache.specs.Kept.{AreTrue};
+ghost use Rattle.hdl_cache.specs.Truth.{AreTrue};
 ghost use Rattle.hdl_ops.specs.Admission.{refusal};
 ghost use Rattle.hdl_ops.specs.Decisions as decisions;
 ghost use Rattle.hdl_ops.specs.Decisions.{Decides, DecidesBy};

@@ -4,9 +4,8 @@ ghost use Rattle.std.specs.Prelude.{◌≡◌, Some, option_map, IfOk};
 ghost use Rattle.hdl_name.specs.Name.{canonical, prefix};
 ghost use Rattle.hdl_value.specs.Refs.{place_of};
 ghost use Rattle.hdl_rows.specs.Table.{IsCounted};
-ghost use Rattle.hdl_reach.specs.Reach.{IsMask};
 ghost use Rattle.hdl_reach.specs.Views.{mask_of};
-ghost use Rattle.hdl_cache.specs.Kept.{AreTrue};
+ghost use Rattle.hdl_cache.specs.Truth.{AreTrue};
 ghost use Rattle.hdl_msg.specs.Bodies.{operation_of};
 ghost use Rattle.hdl_msg.specs.Codes.{response_number};
 ghost use Rattle.hdl_ops.specs.Admission.{handle_in};
@@ -22,7 +21,6 @@ use crate::requests::creates;
 use hdl_cache::Masks;
 use hdl_msg::{Body, Request, ResponseCode};
 use hdl_name::Name;
-use hdl_reach::mask;
 use hdl_rows::{Refused, Rows};
 use hdl_value::{AdminMask, Reference};
 use std::alloc::{AllocError, Global};
@@ -59,28 +57,6 @@ fn admin_handle(alloc: Global, name: &Name) -> Result<Option<Name>, Refused>
     read_name(alloc, &octets)
 }
 
-/// What the key may do as an administrator of the handle: as it is kept, or as the table has it, and then it is kept.
-fn mask_for<R: Rows>(
-    alloc: Global,
-    rows: &mut R,
-    masks: &mut Masks,
-    name: &Name,
-    key: &Reference,
-) -> Result<Option<AdminMask>, Refused>
-    requires true_masks { AreTrue (R.content rows.old) masks.old }
-    ensures unchanged { R.content rows.new ≡ R.content rows.old }
-    ensures true_masks { AreTrue (R.content rows.new) masks.new }
-    ensures mask { IfOk result (λ mask. IsMask (R.content rows.old) (canonical name.now) (place_of key.now) (mask_of mask)) }
-    ensures count { IsCounted result (R.refused rows.old) (R.refused rows.new) }
-{
-    if let Ok(Some(kept)) = masks.find(name, key) {
-        return Ok(kept);
-    }
-    let found = mask(alloc, rows, name, key)?;
-    masks.keep(name, key, found);
-    Ok(found)
-}
-
 /// What the key may do as an administrator of the request's target.
 #[tactic(auto, unfolding(crate::specs::Proven::target))]
 fn mask_of<R: Rows>(
@@ -99,10 +75,10 @@ fn mask_of<R: Rows>(
     ensures count { IsCounted result (R.refused rows.old) (R.refused rows.new) }
 {
     if !creates(body) {
-        return mask_for(alloc, rows, masks, name, key);
+        return masks.mask(rows, name, key);
     }
     match admin_handle(alloc, name)? {
-        Some(target) => mask_for(alloc, rows, masks, &target, key),
+        Some(target) => masks.mask(rows, &target, key),
         None => Ok(None),
     }
 }

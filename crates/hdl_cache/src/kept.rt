@@ -1,0 +1,92 @@
+//! The masks that are kept.
+
+ghost use Rattle.std.specs.Prelude.{◌≡◌, ◌⊎◌, [], option_map, IfOk, IfSome, OnOk, OnErr};
+ghost use Rattle.std.specs.Map.{lookup};
+ghost use Rattle.hdl_name.specs.Name.{canonical};
+ghost use Rattle.hdl_value.specs.Refs.{place_of};
+ghost use Rattle.hdl_rows.specs.Table.{Table};
+ghost use Rattle.hdl_reach.specs.Reach.{IsMask};
+ghost use Rattle.hdl_reach.specs.Views.{mask_of};
+ghost use Rattle.lru.specs.LruCache.{promoted};
+ghost use Rattle.hdl_cache.specs.Kept.{asked_for, is_asked, with_mask, AreMasks};
+
+use crate::pair::Pair;
+use hdl_limits::MASKS_MAX;
+use hdl_name::Name;
+use hdl_value::{AdminMask, Reference};
+use lru::LruCache;
+use std::alloc::{AllocError, Global};
+use std::marker::Model;
+use std::num::NonZeroUsize;
+
+/// Masks by handle and key. Contracts see them as a list, the most recently used first.
+#[derive(Drop)]
+pub struct KeptMasks {
+    alloc: Global,
+    kept: LruCache<Pair, Option<AdminMask>>,
+}
+
+impl Model for KeptMasks {
+    ghost use Rattle.std.specs.Prelude.{◌≡◌, List};
+    ghost use Rattle.hdl_limits.specs.declared.TheConstants.{MASKS_MAX};
+    ghost use Rattle.hdl_cache.specs.Kept.{Kept, kept_in};
+
+    ghost Value = { List Kept };
+
+    ghost view = { λ m. kept_in m.kept.entries };
+
+    ghost invariant = { λ m. m.kept.cap ≡ MASKS_MAX };
+}
+
+impl KeptMasks {
+    /// None are kept. Refused only for want of memory.
+    pub fn new(alloc: Global) -> Result<KeptMasks, AllocError>
+        ensures { IfOk result (λ masks. masks ≡ []) }
+    {
+        let Some(most) = NonZeroUsize::new(MASKS_MAX) else {
+            unreachable!()
+        };
+        let kept = LruCache::new(alloc, most)?;
+        Ok(KeptMasks { alloc, kept })
+    }
+
+    /// The mask that is kept of this key for this handle; None: it isn't kept. It is then the most recently used.
+    ///
+    /// Where what is kept is a table's, what is found is the table's mask (`of_table`). Refused only for want of memory;
+    /// nothing changed then.
+    pub fn find(
+        &mut self,
+        name: &Name,
+        key: &Reference,
+    ) -> Result<Option<Option<AdminMask>>, AllocError>
+        ensures found { IfOk result (λ found. option_map mask_of found ≡ lookup (is_asked (canonical name.now) (place_of key.now)) self.old) }
+        ensures used { OnOk result (self.new ≡ promoted (is_asked (canonical name.now) (place_of key.now)) self.old) }
+        ensures unchanged { OnErr result (self.new ≡ self.old) }
+        ensures of_table { (t : Table) → AreMasks t self.old → IfOk result (λ found. IfSome found (λ mask. IsMask t (canonical name.now) (place_of key.now) (mask_of mask))) }
+        ensures still_true { (t : Table) → AreMasks t self.old → AreMasks t self.new }
+    {
+        let pair = Pair::new(self.alloc, name, key)?;
+        let found = self.kept.peek(&pair).copied();
+        self.kept.promote(&pair);
+        Ok(found)
+    }
+
+    /// Keeps the mask of this key for this handle, in the place of the least recently used one where 256 are kept.
+    /// Want of memory changes nothing.
+    pub fn keep(&mut self, name: &Name, key: &Reference, mask: Option<AdminMask>)
+        ensures kept { (self.new ≡ self.old) ⊎ (self.new ≡ with_mask self.old (asked_for (canonical name.now) (place_of key.now)) (mask_of mask)) }
+        ensures still_true { (t : Table) → AreMasks t self.old → IsMask t (canonical name.now) (place_of key.now) (mask_of mask) → AreMasks t self.new }
+    {
+        let Ok(pair) = Pair::new(self.alloc, name, key) else {
+            return;
+        };
+        let _ = self.kept.put(pair, mask);
+    }
+
+    /// Forgets all.
+    pub fn clear(&mut self)
+        ensures { self.new ≡ [] }
+    {
+        self.kept.clear();
+    }
+}
