@@ -6,6 +6,8 @@
 - docs/PAGE.md, "SECTION" of crates/ and docs/: the page has a heading that begins so.
 - tools/NAME, bench/NAME and examples/NAME, wherever they are named: there is such a file (words in capitals stand for any). A file of tools/ or
   bench/ that nothing names or imports is told too.
+- docs/DESIGN.md, "Five ways": in the first column CRATE `FILE`, `FILE` (`FUNCTION`): the crate has a file of src/ of each name, and a function of
+  each name in parentheses.
 - docs/PROTOCOL.md, "Limits": each row has the number of its constant, and each number of hdl_limits' `numbers` has a row.
 
 Prints what isn't there, and then the exit status is 1."""
@@ -102,6 +104,20 @@ def missing_places():
             yield "%s: nothing names it" % path
 
 
+def missing_stations():
+    page = text_of("docs/DESIGN.md").split("\n## Five ways")[1].split("\n## ")[0]
+    for cell in re.findall(r"^\| ([^|]*) \|", page, re.MULTILINE):
+        for crate, rest in re.findall(r"(hdl_\w+|hdl)\b(.*?)(?=\bhdl_|$)", cell):
+            sources = files("crates/%s/src/**/*.rt" % crate)
+            functions = {FUNCTION.match(line)[1] for path in sources for line in text_of(path).splitlines() if FUNCTION.match(line)}
+            there = {os.path.basename(path)[: -len(".rt")] for path in sources}
+            inside = " ".join(re.findall(r"\([^)]*\)", rest))
+            outside = re.sub(r"\([^)]*\)", "", rest)
+            for named, known in ((re.findall(r"`(\w+)`", outside), there), (re.findall(r"`(\w+)`", inside), functions)):
+                for name in set(named) - known:
+                    yield "docs/DESIGN.md, Five ways: %s has no %s" % (crate, name)
+
+
 def wrong_limits():
     limits = {name: int(number) for name, number in LIMIT.findall(text_of("crates/hdl_limits/src/lib.rt"))}
     limits.update((name, int(number)) for name, number in INPUT_LIMIT.findall(text_of("crates/hdl_replay/src/input.rt")))
@@ -113,7 +129,7 @@ def wrong_limits():
 
 def main():
     os.chdir(ROOT)
-    found = [fault for faults in (missing_clauses, missing_edits, missing_places, wrong_limits) for fault in faults()]
+    found = [fault for faults in (missing_clauses, missing_edits, missing_places, missing_stations, wrong_limits) for fault in faults()]
     for fault in found:
         print(fault)
     print("citations: %d faults" % len(found))
