@@ -1,4 +1,4 @@
-"""The gate of a submission, from nothing: the definitions quoted in docs/, the map and what pages cite, ./test, memory refused in turn, random scripts,
+"""The gate of a submission, from nothing: the definitions quoted in docs/, the map, what pages cite and what must be believed, ./test, memory refused in turn, random scripts,
 the examples, answers that are none, the proxy for browsers, and what README shows.
 
 Before its last line it prints what each crate and each part took, in processor minutes, and names the crates that took more than docs/GATE.md
@@ -15,7 +15,7 @@ sys.dont_write_bytecode = True
 import spent
 
 ROOT = os.path.dirname(os.path.dirname(os.path.abspath(__file__)))
-PAGES = ("tools/quotes.py", "tools/map.py", "tools/cites.py")
+PAGES = ("tools/quotes.py", "tools/map.py", "tools/cites.py", "tools/believed.py")
 # All but the first run programs that ./test proved and built.
 PARTS = (
     ["./test"],
