@@ -3,6 +3,8 @@
 A line of crates.txt that begins with '#' is the heading of a group, and stands for the crates below it up to the next one."""
 
 import os
+import shutil
+import subprocess
 
 ROOT = os.path.dirname(os.path.dirname(os.path.abspath(__file__)))
 
@@ -71,3 +73,20 @@ def above(name):
 def lines_of(names):
     """The lines of crates.txt that list these crates."""
     return [line for _, name, _, line in listed(text_of("crates.txt").splitlines()) if name in names]
+
+
+def lay_out(folder, crate, below_it, source):
+    """A repository in a folder: a small program of one file, and the crates that it stands on with what was proved of them.
+
+    `below_it` are the crates that the program lists, of this repository or of the kit. Answers the program's crate."""
+    names = below(*(name for name in below_it if name in stands_on()))
+    with open(os.path.join(folder, "crates.txt"), "w", encoding="utf-8") as lines:
+        lines.write("\n".join(lines_of(names) + ["%s: %s" % (crate, " ".join(below_it))]) + "\n")
+    for name in names:
+        shutil.copytree(path("crates", name), os.path.join(folder, "crates", name))
+    made = os.path.join(folder, "crates", crate)
+    os.makedirs(os.path.join(made, "src"))
+    with open(os.path.join(made, "src", "main.rt"), "w", encoding="utf-8") as program:
+        program.write(source)
+    subprocess.run(["git", "init", "-q", folder], check=True)
+    return made
