@@ -41,20 +41,20 @@ def end(process):
     process.stdout.close()
 
 
-def serve(tenants, publishers, program=HANDLED, **how):
-    """`handled serve` with the text that `tenants` makes of so many ports, once it listens: the process and the ports."""
+def serve(tenants, publishers, program=HANDLED, options=(), **how):
+    """`handled serve` with these options and the text that `tenants` makes of so many ports, once it listens: the process and the ports."""
     for _ in range(TRIES):
         ports = free_ports(publishers)
-        process = start([program, "serve"], tenants(*ports), publishers, **how)
+        process = start([program, "serve", *options], tenants(*ports), publishers, **how)
         if process:
             return process, ports
     sys.exit("%s ended: see what it said above" % program)
 
 
 @contextlib.contextmanager
-def serving(tenants, publishers, program=HANDLED):
+def serving(tenants, publishers, program=HANDLED, options=()):
     """The ports of such a server, which ends with the block."""
-    process, ports = serve(tenants, publishers, program)
+    process, ports = serve(tenants, publishers, program, options)
     try:
         yield ports
     finally:
