@@ -1,9 +1,10 @@
 -- Lanes that are made with rising numbers.
-use Rattle.std.proofs.Common.{◌≡◌, ◌≢◌, ℕ, ◌+◌, ◌<◌, List, [], ◌∷◌, ◌++◌, All, arith}
+use Rattle.std.proofs.Common.{◌≡◌, ◌≢◌, ℕ, ◌+◌, ◌<◌, List, [], ◌∷◌, ◌++◌, length, All, arith}
 use Rattle.std.proofs.lemmas.List.Elements.{All-push}
 use Rattle.std.proofs.lemmas.List.Quantifiers.{all_pairs_push}
 use Rattle.hdl_workers.specs.declared.ends.LaneEnds.{LaneEnds}
-use Rattle.hdl_workers.specs.Ends.{AreDistinct}
+use Rattle.hdl_workers.specs.declared.far.Far.{Far}
+use Rattle.hdl_workers.specs.Ends.{AreDistinct, AreSides, AreLanes}
 
 pub distinct_more : (lanes : List LaneEnds) (y : LaneEnds) (n : ℕ) → y.lane ≡ n → AreDistinct lanes → All (λ e. e.lane < n) lanes
     → AreDistinct (lanes ++ y ∷ []) × All (λ e. e.lane < n + 1) (lanes ++ y ∷ [])
@@ -11,3 +12,10 @@ distinct_more lanes y n is distinct below = (
   all_pairs_push (λ (a b : LaneEnds). a.lane ≢ b.lane) lanes y distinct (λ k d h same. let under = below k d h in omega (arith, under, same, is)),
   All-push (λ (e : LaneEnds). e.lane < n + 1) lanes y (λ k d h. let under = below k d h in omega (arith, under)) (omega (arith, is)),
 )
+
+pub lanes_more : (first n : ℕ) (ends : List LaneEnds) (far : List Far) (e : LaneEnds) (f : Far) → AreLanes first ends far → length ends + first ≡ n → e.lane ≡ n → AreSides e f
+    → AreLanes first (ends ++ e ∷ []) (far ++ f ∷ [])
+lanes_more first n [] [] e f lanes many is sides = (omega (arith, many, is), sides, tt)
+lanes_more first n [] (g ∷ far) e f lanes many is sides = elim lanes [ ]
+lanes_more first n (d ∷ ends) [] e f lanes many is sides = elim lanes [ ]
+lanes_more first n (d ∷ ends) (g ∷ far) e f lanes many is sides = (lanes.0, lanes.1, lanes_more (first + 1) n ends far e f lanes.2 (omega (arith, many)) is sides)

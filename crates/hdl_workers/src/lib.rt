@@ -35,6 +35,7 @@
 mod door;
 mod ends;
 mod failing;
+mod far;
 mod item;
 mod letters;
 mod line;
@@ -49,13 +50,14 @@ mod worker;
 
 pub use door::{Clock, Door, DoorFault, Nonces, Packets};
 pub use ends::LaneEnds;
+pub use far::Far;
 pub use hdl_events::{Octets, Outcome, What};
 pub use item::Item;
 pub use letters::{Letter, MemoryPackets};
 pub use memory::{MemoryConnection, MemoryDoor};
 pub use packet::packet_worker;
 pub use peers::Peers;
-pub use sides::{Far, lanes_of};
+pub use sides::lanes_of;
 pub use sources::{MemoryClock, MemoryNonces};
 pub use stream::stream_worker;
 pub use worker::{Why, WorkerEnd};
