@@ -5,79 +5,55 @@ Servers stand in this program: they send the octets of a case, written here from
 are asked of nobody. Its last line is 'N passed, M failed', a case counting one."""
 
 import contextlib
-import hashlib
 import os
 import socket
-import struct
 import subprocess
 import sys
 import threading
 import time
 
-ROOT = os.path.dirname(os.path.dirname(os.path.abspath(__file__)))
-PROGRAM = os.path.join(ROOT, "crates", "hdl", "out", "hdl")
+# nothing is left beside the tools
+sys.dont_write_bytecode = True
+import repository
+import wire
+
+PROGRAM = os.environ.get("HDL", repository.program("hdl"))
 SECRET = "never-shown"
 
 
-def number(n):
-    return struct.pack(">I", n)
+def reply(operation, code=wire.SUCCESS, body=b""):
+    return wire.message(operation, body, code)
 
 
-def string(octets):
-    return number(len(octets)) + octets
+DELETE = wire.message(wire.DELETE, wire.string(b"10/c"))
+OWN = wire.frame(wire.challenge(DELETE), 1, 1)
+OWN_256 = wire.frame(wire.challenge(DELETE, wire.SHA256), 1, 1)
+DONE = wire.frame(reply(wire.DELETE), 0, 1)
+DONE_SECOND = wire.frame(reply(wire.DELETE), 1, 2)
+LONG = wire.frame(reply(wire.DELETE) + b"\0", 0, 1)
 
 
-def message(operation, code, body):
-    return number(operation) + number(code) + bytes(12) + string(body) + number(0)
+def answer(asked, secret, request=2, handle=b"0.NA/10", index=300, function=wire.SHA1):
+    """The frame of the response to a request's challenge."""
+    return wire.frame(wire.response(asked, secret.encode(), handle, index, function), 1, request)
 
 
-def frame(session, request, octets):
-    return b"\2\1\0\0" + number(session) + number(request) + number(0) + number(len(octets)) + octets
-
-
-def challenge(digest):
-    return frame(1, 1, message(101, 402, b"\2" + digest + string(bytes(16))))
-
-
-DELETE = message(101, 0, string(b"10/c"))
-DIGEST = hashlib.sha1(DELETE[:-4]).digest()
-OWN = challenge(DIGEST)
-DIGEST_256 = hashlib.sha256(DELETE[:-4]).digest()
-OWN_256 = frame(1, 1, message(101, 402, b"\3" + DIGEST_256 + string(bytes(16))))
-DONE = frame(0, 1, message(101, 1, b""))
-DONE_SECOND = frame(1, 2, message(101, 1, b""))
-LONG = frame(0, 1, message(101, 1, b"") + b"\0")
-
-
-
-def response(octet, mac, request=2, handle=b"0.NA/10", index=300):
-    body = string(b"HS_SECKEY") + string(handle) + number(index) + string(bytes([octet]) + mac)
-    return frame(1, request, message(200, 0, body))
-
-
-def keyed(make, digest, secret=SECRET):
-    key = secret.encode()
-    return make(key + bytes(16) + digest + key).digest()
-
-
-ASKED = frame(0, 1, DELETE)
-ANSWER = response(2, keyed(hashlib.sha1, DIGEST))
-ANSWER_256 = response(3, keyed(hashlib.sha256, DIGEST_256))
+ASKED = wire.frame(DELETE, 0, 1)
+ANSWER = answer(DELETE, SECRET)
+ANSWER_256 = answer(DELETE, SECRET, function=wire.SHA256)
 
 # A batch with two keys, each of which answers for what stands below it.
 SECRETS = ("first-never-shown", "second-never-shown")
 KEYS = "AUTHENTICATE SECKEY:300:0.NA/10\n%s\nDELETE 10/c\n\nAUTHENTICATE SECKEY:301:0.NA/20\n%s\nDELETE 20/c\n" % SECRETS
-DELETE_20 = message(101, 0, string(b"20/c"))
-DIGEST_20 = hashlib.sha1(DELETE_20[:-4]).digest()
-KEYS_SENT = [OWN, DONE_SECOND, frame(1, 3, message(101, 402, b"\2" + DIGEST_20 + string(bytes(16)))), frame(1, 4, message(101, 1, b""))]
-KEYS_ASKED = [ASKED, response(2, keyed(hashlib.sha1, DIGEST, SECRETS[0])), frame(0, 3, DELETE_20),
-              response(2, keyed(hashlib.sha1, DIGEST_20, SECRETS[1]), 4, b"0.NA/20", 301)]
+DELETE_20 = wire.message(wire.DELETE, wire.string(b"20/c"))
+KEYS_SENT = [OWN, DONE_SECOND, wire.frame(wire.challenge(DELETE_20), 1, 3), wire.frame(reply(wire.DELETE), 1, 4)]
+KEYS_ASKED = [ASKED, answer(DELETE, SECRETS[0]), wire.frame(DELETE_20, 0, 3), answer(DELETE_20, SECRETS[1], 4, b"0.NA/20", 301)]
 KEYS_SAID = ["line 3: DELETE 10/c: 1 success", "line 7: DELETE 20/c: 1 success", "2 succeeded, 0 failed"]
 
 # A batch with a delete among creates, and which requests (RequestId and operation) come before an answer is given.
 VALUE = "1 URL 86400 1110 UTF8 a"
 ALONE = "CREATE 10/a\n%s\n\nCREATE 10/d\n%s\n\nDELETE 10/b\n\nCREATE 10/c\n%s\n" % (VALUE, VALUE, VALUE)
-ALONE_ASKED = [[(1, 100), (2, 100)], [(3, 101)], [(4, 100)]]
+ALONE_ASKED = [[(1, wire.CREATE), (2, wire.CREATE)], [(3, wire.DELETE)], [(4, wire.CREATE)]]
 
 # What a whole exchange sends: a server's octets, and the client's.
 WHOLE = (
@@ -88,11 +64,11 @@ WHOLE = (
 
 
 def resolution(request, handle):
-    return frame(0, request, message(1, 0, string(handle) + number(0) + number(0)))
+    return wire.frame(wire.resolution(handle), 0, request)
 
 
 def absent(request):
-    return frame(0, request, message(1, 100, number(0)))
+    return wire.frame(reply(wire.RESOLVE, wire.ABSENT, wire.number(0)), 0, request)
 
 
 # A batch of two resolutions, which are in flight together and answered in the other order, and a third of the first handle behind them.
@@ -102,14 +78,11 @@ FLIGHT_SAID = ["line 3: RESOLVE 10/b: 100 handle not found", "line 1: RESOLVE 10
                "line 5: RESOLVE 10/a: 100 handle not found", "0 succeeded, 3 failed", "failed: line 3", "failed: line 1", "failed: line 5"]
 
 
-def value(index, kind, data, permissions):
-    return number(index) + string(kind) + string(data) + bytes([0]) + number(86400) + bytes([permissions]) + bytes(8) + number(0)
-
-
-KEY = value(300, b"HS_SECKEY", SECRET.encode(), 12)
+KEY = wire.value(300, b"HS_SECKEY", SECRET.encode(), wire.ADMIN_READ | wire.ADMIN_WRITE, 86400)
 KEY_LINE = "300 HS_SECKEY 86400 1100 UTF8 %s" % SECRET
-KEY_ANSWER = frame(0, 1, message(1, 1, string(b"10/k") + number(1) + KEY))
-LIST_ANSWER = frame(0, 1, message(105, 1, number(2) + string(b"10/a\n10/b") + string(b"10/\x1b[2J\xc2\x9b")))
+KEY_ANSWER = wire.frame(wire.values_reply(b"10/k", KEY), 0, 1)
+LISTED = wire.listed([wire.string(b"10/a\n10/b"), wire.string(b"10/\x1b[2J\xc2\x9b")])
+LIST_ANSWER = wire.frame(reply(wire.LIST, body=LISTED), 0, 1)
 
 # Of an answer: its name, its octets, what is asked, and what is printed on both outputs.
 ANSWERS = (
@@ -122,27 +95,27 @@ ANSWERS = (
 
 # A batch that writes a key, and one whose handle would drive a terminal.
 KEY_BATCH = "CREATE 10/k\n%s\n" % KEY_LINE
-KEY_ASKED = frame(0, 1, message(100, 0, string(b"10/k") + number(1) + KEY))
-KEY_DONE = frame(0, 1, message(100, 1, b""))
+KEY_ASKED = wire.frame(wire.message(wire.CREATE, wire.string(b"10/k") + wire.listed([KEY])), 0, 1)
+KEY_DONE = wire.frame(reply(wire.CREATE), 0, 1)
 CONTROL_BATCH = "RESOLVE 10/\x1b[2J\n"
 CONTROL_SAID = ["line 1: RESOLVE 10/\\u{1b}[2J: 100 handle not found", "0 succeeded, 1 failed", "failed: line 1"]
 
 # Of a server: its name, what it sends to each frame that comes, and what `hdl delete 10/c --key 300:0.NA/10` answers.
 SERVERS = (
     ("it is done", [DONE], 0, ""),
-    ("another code", [frame(0, 1, message(101, 302, string(b"0.NA/10") + number(0)))], 1, "hdl: 302 service referral"),
-    ("busy", [frame(0, 1, message(0, 3, number(0)))], 1, "hdl: 3 server busy"),
+    ("another code", [wire.frame(reply(wire.DELETE, 302, wire.reference(b"0.NA/10", 0)), 0, 1)], 1, "hdl: 302 service referral"),
+    ("busy", [wire.frame(wire.short_reply(3), 0, 1)], 1, "hdl: 3 server busy"),
     ("it closes at once", [], 3, "hdl: the connection was closed"),
     ("it closes in the middle of an envelope", [DONE[:11]], 3, "hdl: the connection was closed"),
     ("it closes in the middle of a message", [DONE[:-1]], 3, "hdl: the connection was closed"),
     ("no frame", [b"HTTP/1.1 400 Bad Request\r\n\r\n"], 3, "hdl: what came is no frame: unknown protocol version"),
-    ("an answer to another request", [frame(0, 2, message(101, 1, b""))], 3, "hdl: a reply to another request came"),
+    ("an answer to another request", [wire.frame(reply(wire.DELETE), 0, 2)], 3, "hdl: a reply to another request came"),
     ("octets behind a reply", [LONG], 3, "hdl: what came is no reply"),
     ("a piece", [b"\2\1\x20\0" + DONE[4:]], 3, "hdl: what came is no reply"),
-    ("a challenge of another request", [challenge(bytes(20))], 3, "hdl: a challenge of another request came"),
-    ("a wrong key", [OWN, frame(1, 2, message(101, 403, number(0)))], 1, "hdl: 403 authentication failed"),
+    ("a challenge of another request", [wire.frame(wire.challenge(DELETE_20), 1, 1)], 3, "hdl: a challenge of another request came"),
+    ("a wrong key", [OWN, wire.frame(reply(wire.DELETE, 403, wire.number(0)), 1, 2)], 1, "hdl: 403 authentication failed"),
     ("it closes behind its challenge", [OWN], 3, "hdl: the connection was closed"),
-    ("its challenge again", [OWN, frame(1, 2, OWN[20:])], 1, "hdl: 402 authentication needed"),
+    ("its challenge again", [OWN, wire.frame(OWN[20:], 1, 2)], 1, "hdl: 402 authentication needed"),
 )
 
 KEY_REFUSED = ("hdl: a key can't stand on the command line, where others on this machine can read its secret: "
@@ -204,16 +177,6 @@ def served_together(listener, came):
         end(stream)
 
 
-def asked_in(octets):
-    """The RequestId and the operation of each frame."""
-    found = []
-    while octets:
-        request, length = struct.unpack(">8xI4xI", octets[:20])
-        found.append((request, struct.unpack(">I", octets[20:24])[0]))
-        octets = octets[20 + length:]
-    return found
-
-
 def served_in_turn(listener, came):
     """Takes what comes until nothing more does for a while, and answers that all of it is done, again and again."""
     with listener.accept()[0] as stream:
@@ -226,11 +189,11 @@ def served_in_turn(listener, came):
                     break
                 waiting += octets
             except TimeoutError:
-                requests = asked_in(waiting)
+                requests = wire.heads(waiting)
                 if not requests:
                     continue
                 came.append(requests)
-                stream.sendall(b"".join(frame(0, request, message(operation, 1, b"")) for request, operation in requests))
+                stream.sendall(b"".join(wire.frame(reply(operation), 0, request) for request, operation in requests))
                 waiting = b""
         end(stream)
 

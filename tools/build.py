@@ -16,6 +16,7 @@ import time
 # nothing is left beside the tools
 sys.dont_write_bytecode = True
 import lanes
+import repository
 
 PROGRAM = sys.argv[1]
 # What runs it.
@@ -36,12 +37,6 @@ EVERY = 20
 
 def processors():
     return len(os.sched_getaffinity(0))
-
-
-def stands_on():
-    lines = (line.split("#")[0].strip() for line in open("crates.txt", encoding="utf-8"))
-    named = (line.partition(":") for line in lines if line)
-    return {name.split()[0]: below.split() for name, _, below in named}
 
 
 def below(crate, graph):
@@ -188,7 +183,7 @@ def stop_behind():
 
 def main():
     stop_behind()
-    graph = stands_on()
+    graph = repository.stands_on()
     wanted = below(PROGRAM, graph)
     left = [crate for crate in graph if crate in wanted and not is_built(crate, graph)]
     progress = Progress(left, graph)

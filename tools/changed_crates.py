@@ -3,21 +3,16 @@ that stand on them, lowest first."""
 
 import re
 import subprocess
+import sys
+
+# nothing is left beside the tools
+sys.dont_write_bytecode = True
+import repository
 
 
 def git(*words):
     done = subprocess.run(["git", *words], capture_output=True, text=True)
     return done.stdout.split("\n") if done.returncode == 0 else None
-
-
-def dependencies():
-    stands_on = {}
-    for line in open("crates.txt", encoding="utf-8"):
-        line = line.split("#")[0].strip()
-        if line:
-            name, _, below = line.partition(":")
-            stands_on[name.split()[0]] = below.split()
-    return stands_on
 
 
 def changed():
@@ -28,7 +23,7 @@ def changed():
 
 
 def main():
-    stands_on = dependencies()
+    stands_on = repository.stands_on()
     touched = changed() & set(stands_on)
     order = []
 

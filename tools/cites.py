@@ -1,11 +1,14 @@
 #!/usr/bin/env python3
-"""Sees that what README.md, docs/ and comments cite is there, and that docs/PROTOCOL.md has the numbers of the limits.
+"""Sees that what the pages and comments cite is there, and that docs/PROTOCOL.md has the numbers of the limits.
 
 - `FUNCTION` (`CLAUSE`, ..) of README.md and docs/: some function of that name has each clause, or a record of specs/ has a field of that name.
-- must-fail `NAME`, ..: there is an edit of that name; and each edit is named in docs/PROMISES.md.
+- must-fail `NAME`, ..: there is an edit of that name; and each edit is named in docs/WRONG.md.
+- [PAGE.md](PAGE.md) of a page: there is such a file.
 - docs/PAGE.md, "SECTION" of crates/ and docs/: the page has a heading that begins so.
 - tools/NAME, bench/NAME and examples/NAME, wherever they are named: there is such a file (words in capitals stand for any). A file of tools/ or
   bench/ that nothing names or imports is told too.
+- docs/DESIGN.md, "Five ways": in the first column CRATE `FILE`, `FILE` (`FUNCTION`): the crate has a file of src/ of each name, and a function of
+  each name in parentheses.
 - docs/PROTOCOL.md, "Limits": each row has the number of its constant, and each number of hdl_limits' `numbers` has a row.
 
 Prints what isn't there, and then the exit status is 1."""
@@ -56,7 +59,7 @@ def fields():
 
 def pages():
     """Each line of README.md and docs/, with its page and number."""
-    for path in files("README.md", "docs/*.md"):
+    for path in files("*.md", "docs/*.md"):
         for number, line in enumerate(text_of(path).splitlines(), 1):
             yield path, number, line
 
@@ -76,17 +79,17 @@ def missing_edits():
     for path, number, line in pages():
         for cited in re.findall(r"must-fail " + LIST, line):
             for edit in re.findall(r"`(\w+)`", cited):
-                named.add(edit)
+                named |= {edit} if path == "docs/WRONG.md" else set()
                 if edit not in edits:
                     yield "%s:%d: there is no edit %s" % (path, number, edit)
     for edit in sorted(edits - named):
-        yield "docs/PROMISES.md doesn't name the edit %s" % edit
+        yield "docs/WRONG.md doesn't name the edit %s" % edit
 
 
 def missing_places():
     headings = {os.path.basename(path): re.findall(r"^#+ (.*)$", text_of(path), re.MULTILINE) for path in files("docs/*.md")}
     named = set()
-    for path in files("README.md", "docs/*.md", "crates/**/*.rt", "crates/**/*.antt", "tools/*", "bench/*", *SCRIPTS):
+    for path in files("*.md", "docs/*.md", "crates/**/*.rt", "crates/**/*.antt", "tools/*", "bench/*", *SCRIPTS):
         for number, line in enumerate(text_of(path).splitlines(), 1):
             for page, section in re.findall(r'docs/(\w+\.md), "([^"]+)"', line):
                 if not section.isupper() and not any(heading.startswith(section) for heading in headings.get(page, [])):
@@ -102,6 +105,27 @@ def missing_places():
             yield "%s: nothing names it" % path
 
 
+def missing_links():
+    for path, number, line in pages():
+        for target in re.findall(r"\]\((?!https?:)([^)#\s]+)", line):
+            if not os.path.exists(os.path.join(os.path.dirname(path), target)):
+                yield "%s:%d: there is no %s" % (path, number, target)
+
+
+def missing_stations():
+    page = text_of("docs/DESIGN.md").split("\n## Five ways")[1].split("\n## ")[0]
+    for cell in re.findall(r"^\| ([^|]*) \|", page, re.MULTILINE):
+        for crate, rest in re.findall(r"(hdl_\w+|hdl)\b(.*?)(?=\bhdl_|$)", cell):
+            sources = files("crates/%s/src/**/*.rt" % crate)
+            functions = {FUNCTION.match(line)[1] for path in sources for line in text_of(path).splitlines() if FUNCTION.match(line)}
+            there = {os.path.basename(path)[: -len(".rt")] for path in sources}
+            inside = " ".join(re.findall(r"\([^)]*\)", rest))
+            outside = re.sub(r"\([^)]*\)", "", rest)
+            for named, known in ((re.findall(r"`(\w+)`", outside), there), (re.findall(r"`(\w+)`", inside), functions)):
+                for name in set(named) - known:
+                    yield "docs/DESIGN.md, Five ways: %s has no %s" % (crate, name)
+
+
 def wrong_limits():
     limits = {name: int(number) for name, number in LIMIT.findall(text_of("crates/hdl_limits/src/lib.rt"))}
     limits.update((name, int(number)) for name, number in INPUT_LIMIT.findall(text_of("crates/hdl_replay/src/input.rt")))
@@ -113,7 +137,7 @@ def wrong_limits():
 
 def main():
     os.chdir(ROOT)
-    found = [fault for faults in (missing_clauses, missing_edits, missing_places, wrong_limits) for fault in faults()]
+    found = [fault for faults in (missing_clauses, missing_edits, missing_places, missing_links, missing_stations, wrong_limits) for fault in faults()]
     for fault in found:
         print(fault)
     print("citations: %d faults" % len(found))

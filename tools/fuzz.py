@@ -30,8 +30,16 @@ LINE = re.compile(rb"\d+ (silent|reply ([0-9a-f]{2})+|busy [0-9a-f]{104}|close [
 FAULT = re.compile(rb"(line \d+: bad event|input too long|input not UTF-8|no memory|store refused|device fault"
                    rb"|tenants: line \d+: (bad line|prefix given twice|publisher given twice|more than 64 lanes|no memory))\n")
 MEMORY = 200 * 1024 * 1024
+# Scripts with more characters are left out.
+LONGEST = 20000
 # How many scripts one process runs over both tables.
 AT_ONCE = 500
+
+
+def uncommented(name):
+    """A script without the comments that tools/examples.py puts there."""
+    with open(name, encoding="utf-8") as text:
+        return "".join(line for line in text if not line.startswith(("#:", "#+")))
 
 
 def parts(script):
@@ -147,7 +155,7 @@ def main():
     if missing:
         print("fuzz: there is no %s\n0 passed, 1 failed" % missing[0])
         sys.exit(1)
-    scripts = [open(name, encoding="utf-8").read() for name in sorted(glob.glob(SCRIPTS)) if os.path.getsize(name) < 20000]
+    scripts = [script for script in map(uncommented, sorted(glob.glob(SCRIPTS))) if len(script) < LONGEST]
     ended, faults = collections.Counter(), {}
     for first in range(0, count, AT_ONCE):
         statuses, some = run_some(seed, range(first, min(first + AT_ONCE, count)), scripts)

@@ -1,40 +1,67 @@
 #!/usr/bin/env python3
-"""Sees that the table of crates in docs/DESIGN.md is what crates.txt says: a row for each crate, and what it stands on in this repository.
+"""map.py [--write]: sees that docs/DESIGN.md lists the crates as crates.txt does.
 
-Prints what differs, and then the exit status is 1.
-"""
+- "Crates" has a heading for each group of crates.txt, in its order, and below it a row for each crate of the group, in any order.
+- "Who stands on whom" says of each crate on which crates of this repository it stands, and which stand on it. With --write the table is
+  written from crates.txt.
 
-import os
+Prints what differs, and then the exit status is 1."""
+
 import re
 import sys
 
-ROOT = os.path.dirname(os.path.dirname(os.path.abspath(__file__)))
-ROW = re.compile(r"^\| (\w+) \|[^|]*\|([^|]*)\|[^|]*\|$", re.MULTILINE)
+# nothing is left beside the tools
+sys.dont_write_bytecode = True
+import repository
+
+PAGE = ("docs", "DESIGN.md")
+ROW = re.compile(r"^\| (\w+) \|", re.MULTILINE)
+HEAD = "| Crate | Stands on | Is stood on by |\n|---|---|---|\n"
 
 
-def listed():
-    """Each crate of crates.txt with all that it stands on."""
-    with open(os.path.join(ROOT, "crates.txt"), encoding="utf-8") as text:
-        lines = [line.split("#")[0].strip() for line in text]
-    return {name.split()[0]: below.split() for name, _, below in (line.partition(":") for line in lines if line)}
+def section(page, title):
+    return page.split("\n## %s\n" % title)[1].split("\n## ")[0]
 
 
-def drawn():
-    """Each row of the page's table of crates."""
-    with open(os.path.join(ROOT, "docs", "DESIGN.md"), encoding="utf-8") as text:
-        section = text.read().split("\n## Crates\n")[1].split("\n## ")[0]
-    return {name: below.replace(",", " ").split() for name, below in ROW.findall(section.split("---|\n", 1)[1])}
+def drawn(page):
+    """The headings of the page's groups, each with the crates of its rows."""
+    parts = section(page, "Crates").split("\n### ")[1:]
+    return {part.split("\n")[0]: ROW.findall(part.split("|---|", 1)[-1]) for part in parts}
+
+
+def differing(page):
+    groups, rows = repository.groups(), drawn(page)
+    if list(groups) != list(rows):
+        yield "docs/DESIGN.md: the groups of crates are %s, and crates.txt has %s" % (list(rows), list(groups))
+    for heading, names in groups.items():
+        for name in sorted(set(names) ^ set(rows.get(heading, []))):
+            yield "docs/DESIGN.md, %s: %s stands in one of the page and crates.txt" % (heading, name)
+    if table() not in page:
+        yield "docs/DESIGN.md: who stands on whom isn't what crates.txt says; tools/map.py --write"
+
+
+def table():
+    own = repository.stands_on_own()
+    rows = ["| %s | %s | %s |" % (name, ", ".join(own[name]), ", ".join(repository.above(name))) for name in own]
+    return HEAD + "\n".join(rows) + "\n"
+
+
+def write(page):
+    old = section(page, "Who stands on whom")
+    kept = old.split(HEAD.split("\n")[0])[0]
+    rest = re.sub(r"^(\|.*\n)+", "", old[len(kept):])
+    with open(repository.path(*PAGE), "w", encoding="utf-8") as text:
+        text.write(page.replace(old, kept + table() + rest))
 
 
 def main():
-    crates, rows = listed(), drawn()
-    own = {name: [one for one in below if one in crates] for name, below in crates.items()}
-    faults = ["docs/DESIGN.md has no row for %s" % name for name in own if name not in rows]
-    faults += ["docs/DESIGN.md has a row for %s, which crates.txt doesn't list" % name for name in rows if name not in own]
-    faults += ["docs/DESIGN.md: %s stands on %s" % (name, ", ".join(own[name]) or "nothing") for name in rows if name in own and rows[name] != own[name]]
+    if "--write" in sys.argv[1:]:
+        write(repository.text_of(*PAGE))
+    page = repository.text_of(*PAGE)
+    faults = list(differing(page))
     for fault in faults:
         print(fault)
-    print("crates in the map: %d, of which %d differ" % (len(rows), len(faults)))
+    print("crates in the map: %d, of which %d differ" % (sum(map(len, drawn(page).values())), len(faults)))
     sys.exit(1 if faults else 0)
 
 

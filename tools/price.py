@@ -6,16 +6,15 @@ import glob
 import os
 import sys
 
+# nothing is left beside the tools
+sys.dont_write_bytecode = True
+import repository
+
 # Seconds a megabyte, by what a module is: a function's steps, its borrows, its goals that a search proved, and those answered by hand.
 RATES = {"Lts": 1.16, "Tie": 1.84, "Proof": 2.99, "Answers": 3.0}
 NAMES = {"Lts": "steps", "Tie": "borrows", "Proof": "searches", "Answers": "answers"}
 # Where the steps of one function grow dear.
 LARGE = 5.0
-
-
-def crates():
-    lines = (line.split("#")[0].strip() for line in open("crates.txt", encoding="utf-8"))
-    return [line.partition(":")[0].split()[0] for line in lines if line]
 
 
 def kept_modules(crate):
@@ -43,8 +42,8 @@ def prices(crate):
 
 
 def main():
-    os.chdir(os.path.join(os.path.dirname(os.path.abspath(__file__)), ".."))
-    for crate in sys.argv[1:] or crates():
+    os.chdir(repository.ROOT)
+    for crate in sys.argv[1:] or repository.stands_on():
         parts = prices(crate)
         if not parts:
             print(f"{crate}: no check kept anything", file=sys.stderr)

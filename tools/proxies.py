@@ -14,10 +14,14 @@ import sys
 import threading
 import time
 
-ROOT = os.path.dirname(os.path.dirname(os.path.abspath(__file__)))
-PROGRAM = os.environ.get("PROXY", os.path.join(ROOT, "crates", "hdl_web", "out", "hdl_web"))
-WORDS = os.environ.get("HDL", os.path.join(ROOT, "crates", "hdl", "out", "hdl"))
-SERVER = os.environ.get("HANDLED", os.path.join(ROOT, "crates", "handled", "out", "handled"))
+# nothing is left beside the tools
+sys.dont_write_bytecode = True
+import repository
+import servers
+import wire
+
+PROGRAM = os.environ.get("PROXY", repository.program("hdl_web"))
+WORDS = os.environ.get("HDL", repository.program("hdl"))
 IDLE = 1000
 # The most seconds in which something that takes ten should have come, on a machine that others use too.
 PATIENCE = 20
@@ -137,54 +141,37 @@ JSONS = (
 )
 
 
-def number(n):
-    return struct.pack(">I", n)
+def shown(*values):
+    return wire.values_reply(b"10/a", *values)
 
 
-def string(octets):
-    return number(len(octets)) + octets
+def url(index, data):
+    return wire.value(index, b"URL", data, READABLE, 86400)
 
 
-def message(code, body, flags=0):
-    return number(1) + number(code) + number(flags) + bytes(8) + string(body) + number(0)
+READABLE = wire.ADMIN_READ | wire.ADMIN_WRITE | wire.PUBLIC_READ
+ASKED = wire.resolution(b"10/a", flags=wire.PUBLIC_ONLY)
+LEAKING = shown(wire.value(1, b"NOTE", SECRET, wire.ADMIN_READ | wire.ADMIN_WRITE, 86400), wire.value(2, b"HS_SECKEY", SECRET, READABLE, 86400),
+                wire.value(3, b"TEXT", b"open", READABLE, 86400))
+GOOD = shown(url(2, b"https://example.org/second"), url(1, b"HTTPS://example.org/first"))
 
 
-def frame(request, octets):
-    return b"\2\1\0\0" + number(0) + number(request) + number(0) + string(octets)
+def short(code):
+    """The frame of a reply with nothing but its code."""
+    return lambda request: wire.frame(wire.message(wire.RESOLVE, wire.number(0), code), 0, request)
 
-
-def wire_value(index, kind, data, permissions):
-    return number(index) + string(kind) + string(data) + b"\0" + number(86400) + bytes([permissions]) + bytes(12)
-
-
-def shown(handle, *parts):
-    return message(1, string(handle) + number(len(parts)) + b"".join(parts))
-
-
-ASKED = message(0, string(b"10/a") + number(0) + number(0), 0x01000000)
-LEAKING = shown(b"10/a", wire_value(1, b"NOTE", SECRET, 0x0C), wire_value(2, b"HS_SECKEY", SECRET, 0x0E), wire_value(3, b"TEXT", b"open", 0x0E))
-GOOD = shown(b"10/a", wire_value(2, b"URL", b"https://example.org/second", 0x0E), wire_value(1, b"URL", b"HTTPS://example.org/first", 0x0E))
 
 # What a server in this program answers to the first question of a connection, and how the proxy answers then.
 REPLIES = (
-    ("values in any order", lambda n: frame(n, GOOD), 302, way("10/a", "HTTPS://example.org/first")),
-    ("hidden values and a key", lambda n: frame(n, LEAKING), 200, values("10/a", value("TEXT", 3, text("open")))),
-    ("it is busy", lambda n: frame(n, message(3, number(0))), 503, refusal("10/a", "The server is busy. Please try again.")),
-    ("another code", lambda n: frame(n, message(2, number(0))), 502, refusal("10/a", "The server couldn&#39;t answer.")),
-    ("another handle", lambda n: frame(n, shown(b"10/b")), 502, refusal("10/a", UNANSWERED)),
-    ("another request", lambda n: frame(n + 7, GOOD), 502, refusal("10/a", UNANSWERED)),
+    ("values in any order", lambda n: wire.frame(GOOD, 0, n), 302, way("10/a", "HTTPS://example.org/first")),
+    ("hidden values and a key", lambda n: wire.frame(LEAKING, 0, n), 200, values("10/a", value("TEXT", 3, text("open")))),
+    ("it is busy", short(3), 503, refusal("10/a", "The server is busy. Please try again.")),
+    ("another code", short(2), 502, refusal("10/a", "The server couldn&#39;t answer.")),
+    ("another handle", lambda n: wire.frame(wire.values_reply(b"10/b"), 0, n), 502, refusal("10/a", UNANSWERED)),
+    ("another request", lambda n: wire.frame(GOOD, 0, n + 7), 502, refusal("10/a", UNANSWERED)),
     ("no frame", lambda n: b"HTTP/1.1 400 Bad Request\r\n\r\n", 502, refusal("10/a", UNANSWERED)),
     ("it closes at once", lambda n: b"", 502, refusal("10/a", UNANSWERED)),
 )
-
-
-def ports(count):
-    """Ports that are free, as far as is known."""
-    listeners = [socket.create_server(("127.0.0.1", 0)) for _ in range(count)]
-    found = [listener.getsockname()[1] for listener in listeners]
-    for listener in listeners:
-        listener.close()
-    return found
 
 
 def more_files():
@@ -193,30 +180,13 @@ def more_files():
 
 
 @contextlib.contextmanager
-def running(words, given, lines):
-    """A program, once it has said so many lines."""
-    process = subprocess.Popen(words, stdin=subprocess.PIPE, stdout=subprocess.PIPE, text=True)
-    try:
-        process.stdin.write(given)
-        process.stdin.close()
-        for _ in range(lines):
-            if not process.stdout.readline():
-                sys.exit("proxies.py: %s ended" % " ".join(words))
-        yield process
-    finally:
-        process.kill()
-        process.wait()
-        process.stdout.close()
-
-
-@contextlib.contextmanager
-def proxy(servers):
+def proxy(behind):
     """A proxy before the servers at these ports: its own port."""
-    (port,) = ports(1)
+    (port,) = servers.free_ports(1)
     words = [PROGRAM, "--listen", "127.0.0.1:%d" % port]
-    for server in servers:
+    for server in behind:
         words += ["--server", "127.0.0.1:%d" % server]
-    with running(words, "", 1):
+    with servers.running(words, 1):
         yield port
 
 
@@ -363,16 +333,18 @@ def replies():
             yield name + ": what is asked", {asked[20:] for asked in came} == {ASKED}
 
 
+def tenants(*ports):
+    return subprocess.run([WORDS, "tenants"], input=(TENANTS % ports).encode(), capture_output=True, check=True, timeout=60).stdout
+
+
 def main():
     more_files()
     cases = []
-    first, second = ports(2)
-    words = subprocess.run([WORDS, "tenants"], input=TENANTS % (first, second), capture_output=True, text=True, check=True, timeout=60)
-    with running([SERVER, "serve"], words.stdout, 2), proxy([first, second]) as port:
+    with servers.serving(tenants, 2) as behind, proxy(behind) as port:
         for part in (pages, too_long, idle):
             cases += part(port)
     cases += replies()
-    with proxy(ports(2)) as port:
+    with proxy(servers.free_ports(2)) as port:
         cases.append(("nobody listens", is_page(said(port, request("GET /10/a")), 502, None, refusal("10/a", UNANSWERED))))
         cases.append(("nobody listens: JSON", is_json(said(port, request("GET /api/handles/10/a")), 502, json_refusal("10/a", UNANSWERED, 2))))
     for name, good in cases:

@@ -17,48 +17,35 @@ import sys
 import tempfile
 import time
 
-ROOT = os.path.dirname(os.path.dirname(os.path.abspath(__file__)))
-PROGRAM = os.path.join(ROOT, "crates", "handled", "out", "handled")
+# nothing is left beside the tools
+sys.dont_write_bytecode = True
+import servers
+import wire
+
 PREFIXES = {"acme": b"10", "bolt": b"20"}
 
 
-def string(octets):
-    return struct.pack(">I", len(octets)) + octets
-
-
 def value(index, data, permission):
-    fields = struct.pack(">I", index) + string(b"URL") + string(data) + bytes(5) + bytes([permission])
-    return fields + struct.pack(">QI", 0, 0)
+    return wire.value(index, b"URL", data, permission)
 
 
-def frame(operation, body):
-    whole = struct.pack(">IIIHBBII", operation, 0, 0, 0, 0, 0, 0, len(body)) + body + string(b"")
-    return struct.pack(">BBHIIII", 2, 1, 0, 0, 7, 0, len(whole)) + whole
+def asked_for(name, *indexes):
+    return framed(wire.resolution(name, indexes))
 
 
-def resolution(name, *indexes):
-    return frame(1, string(name) + struct.pack(">I", len(indexes)) + b"".join(struct.pack(">I", i) for i in indexes) + struct.pack(">I", 0))
+def framed(message):
+    return wire.frame(message, 0, 7)
 
 
 def requests():
     """In order, since the modify changes what the last ones see."""
     names = [prefix + local for prefix in PREFIXES.values() for local in (b"/a", b"/b", b"/none")]
-    asked = [resolution(name) for name in names + [b"30/x", b"10", b"0.NA/10"]]
-    asked += [resolution(b"10/a", 2), resolution(b"20/a", 1, 1), resolution(b"10/a", 9)]
-    asked.append(frame(104, string(b"10/b") + struct.pack(">I", 1) + value(1, b"http://changed/", 7)))
-    asked += [resolution(b"10/b"), resolution(b"20/b")]
-    asked += [frame(999, string(b"10/a")), resolution(b"10/a")[:-1] + b"\x01", b"\x03" + resolution(b"10/a")[1:]]
+    asked = [asked_for(name) for name in names + [b"30/x", b"10", b"0.NA/10"]]
+    asked += [asked_for(b"10/a", 2), asked_for(b"20/a", 1, 1), asked_for(b"10/a", 9)]
+    asked.append(framed(wire.message(wire.MODIFY, wire.string(b"10/b") + wire.listed([value(1, b"http://changed/", 7)]))))
+    asked += [asked_for(b"10/b"), asked_for(b"20/b")]
+    asked += [framed(wire.message(999, wire.string(b"10/a"))), asked_for(b"10/a")[:-1] + b"\x01", b"\x03" + asked_for(b"10/a")[1:]]
     return asked
-
-
-def free_ports(count):
-    sockets = [socket.socket() for _ in range(count)]
-    for one in sockets:
-        one.bind(("127.0.0.1", 0))
-    ports = [one.getsockname()[1] for one in sockets]
-    for one in sockets:
-        one.close()
-    return ports
 
 
 def tenants(ports):
@@ -67,18 +54,13 @@ def tenants(ports):
     lines += ["prefix %s %s" % (PREFIXES[name].decode(), name) for name in ports]
     for name in ports:
         for local, permission in ((b"/a", 6), (b"/b", 7)):
-            handle = (PREFIXES[name] + local).decode()
-            lines += ["value %s %s" % (handle, value(1, b"http://a/", permission).hex()), "value %s %s" % (handle, value(2, b"kept", 8).hex())]
-    return ("\n".join(lines) + "\n").encode()
+            handle = PREFIXES[name] + local
+            lines += [wire.value_line(handle, value(1, b"http://a/", permission)), wire.value_line(handle, value(2, b"kept", wire.ADMIN_READ))]
+    return wire.text(lines)
 
 
 def start(program, ports):
-    server = subprocess.Popen([program, "serve"], stdin=subprocess.PIPE, stdout=subprocess.PIPE)
-    server.stdin.write(tenants(ports))
-    server.stdin.close()
-    for _ in ports:
-        server.stdout.readline()
-    return server
+    return servers.start([program, "serve"], tenants(ports), len(ports)) or sys.exit("split: %s ended" % program)
 
 
 def start_proxy(folder, ports, behind):
@@ -114,13 +96,12 @@ def replies(ports):
 
 
 def main():
-    program = sys.argv[1] if len(sys.argv) > 1 else PROGRAM
-    numbers = free_ports(4)
+    program = sys.argv[1] if len(sys.argv) > 1 else servers.HANDLED
+    numbers = servers.free_ports(4)
     ports, behind = dict(zip(PREFIXES, numbers[:2])), dict(zip(PREFIXES, numbers[2:]))
     one = start(program, ports)
     together = replies(ports)
-    one.kill()
-    one.wait()
+    servers.end(one)
     apart_servers = [start(program, {name: port}) for name, port in behind.items()]
     with tempfile.TemporaryDirectory() as folder:
         proxy = start_proxy(folder, ports, behind)
@@ -128,8 +109,7 @@ def main():
         proxy.kill()
         proxy.wait()
     for server in apart_servers:
-        server.kill()
-        server.wait()
+        servers.end(server)
     compared, other = 0, 0
     for (name, first), (_, second) in zip(together, apart):
         if not is_challenge(first):

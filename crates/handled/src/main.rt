@@ -12,7 +12,7 @@ ghost use Rattle.hdl_rows.specs.Table.{no_rows};
 mod words;
 
 use hdl_cachedrows::CachedRows;
-use hdl_host::host;
+use hdl_host::{Limits, host};
 use hdl_replay::{Fault, read_input, replay};
 use hdl_sqlrows::SqlRows;
 use std::hash::RandomState;
@@ -27,7 +27,7 @@ enum Next {
     /// Serve this tenants text.
     Serve {
         text: String,
-        turns: u64,
+        limits: Limits,
         row_cache: usize,
     },
 }
@@ -54,9 +54,9 @@ fn run(rt: &HostRuntime) -> Result<Next, Fault> {
             let status = replay(rt.alloc(), rows, &mut input, &mut output, &mut faults);
             Ok(Next::Ended(status))
         }
-        Asked::Serve { turns, row_cache } => Ok(Next::Serve {
+        Asked::Serve { limits, row_cache } => Ok(Next::Serve {
             text: read_text(rt)?,
-            turns,
+            limits,
             row_cache,
         }),
     }
@@ -90,13 +90,13 @@ fn main(rt: HostRuntime) -> ExitCode {
         Next::Ended(status) => ExitCode::from(status),
         Next::Serve {
             text,
-            turns,
+            limits,
             row_cache,
         } => match served_rows(&rt, row_cache) {
             Ok(rows) => {
                 let mut output = rt.stdout();
                 let mut faults = rt.stderr();
-                ExitCode::from(host(&rt, rows, text.as_str(), turns, &mut output, &mut faults))
+                ExitCode::from(host(&rt, rows, text.as_str(), limits, &mut output, &mut faults))
             }
             Err(fault) => failed(&rt, fault),
         },

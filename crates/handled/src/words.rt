@@ -3,6 +3,7 @@
 use clap::error::ErrorKind;
 use clap::{Arg, ArgAction, ArgMatches, Command, Error, value_parser};
 use hdl_cachedrows::LIMIT_DEFAULT;
+use hdl_host::Limits;
 use hdl_replay::Fault;
 use hdl_status::status_of_words;
 use std::alloc::{AllocError, Global};
@@ -13,9 +14,9 @@ use std::{env, io};
 pub enum Asked {
     /// A script on standard input.
     Replay,
-    /// The tenants text is on standard input, each worker and the service have so many turns, and of the table at most so many octets
-    /// are kept where they were read last.
-    Serve { turns: u64, row_cache: usize },
+    /// The tenants text is on standard input, served within these limits, and of the table at most so many octets are kept where they were
+    /// read last.
+    Serve { limits: Limits, row_cache: usize },
     /// Nothing: help or a fault was printed, and this is the exit status.
     Ended(u8),
 }
@@ -30,6 +31,16 @@ fn serve_command<'a>(alloc: Global) -> Result<Command<'a>, AllocError> {
                 .help("Ends after N turns of each worker and of the service")
                 .action(ArgAction::Set)
                 .value_parser(value_parser!(u64).range(1..)),
+        )?
+        .arg(
+            Arg::new(alloc, "idle")
+                .long("idle")
+                .value_name("SECONDS")
+                .help(
+                    "Closes a connection that says nothing for so long while another client waits; 60 by default",
+                )
+                .action(ArgAction::Set)
+                .value_parser(value_parser!(u32).range(1..)),
         )?
         .arg(
             Arg::new(alloc, "row-cache")
@@ -60,11 +71,21 @@ fn row_cache(found: &ArgMatches) -> usize {
     }
 }
 
+/// How long is served, and how long clients are waited for.
+fn limits(found: &ArgMatches) -> Limits {
+    Limits {
+        turns: found
+            .get_one::<u64>("turns")
+            .unwrap_or(Limits::DEFAULT.turns),
+        idle: found.get_one::<u32>("idle").unwrap_or(Limits::DEFAULT.idle),
+    }
+}
+
 fn parsed(alloc: Global, words: &[String]) -> Result<Asked, Error> {
     let matches = command(alloc)?.try_get_matches_from(words)?;
     match matches.subcommand_matches("serve") {
         Some(found) => Ok(Asked::Serve {
-            turns: found.get_one::<u64>("turns").unwrap_or(u64::MAX),
+            limits: limits(found),
             row_cache: row_cache(found),
         }),
         None => Ok(Asked::Replay),

@@ -5,8 +5,6 @@
 //! keeps that word, by emptying it at each change of the table. What is found is then the mask by definition; that none is
 //! found says nothing, so want of memory changes no answer.
 //!
-//! It stands on `hdl_name`, `hdl_value` and the definition of a mask in `hdl_reach`.
-//!
 //! # Decisions
 //!
 //! - **Kept masks are in no world.** `Service` has them, and its Model's invariant says that each is the mask of the table as it is

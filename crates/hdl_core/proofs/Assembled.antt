@@ -20,8 +20,9 @@ use Rattle.hdl_slots.specs.Lanes.{challenge_of}
 use Rattle.hdl_msg.specs.declared.replies.ReplyContent.TheVariants.{Empty}
 use Rattle.hdl_events.specs.declared.Outcome.TheVariants.{Reply, Silent}
 use Rattle.hdl_laws.specs.Lanes.{LaneState, fresh, with_partials}
-use Rattle.hdl_laws.specs.Worlds as worlds
-use Rattle.hdl_laws.specs.Worlds.{Received, Effect, Task, Ignore, Malformed, Unknown, Late, Ask, Redeem, is_late, redeemed, redeem_task, answer_effect, challenge_effect, ask_effect, IsReading, IsResponseTask, IsRequestTask, IsMessageTask, IsLetterTask, IsWholeTask, Does}
+use Rattle.hdl_laws.specs.Tasks as tasks
+use Rattle.hdl_laws.specs.Tasks.{Received, Task, Ignore, Malformed, Unknown, Late, Ask, Redeem, is_late, redeemed, redeem_task, IsReading, IsResponseTask, IsRequestTask, IsMessageTask, IsLetterTask, IsWholeTask}
+use Rattle.hdl_laws.specs.Effects.{Effect, answer_effect, challenge_effect, ask_effect, Does}
 use Rattle.hdl_core.specs.declared.letter.Letter.{Letter}
 use Rattle.hdl_core.specs.Held.{Held, held_at, state_at, with_state}
 use Rattle.hdl_core.specs.Serving.{received_as, letter_of, HearsAt, AssemblesAt}
@@ -31,7 +32,7 @@ use Rattle.hdl_ops.specs.Tables.{apply_if}
 -- ---- a lane whose partial messages are others hears a message as it did
 
 -- the same on a lane with these partial messages
-record Moved (hosts : List ℕ → Bool) (algorithms : List ℕ → Algorithm) (t : Table) (s : LaneState) (p : List Partial) (m : worlds.Letter) (eff : Effect) : Type 0 where
+record Moved (hosts : List ℕ → Bool) (algorithms : List ℕ → Algorithm) (t : Table) (s : LaneState) (p : List Partial) (m : tasks.Letter) (eff : Effect) : Type 0 where
   task : Task
   is_task : IsLetterTask (with_partials s p) m task
   effect : Effect
@@ -41,7 +42,7 @@ record Moved (hosts : List ℕ → Bool) (algorithms : List ℕ → Algorithm) (
   change : effect.change ≡ eff.change
   same : eff.state.partials ≡ s.partials
 
-module _ (hosts : List ℕ → Bool) (algorithms : List ℕ → Algorithm) (t : Table) (s : LaneState) (p : List Partial) (m : worlds.Letter) where
+module _ (hosts : List ℕ → Bool) (algorithms : List ℕ → Algorithm) (t : Table) (s : LaneState) (p : List Partial) (m : tasks.Letter) where
   garbled : (o : Option Content) → IsReading (SpellsRequest m.message) o → o ≡ None → (eff : Effect) → Does hosts algorithms t (Malformed m s) eff → Moved hosts algorithms t s p m eff
   garbled o reading is eff does = record {
     task = Malformed m (with_partials s p);
@@ -225,7 +226,7 @@ module _ (hosts : List ℕ → Bool) (algorithms : List ℕ → Algorithm) (t : 
           mv.effect,
           mv.task,
           subst (λ o. IsWholeTask (with_partials here after.1) (with_partials here gone) x o mv.task) (ap whole_message is)
-              (subst (λ (l : worlds.Letter). IsLetterTask (with_partials here gone) l mv.task) (λ i. record { peer = m.peer; moment = m.moment; nonce = m.nonce; envelope = envelope i; message = message }) mv.is_task),
+              (subst (λ (l : tasks.Letter). IsLetterTask (with_partials here gone) l mv.task) (λ i. record { peer = m.peer; moment = m.moment; nonce = m.nonce; envelope = envelope i; message = message }) mv.is_task),
           mv.does,
           mv.outcome ∙ out,
           mv.state ∙ ap (λ (s : LaneState). with_partials s gone) state,

@@ -18,7 +18,8 @@ use Rattle.hdl_ops.specs.Requests.{Response, response_of}
 use Rattle.hdl_ops.specs.Tables.{apply_if}
 use Rattle.hdl_events.specs.declared.Outcome.TheVariants.{Reply}
 use Rattle.hdl_laws.specs.Lanes.{LaneState}
-use Rattle.hdl_laws.specs.Worlds.{answer_octets, challenge_octets, Effect, Task, Malformed, Unknown, Late, Ask, Redeem, is_late, redeemed, redeem_task, pending, answer_effect, challenge_effect, IsResponseTask, IsRequestTask, IsLetterTask, Does}
+use Rattle.hdl_laws.specs.Tasks.{Task, Malformed, Unknown, Late, Ask, Redeem, is_late, redeemed, redeem_task, IsResponseTask, IsRequestTask, IsLetterTask}
+use Rattle.hdl_laws.specs.Effects.{answer_octets, challenge_octets, Effect, pending, answer_effect, challenge_effect, Does}
 use Rattle.hdl_core.specs.declared.letter.Letter.{Letter}
 use Rattle.hdl_core.specs.declared.hearing.Heard.{Heard}
 use Rattle.hdl_core.specs.declared.hearing.Heard.TheVariants.{Answered, Challenged}

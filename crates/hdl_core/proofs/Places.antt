@@ -12,7 +12,9 @@ use Rattle.hdl_tenants.specs.Register.{Register}
 use Rattle.hdl_ops.specs.Tables.{apply_if}
 use Rattle.hdl_laws.specs.Lanes.{fresh}
 use Rattle.hdl_events.specs.declared.Event.{Event}
-use Rattle.hdl_laws.specs.Worlds.{Effect, owner, lane_of, after_effect, moment_of}
+use Rattle.hdl_laws.specs.Worlds.{owner, lane_of}
+use Rattle.hdl_laws.specs.Effects.{Effect}
+use Rattle.hdl_laws.specs.Steps.{after_effect, moment_of}
 use Rattle.hdl_core.specs.Held.{Held}
 use Rattle.hdl_core.specs.Worlds.{numbered, by_place, world_of}
 

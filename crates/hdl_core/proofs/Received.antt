@@ -16,8 +16,10 @@ use Rattle.hdl_events.specs.declared.Outcome.{Outcome}
 use Rattle.hdl_events.specs.declared.Outcome.TheVariants.{Reply, Busy, Silent, CloseAfter}
 use Rattle.hdl_laws.specs.Lanes.{LaneState, fresh}
 use Rattle.hdl_laws.specs.Told.{IsReadable}
-use Rattle.hdl_laws.specs.Worlds as worlds
-use Rattle.hdl_laws.specs.Worlds.{Received, Task, Ignore, Break, Effect, IsFrameTask, IsOctetsTask, arrived}
+use Rattle.hdl_laws.specs.Tasks as tasks
+use Rattle.hdl_laws.specs.Tasks.{Received, Task, Ignore, Break, IsFrameTask, IsOctetsTask}
+use Rattle.hdl_laws.specs.Effects.{Effect}
+use Rattle.hdl_laws.specs.Steps.{arrived}
 use Rattle.hdl_core.specs.declared.letter.Letter.{Letter}
 use Rattle.hdl_core.specs.Held.{Held, state_at, with_state}
 use Rattle.std.specs.Prelude.{IfOk, IfSome, OnErr}
@@ -69,8 +71,8 @@ module _ (hosts : List ℕ → Bool) (algorithms : List ℕ → Algorithm) (t : 
         → m ≡ record { lane = number; peer = x.peer; moment = x.moment; nonce = x.nonce; envelope = f.envelope }
         → HearsAt hosts algorithms t lanes number (letter_of m message) octets lanes' t' → ReceivesAt hosts algorithms t lanes number x (Reply octets) lanes' t'
     heard f m message octets lanes' t' found e is letter done =
-        let same : letter_of m message ≡ worlds.letter x (drop 20 x.bytes) = λ i. letter_of ((letter ∙ ap (λ (n : Envelope). record { lane = number; peer = x.peer; moment = x.moment; nonce = x.nonce; envelope = n }) found.envelope) i) (is i) in
-        let h = subst (λ (l : worlds.Letter). HearsAt hosts algorithms t lanes number l octets lanes' t') same done in (
+        let same : letter_of m message ≡ tasks.letter x (drop 20 x.bytes) = λ i. letter_of ((letter ∙ ap (λ (n : Envelope). record { lane = number; peer = x.peer; moment = x.moment; nonce = x.nonce; envelope = n }) found.envelope) i) (is i) in
+        let h = subst (λ (l : tasks.Letter). HearsAt hosts algorithms t lanes number l octets lanes' t') same done in (
           h.0,
           h.1,
           inl (h.2.2.0, h.2.0, inl (found.frame, when_false (is_truncated (envelope_at x.bytes)) _ _ (sym (ap is_truncated found.envelope) ∙ e) h.2.1), h.2.2.1, sym h.2.2.2, sym h.2.2.3, h.2.2.4),
@@ -79,19 +81,19 @@ module _ (hosts : List ℕ → Bool) (algorithms : List ℕ → Algorithm) (t : 
   -- ---- an event of a lane
 
   module _ (what : What) where
-    silent : (s' : LaneState) (lanes' : List Held) → worlds.IsTask (state_at lanes number) what (Ignore s') → lanes' ≡ with_state lanes number s' → ServesAt hosts algorithms t lanes number what Silent lanes' t
+    silent : (s' : LaneState) (lanes' : List Held) → tasks.IsTask (state_at lanes number) what (Ignore s') → lanes' ≡ with_state lanes number s' → ServesAt hosts algorithms t lanes number what Silent lanes' t
     silent s' lanes' task after = (s', after, inl (record { outcome = Silent; state = s'; change = None }, Ignore s', task, refl, refl, refl, refl))
 
     pub opened : (lanes' : List Held) → what ≡ Open → lanes' ≡ with_state lanes number (fresh true) → ServesAt hosts algorithms t lanes number what Silent lanes' t
-    opened lanes' e after = silent (fresh true) lanes' (subst (λ w. worlds.IsTask (state_at lanes number) w (Ignore (fresh true))) (sym e) refl) after
+    opened lanes' e after = silent (fresh true) lanes' (subst (λ w. tasks.IsTask (state_at lanes number) w (Ignore (fresh true))) (sym e) refl) after
 
     pub closed : (lanes' : List Held) → what ≡ Close → lanes' ≡ with_state lanes number (fresh false) → ServesAt hosts algorithms t lanes number what Silent lanes' t
-    closed lanes' e after = silent (fresh false) lanes' (subst (λ w. worlds.IsTask (state_at lanes number) w (Ignore (fresh false))) (sym e) refl) after
+    closed lanes' e after = silent (fresh false) lanes' (subst (λ w. tasks.IsTask (state_at lanes number) w (Ignore (fresh false))) (sym e) refl) after
 
     pub unbroken : (session request : ℕ) → what ≡ Bad session request → (state_at lanes number).is_open ≡ false → ServesAt hosts algorithms t lanes number what Silent lanes t
     unbroken session request e up =
         let s = state_at lanes number in
-        silent s lanes (subst (λ w. worlds.IsTask s w (Ignore s)) (sym e) (ap (λ b. cond b (Break session request s) (Ignore s)) (sym up))) (kept lanes number)
+        silent s lanes (subst (λ w. tasks.IsTask s w (Ignore s)) (sym e) (ap (λ b. cond b (Break session request s) (Ignore s)) (sym up))) (kept lanes number)
 
     pub broken : (session request : ℕ) (reply : List ℕ) → what ≡ Bad session request → (state_at lanes number).is_open ≡ true → reply ≡ short_reply 4 (reply_envelope session request 0) → ServesAt hosts algorithms t lanes number what (CloseAfter reply) lanes t
     broken session request reply e up is =
@@ -101,7 +103,7 @@ module _ (hosts : List ℕ → Bool) (algorithms : List ℕ → Algorithm) (t : 
           inl (
             record { outcome = CloseAfter (short_reply 4 (reply_envelope session request 0)); state = s; change = None },
             Break session request s,
-            subst (λ w. worlds.IsTask s w (Break session request s)) (sym e) (ap (λ b. cond b (Break session request s) (Ignore s)) (sym up)),
+            subst (λ w. tasks.IsTask s w (Break session request s)) (sym e) (ap (λ b. cond b (Break session request s) (Ignore s)) (sym up)),
             refl,
             ap CloseAfter is,
             refl,
@@ -112,7 +114,7 @@ module _ (hosts : List ℕ → Bool) (algorithms : List ℕ → Algorithm) (t : 
     pub unheard : (x : Received) → what ≡ arrived x → (state_at lanes number).is_open ≡ false → ServesAt hosts algorithms t lanes number what Silent lanes t
     unheard x e up =
         let s = state_at lanes number in
-        silent s lanes (subst (λ w. worlds.IsTask s w (Ignore s)) (sym e) (when_false s.is_open _ _ up refl)) (kept lanes number)
+        silent s lanes (subst (λ w. tasks.IsTask s w (Ignore s)) (sym e) (when_false s.is_open _ _ up refl)) (kept lanes number)
 
     pub received : (x : Received) (o : Outcome) (lanes' : List Held) (t' : Table) → what ≡ arrived x → (state_at lanes number).is_open ≡ true → ReceivesAt hosts algorithms t lanes number x o lanes' t' → ServesAt hosts algorithms t lanes number what o lanes' t'
     received x o lanes' t' e up (s', after, inl a) =

@@ -13,7 +13,10 @@ use Rattle.hdl_laws.specs.Lanes.{LaneState, fresh}
 use Rattle.std.specs.Prelude.{IsFalse}
 use Rattle.hdl_laws.specs.Laws.{JoinsRuns, HostsNoRoot}
 use Rattle.hdl_laws.specs.Runs.{Run, Steps}
-use Rattle.hdl_laws.specs.Worlds.{World, Turn, turn, IsTask, Does, hosts, algorithms, owner, lane_of, IsAnswerFor}
+use Rattle.hdl_laws.specs.Worlds.{World, hosts, algorithms, owner, lane_of}
+use Rattle.hdl_laws.specs.Tasks.{IsTask}
+use Rattle.hdl_laws.specs.Effects.{Does}
+use Rattle.hdl_laws.specs.Steps.{Turn, turn, IsAnswerFor}
 use Rattle.hdl_core.specs.Held.{Held, held_at, with_state}
 use Rattle.hdl_core.specs.Worlds.{world_of}
 use Rattle.hdl_core.specs.Serving.{ServesAt}

@@ -23,8 +23,10 @@ use Rattle.hdl_ops.specs.Tables.{apply_if}
 use Rattle.hdl_events.specs.declared.What.{What}
 use Rattle.hdl_events.specs.declared.Outcome.{Outcome}
 use Rattle.hdl_events.specs.declared.Outcome.TheVariants.{Reply, Busy, Silent}
-use Rattle.hdl_laws.specs.Worlds as worlds
-use Rattle.hdl_laws.specs.Worlds.{answer_octets, challenge_octets, Effect, Task, IsReading, redeemed, redeem_task, IsResponseTask, IsTask, IsLetterTask, IsPieceTask, IsOctetsTask, Does, Received, arrived, moment_of}
+use Rattle.hdl_laws.specs.Tasks as tasks
+use Rattle.hdl_laws.specs.Tasks.{Task, IsReading, redeemed, redeem_task, IsResponseTask, IsTask, IsLetterTask, IsPieceTask, IsOctetsTask, Received}
+use Rattle.hdl_laws.specs.Effects.{answer_octets, challenge_octets, Effect, Does}
+use Rattle.hdl_laws.specs.Steps.{arrived, moment_of}
 use Rattle.hdl_laws.specs.Lanes.{LaneState}
 use Rattle.hdl_core.specs.declared.letter.Letter.{Letter}
 use Rattle.hdl_core.specs.declared.letter.Received as code
@@ -41,7 +43,7 @@ abbrev pub received_as : Letter → List ℕ → Received
 received_as m bytes = record { peer = m.peer; moment = m.moment; nonce = m.nonce; bytes = bytes }
 
 -- a letter with its message
-abbrev pub letter_of : Letter → List ℕ → worlds.Letter
+abbrev pub letter_of : Letter → List ℕ → tasks.Letter
 letter_of m message = record { peer = m.peer; moment = m.moment; nonce = m.nonce; envelope = m.envelope; message = message }
 
 -- the header of the reply to this request, with this code and content, announces what it carries
@@ -87,11 +89,11 @@ RespondsAt hosts algorithms t lanes number m r a octets lanes' t' =
     × Replies hosts algorithms t m.moment k octets s' t'
 
 -- a letter on a lane has this reply
-abbrev pub IsHeard : (List ℕ → Bool) → (List ℕ → Algorithm) → Table → LaneState → worlds.Letter → List ℕ → LaneState → Table → Type 0
+abbrev pub IsHeard : (List ℕ → Bool) → (List ℕ → Algorithm) → Table → LaneState → tasks.Letter → List ℕ → LaneState → Table → Type 0
 IsHeard hosts algorithms t s m octets s' t' = (k : Task) × IsLetterTask s m k × Replies hosts algorithms t m.moment k octets s' t'
 
 -- the lanes after that
-abbrev pub HearsAt : (List ℕ → Bool) → (List ℕ → Algorithm) → Table → List Held → ℕ → worlds.Letter → List ℕ → List Held → Table → Type 0
+abbrev pub HearsAt : (List ℕ → Bool) → (List ℕ → Algorithm) → Table → List Held → ℕ → tasks.Letter → List ℕ → List Held → Table → Type 0
 HearsAt hosts algorithms t lanes number m octets lanes' t' =
     (s' : LaneState) × (lanes' ≡ with_state lanes number s') × IsHeard hosts algorithms t (state_at lanes number) m octets s' t'
 

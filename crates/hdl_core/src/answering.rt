@@ -8,7 +8,7 @@ ghost use Rattle.hdl_msg.specs.declared.replies.ReplyContent.TheVariants as cont
 ghost use Rattle.hdl_cache.specs.Truth.{AreTrue};
 ghost use Rattle.hdl_ops.specs.Replies.{fits};
 ghost use Rattle.hdl_ops.specs.Tables.{apply_if, CanApply};
-ghost use Rattle.hdl_laws.specs.Worlds.{answer_octets};
+ghost use Rattle.hdl_laws.specs.Effects.{answer_octets};
 ghost use Rattle.hdl_core.specs.Serving.{Announces};
 
 use crate::letter::Letter;

@@ -5,7 +5,7 @@ ghost use Rattle.hdl_msg.specs.ReplyView.{IsReplyFrame};
 ghost use Rattle.hdl_cache.specs.Truth.{AreTrue};
 ghost use Rattle.hdl_ops.specs.Admission.{request_algorithm};
 ghost use Rattle.hdl_ops.specs.Views.{algorithms_by, hosted_by, response_view};
-ghost use Rattle.hdl_laws.specs.Worlds.{is_late};
+ghost use Rattle.hdl_laws.specs.Tasks.{is_late};
 ghost use Rattle.hdl_core.specs.Serving.{challenge_of_request, letter_of, sent_of, HasItsCode, IsAsked, IsRedeemed, RespondsAt, HearsAt};
 
 use crate::answering::{answer, malformed, tell};

@@ -8,7 +8,7 @@
 //! and [`Service::run`] is a run of it with one outcome for each event, over any table [`Rows`]. Where memory or the table is
 //! refused an event is Busy and the world is as it was; where room for a run's outcomes is refused the events come back.
 //!
-//! It stands on `hdl_ops`, `hdl_pool`, `hdl_slots` and `hdl_laws`, and knows no threads, sockets or clocks.
+//! It knows no threads, sockets or clocks.
 #![tactic(auto)]
 
 mod answering;

@@ -5,6 +5,7 @@ ghost use Rattle.hdl_rows.specs.Table.{no_rows};
 ghost use Rattle.hdl_workers.specs.Ends.{AreDistinct};
 
 use crate::clock::{MachineClock, Part};
+use crate::silence::{Seat, seats_at};
 use crate::waking::{Patience, Sleep};
 use crate::workers::{join_all, start};
 use hdl_core::{Rows, Service, Tenants};
@@ -22,12 +23,28 @@ use std::time::Duration;
 /// How many items a lane's ring has room for, each way.
 const RING: usize = 16;
 
-/// A publisher's sockets, and how many lanes share them.
+/// How long a server serves, and how long it waits for its clients.
+#[derive(Clone, Copy, Debug, PartialEq, Eq)]
+pub struct Limits {
+    /// How many turns each worker and the service have.
+    pub turns: u64,
+    /// For how many seconds a connection may say nothing while another client of its publisher waits.
+    pub idle: u32,
+}
+
+impl Limits {
+    /// No end of turns, and a minute of silence.
+    pub const DEFAULT: Limits = Limits {
+        turns: u64::MAX,
+        idle: 60,
+    };
+}
+
+/// A publisher's datagram socket, and the seats of its stream lanes.
 #[derive(Drop)]
 pub struct Place {
-    pub listener: TcpListener,
+    pub seats: Vec<Seat>,
     pub socket: UdpSocket,
-    pub lanes: u16,
 }
 
 /// What is there before anything is served: every lane, every socket, the lines that tell where they are, the sleep of the thread that
@@ -57,31 +74,32 @@ fn limit_accept(listener: &TcpListener, most: Duration) -> io::Result<()> {
     same.set_read_timeout(Some(most))
 }
 
-/// Listens on loopback, so that `accept` and `recv_from` wait so long at most.
-fn listen<R: Net<Listener = TcpListener, Stream = TcpStream>>(
+/// Listens on loopback for a publisher with so many lanes, of which the last is that of its datagrams.
+fn listen<R: Net<Listener = TcpListener, Stream = TcpStream> + Clock>(
     rt: &R,
+    alloc: Global,
     lanes: u16,
     port: u16,
-    most: Duration,
+    limits: Limits,
 ) -> io::Result<Place> {
+    let most = Patience::of(limits.turns).door;
     let addr = SocketAddr::new(IpAddr::V4(Ipv4Addr::LOCALHOST), port);
     let listener = TcpListener::bind(rt, addr)?;
     limit_accept(&listener, most)?;
     let socket = UdpSocket::bind(rt, addr)?;
     socket.set_read_timeout(Some(most))?;
     Ok(Place {
-        listener,
+        seats: seats_at(rt, alloc, &listener, lanes.saturating_sub(1), limits.idle)?,
         socket,
-        lanes,
     })
 }
 
 /// The sockets of each publisher, and the lines that tell where they are.
-fn places_of<R: Net<Listener = TcpListener, Stream = TcpStream>>(
+fn places_of<R: Net<Listener = TcpListener, Stream = TcpStream> + Clock>(
     rt: &R,
     alloc: Global,
     tenants: &Tenants,
-    most: Duration,
+    limits: Limits,
 ) -> Result<(Vec<Place>, String), Fault> {
     let mut places = Vec::new(alloc);
     let mut lines = String::new(alloc);
@@ -89,7 +107,7 @@ fn places_of<R: Net<Listener = TcpListener, Stream = TcpStream>>(
         let Some((name, lanes, port)) = tenants.publisher(i) else {
             break;
         };
-        places.push(had(listen(rt, lanes, port, most))?)?;
+        places.push(had(listen(rt, alloc, lanes, port, limits))?)?;
         let line = format!(in alloc; "{name} 127.0.0.1:{port}\n")?;
         lines.push_str(line.as_str())?;
     }
@@ -97,23 +115,22 @@ fn places_of<R: Net<Listener = TcpListener, Stream = TcpStream>>(
 }
 
 /// Makes the lanes of the tenants and listens for each publisher.
-fn ready_for<R: Net<Listener = TcpListener, Stream = TcpStream>>(
+fn ready_for<R: Net<Listener = TcpListener, Stream = TcpStream> + Clock>(
     rt: &R,
     alloc: Global,
     tenants: &Tenants,
-    turns: u64,
+    limits: Limits,
 ) -> Result<Ready, Fault> {
-    let patience = Patience::of(turns);
     let (ends, far) = lanes_of(alloc, tenants.lanes(), RING)?;
-    let (places, lines) = places_of(rt, alloc, tenants, patience.door)?;
-    let sleep = had(Sleep::new(rt, alloc, patience.events))?;
+    let (places, lines) = places_of(rt, alloc, tenants, limits)?;
+    let sleep = had(Sleep::new(rt, alloc, Patience::of(limits.turns).events))?;
     Ok(Ready {
         ends,
         far,
         places,
         lines,
         sleep,
-        turns,
+        turns: limits.turns,
     })
 }
 
@@ -191,7 +208,7 @@ fn open_and_serve<
 }
 
 /// Serves the tenants of the text over an empty table. The lines that tell where are written once all sockets listen, and before
-/// a worker starts. Each worker and the service have so many turns.
+/// a worker starts.
 ///
 /// Refusals: the tenants text's first fault, memory, the table's refusal of an opening row, and `Device` where a socket, a
 /// thread or a random source isn't to be had (at once, with nothing joined), or where a worker's device failed.
@@ -206,11 +223,11 @@ pub fn hosted<
         + 'static,
     T: Rows + Drop,
     W: Write,
->(rt: &R, alloc: Global, rows: T, text: &str, turns: u64, output: &mut W) -> Result<(), Fault>
+>(rt: &R, alloc: Global, rows: T, text: &str, limits: Limits, output: &mut W) -> Result<(), Fault>
     requires empty { T.content rows ≡ no_rows }
 {
     let tenants = tenants_of(alloc, text)?;
-    let ready = ready_for(rt, alloc, &tenants, turns)?;
+    let ready = ready_for(rt, alloc, &tenants, limits)?;
     open_and_serve(rt, alloc, rows, tenants, ready, output)
 }
 
@@ -230,10 +247,10 @@ pub fn host<
     T: Rows + Drop,
     W: Write,
     F: Write,
->(rt: &R, rows: T, text: &str, turns: u64, output: &mut W, faults: &mut F) -> u8
+>(rt: &R, rows: T, text: &str, limits: Limits, output: &mut W, faults: &mut F) -> u8
     requires empty { T.content rows ≡ no_rows }
 {
-    match hosted(rt, rt.alloc(), rows, text, turns, output) {
+    match hosted(rt, rt.alloc(), rows, text, limits, output) {
         Ok(()) => 0,
         Err(fault) => {
             let _ = writeln!(faults, "{fault}");

@@ -15,9 +15,15 @@
 //!
 //! # Decisions
 //!
-//! - **Calls that wait for a peer wait in the kernel, a second at most**: `accept` and `recv_from` by the sockets' time to receive, which an
-//!   accepted connection would have too and is freed from. So an idle worker makes one call a second. Interrupted calls, and a peer that gave
-//!   up before it was accepted, count as nothing that came; any other failure ends the worker, and the server with status 1 in the end.
+//! - **Calls that wait for a peer wait in the kernel, a second at most**: `accept`, `recv_from` and `read` by the sockets' time to receive. So an
+//!   idle worker makes one call a second. Interrupted calls, and a peer that gave up before it was accepted, count as nothing that came; any
+//!   other failure of `accept` or `recv_from` ends the worker, and the server with status 1 in the end.
+//! - **A connection is closed as if its peer had closed it** (`watch`): `read` answers 0, or `write` fails, and the worker does what it does then. So
+//!   no clause of a worker knows of time. A frame that is begun must be whole within ten seconds of waiting for it; what an answer before
+//!   it takes doesn't count, since a client may send ahead. A write waits ten seconds for room.
+//! - **Silence ends a connection only where somebody waits for its lane** (`silence`): then the one that is silent longest goes, once it was for as long as the
+//!   caller lets it. Whether somebody waits is asked of the kernel: is the listener ready? Each lane of a publisher writes down since when it is
+//!   silent, and one without a connection counts as silent longest; so where a lane is free, or is being freed, no other is.
 //! - **The thread that serves sleeps until a worker rings** (`waking`), 100 milliseconds at most. It says that it sleeps and then sleeps, without
 //!   a look between; a worker that waits for an outcome looks at each of its pauses whether that thread sleeps, and then wakes it. So an event
 //!   that was put between the last look at the lanes and the sleep is noticed at that worker's next pause, a microsecond later or, where the
@@ -34,9 +40,14 @@
 #![tactic(auto)]
 
 mod clock;
+mod door;
 mod hosting;
+mod nonces;
+mod progress;
+mod silence;
 mod sockets;
 mod waking;
+mod watch;
 mod workers;
 
-pub use hosting::{host, hosted};
+pub use hosting::{Limits, host, hosted};

@@ -1,14 +1,12 @@
-//! The machine's sockets and random numbers as doors and nonces. They tell nothing.
+//! The machine's datagram sockets as doors. They tell nothing.
 
-use hdl_serve::{Door, DoorFault, Nonces, Packets, Peers};
-use rand::RngExt;
-use rand::rngs::StdRng;
-use std::io::{ErrorKind, Read, Write};
-use std::net::{SocketAddr, TcpListener, TcpStream, UdpSocket};
+use hdl_serve::{DoorFault, Packets, Peers};
+use std::io::ErrorKind;
+use std::net::{SocketAddr, UdpSocket};
 
 /// Whether a call that failed says only that nothing came: it would wait or was interrupted, or the peer gave up before it was
 /// accepted.
-fn nothing_came(kind: ErrorKind) -> bool {
+pub fn nothing_came(kind: ErrorKind) -> bool {
     matches!(
         kind,
         ErrorKind::WouldBlock
@@ -16,85 +14,6 @@ fn nothing_came(kind: ErrorKind) -> bool {
             | ErrorKind::Interrupted
             | ErrorKind::ConnectionAborted
     )
-}
-
-/// A listener that several workers share, and the connection of this one. `accept` waits as long as the listener lets it, so that a
-/// worker without a connection costs little.
-#[derive(Drop)]
-pub struct SocketDoor {
-    listener: TcpListener,
-    stream: Option<TcpStream>,
-    faults: u64,
-}
-
-impl SocketDoor {
-    pub fn new(listener: TcpListener) -> SocketDoor {
-        SocketDoor {
-            listener,
-            stream: None,
-            faults: 0,
-        }
-    }
-}
-
-impl Door for SocketDoor {
-    ghost use Rattle.std.specs.Prelude.{false, true, []};
-    ghost use Rattle.hdl_workers.specs.Door.{fresh};
-
-    ghost tells = { false };
-
-    ghost ended = { λ _. [] };
-
-    ghost current = { λ _. fresh };
-
-    ghost is_open = { λ _. true };
-
-    ghost fault_count = { λ d. d.faults };
-
-    fn accept(&mut self) -> Result<bool, DoorFault> {
-        match self.listener.accept() {
-            Ok((stream, _)) => {
-                let _ = stream.set_nodelay(true);
-                // a connection has its listener's time to receive
-                let _ = stream.set_read_timeout(None);
-                self.stream = Some(stream);
-                Ok(true)
-            }
-            Err(e) if nothing_came(e.kind()) => Ok(false),
-            Err(_) => {
-                self.faults = self.faults.saturating_add(1);
-                Err(DoorFault)
-            }
-        }
-    }
-
-    fn read(&mut self, buffer: &mut [u8]) -> Result<usize, DoorFault> {
-        if let Some(stream) = &mut self.stream {
-            if let Ok(count) = stream.read(buffer) {
-                return Ok(count);
-            }
-        }
-        self.faults = self.faults.saturating_add(1);
-        Err(DoorFault)
-    }
-
-    fn write(&mut self, octets: &[u8]) -> Result<usize, DoorFault> {
-        if let Some(stream) = &mut self.stream {
-            if let Ok(count) = stream.write(octets) {
-                return Ok(count);
-            }
-        }
-        self.faults = self.faults.saturating_add(1);
-        Err(DoorFault)
-    }
-
-    fn leave(&mut self) {
-        self.stream = None;
-    }
-
-    fn faults(&self) -> u64 {
-        self.faults
-    }
 }
 
 /// A datagram socket, whose peers are numbered from 1 as they come.
@@ -152,29 +71,5 @@ impl Packets for SocketPackets {
 
     fn faults(&self) -> u64 {
         self.faults
-    }
-}
-
-/// Nonces of a generator that the machine's random source seeded.
-#[derive(Drop)]
-pub struct MachineNonces {
-    rng: StdRng,
-}
-
-impl MachineNonces {
-    pub fn new(rng: StdRng) -> MachineNonces {
-        MachineNonces { rng }
-    }
-}
-
-impl Nonces for MachineNonces {
-    ghost use Rattle.std.specs.Prelude.{false, []};
-
-    ghost tells = { false };
-
-    ghost answers = { λ _. [] };
-
-    fn next(&mut self) -> [u8; 16] {
-        self.rng.random()
     }
 }

@@ -4,14 +4,18 @@ ghost use Rattle.std.specs.Prelude.{◌≡◌, []};
 ghost use Rattle.hdl_lanes.specs.Lane.{put_into, taken_from};
 
 use crate::clock::{MachineClock, Part};
+use crate::door::SocketDoor;
 use crate::hosting::{Place, had};
-use crate::sockets::{MachineNonces, SocketDoor, SocketPackets};
+use crate::nonces::MachineNonces;
+use crate::silence::Seat;
+use crate::sockets::SocketPackets;
 use crate::waking::{Bell, Sleep};
+use crate::watch::Watch;
 use hdl_replay::Fault;
 use hdl_serve::{Far, Peers, Why, WorkerEnd, packet_worker, stream_worker};
 use rand::make_rng;
 use std::alloc::Global;
-use std::net::{TcpListener, UdpSocket};
+use std::net::UdpSocket;
 use std::random::RandomSource;
 use std::rt::Clock;
 use std::sync::Arc;
@@ -31,7 +35,7 @@ struct Side {
 fn start_stream<R: Threads + Clock + RandomSource + Copy + Send + Drop + 'static>(
     rt: &R,
     alloc: Global,
-    listener: TcpListener,
+    seat: Seat,
     side: Side,
 ) -> Result<JoinHandle<WorkerEnd>, Fault> {
     let Side { far, bell, turns } = side;
@@ -43,7 +47,7 @@ fn start_stream<R: Threads + Clock + RandomSource + Copy + Send + Drop + 'static
         move ||
             requires { (put_into inlet ≡ []) × (taken_from outcomes ≡ []) }
         {
-            let mut door = SocketDoor::new(listener);
+            let mut door = SocketDoor::new(Watch::new(theirs, seat));
             let mut clock = MachineClock::new(theirs, Part::Works(bell));
             let mut nonces = MachineNonces::new(rng);
             stream_worker(
@@ -107,15 +111,10 @@ fn start_place<R: Threads + Clock + RandomSource + Copy + Send + Drop + 'static>
     sides: &mut IntoIter<Side>,
     workers: &mut Vec<JoinHandle<WorkerEnd>>,
 ) -> Result<(), Fault> {
-    let Place {
-        listener,
-        socket,
-        lanes,
-    } = place;
-    for _ in 1..lanes {
+    let Place { seats, socket } = place;
+    for seat in seats {
         if let Some(side) = sides.next() {
-            let listener = had(listener.try_clone())?;
-            workers.push(start_stream(rt, alloc, listener, side)?)?;
+            workers.push(start_stream(rt, alloc, seat, side)?)?;
         }
     }
     if let Some(side) = sides.next() {

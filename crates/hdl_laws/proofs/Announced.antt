@@ -27,7 +27,10 @@ use Rattle.hdl_ops.proofs.Announced.{answer_announced_lem, protocol_error_announ
 use Rattle.hdl_events.specs.declared.What.{What}
 use Rattle.hdl_events.specs.declared.What.TheVariants.{Open, Bad, Close}
 use Rattle.hdl_laws.specs.Lanes.{LaneState, with_partials}
-use Rattle.hdl_laws.specs.Worlds.{World, Turn, Received, hosts, algorithms, owner, lane_of, Letter, letter, Effect, Task, Ignore, Break, Malformed, Unknown, Late, Ask, Redeem, is_late, redeemed, redeem_task, IsReading, IsResponseTask, IsRequestTask, IsMessageTask, IsLetterTask, IsWholeTask, IsFrameTask, IsOctetsTask, IsTask, Does, IsAnswerFor, IsStep, answer_effect, challenge_effect}
+use Rattle.hdl_laws.specs.Worlds.{World, hosts, algorithms, owner, lane_of}
+use Rattle.hdl_laws.specs.Tasks.{Received, Letter, letter, Task, Ignore, Break, Malformed, Unknown, Late, Ask, Redeem, is_late, redeemed, redeem_task, IsReading, IsResponseTask, IsRequestTask, IsMessageTask, IsLetterTask, IsWholeTask, IsFrameTask, IsOctetsTask, IsTask}
+use Rattle.hdl_laws.specs.Effects.{Effect, Does, answer_effect, challenge_effect}
+use Rattle.hdl_laws.specs.Steps.{Turn, IsAnswerFor, IsStep}
 use Rattle.hdl_laws.specs.Told.{IsSelfTold, sent_by, StepsAnnounce}
 
 -- ---- octets

@@ -16,7 +16,8 @@ use Rattle.hdl_ops.specs.Replies.{reply_to, challenge_to}
 use Rattle.hdl_ops.specs.Decisions.{Anyone, Proven, Decision, failure}
 use Rattle.hdl_ops.proofs.Codes.{is_answer_code, code_fits, decides_code}
 use Rattle.hdl_laws.specs.Lanes.{LaneState}
-use Rattle.hdl_laws.specs.Worlds.{Letter, Effect, Task, Ignore, Break, Malformed, Unknown, Late, Ask, Redeem, Does, ask_effect, answer_effect, challenge_effect}
+use Rattle.hdl_laws.specs.Tasks.{Letter, Task, Ignore, Break, Malformed, Unknown, Late, Ask, Redeem}
+use Rattle.hdl_laws.specs.Effects.{Effect, Does, ask_effect, answer_effect, challenge_effect}
 use Rattle.hdl_laws.specs.Isolation.{code_of}
 
 pub reply_code : (a : Algorithm) (session number : ℕ) (r : Content) (code : ℕ) (content : ReplyContent) → IsTrue (is_answer_code code) → response_code_at (reply_octets (reply_to a session number r code content)) ≡ code

@@ -3,10 +3,13 @@ use Rattle.std.proofs.Common.{◌≡◌, ℕ, List, [], ◌∷◌, Option, Some,
 use Rattle.hdl_value.specs.Place.{Place}
 use Rattle.hdl_events.specs.declared.Event.{Event}
 use Rattle.hdl_events.specs.declared.Outcome.TheVariants.{Silent}
-use Rattle.hdl_laws.specs.Worlds.{World, Turn, hosts, algorithms, owner, Effect, Task, Does, IsTask, lane_of, turn, IsAnswerFor, IsAnswer}
-use Rattle.hdl_laws.specs.Runs.{IsRun, IsLonelyRun, Lonely, last, events, outcomes}
+use Rattle.hdl_laws.specs.Worlds.{World, hosts, algorithms, owner, lane_of}
+use Rattle.hdl_laws.specs.Tasks.{Task, IsTask}
+use Rattle.hdl_laws.specs.Effects.{Effect, Does}
+use Rattle.hdl_laws.specs.Steps.{Turn, turn, IsAnswerFor, IsAnswer}
+use Rattle.hdl_laws.specs.Runs.{IsRun, IsRunWithoutBusy, RunWithoutBusy, last, events, outcomes}
 use Rattle.hdl_laws.specs.Isolation.{IsCover, IsQuiet, restrict, turns_of}
-use Rattle.hdl_laws.specs.Laws.{ClosedAlong, KeepsCovers, RestrictsRuns, LonelyIsOne, TwoRunsAgree}
+use Rattle.hdl_laws.specs.Laws.{ClosedAlong, KeepsCovers, RestrictsRuns, RunWithoutBusyIsOne, TwoRunsAgree}
 use Rattle.hdl_laws.proofs.Steps.{task_one, does_one}
 use Rattle.hdl_laws.proofs.Restriction.{restrict_turn, Facts, facts_after, restricted_by}
 
@@ -68,18 +71,18 @@ tail_same x y xs ys e = cc
 pub no_cons : {A : Type 0} (x : A) (xs : List A) → [] ≡ x ∷ xs → ⊥
 no_cons x xs e = cc
 
-lonely_one : (w : World) (ts ts' : List Turn) → IsLonelyRun w ts → IsLonelyRun w ts' → events ts ≡ events ts' → ts ≡ ts'
-lonely_one w [] [] a b e = refl
-lonely_one w [] (t ∷ ts) a b e = absurd (no_cons t.event (events ts) e)
-lonely_one w (t ∷ ts) [] a b e = absurd (no_cons t.event (events ts) (sym e))
-lonely_one w (t ∷ ts) (t' ∷ ts') a b e =
+turns_without_busy_one : (w : World) (ts ts' : List Turn) → IsRunWithoutBusy w ts → IsRunWithoutBusy w ts' → events ts ≡ events ts' → ts ≡ ts'
+turns_without_busy_one w [] [] a b e = refl
+turns_without_busy_one w [] (t ∷ ts) a b e = absurd (no_cons t.event (events ts) e)
+turns_without_busy_one w (t ∷ ts) [] a b e = absurd (no_cons t.event (events ts) (sym e))
+turns_without_busy_one w (t ∷ ts) (t' ∷ ts') a b e =
     let here : t ≡ t' = answer_one w t t' (head_same t.event t'.event (events ts) (events ts') e) a.0 b.0 in
-    let rest : ts ≡ ts' = lonely_one t'.after ts ts' (subst (λ (z : Turn). IsLonelyRun z.after ts) here a.1) b.1 (tail_same t.event t'.event (events ts) (events ts') e) in
+    let rest : ts ≡ ts' = turns_without_busy_one t'.after ts ts' (subst (λ (z : Turn). IsRunWithoutBusy z.after ts) here a.1) b.1 (tail_same t.event t'.event (events ts) (events ts') e) in
     λ i. here i ∷ rest i
 
-pub lonely_is_one : LonelyIsOne
-lonely_is_one w new new' es os os' a b =
-    let same : a.0 ≡ b.0 = lonely_one w a.0 b.0 a.1 b.1 (a.2 ∙ sym b.2) in
+pub run_without_busy_is_one : RunWithoutBusyIsOne
+run_without_busy_is_one w new new' es os os' a b =
+    let same : a.0 ≡ b.0 = turns_without_busy_one w a.0 b.0 a.1 b.1 (a.2 ∙ sym b.2) in
     (sym a.3 ∙ ap outcomes same ∙ b.3, sym a.4 ∙ ap (last w) same ∙ b.4)
 
 pub two_runs_agree : TwoRunsAgree
@@ -88,6 +91,6 @@ two_runs_agree w w' ts ts' u C rootless rootless' run run' cover cover' quiet qu
     let b = restricts_runs w' ts' rootless' run' u C cover' quiet' in
     let os = outcomes (turns_of w'.site u ts') in
     let end = restrict (last w' ts') u C in
-    let b' : Lonely (restrict w u C) (events (turns_of w.site u ts)) os end =
-    subst (λ v. Lonely v (events (turns_of w.site u ts)) os end) (sym same) (subst (λ x. Lonely (restrict w' u C) x os end) (sym es) b) in
-    lonely_is_one (restrict w u C) (restrict (last w ts) u C) end (events (turns_of w.site u ts)) (outcomes (turns_of w.site u ts)) os a b'
+    let b' : RunWithoutBusy (restrict w u C) (events (turns_of w.site u ts)) os end =
+    subst (λ v. RunWithoutBusy v (events (turns_of w.site u ts)) os end) (sym same) (subst (λ x. RunWithoutBusy (restrict w' u C) x os end) (sym es) b) in
+    run_without_busy_is_one (restrict w u C) (restrict (last w ts) u C) end (events (turns_of w.site u ts)) (outcomes (turns_of w.site u ts)) os a b'

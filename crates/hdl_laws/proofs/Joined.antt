@@ -1,7 +1,8 @@
 -- Two runs in a row are one.
 use Rattle.std.proofs.Common.{◌≡◌, List, [], ◌∷◌, ◌++◌, refl, sym, ap, ◌∙◌, subst}
 use Rattle.std.proofs.lemmas.List.{map-append}
-use Rattle.hdl_laws.specs.Worlds.{World, Turn}
+use Rattle.hdl_laws.specs.Worlds.{World}
+use Rattle.hdl_laws.specs.Steps.{Turn}
 use Rattle.hdl_laws.specs.Runs.{IsRun, last}
 use Rattle.hdl_laws.specs.Laws.{JoinsRuns}
 

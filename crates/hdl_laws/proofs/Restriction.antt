@@ -17,8 +17,11 @@ use Rattle.hdl_rows.specs.Table.{Table}
 use Rattle.hdl_tenants.specs.Register.{Hosting, root, hosts_among, algorithm_among}
 use Rattle.hdl_ops.specs.Tables.{apply_if}
 use Rattle.hdl_laws.specs.Lanes.{LaneState, fresh}
-use Rattle.hdl_laws.specs.Worlds.{World, Site, Does, IsTask, Turn, owner, hosts, algorithms, lane_of, moment_of, after_effect, IsAnswerFor, IsAnswer, IsBusy, IsStep}
-use Rattle.hdl_laws.specs.Runs.{is_busy, IsRun, last, IsLonelyRun}
+use Rattle.hdl_laws.specs.Worlds.{World, Site, owner, hosts, algorithms, lane_of}
+use Rattle.hdl_laws.specs.Tasks.{IsTask}
+use Rattle.hdl_laws.specs.Effects.{Does}
+use Rattle.hdl_laws.specs.Steps.{Turn, moment_of, after_effect, IsAnswerFor, IsAnswer, IsBusy, IsStep}
+use Rattle.hdl_laws.specs.Runs.{is_busy, IsRun, last, IsRunWithoutBusy}
 use Rattle.hdl_laws.specs.Isolation.{Agrees, IsClosed, EachCovered, values_written, written, IsQuiet, is_owned_by, owns, is_mine, restrict, restrict_site, restrict_table, is_turn_of, turns_of}
 use Rattle.hdl_laws.proofs.Maps.{get-retained}
 use Rattle.hdl_laws.proofs.Writes.{restrict-apply_if, restrict_same, restrict_agrees, closed_after, closed_agrees}
@@ -226,7 +229,7 @@ module _ (u : ℕ) (C : List Place) where
 
   -- the restricted turns are a run of the restricted world, to the restricted last world
   abbrev RunsTo : World → List Turn → World → Type 0
-  RunsTo v ts end = IsLonelyRun v (map (restrict_turn u C) ts) × (last v (map (restrict_turn u C) ts) ≡ end)
+  RunsTo v ts end = IsRunWithoutBusy v (map (restrict_turn u C) ts) × (last v (map (restrict_turn u C) ts) ≡ end)
 
   abbrev Restricted : World → List Turn → Type 0
   Restricted w ts = RunsTo (restrict w u C) (turns_of w.site u ts) (restrict (last w ts) u C)

@@ -28,7 +28,8 @@ use Rattle.hdl_pool.specs.Partial as partial
 use Rattle.hdl_pool.specs.Partial.{piece_of}
 use Rattle.hdl_pool.specs.Taking.{taken, whole_message, freed}
 use Rattle.hdl_laws.specs.Lanes.{LaneState, with_partials}
-use Rattle.hdl_laws.specs.Worlds.{Received, Letter, letter, Effect, Task, Ignore, Break, Malformed, Unknown, Late, Ask, Redeem, Does, IsReading, IsTask, IsResponseTask, IsRequestTask, IsMessageTask, IsLetterTask, IsWholeTask, IsPieceTask, IsFrameTask, IsOctetsTask, redeem_task, ask_effect, answer_effect, challenge_effect}
+use Rattle.hdl_laws.specs.Tasks.{Received, Letter, letter, Task, Ignore, Break, Malformed, Unknown, Late, Ask, Redeem, IsReading, IsTask, IsResponseTask, IsRequestTask, IsMessageTask, IsLetterTask, IsWholeTask, IsPieceTask, IsFrameTask, IsOctetsTask, redeem_task}
+use Rattle.hdl_laws.specs.Effects.{Effect, Does, ask_effect, answer_effect, challenge_effect}
 use Rattle.hdl_laws.specs.Runs.{is_busy}
 use Rattle.hdl_laws.specs.Isolation.{Agrees, IsClosed}
 use Rattle.hdl_laws.proofs.Agreement.{decides_agrees}

@@ -17,7 +17,10 @@ use Rattle.hdl_ops.specs.Laws.{told}
 use Rattle.hdl_ops.proofs.Codes.{is_answer_code, code_fits, decides_code, tells_by_code_lem}
 use Rattle.hdl_events.specs.declared.Outcome.TheVariants.{Reply, Busy, Silent, CloseAfter}
 use Rattle.hdl_laws.specs.Lanes.{LaneState}
-use Rattle.hdl_laws.specs.Worlds.{World, Turn, hosts, algorithms, algorithms_for, owner, lane_of, Letter, Effect, Task, Ignore, Break, Malformed, Unknown, Late, Ask, Redeem, Does, IsTask, IsAnswerFor, IsStep, answer_octets, challenge_octets, answer_effect, challenge_effect}
+use Rattle.hdl_laws.specs.Worlds.{World, hosts, algorithms, algorithms_for, owner, lane_of}
+use Rattle.hdl_laws.specs.Tasks.{Letter, Task, Ignore, Break, Malformed, Unknown, Late, Ask, Redeem, IsTask}
+use Rattle.hdl_laws.specs.Effects.{Effect, Does, answer_octets, challenge_octets, answer_effect, challenge_effect}
+use Rattle.hdl_laws.specs.Steps.{Turn, IsAnswerFor, IsStep}
 use Rattle.hdl_laws.specs.Told.{IsReplyBy, asked_octets, Tells, StepsTell}
 use Rattle.hdl_laws.proofs.Codes.{reply_code, challenge_code}
 

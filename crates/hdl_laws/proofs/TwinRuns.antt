@@ -6,7 +6,10 @@ use Rattle.hdl_msg.specs.Reply.{short_reply}
 use Rattle.hdl_ops.proofs.Codes.{not_busy}
 use Rattle.hdl_events.specs.declared.Event.{Event}
 use Rattle.hdl_events.specs.declared.Outcome.TheVariants.{Busy}
-use Rattle.hdl_laws.specs.Worlds.{World, Received, arrived, Turn, hosts, algorithms, owner, Effect, Does, lane_of, IsBusy, IsStep, moment_of, after_effect}
+use Rattle.hdl_laws.specs.Worlds.{World, hosts, algorithms, owner, lane_of}
+use Rattle.hdl_laws.specs.Tasks.{Received}
+use Rattle.hdl_laws.specs.Effects.{Effect, Does}
+use Rattle.hdl_laws.specs.Steps.{arrived, Turn, IsBusy, IsStep, moment_of, after_effect}
 use Rattle.hdl_laws.specs.Runs.{IsRun, last, events, outcomes}
 use Rattle.hdl_laws.specs.Isolation.{AreTwins, AreTwinWorlds, code_of, AllowsTurn, Allows}
 use Rattle.hdl_laws.specs.Laws.{TwinsReplyAlike}

@@ -26,7 +26,8 @@ use Rattle.hdl_ops.specs.Replies.{fits}
 use Rattle.hdl_ops.specs.Decisions.{Level, Anyone, Proven, Decision, DecidesBy, decision, success, failure, show, carried, carried_by, may_read, change_of}
 use Rattle.hdl_ops.specs.Tables.{write_of, stamped_write, apply_if}
 use Rattle.hdl_ops.proofs.Codes.{decides_code}
-use Rattle.hdl_laws.specs.Worlds.{Effect, Task, Ignore, Break, Malformed, Unknown, Late, Ask, Redeem, Does, ask_effect, answer_effect}
+use Rattle.hdl_laws.specs.Tasks.{Task, Ignore, Break, Malformed, Unknown, Late, Ask, Redeem}
+use Rattle.hdl_laws.specs.Effects.{Effect, Does, ask_effect, answer_effect}
 use Rattle.hdl_laws.specs.Isolation.{is_held, may_be_read, without_content, readable, AreTwins, code_of, proven_request}
 use Rattle.hdl_laws.proofs.Maps.{get-retained, alike_values}
 use Rattle.hdl_laws.proofs.Codes.{answer_code, ask_code}

@@ -19,7 +19,9 @@ use Rattle.hdl_ops.specs.Requests.{resolves, handle_of}
 use Rattle.hdl_events.specs.declared.Event.{Event}
 use Rattle.hdl_events.specs.declared.Outcome.{Outcome}
 use Rattle.hdl_events.specs.declared.Outcome.TheVariants.{Reply, Busy, Silent, CloseAfter}
-use Rattle.hdl_laws.specs.Worlds.{World, Site, Turn, owner, hosts, lane_of, Task, IsTask, Ignore, Break, Malformed, Unknown, Late, Ask, Redeem}
+use Rattle.hdl_laws.specs.Worlds.{World, Site, owner, hosts, lane_of}
+use Rattle.hdl_laws.specs.Tasks.{Task, IsTask, Ignore, Break, Malformed, Unknown, Late, Ask, Redeem}
+use Rattle.hdl_laws.specs.Steps.{Turn}
 use Rattle.hdl_laws.specs.Runs.{is_busy}
 
 -- the owner of a lane is u

@@ -4,8 +4,9 @@ use Rattle.hdl_value.specs.Place.{Place}
 use Rattle.hdl_tenants.specs.Register.{root}
 use Rattle.hdl_events.specs.declared.Event.{Event}
 use Rattle.hdl_events.specs.declared.Outcome.{Outcome}
-use Rattle.hdl_laws.specs.Worlds.{World, Site, Turn, hosts}
-use Rattle.hdl_laws.specs.Runs.{IsRun, Run, Lonely, last, events, outcomes}
+use Rattle.hdl_laws.specs.Worlds.{World, Site, hosts}
+use Rattle.hdl_laws.specs.Steps.{Turn}
+use Rattle.hdl_laws.specs.Runs.{IsRun, Run, RunWithoutBusy, last, events, outcomes}
 use Rattle.hdl_laws.specs.Isolation.{IsClosed, IsCover, IsQuiet, is_mine, restrict, turns_of, AreTwinWorlds, Allows, code_of}
 
 -- two runs in a row are one run
@@ -32,7 +33,7 @@ KeepsCovers = (w : World) (ts : List Turn) (u : ℕ) (C : List Place) → IsRun 
 abbrev pub Isolates : World → List Turn → Type 0
 Isolates w ts =
     (u : ℕ) (C : List Place) → IsCover u C w ts → IsQuiet w.site u C w ts
-    → Lonely (restrict w u C) (events (turns_of w.site u ts)) (outcomes (turns_of w.site u ts)) (restrict (last w ts) u C)
+    → RunWithoutBusy (restrict w u C) (events (turns_of w.site u ts)) (outcomes (turns_of w.site u ts)) (restrict (last w ts) u C)
 
 -- the events with these outcomes isolate each publisher, whatever run they are
 abbrev pub Isolated : World → List Event → List Outcome → Type 0
@@ -43,8 +44,8 @@ abbrev pub RestrictsRuns : Type 0
 RestrictsRuns = (w : World) (ts : List Turn) → HostsNoRoot w.site → IsRun w ts → Isolates w ts
 
 -- a run in which no event is answered busy is determined by its events
-abbrev pub LonelyIsOne : Type 0
-LonelyIsOne = (w new new' : World) (es : List Event) (os os' : List Outcome) → Lonely w es os new → Lonely w es os' new' → (os ≡ os') × (new ≡ new')
+abbrev pub RunWithoutBusyIsOne : Type 0
+RunWithoutBusyIsOne = (w new new' : World) (es : List Event) (os os' : List Outcome) → RunWithoutBusy w es os new → RunWithoutBusy w es os' new' → (os ≡ os') × (new ≡ new')
 
 -- two quiet runs that agree in u's events and in the restricted first worlds give u equal outcomes, and end in equal restricted
 -- worlds

@@ -1,5 +1,8 @@
 pub mod Lanes
 pub mod Worlds
+pub mod Tasks
+pub mod Effects
+pub mod Steps
 pub mod Runs
 pub mod Told
 pub mod Isolation

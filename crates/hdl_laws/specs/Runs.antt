@@ -3,7 +3,8 @@ use Rattle.std.specs.Prelude.{◌≡◌, List, [], ◌∷◌, Bool, true, false,
 use Rattle.hdl_events.specs.declared.Event.{Event}
 use Rattle.hdl_events.specs.declared.Outcome.{Outcome}
 use Rattle.hdl_events.specs.declared.Outcome.TheVariants.{Busy}
-use Rattle.hdl_laws.specs.Worlds.{World, Turn, IsStep, IsAnswer}
+use Rattle.hdl_laws.specs.Worlds.{World}
+use Rattle.hdl_laws.specs.Steps.{Turn, IsStep, IsAnswer}
 
 -- each turn is a step from the world that the one before it left
 abbrev pub IsRun : World → List Turn → Type 0
@@ -36,10 +37,10 @@ is_busy (Busy octets) = true
 is_busy _ = false
 
 -- each turn is the answer in the world that the one before it left
-abbrev pub IsLonelyRun : World → List Turn → Type 0
-IsLonelyRun w [] = ⊤
-IsLonelyRun w (t ∷ ts) = IsAnswer w t × IsLonelyRun t.after ts
+abbrev pub IsRunWithoutBusy : World → List Turn → Type 0
+IsRunWithoutBusy w [] = ⊤
+IsRunWithoutBusy w (t ∷ ts) = IsAnswer w t × IsRunWithoutBusy t.after ts
 
 -- the events have these outcomes where none is answered busy, and lead from one world to the other
-abbrev pub Lonely : World → List Event → List Outcome → World → Type 0
-Lonely w es os new = (ts : List Turn) × IsLonelyRun w ts × (events ts ≡ es) × (outcomes ts ≡ os) × (last w ts ≡ new)
+abbrev pub RunWithoutBusy : World → List Event → List Outcome → World → Type 0
+RunWithoutBusy w es os new = (ts : List Turn) × IsRunWithoutBusy w ts × (events ts ≡ es) × (outcomes ts ≡ os) × (last w ts ≡ new)

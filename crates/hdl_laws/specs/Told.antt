@@ -17,7 +17,9 @@ use Rattle.hdl_events.specs.declared.Event.{Event}
 use Rattle.hdl_events.specs.declared.Outcome.{Outcome}
 use Rattle.hdl_events.specs.declared.Outcome.TheVariants.{Reply, Busy, Silent, CloseAfter}
 use Rattle.hdl_laws.specs.Lanes.{LaneState}
-use Rattle.hdl_laws.specs.Worlds.{World, owner, algorithms_for, lane_of, Letter, Task, Ignore, Break, Malformed, Unknown, Late, Ask, Redeem, IsTask, answer_octets, challenge_octets}
+use Rattle.hdl_laws.specs.Worlds.{World, owner, algorithms_for, lane_of}
+use Rattle.hdl_laws.specs.Tasks.{Letter, Task, Ignore, Break, Malformed, Unknown, Late, Ask, Redeem, IsTask}
+use Rattle.hdl_laws.specs.Effects.{answer_octets, challenge_octets}
 use Rattle.hdl_laws.specs.Runs.{Steps}
 
 -- the reply with this code to a request that came as it is

@@ -1,6 +1,6 @@
 //! Laws over whole runs, each the contract of a function without a body.
 
-ghost use Rattle.hdl_laws.specs.Laws.{CalmIsQuiet, HasCover, JoinsRuns, KeepsCovers, LonelyIsOne, RestrictsRuns, TwinsReplyAlike, TwoRunsAgree};
+ghost use Rattle.hdl_laws.specs.Laws.{CalmIsQuiet, HasCover, JoinsRuns, KeepsCovers, RunWithoutBusyIsOne, RestrictsRuns, TwinsReplyAlike, TwoRunsAgree};
 ghost use Rattle.hdl_laws.specs.Told.{StepsTell, StepsAnnounce};
 
 /// Two runs in a row are one run of the joined events.
@@ -17,7 +17,7 @@ pub fn cover_kept()
 /// run is one (`one`), so two quiet runs that agree for the publisher give it equal outcomes (`two_runs`).
 pub fn restricted()
     ensures alone { RestrictsRuns }
-    ensures one { LonelyIsOne }
+    ensures one { RunWithoutBusyIsOne }
     ensures two_runs { TwoRunsAgree }
 {}
 

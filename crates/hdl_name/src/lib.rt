@@ -1,7 +1,6 @@
 //! Names of handles, after RFC 3651, section 3: a naming authority, the first `/`, and a local name.
 //!
-//! This crate is the grammar of names and nothing else. It stands on no other crate of the service, and every crate
-//! above speaks of a handle through it.
+//! This crate is the grammar of names and nothing else. Every crate above speaks of a handle through it.
 //!
 //! What it promises: [`Name::read`] accepts exactly the octets that the definition `IsName` spells and gives them back as
 //! they were sent, or tells the first fault of a fixed order; the parts of a name and its canonical form are functions of

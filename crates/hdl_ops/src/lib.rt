@@ -10,7 +10,7 @@
 //! that its change can be written; [`apply`] writes it, at the moment of its event; [`render`] and [`render_challenge`] spell
 //! the replies. The laws in [`laws`] say that a request is decided in one way, and what a decision tells.
 //!
-//! It stands on `hdl_msg`, `hdl_rows`, `hdl_reach`, `hdl_cache`, `hdl_tenants` and `hdl_auth`, and knows nothing of lanes, events or time.
+//! It knows nothing of lanes, events or time.
 #![tactic(auto)]
 
 mod admit;

@@ -16,7 +16,7 @@ pub struct Response<'a> {
     pub handle: &'a [u8],
     /// The key's index.
     pub index: u32,
-    /// The response string: octet 2 and 20 octets.
+    /// The response string: the octet of a hash function and its digest, which is 2 and 20 octets by SHA-1, 3 and 32 by SHA-256.
     pub answer: &'a [u8],
 }
 

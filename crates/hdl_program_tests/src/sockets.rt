@@ -1,7 +1,7 @@
 //! The server with two real clients. Frames and replies are those of the worked examples (examples/absent.script).
 
 use crate::assertion::same;
-use hdl_host::host;
+use hdl_host::{Limits, host};
 use hdl_rows::PlainRows;
 use std::alloc::Global;
 use std::io::{self, Read, Write};
@@ -221,11 +221,15 @@ fn sockets(rt: HostRuntime) -> Result<(), Fail> {
         told,
     };
     let mut faults = Vec::new(alloc);
+    let limits = Limits {
+        turns: 10_000,
+        ..Limits::DEFAULT
+    };
     let status = host(
         &rt,
         PlainRows::new(rt.alloc()),
         TENANTS,
-        10_000,
+        limits,
         &mut output,
         &mut faults,
     );

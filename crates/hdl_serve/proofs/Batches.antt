@@ -7,7 +7,8 @@ use Rattle.hdl_lanes.specs.Lane.{put_into, taken_from}
 use Rattle.hdl_events.specs.declared.What.{What}
 use Rattle.hdl_events.specs.declared.Event.{Event}
 use Rattle.hdl_events.specs.declared.Outcome.{Outcome}
-use Rattle.hdl_laws.specs.Worlds.{World, Turn}
+use Rattle.hdl_laws.specs.Worlds.{World}
+use Rattle.hdl_laws.specs.Steps.{Turn}
 use Rattle.hdl_laws.specs.Runs.{Run}
 use Rattle.hdl_laws.specs.Laws.{JoinsRuns, HostsNoRoot, RestrictsRuns, TwinsReplyAlike}
 use Rattle.hdl_workers.specs.declared.item.Item.{Item}

@@ -11,7 +11,7 @@
 //! numbered by publisher, that nobody hosts `0.na` and that a text has one meaning are the contracts of functions without a
 //! body.
 //!
-//! It stands on `hdl_name` and `hdl_value`. [`decimal`] reads the numbers of scripts too.
+//! [`decimal`] reads the numbers of scripts too.
 //!
 //! # Decisions
 //!

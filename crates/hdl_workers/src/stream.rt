@@ -25,6 +25,9 @@ use hdl_frame::{Cutter, FrameFault};
 use hdl_lanes::{Inlet, Outlet};
 use std::alloc::Global;
 
+/// How many octets are asked of a connection at a time.
+const READ_AT_ONCE: usize = 8192;
+
 /// What stands next in a stream.
 #[derive(Drop)]
 enum Found {
@@ -385,7 +388,7 @@ fn serve_door<D: Door, C: Clock, N: Nonces>(
     ensures whole { IsTrue D.tells → result ≡ Device → History (D.ended door.new) (put_by line.new) (taken_by line.new) }
     ensures serves { IsTrue D.tells → Serves (D.ended door.new) (D.current door.new) (put_by line.new) (taken_by line.new) }
 {
-    let mut buffer = [0u8; 8192];
+    let mut buffer = [0u8; READ_AT_ONCE];
     while spend(turns) {
         match door.accept() {
             Err(_) => return Why::Device,

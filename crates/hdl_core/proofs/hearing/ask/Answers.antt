@@ -5,7 +5,7 @@ use Rattle.hdl_ops.specs.Decisions.{Decides, Anyone}
 use Rattle.hdl_ops.specs.Tables.{apply_if}
 use Rattle.hdl_ops.specs.Admission.{request_algorithm}
 use Rattle.hdl_ops.specs.Views.{algorithms_by, decision_of, hosted_by}
-use Rattle.hdl_laws.specs.Worlds.{answer_octets}
+use Rattle.hdl_laws.specs.Effects.{answer_octets}
 use Rattle.hdl_core.specs.Serving.{challenge_of_request, IsAsked}
 use Rattle.hdl_core.specs.declared.hearing.Heard.{Heard}
 use Rattle.hdl_core.proofs.Heard.{on_ok}

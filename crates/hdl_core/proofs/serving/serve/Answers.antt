@@ -2,7 +2,7 @@ use Rattle.std.proofs.Common.{ap, sym, ◌∙◌, subst}
 use Rattle.hdl_msg.specs.Reply.{short_reply}
 use Rattle.hdl_msg.specs.ReplyView.{IsReplyFrame}
 use Rattle.hdl_msg.proofs.ReplyReadings.{short_reply_read}
-use Rattle.hdl_laws.specs.Worlds.{Received}
+use Rattle.hdl_laws.specs.Tasks.{Received}
 use Rattle.hdl_core.proofs.Received.{opened, closed, unbroken, broken, unheard, received}
 use Rattle.hdl_ops.specs.Views.{algorithms_by, hosted_by}
 use Rattle.hdl_core.proofs.serving.serve.Goals as goal

@@ -1,4 +1,4 @@
-"""The servers that the benchmarks start, and the load that asks them: `handled serve`, redis and NSD, each on a port of its own.
+"""The servers that the benchmarks ask, and the load that asks them: `handled serve`, redis and NSD, each on a port of its own.
 
 Every server holds the same: a number of handles, `10/000000` and on, each with one value of its own text. bench/load.c puts the number of the
 handle that it asks for into each request and expects it in the reply, twice where the value's text comes back.
@@ -12,12 +12,12 @@ import sys
 import time
 
 HERE = os.path.dirname(os.path.abspath(__file__))
-PROGRAM = os.path.join(HERE, "..", "crates", "handled", "out", "handled")
+sys.path.insert(0, os.path.join(HERE, "..", "tools"))
+import servers
+import wire
+
+PROGRAM = servers.HANDLED
 TICKS = os.sysconf("SC_CLK_TCK")
-
-
-def string(octets):
-    return struct.pack(">I", len(octets)) + octets
 
 
 def handle(number):
@@ -29,36 +29,26 @@ def text(number):
 
 
 def value(number):
-    fields = struct.pack(">I", 1) + string(b"URL") + string(text(number)) + bytes(5) + bytes([6])
-    return fields + struct.pack(">QI", 0, 0)
-
-
-def message(code, body):
-    return struct.pack(">IIIHBBII", 1, code, 0, 0, 0, 0, 0, len(body)) + body + string(b"")
-
-
-def frame(whole):
-    return struct.pack(">BBHIIII", 2, 1, 0, 0, 1, 0, len(whole)) + whole
+    return wire.value(1, b"URL", text(number), wire.ADMIN_WRITE | wire.PUBLIC_READ)
 
 
 def request(number):
-    return frame(message(0, string(handle(number)) + struct.pack(">II", 0, 0)))
+    return wire.frame(wire.resolution(handle(number)), 0, 1)
 
 
 def reply(number):
-    return frame(message(1, string(handle(number)) + struct.pack(">I", 1) + value(number)))
+    return wire.frame(wire.values_reply(handle(number), value(number)), 0, 1)
 
 
 def tenants(lanes, port, values):
     lines = ["publisher acme %d %d" % (lanes, port), "prefix 10 acme"]
-    lines += ["value %s %s" % (handle(k).decode(), value(k).hex()) for k in range(values)]
-    return ("\n".join(lines) + "\n").encode()
+    return wire.text(lines + [wire.value_line(handle(k), value(k)) for k in range(values)])
 
 
-def free_port():
-    with socket.socket() as one:
-        one.bind(("127.0.0.1", 0))
-        return one.getsockname()[1]
+def needs_program(name, program=PROGRAM):
+    """Ends with a word where the proved program isn't there."""
+    if not os.path.exists(program):
+        sys.exit("bench/%s: build the program first: ./run < examples/absent.script" % name)
 
 
 def stat(folder):
@@ -110,15 +100,10 @@ class Server:
 
 def start_handled(program, lanes, values):
     """`handled serve`; a program `PATH@NAME=VALUE` has that in its environment, as `LD_PRELOAD`."""
-    port = free_port()
     words = program.split("@")
     environment = dict(os.environ, **dict(word.split("=", 1) for word in words[1:]))
     begin = time.monotonic()
-    process = subprocess.Popen([words[0], "serve"], stdin=subprocess.PIPE, stdout=subprocess.PIPE, stderr=subprocess.PIPE, env=environment)
-    process.stdin.write(tenants(lanes, port, values))
-    process.stdin.close()
-    if not process.stdout.readline():
-        sys.exit("bench: " + process.stderr.read().decode().strip())
+    process, (port,) = servers.serve(lambda port: tenants(lanes, port, values), 1, words[0], env=environment)
     return Server(process, port, request(0), reply(0), time.monotonic() - begin)
 
 
@@ -127,7 +112,7 @@ def bulk(octets):
 
 
 def start_redis(folder, values):
-    port = free_port()
+    (port,) = servers.free_ports(1)
     words = ["redis-server", "--port", str(port), "--bind", "127.0.0.1", "--save", "", "--appendonly", "no", "--dir", folder]
     process = subprocess.Popen(words, stdout=subprocess.DEVNULL, stderr=subprocess.DEVNULL)
     time.sleep(0.5)
@@ -142,7 +127,7 @@ def start_redis(folder, values):
 
 
 def start_nsd(folder, values):
-    port = free_port()
+    (port,) = servers.free_ports(1)
     with open(os.path.join(folder, "zone"), "w") as zone:
         zone.write("$ORIGIN a.\n$TTL 86400\n@ IN SOA n.a. m.a. 1 3600 600 86400 60\n@ IN NS n.a.\nn IN A 127.0.0.1\n")
         zone.writelines("h%06d IN TXT \"%s\"\n" % (k, text(k).decode()) for k in range(values))

@@ -1,0 +1,86 @@
+//! The machine's streams as doors. They tell nothing.
+
+use crate::sockets::nothing_came;
+use crate::watch::Watch;
+use hdl_serve::{Door, DoorFault};
+use std::net::TcpStream;
+
+/// A listener that several workers share, and the connection of this one, which is watched. `accept` waits as long as the listener lets
+/// it, so that a worker without a connection costs little.
+#[derive(Drop)]
+pub struct SocketDoor<R> {
+    watch: Watch<R>,
+    stream: Option<TcpStream>,
+    faults: u64,
+}
+
+impl<R> SocketDoor<R> {
+    pub fn new(watch: Watch<R>) -> SocketDoor<R> {
+        SocketDoor {
+            watch,
+            stream: None,
+            faults: 0,
+        }
+    }
+}
+
+impl<R: std::rt::Clock> Door for SocketDoor<R> {
+    ghost use Rattle.std.specs.Prelude.{false, true, []};
+    ghost use Rattle.hdl_workers.specs.Door.{fresh};
+
+    ghost tells = { false };
+
+    ghost ended = { λ _. [] };
+
+    ghost current = { λ _. fresh };
+
+    ghost is_open = { λ _. true };
+
+    ghost fault_count = { λ d. d.faults };
+
+    fn accept(&mut self) -> Result<bool, DoorFault> {
+        match self.watch.listener().accept() {
+            Ok((stream, _)) => {
+                let _ = stream.set_nodelay(true);
+                self.watch.begin(&stream);
+                self.stream = Some(stream);
+                Ok(true)
+            }
+            Err(e) if nothing_came(e.kind()) => Ok(false),
+            Err(_) => {
+                self.watch.stop();
+                self.faults = self.faults.saturating_add(1);
+                Err(DoorFault)
+            }
+        }
+    }
+
+    fn read(&mut self, buffer: &mut [u8]) -> Result<usize, DoorFault> {
+        if let Some(stream) = &mut self.stream {
+            if let Ok(count) = self.watch.read(stream, buffer) {
+                return Ok(count.min(buffer.len()));
+            }
+        }
+        self.faults = self.faults.saturating_add(1);
+        Err(DoorFault)
+    }
+
+    fn write(&mut self, octets: &[u8]) -> Result<usize, DoorFault> {
+        if let Some(stream) = &mut self.stream {
+            if let Ok(count) = self.watch.write(stream, octets) {
+                return Ok(count.min(octets.len()));
+            }
+        }
+        self.faults = self.faults.saturating_add(1);
+        Err(DoorFault)
+    }
+
+    fn leave(&mut self) {
+        self.stream = None;
+        self.watch.end();
+    }
+
+    fn faults(&self) -> u64 {
+        self.faults
+    }
+}

@@ -1,0 +1,121 @@
+//! The time limits of a connection.
+
+use crate::progress::Progress;
+use crate::silence::Seat;
+use crate::sockets::nothing_came;
+use std::io::{self, ErrorKind, Read, Write};
+use std::net::{TcpListener, TcpStream};
+use std::time::Duration;
+
+/// For how many seconds one call waits for octets, or for room, behind which the limits are looked at.
+const TICK: u64 = 1;
+
+/// For how many milliseconds the rest of a frame is waited for.
+const FRAME: u64 = 10_000;
+
+/// For how many ticks a connection may take nothing of an answer.
+const ANSWER: u64 = 10;
+
+/// Watches the connection of one lane.
+#[derive(Drop)]
+pub struct Watch<R> {
+    rt: R,
+    seat: Seat,
+    progress: Progress,
+    /// For how many milliseconds the rest of the frame under way was waited for. What an answer before it takes doesn't count.
+    waited: u64,
+}
+
+impl<R: std::rt::Clock> Watch<R> {
+    /// Of a lane without a connection.
+    pub fn new(rt: R, seat: Seat) -> Watch<R> {
+        Watch {
+            rt,
+            seat,
+            progress: Progress::new(),
+            waited: 0,
+        }
+    }
+
+    /// The listener of the lane.
+    pub fn listener(&self) -> &TcpListener {
+        &self.seat.listener
+    }
+
+    /// A connection begins.
+    pub fn begin(&mut self, stream: &TcpStream) {
+        // a connection has its listener's time to receive
+        let _ = stream.set_read_timeout(Some(Duration::from_secs(TICK)));
+        let _ = stream.set_write_timeout(Some(Duration::from_secs(TICK)));
+        self.progress = Progress::new();
+        self.waited = 0;
+        self.seat.set_busy();
+    }
+
+    /// The connection has ended.
+    pub fn end(&mut self) {
+        self.seat.set_free();
+    }
+
+    /// The lane takes no more connections.
+    pub fn stop(&mut self) {
+        self.seat.set_busy();
+    }
+
+    /// Octets came after so many milliseconds. Whether the frame that goes on with them isn't late.
+    fn hears(&mut self, octets: &[u8], waited: u64) -> bool {
+        let was_begun = self.progress.is_begun();
+        let is_whole = self.progress.follow(octets);
+        self.waited = if was_begun && !is_whole {
+            self.waited.saturating_add(waited)
+        } else {
+            0
+        };
+        self.waited <= FRAME
+    }
+
+    /// Nothing came since this moment. Whether the connection is to be closed.
+    fn gives_up(&mut self, since: u64) -> bool {
+        let now = self.seat.moment(&self.rt);
+        let waited = self.waited.saturating_add(now.saturating_sub(since));
+        (self.progress.is_begun() && waited > FRAME) || self.seat.makes_room(now)
+    }
+
+    /// Reads some octets, and answers how many. 0: the peer closed the connection, or is too slow, or has to make room for another.
+    pub fn read(&mut self, stream: &mut TcpStream, buffer: &mut [u8]) -> io::Result<usize> {
+        let since = self.seat.moment(&self.rt);
+        self.seat.set_silent(since);
+        for _ in 0..u64::MAX {
+            match stream.read(buffer) {
+                Ok(count) => {
+                    let count = count.min(buffer.len());
+                    let waited = self.seat.moment(&self.rt).saturating_sub(since);
+                    if !self.hears(&buffer[..count], waited) {
+                        break;
+                    }
+                    self.seat.set_busy();
+                    return Ok(count);
+                }
+                Err(e) if nothing_came(e.kind()) => {
+                    if self.gives_up(since) {
+                        break;
+                    }
+                }
+                Err(e) => return Err(e),
+            }
+        }
+        Ok(0)
+    }
+
+    /// Writes a beginning of the octets, and answers how many. A peer that takes none for too long is an error. A call that waits comes back
+    /// with what it took before, and only the next one finds out whether there is room again; so each waits a tick alone.
+    pub fn write(&mut self, stream: &mut TcpStream, octets: &[u8]) -> io::Result<usize> {
+        for _ in 0..ANSWER {
+            match stream.write(octets) {
+                Err(e) if nothing_came(e.kind()) => {}
+                answer => return answer,
+            }
+        }
+        Err(io::Error::from(ErrorKind::TimedOut))
+    }
+}

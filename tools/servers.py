@@ -1,0 +1,79 @@
+"""servers.py: starts `handled serve` and other programs for those of tools/ and bench/, at ports that are free, and ends them."""
+
+import contextlib
+import os
+import socket
+import subprocess
+import sys
+
+import repository
+
+HANDLED = os.environ.get("HANDLED", repository.program("handled"))
+# How often a server is started anew, since another process may take a port that was free.
+TRIES = 5
+
+
+def free_ports(count):
+    """Ports that are free, as far as is known."""
+    listeners = [socket.create_server(("127.0.0.1", 0)) for _ in range(count)]
+    ports = [listener.getsockname()[1] for listener in listeners]
+    for listener in listeners:
+        listener.close()
+    return ports
+
+
+def start(words, given, lines, **how):
+    """A program with its standard input, once it has said so many lines; None where it ends before."""
+    process = subprocess.Popen(words, stdin=subprocess.PIPE, stdout=subprocess.PIPE, **how)
+    # it may end before it reads
+    with contextlib.suppress(BrokenPipeError):
+        process.stdin.write(given)
+        process.stdin.close()
+    if all([process.stdout.readline() for _ in range(lines)]):
+        return process
+    process.wait()
+    return None
+
+
+def end(process):
+    process.terminate()
+    process.wait()
+    process.stdout.close()
+
+
+def serve(tenants, publishers, program=HANDLED, options=(), **how):
+    """`handled serve` with these options and the text that `tenants` makes of so many ports, once it listens: the process and the ports."""
+    for _ in range(TRIES):
+        ports = free_ports(publishers)
+        process = start([program, "serve", *options], tenants(*ports), publishers, **how)
+        if process:
+            return process, ports
+    sys.exit("%s ended: see what it said above" % program)
+
+
+@contextlib.contextmanager
+def serving(tenants, publishers, program=HANDLED, options=()):
+    """The ports of such a server, which ends with the block."""
+    process, ports = serve(tenants, publishers, program, options)
+    try:
+        yield ports
+    finally:
+        end(process)
+
+
+@contextlib.contextmanager
+def running(words, lines):
+    """A program that is given nothing, once it has said so many lines."""
+    process = start(words, b"", lines)
+    if process is None:
+        sys.exit("%s ended" % " ".join(words))
+    try:
+        yield process
+    finally:
+        end(process)
+
+
+def example(first, second):
+    """The text of examples/serve.tenants with these ports in place of its own."""
+    text = repository.text_of("examples", "serve.tenants")
+    return text.replace(" 2641\n", " %d\n" % first).replace(" 2642\n", " %d\n" % second).encode()

@@ -1,0 +1,131 @@
+"""strangers.py: connects to the proved program crates/handled/out/handled as strangers do who hold a lane: one that says nothing, one that gives its frame
+slower than a frame may come, and one that asks for much and reads nothing. Each must be closed, at its time and not before, and the
+client that waits behind it must get its whole answer.
+
+The cases run side by side and take some 12 seconds, of which most is waiting. Its last line is 'N passed, M failed', a case counting one."""
+
+import contextlib
+import socket
+import sys
+import threading
+import time
+
+# nothing is left beside the tools
+sys.dont_write_bytecode = True
+import servers
+import wire
+
+# Seconds: of silence, for a frame or to take some of an answer, and how much later it may be seen on a machine that others use too.
+IDLE, LIMIT, LATE = 2, 10, 8
+OFTEN = 800
+LARGE = wire.value(1, b"TEXT", b"x" * 32000, wire.PUBLIC_READ)
+
+
+def tenants(*ports):
+    """A publisher with two lanes for connections, and two with one, who share a prefix."""
+    names = ("silent", "slow", "greedy")
+    lines = ["publisher %s %d %d" % row for row in zip(names, (3, 2, 2), ports)]
+    return wire.text(lines + ["prefix 10 %s" % name for name in names] + [wire.value_line(b"10/large", LARGE)])
+
+
+def asked(request, handle=b"10/a"):
+    return wire.frame(wire.resolution(handle), request=request)
+
+
+def absent(request):
+    return wire.frame(wire.message(wire.RESOLVE, wire.number(0), wire.ABSENT), request=request)
+
+
+def client(port):
+    stream = socket.create_connection(("127.0.0.1", port))
+    stream.settimeout(LIMIT + LATE)
+    return stream
+
+
+def received(stream, count):
+    """So many octets, or those up to the end."""
+    octets = b""
+    while len(octets) < count:
+        more = stream.recv(count - len(octets))
+        if not more:
+            break
+        octets += more
+    return octets
+
+
+def is_answered(stream, request=1):
+    stream.sendall(asked(request))
+    return received(stream, len(absent(request))) == absent(request)
+
+
+def count_to_end(stream):
+    """How many octets come up to the end, by whichever of the two ways it comes."""
+    count = 0
+    with contextlib.suppress(ConnectionError):
+        while octets := stream.recv(1 << 20):
+            count += len(octets)
+    return count
+
+
+def silent(port):
+    """Of two silent clients none is closed while nobody waits; behind a third the one is that is silent longer, and the other goes on."""
+    first, second = client(port), client(port)
+    good = is_answered(first) and is_answered(second)
+    time.sleep(IDLE + 1.5)
+    good = good and is_answered(first, 2)
+    time.sleep(IDLE + 1.5)
+    good = good and is_answered(client(port))
+    return good and count_to_end(second) == 0 and is_answered(first, 3)
+
+
+def slow(port):
+    """An octet comes each half second; the connection is closed ten seconds behind the first, unanswered, and the next client is served."""
+    stream, began = client(port), time.monotonic()
+    for octet in asked(1)[:LIMIT * 2 - 2]:
+        stream.sendall(bytes([octet]))
+        time.sleep(0.5)
+    went_on = time.monotonic() - began < LIMIT - 0.5
+    stream.sendall(b"\0")
+    good = went_on and count_to_end(stream) == 0 and LIMIT <= time.monotonic() - began < LIMIT + LATE
+    return good and is_answered(client(port))
+
+
+def send_ahead(stream, octets):
+    """Sends octets as far as they go within a second."""
+    began = time.monotonic()
+    stream.setblocking(False)
+    while octets and time.monotonic() - began < 1:
+        with contextlib.suppress(BlockingIOError):
+            octets = octets[stream.send(octets):]
+    stream.settimeout(LIMIT + LATE)
+
+
+def greedy(port):
+    """Answers of 32,000 octets are asked for and none is read; the next client is served ten seconds later, and no more comes than was on the way."""
+    stream, began = client(port), time.monotonic()
+    send_ahead(stream, b"".join(asked(request, b"10/large") for request in range(1, OFTEN + 1)))
+    good = is_answered(client(port)) and LIMIT <= time.monotonic() - began < LIMIT + LATE
+    return good and count_to_end(stream) < OFTEN * len(LARGE)
+
+
+def tried(case, port, passed):
+    if case(port):
+        passed.append(case)
+
+
+def main():
+    cases, passed = (silent, slow, greedy), []
+    with servers.serving(tenants, len(cases), options=("--idle", str(IDLE))) as ports:
+        threads = [threading.Thread(target=tried, args=(case, port, passed), daemon=True) for case, port in zip(cases, ports)]
+        for thread in threads:
+            thread.start()
+        for thread in threads:
+            thread.join(60)
+    for case in cases:
+        if case not in passed:
+            print("%s: it isn't so that %s" % (case.__name__, case.__doc__))
+    print("%d passed, %d failed" % (len(passed), len(cases) - len(passed)))
+    return 0 if len(passed) == len(cases) else 1
+
+
+sys.exit(main())
