@@ -11,6 +11,8 @@ mod assertion;
 mod cache;
 pub mod made;
 #[cfg(test)]
+mod masks;
+#[cfg(test)]
 mod ops;
 #[cfg(test)]
 mod pool;

@@ -5,7 +5,7 @@ ghost use Rattle.std.specs.Prelude.{◌≡◌, IfOk};
 use crate::assertion::same;
 use crate::made::value;
 use hdl_name::Name;
-use hdl_reach::mask;
+use hdl_reach::Search;
 use hdl_rows::{Fuse, PlainRows, Refused, Rows};
 use hdl_value::{AdminMask, Reference, Value, put_string, put_u32};
 use std::alloc::{AllocError, Global};
@@ -34,7 +34,7 @@ fn reference(alloc: Global, handle: &[u8], index: u32) -> Result<Reference, Fail
 }
 
 /// Puts a value where none stands, of a handle that is made where it is absent.
-fn put(
+pub(crate) fn put(
     rt: &impl Abort,
     alloc: Global,
     rows: &mut PlainRows,
@@ -63,6 +63,21 @@ fn table(rt: &impl Abort, alloc: Global, values: &[Row]) -> Result<PlainRows, Fa
         )?;
     }
     Ok(rows)
+}
+
+/// The mask of one key, by a search of its own to the end.
+fn mask<R: Rows>(
+    alloc: Global,
+    rows: &mut R,
+    name: &Name,
+    key: &Reference,
+) -> Result<Option<AdminMask>, Refused> {
+    let search = Search::begin(alloc, rows, name)?;
+    let search = search.go_on(alloc, rows, usize::MAX)?;
+    match search.mask(alloc, key) {
+        Ok(mask) => Ok(mask),
+        Err(_) => Err(Refused),
+    }
 }
 
 /// Sees that these are the masks of the references for a handle.
@@ -281,7 +296,7 @@ fn long_lists(rt: HostRuntime) -> Result<(), Fail> {
 fn behind_a_fuse(rt: HostRuntime) -> Result<(), Fail> {
     let name = Name::read(rt.alloc(), b"10/c")?;
     let key = reference(rt.alloc(), b"20/keys", 3)?;
-    for look in 1..=3u64 {
+    for look in 1..=4u64 {
         let inner = table(&rt, rt.alloc(), &TWO_LISTS)?;
         let mut rows = Fuse::new(inner, look, look);
         same(
@@ -305,12 +320,12 @@ const SHARED_LIST: [Row; 4] = [
     (b"10/g", 1, LIST, b"\0\0\0\x01\0\0\0\x0720/keys\0\0\0\x03"),
 ];
 
-/// Of two administrators that share a list, each reference is looked up once for both, and the key never.
+/// Of two administrators that share a list, each reference is looked up once for both.
 #[test]
 fn looks_once(rt: HostRuntime) -> Result<(), Fail> {
     let name = Name::read(rt.alloc(), b"10/c")?;
     let key = reference(rt.alloc(), b"20/keys", 3)?;
-    for (look, want) in [(3, Err(Refused)), (4, Ok(Some(AdminMask(3))))] {
+    for (look, want) in [(4, Err(Refused)), (5, Ok(Some(AdminMask(3))))] {
         let mut rows = Fuse::new(table(&rt, rt.alloc(), &SHARED_LIST)?, look, look);
         let found = mask(rt.alloc(), &mut rows, &name, &key);
         same(&rt, look, found, want);

@@ -1,0 +1,101 @@
+//! Masks by searches that go on from call to call.
+
+use crate::assertion::same;
+use crate::made::value;
+use crate::reach::put;
+use hdl_cache::Masks;
+use hdl_name::Name;
+use hdl_rows::{Fuse, PlainRows, Refused, Rows};
+use hdl_value::{AdminMask, Reference, put_string, put_u32};
+use std::alloc::{AllocError, Global};
+use std::process::Abort;
+use std::test::Fail;
+
+/// The administrator of `10/c` is a list with this number of references: `20/keys` from index 1 on.
+const LISTED: u32 = 3_000;
+
+/// The handle's values, its list, and each reference of the list.
+const LOOKS: u64 = 3_002;
+
+fn list(alloc: Global) -> Result<Vec<u8>, AllocError> {
+    let mut data = Vec::new(alloc);
+    put_u32(&mut data, LISTED)?;
+    for index in 1..=LISTED {
+        put_string(&mut data, b"20/keys")?;
+        put_u32(&mut data, index)?;
+    }
+    Ok(data)
+}
+
+/// A table whose looks are answered up to this one, and refused behind it.
+fn table(rt: &impl Abort, alloc: Global, answered: u64) -> Result<Fuse<PlainRows>, Fail> {
+    let mut rows = PlainRows::new(alloc);
+    let admin = value(alloc, 100, b"HS_ADMIN", b"\x0f\xff\0\0\0\x0410/g\0\0\0\x01")?;
+    put(rt, alloc, &mut rows, b"10/c", admin)?;
+    let list = list(alloc)?;
+    let listed = value(alloc, 1, b"HS_VLIST", list.as_slice())?;
+    put(rt, alloc, &mut rows, b"10/g", listed)?;
+    Ok(Fuse::new(rows, answered.saturating_add(1), u64::MAX))
+}
+
+fn key(alloc: Global, index: u32) -> Result<Reference, Fail> {
+    Ok(Reference {
+        name: Name::read(alloc, b"20/keys")?,
+        index,
+    })
+}
+
+/// One call looks up 2,048 references and is refused, which no table counts; the next goes on from there, and each reference is
+/// looked up once.
+#[test]
+fn a_search_goes_on(rt: HostRuntime) -> Result<(), Fail> {
+    let mut masks = Masks::new(rt.alloc())?;
+    let mut rows = table(&rt, rt.alloc(), LOOKS)?;
+    let name = Name::read(rt.alloc(), b"10/c")?;
+    let last = key(rt.alloc(), LISTED)?;
+    let first = masks.mask(&mut rows, &name, &last);
+    same(&rt, "first", first, Err(Refused));
+    let second = masks.mask(&mut rows, &name, &last);
+    same(&rt, "second", second, Ok(Some(AdminMask(0x0fff))));
+    same(&rt, "refused", rows.refusals(), 0);
+    Ok(())
+}
+
+/// What a search has found serves for every key, those that somebody made up too: the table is asked nothing more.
+#[test]
+fn a_search_serves_every_key(rt: HostRuntime) -> Result<(), Fail> {
+    let mut masks = Masks::new(rt.alloc())?;
+    let mut rows = table(&rt, rt.alloc(), LOOKS)?;
+    let name = Name::read(rt.alloc(), b"10/c")?;
+    let made_up = key(rt.alloc(), LISTED + 1)?;
+    let first = masks.mask(&mut rows, &name, &made_up);
+    same(&rt, "first", first, Err(Refused));
+    let second = masks.mask(&mut rows, &name, &made_up);
+    same(&rt, "made up", second, Ok(None));
+    let one = key(rt.alloc(), 1)?;
+    let third = masks.mask(&mut rows, &name, &one);
+    same(&rt, "listed", third, Ok(Some(AdminMask(0x0fff))));
+    same(&rt, "refused", rows.refusals(), 0);
+    Ok(())
+}
+
+/// A change of a handle that the search didn't see leaves it; one of a handle in a list ends it.
+#[test]
+fn a_change_ends_what_saw_its_handle(rt: HostRuntime) -> Result<(), Fail> {
+    let mut masks = Masks::new(rt.alloc())?;
+    let mut rows = table(&rt, rt.alloc(), LOOKS)?;
+    let name = Name::read(rt.alloc(), b"10/c")?;
+    let last = key(rt.alloc(), LISTED)?;
+    let first = masks.mask(&mut rows, &name, &last);
+    same(&rt, "first", first, Err(Refused));
+    let second = masks.mask(&mut rows, &name, &last);
+    same(&rt, "second", second, Ok(Some(AdminMask(0x0fff))));
+    masks.forget(&Name::read(rt.alloc(), b"20/key")?);
+    let kept = masks.mask(&mut rows, &name, &last);
+    same(&rt, "of another handle", kept, Ok(Some(AdminMask(0x0fff))));
+    masks.forget(&Name::read(rt.alloc(), b"20/keys")?);
+    let gone = masks.mask(&mut rows, &name, &last);
+    same(&rt, "of a key's handle", gone, Err(Refused));
+    same(&rt, "refused", rows.refusals(), 1);
+    Ok(())
+}
