@@ -1,19 +1,19 @@
-//! Masks that are kept: what a key may do as an administrator of a handle, as it was found in the present table.
+//! What is known of administrators: masks as they were found in the present table, and searches that go on.
 //!
-//! [`Masks`] keeps the masks of at most 256 pairs of a handle and a key; where there are more, the least recently used go.
-//! It knows no table. `specs/Kept.antt` has the word that ties it to one: what is kept is the table's (`AreTrue`). Who asks
-//! keeps that word, by emptying it at each change of the table. What is found is then the mask by definition; that none is
-//! found says nothing, so want of memory changes no answer.
+//! [`Masks::mask`] answers what a key may do as an administrator of a handle: by the masks of at most 256 pairs of a handle and a key
+//! ([`KeptMasks`]; the least recently used go first), else by a search over the table. One call looks up so many references and no more; a
+//! search that isn't done is refused, kept by its handle, and gone on by the next call. One that is done serves for every key, those that
+//! somebody made up too. `specs/Truth.antt` has the word that ties all of it to a table: what is kept is the table's (`AreTrue`). Who asks keeps that word,
+//! by [`Masks::forget`] at each change. What is found is then the mask by definition; that nothing is kept says nothing, so want of memory changes
+//! no answer.
 //!
 //! # Decisions
 //!
-//! - **Kept masks are in no world.** `Service` has them, and its Model's invariant says that each is the mask of the table as it is
-//!   (`AreTrue`); `step`, `run` and `open` say nothing of them, and Busy and Early may leave others kept. Every accepted change forgets
-//!   all of them: a change may touch a list on which any mask stands.
-//! - **What kept masks don't give.** A key that somebody made up is a miss, and its search runs before the proof is looked at, since a mask
-//!   comes before the key; it also pushes an older pair out. A lane on which administrators write searches each time. Where an HS_ADMIN
-//!   value names the key outright nothing is gained. The hasher of `lru` has a fixed seed: with at most 256 pairs a chosen collision costs
-//!   256 comparisons.
+//! - **What is kept is in no world.** `Service` has it, and its Model's invariant says that it is the table's (`AreTrue`); `step`, `run` and `open` say
+//!   nothing of it, and Busy and Early may leave other things kept. A change forgets all masks, since it may touch a list on which any mask stands,
+//!   and the searches that saw a reference of its handle; the others stay, or steady writes would keep a long search from ever ending.
+//! - **What this doesn't give.** A key that somebody made up pushes an older mask out. The way back from a key over the lists that hold it has no
+//!   bound. The hasher of `lru` has a fixed seed: with at most 256 pairs a chosen collision costs 256 comparisons.
 //! - **`Masks::new` takes the allocator and may be refused**: it takes the room for 256 pairs; `Service::open` answers `Memory` then. `find`
 //!   and `keep` copy two names; a `find` that is refused counts as not kept, and a `keep` that is refused keeps nothing.
 #![tactic(auto)]
