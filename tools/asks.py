@@ -6,6 +6,7 @@ are asked of nobody. Its last line is 'N passed, M failed', a case counting one.
 
 import contextlib
 import os
+import re
 import socket
 import subprocess
 import sys
@@ -15,6 +16,7 @@ import time
 # nothing is left beside the tools
 sys.dont_write_bytecode = True
 import repository
+import servers
 import wire
 
 PROGRAM = os.environ.get("HDL", repository.program("hdl"))
@@ -227,6 +229,14 @@ def deleted(sent, came):
     return asked(lambda listener: served(listener, sent, came), ["delete", "10/c", "--key", "300:0.NA/10"])
 
 
+def versions():
+    """Each program's --version, and whether it is that of hdl_status."""
+    version = re.search(r'VERSION: &str = "([^"]*)"', repository.text_of("crates", "hdl_status", "src", "lib.rt"))[1]
+    for name, program in (("hdl", PROGRAM), ("handled", servers.HANDLED)):
+        said = subprocess.run([program, "--version"], capture_output=True, text=True, check=False, timeout=60)
+        yield "%s --version" % name, (said.returncode, said.stdout) == (0, "%s %s\n" % (name, version))
+
+
 def exchanges():
     """Each whole exchange: its name, and whether just these octets were sent and all went well."""
     for name, sent, wanted in WHOLE:
@@ -264,7 +274,7 @@ def cases():
 
 def main():
     passed = failed = 0
-    for name, good in exchanges():
+    for name, good in [*exchanges(), *versions()]:
         passed, failed = passed + good, failed + (not good)
         if not good:
             print("%s: other octets than those that should be" % name)

@@ -9,6 +9,7 @@
   bench/ that nothing names or imports is told too.
 - docs/DESIGN.md, "Five ways": in the first column CRATE `FILE`, `FILE` (`FUNCTION`): the crate has a file of src/ of each name, and a function of
   each name in parentheses.
+- The kit of README.md, docs/TOOLCHAIN.md and `--version` is one, and CHANGES.md has the version.
 - docs/PROTOCOL.md, "Limits": each row has the number of its constant, and each number of hdl_limits' `numbers` has a row.
 
 Prints what isn't there, and then the exit status is 1."""
@@ -135,9 +136,18 @@ def wrong_limits():
             yield "docs/PROTOCOL.md: %s is %s there, and %s in the code" % (name, rows.get(name), limits.get(name))
 
 
+def wrong_versions():
+    kits = set(re.findall(r"rattle-kit-\w+ logic \w+", text_of("README.md") + text_of("docs/TOOLCHAIN.md") + text_of("crates/hdl_status/src/lib.rt")))
+    if len(kits) != 1:
+        yield "README.md, docs/TOOLCHAIN.md and VERSION of hdl_status name %s" % " and ".join(sorted(kits))
+    version = re.search(r'VERSION: &str = "(\S+) ', text_of("crates/hdl_status/src/lib.rt"))
+    if not version or "## %s" % version[1] not in text_of("CHANGES.md"):
+        yield "CHANGES.md has no heading of the version of hdl_status"
+
+
 def main():
     os.chdir(ROOT)
-    found = [fault for faults in (missing_clauses, missing_edits, missing_places, missing_links, missing_stations, wrong_limits) for fault in faults()]
+    found = [fault for faults in (missing_clauses, missing_edits, missing_places, missing_links, missing_stations, wrong_limits, wrong_versions) for fault in faults()]
     for fault in found:
         print(fault)
     print("citations: %d faults" % len(found))

@@ -5,7 +5,7 @@ use clap::{Arg, ArgAction, ArgMatches, Command, Error, value_parser};
 use hdl_cachedrows::LIMIT_DEFAULT;
 use hdl_host::Limits;
 use hdl_replay::Fault;
-use hdl_status::status_of_words;
+use hdl_status::{VERSION, status_of_words};
 use std::alloc::{AllocError, Global};
 use std::{env, io};
 
@@ -17,7 +17,7 @@ pub enum Asked {
     /// The tenants text is on standard input, served within these limits, and of the table at most so many octets are kept where they were
     /// read last.
     Serve { limits: Limits, row_cache: usize },
-    /// Nothing: help or a fault was printed, and this is the exit status.
+    /// Nothing: help, the version or a fault was printed, and this is the exit status.
     Ended(u8),
 }
 
@@ -56,6 +56,7 @@ fn serve_command<'a>(alloc: Global) -> Result<Command<'a>, AllocError> {
 
 fn command<'a>(alloc: Global) -> Result<Command<'a>, AllocError> {
     Command::new(alloc, "handled")
+        .version(VERSION)
         .about(
             "A local handle service; with no word, as with replay, it runs the script on standard input",
         )

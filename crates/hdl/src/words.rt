@@ -3,7 +3,7 @@
 use clap::{Arg, ArgAction, ArgMatches, Command, Error};
 use hdl_commands::{Question, operation_in};
 use hdl_msg::OpCode;
-use hdl_status::status_of_words;
+use hdl_status::{VERSION, status_of_words};
 use std::alloc::{AllocError, Global};
 use std::{env, io};
 
@@ -23,7 +23,7 @@ pub enum Asked {
     Script,
     /// The tenants text of the words on standard input.
     Tenants,
-    /// Nothing: help or a fault was printed, and this is the exit status.
+    /// Nothing: help, the version or a fault was printed, and this is the exit status.
     Ended(u8),
 }
 
@@ -183,6 +183,7 @@ fn questions<'a>(command: Command<'a>, alloc: Global) -> Result<Command<'a>, All
 
 fn command<'a>(alloc: Global) -> Result<Command<'a>, AllocError> {
     let command = Command::new(alloc, "hdl")
+        .version(VERSION)
         .about("A handle service in words")
         .after_help(
             "./hdl proxy, a program of its own, leads browsers from a handle's address to its URL: see ./hdl proxy --help",

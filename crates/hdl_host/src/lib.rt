@@ -7,11 +7,11 @@
 //! ```
 //!
 //! [`host`] listens at each publisher's port on loopback by TCP and UDP, starts a worker for each lane, and serves on the thread
-//! that called it. Everything between a door and a table is proved of `hdl_workers`, `hdl_serve` and `hdl_core`, the numbers of
-//! datagram peers too; this crate hands them what the machine has: sockets, a clock, random numbers and threads. No contract can
+//! that called it. Everything between a door and a table is proved of `hdl_workers`, `hdl_serve` and `hdl_core`, and the numbers of datagram
+//! peers of `hdl_trail`; this crate hands them what the machine has: sockets, a clock, random numbers and threads. No contract can
 //! say what these give, so the doors here tell nothing, and nothing is promised of octets on a wire.
 //!
-//! It stands on `hdl_workers`, `hdl_serve`, `hdl_core` and `hdl_rows`, and on `hdl_replay` for the faults of the program.
+//! It stands on `hdl_workers`, `hdl_serve`, `hdl_trail`, `hdl_core`, `hdl_frame` and `hdl_rows`, and on `hdl_replay` for the faults of the program.
 //!
 //! # Decisions
 //!
@@ -43,6 +43,7 @@ mod clock;
 mod door;
 mod hosting;
 mod nonces;
+mod packets;
 mod progress;
 mod silence;
 mod sockets;

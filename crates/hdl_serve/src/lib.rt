@@ -32,7 +32,7 @@ mod serving;
 
 pub use hdl_workers::{
     Clock, Door, DoorFault, Far, Item, LaneEnds, Letter, MemoryClock, MemoryConnection, MemoryDoor,
-    MemoryNonces, MemoryPackets, Nonces, Packets, Peers, Why, WorkerEnd, lanes_of, packet_worker,
+    MemoryNonces, MemoryPackets, Nonces, Packets, Why, WorkerEnd, lanes_of, packet_worker,
     stream_worker,
 };
 pub use serving::{Served, serve};

@@ -1,4 +1,4 @@
-//! The exit status of a command line, which `handled`, `hdl` and `hdl proxy` share.
+//! What the command lines of `handled`, `hdl` and `hdl proxy` share: the exit status behind faulty words, and the version.
 //!
 //! A program that has words on its command line reads them with `clap`. Where these leave nothing to do, [`status_of_words`] says
 //! with which status it ends (docs/PROTOCOL.md, "The tenants text and scripts"). It stands in a crate of its own, so that its wrong
@@ -7,7 +7,10 @@
 
 ghost use Rattle.std.specs.Prelude.{◌≡◌, if◌then◌else◌};
 
-/// The exit status where the words leave nothing to do: 0 behind help that was asked for, 2 behind a fault in them.
+/// The version of the product, and the kit that it is proved with.
+pub const VERSION: &str = "0.1.0 (Buckramjade; rattle-kit-13b logic dac8208d650f15bf)";
+
+/// The exit status where the words leave nothing to do: 0 behind help or a version that was asked for, 2 behind a fault in them.
 pub fn status_of_words(is_help: bool) -> u8
     ensures status { result ≡ (if is_help then 0 else 2) }
 {

@@ -7,4 +7,3 @@ pub mod Mails
 pub mod Same
 pub mod Distinct
 pub mod Settled
-pub mod Numbers

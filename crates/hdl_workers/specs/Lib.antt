@@ -9,4 +9,3 @@ pub mod Mail
 pub mod Memory
 pub mod Letters
 pub mod Ends
-pub mod Peers

@@ -11,7 +11,6 @@
 //!
 //! Promised of a worker, over a door that tells its octets: every frame of what came is put, in order, with one moment and one nonce of its
 //! own, and what was written is the outcomes' octets. [`LaneEnds::settle`] gives what is left once both threads of a lane were joined.
-//! [`Peers`] numbers the addresses of a datagram socket.
 //!
 //! Nothing here takes a lock or waits for anybody: what finds nothing pauses by the caller's [`Clock`], and all is bounded by a
 //! number of turns. It stands on `hdl_events`, `hdl_frame` and `hdl_lanes`, and has doors, a clock and nonces in memory, of whose calls
@@ -41,7 +40,6 @@ mod letters;
 mod line;
 mod memory;
 mod packet;
-mod peers;
 mod relay;
 mod sides;
 mod sources;
@@ -56,7 +54,6 @@ pub use item::Item;
 pub use letters::{Letter, MemoryPackets};
 pub use memory::{MemoryConnection, MemoryDoor};
 pub use packet::packet_worker;
-pub use peers::Peers;
 pub use sides::lanes_of;
 pub use sources::{MemoryClock, MemoryNonces};
 pub use stream::stream_worker;

@@ -31,7 +31,7 @@ pub fn operation_in(word: &str) -> Option<OpCode> {
     }
 }
 
-/// What a response code is called, after RFC 3652, section 2.2.2.2, in our profile (docs/PROTOCOL.md, "Replies").
+/// What a response code is called, after RFC 3652, section 2.2.2.2, in our profile (docs/PROTOCOL.md, "Message").
 pub fn code_name(code: u32) -> &'static str {
     match code {
         1 => "success",

@@ -1,0 +1,25 @@
+-- The addresses of a datagram lane's peers, and their numbers.
+use Rattle.std.specs.Prelude.{◌≡◌, ℕ, zero, suc, Bool, List, Option, None, MatchOption, slice_get, IsTrue}
+use Rattle.hdl_trail.specs.declared.kept.Mark.{Mark}
+use Rattle.hdl_trail.specs.declared.kept.Sent.{Sent}
+use Rattle.hdl_trail.specs.Kept.{is_held}
+
+-- the addresses, that with number 1 first, and what is kept under their numbers
+pub record Roll (A : Type 0) : Type 0 where
+  pub known : List A
+  pub partials : List Mark
+  pub challenges : List Sent
+
+module _ {A : Type 0} where
+  -- the address that has this number
+  abbrev pub address_among : List A → ℕ → Option A
+  address_among known zero = None
+  address_among known (suc n) = slice_get known n
+
+  -- the address that has this number is equal to this one
+  abbrev pub IsNumberOf : (A → A → Bool) → List A → A → ℕ → Type 0
+  IsNumberOf equal known address n = MatchOption (address_among known n) ⊥ (λ a. IsTrue (equal a address))
+
+  -- something is kept under the number
+  abbrev pub holds : Roll A → ℕ → Bool
+  holds r n = is_held r.partials r.challenges n

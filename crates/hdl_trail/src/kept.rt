@@ -1,0 +1,64 @@
+//! What the service keeps of a lane, as far as the trail sees it.
+
+ghost use Rattle.std.specs.Prelude.{◌≡◌, ◌<◌, ◌++◌, ◌∷◌, [], drop};
+ghost use Rattle.arrayvec.specs.ArrayVec.{array_vec_len};
+ghost use Rattle.hdl_trail.specs.Kept.{is_of, is_from};
+
+use arrayvec::ArrayVec;
+
+/// Whose message a frame belongs to: the number of its peer, and its SessionId and RequestId.
+#[derive(Clone, Copy, Debug, Default, PartialEq, Eq)]
+pub struct Key {
+    pub number: u16,
+    pub session: u32,
+    pub request: u32,
+}
+
+/// A message of which pieces are kept.
+#[derive(Clone, Copy, Debug, Default)]
+pub struct Mark {
+    pub key: Key,
+    /// How many octets the message has.
+    pub length: u32,
+    /// Its operation, once the piece came in which that stands.
+    pub operation: Option<u32>,
+}
+
+impl Mark {
+    /// Whether it is the message of this key.
+    pub fn is_of(&self, key: Key) -> bool
+        ensures { result ≡ is_of key self.now }
+    {
+        self.key.number == key.number
+            && self.key.session == key.session
+            && self.key.request == key.request
+    }
+}
+
+/// A challenge: to whom it was sent, and under which number of the lane, which is its SessionId.
+#[derive(Clone, Copy, Debug, Default)]
+pub struct Sent {
+    pub number: u16,
+    pub session: u32,
+}
+
+impl Sent {
+    /// Whether it was sent to this peer under this SessionId.
+    pub fn is_from(&self, number: u16, session: u32) -> bool
+        ensures { result ≡ is_from number session self.now }
+    {
+        self.number == number && self.session == session
+    }
+}
+
+/// Puts one behind the others, of which the oldest goes where there are as many as may be.
+pub(crate) fn put<T: Default + Drop, const N: usize>(kept: &mut ArrayVec<T, N>, newest: T)
+    requires { 0 < N }
+    ensures room { array_vec_len kept.old < N → kept.new.items ≡ kept.old.items ++ newest ∷ [] }
+    ensures full { array_vec_len kept.old ≡ N → kept.new.items ≡ drop 1 kept.old.items ++ newest ∷ [] }
+{
+    if kept.is_full() {
+        kept.remove(0);
+    }
+    kept.push(newest);
+}

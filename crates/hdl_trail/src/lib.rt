@@ -1,0 +1,26 @@
+//! Who has which number among the peers of a datagram lane.
+//!
+//! The service knows a datagram's peer by a number, and keeps pieces of messages and challenges of a lane under it. [`Peers`] gives the
+//! numbers, however many addresses there are: a [`Trail`] follows what is kept by the frames that come and the replies that go, and
+//! a number under which nothing is kept means nothing to the service, so the next address may have it.
+//!
+//! ```text
+//! a datagram -> Peers::came -> its number     (none where it is no frame)
+//! a reply    -> Peers::answered               the trail sees its code
+//! a number   -> Peers::address                where the reply goes
+//! ```
+//!
+//! Promised are: a number comes from an address that it stands for; a number under which something is followed keeps its address, whatever
+//! comes; and octets that are no frame change nothing. What the trail says of the service isn't proved; `src/trail.rt` says why it is so, and tools/ports.py tries it.
+//! It stands on the limits and on frames, and knows no sockets: an address is whatever can be compared.
+#![tactic(auto)]
+
+mod exchange;
+mod kept;
+mod peers;
+mod trail;
+
+pub use exchange::Exchange;
+pub use kept::{Key, Mark, Sent};
+pub use peers::Peers;
+pub use trail::Trail;
