@@ -22,7 +22,7 @@ use Rattle.hdl_core.specs.declared.lane.Lane.{Lane}
 use Rattle.hdl_core.specs.Held.{Held, held}
 use Rattle.hdl_core.specs.Worlds.{world_of}
 use Rattle.hdl_slots.specs.Lanes as slots
-use Rattle.hdl_core.specs.Opening.{entry_of, opening_table, with_row, first_lanes, closed_lanes, IsOpening}
+use Rattle.hdl_core.specs.Opening.{entry_of, opening_table, with_row, first_lanes, closed_lanes, IsOpening, IsResumed}
 use Rattle.hdl_core.proofs.Places.{owner_of, lane_of_world}
 
 -- ---- one row
@@ -183,6 +183,19 @@ module _ (r : Register) (t : Table) where
     closed = all_closed;
     table = held_table ∙ rows;
   })
+
+  pub resumes : (all : List Held) → all ≡ closed_lanes (first_lanes r (lane_count r.publishers)) → IsResumed r t (world_of r all t)
+  resumes all same = subst (λ (ls : List Held). IsResumed r t (world_of r ls t)) (sym same) (record {
+    owners = owners;
+    hostings = hosted;
+    closed = all_closed;
+    table = held_table;
+  })
+
+-- the table of a world
+pub table_of_world : (r : Register) (all : List Held) (t : Table) → (world_of r all t).table ≡ t
+unfolding world_of
+table_of_world r all t = refl
 
 -- a register has few lanes
 pub few_lanes : (r : Register) (lanes : List Lane) → IsRegister r → lanes ≡ first_lanes r (lane_count r.publishers) → length lanes ≤ 64

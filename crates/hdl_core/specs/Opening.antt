@@ -37,6 +37,13 @@ pub record IsOpening (r : Register) (w : World) : Type 0 where
   pub closed : (lane : ℕ) → lane_of w lane ≡ fresh false
   pub table : w.table ≡ opening_table r.opening
 
+-- The lanes are the publishers' and closed, the hosted prefixes those of the tenants text, and the table is this one.
+pub record IsResumed (r : Register) (t : Table) (w : World) : Type 0 where
+  pub owners : (lane : ℕ) → owner w.site lane ≡ register.owner r lane
+  pub hostings : w.site.hostings ≡ r.hostings
+  pub closed : (lane : ℕ) → lane_of w lane ≡ fresh false
+  pub table : w.table ≡ t
+
 -- the first lanes, closed, each with its owner
 abbrev pub first_lanes : Register → ℕ → List Lane
 first_lanes r zero = []

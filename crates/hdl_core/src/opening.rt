@@ -5,7 +5,7 @@ ghost use Rattle.std.specs.List.Sorted.{IsPermutation};
 ghost use Rattle.hdl_rows.specs.Table.{Table, no_rows, at};
 ghost use Rattle.hdl_cache.specs.Truth.{AreTrue};
 ghost use Rattle.hdl_tenants.specs.Register.{lane_count, place, AreDistinct};
-ghost use Rattle.hdl_core.specs.Opening.{IsOpening, closed_lanes as closed, opening_table, with_row, row_at, first_lanes};
+ghost use Rattle.hdl_core.specs.Opening.{IsOpening, IsResumed, closed_lanes as closed, opening_table, with_row, row_at, first_lanes};
 
 use crate::lane::Lane;
 use crate::lanes::Lanes;
@@ -130,6 +130,24 @@ impl<R: Rows + Drop> Service<R> {
         let room = room_for(alloc, &tenants)?;
         let (lanes, masks) = room;
         load(alloc, &mut rows, tenants.opening())?;
+        Ok(Service {
+            alloc,
+            tenants,
+            lanes,
+            rows,
+            masks,
+        })
+    }
+
+    /// The service of a tenants text over a table that is there already: every lane closed, and the table as it is. The text's
+    /// opening rows aren't put into it.
+    ///
+    /// Refused: `Memory` for the lanes or the masks that are kept. The table is dropped then.
+    pub fn resume(alloc: Global, tenants: Tenants, rows: R) -> Result<Service<R>, OpenFault>
+        ensures resumed { IfOk result (λ service. IsResumed tenants (R.content rows) service) }
+    {
+        let room = room_for(alloc, &tenants)?;
+        let (lanes, masks) = room;
         Ok(Service {
             alloc,
             tenants,

@@ -81,6 +81,13 @@ impl<R: Rows + Drop> Service<R> {
         )
     }
 
+    /// The table, as the run left it.
+    pub fn into_rows(self) -> R
+        ensures { R.content result ≡ self.table }
+    {
+        self.rows
+    }
+
     /// Nobody hosts the prefix of the administrative handles. Whoever joins runs of a service needs it to isolate publishers in the
     /// whole.
     pub fn root_is_unhosted(&self)

@@ -1,6 +1,5 @@
 //! Who is asked.
 
-use std::alloc::Global;
 use thiserror::Error;
 
 /// Why there is no answer.
@@ -18,8 +17,8 @@ pub enum NoAnswer {
 pub trait Resolver: Drop {
     /// The message of the reply to a request: all of the octets behind the envelope, as `hdl_msg::read_reply` reads them.
     ///
-    /// `message` is that of a resolution without a key, as `hdl_msg::write_request` writes it, and `handle` the name that it
-    /// asks for. The envelope, the connection, time-outs, and whom to ask after a referral (code 302) are the resolver's. Where
-    /// every server refers, the last referral is the answer. It may wait, but not for ever.
-    fn ask(&mut self, alloc: Global, handle: &[u8], message: &[u8]) -> Result<Vec<u8>, NoAnswer>;
+    /// `message` is that of a resolution without a key, as `hdl_msg::write_request` writes it. The envelope, the connection, time-outs,
+    /// and whom to ask after a referral (code 302) are the resolver's. Where every server refers, the last referral is the answer.
+    /// It may wait, but not for ever.
+    fn ask(&mut self, message: &[u8]) -> Result<Vec<u8>, NoAnswer>;
 }

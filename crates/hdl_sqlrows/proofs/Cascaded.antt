@@ -9,7 +9,6 @@ use Rattle.sqlite_value.specs.declared.value.Value.TheVariants.{Int, Blob, Null}
 use Rattle.sqlite_value.specs.Order.{Row, column}
 use Rattle.sqlite_value.specs.Keys.{plain as plain_order, first_key}
 use Rattle.sqlite_trees.specs.Tree.{Trees, has_rowid}
-use Rattle.sqlite_trees.specs.declared.memory.MemStore.{MemStore}
 use Rattle.sqlite_trees.proofs.ListLemmas.{map-map, filter_same, all-filter, all_of, all_weaker, all_both}
 use Rattle.sqlite_schema.specs.Rules.{agree}
 use Rattle.sqlite_schema.specs.declared.command.Command.TheVariants.{Delete}
@@ -26,15 +25,14 @@ use Rattle.sqlite.specs.Effect.{Database}
 use Rattle.sqlite.specs.Does.{Tally, Does}
 use Rattle.sqlite.specs.Rows.{Written}
 use Rattle.sqlite.specs.Listing.{understood}
-use Rattle.sqlite.specs.Held.{Held, state}
-use Rattle.sqlite.specs.Steps.{over_memory}
-use Rattle.sqlite.specs.State.{State, mode_of, HasCleanDisk, Executes, ExecutesInside}
-use Rattle.sqlite.proofs.Callers.{runs_as, statement_of, memory_is_clean}
+use Rattle.sqlite.specs.State.{State, mode_of, Executes, ExecutesInside}
+use Rattle.sqlite.proofs.Callers.{runs_as, statement_of}
 use Rattle.hdl_value.specs.Place.{Place, same_handle}
 use Rattle.hdl_value.proofs.Places.{handle_total, handle_antisymmetric, place_total, place_antisymmetric, handles_equal, handle_itself}
 use Rattle.hdl_rows.specs.Table.{has, at, without_handle}
 use Rattle.hdl_sqlrows.specs.Layout.{layout, handles}
-use Rattle.hdl_sqlrows.specs.Kept.{IsWhole, IsInside, AreKept, IsHandleRow, IsEntryRow, place_in, entry_in, value_in, handle_in, table_in, has_place, has_handle, seen, shown}
+use Rattle.hdl_sqlrows.specs.Kept.{IsWhole, IsInside, AreKept, IsHandleRow, IsEntryRow, place_in, entry_in, value_in, handle_in, table_in, has_place, has_handle}
+use Rattle.hdl_sqlrows.specs.Filed.{IsDraft, drafted}
 use Rattle.hdl_sqlrows.proofs.Texts.{delete_handle, delete_handle_is, plain, is_param, rows_where}
 use Rattle.hdl_sqlrows.proofs.Found.{times-filter, short_permutation, found_kept}
 use Rattle.hdl_sqlrows.proofs.Listed.{keeps, listed, tests_handle, swapped, same_blob}
@@ -226,12 +224,9 @@ without_rows db next h kept first last =
       (λ i. record { handles = (ap (λ rows. set.from_list (map handle_in rows)) first ∙ handles) i; values = (ap (λ rows. map.from_entries (map entry_in rows)) last ∙ values) i }),
     )
 
-pub drops_handle : (old new : Held MemStore) (h : List ℕ) (count : ℕ) → IsInside (seen old) → has (shown old) h ≡ true
-    → (HasCleanDisk (state over_memory new) → (state over_memory old).in_transaction ≡ true → ExecutesInside 0 delete_handle (Blob h ∷ []) (state over_memory old) (state over_memory new) (Ok count))
-    → IsInside (seen new) × (shown new ≡ without_handle (shown old) h)
-unfolding seen
+pub drops_handle : (old new : State) (h : List ℕ) (count : ℕ) → IsInside old → has (drafted old) h ≡ true → ExecutesInside 0 delete_handle (Blob h ∷ []) old new (Ok count)
+    → IsDraft new (without_handle (drafted old) h)
 drops_handle old new h count inside there ran =
-    let r = ran (memory_is_clean new) inside.inside in
-    let did = deletes_handle (seen old) (seen new) h count inside.whole there r.0 in
-    let made = without_rows (seen old).now.trees (seen new).now.trees h inside.whole.kept did.1 did.2 in
-    (record { whole = record { layout = did.0; kept = made.0 }; inside = r.1.mode }, made.1)
+    let did = deletes_handle old new h count inside.whole there ran.0 in
+    let made = without_rows old.now.trees new.now.trees h inside.whole.kept did.1 did.2 in
+    (ran.1.is_open, record { whole = record { layout = did.0; kept = made.0 }; inside = ran.1.mode }, made.1)

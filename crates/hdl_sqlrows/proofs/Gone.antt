@@ -14,7 +14,6 @@ use Rattle.sqlite_value.specs.Order.{Row, value_cmp}
 use Rattle.sqlite_value.specs.Keys.{joined}
 use Rattle.sqlite_value.proofs.OrderLemmas.{value_cmp_total}
 use Rattle.sqlite_trees.specs.Tree.{Trees, rowid, has_rowid}
-use Rattle.sqlite_trees.specs.declared.memory.MemStore.{MemStore}
 use Rattle.sqlite_trees.proofs.ListLemmas.{map-map, IsPermutation-filter, filter_same, filter_all, all-filter, all_of, all_weaker, all_both}
 use Rattle.sqlite_schema.specs.Names.{same_name}
 use Rattle.sqlite_schema.specs.declared.command.Command.TheVariants.{Delete}
@@ -27,16 +26,15 @@ use Rattle.sqlite.specs.Effect.{Database}
 use Rattle.sqlite.specs.Does.{Tally, Does}
 use Rattle.sqlite.specs.Rows.{Written}
 use Rattle.sqlite.specs.Listing.{understood}
-use Rattle.sqlite.specs.Held.{Held, state}
-use Rattle.sqlite.specs.Steps.{over_memory}
-use Rattle.sqlite.specs.State.{State, mode_of, HasCleanDisk, Executes, ExecutesInside}
-use Rattle.sqlite.proofs.Callers.{runs_as, statement_of, one_step, memory_is_clean}
+use Rattle.sqlite.specs.State.{State, mode_of, Executes, ExecutesInside}
+use Rattle.sqlite.proofs.Callers.{runs_as, statement_of, one_step}
 use Rattle.hdl_value.specs.Place.{Place, place_cmp, same_place}
 use Rattle.hdl_value.specs.declared.value.Value.{Value}
 use Rattle.hdl_value.proofs.Places.{place_total, place_antisymmetric}
 use Rattle.hdl_rows.specs.Table.{Table, place, at, without_values}
 use Rattle.hdl_sqlrows.specs.Layout.{layout, entries}
-use Rattle.hdl_sqlrows.specs.Kept.{IsWhole, IsInside, AreKept, IsHandleRow, IsEntryRow, place_in, entry_in, value_in, handle_in, table_in, has_place, has_handle, seen, shown}
+use Rattle.hdl_sqlrows.specs.Kept.{IsWhole, IsInside, AreKept, IsHandleRow, IsEntryRow, place_in, entry_in, value_in, handle_in, table_in, has_place, has_handle}
+use Rattle.hdl_sqlrows.specs.Filed.{IsDraft, drafted}
 use Rattle.hdl_sqlrows.proofs.Texts.{delete_entry, delete_entry_is, plain, is_param, rows_where}
 use Rattle.hdl_sqlrows.proofs.Found.{times-filter, none_passes, none_more, found_kept}
 use Rattle.hdl_sqlrows.proofs.Listed.{keeps, listed, tests_place}
@@ -189,15 +187,12 @@ without_entry db next p kept gone same =
       (λ i. record { handles = set.from_list (map handle_in (same i)); values = (ap (λ rows. map.from_entries (map entry_in rows)) gone ∙ values) i }),
     )
 
-pub drops_entry : (old new : Held MemStore) (h : List ℕ) (i : ℕ) (count : ℕ) → IsInside (seen old)
-    → (HasCleanDisk (state over_memory new) → (state over_memory old).in_transaction ≡ true → ExecutesInside 0 delete_entry (Blob h ∷ Int (pos i) ∷ []) (state over_memory old) (state over_memory new) (Ok count))
-    → IsInside (seen new) × (shown new ≡ record (shown old) { values = map.remove (shown old).values (place h i) })
-unfolding seen
+pub drops_entry : (old new : State) (h : List ℕ) (i : ℕ) (count : ℕ) → IsInside old → ExecutesInside 0 delete_entry (Blob h ∷ Int (pos i) ∷ []) old new (Ok count)
+    → IsDraft new (record (drafted old) { values = map.remove (drafted old).values (place h i) })
 drops_entry old new h i count inside ran =
-    let r = ran (memory_is_clean new) inside.inside in
-    let did = deletes_entry (seen old) (seen new) h i count inside.whole r.0 in
-    let made = without_entry (seen old).now.trees (seen new).now.trees (place h i) inside.whole.kept did.1 did.2 in
-    (record { whole = record { layout = did.0; kept = made.0 }; inside = r.1.mode }, made.1)
+    let did = deletes_entry old new h i count inside.whole ran.0 in
+    let made = without_entry old.now.trees new.now.trees (place h i) inside.whole.kept did.1 did.2 in
+    (ran.1.is_open, record { whole = record { layout = did.0; kept = made.0 }; inside = ran.1.mode }, made.1)
 
 -- ---- one after the other
 

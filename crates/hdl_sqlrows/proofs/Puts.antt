@@ -1,5 +1,5 @@
 -- What the two INSERTs make of the table.
-use Rattle.std.proofs.Common.{true≢false, ◌≡◌, ◌≢◌, ℕ, suc, ◌+◌, ◌<◌, ◌^◌, ◌≤◌, ℤ, List, [], ◌∷◌, map, filter, drop, length, get_or, add-one, drop-cons, Bool, true, false, cond, ◌||◌, None, Some, Ok, Result, refl, sym, ap, subst, ◌∙◌, arith, is_eq}
+use Rattle.std.proofs.Common.{true≢false, ◌≡◌, ◌≢◌, ℕ, suc, ◌+◌, ◌<◌, ◌^◌, ◌≤◌, ℤ, List, [], ◌∷◌, map, filter, drop, length, get_or, add-one, drop-cons, Bool, true, false, cond, ◌||◌, None, Some, Ok, refl, sym, ap, subst, ◌∙◌, arith, is_eq}
 use Rattle.std.specs.FinMap as map
 use Rattle.std.specs.FinSet as set
 use Rattle.std.specs.List.{AllByRecursion, list_any}
@@ -9,33 +9,22 @@ use Rattle.sqlite_value.specs.declared.value.Value.TheVariants.{Int, Blob}
 use Rattle.sqlite_value.specs.Order.{Row, value_cmp}
 use Rattle.sqlite_value.proofs.OrderLemmas.{value_cmp-Int}
 use Rattle.sqlite_trees.specs.Tree.{Trees, rowid, has_rowid}
-use Rattle.sqlite_trees.specs.declared.memory.MemStore.{MemStore}
 use Rattle.sqlite_rules.specs.Edit.{is_taken, next_rowid}
-use Rattle.sqlite.specs.declared.error.Error.{Error}
-use Rattle.sqlite.specs.State.{HasCleanDisk, ExecutesInside}
-use Rattle.sqlite.specs.Held.{Held, state}
-use Rattle.sqlite.specs.Steps.{over_memory}
-use Rattle.sqlite.proofs.Callers.{memory_is_clean}
+use Rattle.sqlite.specs.State.{State, ExecutesInside}
 use Rattle.hdl_name.specs.Name.{authority}
 use Rattle.hdl_value.specs.Place.{Place, place_cmp, same_handle}
 use Rattle.hdl_value.specs.declared.value.Value.{Value}
 use Rattle.hdl_value.proofs.Places.{handle_total, handle_antisymmetric, place_total, place_antisymmetric, handles_equal, places_equal}
 use Rattle.hdl_rows.specs.Table.{Table, place, has, at, indexes, AreDistinct, AreAbsent, with_values, created}
 use Rattle.hdl_rows.proofs.Writes.{at_place, indexes_apart, some_none}
-use Rattle.hdl_sqlrows.specs.Kept.{IsInside, AreKept, IsEntryRow, IsHandleRow, handle_in, place_in, entry_in, value_in, table_in, has_handle, has_place, seen, shown}
+use Rattle.hdl_sqlrows.specs.Kept.{IsInside, AreKept, IsEntryRow, IsHandleRow, handle_in, place_in, entry_in, value_in, table_in, has_handle, has_place}
+use Rattle.hdl_sqlrows.specs.Filed.{IsDraft, drafted}
 use Rattle.hdl_sqlrows.specs.Shows.{AreShort}
 use Rattle.hdl_sqlrows.proofs.Found.{found_first, first_value}
 use Rattle.hdl_sqlrows.proofs.Texts.{insert_handle, insert_entry}
 use Rattle.hdl_sqlrows.proofs.Lists.{HasOneMore, all_put, map_put, map_of_more, set_of_more, single_put}
 use Rattle.hdl_sqlrows.proofs.Inserts.{Adds, inserts_handle, inserts_entry, handle_row, entry_row, entry_cells}
 use Rattle.hdl_sqlrows.proofs.Spelt.{refs_again, stamp_again}
-use Rattle.hdl_sqlrows.proofs.States.{kept_commit}
-
-pub keeps_commit : (old new : Held MemStore) (sql : List ℕ) (params : Row) (r : Result ℕ Error) → IsInside (seen old)
-    → (HasCleanDisk (state over_memory new) → (state over_memory old).in_transaction ≡ true → ExecutesInside 0 sql params (state over_memory old) (state over_memory new) r)
-    → (seen new).committed ≡ (seen old).committed
-unfolding seen
-keeps_commit old new sql params r inside h = kept_commit (seen old) (seen new) sql params r refl (h (memory_is_clean new) inside.inside)
 
 -- ---- no row of a key
 
@@ -90,15 +79,12 @@ with_handle db next name kept more same absent =
       (λ i. record { handles = handles i; values = map.from_entries (map entry_in (same i)) }),
     )
 
-pub puts_handle : (old new : Held MemStore) (name : List ℕ) (count : ℕ) → IsInside (seen old) → has (shown old) name ≡ false
-    → (HasCleanDisk (state over_memory new) → (state over_memory old).in_transaction ≡ true → ExecutesInside 0 insert_handle (Blob name ∷ Blob (authority name) ∷ []) (state over_memory old) (state over_memory new) (Ok count))
-    → IsInside (seen new) × (shown new ≡ record (shown old) { handles = set.insert (shown old).handles name })
-unfolding seen
-puts_handle old new name count inside absent h =
-    let ran = h (memory_is_clean new) inside.inside in
-    let did = inserts_handle (seen old) (seen new) name (authority name) count inside.whole.layout ran.0 in
-    let made = with_handle (seen old).now.trees (seen new).now.trees name inside.whole.kept did.1 did.2 absent in
-    (record { whole = record { layout = did.0; kept = made.0 }; inside = ran.1.mode }, made.1)
+pub puts_handle : (old new : State) (name : List ℕ) (count : ℕ) → IsInside old → has (drafted old) name ≡ false → ExecutesInside 0 insert_handle (Blob name ∷ Blob (authority name) ∷ []) old new (Ok count)
+    → IsDraft new (record (drafted old) { handles = set.insert (drafted old).handles name })
+puts_handle old new name count inside absent ran =
+    let did = inserts_handle old new name (authority name) count inside.whole.layout ran.0 in
+    let made = with_handle old.now.trees new.now.trees name inside.whole.kept did.1 did.2 absent in
+    (ran.1.is_open, record { whole = record { layout = did.0; kept = made.0 }; inside = ran.1.mode }, made.1)
 
 -- the row of a value says that value
 entry_is : (id : ℤ) (name : List ℕ) (v : Value) → v.stamp < 2 ^ 64 → AreShort v.refs → entry_in (entry_row id name v) ≡ (place name v.index, v)
@@ -121,15 +107,12 @@ with_entry db next id name v kept stamp short more same absent =
       (λ i. record { handles = set.from_list (map handle_in (same i)); values = values i }),
     )
 
-pub puts_entry : (old new : Held MemStore) (name : List ℕ) (v : Value) (count : ℕ) → IsInside (seen old) → v.stamp < 2 ^ 64 → AreShort v.refs → at (shown old) (place name v.index) ≡ None
-    → (HasCleanDisk (state over_memory new) → (state over_memory old).in_transaction ≡ true → ExecutesInside 0 insert_entry (entry_cells name v) (state over_memory old) (state over_memory new) (Ok count))
-    → IsInside (seen new) × (shown new ≡ record (shown old) { values = map.insert (shown old).values (place name v.index) v })
-unfolding seen
-puts_entry old new name v count inside stamp short absent h =
-    let ran = h (memory_is_clean new) inside.inside in
-    let did = inserts_entry (seen old) (seen new) name v count inside.whole.layout ran.0 in
-    let made = with_entry (seen old).now.trees (seen new).now.trees (next_rowid ((seen old).now.trees 2)) name v inside.whole.kept stamp short did.1 did.2 absent in
-    (record { whole = record { layout = did.0; kept = made.0 }; inside = ran.1.mode }, made.1)
+pub puts_entry : (old new : State) (name : List ℕ) (v : Value) (count : ℕ) → IsInside old → v.stamp < 2 ^ 64 → AreShort v.refs → at (drafted old) (place name v.index) ≡ None → ExecutesInside 0 insert_entry (entry_cells name v) old new (Ok count)
+    → IsDraft new (record (drafted old) { values = map.insert (drafted old).values (place name v.index) v })
+puts_entry old new name v count inside stamp short absent ran =
+    let did = inserts_entry old new name v count inside.whole.layout ran.0 in
+    let made = with_entry old.now.trees new.now.trees (next_rowid (old.now.trees 2)) name v inside.whole.kept stamp short did.1 did.2 absent in
+    (ran.1.is_open, record { whole = record { layout = did.0; kept = made.0 }; inside = ran.1.mode }, made.1)
 
 -- ---- one after the other
 

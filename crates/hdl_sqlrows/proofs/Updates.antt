@@ -9,7 +9,6 @@ use Rattle.sqlite_value.specs.declared.value.Value.TheVariants.{Int, Blob}
 use Rattle.sqlite_value.specs.Order.{Row, column}
 use Rattle.sqlite_value.specs.Keys.{joined}
 use Rattle.sqlite_trees.specs.Tree.{Trees, rowid, put_row}
-use Rattle.sqlite_trees.specs.declared.memory.MemStore.{MemStore}
 use Rattle.sqlite_trees.proofs.ListLemmas.{filter_same, all-filter, all_weaker}
 use Rattle.sqlite_sql.specs.Term.{Term, eval_all}
 use Rattle.sqlite_schema.specs.Names.{same_name}
@@ -22,10 +21,8 @@ use Rattle.sqlite.specs.Effect.{Database}
 use Rattle.sqlite.specs.Does.{Tally, Does}
 use Rattle.sqlite.specs.Rows.{Written, Edited}
 use Rattle.sqlite.specs.Listing.{understood}
-use Rattle.sqlite.specs.Held.{Held, state}
-use Rattle.sqlite.specs.Steps.{over_memory}
-use Rattle.sqlite.specs.State.{State, mode_of, HasCleanDisk, Executes, ExecutesInside}
-use Rattle.sqlite.proofs.Callers.{runs_as, statement_of, one_step, memory_is_clean}
+use Rattle.sqlite.specs.State.{State, mode_of, Executes, ExecutesInside}
+use Rattle.sqlite.proofs.Callers.{runs_as, statement_of, one_step}
 use Rattle.hdl_value.specs.Place.{Place, place_cmp}
 use Rattle.hdl_value.specs.Spelling.{references}
 use Rattle.hdl_value.specs.declared.value.Value.{Value}
@@ -33,7 +30,8 @@ use Rattle.hdl_value.proofs.Places.{place_total, place_antisymmetric, places_equ
 use Rattle.hdl_rows.specs.Table.{Table, place, at, indexes, ArePresent, with_values}
 use Rattle.hdl_rows.proofs.Writes.{some_none}
 use Rattle.hdl_sqlrows.specs.Layout.{layout, entries}
-use Rattle.hdl_sqlrows.specs.Kept.{IsWhole, IsInside, AreKept, IsEntryRow, place_in, entry_in, value_in, table_in, has_place, seen, shown}
+use Rattle.hdl_sqlrows.specs.Kept.{IsWhole, IsInside, AreKept, IsEntryRow, place_in, entry_in, value_in, table_in, has_place}
+use Rattle.hdl_sqlrows.specs.Filed.{IsDraft, drafted}
 use Rattle.hdl_sqlrows.specs.Shows.{AreShort}
 use Rattle.hdl_sqlrows.proofs.Texts.{update_entry, update_entry_is, update_terms, plain, is_param, rows_where}
 use Rattle.hdl_sqlrows.proofs.Found.{short_permutation, found_first, first_value}
@@ -144,15 +142,12 @@ with_updated db next id name v kept stamp short more same =
     let put = with_entry mid next id name v gone.0 stamp short more same (free_after (table_in db) (table_in mid) p gone.1) in
     (put.0, replaced (table_in db) (table_in mid) (table_in next) p v gone.1 put.1)
 
-pub replaces_entry : (old new : Held MemStore) (name : List ℕ) (v : Value) (count : ℕ) → IsInside (seen old) → v.stamp < 2 ^ 64 → AreShort v.refs → at (shown old) (place name v.index) ≢ None
-    → (HasCleanDisk (state over_memory new) → (state over_memory old).in_transaction ≡ true → ExecutesInside 0 update_entry (entry_cells name v) (state over_memory old) (state over_memory new) (Ok count))
-    → IsInside (seen new) × (shown new ≡ record (shown old) { values = map.insert (shown old).values (place name v.index) v })
-unfolding seen
-replaces_entry old new name v count inside stamp short there h =
-    let ran = h (memory_is_clean new) inside.inside in
-    let did = updates_entry (seen old) (seen new) name v count inside.whole there ran.0 in
-    let made = with_updated (seen old).now.trees (seen new).now.trees did.1.0 name v inside.whole.kept stamp short did.1.1 did.2 in
-    (record { whole = record { layout = did.0; kept = made.0 }; inside = ran.1.mode }, made.1)
+pub replaces_entry : (old new : State) (name : List ℕ) (v : Value) (count : ℕ) → IsInside old → v.stamp < 2 ^ 64 → AreShort v.refs → at (drafted old) (place name v.index) ≢ None → ExecutesInside 0 update_entry (entry_cells name v) old new (Ok count)
+    → IsDraft new (record (drafted old) { values = map.insert (drafted old).values (place name v.index) v })
+replaces_entry old new name v count inside stamp short there ran =
+    let did = updates_entry old new name v count inside.whole there ran.0 in
+    let made = with_updated old.now.trees new.now.trees did.1.0 name v inside.whole.kept stamp short did.1.1 did.2 in
+    (ran.1.is_open, record { whole = record { layout = did.0; kept = made.0 }; inside = ran.1.mode }, made.1)
 
 -- ---- one after the other
 

@@ -22,7 +22,7 @@ use Rattle.hdl_value.specs.Cut.{refs_at}
 use Rattle.hdl_value.specs.declared.references.RawRef.{RawRef}
 use Rattle.hdl_value.specs.declared.value.Value.{Value}
 use Rattle.hdl_rows.specs.Table.{Table, place}
-use Rattle.hdl_sqlrows.specs.Layout.{layout}
+use Rattle.hdl_sqlrows.specs.Layout.{layout, no_schema}
 
 -- ---- what a row says
 
@@ -128,11 +128,14 @@ pub record IsInside (s : State) : Type 0 where
   pub whole : IsWhole s.now
   pub inside : s.in_transaction ≡ true
 
--- before the tables are made
+-- before the tables are made, and within the transaction that makes them
+pub record IsBlank (s : State) : Type 0 where
+  pub schema_is : s.now.schema ≡ no_schema
+  pub committed : s.committed ≡ s.now
+
 pub record IsBare (schema : Schema) (s : State) : Type 0 where
   pub schema_is : s.now.schema ≡ schema
-  pub autocommit : s.in_transaction ≡ false
-  pub committed : s.committed ≡ s.now
+  pub inside : s.in_transaction ≡ true
 
 -- what a connection in memory shows, which no proof has to look into
 unfoldable pub seen : Held MemStore → State

@@ -1,33 +1,36 @@
 //! Rows that are replaced, within a transaction.
 
-ghost use Rattle.std.specs.Prelude.{◌≡◌, ◌≢◌, None, OnOk};
+ghost use Rattle.std.specs.Prelude.{◌≡◌, ◌≢◌, None, IsTrue, OnOk};
 ghost use Rattle.std.specs.FinMap as map;
 ghost use Rattle.hdl_value.specs.Spelling.{references};
 ghost use Rattle.hdl_rows.specs.Table.{place, at, with_values, ArePresent, indexes};
-ghost use Rattle.hdl_sqlrows.specs.Kept.{IsInside, seen, shown};
+ghost use Rattle.sqlite.specs.State.{HasCleanDisk, Survives};
+ghost use Rattle.sqlite.specs.Held.{state};
+ghost use Rattle.hdl_sqlrows.specs.Filed.{WhereOpen, KeepsCommitted, IsDraft, drafted};
+ghost use Rattle.hdl_sqlrows.specs.Kept.{IsInside};
 ghost use Rattle.hdl_sqlrows.specs.Shows.{AreShort};
 
 use crate::fault::Fault;
 use crate::put::refs_of;
 use hdl_value::Value;
-use sqlite::{MemStore, Transaction, params};
+use sqlite::{Alter, Transaction, params};
 use std::alloc::Global;
 
 /// Puts the cells of a value, with its references as octets, over those at its index.
-fn replace_cells<'x>(
-    tx: &mut Transaction<'_, MemStore>,
+fn replace_cells<'x, S: Alter>(
+    tx: &mut Transaction<'_, S>,
     name: &'x [u8],
     value: &'x Value,
     refs: &'x [u8],
 ) -> Result<(), Fault>
-    requires inside { IsInside (seen tx.old.conn.now) }
+    requires inside { WhereOpen (state S.Store tx.old.conn.now) (IsInside (state S.Store tx.old.conn.now)) }
     requires spelt { refs.now ≡ references value.now.refs }
     requires short { AreShort value.now.refs }
-    requires there { at (shown tx.old.conn.now) (place name.now value.now.index) ≢ None }
+    requires there { WhereOpen (state S.Store tx.old.conn.now) (at (drafted (state S.Store tx.old.conn.now)) (place name.now value.now.index) ≢ None) }
     ensures same_reference { tx.new.conn.ghost_name ≡ tx.old.conn.ghost_name }
-    ensures committed { (seen tx.new.conn.now).committed ≡ (seen tx.old.conn.now).committed }
-    ensures inside { OnOk result (IsInside (seen tx.new.conn.now)) }
-    ensures put { OnOk result (shown tx.new.conn.now ≡ record (shown tx.old.conn.now) { values = map.insert (shown tx.old.conn.now).values (place name.now value.now.index) value.now }) }
+    ensures survives { Survives (state S.Store tx.old.conn.now) (state S.Store tx.new.conn.now) (λ _. ⊥) }
+    ensures committed { KeepsCommitted (state S.Store tx.old.conn.now) (state S.Store tx.new.conn.now) }
+    ensures put { OnOk result (HasCleanDisk (state S.Store tx.new.conn.now) → IsTrue (state S.Store tx.old.conn.now).is_open × IsDraft (state S.Store tx.new.conn.now) (record (drafted (state S.Store tx.old.conn.now)) { values = map.insert (drafted (state S.Store tx.old.conn.now)).values (place name.now value.now.index) value.now })) }
 {
     let stamp = value.stamp.to_be_bytes();
     tx.execute(
@@ -47,36 +50,36 @@ fn replace_cells<'x>(
 }
 
 /// Puts a value at its index, over the one that stands there.
-fn replace_entry(
-    tx: &mut Transaction<'_, MemStore>,
+fn replace_entry<S: Alter>(
+    tx: &mut Transaction<'_, S>,
     alloc: Global,
     name: &[u8],
     value: &Value,
 ) -> Result<(), Fault>
-    requires inside { IsInside (seen tx.old.conn.now) }
-    requires there { at (shown tx.old.conn.now) (place name.now value.now.index) ≢ None }
+    requires inside { WhereOpen (state S.Store tx.old.conn.now) (IsInside (state S.Store tx.old.conn.now)) }
+    requires there { WhereOpen (state S.Store tx.old.conn.now) (at (drafted (state S.Store tx.old.conn.now)) (place name.now value.now.index) ≢ None) }
     ensures same_reference { tx.new.conn.ghost_name ≡ tx.old.conn.ghost_name }
-    ensures committed { (seen tx.new.conn.now).committed ≡ (seen tx.old.conn.now).committed }
-    ensures inside { OnOk result (IsInside (seen tx.new.conn.now)) }
-    ensures put { OnOk result (shown tx.new.conn.now ≡ record (shown tx.old.conn.now) { values = map.insert (shown tx.old.conn.now).values (place name.now value.now.index) value.now }) }
+    ensures survives { Survives (state S.Store tx.old.conn.now) (state S.Store tx.new.conn.now) (λ _. ⊥) }
+    ensures committed { KeepsCommitted (state S.Store tx.old.conn.now) (state S.Store tx.new.conn.now) }
+    ensures put { OnOk result (HasCleanDisk (state S.Store tx.new.conn.now) → IsTrue (state S.Store tx.old.conn.now).is_open × IsDraft (state S.Store tx.new.conn.now) (record (drafted (state S.Store tx.old.conn.now)) { values = map.insert (drafted (state S.Store tx.old.conn.now)).values (place name.now value.now.index) value.now })) }
 {
     let refs = refs_of(alloc, value.refs.as_slice())?;
     replace_cells(tx, name, value, &refs)
 }
 
 /// Puts values at their indexes, each over the one that stands there.
-pub(crate) fn replace_entries(
-    tx: &mut Transaction<'_, MemStore>,
+pub(crate) fn replace_entries<S: Alter>(
+    tx: &mut Transaction<'_, S>,
     alloc: Global,
     name: &[u8],
     values: &[Value],
 ) -> Result<(), Fault>
-    requires inside { IsInside (seen tx.old.conn.now) }
-    requires there { ArePresent (shown tx.old.conn.now) name.now (indexes values.now) }
+    requires inside { WhereOpen (state S.Store tx.old.conn.now) (IsInside (state S.Store tx.old.conn.now)) }
+    requires there { WhereOpen (state S.Store tx.old.conn.now) (ArePresent (drafted (state S.Store tx.old.conn.now)) name.now (indexes values.now)) }
     ensures same_reference { tx.new.conn.ghost_name ≡ tx.old.conn.ghost_name }
-    ensures committed { (seen tx.new.conn.now).committed ≡ (seen tx.old.conn.now).committed }
-    ensures inside { OnOk result (IsInside (seen tx.new.conn.now)) }
-    ensures put { OnOk result (shown tx.new.conn.now ≡ with_values (shown tx.old.conn.now) name.now values.now) }
+    ensures survives { Survives (state S.Store tx.old.conn.now) (state S.Store tx.new.conn.now) (λ _. ⊥) }
+    ensures committed { KeepsCommitted (state S.Store tx.old.conn.now) (state S.Store tx.new.conn.now) }
+    ensures put { OnOk result (HasCleanDisk (state S.Store tx.new.conn.now) → IsTrue (state S.Store tx.old.conn.now).is_open → IsDraft (state S.Store tx.new.conn.now) (with_values (drafted (state S.Store tx.old.conn.now)) name.now values.now)) }
 {
     for value in values {
         replace_entry(tx, alloc, name, value)?;

@@ -4,8 +4,7 @@ ghost use Rattle.std.specs.Prelude.{◌≡◌, IfOk, MatchResult, IsErr, Ok};
 ghost use Rattle.hdl_rows.specs.Table.{no_rows, counted};
 
 use crate::fault::Fault;
-use crate::layout::make_tables;
-use crate::{queries, writes};
+use crate::{memory, queries};
 use hdl_name::Name;
 use hdl_rows::{Refused, Rows};
 use hdl_value::{Octets, Reference, Value};
@@ -43,7 +42,7 @@ impl SqlRows {
         let Ok(mut conn) = Connection::open_in_memory(alloc) else {
             return Err(Refused);
         };
-        match make_tables(&mut conn) {
+        match memory::make_tables(&mut conn) {
             Ok(()) => Ok(SqlRows {
                 alloc,
                 conn,
@@ -101,27 +100,27 @@ impl Rows for SqlRows {
 
     fn create(&mut self, name: &Name, values: &[Value]) -> Result<(), Refused> {
         let authority = name.authority();
-        let done = writes::create(&mut self.conn, self.alloc, name.canon(), authority, values);
+        let done = memory::create(&mut self.conn, self.alloc, name.canon(), authority, values);
         tally(&mut self.refusals, done)
     }
 
     fn add(&mut self, name: &Name, values: &[Value]) -> Result<(), Refused> {
-        let done = writes::add(&mut self.conn, self.alloc, name.canon(), values);
+        let done = memory::add(&mut self.conn, self.alloc, name.canon(), values);
         tally(&mut self.refusals, done)
     }
 
     fn modify(&mut self, name: &Name, values: &[Value]) -> Result<(), Refused> {
-        let done = writes::modify(&mut self.conn, self.alloc, name.canon(), values);
+        let done = memory::modify(&mut self.conn, self.alloc, name.canon(), values);
         tally(&mut self.refusals, done)
     }
 
     fn remove(&mut self, name: &Name, indexes: &[u32]) -> Result<(), Refused> {
-        let done = writes::remove(&mut self.conn, name.canon(), indexes);
+        let done = memory::remove(&mut self.conn, name.canon(), indexes);
         tally(&mut self.refusals, done)
     }
 
     fn delete(&mut self, name: &Name) -> Result<(), Refused> {
-        let done = writes::delete(&mut self.conn, name.canon());
+        let done = memory::delete(&mut self.conn, name.canon());
         tally(&mut self.refusals, done)
     }
 

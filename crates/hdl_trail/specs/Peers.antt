@@ -1,5 +1,5 @@
 -- The addresses of a datagram lane's peers, and their numbers.
-use Rattle.std.specs.Prelude.{◌≡◌, ℕ, zero, suc, Bool, List, Option, None, MatchOption, slice_get, IsTrue}
+use Rattle.std.specs.Prelude.{ℕ, zero, suc, Bool, List, Option, None, MatchOption, slice_get, IsTrue}
 use Rattle.hdl_trail.specs.declared.kept.Mark.{Mark}
 use Rattle.hdl_trail.specs.declared.kept.Sent.{Sent}
 use Rattle.hdl_trail.specs.Kept.{is_held}

@@ -1,8 +1,7 @@
 //! What the service keeps of a lane, as far as the trail sees it.
 
-ghost use Rattle.std.specs.Prelude.{◌≡◌, ◌<◌, ◌++◌, ◌∷◌, [], drop};
-ghost use Rattle.arrayvec.specs.ArrayVec.{array_vec_len};
-ghost use Rattle.hdl_trail.specs.Kept.{is_of, is_from};
+ghost use Rattle.std.specs.Prelude.{◌≡◌, ◌<◌};
+ghost use Rattle.hdl_trail.specs.Kept.{is_of, is_from, put_behind};
 
 use arrayvec::ArrayVec;
 
@@ -54,8 +53,7 @@ impl Sent {
 /// Puts one behind the others, of which the oldest goes where there are as many as may be.
 pub(crate) fn put<T: Default + Drop, const N: usize>(kept: &mut ArrayVec<T, N>, newest: T)
     requires { 0 < N }
-    ensures room { array_vec_len kept.old < N → kept.new.items ≡ kept.old.items ++ newest ∷ [] }
-    ensures full { array_vec_len kept.old ≡ N → kept.new.items ≡ drop 1 kept.old.items ++ newest ∷ [] }
+    ensures put { kept.new.items ≡ put_behind N kept.old.items newest }
 {
     if kept.is_full() {
         kept.remove(0);

@@ -11,7 +11,8 @@
 //! ```
 //!
 //! Promised are: a number comes from an address that it stands for; a number under which something is followed keeps its address, whatever
-//! comes; and octets that are no frame change nothing. What the trail says of the service isn't proved; `src/trail.rt` says why it is so, and tools/ports.py tries it.
+//! comes; octets that are no frame change nothing; and the trail follows what begins and ends by its rules. That these are the service's isn't proved:
+//! `src/trail.rt` says why they are, and tools/ports.py tries them.
 //! It stands on the limits and on frames, and knows no sockets: an address is whatever can be compared.
 #![tactic(auto)]
 

@@ -10,9 +10,9 @@
 //!
 //! A spent one makes room, so an older one than the last eight may be pending: it isn't enough to know the last eight.
 
-ghost use Rattle.std.specs.Prelude.{◌≡◌, ◌==◌, []};
-ghost use Rattle.std.specs.List.{list_any};
-ghost use Rattle.hdl_trail.specs.Kept.{is_held};
+ghost use Rattle.std.specs.Prelude.{◌≡◌, ◌≢◌, ◌==◌, [], None, Some, IfSome, IsTrue, IsFalse, MatchOption};
+ghost use Rattle.std.specs.List.{list_any, position, remove};
+ghost use Rattle.hdl_trail.specs.Kept.{is_held, is_of, is_from, put_behind};
 
 use crate::exchange::{Exchange, reply_of};
 use crate::kept::{Key, Mark, Sent, put};
@@ -98,7 +98,19 @@ impl Trail {
     }
 
     /// The reply to what came last is whole, or there is none.
-    pub fn settle(&mut self) {
+    pub fn settle(&mut self)
+        ensures settled { self.new.exchange ≡ None }
+        ensures nothing { self.old.exchange ≡ None → (self.new.partials.items ≡ self.old.partials.items) × (self.new.challenges.items ≡ self.old.challenges.items) }
+        ensures unanswered { IfSome self.old.exchange (λ e. e.reply ≡ None → (self.new.challenges.items ≡ self.old.challenges.items)
+            × (IsFalse e.is_piece → self.new.partials.items ≡ self.old.partials.items)) }
+        ensures begun { IfSome self.old.exchange (λ e. e.reply ≡ None → IsTrue e.is_piece → position (is_of e.key) self.old.partials.items ≡ None
+            → self.new.partials.items ≡ put_behind PARTIALS_MAX self.old.partials.items (record { key = e.key; length = e.length; operation = e.operation })) }
+        ensures busy { IfSome self.old.exchange (λ e. IfSome e.reply (λ r. r.0 ≡ BUSY → (self.new.partials.items ≡ self.old.partials.items) × (self.new.challenges.items ≡ self.old.challenges.items))) }
+        ensures malformed { IfSome self.old.exchange (λ e. IfSome e.reply (λ r. r.0 ≡ MALFORMED → self.new.challenges.items ≡ self.old.challenges.items)) }
+        ensures ended { IfSome self.old.exchange (λ e. IfSome e.reply (λ r. r.0 ≢ BUSY → IsTrue e.is_piece
+            → MatchOption (position (is_of e.key) self.old.partials.items) (self.new.partials.items ≡ self.old.partials.items) (λ k. self.new.partials.items ≡ remove self.old.partials.items k))) }
+        ensures challenged { IfSome self.old.exchange (λ e. IfSome e.reply (λ r. r.0 ≡ CHALLENGE → IsTrue (is_held self.new.partials.items self.new.challenges.items e.key.number))) }
+    {
         let Some(exchange) = self.exchange else {
             return;
         };
@@ -115,7 +127,14 @@ impl Trail {
     }
 
     /// A message was answered by this code, under this SessionId.
-    fn close(&mut self, exchange: Exchange, code: u32, session: u32) {
+    fn close(&mut self, exchange: Exchange, code: u32, session: u32)
+        ensures exchange { self.new.exchange ≡ self.old.exchange }
+        ensures whole { IsFalse exchange.is_piece → self.new.partials.items ≡ self.old.partials.items }
+        ensures malformed { code ≡ MALFORMED → self.new.challenges.items ≡ self.old.challenges.items }
+        ensures ordinary { IsFalse exchange.is_piece → exchange.operation ≢ Some RESPONSE → code ≢ CHALLENGE → self.new.challenges.items ≡ self.old.challenges.items }
+        ensures ended { IsTrue exchange.is_piece → MatchOption (position (is_of exchange.key) self.old.partials.items) (self.new.partials.items ≡ self.old.partials.items) (λ k. self.new.partials.items ≡ remove self.old.partials.items k) }
+        ensures challenged { code ≡ CHALLENGE → IsTrue (list_any (λ s. s.number == exchange.key.number) self.new.challenges.items) }
+    {
         let kept = if exchange.is_piece {
             self.end(exchange.key)
         } else {
@@ -132,13 +151,19 @@ impl Trail {
     }
 
     /// The place of the message of this key.
-    fn place(&self, key: Key) -> Option<usize> {
+    fn place(&self, key: Key) -> Option<usize>
+        ensures { result ≡ position (is_of key) self.now.partials.items }
+    {
         let mut partials = self.partials.as_slice().iter();
         partials.position(|mark| mark.is_of(key))
     }
 
     /// A piece is kept, or is ignored since it came before or says another length.
-    fn keep(&mut self, exchange: Exchange) {
+    fn keep(&mut self, exchange: Exchange)
+        ensures exchange { self.new.exchange ≡ self.old.exchange }
+        ensures challenges { self.new.challenges.items ≡ self.old.challenges.items }
+        ensures begun { position (is_of exchange.key) self.old.partials.items ≡ None → self.new.partials.items ≡ put_behind PARTIALS_MAX self.old.partials.items (record { key = exchange.key; length = exchange.length; operation = exchange.operation }) }
+    {
         let Exchange {
             key,
             length,
@@ -164,17 +189,32 @@ impl Trail {
     }
 
     /// A message that came in pieces is answered, so nothing of it is kept any more. Its operation, where its front came before.
-    fn end(&mut self, key: Key) -> Option<u32> {
+    fn end(&mut self, key: Key) -> Option<u32>
+        ensures exchange { self.new.exchange ≡ self.old.exchange }
+        ensures challenges { self.new.challenges.items ≡ self.old.challenges.items }
+        ensures ended { MatchOption (position (is_of key) self.old.partials.items) (self.new.partials.items ≡ self.old.partials.items) (λ k. self.new.partials.items ≡ remove self.old.partials.items k) }
+    {
         let place = self.place(key)?;
         let mark = self.partials.pop_at(place)?;
         mark.operation
     }
 
     /// A response spends the challenge of its peer and SessionId, if there is one.
-    fn spend(&mut self, key: Key) {
-        let mut challenges = self.challenges.as_slice().iter();
-        if let Some(place) = challenges.position(|sent| sent.is_from(key.number, key.session)) {
+    fn spend(&mut self, key: Key)
+        ensures exchange { self.new.exchange ≡ self.old.exchange }
+        ensures partials { self.new.partials.items ≡ self.old.partials.items }
+        ensures spent { MatchOption (position (is_from key.number key.session) self.old.challenges.items) (self.new.challenges.items ≡ self.old.challenges.items) (λ k. self.new.challenges.items ≡ remove self.old.challenges.items k) }
+    {
+        if let Some(place) = self.place_of_sent(key) {
             self.challenges.pop_at(place);
         }
+    }
+
+    /// The place of the challenge of this peer and SessionId.
+    fn place_of_sent(&self, key: Key) -> Option<usize>
+        ensures { result ≡ position (is_from key.number key.session) self.now.challenges.items }
+    {
+        let mut challenges = self.challenges.as_slice().iter();
+        challenges.position(|sent| sent.is_from(key.number, key.session))
     }
 }

@@ -3,7 +3,7 @@
 use hdl_client::{ClientFault, Connection, Session, connect};
 use hdl_msg::read_reply;
 use hdl_proxy::{NoAnswer, Resolver};
-use std::alloc::{AllocError, Global};
+use std::alloc::AllocError;
 
 /// The code of a reply that refers to another service.
 const REFERRAL: u32 = 302;
@@ -16,7 +16,7 @@ struct Server {
     session: Option<Session<Connection>>,
 }
 
-/// Servers, each with the prefixes that it answers for, asked one question at a time. Connections are kept.
+/// Servers that are asked one question at a time, one after the other. Connections are kept.
 #[derive(Drop)]
 pub struct Servers {
     rt: HostRuntime,
@@ -103,7 +103,7 @@ impl Servers {
 }
 
 impl Resolver for Servers {
-    fn ask(&mut self, _alloc: Global, _handle: &[u8], message: &[u8]) -> Result<Vec<u8>, NoAnswer> {
+    fn ask(&mut self, message: &[u8]) -> Result<Vec<u8>, NoAnswer> {
         match self.reply_to(message) {
             Ok(reply) => Ok(reply),
             Err(ClientFault::Memory) => Err(NoAnswer::Memory),

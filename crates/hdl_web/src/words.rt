@@ -1,7 +1,7 @@
 //! The words of the command line.
 
 use clap::{Arg, ArgAction, ArgMatches, Command, Error, value_parser};
-use hdl_status::status_of_words;
+use hdl_status::{VERSION, status_of_words};
 use std::alloc::{AllocError, Global};
 use std::{env, io};
 
@@ -36,6 +36,7 @@ pub enum Asked {
 
 fn command<'a>(alloc: Global) -> Result<Command<'a>, AllocError> {
     Command::new(alloc, NAME)
+        .version(VERSION)
         .bin_name(NAME)?
         .about("Leads browsers from a handle's address to its URL, over HTTP")
         .arg(

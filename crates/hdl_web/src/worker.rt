@@ -19,10 +19,11 @@ fn answered<S: Resolver>(
     resolver: &mut S,
     question: &Question,
 ) -> Result<Answer, AllocError> {
+    // a question has no message where it is longer than a message may be, which no head of 8 KiB comes to
     let Some(message) = question.message(alloc)? else {
         return finish(alloc, question, Err(NoAnswer::Unreachable));
     };
-    match resolver.ask(alloc, question.name.sent(), &message) {
+    match resolver.ask(&message) {
         Ok(reply) => finish(alloc, question, Ok(&reply)),
         Err(none) => finish(alloc, question, Err(none)),
     }

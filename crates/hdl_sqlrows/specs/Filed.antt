@@ -1,0 +1,33 @@
+-- What it means that a table is filed in a database: its two tables hold exactly the table's rows.
+use Rattle.std.specs.Prelude.{◌≡◌, IsTrue}
+use Rattle.sqlite_trees.specs.Tree.{Trees}
+use Rattle.sqlite.specs.State.{State, HasCleanDisk}
+use Rattle.hdl_rows.specs.Table.{Table}
+use Rattle.hdl_sqlrows.specs.Kept.{IsInside, table_in}
+
+-- P, where the disk has returned what was written and the store is open
+abbrev pub WhereOpen : State → Type 0 → Type 0
+WhereOpen s P = HasCleanDisk s → IsTrue s.is_open → P
+
+-- the table as a transaction sees it, and as the last commit left it
+abbrev pub drafted : State → Table
+drafted s = table_in s.now.trees
+
+abbrev pub filed : State → Table
+filed s = table_in s.committed.trees
+
+-- an open store sees this table within a transaction
+abbrev pub IsDraft : State → Table → Type 0
+IsDraft s t = IsTrue s.is_open × IsInside s × (drafted s ≡ t)
+
+-- an open store has this table committed
+abbrev pub IsFiled : State → Table → Type 0
+IsFiled s t = IsTrue s.is_open × (filed s ≡ t)
+
+-- a store that is open was open before, with the same last commit
+abbrev pub KeepsCommitted : State → State → Type 0
+KeepsCommitted old new = WhereOpen new (IsTrue old.is_open × (new.committed ≡ old.committed))
+
+-- whatever a crash at this moment leaves is this table
+abbrev pub CrashLeaves : State → Table → Type 0
+CrashLeaves s t = (db : Trees) → s.may_leave db → table_in db ≡ t

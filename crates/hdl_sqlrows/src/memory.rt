@@ -1,0 +1,100 @@
+//! The writes of a table in memory, where the disk has always returned what was written and the store is open.
+
+ghost use Rattle.std.specs.Prelude.{◌≡◌, true, false, OnOk, OnErr};
+ghost use Rattle.hdl_name.specs.Name.{authority as authority_of};
+ghost use Rattle.hdl_rows.specs.Table.{no_rows, has, created, with_values, without_values, without_handle, AreDistinct, AreAbsent, ArePresent, indexes};
+ghost use Rattle.hdl_sqlrows.specs.Kept.{IsBlank, IsSettled, seen, shown};
+
+use crate::fault::Fault;
+use crate::{layout, writes};
+use hdl_value::Value;
+use sqlite::{Connection, MemStore};
+use std::alloc::Global;
+
+/// Makes the two tables in a database that has none.
+pub(crate) fn make_tables(conn: &mut Connection<MemStore>) -> Result<(), Fault>
+    requires mode { conn.old.in_transaction ≡ false }
+    requires blank { IsBlank (seen conn.old) }
+    ensures settled { OnOk result (IsSettled (seen conn.new)) }
+    ensures empty { OnOk result (shown conn.new ≡ no_rows) }
+{
+    layout::make_tables(conn)
+}
+
+/// Makes a handle with these values.
+pub(crate) fn create(
+    conn: &mut Connection<MemStore>,
+    alloc: Global,
+    name: &[u8],
+    authority: &[u8],
+    values: &[Value],
+) -> Result<(), Fault>
+    requires settled { IsSettled (seen conn.old) }
+    requires authority { authority.now ≡ authority_of name.now }
+    requires none { has (shown conn.old) name.now ≡ false }
+    requires absent { AreAbsent (shown conn.old) name.now (indexes values.now) }
+    requires distinct { AreDistinct (indexes values.now) }
+    ensures settled { IsSettled (seen conn.new) }
+    ensures done { OnOk result (shown conn.new ≡ created (shown conn.old) name.now values.now) }
+    ensures undone { OnErr result (shown conn.new ≡ shown conn.old) }
+{
+    writes::create(conn, alloc, name, authority, values)
+}
+
+/// Puts values at indexes where none stands.
+pub(crate) fn add(
+    conn: &mut Connection<MemStore>,
+    alloc: Global,
+    name: &[u8],
+    values: &[Value],
+) -> Result<(), Fault>
+    requires settled { IsSettled (seen conn.old) }
+    requires absent { AreAbsent (shown conn.old) name.now (indexes values.now) }
+    requires distinct { AreDistinct (indexes values.now) }
+    ensures settled { IsSettled (seen conn.new) }
+    ensures done { OnOk result (shown conn.new ≡ with_values (shown conn.old) name.now values.now) }
+    ensures undone { OnErr result (shown conn.new ≡ shown conn.old) }
+{
+    writes::add(conn, alloc, name, values)
+}
+
+/// Puts values at their indexes, each over the one that stands there.
+pub(crate) fn modify(
+    conn: &mut Connection<MemStore>,
+    alloc: Global,
+    name: &[u8],
+    values: &[Value],
+) -> Result<(), Fault>
+    requires settled { IsSettled (seen conn.old) }
+    requires there { ArePresent (shown conn.old) name.now (indexes values.now) }
+    ensures settled { IsSettled (seen conn.new) }
+    ensures done { OnOk result (shown conn.new ≡ with_values (shown conn.old) name.now values.now) }
+    ensures undone { OnErr result (shown conn.new ≡ shown conn.old) }
+{
+    writes::modify(conn, alloc, name, values)
+}
+
+/// Takes away what stands at these indexes.
+pub(crate) fn remove(
+    conn: &mut Connection<MemStore>,
+    name: &[u8],
+    indexes: &[u32],
+) -> Result<(), Fault>
+    requires settled { IsSettled (seen conn.old) }
+    ensures settled { IsSettled (seen conn.new) }
+    ensures done { OnOk result (shown conn.new ≡ without_values (shown conn.old) name.now indexes.now) }
+    ensures undone { OnErr result (shown conn.new ≡ shown conn.old) }
+{
+    writes::remove(conn, name, indexes)
+}
+
+/// Takes a handle away, and its values with it.
+pub(crate) fn delete(conn: &mut Connection<MemStore>, name: &[u8]) -> Result<(), Fault>
+    requires settled { IsSettled (seen conn.old) }
+    requires there { has (shown conn.old) name.now ≡ true }
+    ensures settled { IsSettled (seen conn.new) }
+    ensures done { OnOk result (shown conn.new ≡ without_handle (shown conn.old) name.now) }
+    ensures undone { OnErr result (shown conn.new ≡ shown conn.old) }
+{
+    writes::delete(conn, name)
+}
