@@ -147,7 +147,8 @@ impl Search {
         Ok(())
     }
 
-    /// Looks up so many references more, each once, or all that are left. The table stays as it is.
+    /// Looks up so many references more, each once, or fewer: all that are left, or until so many more were seen and the list that brought
+    /// the last of them. The table stays as it is.
     ///
     /// Refused: the table refused a look, and its count rose by one; or memory was refused, and the count is as it was. The search is
     /// dropped then.
@@ -162,8 +163,9 @@ impl Search {
         ensures search { IfOk result (λ search. IsSearch (R.content rows.old) search × (handle_of search ≡ handle_of self)) }
         ensures count { IsCounted result (R.refused rows.old) (R.refused rows.new) }
     {
+        let most_seen = self.references().saturating_add(most);
         for _ in 0..most {
-            if self.is_done() {
+            if self.is_done() || self.references() > most_seen {
                 return Ok(self);
             }
             self.pass(alloc, rows)?;

@@ -45,8 +45,8 @@ fn key(alloc: Global, index: u32) -> Result<Reference, Fail> {
     })
 }
 
-/// One call looks up 2,048 references and is refused, which no table counts; the next goes on from there, and each reference is
-/// looked up once.
+/// One call stops behind the list, since that holds more than 2,048 references, and the next behind 2,048 of these. Both are refused, which no
+/// table counts. The third ends, and each reference was looked up once.
 #[test]
 fn a_search_goes_on(rt: HostRuntime) -> Result<(), Fail> {
     let mut masks = Masks::new(rt.alloc())?;
@@ -56,7 +56,9 @@ fn a_search_goes_on(rt: HostRuntime) -> Result<(), Fail> {
     let first = masks.mask(&mut rows, &name, &last);
     same(&rt, "first", first, Err(Refused));
     let second = masks.mask(&mut rows, &name, &last);
-    same(&rt, "second", second, Ok(Some(AdminMask(0x0fff))));
+    same(&rt, "second", second, Err(Refused));
+    let third = masks.mask(&mut rows, &name, &last);
+    same(&rt, "third", third, Ok(Some(AdminMask(0x0fff))));
     same(&rt, "refused", rows.refusals(), 0);
     Ok(())
 }
@@ -71,10 +73,12 @@ fn a_search_serves_every_key(rt: HostRuntime) -> Result<(), Fail> {
     let first = masks.mask(&mut rows, &name, &made_up);
     same(&rt, "first", first, Err(Refused));
     let second = masks.mask(&mut rows, &name, &made_up);
-    same(&rt, "made up", second, Ok(None));
+    same(&rt, "second", second, Err(Refused));
+    let third = masks.mask(&mut rows, &name, &made_up);
+    same(&rt, "made up", third, Ok(None));
     let one = key(rt.alloc(), 1)?;
-    let third = masks.mask(&mut rows, &name, &one);
-    same(&rt, "listed", third, Ok(Some(AdminMask(0x0fff))));
+    let listed = masks.mask(&mut rows, &name, &one);
+    same(&rt, "listed", listed, Ok(Some(AdminMask(0x0fff))));
     same(&rt, "refused", rows.refusals(), 0);
     Ok(())
 }
@@ -89,7 +93,9 @@ fn a_change_ends_what_saw_its_handle(rt: HostRuntime) -> Result<(), Fail> {
     let first = masks.mask(&mut rows, &name, &last);
     same(&rt, "first", first, Err(Refused));
     let second = masks.mask(&mut rows, &name, &last);
-    same(&rt, "second", second, Ok(Some(AdminMask(0x0fff))));
+    same(&rt, "second", second, Err(Refused));
+    let third = masks.mask(&mut rows, &name, &last);
+    same(&rt, "third", third, Ok(Some(AdminMask(0x0fff))));
     masks.forget(&Name::read(rt.alloc(), b"20/key")?);
     let kept = masks.mask(&mut rows, &name, &last);
     same(&rt, "of another handle", kept, Ok(Some(AdminMask(0x0fff))));

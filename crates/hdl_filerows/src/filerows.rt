@@ -1,0 +1,127 @@
+//! Rows in a database that lasts.
+
+ghost use Rattle.std.specs.Prelude.{◌≡◌, true, false, IsTrue, IfOk, OnOk, OnErr};
+ghost use Rattle.sqlite.specs.State.{HasCleanDisk, Survives};
+ghost use Rattle.sqlite.specs.Held.{state};
+ghost use Rattle.hdl_name.specs.Name.{canonical};
+ghost use Rattle.hdl_rows.specs.Table.{no_rows, has, created, with_values, without_values, without_handle, AreDistinct, AreAbsent, ArePresent, indexes};
+ghost use Rattle.hdl_sqlrows.specs.Filed.{WhereOpen, IsFiled, CrashLeaves, filed};
+ghost use Rattle.hdl_sqlrows.specs.Kept.{IsBlank, table_in};
+
+use hdl_name::Name;
+use hdl_sqlrows::{Fault, layout, writes};
+use hdl_value::Value;
+use sqlite::{Alter, Connection};
+use std::alloc::Global;
+use std::marker::Model;
+
+/// Rows in a database that lasts. Contracts see its connection. Between calls no transaction is open, and where the store is open all of it is
+/// committed.
+#[derive(Drop)]
+pub struct FileRows<S: Alter + Drop> {
+    alloc: Global,
+    conn: Connection<S>,
+}
+
+impl<S: Alter + Drop> Model for FileRows<S> {
+    ghost use Rattle.std.specs.Prelude.{◌≡◌, false};
+    ghost use Rattle.sqlite.specs.Held.{Held, held_code, state};
+    ghost use Rattle.hdl_sqlrows.specs.Filed.{WhereOpen};
+    ghost use Rattle.hdl_sqlrows.specs.Kept.{IsSettled};
+
+    ghost Value = { Held S };
+
+    ghost coded = { held_code S.code };
+
+    ghost view = { λ s. s.conn };
+
+    ghost invariant = { λ s. (s.conn.in_transaction ≡ false) × WhereOpen (state S.Store s.conn) (IsSettled (state S.Store s.conn)) };
+}
+
+impl<S: Alter + Drop> FileRows<S> {
+    /// Makes the two tables in a database that has none. A crash leaves none of them or both.
+    pub fn in_new_file(alloc: Global, mut conn: Connection<S>) -> Result<FileRows<S>, Fault>
+        requires mode { conn.in_transaction ≡ false }
+        requires blank { WhereOpen (state S.Store conn) (IsBlank (state S.Store conn)) }
+        ensures empty { IfOk result (λ rows. HasCleanDisk (state S.Store rows) → IsFiled (state S.Store rows) no_rows) }
+        ensures durable { IfOk result (λ rows. HasCleanDisk (state S.Store rows) → CrashLeaves (state S.Store rows) no_rows) }
+    {
+        layout::make_tables(&mut conn)?;
+        Ok(FileRows { alloc, conn })
+    }
+
+    /// Between calls a crash leaves the rows as they were filed, and nothing else.
+    pub fn after_a_crash(&self)
+        ensures { WhereOpen (state S.Store self.now) (CrashLeaves (state S.Store self.now) (filed (state S.Store self.now))) }
+    {}
+
+    /// The connection, for its owner to close.
+    pub fn into_connection(self) -> Connection<S>
+        ensures { result ≡ self }
+    {
+        self.conn
+    }
+
+    /// Makes an absent handle, with these values.
+    pub fn create(&mut self, name: &Name, values: &[Value]) -> Result<(), Fault>
+        requires none { WhereOpen (state S.Store self.old) (has (filed (state S.Store self.old)) (canonical name.now) ≡ false) }
+        requires absent { WhereOpen (state S.Store self.old) (AreAbsent (filed (state S.Store self.old)) (canonical name.now) (indexes values.now)) }
+        requires distinct { AreDistinct (indexes values.now) }
+        ensures done { OnOk result (HasCleanDisk (state S.Store self.new) → IsFiled (state S.Store self.new) (created (filed (state S.Store self.old)) (canonical name.now) values.now)) }
+        ensures undone { OnErr result (WhereOpen (state S.Store self.new) (filed (state S.Store self.new) ≡ filed (state S.Store self.old))) }
+        ensures durable { OnOk result (HasCleanDisk (state S.Store self.new) → CrashLeaves (state S.Store self.new) (created (filed (state S.Store self.old)) (canonical name.now) values.now)) }
+        ensures restored { OnErr result (WhereOpen (state S.Store self.new) (CrashLeaves (state S.Store self.new) (filed (state S.Store self.old)))) }
+        ensures survives { Survives (state S.Store self.old) (state S.Store self.new) (λ db. table_in db ≡ created (filed (state S.Store self.old)) (canonical name.now) values.now) }
+    {
+        let authority = name.authority();
+        writes::create(&mut self.conn, self.alloc, name.canon(), authority, values)
+    }
+
+    /// Puts values at indexes of a handle where none stands.
+    pub fn add(&mut self, name: &Name, values: &[Value]) -> Result<(), Fault>
+        requires absent { WhereOpen (state S.Store self.old) (AreAbsent (filed (state S.Store self.old)) (canonical name.now) (indexes values.now)) }
+        requires distinct { AreDistinct (indexes values.now) }
+        ensures done { OnOk result (HasCleanDisk (state S.Store self.new) → IsFiled (state S.Store self.new) (with_values (filed (state S.Store self.old)) (canonical name.now) values.now)) }
+        ensures undone { OnErr result (WhereOpen (state S.Store self.new) (filed (state S.Store self.new) ≡ filed (state S.Store self.old))) }
+        ensures durable { OnOk result (HasCleanDisk (state S.Store self.new) → CrashLeaves (state S.Store self.new) (with_values (filed (state S.Store self.old)) (canonical name.now) values.now)) }
+        ensures restored { OnErr result (WhereOpen (state S.Store self.new) (CrashLeaves (state S.Store self.new) (filed (state S.Store self.old)))) }
+        ensures survives { Survives (state S.Store self.old) (state S.Store self.new) (λ db. IsTrue (state S.Store self.old).is_open → table_in db ≡ with_values (filed (state S.Store self.old)) (canonical name.now) values.now) }
+    {
+        writes::add(&mut self.conn, self.alloc, name.canon(), values)
+    }
+
+    /// Replaces the values at indexes of a handle, each whole.
+    pub fn modify(&mut self, name: &Name, values: &[Value]) -> Result<(), Fault>
+        requires there { WhereOpen (state S.Store self.old) (ArePresent (filed (state S.Store self.old)) (canonical name.now) (indexes values.now)) }
+        ensures done { OnOk result (HasCleanDisk (state S.Store self.new) → IsFiled (state S.Store self.new) (with_values (filed (state S.Store self.old)) (canonical name.now) values.now)) }
+        ensures undone { OnErr result (WhereOpen (state S.Store self.new) (filed (state S.Store self.new) ≡ filed (state S.Store self.old))) }
+        ensures durable { OnOk result (HasCleanDisk (state S.Store self.new) → CrashLeaves (state S.Store self.new) (with_values (filed (state S.Store self.old)) (canonical name.now) values.now)) }
+        ensures restored { OnErr result (WhereOpen (state S.Store self.new) (CrashLeaves (state S.Store self.new) (filed (state S.Store self.old)))) }
+        ensures survives { Survives (state S.Store self.old) (state S.Store self.new) (λ db. IsTrue (state S.Store self.old).is_open → table_in db ≡ with_values (filed (state S.Store self.old)) (canonical name.now) values.now) }
+    {
+        writes::modify(&mut self.conn, self.alloc, name.canon(), values)
+    }
+
+    /// Takes away what stands at these indexes of a handle, which stays.
+    pub fn remove(&mut self, name: &Name, indexes: &[u32]) -> Result<(), Fault>
+        ensures done { OnOk result (HasCleanDisk (state S.Store self.new) → IsFiled (state S.Store self.new) (without_values (filed (state S.Store self.old)) (canonical name.now) indexes.now)) }
+        ensures undone { OnErr result (WhereOpen (state S.Store self.new) (filed (state S.Store self.new) ≡ filed (state S.Store self.old))) }
+        ensures durable { OnOk result (HasCleanDisk (state S.Store self.new) → CrashLeaves (state S.Store self.new) (without_values (filed (state S.Store self.old)) (canonical name.now) indexes.now)) }
+        ensures restored { OnErr result (WhereOpen (state S.Store self.new) (CrashLeaves (state S.Store self.new) (filed (state S.Store self.old)))) }
+        ensures survives { Survives (state S.Store self.old) (state S.Store self.new) (λ db. IsTrue (state S.Store self.old).is_open → table_in db ≡ without_values (filed (state S.Store self.old)) (canonical name.now) indexes.now) }
+    {
+        writes::remove(&mut self.conn, name.canon(), indexes)
+    }
+
+    /// Takes a handle away with all its values.
+    pub fn delete(&mut self, name: &Name) -> Result<(), Fault>
+        requires there { WhereOpen (state S.Store self.old) (has (filed (state S.Store self.old)) (canonical name.now) ≡ true) }
+        ensures done { OnOk result (HasCleanDisk (state S.Store self.new) → IsFiled (state S.Store self.new) (without_handle (filed (state S.Store self.old)) (canonical name.now))) }
+        ensures undone { OnErr result (WhereOpen (state S.Store self.new) (filed (state S.Store self.new) ≡ filed (state S.Store self.old))) }
+        ensures durable { OnOk result (HasCleanDisk (state S.Store self.new) → CrashLeaves (state S.Store self.new) (without_handle (filed (state S.Store self.old)) (canonical name.now))) }
+        ensures restored { OnErr result (WhereOpen (state S.Store self.new) (CrashLeaves (state S.Store self.new) (filed (state S.Store self.old)))) }
+        ensures survives { Survives (state S.Store self.old) (state S.Store self.new) (λ db. table_in db ≡ without_handle (filed (state S.Store self.old)) (canonical name.now)) }
+    {
+        writes::delete(&mut self.conn, name.canon())
+    }
+}

@@ -1,0 +1,16 @@
+//! The rows of a table in a database of SQL that lasts, as in a SQLite file.
+//!
+//! [`FileRows`] is a connection of `sqlite` over any of its stores, whose two tables are those of `hdl_sqlrows`. Each write is one transaction:
+//! what was answered is committed, and stays after a crash; what was refused is taken back; and a crash within the call leaves the rows with
+//! the whole write or without it. Nothing is read here.
+//!
+//! Each clause on rows is under two premises: the disk has returned what was written and nobody else wrote the files (`HasCleanDisk` of
+//! `sqlite`), and the store is open. What a crash may leave is what the store says (`may_leave`), whose argument is the kit's.
+//!
+//! It stands on `hdl_sqlrows`, whose functions make the writes, and on `sqlite`.
+#![tactic(auto)]
+
+mod filerows;
+
+pub use filerows::FileRows;
+pub use hdl_sqlrows::Fault;
