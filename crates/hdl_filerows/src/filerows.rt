@@ -6,7 +6,7 @@ ghost use Rattle.sqlite.specs.Held.{state};
 ghost use Rattle.hdl_name.specs.Name.{canonical};
 ghost use Rattle.hdl_rows.specs.Table.{no_rows, has, created, with_values, without_values, without_handle, AreDistinct, AreAbsent, ArePresent, indexes};
 ghost use Rattle.hdl_sqlrows.specs.Filed.{WhereOpen, IsFiled, CrashLeaves, filed};
-ghost use Rattle.hdl_sqlrows.specs.Kept.{IsBlank, table_in};
+ghost use Rattle.hdl_sqlrows.specs.Kept.{IsBlank, IsSettled, table_in};
 
 use hdl_name::Name;
 use hdl_sqlrows::{Fault, layout, writes};
@@ -48,6 +48,24 @@ impl<S: Alter + Drop> FileRows<S> {
     {
         layout::make_tables(&mut conn)?;
         Ok(FileRows { alloc, conn })
+    }
+
+    /// The rows of a database that has the tables.
+    pub fn over(alloc: Global, conn: Connection<S>) -> FileRows<S>
+        requires mode { conn.in_transaction ≡ false }
+        requires settled { WhereOpen (state S.Store conn) (IsSettled (state S.Store conn)) }
+        ensures { result ≡ conn }
+    {
+        FileRows { alloc, conn }
+    }
+
+    /// Whether the store still takes writes. Once the disk failed to commit one, nobody can tell what it has, and the store has shut for good.
+    pub fn is_open(&mut self) -> bool
+        ensures open { IsTrue result → HasCleanDisk (state S.Store self.new) → IsFiled (state S.Store self.new) (filed (state S.Store self.old)) }
+        ensures was_open { IsTrue result → HasCleanDisk (state S.Store self.new) → IsTrue (state S.Store self.old).is_open }
+        ensures survives { Survives (state S.Store self.old) (state S.Store self.new) (λ _. ⊥) }
+    {
+        self.conn.prepare("SELECT 1").is_ok()
     }
 
     /// Between calls a crash leaves the rows as they were filed, and nothing else.
