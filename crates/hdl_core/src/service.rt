@@ -81,6 +81,13 @@ impl<R: Rows + Drop> Service<R> {
         )
     }
 
+    /// The table. What is said of it beside [`Rows`], as what a crash leaves of a table that lasts, is said of the service's.
+    pub fn rows(&self) -> &R
+        ensures { R.content result.now ≡ self.now.table }
+    {
+        &self.rows
+    }
+
     /// The table, as the run left it.
     pub fn into_rows(self) -> R
         ensures { R.content result ≡ self.table }

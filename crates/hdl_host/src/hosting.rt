@@ -9,7 +9,7 @@ use crate::silence::{Seat, seats_at};
 use crate::waking::{Patience, Sleep};
 use crate::workers::{join_all, start};
 use hdl_core::{Rows, Service, Tenants};
-use hdl_replay::{Fault, put_all};
+use hdl_replay::{Fault, put_all, tenants_of};
 use hdl_serve::{Clock as Pauses, Far, LaneEnds, lanes_of, serve};
 use std::alloc::Global;
 use std::io::{self, Write};
@@ -138,24 +138,36 @@ fn ready_for<R: Net<Listener = TcpListener, Stream = TcpStream> + Clock>(
 ///
 /// What starts and joins the workers is generic over it: proving a function that owns a `Service` costs several times as much.
 trait Serving {
-    /// Serves the lanes.
-    fn serve_lanes<C: Pauses>(self, alloc: Global, ends: Vec<LaneEnds>, clock: &mut C, turns: u64)
+    /// Serves the lanes, and gives back what served them.
+    fn serve_lanes<C: Pauses>(
+        self,
+        alloc: Global,
+        ends: Vec<LaneEnds>,
+        clock: &mut C,
+        turns: u64,
+    ) -> Self
         requires distinct { AreDistinct ends.items };
 }
 
 impl<T: Rows + Drop> Serving for Service<T> {
-    fn serve_lanes<C: Pauses>(self, alloc: Global, ends: Vec<LaneEnds>, clock: &mut C, turns: u64) {
-        drop(serve(alloc, self, ends, clock, turns));
+    fn serve_lanes<C: Pauses>(
+        self,
+        alloc: Global,
+        ends: Vec<LaneEnds>,
+        clock: &mut C,
+        turns: u64,
+    ) -> Service<T> {
+        serve(alloc, self, ends, clock, turns).service
     }
 }
 
-/// Starts the workers, serves on this thread, and joins them.
+/// Starts the workers, serves on this thread, joins them, and gives back what served.
 fn served<R: Threads + Clock + RandomSource + Copy + Send + Drop + 'static, S: Serving + Drop>(
     rt: &R,
     alloc: Global,
     service: S,
     ready: Ready,
-) -> Result<(), Fault> {
+) -> Result<S, Fault> {
     let Ready {
         ends,
         far,
@@ -166,24 +178,17 @@ fn served<R: Threads + Clock + RandomSource + Copy + Send + Drop + 'static, S: S
     } = ready;
     let workers = start(rt, alloc, places, far, &sleep, turns)?;
     let mut clock = MachineClock::new(*rt, Part::Serves(sleep));
-    service.serve_lanes(alloc, ends, &mut clock, turns);
-    join_all(rt, workers)
+    let service = service.serve_lanes(alloc, ends, &mut clock, turns);
+    join_all(rt, workers)?;
+    Ok(service)
 }
 
-/// The tenants of a text, or its first fault.
-fn tenants_of(alloc: Global, text: &str) -> Result<Tenants, Fault> {
-    match Tenants::read(alloc, text) {
-        Ok(tenants) => Ok(tenants),
-        Err((line, fault)) => Err(Fault::Tenants(line, fault)),
-    }
-}
-
-/// Tells where it listens, and serves.
+/// Tells where it listens, serves, and gives back what served.
 fn tell_and_serve<
     R: Threads + Clock + RandomSource + Copy + Send + Drop + 'static,
     S: Serving + Drop,
     W: Write,
->(rt: &R, alloc: Global, service: S, ready: Ready, output: &mut W) -> Result<(), Fault> {
+>(rt: &R, alloc: Global, service: S, ready: Ready, output: &mut W) -> Result<S, Fault> {
     put_all(output, ready.lines.as_bytes())?;
     served(rt, alloc, service, ready)
 }
@@ -204,7 +209,26 @@ fn open_and_serve<
     requires empty { T.content rows ≡ no_rows }
 {
     let service = Service::open(alloc, tenants, rows)?;
-    tell_and_serve(rt, alloc, service, ready, output)
+    drop(tell_and_serve(rt, alloc, service, ready, output)?);
+    Ok(())
+}
+
+/// Resumes the service of the tenants over a table that is there already, tells where it listens, serves, and gives the table back.
+fn resume_and_serve<
+    R: Threads + Clock + RandomSource + Copy + Send + Drop + 'static,
+    T: Rows + Drop,
+    W: Write,
+>(
+    rt: &R,
+    alloc: Global,
+    rows: T,
+    tenants: Tenants,
+    ready: Ready,
+    output: &mut W,
+) -> Result<T, Fault> {
+    let service = Service::resume(alloc, tenants, rows)?;
+    let service = tell_and_serve(rt, alloc, service, ready, output)?;
+    Ok(service.into_rows())
 }
 
 /// Serves the tenants of the text over an empty table. The lines that tell where are written once all sockets listen, and before
@@ -229,6 +253,31 @@ pub fn hosted<
     let tenants = tenants_of(alloc, text)?;
     let ready = ready_for(rt, alloc, &tenants, limits)?;
     open_and_serve(rt, alloc, rows, tenants, ready, output)
+}
+
+/// Serves the tenants over a table that is there already, as [`hosted`] does, and gives the table back once each worker ended or the turns are
+/// spent. The table is dropped with a refusal.
+pub fn hosted_on<
+    R: Net<Listener = TcpListener, Stream = TcpStream>
+        + Threads
+        + Clock
+        + RandomSource
+        + Copy
+        + Send
+        + Drop
+        + 'static,
+    T: Rows + Drop,
+    W: Write,
+>(
+    rt: &R,
+    alloc: Global,
+    rows: T,
+    tenants: Tenants,
+    limits: Limits,
+    output: &mut W,
+) -> Result<T, Fault> {
+    let ready = ready_for(rt, alloc, &tenants, limits)?;
+    resume_and_serve(rt, alloc, rows, tenants, ready, output)
 }
 
 /// Serves the tenants of the text over TCP and UDP on loopback, over an empty table, until each worker ended or the turns are

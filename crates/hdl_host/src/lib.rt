@@ -7,7 +7,7 @@
 //! ```
 //!
 //! [`host`] listens at each publisher's port on loopback by TCP and UDP, starts a worker for each lane, and serves on the thread
-//! that called it. Everything between a door and a table is proved of `hdl_workers`, `hdl_serve` and `hdl_core`, and the numbers of datagram
+//! that called it. [`hosted_on`] does so over a table that is there already, and gives it back. Everything between a door and a table is proved of `hdl_workers`, `hdl_serve` and `hdl_core`, and the numbers of datagram
 //! peers of `hdl_trail`; this crate hands them what the machine has: sockets, a clock, random numbers and threads. No contract can
 //! say what these give, so the doors here tell nothing, and nothing is promised of octets on a wire.
 //!
@@ -51,4 +51,4 @@ mod waking;
 mod watch;
 mod workers;
 
-pub use hosting::{Limits, host, hosted};
+pub use hosting::{Limits, host, hosted, hosted_on};

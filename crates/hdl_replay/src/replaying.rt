@@ -62,8 +62,8 @@ fn lanes_of(alloc: Global, events: &[Event]) -> Result<Vec<u16>, Fault> {
     Ok(lanes)
 }
 
-/// The tenants that the text gives.
-fn tenants_of(alloc: Global, text: &str) -> Result<Tenants, Fault> {
+/// The tenants that the text gives, or the first fault of its lines.
+pub fn tenants_of(alloc: Global, text: &str) -> Result<Tenants, Fault> {
     match Tenants::read(alloc, text) {
         Ok(tenants) => Ok(tenants),
         Err((line, fault)) => Err(Fault::Tenants(line, fault)),
@@ -106,6 +106,20 @@ fn told<R: Rows + Drop>(
     let lanes = lanes_of(alloc, events.as_slice())?;
     let outcomes = outcomes_of(alloc, rows, tenants, events)?;
     lines_of(alloc, lanes.as_slice(), outcomes.as_slice())
+}
+
+/// The lines of the events' outcomes, over a table that is there already, and the table after them.
+pub fn told_on<R: Rows + Drop>(
+    alloc: Global,
+    rows: R,
+    tenants: Tenants,
+    events: Vec<Event>,
+) -> Result<(String, R), Fault> {
+    let lanes = lanes_of(alloc, events.as_slice())?;
+    let mut service = Service::resume(alloc, tenants, rows)?;
+    let outcomes = served(&mut service, events)?;
+    let text = lines_of(alloc, lanes.as_slice(), outcomes.as_slice())?;
+    Ok((text, service.into_rows()))
 }
 
 /// What a script prints, over an empty table.
