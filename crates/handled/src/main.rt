@@ -2,13 +2,14 @@
 //!
 //! `handled` and `handled replay` are [`hdl_replay::replay`], handed the standard streams and a table in SQL, in memory.
 //! `handled serve` is [`hdl_host::host`], handed the tenants text on standard input and such a table, whose handles are kept where they
-//! were read last (hdl_cachedrows). What is printed, the fault lines and the exit statuses are those of docs/PROTOCOL.md, "The tenants
+//! were read last (hdl_cachedrows). With `--table FILE` both go on over the table in that file (hdl_lastingrows). What is printed, the fault lines and the exit statuses are those of docs/PROTOCOL.md, "The tenants
 //! text and scripts". This crate has the command line alone, since nothing else needs `clap`.
 #![tactic(auto)]
 
 ghost use Rattle.std.specs.Prelude.{◌≡◌, IfOk};
 ghost use Rattle.hdl_rows.specs.Table.{no_rows};
 
+mod tabled;
 mod words;
 
 use hdl_cachedrows::CachedRows;
@@ -17,6 +18,7 @@ use hdl_replay::{Fault, read_input, replay};
 use hdl_sqlrows::SqlRows;
 use std::hash::RandomState;
 use std::process::ExitCode;
+use tabled::{TabledFault, replay_on, serve_on};
 use words::{Asked, read_words};
 
 /// What is left to do once the command line and the input were read.
@@ -41,24 +43,44 @@ fn read_text(rt: &HostRuntime) -> Result<String, Fault> {
     }
 }
 
-fn run(rt: &HostRuntime) -> Result<Next, Fault> {
+/// Runs the script over a table in SQL, in memory, and answers the exit status.
+fn replayed(rt: &HostRuntime) -> Result<u8, Fault> {
+    let Ok(rows) = SqlRows::new(rt.alloc()) else {
+        return Err(Fault::StoreRefused);
+    };
+    let mut input = rt.stdin();
+    let mut output = rt.stdout();
+    let mut faults = rt.stderr();
+    Ok(replay(rt.alloc(), rows, &mut input, &mut output, &mut faults))
+}
+
+fn run(rt: &HostRuntime) -> Result<Next, TabledFault> {
     match read_words(rt)? {
         Asked::Ended(status) => Ok(Next::Ended(status)),
-        Asked::Replay => {
-            let Ok(rows) = SqlRows::new(rt.alloc()) else {
-                return Err(Fault::StoreRefused);
-            };
-            let mut input = rt.stdin();
-            let mut output = rt.stdout();
-            let mut faults = rt.stderr();
-            let status = replay(rt.alloc(), rows, &mut input, &mut output, &mut faults);
-            Ok(Next::Ended(status))
+        Asked::Replay { table: None } => Ok(Next::Ended(replayed(rt)?)),
+        Asked::Replay { table: Some(file) } => {
+            let text = read_text(rt)?;
+            replay_on(rt, &file, text.as_str())?;
+            Ok(Next::Ended(0))
         }
-        Asked::Serve { limits, row_cache } => Ok(Next::Serve {
+        Asked::Serve {
+            limits,
+            row_cache,
+            table: None,
+        } => Ok(Next::Serve {
             text: read_text(rt)?,
             limits,
             row_cache,
         }),
+        Asked::Serve {
+            limits,
+            table: Some(file),
+            ..
+        } => {
+            let text = read_text(rt)?;
+            serve_on(rt, &file, text.as_str(), limits)?;
+            Ok(Next::Ended(0))
+        }
     }
 }
 
@@ -76,7 +98,7 @@ fn served_rows(rt: &HostRuntime, row_cache: usize) -> Result<CachedRows<SqlRows>
 }
 
 /// Prints the fault line, and answers the exit status.
-fn failed(rt: &HostRuntime, fault: Fault) -> ExitCode {
+fn failed(rt: &HostRuntime, fault: TabledFault) -> ExitCode {
     let _ = eprintln!(rt; "{fault}");
     ExitCode::from(fault.status())
 }
@@ -98,7 +120,7 @@ fn main(rt: HostRuntime) -> ExitCode {
                 let mut faults = rt.stderr();
                 ExitCode::from(host(&rt, rows, text.as_str(), limits, &mut output, &mut faults))
             }
-            Err(fault) => failed(&rt, fault),
+            Err(fault) => failed(&rt, TabledFault::from(fault)),
         },
     }
 }

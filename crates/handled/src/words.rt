@@ -9,20 +9,52 @@ use hdl_status::{VERSION, status_of_words};
 use std::alloc::{AllocError, Global};
 use std::{env, io};
 
+/// The file of a table that lasts.
+#[derive(Debug, Drop)]
+pub struct TableFile {
+    pub path: String,
+    /// Whether a new one gets sums on its pages.
+    pub has_sums: bool,
+}
+
 /// What the command line asks for.
-#[derive(Clone, Copy, Debug, PartialEq, Eq)]
+#[derive(Debug, Drop)]
 pub enum Asked {
-    /// A script on standard input.
-    Replay,
-    /// The tenants text is on standard input, served within these limits, and of the table at most so many octets are kept where they were
-    /// read last.
-    Serve { limits: Limits, row_cache: usize },
+    /// A script on standard input, over the table in a file, if one is named.
+    Replay { table: Option<TableFile> },
+    /// The tenants text is on standard input, served within these limits. The table is in a file, if one is named; else in memory alone, and at
+    /// most so many octets of it are kept where they were read last.
+    Serve {
+        limits: Limits,
+        row_cache: usize,
+        table: Option<TableFile>,
+    },
     /// Nothing: help, the version or a fault was printed, and this is the exit status.
     Ended(u8),
 }
 
+fn table_args<'a>(alloc: Global, command: Command<'a>) -> Result<Command<'a>, AllocError> {
+    command
+        .arg(
+            Arg::new(alloc, "table")
+                .long("table")
+                .value_name("FILE")
+                .help(
+                    "Keeps the table in this SQLite file, where every change lasts; makes the file where there is none",
+                )
+                .action(ArgAction::Set),
+        )?
+        .arg(
+            Arg::new(alloc, "sums")
+                .long("sums")
+                .help("Gives a new FILE a sum on each page, which tells changed bits; a plain sqlite3 that writes it spoils them")
+                .action(ArgAction::SetTrue)
+                .requires_arg("table")?,
+        )
+}
+
 fn serve_command<'a>(alloc: Global) -> Result<Command<'a>, AllocError> {
-    Command::new(alloc, "serve")
+    let command = Command::new(alloc, "serve")
         .about("Serves the tenants text on standard input over TCP and UDP, on 127.0.0.1")
         .arg(
             Arg::new(alloc, "turns")
@@ -51,7 +83,13 @@ fn serve_command<'a>(alloc: Global) -> Result<Command<'a>, AllocError> {
                 )
                 .action(ArgAction::Set)
                 .value_parser(value_parser!(u64)),
-        )
+        )?;
+    table_args(alloc, command)
+}
+
+fn replay_command<'a>(alloc: Global) -> Result<Command<'a>, AllocError> {
+    let command = Command::new(alloc, "replay").about("Runs the script on standard input");
+    table_args(alloc, command)
 }
 
 fn command<'a>(alloc: Global) -> Result<Command<'a>, AllocError> {
@@ -60,7 +98,7 @@ fn command<'a>(alloc: Global) -> Result<Command<'a>, AllocError> {
         .about(
             "A local handle service; with no word, as with replay, it runs the script on standard input",
         )
-        .subcommand(Command::new(alloc, "replay").about("Runs the script on standard input"))?
+        .subcommand(replay_command(alloc)?)?
         .subcommand(serve_command(alloc)?)
 }
 
@@ -82,14 +120,31 @@ fn limits(found: &ArgMatches) -> Limits {
     }
 }
 
+/// The file that the table is in.
+fn table_file(alloc: Global, found: &ArgMatches) -> Result<Option<TableFile>, AllocError> {
+    match found.get_str("table") {
+        Some(path) => Ok(Some(TableFile {
+            path: String::from_str(alloc, path)?,
+            has_sums: found.get_flag("sums"),
+        })),
+        None => Ok(None),
+    }
+}
+
 fn parsed(alloc: Global, words: &[String]) -> Result<Asked, Error> {
     let matches = command(alloc)?.try_get_matches_from(words)?;
-    match matches.subcommand_matches("serve") {
-        Some(found) => Ok(Asked::Serve {
+    if let Some(found) = matches.subcommand_matches("serve") {
+        return Ok(Asked::Serve {
             limits: limits(found),
             row_cache: row_cache(found),
+            table: table_file(alloc, found)?,
+        });
+    }
+    match matches.subcommand_matches("replay") {
+        Some(found) => Ok(Asked::Replay {
+            table: table_file(alloc, found)?,
         }),
-        None => Ok(Asked::Replay),
+        None => Ok(Asked::Replay { table: None }),
     }
 }
 

@@ -15,17 +15,24 @@ use hdl_value::{Octets, Reference, Value};
 use sqlite::{Alter, Connection};
 use std::marker::Model;
 
+/// Who is told, once, that the table takes no more writes.
+pub trait Alarm {
+    /// A commit failed, or memory refused what was committed.
+    fn ring(&mut self);
+}
+
 /// A table in memory of which each write stands in a database before it is answered. Contracts see what the table holds, how many calls
 /// were refused by it or by the database, whether it is shut for writes, and the database's connection.
 #[derive(Drop)]
-pub struct LastingRows<R: Rows + Drop, S: Alter + Drop> {
+pub struct LastingRows<R: Rows + Drop, S: Alter + Drop, A: Alarm + Drop> {
     rows: R,
     file: FileRows<S>,
     is_shut: bool,
     refusals: u64,
+    alarm: A,
 }
 
-impl<R: Rows + Drop, S: Alter + Drop> Model for LastingRows<R, S> {
+impl<R: Rows + Drop, S: Alter + Drop, A: Alarm + Drop> Model for LastingRows<R, S, A> {
     ghost use Rattle.std.specs.Prelude.{◌+◌, min};
     ghost use Rattle.sqlite.specs.Held.{state};
     ghost use Rattle.hdl_rows.specs.Table.{most};
@@ -41,10 +48,11 @@ impl<R: Rows + Drop, S: Alter + Drop> Model for LastingRows<R, S> {
 }
 
 /// After a write that the database refused: counts that, and asks whether the store has shut.
-fn settle<S: Alter + Drop>(
+fn settle<S: Alter + Drop, A: Alarm>(
     file: &mut FileRows<S>,
     is_shut: &mut bool,
     refusals: &mut u64,
+    alarm: &mut A,
     written: Result<(), Fault>,
 ) -> Result<(), Refused>
     ensures same { MatchResult written (λ x. result ≡ Ok x) (λ _. IsErr result) }
@@ -59,6 +67,9 @@ fn settle<S: Alter + Drop>(
             *refusals = refusals.saturating_add(1);
             let is_open = file.is_open();
             *is_shut = !is_open;
+            if !is_open {
+                alarm.ring();
+            }
             Err(Refused)
         }
     }
@@ -73,19 +84,24 @@ fn refuse(refusals: &mut u64) -> Refused
 }
 
 /// Shuts the table for writes where memory refused what the database has.
-fn note(is_shut: &mut bool, done: Result<(), Refused>) -> Result<(), Refused>
+fn note<A: Alarm>(
+    is_shut: &mut bool,
+    alarm: &mut A,
+    done: Result<(), Refused>,
+) -> Result<(), Refused>
     ensures same { result ≡ done }
     ensures shut { is_shut.new ≡ is_err done || is_shut.old }
 {
     if done.is_err() {
         *is_shut = true;
+        alarm.ring();
     }
     done
 }
 
-impl<R: Rows + Drop, S: Alter + Drop> LastingRows<R, S> {
+impl<R: Rows + Drop, S: Alter + Drop, A: Alarm + Drop> LastingRows<R, S, A> {
     /// A table in memory and a database, which have the same rows.
-    pub fn new(rows: R, file: FileRows<S>) -> LastingRows<R, S>
+    pub fn new(rows: R, file: FileRows<S>, alarm: A) -> LastingRows<R, S, A>
         requires placed { IsPlaced (R.content rows) }
         requires filed { HasCleanDisk (state S.Store file) → IsFiled (state S.Store file) (R.content rows) }
         ensures { result ≡ record { table = R.content rows; refused = min (R.refused rows + 0) most; is_shut = false; file = file } }
@@ -96,6 +112,7 @@ impl<R: Rows + Drop, S: Alter + Drop> LastingRows<R, S> {
             file,
             is_shut: false,
             refusals: 0,
+            alarm,
         }
     }
 
@@ -122,7 +139,7 @@ impl<R: Rows + Drop, S: Alter + Drop> LastingRows<R, S> {
     }
 }
 
-impl<R: Rows + Drop, S: Alter + Drop> Rows for LastingRows<R, S> {
+impl<R: Rows + Drop, S: Alter + Drop, A: Alarm + Drop> Rows for LastingRows<R, S, A> {
     ghost content = { λ s. s.table };
 
     ghost refused = { λ s. s.refused };
@@ -156,10 +173,11 @@ impl<R: Rows + Drop, S: Alter + Drop> Rows for LastingRows<R, S> {
             &mut self.file,
             &mut self.is_shut,
             &mut self.refusals,
+            &mut self.alarm,
             written,
         )?;
         let done = self.rows.create(name, values);
-        note(&mut self.is_shut, done)
+        note(&mut self.is_shut, &mut self.alarm, done)
     }
 
     fn add(&mut self, name: &Name, values: &[Value]) -> Result<(), Refused> {
@@ -171,10 +189,11 @@ impl<R: Rows + Drop, S: Alter + Drop> Rows for LastingRows<R, S> {
             &mut self.file,
             &mut self.is_shut,
             &mut self.refusals,
+            &mut self.alarm,
             written,
         )?;
         let done = self.rows.add(name, values);
-        note(&mut self.is_shut, done)
+        note(&mut self.is_shut, &mut self.alarm, done)
     }
 
     fn modify(&mut self, name: &Name, values: &[Value]) -> Result<(), Refused> {
@@ -186,10 +205,11 @@ impl<R: Rows + Drop, S: Alter + Drop> Rows for LastingRows<R, S> {
             &mut self.file,
             &mut self.is_shut,
             &mut self.refusals,
+            &mut self.alarm,
             written,
         )?;
         let done = self.rows.modify(name, values);
-        note(&mut self.is_shut, done)
+        note(&mut self.is_shut, &mut self.alarm, done)
     }
 
     fn remove(&mut self, name: &Name, indexes: &[u32]) -> Result<(), Refused> {
@@ -201,10 +221,11 @@ impl<R: Rows + Drop, S: Alter + Drop> Rows for LastingRows<R, S> {
             &mut self.file,
             &mut self.is_shut,
             &mut self.refusals,
+            &mut self.alarm,
             written,
         )?;
         let done = self.rows.remove(name, indexes);
-        note(&mut self.is_shut, done)
+        note(&mut self.is_shut, &mut self.alarm, done)
     }
 
     fn delete(&mut self, name: &Name) -> Result<(), Refused> {
@@ -216,10 +237,11 @@ impl<R: Rows + Drop, S: Alter + Drop> Rows for LastingRows<R, S> {
             &mut self.file,
             &mut self.is_shut,
             &mut self.refusals,
+            &mut self.alarm,
             written,
         )?;
         let done = self.rows.delete(name);
-        note(&mut self.is_shut, done)
+        note(&mut self.is_shut, &mut self.alarm, done)
     }
 
     fn refusals(&self) -> u64 {

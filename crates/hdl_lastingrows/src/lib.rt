@@ -20,4 +20,4 @@
 
 mod lastingrows;
 
-pub use lastingrows::LastingRows;
+pub use lastingrows::{Alarm, LastingRows};

@@ -1,0 +1,99 @@
+//! Replaying and serving over a table in a file.
+
+use crate::words::TableFile;
+use hdl_core::Tenants;
+use hdl_host::{Limits, hosted_on};
+use hdl_lastingrows::{Alarm, FileTable, TableFault, open_table};
+use hdl_replay::{Fault, events_of, parts_of, put_all, tenants_of, told_on};
+use hdl_rows::PlainRows;
+use sqlite::Wary;
+use std::fmt;
+
+/// Why a run over a file ends with a fault line.
+#[derive(Clone, Copy, Debug)]
+pub enum TabledFault {
+    Run(Fault),
+    Table(TableFault),
+}
+
+impl TabledFault {
+    /// The exit status: 4 for the file, and else that of the run.
+    pub fn status(&self) -> u8 {
+        match self {
+            TabledFault::Run(fault) => fault.status(),
+            TabledFault::Table(TableFault::Memory) => Fault::NoMemory.status(),
+            TabledFault::Table(_) => 4,
+        }
+    }
+}
+
+impl fmt::Display for TabledFault {
+    fn fmt<W: fmt::Write>(&self, f: &mut fmt::Formatter<W>) -> fmt::Result {
+        match self {
+            TabledFault::Run(fault) => write!(f, "{fault}"),
+            TabledFault::Table(fault) => write!(f, "{fault}"),
+        }
+    }
+}
+
+impl From<Fault> for TabledFault {
+    fn from(fault: Fault) -> TabledFault {
+        TabledFault::Run(fault)
+    }
+}
+
+impl From<TableFault> for TabledFault {
+    fn from(fault: TableFault) -> TabledFault {
+        TabledFault::Table(fault)
+    }
+}
+
+/// Says on standard error that the table takes no more writes.
+#[derive(Clone, Copy, Drop)]
+pub struct Said(HostRuntime);
+
+impl Alarm for Said {
+    fn ring(&mut self) {
+        let _ = eprintln!(self.0; "table: shut for writes: a write or a sync of the file failed, or memory did; reads go on, changes are answered busy; restart once the cause is gone");
+    }
+}
+
+/// The table in memory, with the file beside it.
+type Table = FileTable<PlainRows, Wary, Said>;
+
+fn opened(rt: &HostRuntime, file: &TableFile, tenants: &Tenants) -> Result<Table, TableFault> {
+    let rows = PlainRows::new(rt.alloc());
+    open_table(rt, file.path.as_str(), file.has_sums, Wary, rows, tenants.opening(), Said(*rt))
+}
+
+/// Copies the log into the file.
+fn close(table: Table) -> Result<(), TabledFault> {
+    match table.into_connection().close() {
+        Ok(()) => Ok(()),
+        Err(fault) => Err(TabledFault::Table(TableFault::from(fault))),
+    }
+}
+
+/// Runs the script over the table in the file, prints the outcomes, and closes the file.
+pub fn replay_on(rt: &HostRuntime, file: &TableFile, text: &str) -> Result<(), TabledFault> {
+    let parts = parts_of(text);
+    let tenants = tenants_of(rt.alloc(), parts.tenants)?;
+    let events = events_of(rt.alloc(), parts.script, parts.run_line)?;
+    let table = opened(rt, file, &tenants)?;
+    let (lines, table) = told_on(rt.alloc(), table, tenants, events)?;
+    put_all(&mut rt.stdout(), lines.as_bytes())?;
+    close(table)
+}
+
+/// Serves the tenants of the text over the table in the file, and closes the file once the turns are spent.
+pub fn serve_on(
+    rt: &HostRuntime,
+    file: &TableFile,
+    text: &str,
+    limits: Limits,
+) -> Result<(), TabledFault> {
+    let tenants = tenants_of(rt.alloc(), text)?;
+    let table = opened(rt, file, &tenants)?;
+    let table = hosted_on(rt, rt.alloc(), table, tenants, limits, &mut rt.stdout())?;
+    close(table)
+}

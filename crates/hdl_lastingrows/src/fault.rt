@@ -1,0 +1,81 @@
+//! Why the file of a table can't be opened.
+
+use hdl_rows::Refused;
+use hdl_sqlrows::{Fault, LoadFault};
+use sqlite::{Error as StoreError, ErrorCode};
+use std::alloc::{AllocError, AllocFailed};
+use thiserror::Error;
+
+/// Why the file of a table can't be opened. What it holds is as it was.
+#[derive(Clone, Copy, Debug, PartialEq, Eq, Error)]
+pub enum TableFault {
+    #[error("table: in use: another process has the file open; end that one first")]
+    InUse,
+    #[error("table: cannot open: the file isn't there and can't be made, or is no regular file that may be read and written")]
+    CannotOpen,
+    #[error("table: damaged: the file is no SQLite database, or its pages or its log are unsound; restore a copy")]
+    Damaged,
+    #[error("table: another layout: the file is a database, but not of this program's tables")]
+    Layout,
+    /// A row that no write of this program makes.
+    #[error("table: unsound row: {0}; put the row right, or restore a copy")]
+    Row(LoadFault),
+    #[error("table: disk full")]
+    Full,
+    /// A read, a write or a sync failed.
+    #[error("table: device fault: a read, a write or a sync of the file failed")]
+    Device,
+    #[error("no memory")]
+    Memory,
+}
+
+impl From<StoreError> for TableFault {
+    fn from(fault: StoreError) -> TableFault {
+        match fault {
+            StoreError::SqliteFailure(code) => match code {
+                ErrorCode::DatabaseBusy => TableFault::InUse,
+                ErrorCode::CannotOpen => TableFault::CannotOpen,
+                ErrorCode::NotADatabase | ErrorCode::DatabaseCorrupt => TableFault::Damaged,
+                ErrorCode::DiskFull => TableFault::Full,
+                ErrorCode::OutOfMemory => TableFault::Memory,
+                _ => TableFault::Device,
+            },
+            _ => TableFault::Layout,
+        }
+    }
+}
+
+impl From<LoadFault> for TableFault {
+    fn from(fault: LoadFault) -> TableFault {
+        match fault {
+            LoadFault::Memory | LoadFault::Table => TableFault::Memory,
+            LoadFault::Store => TableFault::Device,
+            row => TableFault::Row(row),
+        }
+    }
+}
+
+impl From<AllocError> for TableFault {
+    fn from(_fault: AllocError) -> TableFault {
+        TableFault::Memory
+    }
+}
+
+impl<T: Drop> From<AllocFailed<T>> for TableFault {
+    fn from(_fault: AllocFailed<T>) -> TableFault {
+        TableFault::Memory
+    }
+}
+
+/// A write of the file or of the table in memory was refused.
+impl From<Fault> for TableFault {
+    fn from(_fault: Fault) -> TableFault {
+        TableFault::Device
+    }
+}
+
+impl From<Refused> for TableFault {
+    fn from(_refused: Refused) -> TableFault {
+        TableFault::Memory
+    }
+}
