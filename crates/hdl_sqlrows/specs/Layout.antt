@@ -1,4 +1,4 @@
--- The two tables, as sqlite keeps them.
+-- The three tables, as sqlite keeps them.
 use Rattle.std.specs.Prelude.{true, false, [], ◌∷◌, None, codes, List, ℕ}
 use Rattle.sqlite_value.specs.declared.keys.Collation.TheVariants.{Binary}
 use Rattle.sqlite_value.specs.declared.value.Value.TheVariants.{Null}
@@ -20,6 +20,9 @@ create_handles = codes "CREATE TABLE handles (name BLOB NOT NULL PRIMARY KEY, au
 
 abbrev pub create_entries : List ℕ
 create_entries = codes "CREATE TABLE entries (name BLOB NOT NULL REFERENCES handles (name) ON DELETE CASCADE, idx INTEGER NOT NULL, kind BLOB NOT NULL, bytes BLOB NOT NULL, ttl BLOB NOT NULL, perm INTEGER NOT NULL, stamp BLOB NOT NULL, refs BLOB NOT NULL, PRIMARY KEY (name, idx)) STRICT"
+
+abbrev pub create_opened : List ℕ
+create_opened = codes "CREATE TABLE opened (name BLOB NOT NULL PRIMARY KEY) STRICT"
 
 -- a column of this kind that is never null
 abbrev pub required : List ℕ → Kind → Column
@@ -70,19 +73,26 @@ to_handles = record { columns = 1 ∷ []; parent = codes "handles"; parent_colum
 abbrev pub entries : Table
 entries = keyed (codes "entries") 2 entry_columns (1 ∷ 2 ∷ []) (to_handles ∷ [])
 
--- the database before the tables are made, with the first of them, and with both
+-- a row for each handle that was opened with its first values, which isn't done again
+abbrev pub opened : Table
+opened = keyed (codes "opened") 4 (required (codes "name") kind.Blob ∷ []) (1 ∷ []) []
+
+-- the database before the tables are made, with one of them, with two, and with all
 abbrev pub no_schema : Schema
 no_schema = record { tables = []; indexes = []; views = [] }
 
-abbrev pub half_schema : Schema
-half_schema = created no_schema handles
+abbrev pub one_table : Schema
+one_table = created no_schema handles
+
+abbrev pub two_tables : Schema
+two_tables = created one_table (record entries { tree = 0 })
 
 abbrev pub layout : Schema
-layout = created half_schema (record entries { tree = 0 })
+layout = created two_tables (record opened { tree = 0 })
 
 -- the index that keeps a key single, and those that the tables get with their keys
 abbrev pub guard : List ℕ → ℕ → ℕ → List ℕ → Index
 guard name tree table key = record { name = name; tree = tree; table = table; columns = key; order = plain; is_unique = true }
 
 abbrev pub guards : List Index
-guards = guard (codes "sqlite_autoindex_handles_1") 1 0 (1 ∷ []) ∷ guard (codes "sqlite_autoindex_entries_1") 3 2 (1 ∷ 2 ∷ []) ∷ []
+guards = guard (codes "sqlite_autoindex_handles_1") 1 0 (1 ∷ []) ∷ guard (codes "sqlite_autoindex_entries_1") 3 2 (1 ∷ 2 ∷ []) ∷ guard (codes "sqlite_autoindex_opened_1") 5 4 (1 ∷ []) ∷ []

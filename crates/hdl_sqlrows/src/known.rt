@@ -3,7 +3,7 @@
 ghost use Rattle.std.specs.Prelude.{◌≡◌, ◌↔◌, [], ◌∷◌, None, codes, false, true, IsTrue};
 ghost use Rattle.sqlite_value.specs.Keys.{plain};
 ghost use Rattle.sqlite.specs.Held.{state};
-ghost use Rattle.hdl_sqlrows.specs.Layout.{no_schema, layout, handles, handle_columns, entries, entry_columns, cell_columns, to_handles, guard, guards, required, keyed, no_stamps};
+ghost use Rattle.hdl_sqlrows.specs.Layout.{no_schema, layout, handles, handle_columns, entries, entry_columns, cell_columns, opened, to_handles, guard, guards, required, keyed, no_stamps};
 
 use sqlite::{Alter, Connection};
 use sqlite_items::Items;
@@ -57,7 +57,7 @@ fn are_tables(tables: &[Table]) -> bool
     ensures { IsTrue result ↔ (tables.now ≡ layout.tables) }
 {
     match tables {
-        [first, second] => is_handles(first) && is_entries(second),
+        [first, second, third] => is_handles(first) && is_entries(second) && is_opened(third),
         _ => false,
     }
 }
@@ -66,9 +66,10 @@ fn are_indexes(indexes: &[Index]) -> bool
     ensures { IsTrue result ↔ (indexes.now ≡ guards) }
 {
     match indexes {
-        [first, second] => {
+        [first, second, third] => {
             is_guard(first, b"sqlite_autoindex_handles_1", 1, 0, &[1])
                 && is_guard(second, b"sqlite_autoindex_entries_1", 3, 2, &[1, 2])
+                && is_guard(third, b"sqlite_autoindex_opened_1", 5, 4, &[1])
         }
         _ => false,
     }
@@ -127,6 +128,24 @@ fn are_cells(columns: &[Column]) -> bool
                 && is_required(stamp, b"stamp", Kind::Blob)
                 && is_required(refs, b"refs", Kind::Blob)
         }
+        _ => false,
+    }
+}
+
+fn is_opened(table: &Table) -> bool
+    ensures { IsTrue result ↔ (table.now ≡ opened) }
+{
+    is_keyed(table, b"opened", 4, &[1])
+        && are_names(table.columns.as_slice())
+        && table.references.is_empty()
+}
+
+/// Whether there is one column, `name`.
+fn are_names(columns: &[Column]) -> bool
+    ensures { IsTrue result ↔ (columns.now ≡ required (codes "name") Kind.Blob ∷ []) }
+{
+    match columns {
+        [only] => is_required(only, b"name", Kind::Blob),
         _ => false,
     }
 }
