@@ -9,7 +9,7 @@ use Rattle.sqlite_value.specs.declared.value.Value.TheVariants.{Int, Blob}
 use Rattle.sqlite_value.specs.Order.{Row, value_cmp}
 use Rattle.sqlite_value.proofs.OrderLemmas.{value_cmp-Int}
 use Rattle.sqlite_trees.specs.Tree.{Trees, rowid, has_rowid}
-use Rattle.sqlite_rules.specs.Edit.{is_taken, next_rowid}
+use Rattle.sqlite_rules.specs.Edit.{id_in, is_taken, next_rowid}
 use Rattle.sqlite.specs.State.{State, ExecutesInside}
 use Rattle.hdl_name.specs.Name.{authority}
 use Rattle.hdl_value.specs.Place.{Place, place_cmp, same_handle}
@@ -22,7 +22,7 @@ use Rattle.hdl_sqlrows.specs.Filed.{IsDraft, drafted}
 use Rattle.hdl_sqlrows.specs.Shows.{AreShort}
 use Rattle.hdl_sqlrows.proofs.Found.{found_first, first_value}
 use Rattle.hdl_sqlrows.proofs.Texts.{insert_handle, insert_entry}
-use Rattle.hdl_sqlrows.proofs.Lists.{HasOneMore, all_put, map_put, map_of_more, set_of_more, single_put}
+use Rattle.hdl_sqlrows.proofs.Lists.{all_put, map_put, map_of_more, set_of_more, single_put}
 use Rattle.hdl_sqlrows.proofs.Inserts.{Adds, inserts_handle, inserts_entry, handle_row, entry_row, entry_cells}
 use Rattle.hdl_sqlrows.proofs.Spelt.{refs_again, stamp_again}
 
@@ -63,21 +63,25 @@ no_rowid rows row n is fresh id here =
     let same : n ≡ id = same_id n id (ap (λ v. is_eq (value_cmp v (Int id))) (sym is) ∙ here) in
     none_any (has_rowid id) rows (ap (λ (v : _). list_any (λ r. is_eq (value_cmp (rowid r) v)) rows) (ap Int (sym same) ∙ sym is) ∙ fresh)
 
-with_handle : (db next : Trees) (name : List ℕ) → AreKept db → Adds (handle_row (db 0) name (authority name)) (db 0) (next 0) → next 2 ≡ db 2 → has (table_in db) name ≡ false
-    → AreKept next × (table_in next ≡ record (table_in db) { handles = set.insert (table_in db).handles name })
-with_handle db next name kept more same absent =
-    let row : Row = handle_row (db 0) name (authority name) in
-    let handles = set_of_more handle_total handle_antisymmetric (map handle_in (db 0)) (map handle_in (next 0)) name (map_put handle_in _ _ _ more.1) in (
+-- a row more of `handles`
+pub with_handle_row : (db next : Trees) (row : Row) → AreKept db → IsHandleRow row → Adds row (db 0) (next 0) → next 2 ≡ db 2 → has (table_in db) (handle_in row) ≡ false
+    → AreKept next × (table_in next ≡ record (table_in db) { handles = set.insert (table_in db).handles (handle_in row) })
+with_handle_row db next row kept is more same absent =
+    let handles = set_of_more handle_total handle_antisymmetric (map handle_in (db 0)) (map handle_in (next 0)) (handle_in row) (map_put handle_in _ _ _ more.1) in (
       record {
-        handles = all_put IsHandleRow _ _ _ more.1 kept.handles (record { id = refl; name = refl; authority = refl });
+        handles = all_put IsHandleRow _ _ _ more.1 kept.handles is;
         entries = subst (AllByRecursion IsEntryRow) (sym same) kept.entries;
-        names = single_put has_handle row (db 0) (next 0) more.1 kept.names (λ h here. no_handle db h (ap (has (table_in db)) (handles_equal h name here) ∙ absent));
+        names = single_put has_handle row (db 0) (next 0) more.1 kept.names (λ h here. no_handle db h (ap (has (table_in db)) (handles_equal h (handle_in row) here) ∙ absent));
         places = subst (λ rows. (p : Place) → length (filter (has_place p) rows) ≤ 1) (sym same) kept.places;
-        handle_ids = single_put has_rowid row (db 0) (next 0) more.1 kept.handle_ids (no_rowid (db 0) row (next_rowid (db 0)) refl more.0);
+        handle_ids = single_put has_rowid row (db 0) (next 0) more.1 kept.handle_ids (no_rowid (db 0) row (id_in (rowid row)) is.id more.0);
         entry_ids = subst (λ rows. (id : ℤ) → length (filter (has_rowid id) rows) ≤ 1) (sym same) kept.entry_ids;
       },
       (λ i. record { handles = handles i; values = map.from_entries (map entry_in (same i)) }),
     )
+
+with_handle : (db next : Trees) (name : List ℕ) → AreKept db → Adds (handle_row (db 0) name (authority name)) (db 0) (next 0) → next 2 ≡ db 2 → has (table_in db) name ≡ false
+    → AreKept next × (table_in next ≡ record (table_in db) { handles = set.insert (table_in db).handles name })
+with_handle db next name kept more same absent = with_handle_row db next (handle_row (db 0) name (authority name)) kept (record { id = refl; name = refl; authority = refl }) more same absent
 
 pub puts_handle : (old new : State) (name : List ℕ) (count : ℕ) → IsInside old → has (drafted old) name ≡ false → ExecutesInside 0 insert_handle (Blob name ∷ Blob (authority name) ∷ []) old new (Ok count)
     → IsDraft new (record (drafted old) { handles = set.insert (drafted old).handles name })
@@ -90,22 +94,27 @@ puts_handle old new name count inside absent ran =
 entry_is : (id : ℤ) (name : List ℕ) (v : Value) → v.stamp < 2 ^ 64 → AreShort v.refs → entry_in (entry_row id name v) ≡ (place name v.index, v)
 entry_is id name v stamp short = λ i. (place name v.index, record v { stamp = stamp_again v.stamp stamp i; refs = refs_again v.refs short i })
 
-pub with_entry : (db next : Trees) (id : ℤ) (name : List ℕ) (v : Value) → AreKept db → v.stamp < 2 ^ 64 → AreShort v.refs → Adds (entry_row id name v) (db 2) (next 2) → next 0 ≡ db 0 → at (table_in db) (place name v.index) ≡ None
-    → AreKept next × (table_in next ≡ record (table_in db) { values = map.insert (table_in db).values (place name v.index) v })
-with_entry db next id name v kept stamp short more same absent =
-    let row : Row = entry_row id name v in
-    let entries = subst (λ e. HasOneMore e (map entry_in (db 2)) (map entry_in (next 2))) (entry_is id name v stamp short) (map_put entry_in _ _ _ more.1) in
-    let values = map_of_more place_total place_antisymmetric (map entry_in (db 2)) (map entry_in (next 2)) (place name v.index) v entries absent in (
+-- a row more of `entries`
+pub with_entry_row : (db next : Trees) (row : Row) → AreKept db → IsEntryRow row → Adds row (db 2) (next 2) → next 0 ≡ db 0 → at (table_in db) (place_in row) ≡ None
+    → AreKept next × (table_in next ≡ record (table_in db) { values = map.insert (table_in db).values (place_in row) (value_in row) })
+with_entry_row db next row kept is more same absent =
+    let values = map_of_more place_total place_antisymmetric (map entry_in (db 2)) (map entry_in (next 2)) (place_in row) (value_in row) (map_put entry_in _ _ _ more.1) absent in (
       record {
         handles = subst (AllByRecursion IsHandleRow) (sym same) kept.handles;
-        entries = all_put IsEntryRow _ _ _ more.1 kept.entries (record { id = refl; name = refl; index = refl });
+        entries = all_put IsEntryRow _ _ _ more.1 kept.entries is;
         names = subst (λ rows. (h : List ℕ) → length (filter (has_handle h) rows) ≤ 1) (sym same) kept.names;
-        places = single_put has_place row (db 2) (next 2) more.1 kept.places (λ p here. no_place db p (ap (at (table_in db)) (places_equal p (place name v.index) here) ∙ absent));
+        places = single_put has_place row (db 2) (next 2) more.1 kept.places (λ p here. no_place db p (ap (at (table_in db)) (places_equal p (place_in row) here) ∙ absent));
         handle_ids = subst (λ rows. (id : ℤ) → length (filter (has_rowid id) rows) ≤ 1) (sym same) kept.handle_ids;
-        entry_ids = single_put has_rowid row (db 2) (next 2) more.1 kept.entry_ids (no_rowid (db 2) row id refl more.0);
+        entry_ids = single_put has_rowid row (db 2) (next 2) more.1 kept.entry_ids (no_rowid (db 2) row (id_in (rowid row)) is.id more.0);
       },
       (λ i. record { handles = set.from_list (map handle_in (same i)); values = values i }),
     )
+
+pub with_entry : (db next : Trees) (id : ℤ) (name : List ℕ) (v : Value) → AreKept db → v.stamp < 2 ^ 64 → AreShort v.refs → Adds (entry_row id name v) (db 2) (next 2) → next 0 ≡ db 0 → at (table_in db) (place name v.index) ≡ None
+    → AreKept next × (table_in next ≡ record (table_in db) { values = map.insert (table_in db).values (place name v.index) v })
+with_entry db next id name v kept stamp short more same absent =
+    let made = with_entry_row db next (entry_row id name v) kept (record { id = refl; name = refl; index = refl }) more same absent in
+    (made.0, made.1 ∙ (λ i. record (table_in db) { values = map.insert (table_in db).values (entry_is id name v stamp short i).0 (entry_is id name v stamp short i).1 }))
 
 pub puts_entry : (old new : State) (name : List ℕ) (v : Value) (count : ℕ) → IsInside old → v.stamp < 2 ^ 64 → AreShort v.refs → at (drafted old) (place name v.index) ≡ None → ExecutesInside 0 insert_entry (entry_cells name v) old new (Ok count)
     → IsDraft new (record (drafted old) { values = map.insert (drafted old).values (place name v.index) v })

@@ -1,4 +1,4 @@
--- The two tables, as sqlite keeps them.
+-- The three tables, as sqlite keeps them.
 use Rattle.std.specs.Prelude.{true, false, [], ◌∷◌, None, codes, List, ℕ}
 use Rattle.sqlite_value.specs.declared.keys.Collation.TheVariants.{Binary}
 use Rattle.sqlite_value.specs.declared.value.Value.TheVariants.{Null}
@@ -6,6 +6,9 @@ use Rattle.sqlite_schema.specs.declared.schema.Kind.TheVariants as kind
 use Rattle.sqlite_schema.specs.declared.schema.Action.TheVariants.{NoAction, Cascade}
 use Rattle.sqlite_schema.specs.declared.schema.Kind.{Kind}
 use Rattle.sqlite_schema.specs.declared.schema.Column.{Column}
+use Rattle.sqlite_schema.specs.declared.schema.Index.{Index}
+use Rattle.sqlite_schema.specs.declared.schema.Reference.{Reference}
+use Rattle.sqlite_schema.specs.declared.schema.Stamps.{Stamps}
 use Rattle.sqlite_schema.specs.declared.schema.Table.{Table}
 use Rattle.sqlite_schema.specs.declared.schema.Schema.{Schema}
 use Rattle.sqlite_value.specs.Keys.{plain}
@@ -18,51 +21,78 @@ create_handles = codes "CREATE TABLE handles (name BLOB NOT NULL PRIMARY KEY, au
 abbrev pub create_entries : List ℕ
 create_entries = codes "CREATE TABLE entries (name BLOB NOT NULL REFERENCES handles (name) ON DELETE CASCADE, idx INTEGER NOT NULL, kind BLOB NOT NULL, bytes BLOB NOT NULL, ttl BLOB NOT NULL, perm INTEGER NOT NULL, stamp BLOB NOT NULL, refs BLOB NOT NULL, PRIMARY KEY (name, idx)) STRICT"
 
+abbrev pub create_opened : List ℕ
+create_opened = codes "CREATE TABLE opened (name BLOB NOT NULL PRIMARY KEY) STRICT"
+
 -- a column of this kind that is never null
 abbrev pub required : List ℕ → Kind → Column
 required name kind = record { name = name; kind = kind; is_strict = true; not_null = true; default = Null; collation = Binary }
 
--- a row for each handle, with its authority
-abbrev pub handles : Table
-handles = record {
-  name = codes "handles";
-  tree = 0;
-  columns = required (codes "name") kind.Blob ∷ required (codes "authority") kind.Blob ∷ [];
+-- no value that reads the time
+abbrev pub no_stamps : Stamps
+no_stamps = record { places = []; terms = []; formats = [] }
+
+-- a table of this key, which isn't its rowid, with no test of a row and no value that is computed
+abbrev pub keyed : List ℕ → ℕ → List Column → List ℕ → List Reference → Table
+keyed name tree columns key references = record {
+  name = name;
+  tree = tree;
+  columns = columns;
   key = None;
-  primary = 1 ∷ [];
-  uniques = (1 ∷ []) ∷ [];
+  primary = key;
+  uniques = key ∷ [];
   orders = plain ∷ [];
   checks = [];
-  references = [];
+  references = references;
   computed = [];
-  stamps = record { places = []; terms = []; formats = [] };
+  stamps = no_stamps;
   is_counted = false;
 }
+
+abbrev pub handle_columns : List Column
+handle_columns = required (codes "name") kind.Blob ∷ required (codes "authority") kind.Blob ∷ []
+
+-- a row for each handle, with its authority
+abbrev pub handles : Table
+handles = keyed (codes "handles") 0 handle_columns (1 ∷ []) []
+
+-- what a value has beside its handle and index
+abbrev pub cell_columns : List Column
+cell_columns =
+    required (codes "kind") kind.Blob ∷ required (codes "bytes") kind.Blob ∷ required (codes "ttl") kind.Blob ∷ required (codes "perm") kind.Integer
+    ∷ required (codes "stamp") kind.Blob ∷ required (codes "refs") kind.Blob ∷ []
+
+abbrev pub entry_columns : List Column
+entry_columns = required (codes "name") kind.Blob ∷ required (codes "idx") kind.Integer ∷ cell_columns
+
+-- to the row of the handle, with which a row goes
+abbrev pub to_handles : Reference
+to_handles = record { columns = 1 ∷ []; parent = codes "handles"; parent_columns = codes "name" ∷ []; on_delete = Cascade; on_update = NoAction; is_deferred = false }
 
 -- a row for each value, with the cells that it has beside its handle; it goes with the handle's row
 abbrev pub entries : Table
-entries = record {
-  name = codes "entries";
-  tree = 2;
-  columns = required (codes "name") kind.Blob ∷ required (codes "idx") kind.Integer ∷ required (codes "kind") kind.Blob ∷ required (codes "bytes") kind.Blob
-      ∷ required (codes "ttl") kind.Blob ∷ required (codes "perm") kind.Integer ∷ required (codes "stamp") kind.Blob ∷ required (codes "refs") kind.Blob ∷ [];
-  key = None;
-  primary = 1 ∷ 2 ∷ [];
-  uniques = (1 ∷ 2 ∷ []) ∷ [];
-  orders = plain ∷ [];
-  checks = [];
-  references = (record { columns = 1 ∷ []; parent = codes "handles"; parent_columns = codes "name" ∷ []; on_delete = Cascade; on_update = NoAction; is_deferred = false }) ∷ [];
-  computed = [];
-  stamps = record { places = []; terms = []; formats = [] };
-  is_counted = false;
-}
+entries = keyed (codes "entries") 2 entry_columns (1 ∷ 2 ∷ []) (to_handles ∷ [])
 
--- the database before the tables are made, with the first of them, and with both
+-- a row for each handle that was opened with its first values, which isn't done again
+abbrev pub opened : Table
+opened = keyed (codes "opened") 4 (required (codes "name") kind.Blob ∷ []) (1 ∷ []) []
+
+-- the database before the tables are made, with one of them, with two, and with all
 abbrev pub no_schema : Schema
 no_schema = record { tables = []; indexes = []; views = [] }
 
-abbrev pub half_schema : Schema
-half_schema = created no_schema handles
+abbrev pub one_table : Schema
+one_table = created no_schema handles
+
+abbrev pub two_tables : Schema
+two_tables = created one_table (record entries { tree = 0 })
 
 abbrev pub layout : Schema
-layout = created half_schema (record entries { tree = 0 })
+layout = created two_tables (record opened { tree = 0 })
+
+-- the index that keeps a key single, and those that the tables get with their keys
+abbrev pub guard : List ℕ → ℕ → ℕ → List ℕ → Index
+guard name tree table key = record { name = name; tree = tree; table = table; columns = key; order = plain; is_unique = true }
+
+abbrev pub guards : List Index
+guards = guard (codes "sqlite_autoindex_handles_1") 1 0 (1 ∷ []) ∷ guard (codes "sqlite_autoindex_entries_1") 3 2 (1 ∷ 2 ∷ []) ∷ guard (codes "sqlite_autoindex_opened_1") 5 4 (1 ∷ []) ∷ []

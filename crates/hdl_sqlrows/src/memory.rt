@@ -11,7 +11,7 @@ use hdl_value::Value;
 use sqlite::{Connection, MemStore};
 use std::alloc::Global;
 
-/// Makes the two tables in a database that has none.
+/// Makes the tables in a database that has none.
 pub(crate) fn make_tables(conn: &mut Connection<MemStore>) -> Result<(), Fault>
     requires mode { conn.old.in_transaction ≡ false }
     requires blank { IsBlank (seen conn.old) }
