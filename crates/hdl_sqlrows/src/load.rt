@@ -3,7 +3,7 @@
 ghost use Rattle.std.specs.Prelude.{◌≡◌, false, OnOk};
 ghost use Rattle.sqlite.specs.State.{HasCleanDisk, IsUnchanged, Survives};
 ghost use Rattle.sqlite.specs.Held.{state};
-ghost use Rattle.hdl_rows.specs.Table.{no_rows};
+ghost use Rattle.hdl_rows.specs.Table.{no_rows, IsPlaced};
 ghost use Rattle.hdl_sqlrows.specs.Layout.{layout};
 ghost use Rattle.hdl_sqlrows.specs.Kept.{IsSettled};
 ghost use Rattle.hdl_sqlrows.specs.Filed.{KeepsCommitted, IsFiled};
@@ -26,6 +26,7 @@ fn load_handles<S: Alter, R: Rows>(
     ensures mode { conn.old.in_transaction ≡ false → conn.new.in_transaction ≡ false }
     ensures same { OnOk result (HasCleanDisk (state S.Store conn.new) → IsUnchanged (state S.Store conn.old) (state S.Store conn.new)) }
     ensures loaded { OnOk result (HasCleanDisk (state S.Store conn.new) → IsLoaded (handles_alone (state S.Store conn.new).now.trees) (R.content rows.new)) }
+    ensures placed { OnOk result (IsPlaced (R.content rows.new)) }
     ensures kept { KeepsCommitted (state S.Store conn.old) (state S.Store conn.new) }
     ensures survives { Survives (state S.Store conn.old) (state S.Store conn.new) (λ _. ⊥) }
 {
@@ -49,9 +50,11 @@ fn load_entries<S: Alter, R: Rows>(
 ) -> Result<(), LoadFault>
     requires layout { HasCleanDisk (state S.Store conn.old) → (state S.Store conn.old).now.schema ≡ layout }
     requires handles { HasCleanDisk (state S.Store conn.old) → IsLoaded (handles_alone (state S.Store conn.old).now.trees) (R.content rows.old) }
+    requires placed { IsPlaced (R.content rows.old) }
     ensures mode { conn.old.in_transaction ≡ false → conn.new.in_transaction ≡ false }
     ensures same { OnOk result (HasCleanDisk (state S.Store conn.new) → IsUnchanged (state S.Store conn.old) (state S.Store conn.new)) }
     ensures loaded { OnOk result (HasCleanDisk (state S.Store conn.new) → IsLoaded (state S.Store conn.new).now.trees (R.content rows.new)) }
+    ensures placed { OnOk result (IsPlaced (R.content rows.new)) }
     ensures kept { KeepsCommitted (state S.Store conn.old) (state S.Store conn.new) }
     ensures survives { Survives (state S.Store conn.old) (state S.Store conn.new) (λ _. ⊥) }
 {
@@ -85,6 +88,7 @@ pub fn load<S: Alter, R: Rows>(
     requires empty { R.content rows.old ≡ no_rows }
     ensures mode { conn.new.in_transaction ≡ false }
     ensures loaded { OnOk result (HasCleanDisk (state S.Store conn.new) → IsFiled (state S.Store conn.new) (R.content rows.new)) }
+    ensures placed { OnOk result (IsPlaced (R.content rows.new)) }
     ensures settled { OnOk result (HasCleanDisk (state S.Store conn.new) → IsSettled (state S.Store conn.new)) }
     ensures kept { KeepsCommitted (state S.Store conn.old) (state S.Store conn.new) }
     ensures survives { Survives (state S.Store conn.old) (state S.Store conn.new) (λ _. ⊥) }

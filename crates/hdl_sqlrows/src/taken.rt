@@ -74,6 +74,7 @@ pub(crate) fn take_handle<R: Rows>(
 
 /// Puts a value at a handle that is there, at an index where none stands.
 fn put_value<R: Rows>(rows: &mut R, name: Name, value: &Value) -> Result<(), LoadFault>
+    ensures there { OnOk result (has (R.content rows.old) (canonical name) ≡ true) }
     ensures absent { OnOk result (at (R.content rows.old) (place (canonical name) value.now.index) ≡ None) }
     ensures put { OnOk result (R.content rows.new ≡ with_values (R.content rows.old) (canonical name) (value.now ∷ [])) }
 {
@@ -100,6 +101,7 @@ pub(crate) fn take_entry<R: Rows>(
     ensures sound { OnOk result (IsEntryRow (entry_shown row.now)) }
     ensures rowid { IfOk result (λ id. column row.now 8 ≡ Int (pos id)) }
     ensures above { IfOk result (λ id. IfSome last (λ before. before < id)) }
+    ensures there { OnOk result (has (R.content rows.old) (handle_in (entry_shown row.now)) ≡ true) }
     ensures absent { OnOk result (at (R.content rows.old) (place_in (entry_shown row.now)) ≡ None) }
     ensures put { OnOk result (R.content rows.new ≡ with_values (R.content rows.old) (handle_in (entry_shown row.now)) (value_in (entry_shown row.now) ∷ [])) }
 {

@@ -3,7 +3,11 @@ use Rattle.sqlite.specs.Effect.{Database}
 use Rattle.sqlite.specs.Held.{state}
 use Rattle.sqlite.specs.State.{HasCleanDisk}
 use Rattle.sqlite.proofs.Callers.{unchanged_then}
-use Rattle.hdl_sqlrows.specs.Loaded.{IsLoaded}
+use Rattle.hdl_rows.specs.Table.{IsPlaced}
+use Rattle.hdl_rows.specs.Write.{Add}
+use Rattle.hdl_rows.proofs.Writes.{stay_placed_lem}
+use Rattle.hdl_sqlrows.specs.Kept.{handle_in, value_in}
+use Rattle.hdl_sqlrows.specs.Loaded.{IsLoaded, entry_shown}
 use Rattle.hdl_sqlrows.proofs.Filed.{survives_both}
 use Rattle.hdl_sqlrows.proofs.LoadTexts.{load_entries, load_plain}
 use Rattle.hdl_sqlrows.proofs.Loads.{no_entry_taken, entry_taken, entries_shown, EntriesTaken}
@@ -27,6 +31,7 @@ rows-init g c =
       same_reference = refl;
       mode = made.mode;
       survives = no_commit (state g.S.Store c.args.conn.now) (state g.S.Store c.in_ok-found.found.conn.now) load_entries load_plain.1 c.requires.layout made.survives;
+      placed = c.requires.placed;
       given = λ clean.
           let begun = begins g.S.Store c.args.conn.now c.in_ok-found.found.conn.now load_entries load_plain.1 c.requires.layout made.survives (made.begun clean) clean in
           (begun.1, [], begun.0, no_entry_taken (state g.S.Store c.args.conn.now).now.trees _ (c.requires.handles (omega (arith, clean, made.survives.clean))));
@@ -44,6 +49,8 @@ rows-preserved g c =
       same_reference = moved.same_reference ∙ was.same_reference;
       mode = λ free. moved.mode (was.mode free);
       survives = survives_both old mid now was.survives moved.survives;
+      placed = subst IsPlaced (sym took.put)
+          (stay_placed_lem (g.R.Rows.content c.rows.rows) (Add (handle_in (entry_shown c.in-Some.row.now)) (value_in (entry_shown c.in-Some.row.now) ∷ [])) was.placed (took.there, (tt, tt), (took.absent, tt)));
       given = λ clean.
           let before = was.given (omega (arith, clean, moved.survives.clean)) in
           let more = (rw (c.in_ok-row.was, c.in-Some.is) at (moved.ok clean)) load_entries [] before.1 before.2 in

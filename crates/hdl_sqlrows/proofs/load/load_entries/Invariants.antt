@@ -3,6 +3,7 @@ use Rattle.sqlite_value.specs.Order.{Row}
 use Rattle.sqlite.specs.State.{HasCleanDisk, IsUnchanged, Survives}
 use Rattle.sqlite.specs.Held.{state}
 use Rattle.sqlite.specs.Given.{HasGiven}
+use Rattle.hdl_rows.specs.Table.{IsPlaced}
 use Rattle.hdl_sqlrows.proofs.LoadTexts.{load_entries}
 use Rattle.hdl_sqlrows.proofs.Loads.{EntriesTaken}
 use Rattle.hdl_sqlrows.proofs.load.load_entries.Given as goal
@@ -15,5 +16,6 @@ invariant-rows g l =
       same_reference : l.found.conn.ghost_name ≡ l.initial.found.conn.ghost_name;
       mode : l.fn.conn.in_transaction ≡ false → l.found.conn.now.in_transaction ≡ false;
       survives : Survives old now (λ _. ⊥);
+      placed : IsPlaced (g.R.Rows.content l.rows);
       given : HasCleanDisk now → IsUnchanged old now × (all : List Row) × HasGiven g.S.Store load_entries [] l.found.conn.now all × EntriesTaken (old.now.trees 0) all l.last (g.R.Rows.content l.rows);
     }

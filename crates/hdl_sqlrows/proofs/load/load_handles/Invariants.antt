@@ -3,6 +3,7 @@ use Rattle.sqlite_value.specs.Order.{Row}
 use Rattle.sqlite.specs.State.{HasCleanDisk, IsUnchanged, Survives}
 use Rattle.sqlite.specs.Held.{state}
 use Rattle.sqlite.specs.Given.{HasGiven}
+use Rattle.hdl_rows.specs.Table.{IsPlaced}
 use Rattle.hdl_sqlrows.proofs.LoadTexts.{load_handles}
 use Rattle.hdl_sqlrows.proofs.Loads.{HandlesTaken}
 use Rattle.hdl_sqlrows.proofs.load.load_handles.Given as goal
@@ -15,5 +16,6 @@ invariant-rows g l =
       same_reference : l.found.conn.ghost_name ≡ l.initial.found.conn.ghost_name;
       mode : l.fn.conn.in_transaction ≡ false → l.found.conn.now.in_transaction ≡ false;
       survives : Survives old now (λ _. ⊥);
+      placed : IsPlaced (g.R.Rows.content l.rows);
       given : HasCleanDisk now → IsUnchanged old now × (all : List Row) × HasGiven g.S.Store load_handles [] l.found.conn.now all × HandlesTaken all l.last (g.R.Rows.content l.rows);
     }
