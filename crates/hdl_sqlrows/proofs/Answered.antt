@@ -26,11 +26,11 @@ use Rattle.hdl_rows.specs.Table.{place, has, at, values_of, names_of, value_with
 use Rattle.hdl_rows.proofs.Writes.{at_place}
 use Rattle.hdl_rows.proofs.ShelfLemmas.{index_test, nothing, find-keys}
 use Rattle.hdl_sqlrows.specs.Layout.{layout}
-use Rattle.hdl_sqlrows.specs.Kept.{number, handle_in, place_in, value_of, value_in, cells_of, entry_in, table_in, times, has_handle, has_place, IsHandleRow, IsEntryRow, AreKept, IsSettled}
+use Rattle.hdl_sqlrows.specs.Kept.{number, handle_in, place_in, value_of, value_in, cells_of, entry_in, table_in, times, has_handle, has_place, IsHandleRow, IsEntryRow, AreKept, IsSettled, IsWhole}
 use Rattle.hdl_sqlrows.specs.Shows.{first_in, handle_of}
-use Rattle.hdl_sqlrows.proofs.Texts.{is_param, shown_terms, select_handle, select_entry, select_entries, select_names, select_handle_is, select_entry_is, select_entries_is, select_names_is, plain, unlisted}
+use Rattle.hdl_sqlrows.proofs.Texts.{is_param, shown_terms, select_handle, select_entry, select_entries, select_names, select_handle_is, select_entry_is, select_entries_is, select_names_is, select_opened, select_opened_is, plain, unlisted, opened_plain}
 use Rattle.hdl_sqlrows.proofs.Found.{times-filter, short_permutation, found_first, first_value, found_moved, found_kept, strictly_rises}
-use Rattle.hdl_sqlrows.proofs.Listed.{keeps, Listed, listed, order_cmp, sorted_alike, tests_handle, tests_authority, tests_entry, tests_place, swapped, cmp-numbers}
+use Rattle.hdl_sqlrows.proofs.Listed.{keeps, Listed, listed, order_cmp, sorted_alike, tests_name, tests_authority, tests_entry, tests_place, swapped, cmp-numbers}
 
 -- ---- one row at most
 
@@ -43,14 +43,23 @@ pub some_pass : (p : Row → Bool) (rows : List Row) → list_any p rows ≡ not
 some_pass p [] = refl
 some_pass p (r ∷ rows) = any_step (p r) r (filter p rows) (list_any p rows) (some_pass p rows)
 
-any_handle : (h : List ℕ) (rows : List Row) → AllByRecursion IsHandleRow rows → list_any (same_handle h) (map handle_in rows) ≡ list_any (keeps (Blob h ∷ []) (is_param 1 0 ∷ [])) rows
-any_handle h [] all = refl
-any_handle h (r ∷ rows) all = λ i. (swapped h (handle_in r) ∙ sym (tests_handle h r all.0)) i || any_handle h rows all.1 i
+-- a row that begins with a name as octets
+abbrev HasName : Row → Type 0
+HasName r = column r 1 ≡ Blob (handle_in r)
+
+any_name : (h : List ℕ) (rows : List Row) → AllByRecursion HasName rows → list_any (same_handle h) (map handle_in rows) ≡ list_any (keeps (Blob h ∷ []) (is_param 1 0 ∷ [])) rows
+any_name h [] all = refl
+any_name h (r ∷ rows) all = λ i. (swapped h (handle_in r) ∙ sym (tests_name h r all.0)) i || any_name h rows all.1 i
+
+-- some row is answered just where the name is in the set
+pub finds_name : (tree : ℕ) (db : Trees) (h : List ℕ) (rows : List Row) → AllByRecursion HasName (db tree) → Listed tree (is_param 1 0 ∷ []) (col 1 1 ∷ []) [] db (Blob h ∷ []) rows
+    → not (length rows == 0) ≡ set.contains (set.from_list {R = handle_cmp} (map handle_in (db tree))) h
+finds_name tree db h rows named l =
+    let count : length rows ≡ length (filter (keeps (Blob h ∷ []) (is_param 1 0 ∷ [])) (db tree)) = ap length l.shown ∙ length-map l.to _ ∙ length_permutation _ _ l.moved in
+    ap (λ n. not (n == 0)) count ∙ sym (some_pass (keeps (Blob h ∷ []) (is_param 1 0 ∷ [])) (db tree)) ∙ sym (any_name h (db tree) named) ∙ sym (set.contains-from_list handle_total _ h)
 
 pub finds_handle : (db : Trees) (h : List ℕ) (rows : List Row) → AreKept db → Listed 0 (is_param 1 0 ∷ []) (col 1 1 ∷ []) [] db (Blob h ∷ []) rows → not (length rows == 0) ≡ has (table_in db) h
-finds_handle db h rows kept l =
-    let count : length rows ≡ length (filter (keeps (Blob h ∷ []) (is_param 1 0 ∷ [])) (db 0)) = ap length l.shown ∙ length-map l.to _ ∙ length_permutation _ _ l.moved in
-    ap (λ n. not (n == 0)) count ∙ sym (some_pass (keeps (Blob h ∷ []) (is_param 1 0 ∷ [])) (db 0)) ∙ sym (any_handle h (db 0) kept.handles) ∙ sym (set.contains-from_list handle_total _ h)
+finds_handle db h rows kept l = finds_name 0 db h rows (all_weaker IsHandleRow HasName (λ r is. is.name) (db 0) kept.handles) l
 
 first_shown : (rows : List Row) → first_in (map cells_of rows) ≡ first_value place_total place_in value_in rows
 first_shown [] = refl
@@ -164,10 +173,16 @@ lists_names db a rows kept l =
 
 -- ---- by their texts
 
-pub shown_handle : (old new : State) (h : List ℕ) (rows : List Row) → IsSettled old → Shown select_handle (Blob h ∷ []) old new rows → not (length rows == 0) ≡ has (table_in old.now.trees) h
-shown_handle old new h rows settled shown =
-    let got = reads_as select_handle (Blob h ∷ []) old new layout settled.whole.layout _ select_handle_is plain.2 unlisted.0 rows shown in
-    finds_handle old.now.trees h rows settled.whole.kept (listed 0 _ _ [] old.now.trees (Blob h ∷ []) rows refl got.answer)
+pub shown_handle : (old new : State) (h : List ℕ) (rows : List Row) → IsWhole old.now → Shown select_handle (Blob h ∷ []) old new rows → not (length rows == 0) ≡ has (table_in old.now.trees) h
+shown_handle old new h rows whole shown =
+    let got = reads_as select_handle (Blob h ∷ []) old new layout whole.layout _ select_handle_is plain.2 unlisted.0 rows shown in
+    finds_handle old.now.trees h rows whole.kept (listed 0 _ _ [] old.now.trees (Blob h ∷ []) rows refl got.answer)
+
+pub shown_opened : (old new : State) (h : List ℕ) (rows : List Row) → IsWhole old.now → AllByRecursion HasName (old.now.trees 4) → Shown select_opened (Blob h ∷ []) old new rows
+    → not (length rows == 0) ≡ set.contains (set.from_list {R = handle_cmp} (map handle_in (old.now.trees 4))) h
+shown_opened old new h rows whole named shown =
+    let got = reads_as select_opened (Blob h ∷ []) old new layout whole.layout _ select_opened_is opened_plain.1 opened_plain.2 rows shown in
+    finds_name 4 old.now.trees h rows named (listed 4 _ _ [] old.now.trees (Blob h ∷ []) rows refl got.answer)
 
 pub shown_value : (old new : State) (h : List ℕ) (i : ℕ) (rows : List Row) → IsSettled old → Shown select_entry (Blob h ∷ Int (pos i) ∷ []) old new rows → first_in rows ≡ at (table_in old.now.trees) (place h i)
 shown_value old new h i rows settled shown =

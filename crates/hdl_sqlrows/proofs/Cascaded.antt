@@ -35,7 +35,7 @@ use Rattle.hdl_sqlrows.specs.Kept.{IsWhole, IsInside, AreKept, IsHandleRow, IsEn
 use Rattle.hdl_sqlrows.specs.Filed.{IsDraft, drafted}
 use Rattle.hdl_sqlrows.proofs.Texts.{delete_handle, delete_handle_is, plain, is_param, rows_where}
 use Rattle.hdl_sqlrows.proofs.Found.{times-filter, short_permutation, found_kept}
-use Rattle.hdl_sqlrows.proofs.Listed.{keeps, listed, tests_handle, swapped, same_blob}
+use Rattle.hdl_sqlrows.proofs.Listed.{keeps, listed, tests_name, swapped, same_blob}
 use Rattle.hdl_sqlrows.proofs.Answered.{some_pass, all_pass}
 use Rattle.hdl_sqlrows.proofs.Puts.{any_of}
 use Rattle.hdl_sqlrows.proofs.Gone.{each_has, only, id_of, HasId, id_itself, without_ids, taken}
@@ -148,7 +148,7 @@ deletes_handle old new h count whole there ran =
     let l = listed 0 (is_param 1 0 ∷ []) (col 1 0 ∷ []) [] db params queried.0 refl queried.1.answer in
     let one = one_row db h whole.kept there in
     let r = one.0 in
-    let tested = all_weaker IsHandleRow (λ s. keeps params tests s ≡ has_handle h s) (λ s is. tests_handle h s is ∙ swapped (handle_in s) h) (db 0) whole.kept.handles in
+    let tested = all_weaker IsHandleRow (λ s. keeps params tests s ≡ has_handle h s) (λ s is. tests_name h s is.name ∙ swapped (handle_in s) h) (db 0) whole.kept.handles in
     let same : filter (keeps params tests) (db 0) ≡ r ∷ [] = filter_same (keeps params tests) (has_handle h) (db 0) tested ∙ one.1.all in
     let to : l.to ≡ r ∷ [] = sym (short_permutation (filter (keeps params tests) (db 0)) l.to (subst (λ rows. length rows ≤ 1) (sym same) (omega arith)) l.moved) ∙ same in
     let ids : ids_of queried.0 ≡ map id_of l.to = ap ids_of l.shown ∙ map-map _ _ _ in
@@ -162,7 +162,7 @@ deletes_handle old new h count whole there ran =
     let first : mid 0 ≡ filter (λ s. not (has_handle h s)) (db 0) = led.1.rows ∙ ap (without_all (db 0)) ids
     ∙ taken (keeps params tests) (db 0) l.to (all_weaker IsHandleRow HasId (λ s is. is.id) (db 0) whole.kept.handles) whole.kept.handle_ids l.moved
     ∙ filter_same _ _ (db 0) (all_weaker _ _ (λ s e. ap not e) (db 0) tested) in
-    let last : mid 2 ≡ db 2 = led.1.others 2 (λ e. omega (arith, e)) (no_index 2 (inr refl)) in
+    let last : mid 2 ≡ db 2 = led.1.others 2 (λ e. omega (arith, e)) (no_index 2 (inr (inl refl))) in
     let children = subst (λ rows. AreChildren mid (work_on rows) led.2.ids) olds led.2.children in
     let entries = subst (AllByRecursion IsEntryRow) (sym last) whole.kept.entries in
     let single = subst (λ rows. (id : ℤ) → length (filter (has_rowid id) rows) ≤ 1) (sym last) whole.kept.entry_ids in

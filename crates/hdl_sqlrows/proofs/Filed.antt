@@ -3,6 +3,7 @@ use Rattle.std.proofs.Common.{◌≡◌, ℕ, List, true, false, IsTrue, Ok, Err
 use Rattle.std.proofs.lemmas.Bool.{cases_Bool}
 use Rattle.sqlite_value.specs.Order.{Row}
 use Rattle.sqlite_trees.specs.declared.store.Store.{Ghosts}
+use Rattle.sqlite_trees.specs.Tree.{Trees}
 use Rattle.sqlite.specs.declared.error.ErrorCode.TheVariants as code
 use Rattle.sqlite.specs.declared.error.Error.{Error}
 use Rattle.sqlite.specs.declared.error.Error.TheVariants.{SqliteFailure}
@@ -136,6 +137,24 @@ module _ {S E D : Type 0} (g : Ghosts S) (old first mid last : Held S) (F : Tabl
 
   from_first : Survives (state g old) (state g mid) (λ _. ⊥)
   from_first = survives_begin g old (state g mid) (λ _. ⊥) (subst (λ h. Survives (state g h) (state g mid) (λ _. ⊥)) is inside)
+
+  -- the same of anything that the statements left in the trees
+  pub made_by : (P : Trees → Type 0) → OnOk w (HasCleanDisk (state g mid) → IsTrue (state g first).is_open → P (state g mid).now.trees)
+      → OnOk r (IsOk w × (HasCleanDisk (state g last) → IsTrue (state g last).is_open × IsTrue (state g mid).is_open × ((state g last).committed ≡ (state g mid).now)))
+      → OnOk r (HasCleanDisk (state g last) → IsTrue (state g last).is_open × P (state g last).committed.trees)
+  made_by P put done = on_ok r _ _ (λ d clean.
+      let it = d.1 clean in
+      let up = (kept (later clean) it.1).0 in
+      (it.0, subst (λ (x : Database). P x.trees) (sym it.2) (from_ok w _ d.0 put (later clean) up))) done
+
+  pub leaves_if_open : (P : Trees → Type 0) → OnOk w (HasCleanDisk (state g mid) → IsTrue (state g first).is_open → P (state g mid).now.trees)
+      → Survives (state g old) (state g last) (λ db. IsTrue (state g old).is_open → P db)
+  leaves_if_open P put = survives_then (state g old) (state g mid) (state g last) (λ _. ⊥) (λ db. IsOk w × (db ≡ (state g mid).now.trees)) (λ db. IsTrue (state g old).is_open → P db) (λ _ db none. absurd none)
+      (λ clean db made was. subst P (sym made.1) (from_ok w _ made.0 put (later clean) (at_begin old first (λ h. IsTrue (state g h).is_open) is was))) from_first outside
+
+  pub leaves_surely : (P : Trees → Type 0) → OnOk w (HasCleanDisk (state g mid) → P (state g mid).now.trees) → Survives (state g old) (state g last) P
+  leaves_surely P put = survives_then (state g old) (state g mid) (state g last) (λ _. ⊥) (λ db. IsOk w × (db ≡ (state g mid).now.trees)) P (λ _ db none. absurd none)
+      (λ clean db made. subst P (sym made.1) (from_ok w _ made.0 put (later clean))) from_first outside
 
   pub crash_if_open : Drafts g first mid F w → Survives (state g old) (state g last) (λ db. IsTrue (state g old).is_open → table_in db ≡ F (filed (state g old)))
   crash_if_open put = survives_then (state g old) (state g mid) (state g last) (λ _. ⊥) (λ db. IsOk w × (db ≡ (state g mid).now.trees)) (λ db. IsTrue (state g old).is_open → table_in db ≡ F (filed (state g old))) (λ _ db none. absurd none)

@@ -55,8 +55,8 @@ blob_test : (v : Value) (a b : List ℕ) → v ≡ Blob a → (is_true (binary (
 blob_test v a b is = ap (λ x. is_true (binary (Compare Eq Binary) x (Blob b)) && true) is ∙ and-true _ ∙ same_blob a b
 
 -- the test of a handle's row is that of its name, or of its authority
-pub tests_handle : (h : List ℕ) (r : Row) → IsHandleRow r → keeps (Blob h ∷ []) (is_param 1 0 ∷ []) r ≡ same_handle (handle_in r) h
-tests_handle h r is = blob_test (column r 1) (handle_in r) h is.name
+pub tests_name : (h : List ℕ) (r : Row) → column r 1 ≡ Blob (handle_in r) → keeps (Blob h ∷ []) (is_param 1 0 ∷ []) r ≡ same_handle (handle_in r) h
+tests_name h r is = blob_test (column r 1) (handle_in r) h is
 
 pub tests_authority : (a b : List ℕ) (r : Row) → column r 2 ≡ Blob b → keeps (Blob a ∷ []) (is_param 2 0 ∷ []) r ≡ same_handle b a
 tests_authority a b r is = blob_test (column r 2) b a is

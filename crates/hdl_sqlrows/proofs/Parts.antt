@@ -12,6 +12,7 @@ pub same_value : {B E : Type 0} {a b : B} → ◌≡◌ {A = Result B E} (Ok a) 
 same_value e = cc
 
 -- the trees of the tables are no index's
-pub no_index : (t : ℕ) → (t ≡ 0) ⊎ (t ≡ 2) → IsNoIndex layout t
+pub no_index : (t : ℕ) → (t ≡ 0) ⊎ ((t ≡ 2) ⊎ (t ≡ 4)) → IsNoIndex layout t
 no_index t (inl e) = ((λ h. omega (arith, h, e)), ((λ h. omega (arith, h, e)), ((λ h. omega (arith, h, e)), tt)))
-no_index t (inr e) = ((λ h. omega (arith, h, e)), ((λ h. omega (arith, h, e)), ((λ h. omega (arith, h, e)), tt)))
+no_index t (inr (inl e)) = ((λ h. omega (arith, h, e)), ((λ h. omega (arith, h, e)), ((λ h. omega (arith, h, e)), tt)))
+no_index t (inr (inr e)) = ((λ h. omega (arith, h, e)), ((λ h. omega (arith, h, e)), ((λ h. omega (arith, h, e)), tt)))

@@ -1,4 +1,4 @@
--- What it means that a table is filed in a database: its two tables hold exactly the table's rows.
+-- What it means that a table is filed in a database: `handles` and `entries` hold exactly its rows.
 use Rattle.std.specs.Prelude.{◌≡◌, IsTrue}
 use Rattle.sqlite_trees.specs.Tree.{Trees}
 use Rattle.sqlite.specs.State.{State, HasCleanDisk}

@@ -1,4 +1,4 @@
--- The table that the rows of the two tables are.
+-- The table that the rows of `handles` and `entries` are.
 use Rattle.std.specs.Prelude.{◌≡◌, ◌≤◌, ℕ, pos, negsuc, Bool, true, false, [], ◌∷◌, List, map, filter, length, unwrap_or}
 use Rattle.std.specs.List.{AllByRecursion}
 use Rattle.std.specs.Int.{w64, from_be_bytes}

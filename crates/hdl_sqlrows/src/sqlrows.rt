@@ -35,7 +35,7 @@ impl Model for SqlRows {
 }
 
 impl SqlRows {
-    /// An empty table. Refused where memory for its two tables is: no table counts that refusal.
+    /// An empty table. Refused where memory for the tables is: no table counts that refusal.
     pub fn new(alloc: Global) -> Result<SqlRows, Refused>
         ensures empty { IfOk result (λ rows. rows ≡ record { table = no_rows; refused = 0 }) }
     {
