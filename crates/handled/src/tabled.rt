@@ -3,7 +3,7 @@
 use crate::words::TableFile;
 use hdl_core::Tenants;
 use hdl_host::{Limits, hosted_on};
-use hdl_lastingrows::{Alarm, FileTable, TableFault, open_table};
+use hdl_lastingrows::{Alarm, FileTable, TableFault, open_file, table_over};
 use hdl_replay::{Fault, events_of, parts_of, put_all, tenants_of, told_on};
 use hdl_rows::PlainRows;
 use sqlite::Wary;
@@ -62,8 +62,11 @@ impl Alarm for Said {
 type Table = FileTable<PlainRows, Wary, Said>;
 
 fn opened(rt: &HostRuntime, file: &TableFile, tenants: &Tenants) -> Result<Table, TableFault> {
-    let rows = PlainRows::new(rt.alloc());
-    open_table(rt, file.path.as_str(), file.has_sums, Wary, rows, tenants.opening(), Said(*rt))
+    let conn = open_file(rt, file.path.as_str(), file.has_sums, Wary)?;
+    let alloc = rt.alloc();
+    let rows = PlainRows::new(alloc);
+    let spare = PlainRows::new(alloc);
+    table_over(alloc, conn, rows, spare, tenants.opening(), Said(*rt))
 }
 
 /// Copies the log into the file.

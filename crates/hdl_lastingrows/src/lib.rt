@@ -18,6 +18,10 @@
 //!   is refused.
 #![tactic(auto)]
 
+mod fault;
 mod lastingrows;
+mod opening;
 
+pub use fault::TableFault;
 pub use lastingrows::{Alarm, LastingRows};
+pub use opening::{FileTable, open_file, table_over};

@@ -3,6 +3,9 @@
 ghost use Rattle.std.specs.Prelude.{◌≡◌, ◌≢◌, false, AllPairs, IfOk, OnOk, map};
 ghost use Rattle.sqlite.specs.State.{HasCleanDisk};
 ghost use Rattle.sqlite.specs.Held.{state};
+ghost use Rattle.sqlite.specs.Start.{FindsIn};
+ghost use Rattle.sqlite.specs.Files.{file_state};
+ghost use Rattle.sqlite_wal.specs.Files.{image_at};
 ghost use Rattle.hdl_value.specs.Place.{Place};
 ghost use Rattle.hdl_rows.specs.Table.{no_rows, IsPlaced};
 ghost use Rattle.hdl_sqlrows.specs.Layout.{layout, no_schema};
@@ -15,17 +18,53 @@ use crate::lastingrows::{Alarm, LastingRows};
 use hdl_filerows::FileRows;
 use hdl_name::Name;
 use hdl_rows::Rows;
+use hdl_sqlrows::known::{Found, tables_of};
 use hdl_sqlrows::load::load;
-use hdl_sqlrows::opening::{are_opened, open_more, open_new};
-use hdl_sqlrows::{Found, tables_of};
+use hdl_sqlrows::opening::{open_more, open_new};
 use hdl_value::Value;
 use sqlite::{Alter, Connection, FileFrom, FileStore, Start};
 use std::alloc::Global;
 use std::fs::OpenOptions;
+use std::io;
 use std::os::unix::fs::OpenOptionsExt;
+
+/// The path that the kit's SQL takes for a table in memory, and refuses here.
+const IN_MEMORY: &str = ":memory:";
 
 /// A table over a file of the operating system.
 pub type FileTable<R, S, A> = LastingRows<R, FileStore<FileFrom<S>>, A>;
+
+/// Makes a file that isn't there, for its owner alone to read and write, since a table has secret keys. The log beside it gets the same mode.
+fn make_private(rt: &HostRuntime, path: &str) -> io::Result<()> {
+    let _made = OpenOptions::new()
+        .write(true)
+        .create_new(true)
+        .mode(0o600)
+        .open(rt, path)?;
+    Ok(())
+}
+
+/// Opens the file of a table, or makes it. Where the files held what a crash of an earlier run could leave, it finds a database that the crash
+/// allows (`next_run` of `sqlite`). `has_sums` gives a new file a sum on each page.
+pub fn open_file<S: Start>(
+    rt: &HostRuntime,
+    path: &str,
+    has_sums: bool,
+    start: S,
+) -> Result<Connection<FileStore<FileFrom<S>>>, TableFault>
+    ensures mode { IfOk result (λ c. c.in_transaction ≡ false) }
+    ensures even { IfOk result (λ c. WhereOpen (file_state c) ((file_state c).committed ≡ (file_state c).now)) }
+    ensures found { IfOk result (λ c. HasCleanDisk (file_state c) → FindsIn (image_at S.Start) (file_state c)) }
+{
+    if path != IN_MEMORY {
+        // A file that is there stays as it is, and what is wrong with the path the open says.
+        let _ = make_private(rt, path);
+    }
+    match Connection::open_from(rt, path, has_sums, start) {
+        Ok(conn) => Ok(conn),
+        Err((fault, _)) => Err(TableFault::from(fault)),
+    }
+}
 
 /// Makes the tables in a database that has none, opens the handles, and puts them into the table in memory.
 fn begin<R: Rows, S: Alter>(
@@ -50,7 +89,7 @@ fn begin<R: Rows, S: Alter>(
     Ok(())
 }
 
-/// Puts the rows of a database into the table in memory; where it has handles yet to be opened it opens them, and puts all into the spare table.
+/// Opens the handles that weren't opened yet, once the rows of the database were read and found sound, and puts all rows into the table in memory.
 fn resume<R: Rows + Drop, S: Alter>(
     conn: &mut Connection<S>,
     alloc: Global,
@@ -69,13 +108,44 @@ fn resume<R: Rows + Drop, S: Alter>(
     ensures placed { IfOk result (λ r. IsPlaced (R.content r)) }
     ensures opened { IfOk result (λ r. HasCleanDisk (state S.Store conn.new) → R.content r ≡ (opened_with (based (state S.Store conn.old)) opening.now).table) }
 {
+    let mut found = spare;
+    load(conn, alloc, &mut found)?;
+    open_more(conn, alloc, opening)?;
+    drop(found);
     let mut rows = rows;
     load(conn, alloc, &mut rows)?;
-    if are_opened(conn, alloc, opening)? {
-        return Ok(rows);
-    }
-    open_more(conn, alloc, opening)?;
-    let mut rows = spare;
-    load(conn, alloc, &mut rows)?;
     Ok(rows)
+}
+
+/// The table over a database: with the handles that weren't opened yet opened, each once. Where the database has no table yet, they are made.
+/// The rows go into the first of the two tables in memory, both empty; the spare one takes those that are found.
+///
+/// Refused: where the database has other tables, an unsound row, or where memory or the store refused.
+pub fn table_over<R: Rows + Drop, S: Alter + Drop, A: Alarm + Drop>(
+    alloc: Global,
+    mut conn: Connection<S>,
+    rows: R,
+    spare: R,
+    opening: &[(Name, Value)],
+    alarm: A,
+) -> Result<LastingRows<R, S, A>, TableFault>
+    requires mode { conn.in_transaction ≡ false }
+    requires even { WhereOpen (state S.Store conn) ((state S.Store conn).committed ≡ (state S.Store conn).now) }
+    requires empty { R.content rows ≡ no_rows }
+    requires spare { R.content spare ≡ no_rows }
+    requires distinct { AllPairs (λ (p q : Place). p ≢ q) (map place_of opening.now) }
+    ensures made { (state S.Store conn).now.schema ≡ no_schema → IfOk result (λ t. HasCleanDisk (state S.Store t.file) → t.table ≡ (opened_with no_base opening.now).table) }
+    ensures found { (state S.Store conn).now.schema ≡ layout → IfOk result (λ t. HasCleanDisk (state S.Store t.file) → t.table ≡ (opened_with (based (state S.Store conn)) opening.now).table) }
+    ensures writable { IfOk result (λ t. t.is_shut ≡ false) }
+{
+    let rows = match tables_of(&conn) {
+        Found::Nothing => {
+            let mut rows = rows;
+            begin(&mut conn, alloc, &mut rows, opening)?;
+            rows
+        }
+        Found::Tables => resume(&mut conn, alloc, rows, spare, opening)?,
+        Found::Other => return Err(TableFault::Layout),
+    };
+    Ok(LastingRows::new(rows, FileRows::over(alloc, conn), alarm))
 }
