@@ -117,6 +117,37 @@ fn resume<R: Rows + Drop, S: Alter>(
     Ok(rows)
 }
 
+/// The rows of a database, with the handles that weren't opened yet opened, in a table in memory.
+fn rows_over<R: Rows + Drop, S: Alter>(
+    conn: &mut Connection<S>,
+    alloc: Global,
+    rows: R,
+    spare: R,
+    opening: &[(Name, Value)],
+) -> Result<R, TableFault>
+    requires mode { conn.old.in_transaction ≡ false }
+    requires even { WhereOpen (state S.Store conn.old) ((state S.Store conn.old).committed ≡ (state S.Store conn.old).now) }
+    requires empty { R.content rows ≡ no_rows }
+    requires spare { R.content spare ≡ no_rows }
+    requires distinct { AllPairs (λ (p q : Place). p ≢ q) (map place_of opening.now) }
+    ensures mode { conn.new.in_transaction ≡ false }
+    ensures settled { OnOk result (HasCleanDisk (state S.Store conn.new) → IsSettled (state S.Store conn.new)) }
+    ensures filed { IfOk result (λ r. HasCleanDisk (state S.Store conn.new) → IsFiled (state S.Store conn.new) (R.content r)) }
+    ensures placed { IfOk result (λ r. IsPlaced (R.content r)) }
+    ensures made { (state S.Store conn.old).now.schema ≡ no_schema → IfOk result (λ r. HasCleanDisk (state S.Store conn.new) → R.content r ≡ (opened_with no_base opening.now).table) }
+    ensures found { (state S.Store conn.old).now.schema ≡ layout → IfOk result (λ r. HasCleanDisk (state S.Store conn.new) → R.content r ≡ (opened_with (based (state S.Store conn.old)) opening.now).table) }
+{
+    match tables_of(conn) {
+        Found::Nothing => {
+            let mut rows = rows;
+            begin(conn, alloc, &mut rows, opening)?;
+            Ok(rows)
+        }
+        Found::Tables => resume(conn, alloc, rows, spare, opening),
+        Found::Other => Err(TableFault::Layout),
+    }
+}
+
 /// The table over a database: with the handles that weren't opened yet opened, each once. Where the database has no table yet, they are made.
 /// The rows go into the first of the two tables in memory, both empty; the spare one takes those that are found.
 ///
@@ -138,14 +169,6 @@ pub fn table_over<R: Rows + Drop, S: Alter + Drop, A: Alarm + Drop>(
     ensures found { (state S.Store conn).now.schema ≡ layout → IfOk result (λ t. HasCleanDisk (state S.Store t.file) → t.table ≡ (opened_with (based (state S.Store conn)) opening.now).table) }
     ensures writable { IfOk result (λ t. t.is_shut ≡ false) }
 {
-    let rows = match tables_of(&conn) {
-        Found::Nothing => {
-            let mut rows = rows;
-            begin(&mut conn, alloc, &mut rows, opening)?;
-            rows
-        }
-        Found::Tables => resume(&mut conn, alloc, rows, spare, opening)?,
-        Found::Other => return Err(TableFault::Layout),
-    };
+    let rows = rows_over(&mut conn, alloc, rows, spare, opening)?;
     Ok(LastingRows::new(rows, FileRows::over(alloc, conn), alarm))
 }
