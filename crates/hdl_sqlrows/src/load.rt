@@ -73,11 +73,11 @@ fn load_entries<S: Alter, R: Rows>(
     Err(LoadFault::Memory)
 }
 
-/// Puts the rows of a database of this layout into an empty table. Nothing is written, and no more than one row is held beside the table.
+/// Puts the rows of a database of this layout into an empty table. They are read one at a time, and nothing is written.
 ///
 /// Where the disk has returned what was written, the table is then the one that is filed, and the rows are as the writes need them. It is refused
-/// where memory, the store or the table refused, or else at the first row that is unsound. The table then has the rows before that one, and the
-/// last commit is as it was.
+/// where memory, the store or the table refused, or else at the first row that is unsound. The table then has the rows before that one; the
+/// database is as it was, unless its store shut.
 pub fn load<S: Alter, R: Rows>(
     conn: &mut Connection<S>,
     alloc: Global,
