@@ -54,7 +54,9 @@ pub struct Said(HostRuntime);
 
 impl Alarm for Said {
     fn ring(&mut self) {
-        let _ = eprintln!(self.0; "table: shut for writes: a write or a sync of the file failed, or memory did; reads go on, changes are answered busy; restart once the cause is gone");
+        let _ = eprintln!(self.0;
+            "table: shut for writes: a write or a sync of the file failed, or memory did; reads go on, changes are answered busy; restart once the cause is gone"
+        );
     }
 }
 

@@ -21,7 +21,9 @@ pub struct TableFile {
 #[derive(Debug, Drop)]
 pub enum Asked {
     /// A script on standard input, over the table in a file, if one is named.
-    Replay { table: Option<TableFile> },
+    Replay {
+        table: Option<TableFile>,
+    },
     /// The tenants text is on standard input, served within these limits. The table is in a file, if one is named; else in memory alone, and at
     /// most so many octets of it are kept where they were read last.
     Serve {
@@ -47,7 +49,9 @@ fn table_args<'a>(alloc: Global, command: Command<'a>) -> Result<Command<'a>, Al
         .arg(
             Arg::new(alloc, "sums")
                 .long("sums")
-                .help("Gives a new FILE a sum on each page, which tells changed bits; a plain sqlite3 that writes it spoils them")
+                .help(
+                    "Gives a new FILE a sum on each page, which tells changed bits; a plain sqlite3 that writes it spoils them",
+                )
                 .action(ArgAction::SetTrue)
                 .requires_arg("table")?,
         )
