@@ -1,0 +1,311 @@
+"""lasting.py [ROUNDS [SEED]]: tries a table that lasts, over the proved program crates/handled/out/handled.
+
+It kills the server at random moments under writes of three clients, ROUNDS times (20), and starts it again over the same file: every change that was
+answered must be there, and of each that was in flight the whole or nothing. Then one case each: a text's handles are opened once; a file is its owner's
+alone; what a script prints over a file is what it prints in memory; and files that are no table, are another one's, have an unsound row or can't be
+opened are refused in words, with status 4, and left as they were. sqlite3's own checks look at the files. Its last line is 'N passed, M failed'."""
+
+import contextlib
+import glob
+import hashlib
+import os
+import random
+import signal
+import socket
+import sqlite3
+import stat
+import struct
+import subprocess
+import sys
+import tempfile
+import threading
+import time
+
+# nothing is left beside the tools
+sys.dont_write_bytecode = True
+import repository
+import servers
+import wire
+
+ROUNDS = int(sys.argv[1]) if len(sys.argv) > 1 else 20
+SEED = int(sys.argv[2]) if len(sys.argv) > 2 else 1
+CLIENTS = 3
+# How many handles a round looks at; the last one looks at all.
+LOOKED = 200
+KEY, KEY_HANDLE, KEY_INDEX = b"example-secret", b"0.NA/10", 300
+ADMINISTRATOR = wire.value(100, b"HS_ADMIN", wire.administrator(KEY_HANDLE, KEY_INDEX), 0x0E, 86400)
+
+
+def url(data):
+    return wire.value(1, b"URL", data, 0x0E, 86400)
+
+
+def tenants(*ports, more=()):
+    lines = ["publisher acme 8 %d" % ports[0], "prefix 10 acme"]
+    key = wire.value(KEY_INDEX, b"HS_SECKEY", KEY, 0x0C, 86400)
+    rows = [(KEY_HANDLE, ADMINISTRATOR), (KEY_HANDLE, key), *more]
+    return wire.text(lines + [wire.value_line(*row) for row in rows])
+
+
+class Client:
+    """A client whose challenges are answered by the key."""
+
+    def __init__(self, port):
+        self.stream = socket.create_connection(("127.0.0.1", port), 60)
+        self.request = 0
+
+    def receive(self, count):
+        octets = b""
+        while len(octets) < count:
+            more = self.stream.recv(count - len(octets))
+            if not more:
+                raise ConnectionError
+            octets += more
+        return octets
+
+    def send(self, message, session=0):
+        """The SessionId and the message of the reply to one request."""
+        self.request += 1
+        self.stream.sendall(wire.frame(message, session, self.request))
+        session, length = struct.unpack(">4xI8xI", self.receive(20))
+        return session, self.receive(length)
+
+    def asked(self, message):
+        """The code of a request that a key is asked for, and the body of its reply."""
+        session, reply = self.send(message)
+        if reply[4:8] == wire.number(wire.AUTHENTICATION_NEEDED):
+            proof = wire.response(message, KEY, KEY_HANDLE, KEY_INDEX, nonce=reply[-20:-4])
+            _, reply = self.send(proof, session)
+        return struct.unpack(">I", reply[4:8])[0], reply[24:-4]
+
+    def create(self, handle, data):
+        return self.asked(wire.message(wire.CREATE, wire.string(handle) + wire.listed([ADMINISTRATOR, url(data)])))[0]
+
+    def modify(self, handle, data):
+        return self.asked(wire.message(wire.MODIFY, wire.string(handle) + wire.listed([url(data)])))[0]
+
+    def delete(self, handle):
+        return self.asked(wire.message(wire.DELETE, wire.string(handle)))[0]
+
+    def data_of(self, handle):
+        """The URL's data of a handle that has just these two values, None where it is absent; else what came."""
+        code, body = self.asked(wire.resolution(handle))
+        if code == wire.ABSENT:
+            return None
+        start = wire.string(handle) + wire.number(2)
+        parts = body[len(start):].split(b"\0\0\0\3URL")
+        if code != wire.SUCCESS or not body.startswith(start) or len(parts) != 2:
+            return "code %d" % code
+        length = struct.unpack(">I", parts[1][:4])[0]
+        return parts[1][4:4 + length]
+
+
+def serve(file, **how):
+    process, ports = servers.serve(how.pop("text", tenants), 1, options=("--table", file), **how)
+    return process, ports[0]
+
+
+@contextlib.contextmanager
+def served(file, **how):
+    process, port = serve(file, **how)
+    try:
+        yield port
+    finally:
+        process.send_signal(signal.SIGKILL)
+        process.wait()
+        process.stdout.close()
+
+
+def is_sound(file):
+    """What sqlite3 says of the file and its log, as they lie; the log is copied into the file as it closes."""
+    with contextlib.closing(sqlite3.connect(file)) as database:
+        whole = database.execute("PRAGMA integrity_check").fetchall() == [("ok",)]
+        return whole and not database.execute("PRAGMA foreign_key_check").fetchall()
+
+
+# ---- kills
+
+class Trial:
+    """What is known of each handle: the last answered data, and that of a change in flight."""
+
+    def __init__(self):
+        self.known, self.doubt, self.lock, self.faults, self.answered = {}, {}, threading.Lock(), [], 0
+
+    def write(self, name, port, chance):
+        made = []
+        with contextlib.suppress(OSError):
+            client = Client(port)
+            while True:
+                act = chance.random()
+                if act < 0.6 or not made:
+                    handle, data, change = b"10/%s-%d" % (name, len(made) + chance.randrange(1 << 40)), b"first" + b"x" * chance.randrange(300), client.create
+                elif act < 0.85:
+                    handle, data, change = chance.choice(made), b"second" + b"y" * chance.randrange(300), client.modify
+                else:
+                    handle, data, change = chance.choice(made), None, client.delete
+                with self.lock:
+                    self.doubt[handle] = data
+                code = change(handle) if data is None else change(handle, data)
+                with self.lock:
+                    del self.doubt[handle]
+                    self.known[handle] = data
+                    self.answered += 1
+                    if code != wire.SUCCESS:
+                        self.faults.append("code %d for %s" % (code, handle))
+                if change == client.create:
+                    made.append(handle)
+                elif data is None:
+                    made.remove(handle)
+
+    def compare(self, port, count):
+        client, doubt = Client(port), self.doubt
+        self.doubt = {}
+        handles = list(doubt) + random.sample(list(self.known), min(count, len(self.known)))
+        for handle in handles:
+            found, allowed = client.data_of(handle), {self.known.get(handle), doubt.get(handle, self.known.get(handle))}
+            if found not in allowed:
+                self.faults.append("%s has %s and not %s" % (handle, found, allowed))
+            self.known[handle] = found
+
+    def round(self, number, file):
+        with served(file) as port:
+            self.compare(port, LOOKED)
+            writers = [threading.Thread(target=self.write, args=(b"%d-%d" % (number, k), port, random.Random(SEED * 1000 + number * 10 + k))) for k in range(CLIENTS)]
+            for writer in writers:
+                writer.start()
+            time.sleep(random.uniform(0.02, 0.6))
+        for writer in writers:
+            writer.join()
+
+
+def kills(folder):
+    random.seed(SEED)
+    trial, file = Trial(), os.path.join(folder, "kills.db")
+    for number in range(ROUNDS):
+        trial.round(number, file)
+        if number % 5 == 0 and not is_sound(file):
+            trial.faults.append("sqlite3 finds round %d unsound" % number)
+    with served(file) as port:
+        trial.compare(port, len(trial.known))
+    for fault in trial.faults:
+        print("kill: %s" % fault)
+    print("kills: %d rounds, %d changes answered, %d handles" % (ROUNDS, trial.answered, len(trial.known)))
+    return [not trial.faults and trial.answered > 0]
+
+
+# ---- single cases
+
+def opened_once(folder):
+    """A handle of the text that a client deleted isn't opened again; one that the text has since is; one that was changed stays so."""
+    file = os.path.join(folder, "opened.db")
+    gone, kept, later = (b"10/%s" % name for name in (b"gone", b"kept", b"later"))
+
+    def text(handles):
+        rows = [(handle, value) for handle in handles for value in (ADMINISTRATOR, url(b"from the text"))]
+        return lambda *ports: tenants(*ports, more=rows)
+
+    with served(file, text=text([gone, kept])) as port:
+        client = Client(port)
+        first = client.data_of(gone) == b"from the text" and client.delete(gone) == client.modify(kept, b"changed") == wire.SUCCESS
+    with served(file, text=text([gone, kept, later])) as port:
+        client = Client(port)
+        found = [client.data_of(handle) for handle in (gone, kept, later)]
+    return [first and found == [None, b"changed", b"from the text"]]
+
+
+def private(folder):
+    file = os.path.join(folder, "private.db")
+    with served(file):
+        modes = {stat.S_IMODE(os.stat(name).st_mode) for name in glob.glob(file + "*")}
+    return [modes == {0o600}]
+
+
+def run(words, text):
+    ended = subprocess.run([servers.HANDLED, *words], input=text, capture_output=True, timeout=60, check=False)
+    return ended.returncode, ended.stdout, ended.stderr
+
+
+def scripts(folder):
+    """What `replay` prints, and its status, over a new file and in memory."""
+    found = []
+    for number, name in enumerate(sorted(glob.glob(repository.path("examples", "*.script")))):
+        with open(name, "rb") as script:
+            text = script.read()
+        found.append(run(["replay"], text) == run(["replay", "--table", os.path.join(folder, "script%d.db" % number)], text))
+    return found
+
+
+def sum_of(file):
+    with open(file, "rb") as octets:
+        return hashlib.sha256(octets.read()).digest()
+
+
+def refused(file, line, text=None):
+    """Whether a start over this file says so with status 4, prints nothing, and leaves the file as it was."""
+    before = sum_of(file) if os.path.isfile(file) else None
+    status, said, fault = run(["serve", "--table", file], text or tenants(servers.free_ports(1)[0]))
+    after = sum_of(file) if os.path.isfile(file) else None
+    good = status == 4 and not said and fault.startswith(b"table: " + line) and before == after
+    if not good:
+        print("refused: %s: %d %r %r" % (file, status, said, fault))
+    return good
+
+
+def table(folder, name, statement=None):
+    """A table as this program makes it, after a change by sqlite3."""
+    file = os.path.join(folder, name)
+    with served(file):
+        pass
+    with contextlib.closing(sqlite3.connect(file)) as database:
+        if statement:
+            database.execute(statement)
+        database.commit()
+    return file
+
+
+def faults(folder):
+    noise, foreign, cut = (os.path.join(folder, name) for name in ("noise.db", "foreign.db", "cut.db"))
+    with open(noise, "wb") as octets:
+        octets.write(random.Random(SEED).randbytes(20000))
+    with contextlib.closing(sqlite3.connect(foreign)) as database:
+        database.execute("CREATE TABLE books (name TEXT)")
+        database.commit()
+    with open(table(folder, "whole.db"), "rb") as octets, open(cut, "wb") as shorter:
+        shorter.write(octets.read()[:9000])
+    used = os.path.join(folder, "used.db")
+    with served(used):
+        in_use = refused(used, b"in use")
+    return [
+        in_use,
+        refused(noise, b"damaged"),
+        refused(cut, b"damaged"),
+        refused(foreign, b"another layout"),
+        refused(table(folder, "index.db", "CREATE INDEX more ON entries (idx)"), b"another layout"),
+        refused(table(folder, "name.db", "UPDATE entries SET idx = idx + 4294967296"), b"unsound row"),
+        refused(table(folder, "authority.db", "UPDATE handles SET authority = cast('11' as blob)"), b"unsound row"),
+        refused(table(folder, "kind.db", "UPDATE entries SET ttl = cast('long' as blob)"), b"unsound row"),
+        refused(folder, b"cannot open"),
+        refused(os.path.join(folder, "none", "table.db"), b"cannot open"),
+        refused(":memory:", b"cannot open"),
+    ]
+
+
+def words():
+    """`--sums` asks for `--table`."""
+    return [run(["serve", "--sums"], b"")[0] == 2]
+
+
+def main():
+    with tempfile.TemporaryDirectory() as folder:
+        cases = {case.__name__: case(folder) for case in (opened_once, private, scripts, faults, kills)}
+    cases["words"] = words()
+    for name, found in cases.items():
+        if not all(found):
+            print("failed: %s %s" % (name, found))
+    found = [good for case in cases.values() for good in case]
+    print("%d passed, %d failed" % (sum(found), len(found) - sum(found)))
+    return 0 if all(found) else 1
+
+
+if __name__ == "__main__":
+    sys.exit(main())
