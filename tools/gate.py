@@ -1,5 +1,6 @@
 """The gate of a submission, from nothing: the definitions quoted in docs/, the map, what pages cite and what must be believed, ./test, memory refused in turn, random scripts,
-the examples, answers that are none, the proxy for browsers, what README shows, clients that hold a lane or come from many ports, and a dry run of each benchmark.
+the examples, answers that are none, the proxy for browsers, what README shows, a table in a file over kills, clients that hold a lane or come from many ports, and a dry run
+of each benchmark.
 
 Before its last line it prints what each crate and each part took, in processor minutes, and names the crates that took more than docs/GATE.md
 allows them. Its last line is 'N passed, M failed', the sum of what the parts' last lines count; its status is 0 only where nothing failed."""
@@ -25,6 +26,7 @@ PARTS = (
     [sys.executable, "tools/asks.py"],
     [sys.executable, "tools/proxies.py"],
     [sys.executable, "tools/readme.py"],
+    [sys.executable, "tools/lasting.py"],
     [sys.executable, "tools/strangers.py"],
     [sys.executable, "tools/ports.py"],
     [sys.executable, "tools/benches.py"],

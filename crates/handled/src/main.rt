@@ -13,12 +13,12 @@ mod tabled;
 mod words;
 
 use hdl_cachedrows::CachedRows;
-use hdl_host::{Limits, host};
+use hdl_host::{Limits, host, hosted_on};
 use hdl_replay::{Fault, read_input, replay};
 use hdl_sqlrows::SqlRows;
 use std::hash::RandomState;
 use std::process::ExitCode;
-use tabled::{TabledFault, replay_on, serve_on};
+use tabled::{Desk, TabledFault, ended, open_desk, replay_on};
 use words::{Asked, read_words};
 
 /// What is left to do once the command line and the input were read.
@@ -31,6 +31,11 @@ enum Next {
         text: String,
         limits: Limits,
         row_cache: usize,
+    },
+    /// Serve over the table in a file.
+    ServeOn {
+        desk: Desk,
+        limits: Limits,
     },
 }
 
@@ -78,8 +83,8 @@ fn run(rt: &HostRuntime) -> Result<Next, TabledFault> {
             ..
         } => {
             let text = read_text(rt)?;
-            serve_on(rt, &file, text.as_str(), limits)?;
-            Ok(Next::Ended(0))
+            let desk = open_desk(rt, &file, text.as_str())?;
+            Ok(Next::ServeOn { desk, limits })
         }
     }
 }
@@ -122,5 +127,14 @@ fn main(rt: HostRuntime) -> ExitCode {
             }
             Err(fault) => failed(&rt, TabledFault::from(fault)),
         },
+        Next::ServeOn { desk, limits } => {
+            let Desk { tenants, table } = desk;
+            let mut output = rt.stdout();
+            let served = hosted_on(&rt, rt.alloc(), table, tenants, limits, &mut output);
+            match ended(served) {
+                Ok(()) => ExitCode::from(0),
+                Err(fault) => failed(&rt, fault),
+            }
+        }
     }
 }

@@ -2,7 +2,6 @@
 
 use crate::words::TableFile;
 use hdl_core::Tenants;
-use hdl_host::{Limits, hosted_on};
 use hdl_lastingrows::{Alarm, FileTable, TableFault, open_file, table_over};
 use hdl_replay::{Fault, events_of, parts_of, put_all, tenants_of, told_on};
 use hdl_rows::PlainRows;
@@ -61,7 +60,7 @@ impl Alarm for Said {
 }
 
 /// The table in memory, with the file beside it.
-type Table = FileTable<PlainRows, Wary, Said>;
+pub type Table = FileTable<PlainRows, Wary, Said>;
 
 fn opened(rt: &HostRuntime, file: &TableFile, tenants: &Tenants) -> Result<Table, TableFault> {
     let conn = open_file(rt, file.path.as_str(), file.has_sums, Wary)?;
@@ -90,15 +89,21 @@ pub fn replay_on(rt: &HostRuntime, file: &TableFile, text: &str) -> Result<(), T
     close(table)
 }
 
-/// Serves the tenants of the text over the table in the file, and closes the file once the turns are spent.
-pub fn serve_on(
-    rt: &HostRuntime,
-    file: &TableFile,
-    text: &str,
-    limits: Limits,
-) -> Result<(), TabledFault> {
+/// What is served: the tenants of the text, and the table in the file.
+#[derive(Drop)]
+pub struct Desk {
+    pub tenants: Tenants,
+    pub table: Table,
+}
+
+/// Opens what is served.
+pub fn open_desk(rt: &HostRuntime, file: &TableFile, text: &str) -> Result<Desk, TabledFault> {
     let tenants = tenants_of(rt.alloc(), text)?;
     let table = opened(rt, file, &tenants)?;
-    let table = hosted_on(rt, rt.alloc(), table, tenants, limits, &mut rt.stdout())?;
-    close(table)
+    Ok(Desk { tenants, table })
+}
+
+/// Closes the file of a table that was served.
+pub fn ended(served: Result<Table, Fault>) -> Result<(), TabledFault> {
+    close(served?)
 }
