@@ -27,8 +27,7 @@ import repository
 import servers
 import wire
 
-ROUNDS = int(sys.argv[1]) if len(sys.argv) > 1 else 20
-SEED = int(sys.argv[2]) if len(sys.argv) > 2 else 1
+ROUNDS, SEED = 20, 1
 CLIENTS = 3
 # How many handles a round looks at; the last one looks at all.
 LOOKED = 200
@@ -128,7 +127,8 @@ def is_sound(file):
 class Trial:
     """What is known of each handle: the last answered data, and that of a change in flight."""
 
-    def __init__(self):
+    def __init__(self, seed):
+        self.seed = seed
         self.known, self.doubt, self.lock, self.faults, self.answered = {}, {}, threading.Lock(), [], 0
 
     def write(self, name, port, chance):
@@ -170,7 +170,7 @@ class Trial:
     def round(self, number, file):
         with served(file) as port:
             self.compare(port, LOOKED)
-            writers = [threading.Thread(target=self.write, args=(b"%d-%d" % (number, k), port, random.Random(SEED * 1000 + number * 10 + k))) for k in range(CLIENTS)]
+            writers = [threading.Thread(target=self.write, args=(b"%d-%d" % (number, k), port, random.Random(self.seed * 100000 + number * 10 + k))) for k in range(CLIENTS)]
             for writer in writers:
                 writer.start()
             time.sleep(random.uniform(0.02, 0.6))
@@ -178,10 +178,10 @@ class Trial:
             writer.join()
 
 
-def kills(folder):
-    random.seed(SEED)
-    trial, file = Trial(), os.path.join(folder, "kills.db")
-    for number in range(ROUNDS):
+def kills(folder, rounds, seed):
+    random.seed(seed)
+    trial, file = Trial(seed), os.path.join(folder, "kills.db")
+    for number in range(rounds):
         trial.round(number, file)
         if number % 5 == 0 and not is_sound(file):
             trial.faults.append("sqlite3 finds round %d unsound" % number)
@@ -189,7 +189,7 @@ def kills(folder):
         trial.compare(port, len(trial.known))
     for fault in trial.faults:
         print("kill: %s" % fault)
-    print("kills: %d rounds, %d changes answered, %d handles" % (ROUNDS, trial.answered, len(trial.known)))
+    print("kills: %d rounds, %d changes answered, %d handles" % (rounds, trial.answered, len(trial.known)))
     return [not trial.faults and trial.answered > 0]
 
 
@@ -296,8 +296,10 @@ def words():
 
 
 def main():
+    rounds, seed = (int(word) for word in (sys.argv[1:] + [ROUNDS, SEED][len(sys.argv) - 1:])[:2])
     with tempfile.TemporaryDirectory() as folder:
-        cases = {case.__name__: case(folder) for case in (opened_once, private, scripts, faults, kills)}
+        cases = {case.__name__: case(folder) for case in (opened_once, private, scripts, faults)}
+        cases["kills"] = kills(folder, rounds, seed)
     cases["words"] = words()
     for name, found in cases.items():
         if not all(found):
