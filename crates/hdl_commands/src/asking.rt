@@ -6,7 +6,7 @@ use crate::request::{Details, request_of, takes_values};
 use crate::words::{Page, code_name, push_reply, push_short_reply};
 use hdl_client::{ClientFault, Key, connect};
 use hdl_frame::{Envelope, one_datagram};
-use hdl_msg::{OpCode, ReplyView, RequestBody, read_reply};
+use hdl_msg::{OpCode, ReplyView, RequestBody, ResponseCode, read_reply};
 use hdl_name::is_name;
 use std::alloc::{AllocError, Global};
 use std::io;
@@ -128,7 +128,7 @@ fn show(rt: &HostRuntime, question: &Question, octets: &[u8]) -> Result<u8, AskF
     };
     print_reply(rt, question, &frame.envelope, &reply)?;
     let code = reply.header.response_code;
-    if code == 1 {
+    if code == ResponseCode::Success.number() {
         return Ok(0);
     }
     let _ = eprintln!(rt; "hdl: {code} {}", code_name(code));

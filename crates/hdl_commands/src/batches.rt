@@ -4,6 +4,7 @@ use crate::batch_text::read_batch;
 use crate::words::code_name;
 use hdl_client::{Batch, ClientFault, Outcomes, Task, connect};
 use hdl_lines::printed;
+use hdl_msg::ResponseCode;
 use std::io::IsTerminal;
 
 /// Prints what comes, and counts it.
@@ -31,7 +32,7 @@ impl Tally<'_> {
 impl Outcomes for Tally<'_> {
     fn done(&mut self, task: &Task, code: u32) {
         self.done = self.done.saturating_add(1);
-        if code != 1 {
+        if code != ResponseCode::Success.number() {
             // without memory for it the line is missing from the last one
             let _ = self.failed.push(task.line);
         }

@@ -16,18 +16,13 @@ use crate::query::{Pair, has_pair, indexes_of, last_named, read_pairs, types_of}
 use crate::question::{Form, Question};
 use crate::resolver::NoAnswer;
 use crate::{json, pages};
+use hdl_msg::ResponseCode;
 use hdl_name::NameFault;
 use hdl_value::Value;
 use std::alloc::{AllocError, Global};
 
 /// Where JSON is asked for.
 const JSON_PATH: &str = "/api/handles/";
-
-/// The code of a reply to a name that is none.
-const INVALID_HANDLE: u32 = 102;
-
-/// The code of a reply where something went wrong.
-const ERROR: u32 = 2;
 
 /// What is to be done for a request.
 #[derive(Drop)]
@@ -74,7 +69,10 @@ fn bad_request(alloc: Global, asked: &[u8], form: Form, why: &str) -> Result<Ans
     ensures { IfOk result (Tells Status.BadRequest (media_of form)) }
 {
     match form {
-        Form::Json => json::refusal(alloc, Status::BadRequest, asked, INVALID_HANDLE, why),
+        Form::Json => {
+            let code = ResponseCode::InvalidHandle.number();
+            json::refusal(alloc, Status::BadRequest, asked, code, why)
+        }
         Form::Follow | Form::Page => pages::refusal(alloc, Status::BadRequest, asked, why),
     }
 }
@@ -246,7 +244,8 @@ fn answer_found(alloc: Global, question: &Question, found: &Found) -> Result<Ans
         }
         Found::Nothing => {
             let why = "No server answered.";
-            answer_refusal(alloc, question, Status::BadGateway, ERROR, why)
+            let code = ResponseCode::Error.number();
+            answer_refusal(alloc, question, Status::BadGateway, code, why)
         }
     }
 }

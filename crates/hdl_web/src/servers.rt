@@ -1,12 +1,9 @@
 //! Servers that are asked one after another.
 
 use hdl_client::{ClientFault, Connection, Session, connect};
-use hdl_msg::read_reply;
+use hdl_msg::{ResponseCode, read_reply};
 use hdl_proxy::{NoAnswer, Resolver};
 use std::alloc::AllocError;
-
-/// The code of a reply that refers to another service.
-const REFERRAL: u32 = 302;
 
 /// A server, and the connection to it where it was asked before.
 #[derive(Drop)]
@@ -26,7 +23,7 @@ pub struct Servers {
 /// Whether the message is a reply that refers to another service.
 fn refers(message: &[u8]) -> bool {
     match read_reply(message) {
-        Ok(reply) => reply.header.response_code == REFERRAL,
+        Ok(reply) => reply.header.response_code == ResponseCode::ServiceReferral.number(),
         Err(_) => false,
     }
 }
