@@ -4,11 +4,9 @@ use Rattle.std.specs.FinMap as map
 use Rattle.std.specs.FinSet as set
 use Rattle.std.specs.List.{AllByRecursion}
 use Rattle.sqlite_value.specs.declared.value.Value.TheVariants.{Blob}
-use Rattle.sqlite_value.specs.Order.{Row}
 use Rattle.sqlite_trees.specs.Tree.{Trees, has_rowid}
 use Rattle.sqlite.specs.State.{State, ExecutesInside}
 use Rattle.hdl_name.specs.Name.{authority}
-use Rattle.hdl_value.specs.Place.{handle_cmp}
 use Rattle.hdl_value.specs.declared.value.Value.{Value}
 use Rattle.hdl_value.proofs.Places.{handle_total, handle_antisymmetric}
 use Rattle.hdl_sqlrows.specs.Kept.{IsInside, AreKept, IsHandleRow, IsEntryRow, handle_in, entry_in, has_handle, has_place}

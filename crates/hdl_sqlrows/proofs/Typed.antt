@@ -1,5 +1,5 @@
 -- What the schema says of the rows of `opened`.
-use Rattle.std.proofs.Common.{◌≡◌, List, [], ◌∷◌, true, false, ◌&&◌, drop, None, refl, subst}
+use Rattle.std.proofs.Common.{◌≡◌, [], ◌∷◌, true, ◌&&◌, drop, None, refl, subst}
 use Rattle.std.specs.List.{AllByRecursion}
 use Rattle.sqlite_value.specs.declared.value.Value.TheVariants.{Null, Int, Real, Text, Blob}
 use Rattle.sqlite_value.specs.Order.{Row}

@@ -1,7 +1,3 @@
-use Rattle.std.proofs.Common.{arith}
-use Rattle.sqlite.specs.State.{HasCleanDisk}
-use Rattle.sqlite.specs.Held.{state}
-use Rattle.hdl_sqlrows.proofs.Filed.{survives_both, keeps_both, on_ok}
 use Rattle.hdl_sqlrows.proofs.layout.make_within.Goals as goal
 
 pub make_entries-requires-clause-made : goal.make_entries-requires-clause-made

@@ -1,14 +1,11 @@
-use Rattle.std.proofs.Common.{◌≡◌, ◌∙◌, not, map, ap, arith}
+use Rattle.std.proofs.Common.{◌∙◌, not, ap, arith}
 use Rattle.std.specs.FinSet as set
 use Rattle.sqlite.specs.State.{HasCleanDisk}
 use Rattle.sqlite.specs.Held.{state}
-use Rattle.hdl_rows.specs.Table.{has}
-use Rattle.hdl_sqlrows.specs.Kept.{table_in}
-use Rattle.hdl_sqlrows.specs.Filed.{drafted}
-use Rattle.hdl_sqlrows.specs.Opening.{First, handle, base_in, first_at}
+use Rattle.hdl_sqlrows.specs.Opening.{First, handle, base_in}
 use Rattle.hdl_sqlrows.proofs.Filed.{survives_both, keeps_both}
 use Rattle.hdl_sqlrows.proofs.Looks.{looks_on}
-use Rattle.hdl_sqlrows.proofs.Firsts.{keep_more, keep_next}
+use Rattle.hdl_sqlrows.proofs.Firsts.{keep_more}
 use Rattle.hdl_sqlrows.proofs.opening.unopened_of.Goals as goal
 
 pub loop-first-preserved : goal.loop-first-preserved

@@ -1,5 +1,5 @@
 use Rattle.std.proofs.Common.{ap, not, ◌∙◌, ◌≡◌, ◌==◌, length, rules, arith}
-use Rattle.sqlite.specs.State.{HasCleanDisk, Shown}
+use Rattle.sqlite.specs.State.{HasCleanDisk}
 use Rattle.sqlite.specs.Held.{state}
 use Rattle.hdl_sqlrows.proofs.Texts.{opened_plain}
 use Rattle.hdl_sqlrows.proofs.Answered.{shown_opened}
