@@ -33,11 +33,7 @@ is_public v = permits v PublicRead
 abbrev pub is_kept : Value → Bool
 is_kept v = not (permits v PublicRead) && permits v AdminRead
 
--- nobody
-abbrev pub is_hidden : Value → Bool
-is_hidden v = not (permits v PublicRead) && not (permits v AdminRead)
-
--- one of these three holds
+-- public, kept, or hidden: read by nobody
 abbrev pub class_of : Value → Class
 class_of v = if is_public v then Public else if is_kept v then Kept else Hidden
 
