@@ -20,7 +20,7 @@ import threading
 import traceback
 
 # The kit whose inner parts these are, as `rt version` says it.
-KIT = "rattle-kit-13b logic dac8208d650f15bf"
+KIT = "rattle-kit-13f logic dac8208d650f15bf"
 # What a check of so many lines takes at most, in bytes, and what each job behind the first one takes.
 LEAST, PER_LINE, PER_JOB = 1_000_000_000, 1_000_000, 400_000_000
 

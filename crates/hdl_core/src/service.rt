@@ -108,8 +108,8 @@ impl<R: Rows + Drop> Service<R> {
     /// the events come back.
     ///
     /// Each publisher's outcomes other than Busy are those of a service that holds its rows and the values at a cover alone, and
-    /// serves its events alone, so long as no other publisher changed these (`isolated`). Beyond its code no reply depends on a
-    /// value that its caller may not read (`hidden`).
+    /// serves its events alone, so long as no other publisher changed these (`isolated`). Beyond codes no reply depends on a
+    /// value that nobody in the run was allowed to read (`hidden`).
     pub fn run(&mut self, events: Vec<Event>) -> Result<Vec<Outcome>, Early>
         ensures run { IfOk result (λ outcomes. Run self.old events.items outcomes.items self.new) }
         ensures isolated { IfOk result (λ outcomes. Isolated self.old events.items outcomes.items) }

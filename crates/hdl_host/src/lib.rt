@@ -11,7 +11,7 @@
 //! peers of `hdl_trail`; this crate hands them what the machine has: sockets, a clock, random numbers and threads. No contract can
 //! say what these give, so the doors here tell nothing, and nothing is promised of octets on a wire.
 //!
-//! It stands on `hdl_workers`, `hdl_serve`, `hdl_trail`, `hdl_core`, `hdl_frame` and `hdl_rows`, and on `hdl_replay` for the faults of the program.
+//! It stands on `hdl_workers`, `hdl_lanes`, `hdl_serve`, `hdl_trail`, `hdl_core`, `hdl_frame` and `hdl_rows`, and on `hdl_replay` for the faults of the program.
 //!
 //! # Decisions
 //!

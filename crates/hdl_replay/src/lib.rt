@@ -9,7 +9,7 @@
 //! [`replay`] does all of it over any empty table, a reader and two writers, and knows neither a command line nor a file. [`told_on`] is the part
 //! between text and lines, over a table that is there already.
 //!
-//! It stands on `hdl_core` and the contract of `hdl_rows`.
+//! It stands on `hdl_core`, `hdl_tenants` and the contract of `hdl_rows`.
 #![tactic(auto)]
 
 mod fault;
