@@ -116,13 +116,13 @@ no_entry_taken db t read =
       rising = refl;
     }
 
-pub entry_taken : (handles all : List Row) (last : Option ℕ) (t next : Table) (row : Row) (n : ℕ) → EntriesTaken handles all last t → IsEntryRow (entry_shown row) → column row 8 ≡ Int (pos n) → IfSome last (λ before. before < n)
-    → at t (place_in (entry_shown row)) ≡ None → next ≡ with_values t (handle_in (entry_shown row)) (value_in (entry_shown row) ∷ []) → EntriesTaken handles (all ++ row ∷ []) (Some n) next
-entry_taken handles all last t next row n taken is id low absent put =
+pub entry_taken : (handles all : List Row) (last : Option ℕ) (t next : Table) (r : Row) (n : ℕ) → EntriesTaken handles all last t → IsEntryRow (entry_shown r) → column r 8 ≡ Int (pos n) → IfSome last (λ before. before < n)
+    → at t (place_in (entry_shown r)) ≡ None → next ≡ with_values t (handle_in (entry_shown r)) (value_in (entry_shown r) ∷ []) → EntriesTaken handles (all ++ r ∷ []) (Some n) next
+entry_taken handles all last t next r n taken is id low absent put =
     let read = taken.loaded in
     let shown = map entry_shown all in
-    let it = entry_shown row in
-    let split : map entry_shown (all ++ row ∷ []) ≡ map entry_shown all ++ entry_shown row ∷ [] = map-append entry_shown all (row ∷ []) in
+    let it = entry_shown r in
+    let split : map entry_shown (all ++ r ∷ []) ≡ map entry_shown all ++ entry_shown r ∷ [] = map-append entry_shown all (r ∷ []) in
     let more = with_entry_row (as_read handles shown) (as_read handles (shown ++ it ∷ [])) it read.kept is (adds last n it shown id low taken.rising) refl (ap (λ (u : Table). at u (place_in it)) (sym read.table) ∙ absent) in
     record {
       loaded = subst (λ rows. IsLoaded (as_read handles rows) next) (sym split) (record { kept = more.0; table = put ∙ ap (λ (u : Table). with_values u (handle_in it) (value_in it ∷ [])) read.table ∙ sym more.1 });
