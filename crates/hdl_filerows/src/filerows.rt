@@ -39,7 +39,7 @@ impl<S: Alter + Drop> Model for FileRows<S> {
 }
 
 impl<S: Alter + Drop> FileRows<S> {
-    /// Makes the two tables in a database that has none. A crash leaves none of them or both.
+    /// Makes the tables in a database that has none. A crash leaves none of them or all.
     pub fn in_new_file(alloc: Global, mut conn: Connection<S>) -> Result<FileRows<S>, Fault>
         requires mode { conn.in_transaction ≡ false }
         requires blank { WhereOpen (state S.Store conn) (IsBlank (state S.Store conn)) }

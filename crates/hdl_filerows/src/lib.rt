@@ -1,6 +1,6 @@
 //! The rows of a table in a database of SQL that lasts, as in a SQLite file.
 //!
-//! [`FileRows`] is a connection of `sqlite` over any of its stores, whose two tables are those of `hdl_sqlrows`. Each write is one transaction:
+//! [`FileRows`] is a connection of `sqlite` over any of its stores, whose tables are those of `hdl_sqlrows`. Each write is one transaction:
 //! what was answered is committed, and stays after a crash; what was refused is taken back; and a crash within the call leaves the rows with
 //! the whole write or without it. Nothing is read here.
 //!
