@@ -221,7 +221,10 @@ def private(folder):
 
 
 def run(words, text):
-    ended = subprocess.run([servers.HANDLED, *words], input=text, capture_output=True, timeout=60, check=False)
+    try:
+        ended = subprocess.run([servers.HANDLED, *words], input=text, capture_output=True, timeout=60, check=False)
+    except subprocess.TimeoutExpired:
+        return -1, b"", b"it didn't end"
     return ended.returncode, ended.stdout, ended.stderr
 
 
@@ -251,14 +254,13 @@ def refused(file, line, text=None):
     return good
 
 
-def table(folder, name, statement=None):
-    """A table as this program makes it, after a change by sqlite3."""
+def table(folder, name, statement="PRAGMA wal_checkpoint(TRUNCATE)"):
+    """A table as this program makes it, after a statement of sqlite3, which copies the log into the file."""
     file = os.path.join(folder, name)
     with served(file):
         pass
     with contextlib.closing(sqlite3.connect(file)) as database:
-        if statement:
-            database.execute(statement)
+        database.execute(statement)
         database.commit()
     return file
 
