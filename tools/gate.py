@@ -27,6 +27,7 @@ PARTS = (
     [sys.executable, "tools/proxies.py"],
     [sys.executable, "tools/readme.py"],
     [sys.executable, "tools/lasting.py"],
+    ["tools/refuse-disk"],
     [sys.executable, "tools/strangers.py"],
     [sys.executable, "tools/ports.py"],
     [sys.executable, "tools/benches.py"],
