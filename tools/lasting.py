@@ -3,7 +3,7 @@
 It kills the server at random moments under writes of three clients, ROUNDS times (20), and starts it again over the same file: every change that was
 answered must be there, and of each that was in flight the whole or nothing. Then one case each: a text's handles are opened once; a file is its owner's
 alone; what a script prints over a file is what it prints in memory; and files that are no table, are another one's, have an unsound row or can't be
-opened are refused in words, with status 4, and left as they were. sqlite3's own checks look at the files. Its last line is 'N passed, M failed'."""
+opened are refused in words, with status 4, and left as they were. sqlite3's own checks look at the files, by Python's module over SQLite 3.37 or later. Its last line is 'N passed, M failed'."""
 
 import contextlib
 import glob
@@ -268,7 +268,7 @@ def table(folder, name, statement="PRAGMA wal_checkpoint(TRUNCATE)"):
 def faults(folder):
     noise, foreign, cut = (os.path.join(folder, name) for name in ("noise.db", "foreign.db", "cut.db"))
     with open(noise, "wb") as octets:
-        octets.write(random.Random(SEED).randbytes(20000))
+        octets.write(random.Random(SEED).getrandbits(160_000).to_bytes(20_000, "big"))
     with contextlib.closing(sqlite3.connect(foreign)) as database:
         database.execute("CREATE TABLE books (name TEXT)")
         database.commit()
