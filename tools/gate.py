@@ -28,6 +28,7 @@ PARTS = (
     [sys.executable, "tools/readme.py"],
     [sys.executable, "tools/lasting.py"],
     ["tools/refuse-disk"],
+    ["tools/cut-power"],
     [sys.executable, "tools/strangers.py"],
     [sys.executable, "tools/ports.py"],
     [sys.executable, "tools/benches.py"],
