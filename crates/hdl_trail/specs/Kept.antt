@@ -1,9 +1,17 @@
 -- What is kept of a lane, as far as the trail sees it (docs/PROTOCOL.md, "One event").
-use Rattle.std.specs.Prelude.{ℕ, Bool, ◌==◌, ◌&&◌, ◌||◌, nat_lt, if◌then◌else◌, List, [], ◌∷◌, ◌++◌, length, drop}
+use Rattle.std.specs.Prelude.{ℕ, Bool, false, not, ◌==◌, ◌&&◌, ◌||◌, nat_lt, if◌then◌else◌, List, [], ◌∷◌, ◌++◌, length, drop, filter, find, Option, Some, None, is_none}
 use Rattle.std.specs.List.{list_any}
+use Rattle.std.specs.Option.{option_and_then, option_or}
+use Rattle.hdl_limits.specs.declared.TheConstants.{CHALLENGES_MAX, PARTIALS_MAX}
 use Rattle.hdl_trail.specs.declared.kept.Key.{Key}
 use Rattle.hdl_trail.specs.declared.kept.Mark.{Mark}
 use Rattle.hdl_trail.specs.declared.kept.Sent.{Sent}
+use Rattle.hdl_trail.specs.declared.exchange.Exchange.{Exchange}
+
+-- what is followed: the messages of which pieces are kept, and the challenges, each the oldest first
+pub record Followed : Type 0 where
+  pub partials : List Mark
+  pub challenges : List Sent
 
 -- the message is this key's
 abbrev pub is_of : Key → Mark → Bool
@@ -14,9 +22,78 @@ abbrev pub is_from : ℕ → ℕ → Sent → Bool
 is_from number session s = s.number == number && s.session == session
 
 -- pieces of a message, or a challenge, are kept under the number
-abbrev pub is_held : List Mark → List Sent → ℕ → Bool
-is_held partials challenges number = list_any (λ m. m.key.number == number) partials || list_any (λ s. s.number == number) challenges
+abbrev pub is_held : Followed → ℕ → Bool
+is_held f number = list_any (λ m. m.key.number == number) f.partials || list_any (λ s. s.number == number) f.challenges
 
 -- one more behind the others, of which the oldest goes where there are as many as may be
 abbrev pub put_behind : {A : Type 0} → ℕ → List A → A → List A
 put_behind most kept newest = if nat_lt (length kept) most then kept ++ newest ∷ [] else drop 1 kept ++ newest ∷ []
+
+-- ---- a frame that isn't answered
+
+-- the message that begins with the frame
+abbrev pub begun : Exchange → Mark
+begun e = record { key = e.key; length = e.length; operation = e.operation }
+
+-- the message with the frame's piece: its operation is known once its front came; a piece of another length is ignored
+abbrev pub grown : Exchange → Mark → Mark
+grown e m = if m.length == e.length && is_none m.operation then record m { operation = e.operation } else m
+
+-- the messages, where the first of the frame's key has its piece
+abbrev pub grown_among : Exchange → List Mark → List Mark
+grown_among e [] = []
+grown_among e (m ∷ ms) = if is_of e.key m then grown e m ∷ ms else m ∷ grown_among e ms
+
+-- a piece goes to its message, or begins it
+abbrev pub with_piece : Exchange → List Mark → List Mark
+with_piece e ms = if list_any (is_of e.key) ms then grown_among e ms else put_behind PARTIALS_MAX ms (begun e)
+
+-- what isn't answered is a piece that is kept or ignored, or is of no account
+abbrev pub unanswered : Followed → Exchange → Followed
+unanswered f e = if e.is_piece then record f { partials = with_piece e f.partials } else f
+
+-- ---- a frame that is answered
+
+-- the operation of the message that the frame brings, or makes whole
+abbrev pub operation_of : Exchange → List Mark → Option ℕ
+operation_of e ms = option_or e.operation (if e.is_piece then option_and_then (λ m. m.operation) (find (is_of e.key) ms) else None)
+
+-- of a message that is whole nothing is kept
+abbrev pub ended : Exchange → List Mark → List Mark
+ended e ms = if e.is_piece then filter (λ m. not (is_of e.key m)) ms else ms
+
+-- operation 200 is a challenge response
+abbrev pub is_response : Option ℕ → Bool
+is_response None = false
+is_response (Some operation) = operation == 200
+
+-- a challenge response spends the challenge of its peer and SessionId, unless it is out of the grammar (code 4)
+abbrev pub redeemed : Key → Option ℕ → ℕ → List Sent → List Sent
+redeemed key operation code sent =
+    if is_response operation && not (code == 4)
+    then filter (λ s. not (is_from key.number key.session s)) sent
+    else sent
+
+-- a challenge (code 402) is put under its SessionId, which no other has then
+abbrev pub challenged : ℕ → ℕ → ℕ → List Sent → List Sent
+challenged number code session sent =
+    if code == 402
+    then put_behind CHALLENGES_MAX (filter (λ s. not (s.session == session)) sent) (record { number = number; session = session })
+    else sent
+
+-- what a reply of this code under this SessionId leaves
+abbrev pub answered : Followed → Exchange → ℕ → ℕ → Followed
+answered f e code session = record {
+  partials = ended e f.partials;
+  challenges = challenged e.key.number code session (redeemed e.key (operation_of e f.partials) code f.challenges);
+}
+
+-- a busy answer (code 3) changes nothing
+abbrev pub settled_by : Followed → Exchange → Option (ℕ × ℕ) → Followed
+settled_by f e None = unanswered f e
+settled_by f e (Some reply) = if reply.0 == 3 then f else answered f e reply.0 reply.1
+
+-- what is followed once the last frame and its reply, if any, are settled
+abbrev pub settled : Followed → Option Exchange → Followed
+settled f None = f
+settled f (Some e) = settled_by f e e.reply

@@ -1,2 +1,4 @@
+pub mod Exchange
 pub mod Kept
+pub mod Trail
 pub mod Peers

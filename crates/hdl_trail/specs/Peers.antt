@@ -1,14 +1,19 @@
 -- The addresses of a datagram lane's peers, and their numbers.
 use Rattle.std.specs.Prelude.{ℕ, zero, suc, Bool, List, Option, None, MatchOption, slice_get, IsTrue}
-use Rattle.hdl_trail.specs.declared.kept.Mark.{Mark}
-use Rattle.hdl_trail.specs.declared.kept.Sent.{Sent}
-use Rattle.hdl_trail.specs.Kept.{is_held}
+use Rattle.hdl_frame.specs.Envelope.{envelope_at}
+use Rattle.hdl_trail.specs.declared.exchange.Exchange.{Exchange}
+use Rattle.hdl_trail.specs.Exchange.{exchange_of}
+use Rattle.hdl_trail.specs.Kept.{Followed, is_held}
 
--- the addresses, that with number 1 first, and what is kept under their numbers
+-- the addresses, that with number 1 first; what is followed under their numbers; and the frame that came last, with its reply
 pub record Roll (A : Type 0) : Type 0 where
   pub known : List A
-  pub partials : List Mark
-  pub challenges : List Sent
+  pub followed : Followed
+  pub exchange : Option Exchange
+
+-- octets that came from the peer with this number
+abbrev pub arrival : List ℕ → ℕ → Exchange
+arrival octets number = exchange_of number (envelope_at octets) octets
 
 module _ {A : Type 0} where
   -- the address that has this number
@@ -22,4 +27,4 @@ module _ {A : Type 0} where
 
   -- something is kept under the number
   abbrev pub holds : Roll A → ℕ → Bool
-  holds r n = is_held r.partials r.challenges n
+  holds r n = is_held r.followed n

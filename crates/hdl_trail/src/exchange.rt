@@ -1,5 +1,8 @@
 //! A frame that came, and the reply to it.
 
+ghost use Rattle.std.specs.Prelude.{◌≡◌};
+ghost use Rattle.hdl_trail.specs.Exchange.{exchange_of, number_at, reply_of, with_reply};
+
 use crate::kept::Key;
 use hdl_frame::{ENVELOPE_LEN, Envelope, Frame};
 
@@ -16,31 +19,39 @@ pub struct Exchange {
     pub reply: Option<(u32, u32)>,
 }
 
-/// The number in the four octets at this place, if there are so many.
-fn number_at(octets: &[u8], at: usize) -> Option<u32> {
-    let (_, rest) = octets.split_at_checked(at)?;
-    if rest.len() < 4 {
+/// The number in the four octets from this place on, if there are so many.
+fn number_at(octets: &[u8], place: usize) -> Option<u32>
+    ensures { result ≡ number_at octets.now place }
+{
+    if octets.len().saturating_sub(place) < 4 {
         return None;
     }
-    Some(u32::from_be_bytes([rest[0], rest[1], rest[2], rest[3]]))
+    Some(u32::from_be_bytes([
+        octets[place],
+        octets[place + 1],
+        octets[place + 2],
+        octets[place + 3],
+    ]))
 }
 
 /// The code and the SessionId of a reply, by its first datagram.
-pub(crate) fn reply_of(datagram: &[u8]) -> Option<(u32, u32)> {
-    if datagram.len() < ENVELOPE_LEN {
-        return None;
-    }
-    let envelope = Envelope::read(datagram);
-    if envelope.sequence != 0 {
-        return None;
-    }
+fn reply_of(datagram: &[u8]) -> Option<(u32, u32)>
+    ensures { result ≡ reply_of datagram.now }
+{
     let code = number_at(datagram, ENVELOPE_LEN + 4)?;
-    Some((code, envelope.session))
+    let envelope = Envelope::read(datagram);
+    if envelope.sequence == 0 {
+        Some((code, envelope.session))
+    } else {
+        None
+    }
 }
 
 impl Exchange {
     /// A frame of the peer with this number, unanswered.
-    pub(crate) fn of(number: u16, frame: &Frame<'_>) -> Exchange {
+    pub(crate) fn of(number: u16, frame: &Frame<'_>) -> Exchange
+        ensures { result ≡ exchange_of number frame.now.envelope frame.now.bytes.now }
+    {
         let envelope = frame.envelope;
         let is_piece = envelope.is_truncated();
         let is_front = !is_piece || envelope.sequence == 0;
@@ -58,6 +69,19 @@ impl Exchange {
                 None
             },
             reply: None,
+        }
+    }
+
+    /// With a datagram of the reply to it.
+    pub(crate) fn with_reply(self, datagram: &[u8]) -> Exchange
+        ensures { result ≡ with_reply datagram.now self }
+    {
+        match self.reply {
+            Some(_) => self,
+            None => Exchange {
+                reply: reply_of(datagram),
+                ..self
+            },
         }
     }
 }

@@ -1,8 +1,9 @@
 //! What the service keeps of a lane, as far as the trail sees it.
 
 ghost use Rattle.std.specs.Prelude.{◌≡◌, ◌<◌};
-ghost use Rattle.hdl_trail.specs.Kept.{is_of, is_from, put_behind};
+ghost use Rattle.hdl_trail.specs.Kept.{begun, grown, is_of, is_from, put_behind};
 
+use crate::exchange::Exchange;
 use arrayvec::ArrayVec;
 
 /// Whose message a frame belongs to: the number of its peer, and its SessionId and RequestId.
@@ -24,6 +25,31 @@ pub struct Mark {
 }
 
 impl Mark {
+    /// The message that begins with the frame.
+    pub(crate) fn begun(exchange: Exchange) -> Mark
+        ensures { result ≡ begun exchange }
+    {
+        Mark {
+            key: exchange.key,
+            length: exchange.length,
+            operation: exchange.operation,
+        }
+    }
+
+    /// The message with the frame's piece, which is ignored where it says another length.
+    pub(crate) fn grown(self, exchange: Exchange) -> Mark
+        ensures { result ≡ grown exchange self }
+    {
+        if self.length == exchange.length && self.operation.is_none() {
+            Mark {
+                operation: exchange.operation,
+                ..self
+            }
+        } else {
+            self
+        }
+    }
+
     /// Whether it is the message of this key.
     pub fn is_of(&self, key: Key) -> bool
         ensures { result ≡ is_of key self.now }

@@ -1,13 +1,15 @@
 //! The numbers of a datagram lane's peers.
 
-ghost use Rattle.std.specs.Prelude.{◌≡◌, ◌≤◌, ◌<◌, ◌⊎◌, ◌+◌, ℕ, [], None, Ok, IsTrue, IsFalse, IfOk, IfSome, MatchOption, option_map, length};
+ghost use Rattle.std.specs.Prelude.{◌≡◌, ◌≤◌, ◌<◌, ◌+◌, ℕ, [], None, Ok, IsTrue, IsFalse, IfErr, IfOk, IfSome, IfNone, IsSome, MatchOption, option_map, length};
 ghost use Rattle.std.specs.List.{position};
 ghost use Rattle.hdl_frame.specs.Frames.{IsFrame};
-ghost use Rattle.hdl_trail.specs.Peers.{address_among, IsNumberOf, holds};
+ghost use Rattle.hdl_limits.specs.declared.TheConstants.{CHALLENGES_MAX, PARTIALS_MAX, PEERS_MAX};
+ghost use Rattle.hdl_trail.specs.Exchange.{with_reply};
+ghost use Rattle.hdl_trail.specs.Kept.{settled};
+ghost use Rattle.hdl_trail.specs.Peers.{address_among, arrival, IsNumberOf, holds};
 
 use crate::trail::Trail;
 use hdl_frame::one_datagram;
-use hdl_limits::PEERS_MAX;
 use std::alloc::{AllocError, Global};
 use std::marker::Model;
 
@@ -21,11 +23,12 @@ pub struct Peers<A> {
 impl<A> Model for Peers<A> {
     ghost use Rattle.std.specs.Prelude.{◌≤◌, length};
     ghost use Rattle.hdl_limits.specs.declared.TheConstants.{PEERS_MAX};
+    ghost use Rattle.hdl_trail.specs.Trail.{followed};
     ghost use Rattle.hdl_trail.specs.Peers.{Roll};
 
     ghost Value = { Roll A };
 
-    ghost view = { λ p. record { known = p.known.items; partials = p.trail.partials.items; challenges = p.trail.challenges.items } };
+    ghost view = { λ p. record { known = p.known.items; followed = followed p.trail; exchange = p.trail.exchange } };
 
     ghost invariant = { λ p. length p.known.items ≤ PEERS_MAX };
 }
@@ -33,7 +36,7 @@ impl<A> Model for Peers<A> {
 impl<A: Eq + Copy> Peers<A> {
     /// No peers yet, and nothing is kept.
     pub fn new(alloc: Global) -> Peers<A>
-        ensures { result ≡ record { known = []; partials = []; challenges = [] } }
+        ensures { result ≡ record { known = []; followed = record { partials = []; challenges = [] }; exchange = None } }
     {
         Peers {
             known: Vec::new(alloc),
@@ -41,52 +44,54 @@ impl<A: Eq + Copy> Peers<A> {
         }
     }
 
-    /// The number of an address: the one that it has, else the first under which nothing is kept.
-    fn number(&mut self, from: A) -> Result<Option<u16>, AllocError>
-        ensures own { IfOk result (λ number. IfSome number (λ n. (0 < n) × (n ≤ PEERS_MAX) × IsNumberOf A.eq self.new.known from n)) }
+    /// The number of an address: the one that it has, else the first under which nothing is kept, which may be a new one.
+    fn number(&mut self, from: A) -> Result<u16, AllocError>
+        ensures own { IfOk result (λ n. (0 < n) × (n ≤ PEERS_MAX) × IsNumberOf A.eq self.new.known from n) }
         ensures kept { (n : ℕ) → IsTrue (holds self.old n) → IfSome (address_among self.old.known n) (λ a. address_among self.new.known n ≡ Some a) }
-        ensures partials { self.new.partials ≡ self.old.partials }
-        ensures challenges { self.new.challenges ≡ self.old.challenges }
+        ensures followed { self.new.followed ≡ self.old.followed }
+        ensures exchange { self.new.exchange ≡ self.old.exchange }
     {
         if let Some(place) = self.known.iter().position(|known| *known == from) {
-            return Ok(Some(place as u16 + 1));
+            return Ok(place as u16 + 1);
         }
         match self.free_place() {
-            Some(place) => self.seat(place, from),
-            None => Ok(None),
+            Some(place) => Ok(self.seat(place, from)),
+            None => self.seat_behind(from),
         }
     }
 
-    /// The place of the first number under which nothing is kept.
+    /// The place of the first number that was given and under which nothing is kept. Where there is none few were given.
     fn free_place(&self) -> Option<usize>
-        ensures { IfSome result (λ place. (place < PEERS_MAX) × IsFalse (holds self.now (place + 1))) }
+        ensures free { IfSome result (λ place. (place < length self.now.known) × IsFalse (holds self.now (place + 1))) }
+        ensures few { IfNone result (length self.now.known ≤ PARTIALS_MAX + CHALLENGES_MAX) }
     {
-        for place in 0..PEERS_MAX {
-            if !self.trail.holds(place as u16 + 1) {
-                return Some(place);
-            }
-        }
-        None
+        self.trail.free_place(self.known.len())
     }
 
-    /// Gives the number behind this place to the address, if it is one of those that were given, or the next one.
-    fn seat(&mut self, place: usize, from: A) -> Result<Option<u16>, AllocError>
-        requires place { place < PEERS_MAX }
+    /// Gives the number behind this place, under which nothing is kept, to the address.
+    fn seat(&mut self, place: usize, from: A) -> u16
+        requires place { place < length self.old.known }
         requires free { IsFalse (holds self.old (place + 1)) }
-        ensures own { IfOk result (λ number. IfSome number (λ n. (0 < n) × (n ≤ PEERS_MAX) × IsNumberOf A.eq self.new.known from n)) }
+        ensures own { (0 < result) × (result ≤ PEERS_MAX) × IsNumberOf A.eq self.new.known from result }
         ensures kept { (n : ℕ) → IsTrue (holds self.old n) → IfSome (address_among self.old.known n) (λ a. address_among self.new.known n ≡ Some a) }
-        ensures partials { self.new.partials ≡ self.old.partials }
-        ensures challenges { self.new.challenges ≡ self.old.challenges }
+        ensures followed { self.new.followed ≡ self.old.followed }
+        ensures exchange { self.new.exchange ≡ self.old.exchange }
     {
-        if let Some(known) = self.known.get_mut(place) {
-            *known = from;
-            return Ok(Some(place as u16 + 1));
-        }
-        if place > self.known.len() {
-            return Ok(None);
-        }
+        self.known[place] = from;
+        place as u16 + 1
+    }
+
+    /// Gives the next number to the address.
+    fn seat_behind(&mut self, from: A) -> Result<u16, AllocError>
+        requires room { length self.old.known < PEERS_MAX }
+        ensures own { IfOk result (λ n. (0 < n) × (n ≤ PEERS_MAX) × IsNumberOf A.eq self.new.known from n) }
+        ensures kept { (n : ℕ) → IsTrue (holds self.old n) → IfSome (address_among self.old.known n) (λ a. address_among self.new.known n ≡ Some a) }
+        ensures followed { self.new.followed ≡ self.old.followed }
+        ensures exchange { self.new.exchange ≡ self.old.exchange }
+    {
+        let place = self.known.len();
         self.known.push(from)?;
-        Ok(Some(place as u16 + 1))
+        Ok(place as u16 + 1)
     }
 
     /// Octets came from this address, and what was sent up to now was the reply to those before: the number under which they come. None where
@@ -94,22 +99,26 @@ impl<A: Eq + Copy> Peers<A> {
     pub fn came(&mut self, from: A, octets: &[u8]) -> Result<Option<u16>, AllocError>
         ensures own { IfOk result (λ number. IfSome number (λ n. (0 < n) × (n ≤ PEERS_MAX) × IsNumberOf A.eq self.new.known from n)) }
         ensures kept { (n : ℕ) → IsTrue (holds self.new n) → IfSome (address_among self.old.known n) (λ a. address_among self.new.known n ≡ Some a) }
+        ensures some { IsFrame octets.now → IfOk result (λ number. IsSome number) }
         ensures no_frame { ¬ IsFrame octets.now → (result ≡ Ok None) × (self.new.known ≡ self.old.known) }
+        ensures followed { self.new.followed ≡ settled self.old.followed self.old.exchange }
+        ensures exchange { IfOk result (λ number. self.new.exchange ≡ option_map (arrival octets.now) number) }
+        ensures refused { IfErr result (λ _. self.new.exchange ≡ None) }
     {
         self.trail.settle();
         let Ok(frame) = one_datagram(octets) else {
             return Ok(None);
         };
         let number = self.number(from)?;
-        if let Some(number) = number {
-            self.trail.came(number, &frame);
-        }
-        Ok(number)
+        self.trail.came(number, &frame);
+        Ok(Some(number))
     }
 
     /// A datagram of the reply to what came last is sent.
     pub fn answered(&mut self, datagram: &[u8])
-        ensures unchanged { self.new ≡ self.old }
+        ensures known { self.new.known ≡ self.old.known }
+        ensures followed { self.new.followed ≡ self.old.followed }
+        ensures exchange { self.new.exchange ≡ option_map (with_reply datagram.now) self.old.exchange }
     {
         self.trail.answered(datagram);
     }

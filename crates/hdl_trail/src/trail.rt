@@ -10,11 +10,14 @@
 //!
 //! A spent one makes room, so an older one than the last eight may be pending: it isn't enough to know the last eight.
 
-ghost use Rattle.std.specs.Prelude.{◌≡◌, ◌≢◌, ◌==◌, [], None, Some, IfSome, IsTrue, IsFalse, MatchOption};
-ghost use Rattle.std.specs.List.{list_any, position, remove};
-ghost use Rattle.hdl_trail.specs.Kept.{is_held, is_of, is_from, put_behind};
+ghost use Rattle.std.specs.Prelude.{◌≡◌, ◌≤◌, ◌<◌, ◌+◌, ◌==◌, [], None, Some, IsFalse, IfNone, IfSome, find, length, option_map};
+ghost use Rattle.std.specs.List.{list_any, position};
+ghost use Rattle.hdl_limits.specs.declared.TheConstants.{PEERS_MAX};
+ghost use Rattle.hdl_trail.specs.Exchange.{exchange_of, with_reply};
+ghost use Rattle.hdl_trail.specs.Kept.{answered, challenged, ended, is_held, is_of, operation_of, redeemed, settled, with_piece};
+ghost use Rattle.hdl_trail.specs.Trail.{followed};
 
-use crate::exchange::{Exchange, reply_of};
+use crate::exchange::Exchange;
 use crate::kept::{Key, Mark, Sent, put};
 use arrayvec::ArrayVec;
 use hdl_frame::Frame;
@@ -45,7 +48,8 @@ pub struct Trail {
 impl Trail {
     /// Of a lane of which nothing is kept.
     pub fn new() -> Trail
-        ensures empty { (result.partials.items ≡ []) × (result.challenges.items ≡ []) }
+        ensures followed { followed result ≡ record { partials = []; challenges = [] } }
+        ensures exchange { result.exchange ≡ None }
     {
         Trail {
             partials: ArrayVec::new(),
@@ -56,7 +60,7 @@ impl Trail {
 
     /// Whether something is kept under the number.
     pub fn holds(&self, number: u16) -> bool
-        ensures { result ≡ is_held self.now.partials.items self.now.challenges.items number }
+        ensures { result ≡ is_held (followed self.now) number }
     {
         self.holds_pieces(number) || self.holds_challenge(number)
     }
@@ -77,39 +81,50 @@ impl Trail {
         challenges.any(|sent| sent.number == number)
     }
 
+    /// The place of the first of so many numbers, from 1 on, under which nothing is kept. Where there is none so many are kept at least.
+    pub fn free_place(&self, count: usize) -> Option<usize>
+        requires { count ≤ PEERS_MAX }
+        ensures free { IfSome result (λ place. (place < count) × IsFalse (is_held (followed self.now) (place + 1))) }
+        ensures few { IfNone result (count ≤ PARTIALS_MAX + CHALLENGES_MAX) }
+    {
+        for place in 0..count.min(self.kept() + 1) {
+            if !self.holds(place as u16 + 1) {
+                return Some(place);
+            }
+        }
+        None
+    }
+
+    /// How many messages and challenges are kept.
+    fn kept(&self) -> usize
+        ensures count { result ≡ length self.now.partials.items + length self.now.challenges.items }
+        ensures few { result ≤ PARTIALS_MAX + CHALLENGES_MAX }
+    {
+        self.partials.as_slice().len() + self.challenges.as_slice().len()
+    }
+
     /// A frame came from whoever has the number. What came before is settled.
     pub fn came(&mut self, number: u16, frame: &Frame<'_>)
-        ensures partials { self.new.partials ≡ self.old.partials }
-        ensures challenges { self.new.challenges ≡ self.old.challenges }
+        ensures followed { followed self.new ≡ followed self.old }
+        ensures exchange { self.new.exchange ≡ Some (exchange_of number frame.now.envelope frame.now.bytes.now) }
     {
         self.exchange = Some(Exchange::of(number, frame));
     }
 
     /// A datagram of the reply to what came last is sent.
     pub fn answered(&mut self, datagram: &[u8])
-        ensures partials { self.new.partials ≡ self.old.partials }
-        ensures challenges { self.new.challenges ≡ self.old.challenges }
+        ensures followed { followed self.new ≡ followed self.old }
+        ensures exchange { self.new.exchange ≡ option_map (with_reply datagram.now) self.old.exchange }
     {
-        if let Some(exchange) = &mut self.exchange {
-            if exchange.reply.is_none() {
-                exchange.reply = reply_of(datagram);
-            }
+        if let Some(exchange) = self.exchange {
+            self.exchange = Some(exchange.with_reply(datagram));
         }
     }
 
     /// The reply to what came last is whole, or there is none.
     pub fn settle(&mut self)
-        ensures settled { self.new.exchange ≡ None }
-        ensures nothing { self.old.exchange ≡ None → (self.new.partials.items ≡ self.old.partials.items) × (self.new.challenges.items ≡ self.old.challenges.items) }
-        ensures unanswered { IfSome self.old.exchange (λ e. e.reply ≡ None → (self.new.challenges.items ≡ self.old.challenges.items)
-            × (IsFalse e.is_piece → self.new.partials.items ≡ self.old.partials.items)) }
-        ensures begun { IfSome self.old.exchange (λ e. e.reply ≡ None → IsTrue e.is_piece → position (is_of e.key) self.old.partials.items ≡ None
-            → self.new.partials.items ≡ put_behind PARTIALS_MAX self.old.partials.items (record { key = e.key; length = e.length; operation = e.operation })) }
-        ensures busy { IfSome self.old.exchange (λ e. IfSome e.reply (λ r. r.0 ≡ BUSY → (self.new.partials.items ≡ self.old.partials.items) × (self.new.challenges.items ≡ self.old.challenges.items))) }
-        ensures malformed { IfSome self.old.exchange (λ e. IfSome e.reply (λ r. r.0 ≡ MALFORMED → self.new.challenges.items ≡ self.old.challenges.items)) }
-        ensures ended { IfSome self.old.exchange (λ e. IfSome e.reply (λ r. r.0 ≢ BUSY → IsTrue e.is_piece
-            → MatchOption (position (is_of e.key) self.old.partials.items) (self.new.partials.items ≡ self.old.partials.items) (λ k. self.new.partials.items ≡ remove self.old.partials.items k))) }
-        ensures challenged { IfSome self.old.exchange (λ e. IfSome e.reply (λ r. r.0 ≡ CHALLENGE → IsTrue (is_held self.new.partials.items self.new.challenges.items e.key.number))) }
+        ensures followed { followed self.new ≡ settled (followed self.old) self.old.exchange }
+        ensures exchange { self.new.exchange ≡ None }
     {
         let Some(exchange) = self.exchange else {
             return;
@@ -129,25 +144,33 @@ impl Trail {
     /// A message was answered by this code, under this SessionId.
     fn close(&mut self, exchange: Exchange, code: u32, session: u32)
         ensures exchange { self.new.exchange ≡ self.old.exchange }
-        ensures whole { IsFalse exchange.is_piece → self.new.partials.items ≡ self.old.partials.items }
-        ensures malformed { code ≡ MALFORMED → self.new.challenges.items ≡ self.old.challenges.items }
-        ensures ordinary { IsFalse exchange.is_piece → exchange.operation ≢ Some RESPONSE → code ≢ CHALLENGE → self.new.challenges.items ≡ self.old.challenges.items }
-        ensures ended { IsTrue exchange.is_piece → MatchOption (position (is_of exchange.key) self.old.partials.items) (self.new.partials.items ≡ self.old.partials.items) (λ k. self.new.partials.items ≡ remove self.old.partials.items k) }
-        ensures challenged { code ≡ CHALLENGE → IsTrue (list_any (λ s. s.number == exchange.key.number) self.new.challenges.items) }
+        ensures followed { followed self.new ≡ answered (followed self.old) exchange code session }
     {
-        let kept = if exchange.is_piece {
-            self.end(exchange.key)
-        } else {
-            None
+        let operation = self.operation(exchange);
+        self.end(exchange);
+        self.redeem(exchange.key, operation, code);
+        self.challenge(exchange.key.number, code, session);
+    }
+
+    /// The operation of the message that the frame brings, or makes whole.
+    fn operation(&self, exchange: Exchange) -> Option<u32>
+        ensures { result ≡ operation_of exchange self.now.partials.items }
+    {
+        if exchange.operation.is_some() || !exchange.is_piece {
+            return exchange.operation;
+        }
+        let mark = self.message(exchange.key)?;
+        mark.operation
+    }
+
+    /// The message of this key.
+    fn message(&self, key: Key) -> Option<Mark>
+        ensures { result ≡ find (is_of key) self.now.partials.items }
+    {
+        let Some(place) = self.place(key) else {
+            return None;
         };
-        let operation = exchange.operation.or(kept);
-        if operation == Some(RESPONSE) && code != MALFORMED {
-            self.spend(exchange.key);
-        }
-        if code == CHALLENGE {
-            let number = exchange.key.number;
-            put(&mut self.challenges, Sent { number, session });
-        }
+        self.partials.get(place).copied()
     }
 
     /// The place of the message of this key.
@@ -162,59 +185,49 @@ impl Trail {
     fn keep(&mut self, exchange: Exchange)
         ensures exchange { self.new.exchange ≡ self.old.exchange }
         ensures challenges { self.new.challenges.items ≡ self.old.challenges.items }
-        ensures begun { position (is_of exchange.key) self.old.partials.items ≡ None → self.new.partials.items ≡ put_behind PARTIALS_MAX self.old.partials.items (record { key = exchange.key; length = exchange.length; operation = exchange.operation }) }
+        ensures partials { self.new.partials.items ≡ with_piece exchange self.old.partials.items }
     {
-        let Exchange {
-            key,
-            length,
-            operation,
-            ..
-        } = exchange;
-        let Some(place) = self.place(key) else {
-            put(
-                &mut self.partials,
-                Mark {
-                    key,
-                    length,
-                    operation,
-                },
-            );
+        let Some(place) = self.place(exchange.key) else {
+            put(&mut self.partials, Mark::begun(exchange));
             return;
         };
         if let Some(mark) = self.partials.get_mut(place) {
-            if mark.length == length && mark.operation.is_none() {
-                mark.operation = operation;
-            }
+            *mark = mark.grown(exchange);
         }
     }
 
-    /// A message that came in pieces is answered, so nothing of it is kept any more. Its operation, where its front came before.
-    fn end(&mut self, key: Key) -> Option<u32>
+    /// A message that came in pieces is answered, so nothing of it is kept any more.
+    fn end(&mut self, exchange: Exchange)
         ensures exchange { self.new.exchange ≡ self.old.exchange }
         ensures challenges { self.new.challenges.items ≡ self.old.challenges.items }
-        ensures ended { MatchOption (position (is_of key) self.old.partials.items) (self.new.partials.items ≡ self.old.partials.items) (λ k. self.new.partials.items ≡ remove self.old.partials.items k) }
+        ensures partials { self.new.partials.items ≡ ended exchange self.old.partials.items }
     {
-        let place = self.place(key)?;
-        let mark = self.partials.pop_at(place)?;
-        mark.operation
-    }
-
-    /// A response spends the challenge of its peer and SessionId, if there is one.
-    fn spend(&mut self, key: Key)
-        ensures exchange { self.new.exchange ≡ self.old.exchange }
-        ensures partials { self.new.partials.items ≡ self.old.partials.items }
-        ensures spent { MatchOption (position (is_from key.number key.session) self.old.challenges.items) (self.new.challenges.items ≡ self.old.challenges.items) (λ k. self.new.challenges.items ≡ remove self.old.challenges.items k) }
-    {
-        if let Some(place) = self.place_of_sent(key) {
-            self.challenges.pop_at(place);
+        if exchange.is_piece {
+            self.partials.retain(|mark| !mark.is_of(exchange.key));
         }
     }
 
-    /// The place of the challenge of this peer and SessionId.
-    fn place_of_sent(&self, key: Key) -> Option<usize>
-        ensures { result ≡ position (is_from key.number key.session) self.now.challenges.items }
+    /// A response of this key spends its challenge, if there is one.
+    fn redeem(&mut self, key: Key, operation: Option<u32>, code: u32)
+        ensures exchange { self.new.exchange ≡ self.old.exchange }
+        ensures partials { self.new.partials.items ≡ self.old.partials.items }
+        ensures challenges { self.new.challenges.items ≡ redeemed key operation code self.old.challenges.items }
     {
-        let mut challenges = self.challenges.as_slice().iter();
-        challenges.position(|sent| sent.is_from(key.number, key.session))
+        if operation == Some(RESPONSE) && code != MALFORMED {
+            self.challenges
+                .retain(|sent| !sent.is_from(key.number, key.session));
+        }
+    }
+
+    /// A challenge is put under its SessionId, which the service gives to no other.
+    fn challenge(&mut self, number: u16, code: u32, session: u32)
+        ensures exchange { self.new.exchange ≡ self.old.exchange }
+        ensures partials { self.new.partials.items ≡ self.old.partials.items }
+        ensures challenges { self.new.challenges.items ≡ challenged number code session self.old.challenges.items }
+    {
+        if code == CHALLENGE {
+            self.challenges.retain(|sent| sent.session != session);
+            put(&mut self.challenges, Sent { number, session });
+        }
     }
 }

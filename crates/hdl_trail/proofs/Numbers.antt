@@ -1,0 +1,74 @@
+-- As many numbers as are all held are kept.
+use Rattle.std.proofs.Common.{◌≡◌, ℕ, zero, suc, ◌+◌, ◌<◌, ◌≤◌, Bool, true, false, not, ◌||◌, cond, eqb, List, [], ◌∷◌, ◌++◌, length, map, filter, refl, ap, ◌∙◌, arith}
+use Rattle.std.specs.List.{list_any}
+use Rattle.std.proofs.lemmas.Bool.{eqb-true, ne_eqb}
+use Rattle.std.proofs.lemmas.List.{length-append, length-map}
+use Rattle.std.proofs.lemmas.List.Folds.{list_any-append}
+use Rattle.std.proofs.lemmas.Map.Views.{any-filter_same}
+use Rattle.hdl_trail.specs.declared.kept.Mark.{Mark}
+use Rattle.hdl_trail.specs.declared.kept.Sent.{Sent}
+use Rattle.hdl_trail.specs.Kept.{Followed, is_held}
+
+abbrev others : (ℕ → Bool) → List ℕ → List ℕ
+others p xs = filter (λ x. not (p x)) xs
+
+no_longer : (p : ℕ → Bool) (xs : List ℕ) → length (others p xs) ≤ length xs
+no_longer p [] = omega arith
+no_longer p (x ∷ xs) = by_test (p x) (no_longer p xs)
+  where
+    by_test : (b : Bool) → length (others p xs) ≤ length xs → length (cond (not b) (x ∷ others p xs) (others p xs)) ≤ suc (length xs)
+    by_test true le = omega arith
+    by_test false le = omega arith
+
+-- without what passes a test that one passes a list is shorter
+shorter : (p : ℕ → Bool) (xs : List ℕ) → list_any p xs ≡ true → length (others p xs) < length xs
+shorter p [] some = absurd (cc)
+shorter p (x ∷ xs) some = by_test (p x) refl some (no_longer p xs) (shorter p xs)
+  where
+    by_test : (b : Bool) → p x ≡ b → b || list_any p xs ≡ true → length (others p xs) ≤ length xs → (list_any p xs ≡ true → length (others p xs) < length xs)
+        → length (cond (not b) (x ∷ others p xs) (others p xs)) < suc (length xs)
+    by_test true is any le below = omega arith
+    by_test false is any le below = let lt = below any in omega arith
+
+-- n numbers from 1 on are in no list that is shorter
+within : (n : ℕ) (xs : List ℕ) → ((k : ℕ) → k < n → list_any (λ x. eqb x (k + 1)) xs ≡ true) → n ≤ length xs
+within zero xs each = omega arith
+within (suc n) xs each =
+    let p : ℕ → Bool = λ x. eqb x (n + 1) in
+    let lt : length (others p xs) < length xs = shorter p xs (each n (omega arith)) in
+    let le : n ≤ length (others p xs) = within n (others p xs) (λ k below. stays k below) in
+    omega arith
+  where
+    differs : (k x : ℕ) → k < n → eqb x (k + 1) ≡ true → not (eqb x (n + 1)) ≡ true
+    differs k x below is = ap not (ne_eqb x (n + 1) (λ e. absurd (omega (arith, eqb-true x (k + 1) is))))
+
+    stays : (k : ℕ) → k < n → list_any (λ x. eqb x (k + 1)) (filter (λ x. not (eqb x (n + 1))) xs) ≡ true
+    stays k below = any-filter_same (λ x. eqb x (k + 1)) (λ x. not (eqb x (n + 1))) true (λ x is. differs k x below is) xs ∙ each k (omega arith)
+
+-- ---- the numbers of what is kept
+
+abbrev numbers : Followed → List ℕ
+numbers f = map (λ m. m.key.number) f.partials ++ map (λ s. s.number) f.challenges
+
+marks_any : (n : ℕ) (ms : List Mark) → list_any (λ x. eqb x n) (map (λ m. m.key.number) ms) ≡ list_any (λ m. eqb m.key.number n) ms
+marks_any n [] = refl
+marks_any n (m ∷ ms) = ap (λ (b : Bool). eqb m.key.number n || b) (marks_any n ms)
+
+sent_any : (n : ℕ) (ss : List Sent) → list_any (λ x. eqb x n) (map (λ s. s.number) ss) ≡ list_any (λ s. eqb s.number n) ss
+sent_any n [] = refl
+sent_any n (s ∷ ss) = ap (λ (b : Bool). eqb s.number n || b) (sent_any n ss)
+
+held_any : (f : Followed) (n : ℕ) → list_any (λ x. eqb x n) (numbers f) ≡ is_held f n
+held_any f n =
+    list_any-append (λ x. eqb x n) (map (λ (m : Mark). m.key.number) f.partials) (map (λ (s : Sent). s.number) f.challenges)
+    ∙ ap (λ (b : Bool). b || list_any (λ x. eqb x n) (map (λ (s : Sent). s.number) f.challenges)) (marks_any n f.partials)
+    ∙ ap (λ (b : Bool). list_any (λ (m : Mark). eqb m.key.number n) f.partials || b) (sent_any n f.challenges)
+
+-- numbers from 1 on that are all held are no more than what is kept
+pub all_held : (f : Followed) (n : ℕ) → ((k : ℕ) → k < n → is_held f (k + 1) ≡ true) → n ≤ length f.partials + length f.challenges
+all_held f n each =
+    let le = within n (numbers f) (λ k lt. held_any f (k + 1) ∙ each k lt) in
+    let a = length-append (map (λ (m : Mark). m.key.number) f.partials) (map (λ (s : Sent). s.number) f.challenges) in
+    let b = length-map f.partials (λ (m : Mark). m.key.number) in
+    let c = length-map f.challenges (λ (s : Sent). s.number) in
+    omega arith
