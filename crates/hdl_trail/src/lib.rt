@@ -10,9 +10,9 @@
 //! a number   -> Peers::address                where the reply goes
 //! ```
 //!
-//! Promised are: a number comes from an address that it stands for; a number under which something is followed keeps its address, whatever
-//! comes; octets that are no frame change nothing; and the trail follows what begins and ends by its rules. That these are the service's isn't proved:
-//! `src/trail.rt` says why they are, and tools/ports.py tries them.
+//! Promised are: each frame gets a number, of an address that it stands for; a number under which something is followed keeps its address, whatever
+//! comes; octets that are no frame change nothing; and what is followed after a frame and its reply is what `specs/Kept.antt` says. That this is
+//! what the service keeps is proved in hdl_follows.
 //! It stands on the limits and on frames, and knows no sockets: an address is whatever can be compared.
 #![tactic(auto)]
 

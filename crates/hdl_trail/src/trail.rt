@@ -5,8 +5,9 @@
 //!
 //! - A frame with TC that isn't answered has begun a message, or goes on with one that is kept. A fifth message displaces the oldest.
 //!   One that is answered made its message whole, and of that nothing is kept; but where the answer is busy, nothing has changed.
-//! - A reply of code 402 is a challenge under its SessionId. A ninth displaces the oldest. A challenge response of the same peer with
-//!   this SessionId spends it, unless the answer is busy, or says that the message is out of the grammar.
+//! - A reply of code 402 is a challenge under its SessionId. It displaces one that has this SessionId, and as a ninth the oldest.
+//!   A challenge response of the same peer with this SessionId spends it, unless the answer is busy, or says that the message is
+//!   out of the grammar.
 //!
 //! A spent one makes room, so an older one than the last eight may be pending: it isn't enough to know the last eight.
 

@@ -1,0 +1,19 @@
+//! Laws over a lane and its trail, each the contract of a function without a body.
+
+ghost use Rattle.hdl_follows.specs.Laws.{BeginsFollowed, HoldsWhatIsKept, StepsFollowed};
+
+/// Of a lane that was opened nothing is kept, and so says a new trail.
+pub fn begins_followed()
+    ensures { BeginsFollowed }
+{}
+
+/// Where a trail follows a lane, it does so after each frame: once the outcome's datagrams are seen and settled it has the keys of
+/// what the lane then keeps.
+pub fn steps_followed()
+    ensures { StepsFollowed }
+{}
+
+/// A number is held by a trail that follows a lane just where the lane keeps something under it.
+pub fn holds_what_is_kept()
+    ensures { HoldsWhatIsKept }
+{}
