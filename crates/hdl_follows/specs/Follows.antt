@@ -51,6 +51,7 @@ pub record IsPartial (p : Partial) : Type 0 where
   pub places : length p.pieces ≡ piece_count p.length
   pub front : IfSome (payload_at p 0) (λ payload. length payload ≡ min PIECE_LEN p.length)
 
+-- it is open, its next number fits four octets, and it keeps the limit of challenges, each of which can be read
 pub record IsInUse (s : LaneState) : Type 0 where
   pub is_open : IsTrue s.is_open
   pub partials : AllByRecursion IsPartial s.partials
