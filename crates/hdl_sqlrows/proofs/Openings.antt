@@ -4,7 +4,6 @@ use Rattle.std.specs.FinMap as map
 use Rattle.std.specs.FinSet as set
 use Rattle.std.specs.List.{AllByRecursion}
 use Rattle.hdl_value.specs.Place.{Place, handle_cmp, same_handle, same_place}
-use Rattle.hdl_value.specs.declared.value.Value.{Value}
 use Rattle.hdl_value.proofs.Places.{handle_total, handle_itself, place_total, places_equal}
 use Rattle.hdl_rows.specs.Table.{Table, no_rows, at, IsPlaced}
 use Rattle.hdl_sqlrows.specs.Opening.{First, handle, place_of, Base, no_base, with_first, noted_with, opened_with, unopened, absent}
