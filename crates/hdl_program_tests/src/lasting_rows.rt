@@ -31,7 +31,12 @@ impl Progress for Deaf {
 type Table = LastingRows<PlainRows, MemStore, Deaf>;
 
 /// The table over a database, with one first value of the text.
-fn over(alloc: Global, conn: Connection<MemStore>, name: Name, first: Value) -> Result<Table, Fail> {
+fn over(
+    alloc: Global,
+    conn: Connection<MemStore>,
+    name: Name,
+    first: Value,
+) -> Result<Table, Fail> {
     if !conn.is_autocommit() {
         return Err(TableFault::Device.into());
     }
@@ -68,12 +73,7 @@ fn modify_third(rt: &impl Abort, alloc: Global, table: &mut Table) -> Result<(),
 }
 
 /// Asserts what the handles of the authority are, with a space behind each, and the values of `10.abc/x`.
-fn stand(
-    rt: &impl Abort,
-    alloc: Global,
-    table: &mut Table,
-    handles: &[u8],
-) -> Result<(), Fail> {
+fn stand(rt: &impl Abort, alloc: Global, table: &mut Table, handles: &[u8]) -> Result<(), Fail> {
     let mut all = vec![in alloc]?;
     for name in &table.names(b"10.abc")? {
         all.extend_from_slice(name.as_slice())?;
