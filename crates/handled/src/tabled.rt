@@ -5,6 +5,7 @@ use hdl_core::Tenants;
 use hdl_lastingrows::{Alarm, FileTable, TableFault, open_file, table_over};
 use hdl_replay::{Fault, events_of, parts_of, put_all, tenants_of, told_on};
 use hdl_rows::PlainRows;
+use hdl_sqlrows::load::Progress;
 use sqlite::Wary;
 use std::fmt;
 
@@ -47,7 +48,10 @@ impl From<TableFault> for TabledFault {
     }
 }
 
-/// Says on standard error that the table takes no more writes.
+/// After so many rows that were read it is said.
+const STEP: u64 = 100_000;
+
+/// Says on standard error how far the load of a large table is, and that the table takes no more writes.
 #[derive(Clone, Copy, Drop)]
 pub struct Said(HostRuntime);
 
@@ -56,6 +60,20 @@ impl Alarm for Said {
         let _ = eprintln!(self.0;
             "table: shut for writes: a write or a sync of the file failed, or memory did; reads go on, changes are answered busy; restart once the cause is gone"
         );
+    }
+}
+
+impl Progress for Said {
+    fn handles(&mut self, count: u64) {
+        if count % STEP == 0 {
+            let _ = eprintln!(self.0; "table: {count} handles read");
+        }
+    }
+
+    fn values(&mut self, count: u64) {
+        if count % STEP == 0 {
+            let _ = eprintln!(self.0; "table: {count} values read");
+        }
     }
 }
 

@@ -7,6 +7,7 @@ ghost use Rattle.hdl_name.specs.Name.{canonical};
 ghost use Rattle.hdl_rows.specs.Table.{no_rows, has, created, with_values, without_values, without_handle, AreDistinct, AreAbsent, ArePresent, indexes};
 ghost use Rattle.hdl_sqlrows.specs.Filed.{WhereOpen, IsFiled, CrashLeaves, filed};
 ghost use Rattle.hdl_sqlrows.specs.Kept.{IsBlank, IsSettled, table_in};
+ghost use Rattle.hdl_sqlrows.specs.Opening.{base_in, based};
 
 use hdl_name::Name;
 use hdl_sqlrows::{Fault, layout, writes};
@@ -90,6 +91,8 @@ impl<S: Alter + Drop> FileRows<S> {
         ensures durable { OnOk result (HasCleanDisk (state S.Store self.new) → CrashLeaves (state S.Store self.new) (created (filed (state S.Store self.old)) (canonical name.now) values.now)) }
         ensures restored { OnErr result (WhereOpen (state S.Store self.new) (CrashLeaves (state S.Store self.new) (filed (state S.Store self.old)))) }
         ensures survives { Survives (state S.Store self.old) (state S.Store self.new) (λ db. table_in db ≡ created (filed (state S.Store self.old)) (canonical name.now) values.now) }
+        ensures beside { WhereOpen (state S.Store self.new) ((based (state S.Store self.new)).opened ≡ (based (state S.Store self.old)).opened) }
+        ensures beside_survives { Survives (state S.Store self.old) (state S.Store self.new) (λ db. IsTrue (state S.Store self.old).is_open → (base_in db).opened ≡ (based (state S.Store self.old)).opened) }
     {
         let authority = name.authority();
         writes::create(&mut self.conn, self.alloc, name.canon(), authority, values)
@@ -104,6 +107,8 @@ impl<S: Alter + Drop> FileRows<S> {
         ensures durable { OnOk result (HasCleanDisk (state S.Store self.new) → CrashLeaves (state S.Store self.new) (with_values (filed (state S.Store self.old)) (canonical name.now) values.now)) }
         ensures restored { OnErr result (WhereOpen (state S.Store self.new) (CrashLeaves (state S.Store self.new) (filed (state S.Store self.old)))) }
         ensures survives { Survives (state S.Store self.old) (state S.Store self.new) (λ db. IsTrue (state S.Store self.old).is_open → table_in db ≡ with_values (filed (state S.Store self.old)) (canonical name.now) values.now) }
+        ensures beside { WhereOpen (state S.Store self.new) ((based (state S.Store self.new)).opened ≡ (based (state S.Store self.old)).opened) }
+        ensures beside_survives { Survives (state S.Store self.old) (state S.Store self.new) (λ db. IsTrue (state S.Store self.old).is_open → (base_in db).opened ≡ (based (state S.Store self.old)).opened) }
     {
         writes::add(&mut self.conn, self.alloc, name.canon(), values)
     }
@@ -116,6 +121,8 @@ impl<S: Alter + Drop> FileRows<S> {
         ensures durable { OnOk result (HasCleanDisk (state S.Store self.new) → CrashLeaves (state S.Store self.new) (with_values (filed (state S.Store self.old)) (canonical name.now) values.now)) }
         ensures restored { OnErr result (WhereOpen (state S.Store self.new) (CrashLeaves (state S.Store self.new) (filed (state S.Store self.old)))) }
         ensures survives { Survives (state S.Store self.old) (state S.Store self.new) (λ db. IsTrue (state S.Store self.old).is_open → table_in db ≡ with_values (filed (state S.Store self.old)) (canonical name.now) values.now) }
+        ensures beside { WhereOpen (state S.Store self.new) ((based (state S.Store self.new)).opened ≡ (based (state S.Store self.old)).opened) }
+        ensures beside_survives { Survives (state S.Store self.old) (state S.Store self.new) (λ db. IsTrue (state S.Store self.old).is_open → (base_in db).opened ≡ (based (state S.Store self.old)).opened) }
     {
         writes::modify(&mut self.conn, self.alloc, name.canon(), values)
     }
@@ -127,6 +134,8 @@ impl<S: Alter + Drop> FileRows<S> {
         ensures durable { OnOk result (HasCleanDisk (state S.Store self.new) → CrashLeaves (state S.Store self.new) (without_values (filed (state S.Store self.old)) (canonical name.now) indexes.now)) }
         ensures restored { OnErr result (WhereOpen (state S.Store self.new) (CrashLeaves (state S.Store self.new) (filed (state S.Store self.old)))) }
         ensures survives { Survives (state S.Store self.old) (state S.Store self.new) (λ db. IsTrue (state S.Store self.old).is_open → table_in db ≡ without_values (filed (state S.Store self.old)) (canonical name.now) indexes.now) }
+        ensures beside { WhereOpen (state S.Store self.new) ((based (state S.Store self.new)).opened ≡ (based (state S.Store self.old)).opened) }
+        ensures beside_survives { Survives (state S.Store self.old) (state S.Store self.new) (λ db. IsTrue (state S.Store self.old).is_open → (base_in db).opened ≡ (based (state S.Store self.old)).opened) }
     {
         writes::remove(&mut self.conn, name.canon(), indexes)
     }
@@ -139,6 +148,8 @@ impl<S: Alter + Drop> FileRows<S> {
         ensures durable { OnOk result (HasCleanDisk (state S.Store self.new) → CrashLeaves (state S.Store self.new) (without_handle (filed (state S.Store self.old)) (canonical name.now))) }
         ensures restored { OnErr result (WhereOpen (state S.Store self.new) (CrashLeaves (state S.Store self.new) (filed (state S.Store self.old)))) }
         ensures survives { Survives (state S.Store self.old) (state S.Store self.new) (λ db. table_in db ≡ without_handle (filed (state S.Store self.old)) (canonical name.now)) }
+        ensures beside { WhereOpen (state S.Store self.new) ((based (state S.Store self.new)).opened ≡ (based (state S.Store self.old)).opened) }
+        ensures beside_survives { Survives (state S.Store self.old) (state S.Store self.new) (λ db. IsTrue (state S.Store self.old).is_open → (base_in db).opened ≡ (based (state S.Store self.old)).opened) }
     {
         writes::delete(&mut self.conn, name.canon())
     }

@@ -9,7 +9,7 @@ ghost use Rattle.sqlite_wal.specs.Files.{image_at};
 ghost use Rattle.hdl_value.specs.Place.{Place};
 ghost use Rattle.hdl_rows.specs.Table.{no_rows, IsPlaced};
 ghost use Rattle.hdl_sqlrows.specs.Layout.{layout, no_schema};
-ghost use Rattle.hdl_sqlrows.specs.Filed.{WhereOpen, IsFiled};
+ghost use Rattle.hdl_sqlrows.specs.Filed.{WhereOpen, IsFiled, filed};
 ghost use Rattle.hdl_sqlrows.specs.Kept.{IsSettled};
 ghost use Rattle.hdl_sqlrows.specs.Opening.{place_of, opened_with, based, no_base};
 
@@ -19,8 +19,8 @@ use hdl_filerows::FileRows;
 use hdl_name::Name;
 use hdl_rows::Rows;
 use hdl_sqlrows::known::{Found, tables_of};
-use hdl_sqlrows::load::load;
-use hdl_sqlrows::opening::{open_more, open_new};
+use hdl_sqlrows::load::{Progress, load};
+use hdl_sqlrows::opening::{are_opened, open_more, open_new};
 use hdl_value::Value;
 use sqlite::{Alter, Connection, FileFrom, FileStore, Start};
 use std::alloc::Global;
@@ -67,11 +67,12 @@ pub fn open_file<S: Start>(
 }
 
 /// Makes the tables in a database that has none, opens the handles, and puts them into the table in memory.
-fn begin<R: Rows, S: Alter>(
+fn begin<R: Rows, S: Alter, P: Progress>(
     conn: &mut Connection<S>,
     alloc: Global,
     rows: &mut R,
     opening: &[(Name, Value)],
+    progress: &mut P,
 ) -> Result<(), TableFault>
     requires mode { conn.old.in_transaction ≡ false }
     requires even { WhereOpen (state S.Store conn.old) ((state S.Store conn.old).committed ≡ (state S.Store conn.old).now) }
@@ -85,17 +86,78 @@ fn begin<R: Rows, S: Alter>(
     ensures opened { OnOk result (HasCleanDisk (state S.Store conn.new) → R.content rows.new ≡ (opened_with no_base opening.now).table) }
 {
     open_new(conn, alloc, opening)?;
-    load(conn, alloc, rows)?;
+    load(conn, alloc, rows, progress)?;
     Ok(())
 }
 
-/// Opens the handles that weren't opened yet, once the rows of the database were read and found sound, and puts all rows into the table in memory.
-fn resume<R: Rows + Drop, S: Alter>(
+/// Opens the handles that weren't opened yet, and puts all rows into the table in memory.
+fn open_rest<R: Rows + Drop, S: Alter, P: Progress>(
+    conn: &mut Connection<S>,
+    alloc: Global,
+    rows: R,
+    opening: &[(Name, Value)],
+    progress: &mut P,
+) -> Result<R, TableFault>
+    requires mode { conn.old.in_transaction ≡ false }
+    requires settled { WhereOpen (state S.Store conn.old) (IsSettled (state S.Store conn.old)) }
+    requires placed { WhereOpen (state S.Store conn.old) (IsPlaced (filed (state S.Store conn.old))) }
+    requires empty { R.content rows ≡ no_rows }
+    requires distinct { AllPairs (λ (p q : Place). p ≢ q) (map place_of opening.now) }
+    ensures clean { OnOk result (HasCleanDisk (state S.Store conn.new) → HasCleanDisk (state S.Store conn.old)) }
+    ensures mode { conn.new.in_transaction ≡ false }
+    ensures settled { OnOk result (HasCleanDisk (state S.Store conn.new) → IsSettled (state S.Store conn.new)) }
+    ensures filed { IfOk result (λ r. HasCleanDisk (state S.Store conn.new) → IsFiled (state S.Store conn.new) (R.content r)) }
+    ensures placed { IfOk result (λ r. IsPlaced (R.content r)) }
+    ensures opened { IfOk result (λ r. HasCleanDisk (state S.Store conn.new) → R.content r ≡ (opened_with (based (state S.Store conn.old)) opening.now).table) }
+{
+    open_more(conn, alloc, opening)?;
+    let mut rows = rows;
+    load(conn, alloc, &mut rows, progress)?;
+    Ok(rows)
+}
+
+/// The table that was found, where each handle was opened before. Else the rest are opened, and all rows are put into the other table.
+fn reopen<R: Rows + Drop, S: Alter, P: Progress>(
+    conn: &mut Connection<S>,
+    alloc: Global,
+    found: R,
+    rows: R,
+    opening: &[(Name, Value)],
+    progress: &mut P,
+) -> Result<R, TableFault>
+    requires mode { conn.old.in_transaction ≡ false }
+    requires settled { HasCleanDisk (state S.Store conn.old) → IsSettled (state S.Store conn.old) }
+    requires filed { HasCleanDisk (state S.Store conn.old) → IsFiled (state S.Store conn.old) (R.content found) }
+    requires placed { IsPlaced (R.content found) }
+    requires empty { R.content rows ≡ no_rows }
+    requires distinct { AllPairs (λ (p q : Place). p ≢ q) (map place_of opening.now) }
+    ensures clean { OnOk result (HasCleanDisk (state S.Store conn.new) → HasCleanDisk (state S.Store conn.old)) }
+    ensures mode { conn.new.in_transaction ≡ false }
+    ensures settled { OnOk result (HasCleanDisk (state S.Store conn.new) → IsSettled (state S.Store conn.new)) }
+    ensures filed { IfOk result (λ r. HasCleanDisk (state S.Store conn.new) → IsFiled (state S.Store conn.new) (R.content r)) }
+    ensures placed { IfOk result (λ r. IsPlaced (R.content r)) }
+    ensures opened { IfOk result (λ r. HasCleanDisk (state S.Store conn.new) → R.content r ≡ (opened_with (based (state S.Store conn.old)) opening.now).table) }
+{
+    let are_opened = are_opened(conn, alloc, opening)?;
+    // A store that has shut since would refuse it.
+    let _ = conn.prepare("SELECT 1")?;
+    if are_opened {
+        Ok(found)
+    } else {
+        drop(found);
+        open_rest(conn, alloc, rows, opening, progress)
+    }
+}
+
+/// Puts the rows of a database, once they were found sound, into the table in memory, with the handles opened that weren't yet. They are read
+/// again, into the other table, only where such a handle is left.
+fn resume<R: Rows + Drop, S: Alter, P: Progress>(
     conn: &mut Connection<S>,
     alloc: Global,
     rows: R,
     spare: R,
     opening: &[(Name, Value)],
+    progress: &mut P,
 ) -> Result<R, TableFault>
     requires mode { conn.old.in_transaction ≡ false }
     requires layout { (state S.Store conn.old).now.schema ≡ layout }
@@ -108,22 +170,19 @@ fn resume<R: Rows + Drop, S: Alter>(
     ensures placed { IfOk result (λ r. IsPlaced (R.content r)) }
     ensures opened { IfOk result (λ r. HasCleanDisk (state S.Store conn.new) → R.content r ≡ (opened_with (based (state S.Store conn.old)) opening.now).table) }
 {
-    let mut found = spare;
-    load(conn, alloc, &mut found)?;
-    open_more(conn, alloc, opening)?;
-    drop(found);
-    let mut rows = rows;
-    load(conn, alloc, &mut rows)?;
-    Ok(rows)
+    let mut found = rows;
+    load(conn, alloc, &mut found, progress)?;
+    reopen(conn, alloc, found, spare, opening, progress)
 }
 
 /// The rows of a database, with the handles that weren't opened yet opened, in a table in memory.
-fn rows_over<R: Rows + Drop, S: Alter>(
+fn rows_over<R: Rows + Drop, S: Alter, P: Progress>(
     conn: &mut Connection<S>,
     alloc: Global,
     rows: R,
     spare: R,
     opening: &[(Name, Value)],
+    progress: &mut P,
 ) -> Result<R, TableFault>
     requires mode { conn.old.in_transaction ≡ false }
     requires even { WhereOpen (state S.Store conn.old) ((state S.Store conn.old).committed ≡ (state S.Store conn.old).now) }
@@ -140,25 +199,26 @@ fn rows_over<R: Rows + Drop, S: Alter>(
     match tables_of(conn) {
         Found::Nothing => {
             let mut rows = rows;
-            begin(conn, alloc, &mut rows, opening)?;
+            begin(conn, alloc, &mut rows, opening, progress)?;
             Ok(rows)
         }
-        Found::Tables => resume(conn, alloc, rows, spare, opening),
+        Found::Tables => resume(conn, alloc, rows, spare, opening, progress),
         Found::Other => Err(TableFault::Layout),
     }
 }
 
 /// The table over a database: with the handles that weren't opened yet opened, each once. Where the database has no table yet, they are made.
-/// The rows go into the first of the two tables in memory, both empty; the spare one takes those that are found.
+/// The rows go into the first of the two tables in memory, both empty; where a handle is left to open they are read again, into the spare one.
+/// The alarm is told how far the load is.
 ///
 /// Refused: where the database has other tables, an unsound row, or where memory or the store refused.
-pub fn table_over<R: Rows + Drop, S: Alter + Drop, A: Alarm + Drop>(
+pub fn table_over<R: Rows + Drop, S: Alter + Drop, A: Alarm + Progress + Drop>(
     alloc: Global,
     mut conn: Connection<S>,
     rows: R,
     spare: R,
     opening: &[(Name, Value)],
-    alarm: A,
+    mut alarm: A,
 ) -> Result<LastingRows<R, S, A>, TableFault>
     requires mode { conn.in_transaction ≡ false }
     requires even { WhereOpen (state S.Store conn) ((state S.Store conn).committed ≡ (state S.Store conn).now) }
@@ -169,6 +229,6 @@ pub fn table_over<R: Rows + Drop, S: Alter + Drop, A: Alarm + Drop>(
     ensures found { (state S.Store conn).now.schema ≡ layout → IfOk result (λ t. HasCleanDisk (state S.Store t.file) → t.table ≡ (opened_with (based (state S.Store conn)) opening.now).table) }
     ensures writable { IfOk result (λ t. t.is_shut ≡ false) }
 {
-    let rows = rows_over(&mut conn, alloc, rows, spare, opening)?;
+    let rows = rows_over(&mut conn, alloc, rows, spare, opening, &mut alarm)?;
     Ok(LastingRows::new(rows, FileRows::over(alloc, conn), alarm))
 }

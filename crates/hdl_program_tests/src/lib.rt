@@ -12,6 +12,8 @@ mod cached_rows;
 #[cfg(test)]
 mod devices;
 #[cfg(test)]
+mod lasting_rows;
+#[cfg(test)]
 mod loaded_rows;
 #[cfg(test)]
 mod long_scripts;

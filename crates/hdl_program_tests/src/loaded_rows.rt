@@ -1,6 +1,7 @@
 //! A database that was there already, loaded into a table in memory: its rows, and each unsound row that SQL lets in.
 
 use crate::assertion::same;
+use crate::lasting_rows::Deaf;
 use crate::rows::are;
 use hdl_name::Name;
 use hdl_rows::{PlainRows, Rows};
@@ -80,7 +81,7 @@ fn loaded(alloc: Global, conn: &mut Connection<MemStore>) -> Result<PlainRows, L
     if tables_of(conn) != Found::Tables || !conn.is_autocommit() {
         return Err(LoadFault::Store);
     }
-    load(conn, alloc, &mut rows)?;
+    load(conn, alloc, &mut rows, &mut Deaf)?;
     Ok(rows)
 }
 

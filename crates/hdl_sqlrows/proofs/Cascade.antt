@@ -36,13 +36,14 @@ pub record Cascades (db : Trees) (olds : List Row) (mid next : Trees) : Type 0 w
   pub ids : List ℤ
   pub children : AreChildren mid (work_on olds) ids
   pub handles_are : next 0 ≡ mid 0
+  pub opened_are : next 4 ≡ mid 4
   pub entries_are : next 2 ≡ without_all (mid 2) ids
 
 -- the entries are deleted in one step, which sets off nothing more
 acted : (n : ℕ) (db mid next : Trees) (olds : List Row) (ids : List ℤ) → AreChildren mid (work_on olds) ids
     → ActsOn layout Enforced (Leads layout Enforced n) mid (work_on olds) [] (Ok next) ids → Cascades db olds mid next
 unfolding same_name joined
-acted n db mid next olds [] children h = let same = settled n mid next h in record { ids = []; children = children; handles_are = ap (λ (t : Trees). t 0) same; entries_are = ap (λ (t : Trees). t 2) same }
+acted n db mid next olds [] children h = let same = settled n mid next h in record { ids = []; children = children; handles_are = ap (λ (t : Trees). t 0) same; opened_are = ap (λ (t : Trees). t 4) same; entries_are = ap (λ (t : Trees). t 2) same }
 acted n db mid next olds (id ∷ ids) children (inl refused) = absurd (let e = refused.2 in cc)
 acted n db mid next olds (id ∷ ids) children (inr (inl big)) = absurd (let e = big.3 in cc)
 acted n db mid next olds (id ∷ ids) children (inr (inr went)) =
@@ -51,6 +52,7 @@ acted n db mid next olds (id ∷ ids) children (inr (inr went)) =
       ids = id ∷ ids;
       children = children;
       handles_are = ap (λ (t : Trees). t 0) same ∙ went.1.others 0 (λ e. omega (arith, e)) (no_index 0 (inl refl));
+      opened_are = ap (λ (t : Trees). t 4) same ∙ went.1.others 4 (λ e. omega (arith, e)) (no_index 4 (inr (inr refl)));
       entries_are = ap (λ (t : Trees). t 2) same ∙ went.1.rows;
     }
 

@@ -130,7 +130,7 @@ one_row db h kept there =
 -- ---- one handle
 
 pub deletes_handle : (old new : State) (h : List ℕ) (count : ℕ) → IsWhole old.now → has (table_in old.now.trees) h ≡ true → Executes delete_handle (Blob h ∷ []) old new (Ok count)
-    → (new.now.schema ≡ layout) × (new.now.trees 0 ≡ filter (λ r. not (has_handle h r)) (old.now.trees 0)) × (new.now.trees 2 ≡ filter (λ r. not (has_handle h r)) (old.now.trees 2))
+    → (new.now.schema ≡ layout) × (new.now.trees 0 ≡ filter (λ r. not (has_handle h r)) (old.now.trees 0)) × (new.now.trees 2 ≡ filter (λ r. not (has_handle h r)) (old.now.trees 2)) × (new.now.trees 4 ≡ old.now.trees 4)
 deletes_handle old new h count whole there ran =
     let params = Blob h ∷ [] in
     let db = old.now.trees in
@@ -170,7 +170,8 @@ deletes_handle old new h count whole there ran =
     ∙ children_gone mid (work_on (r ∷ [])) led.2.ids children (all_weaker IsEntryRow HasId (λ s is. is.id) (mid 2) entries) single
     ∙ filter_same _ (λ s. not (has_handle h s)) (mid 2) (all_weaker IsEntryRow _ (λ s is. ap not (child_is r s one.1.is is ∙ ap (same_handle (handle_in s)) one.1.same ∙ swapped (handle_in s) h)) (mid 2) entries)
     ∙ ap (filter (λ s. not (has_handle h s))) last in
-    (ap (λ (d : Database). d.schema) now, ap (λ (t : Trees). t 0) all ∙ led.2.handles_are ∙ first, ap (λ (t : Trees). t 2) all ∙ rest)
+    let opened : mid 4 ≡ db 4 = led.1.others 4 (λ e. omega (arith, e)) (no_index 4 (inr (inr refl))) in
+    (ap (λ (d : Database). d.schema) now, ap (λ (t : Trees). t 0) all ∙ led.2.handles_are ∙ first, ap (λ (t : Trees). t 2) all ∙ rest, ap (λ (t : Trees). t 4) all ∙ led.2.opened_are ∙ opened)
 
 -- ---- the table
 
@@ -230,3 +231,6 @@ drops_handle old new h count inside there ran =
     let did = deletes_handle old new h count inside.whole there ran.0 in
     let made = without_rows old.now.trees new.now.trees h inside.whole.kept did.1 did.2 in
     (ran.1.is_open, record { whole = record { layout = did.0; kept = made.0 }; inside = ran.1.mode }, made.1)
+
+pub cascade_beside : (old new : State) (h : List ℕ) (count : ℕ) → IsInside old → has (drafted old) h ≡ true → ExecutesInside 0 delete_handle (Blob h ∷ []) old new (Ok count) → new.now.trees 4 ≡ old.now.trees 4
+cascade_beside old new h count inside there ran = (deletes_handle old new h count inside.whole there ran.0).3

@@ -1,6 +1,7 @@
 -- Writes within one transaction, over any store.
-use Rattle.std.proofs.Common.{◌≡◌, ℕ, List, true, false, IsTrue, Ok, Err, Result, OnOk, OnErr, IsOk, refl, sym, ap, subst, ◌∙◌, arith, inl, inr}
+use Rattle.std.proofs.Common.{◌≡◌, ℕ, List, map, true, false, IsTrue, Ok, Err, Result, OnOk, OnErr, IsOk, refl, sym, ap, subst, ◌∙◌, arith, inl, inr}
 use Rattle.std.proofs.lemmas.Bool.{cases_Bool}
+use Rattle.std.specs.FinSet as set
 use Rattle.sqlite_value.specs.Order.{Row}
 use Rattle.sqlite_trees.specs.declared.store.Store.{Ghosts}
 use Rattle.sqlite_trees.specs.Tree.{Trees}
@@ -12,10 +13,16 @@ use Rattle.sqlite.specs.Held.{Held, state}
 use Rattle.sqlite.specs.State.{State, HasCleanDisk, ExecutesInside, Survives}
 use Rattle.sqlite.proofs.StateLemmas.{survives_then}
 use Rattle.sqlite.proofs.Callers.{survives_begin}
+use Rattle.hdl_value.specs.Place.{handle_cmp}
 use Rattle.hdl_rows.specs.Table.{Table}
-use Rattle.hdl_sqlrows.specs.Kept.{IsInside, IsSettled, IsWhole, table_in}
+use Rattle.hdl_sqlrows.specs.Kept.{IsInside, IsSettled, IsWhole, handle_in, table_in}
+use Rattle.hdl_sqlrows.specs.Opening.{base_in, based}
 use Rattle.hdl_sqlrows.specs.Filed.{WhereOpen, KeepsCommitted, IsDraft, IsFiled, drafted, filed}
 use Rattle.hdl_sqlrows.proofs.States.{kept_commit}
+
+-- the handles that are noted in rows of `opened`
+abbrev opened_in : List Row → set.FinSet handle_cmp
+opened_in rows = set.from_list (map handle_in rows)
 
 -- ---- one statement
 
@@ -155,6 +162,29 @@ module _ {S E D : Type 0} (g : Ghosts S) (old first mid last : Held S) (F : Tabl
   pub leaves_surely : (P : Trees → Type 0) → OnOk w (HasCleanDisk (state g mid) → P (state g mid).now.trees) → Survives (state g old) (state g last) P
   leaves_surely P put = survives_then (state g old) (state g mid) (state g last) (λ _. ⊥) (λ db. IsOk w × (db ≡ (state g mid).now.trees)) P (λ _ db none. absurd none)
       (λ clean db made. subst P (sym made.1) (from_ok w _ made.0 put (later clean))) from_first outside
+
+  began_rows : WhereOpen (state g first) ((state g first).now.trees 4 ≡ (state g old).committed.trees 4)
+  began_rows clean up = (of_now g old first (λ (d : Database). d.trees 4 ≡ (state g old).committed.trees 4) is (λ c u. ap (λ (d : Database). d.trees 4) (sym (same c u))) clean up).0
+
+  -- statements that leave the noted handles alone, and so the whole transaction, however it ends
+  pub beside_by : OnOk w (HasCleanDisk (state g mid) → (state g mid).now.trees 4 ≡ (state g first).now.trees 4)
+      → OnOk r (IsOk w × (HasCleanDisk (state g last) → IsTrue (state g last).is_open × IsTrue (state g mid).is_open × ((state g last).committed ≡ (state g mid).now))) → OnErr r (KeepsCommitted (state g mid) (state g last))
+      → WhereOpen (state g last) ((based (state g last)).opened ≡ (based (state g old)).opened)
+  beside_by rows done undone = by r done undone
+    where
+      by : (k : Result (Unit {0}) D) → OnOk k (IsOk w × (HasCleanDisk (state g last) → IsTrue (state g last).is_open × IsTrue (state g mid).is_open × ((state g last).committed ≡ (state g mid).now))) → OnErr k (KeepsCommitted (state g mid) (state g last))
+          → WhereOpen (state g last) ((based (state g last)).opened ≡ (based (state g old)).opened)
+      by (Ok u) d n clean up =
+          let it = d.1 clean in
+          let was = (kept (later clean) it.1).0 in
+          ap (λ (x : Database). opened_in (x.trees 4)) it.2 ∙ ap opened_in (from_ok w _ d.0 rows (later clean) ∙ began_rows (late clean) was)
+      by (Err e) d n clean up = ap (λ (x : Database). opened_in (x.trees 4)) (back n clean up).1
+
+  pub beside_if_open : OnOk w (HasCleanDisk (state g mid) → (state g mid).now.trees 4 ≡ (state g first).now.trees 4)
+      → Survives (state g old) (state g last) (λ db. IsTrue (state g old).is_open → (base_in db).opened ≡ (based (state g old)).opened)
+  beside_if_open rows = leaves_if_open (λ db. (base_in db).opened ≡ (based (state g old)).opened) (on_ok w _ _ (λ stay clean was.
+      let before : HasCleanDisk (state g first) = omega (arith, clean, inside.clean) in
+      ap opened_in (stay clean ∙ began_rows before was)) rows)
 
   pub crash_if_open : Drafts g first mid F w → Survives (state g old) (state g last) (λ db. IsTrue (state g old).is_open → table_in db ≡ F (filed (state g old)))
   crash_if_open put = survives_then (state g old) (state g mid) (state g last) (λ _. ⊥) (λ db. IsOk w × (db ≡ (state g mid).now.trees)) (λ db. IsTrue (state g old).is_open → table_in db ≡ F (filed (state g old))) (λ _ db none. absurd none)

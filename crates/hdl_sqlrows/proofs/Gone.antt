@@ -139,7 +139,7 @@ abbrev entry_tests : List Term
 entry_tests = is_param 1 0 ∷ is_param 2 1 ∷ []
 
 pub deletes_entry : (old new : State) (h : List ℕ) (i : ℕ) (count : ℕ) → IsWhole old.now → Executes delete_entry (Blob h ∷ Int (pos i) ∷ []) old new (Ok count)
-    → (new.now.schema ≡ layout) × (new.now.trees 2 ≡ filter (λ r. not (has_place (place h i) r)) (old.now.trees 2)) × (new.now.trees 0 ≡ old.now.trees 0)
+    → (new.now.schema ≡ layout) × (new.now.trees 2 ≡ filter (λ r. not (has_place (place h i) r)) (old.now.trees 2)) × (new.now.trees 0 ≡ old.now.trees 0) × (new.now.trees 4 ≡ old.now.trees 4)
 unfolding same_name joined
 deletes_entry old new h i count whole ran =
     let params = Blob h ∷ Int (pos i) ∷ [] in
@@ -160,7 +160,7 @@ deletes_entry old new h i count whole ran =
     ∙ taken (keeps params entry_tests) (db 2) l.to (all_weaker IsEntryRow HasId (λ r is. is.id) (db 2) whole.kept.entries) whole.kept.entry_ids l.moved in
     let same : filter (λ r. not (keeps params entry_tests r)) (db 2) ≡ filter (λ r. not (has_place (place h i) r)) (db 2) =
     filter_same _ _ (db 2) (all_weaker IsEntryRow _ (λ r is. ap not (tests_place h i r is)) (db 2) whole.kept.entries) in
-    (ap (λ (d : Database). d.schema) now, ap (λ (t : Trees). t 2) all ∙ gone ∙ same, ap (λ (t : Trees). t 0) all ∙ made.others 0 (λ e. omega (arith, e)) (no_index 0 (inl refl)))
+    (ap (λ (d : Database). d.schema) now, ap (λ (t : Trees). t 2) all ∙ gone ∙ same, ap (λ (t : Trees). t 0) all ∙ made.others 0 (λ e. omega (arith, e)) (no_index 0 (inl refl)), ap (λ (t : Trees). t 4) all ∙ made.others 4 (λ e. omega (arith, e)) (no_index 4 (inr (inr refl))))
 
 turn : (a b : Bool) (x : Option Value) → a ≡ b → cond (not a) x None ≡ cond b None x
 turn true b x e = ap (λ c. cond c None x) e
@@ -193,6 +193,9 @@ drops_entry old new h i count inside ran =
     let did = deletes_entry old new h i count inside.whole ran.0 in
     let made = without_entry old.now.trees new.now.trees (place h i) inside.whole.kept did.1 did.2 in
     (ran.1.is_open, record { whole = record { layout = did.0; kept = made.0 }; inside = ran.1.mode }, made.1)
+
+pub delete_beside : (old new : State) (h : List ℕ) (i : ℕ) (count : ℕ) → IsInside old → ExecutesInside 0 delete_entry (Blob h ∷ Int (pos i) ∷ []) old new (Ok count) → new.now.trees 4 ≡ old.now.trees 4
+delete_beside old new h i count inside ran = (deletes_entry old new h i count inside.whole ran.0).3
 
 -- ---- one after the other
 

@@ -1,9 +1,9 @@
--- What openings make, for crates above: a new database has all rows, and values stay at handles of the set.
-use Rattle.std.proofs.Common.{◌≡◌, List, [], ◌∷◌, filter, fold, Bool, true, false, cond, not, ◌||◌, Some, refl, sym, ap, ◌∙◌}
+-- What openings make, for crates above: a new database has all rows, values stay at handles of the set, and no handle is opened twice.
+use Rattle.std.proofs.Common.{◌≡◌, ℕ, List, [], ◌∷◌, filter, fold, Bool, true, false, cond, not, ◌||◌, Some, refl, sym, ap, ◌∙◌}
 use Rattle.std.specs.FinMap as map
 use Rattle.std.specs.FinSet as set
+use Rattle.std.specs.List.{AllByRecursion}
 use Rattle.hdl_value.specs.Place.{Place, handle_cmp, same_handle, same_place}
-use Rattle.hdl_value.specs.declared.value.Value.{Value}
 use Rattle.hdl_value.proofs.Places.{handle_total, handle_itself, place_total, places_equal}
 use Rattle.hdl_rows.specs.Table.{Table, no_rows, at, IsPlaced}
 use Rattle.hdl_sqlrows.specs.Opening.{First, handle, place_of, Base, no_base, with_first, noted_with, opened_with, unopened, absent}
@@ -40,3 +40,48 @@ placed_all t (first ∷ firsts) placed = placed_all (with_first t first) firsts 
 
 pub stay_placed : (base : Base) (firsts : List First) → IsPlaced base.table → IsPlaced (opened_with base firsts).table
 stay_placed base firsts placed = placed_all base.table (absent base.table (unopened base.opened firsts)) placed
+
+-- ---- opened once
+
+abbrev noted : set.FinSet handle_cmp → List First → set.FinSet handle_cmp
+noted opened firsts = fold (λ o first. set.insert o (handle first)) opened firsts
+
+abbrev Covers : set.FinSet handle_cmp → set.FinSet handle_cmp → Type 0
+Covers less more = (h : List ℕ) → set.contains less h ≡ true → set.contains more h ≡ true
+
+covers_one : (less more : set.FinSet handle_cmp) (k : List ℕ) → Covers less more → Covers less (set.insert more k)
+covers_one less more k covers h is = set.contains-insert handle_total more k h ∙ ap (λ b. same_handle h k || b) (covers h is) ∙ or_true (same_handle h k)
+
+covers_all : (o : set.FinSet handle_cmp) (firsts : List First) → Covers o (noted o firsts)
+covers_all o [] h is = is
+covers_all o (first ∷ firsts) h is = covers_all (set.insert o (handle first)) firsts h (covers_one o o (handle first) (λ g e. e) h is)
+
+has_itself : (o : set.FinSet handle_cmp) (h : List ℕ) → set.contains (set.insert o h) h ≡ true
+has_itself o h = set.contains-insert handle_total o h h ∙ ap (λ b. b || set.contains o h) (handle_itself h)
+
+-- those that are in a set, and those that are noted because they aren't
+all_noted : (less o : set.FinSet handle_cmp) → Covers less o → (firsts : List First) → AllByRecursion (λ first. set.contains (noted o (unopened less firsts)) (handle first) ≡ true) firsts
+all_noted less o covers [] = tt
+all_noted less o covers (first ∷ firsts) = by (set.contains less (handle first)) refl (λ more wide. all_noted less more wide firsts)
+  where
+    by : (b : Bool) → set.contains less (handle first) ≡ b → ((more : set.FinSet handle_cmp) → Covers less more → AllByRecursion (λ x. set.contains (noted more (unopened less firsts)) (handle x) ≡ true) firsts)
+        → (set.contains (noted o (cond (not b) (first ∷ unopened less firsts) (unopened less firsts))) (handle first) ≡ true) × AllByRecursion (λ x. set.contains (noted o (cond (not b) (first ∷ unopened less firsts) (unopened less firsts))) (handle x) ≡ true) firsts
+    by true is rest = (covers_all o (unopened less firsts) (handle first) (covers (handle first) is), rest o covers)
+    by false is rest =
+        let more = set.insert o (handle first) in
+        (covers_all more (unopened less firsts) (handle first) (has_itself o (handle first)), rest more (covers_one less o (handle first) covers))
+
+-- each handle of a list is noted once the list was opened
+pub noted_once : (base : Base) (firsts : List First) → AllByRecursion (λ first. set.contains (opened_with base firsts).opened (handle first) ≡ true) firsts
+noted_once base firsts = all_noted base.opened base.opened (λ h is. is) firsts
+
+none_unopened : (opened : set.FinSet handle_cmp) (firsts : List First) → AllByRecursion (λ first. set.contains opened (handle first) ≡ true) firsts → unopened opened firsts ≡ []
+none_unopened opened [] all = refl
+none_unopened opened (first ∷ firsts) all = ap (λ b. cond (not b) (first ∷ unopened opened firsts) (unopened opened firsts)) all.0 ∙ none_unopened opened firsts all.1
+
+-- where no handle is left to open, an opening changes nothing
+pub opens_none : (base : Base) (firsts : List First) → unopened base.opened firsts ≡ [] → opened_with base firsts ≡ base
+opens_none base firsts none = ap (λ new. noted_with (record base { table = fold with_first base.table (absent base.table new) }) new) none
+
+pub opens_once : (base : Base) (t : Table) (firsts : List First) → opened_with (record (opened_with base firsts) { table = t }) firsts ≡ record (opened_with base firsts) { table = t }
+opens_once base t firsts = opens_none (record (opened_with base firsts) { table = t }) firsts (none_unopened (opened_with base firsts).opened firsts (noted_once base firsts))

@@ -1,5 +1,5 @@
 -- What the UPDATE makes of the table.
-use Rattle.std.proofs.Common.{◌≡◌, ◌≢◌, inl, ℕ, suc, ◌+◌, ◌<◌, ◌^◌, ◌≤◌, ℤ, pos, List, [], ◌∷◌, map, filter, drop, length, get_or, add-one, drop-cons, Bool, true, false, cond, not, ◌&&◌, ◌==◌, None, Some, Option, Ok, refl, sym, ap, subst, ◌∙◌, arith}
+use Rattle.std.proofs.Common.{◌≡◌, ◌≢◌, inl, inr, ℕ, suc, ◌+◌, ◌<◌, ◌^◌, ◌≤◌, ℤ, pos, List, [], ◌∷◌, map, filter, drop, length, get_or, add-one, drop-cons, Bool, true, false, cond, not, ◌&&◌, ◌==◌, None, Some, Option, Ok, refl, sym, ap, subst, ◌∙◌, arith}
 use Rattle.std.specs.FinMap as map
 use Rattle.std.specs.List.{AllByRecursion}
 use Rattle.std.specs.Ordering.{eq_by_cmp}
@@ -78,7 +78,7 @@ abbrev entry_tests : List Term
 entry_tests = is_param 1 0 ∷ is_param 2 1 ∷ []
 
 pub updates_entry : (old new : State) (name : List ℕ) (v : Value) (count : ℕ) → IsWhole old.now → at (table_in old.now.trees) (place name v.index) ≢ None → Executes update_entry (entry_cells name v) old new (Ok count)
-    → (new.now.schema ≡ layout) × ((id : ℤ) × Adds (entry_row id name v) (filter (λ r. not (has_place (place name v.index) r)) (old.now.trees 2)) (new.now.trees 2)) × (new.now.trees 0 ≡ old.now.trees 0)
+    → (new.now.schema ≡ layout) × ((id : ℤ) × Adds (entry_row id name v) (filter (λ r. not (has_place (place name v.index) r)) (old.now.trees 2)) (new.now.trees 2)) × (new.now.trees 0 ≡ old.now.trees 0) × (new.now.trees 4 ≡ old.now.trees 4)
 unfolding same_name joined
 updates_entry old new name v count whole there ran =
     let params = entry_cells name v in
@@ -110,7 +110,7 @@ updates_entry old new name v count whole there ran =
     let fresh : is_taken (filter (λ s. not (has_place p s)) (db 2)) (entry_row (id_of r) name v) ≡ false = left_fresh _ (sym (λ k. not (is_taken (rest k) (row k)) && true) ∙ made.fresh) in
     let rows : written.0 2 ≡ put_row (entry_row (id_of r) name v) (filter (λ s. not (has_place p s)) (db 2)) = made.rows ∙ (λ k. put_row (row k) (rest k)) in
     let more : Adds (entry_row (id_of r) name v) (filter (λ s. not (has_place p s)) (db 2)) (written.0 2) = (fresh, subst (HasOneMore (entry_row (id_of r) name v) _) (sym rows) (put_fresh (entry_row (id_of r) name v) _ fresh)) in
-    (ap (λ (d : Database). d.schema) now, (id_of r, subst (λ (t : Trees). Adds (entry_row (id_of r) name v) (filter (λ s. not (has_place p s)) (db 2)) (t 2)) (sym all) more), ap (λ (t : Trees). t 0) all ∙ made.others 0 (λ e. omega (arith, e)) (no_index 0 (inl refl)))
+    (ap (λ (d : Database). d.schema) now, (id_of r, subst (λ (t : Trees). Adds (entry_row (id_of r) name v) (filter (λ s. not (has_place p s)) (db 2)) (t 2)) (sym all) more), ap (λ (t : Trees). t 0) all ∙ made.others 0 (λ e. omega (arith, e)) (no_index 0 (inl refl)), ap (λ (t : Trees). t 4) all ∙ made.others 4 (λ e. omega (arith, e)) (no_index 4 (inr (inr refl))))
 
 -- ---- the table
 
@@ -148,6 +148,9 @@ replaces_entry old new name v count inside stamp short there ran =
     let did = updates_entry old new name v count inside.whole there ran.0 in
     let made = with_updated old.now.trees new.now.trees did.1.0 name v inside.whole.kept stamp short did.1.1 did.2 in
     (ran.1.is_open, record { whole = record { layout = did.0; kept = made.0 }; inside = ran.1.mode }, made.1)
+
+pub update_beside : (old new : State) (name : List ℕ) (v : Value) (count : ℕ) → IsInside old → at (drafted old) (place name v.index) ≢ None → ExecutesInside 0 update_entry (entry_cells name v) old new (Ok count) → new.now.trees 4 ≡ old.now.trees 4
+update_beside old new name v count inside there ran = (updates_entry old new name v count inside.whole there ran.0).3
 
 -- ---- one after the other
 

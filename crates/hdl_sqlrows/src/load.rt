@@ -15,11 +15,19 @@ use hdl_rows::Rows;
 use sqlite::{Alter, Connection};
 use std::alloc::Global;
 
+/// Who is told how far a load is: after each row, how many of its kind were read.
+pub trait Progress {
+    fn handles(&mut self, count: u64);
+
+    fn values(&mut self, count: u64);
+}
+
 /// Puts the rows of `handles` into an empty table.
-fn load_handles<S: Alter, R: Rows>(
+fn load_handles<S: Alter, R: Rows, P: Progress>(
     conn: &mut Connection<S>,
     alloc: Global,
     rows: &mut R,
+    progress: &mut P,
 ) -> Result<(), LoadFault>
     requires layout { HasCleanDisk (state S.Store conn.old) → (state S.Store conn.old).now.schema ≡ layout }
     requires empty { R.content rows.old ≡ no_rows }
@@ -32,21 +40,23 @@ fn load_handles<S: Alter, R: Rows>(
 {
     let mut found = conn.query("SELECT rowid, name, authority FROM handles", &[])?;
     let mut last = None;
-    'rows: for _ in 0..u64::MAX {
+    'rows: for before in 0..u64::MAX {
         let Some(row) = found.next()? else {
             return Ok(());
         };
         last = Some(take_handle(alloc, row, last, rows)?);
+        progress.handles(before + 1);
     }
     // No memory holds so many handles.
     Err(LoadFault::Memory)
 }
 
 /// Puts the rows of `entries` behind those of `handles`.
-fn load_entries<S: Alter, R: Rows>(
+fn load_entries<S: Alter, R: Rows, P: Progress>(
     conn: &mut Connection<S>,
     alloc: Global,
     rows: &mut R,
+    progress: &mut P,
 ) -> Result<(), LoadFault>
     requires layout { HasCleanDisk (state S.Store conn.old) → (state S.Store conn.old).now.schema ≡ layout }
     requires handles { HasCleanDisk (state S.Store conn.old) → IsLoaded (handles_alone (state S.Store conn.old).now.trees) (R.content rows.old) }
@@ -63,11 +73,12 @@ fn load_entries<S: Alter, R: Rows>(
         &[],
     )?;
     let mut last = None;
-    'rows: for _ in 0..u64::MAX {
+    'rows: for before in 0..u64::MAX {
         let Some(row) = found.next()? else {
             return Ok(());
         };
         last = Some(take_entry(alloc, row, last, rows)?);
+        progress.values(before + 1);
     }
     // No memory holds so many values.
     Err(LoadFault::Memory)
@@ -78,10 +89,11 @@ fn load_entries<S: Alter, R: Rows>(
 /// Where the disk has returned what was written, the table is then the one that is filed, and the rows are as the writes need them. It is refused
 /// where memory, the store or the table refused, or else at the first row that is unsound. The table then has the rows before that one; the
 /// database is as it was, unless its store shut.
-pub fn load<S: Alter, R: Rows>(
+pub fn load<S: Alter, R: Rows, P: Progress>(
     conn: &mut Connection<S>,
     alloc: Global,
     rows: &mut R,
+    progress: &mut P,
 ) -> Result<(), LoadFault>
     requires mode { conn.old.in_transaction ≡ false }
     requires layout { HasCleanDisk (state S.Store conn.old) → (state S.Store conn.old).now.schema ≡ layout }
@@ -93,8 +105,8 @@ pub fn load<S: Alter, R: Rows>(
     ensures kept { KeepsCommitted (state S.Store conn.old) (state S.Store conn.new) }
     ensures survives { Survives (state S.Store conn.old) (state S.Store conn.new) (λ _. ⊥) }
 {
-    load_handles(conn, alloc, rows)?;
-    load_entries(conn, alloc, rows)?;
+    load_handles(conn, alloc, rows, progress)?;
+    load_entries(conn, alloc, rows, progress)?;
     let _committed = conn.is_autocommit();
     Ok(())
 }

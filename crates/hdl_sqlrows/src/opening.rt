@@ -1,17 +1,17 @@
 //! Opening a database with the first values of its handles.
 
-ghost use Rattle.std.specs.Prelude.{◌≡◌, ◌≢◌, None, [], ◌∷◌, ◌++◌, false, not, IsTrue, IfOk, OnOk, OnErr, AllPairs, fold, map, filter};
+ghost use Rattle.std.specs.Prelude.{◌≡◌, ◌≢◌, ◌↔◌, None, [], ◌∷◌, ◌++◌, false, not, IsTrue, IfOk, OnOk, OnErr, AllPairs, fold, map, filter};
 ghost use Rattle.std.specs.FinSet as set;
 ghost use Rattle.std.specs.List.{AllByRecursion};
 ghost use Rattle.sqlite.specs.State.{HasCleanDisk, Survives};
 ghost use Rattle.sqlite.specs.Held.{state};
 ghost use Rattle.hdl_name.specs.Name.{canonical, authority as authority_of};
 ghost use Rattle.hdl_value.specs.Place.{Place};
-ghost use Rattle.hdl_rows.specs.Table.{has, at, IsPlaced};
+ghost use Rattle.hdl_rows.specs.Table.{Table, has, at, IsPlaced};
 ghost use Rattle.hdl_sqlrows.specs.Filed.{WhereOpen, KeepsCommitted, IsDraft, drafted, filed};
 ghost use Rattle.hdl_sqlrows.specs.Layout.{no_schema};
 ghost use Rattle.hdl_sqlrows.specs.Kept.{IsInside, IsSettled, IsBlank, IsBare};
-ghost use Rattle.hdl_sqlrows.specs.Opening.{First, base_in, based, no_base, HasFiled, CrashKeeps, with_first, noted_with, opened_with, unopened, absent, place_of, first_at, AreFree, IsOpenedRow, OnlyLooks};
+ghost use Rattle.hdl_sqlrows.specs.Opening.{First, Base, handle, base_in, based, no_base, HasFiled, CrashKeeps, with_first, noted_with, opened_with, unopened, absent, place_of, first_at, AreFree, IsOpenedRow, OnlyLooks};
 
 use crate::fault::Fault;
 use crate::layout::make_within;
@@ -73,6 +73,37 @@ pub fn open_more<S: Alter>(
     let written = open_within(&mut tx, alloc, opening);
     finish(tx, written)
 }
+
+/// Whether each handle of the list was opened. Nothing is written.
+///
+/// Refused where the store or memory refuses.
+pub fn are_opened<S: Alter>(
+    conn: &mut Connection<S>,
+    alloc: Global,
+    opening: &[(Name, Value)],
+) -> Result<bool, Fault>
+    requires mode { conn.old.in_transaction ≡ false }
+    requires settled { WhereOpen (state S.Store conn.old) (IsSettled (state S.Store conn.old)) }
+    ensures mode { conn.new.in_transaction ≡ false }
+    ensures settled { WhereOpen (state S.Store conn.new) (IsSettled (state S.Store conn.new)) }
+    ensures kept { KeepsCommitted (state S.Store conn.old) (state S.Store conn.new) }
+    ensures found { IfOk result (λ are. WhereOpen (state S.Store conn.new) (IsTrue are ↔ (unopened (based (state S.Store conn.old)).opened opening.now ≡ []))) }
+    ensures survives { Survives (state S.Store conn.old) (state S.Store conn.new) (λ _. ⊥) }
+{
+    // Its rows are of the kinds that the schema says.
+    let _ = conn.schema();
+    let mut tx = conn.transaction();
+    let unopened = unopened_of(&mut tx, alloc, opening);
+    let _taken_back = finish(tx, Err(Fault));
+    Ok(unopened?.is_empty())
+}
+
+/// A handle that was opened isn't opened again, whatever became of the table since: what is noted of it no write touches
+/// (`beside` of [`writes`](crate::writes)).
+pub fn opened_once(opening: &[(Name, Value)])
+    ensures noted { (base : Base) → AllByRecursion (λ (first : First). IsTrue (set.contains (opened_with base opening.now).opened (handle first))) opening.now }
+    ensures once { (base : Base) → (t : Table) → opened_with (record (opened_with base opening.now) { table = t }) opening.now ≡ record (opened_with base opening.now) { table = t } }
+{}
 
 /// Makes the tables and opens handles within a transaction.
 fn make_and_open<S: Alter>(

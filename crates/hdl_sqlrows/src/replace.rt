@@ -31,6 +31,7 @@ fn replace_cells<'x, S: Alter>(
     ensures survives { Survives (state S.Store tx.old.conn.now) (state S.Store tx.new.conn.now) (λ _. ⊥) }
     ensures committed { KeepsCommitted (state S.Store tx.old.conn.now) (state S.Store tx.new.conn.now) }
     ensures put { OnOk result (HasCleanDisk (state S.Store tx.new.conn.now) → IsTrue (state S.Store tx.old.conn.now).is_open × IsDraft (state S.Store tx.new.conn.now) (record (drafted (state S.Store tx.old.conn.now)) { values = map.insert (drafted (state S.Store tx.old.conn.now)).values (place name.now value.now.index) value.now })) }
+    ensures beside { OnOk result (HasCleanDisk (state S.Store tx.new.conn.now) → (state S.Store tx.new.conn.now).now.trees 4 ≡ (state S.Store tx.old.conn.now).now.trees 4) }
 {
     let stamp = value.stamp.to_be_bytes();
     tx.execute(
@@ -62,6 +63,7 @@ fn replace_entry<S: Alter>(
     ensures survives { Survives (state S.Store tx.old.conn.now) (state S.Store tx.new.conn.now) (λ _. ⊥) }
     ensures committed { KeepsCommitted (state S.Store tx.old.conn.now) (state S.Store tx.new.conn.now) }
     ensures put { OnOk result (HasCleanDisk (state S.Store tx.new.conn.now) → IsTrue (state S.Store tx.old.conn.now).is_open × IsDraft (state S.Store tx.new.conn.now) (record (drafted (state S.Store tx.old.conn.now)) { values = map.insert (drafted (state S.Store tx.old.conn.now)).values (place name.now value.now.index) value.now })) }
+    ensures beside { OnOk result (HasCleanDisk (state S.Store tx.new.conn.now) → (state S.Store tx.new.conn.now).now.trees 4 ≡ (state S.Store tx.old.conn.now).now.trees 4) }
 {
     let refs = refs_of(alloc, value.refs.as_slice())?;
     replace_cells(tx, name, value, &refs)
@@ -80,6 +82,7 @@ pub(crate) fn replace_entries<S: Alter>(
     ensures survives { Survives (state S.Store tx.old.conn.now) (state S.Store tx.new.conn.now) (λ _. ⊥) }
     ensures committed { KeepsCommitted (state S.Store tx.old.conn.now) (state S.Store tx.new.conn.now) }
     ensures put { OnOk result (HasCleanDisk (state S.Store tx.new.conn.now) → IsTrue (state S.Store tx.old.conn.now).is_open → IsDraft (state S.Store tx.new.conn.now) (with_values (drafted (state S.Store tx.old.conn.now)) name.now values.now)) }
+    ensures beside { OnOk result (HasCleanDisk (state S.Store tx.new.conn.now) → (state S.Store tx.new.conn.now).now.trees 4 ≡ (state S.Store tx.old.conn.now).now.trees 4) }
 {
     for value in values {
         replace_entry(tx, alloc, name, value)?;

@@ -28,4 +28,5 @@ loop-value-preserved g c =
       inside = λ clean up. (put clean).1.1;
       there = λ clean up. (more clean).0;
       put = λ clean up. (more clean).1 ∙ inv.put (late clean) (put clean).0;
+      beside = λ clean. c.in_ok-replace_entry.ensures.beside clean ∙ inv.beside (late clean);
     }

@@ -1,0 +1,122 @@
+//! A table in memory with a database beside it: made, written, and opened again.
+
+use crate::assertion::same;
+use crate::rows::are;
+use crate::writes::{add, create, delete, modify, reference, remove};
+use hdl_lastingrows::{Alarm, LastingRows, TableFault, table_over};
+use hdl_name::Name;
+use hdl_rows::{PlainRows, Rows};
+use hdl_sqlrows::load::Progress;
+use hdl_tests::made::value;
+use hdl_value::Value;
+use sqlite::{Connection, MemStore};
+use std::alloc::Global;
+use std::process::Abort;
+use std::test::Fail;
+
+/// Hears nothing.
+#[derive(Clone, Copy, Drop)]
+pub(crate) struct Deaf;
+
+impl Alarm for Deaf {
+    fn ring(&mut self) {}
+}
+
+impl Progress for Deaf {
+    fn handles(&mut self, _count: u64) {}
+
+    fn values(&mut self, _count: u64) {}
+}
+
+type Table = LastingRows<PlainRows, MemStore, Deaf>;
+
+/// The table over a database, with one first value of the text.
+fn over(
+    alloc: Global,
+    conn: Connection<MemStore>,
+    name: Name,
+    first: Value,
+) -> Result<Table, Fail> {
+    if !conn.is_autocommit() {
+        return Err(TableFault::Device.into());
+    }
+    let rows = PlainRows::new(alloc);
+    let spare = PlainRows::new(alloc);
+    Ok(table_over(alloc, conn, rows, spare, &[(name, first)], Deaf)?)
+}
+
+/// The same, with the value of index 1 at `10.abc/text`.
+fn over_text(alloc: Global, conn: Connection<MemStore>) -> Result<Table, Fail> {
+    let name = Name::read(alloc, b"10.abc/text")?;
+    over(alloc, conn, name, value(alloc, 1, b"URL", b"one")?)
+}
+
+fn create_two(rt: &impl Abort, alloc: Global, table: &mut Table) -> Result<(), Fail> {
+    let name = Name::read(alloc, b"10.abc/x")?;
+    let all = [
+        value(alloc, 5, b"URL", b"five")?,
+        value(alloc, 2, b"URL", b"two")?,
+    ];
+    create(rt, table, &name, &all)
+}
+
+fn add_third(rt: &impl Abort, alloc: Global, table: &mut Table) -> Result<(), Fail> {
+    let place = reference(alloc, b"10.abc/x", 3)?;
+    let third = value(alloc, place.index, b"URL", b"three")?;
+    add(rt, table, &place, third)
+}
+
+fn modify_third(rt: &impl Abort, alloc: Global, table: &mut Table) -> Result<(), Fail> {
+    let place = reference(alloc, b"10.abc/x", 3)?;
+    let third = value(alloc, place.index, b"URL", b"third")?;
+    modify(rt, table, &place, third)
+}
+
+/// Asserts what the handles of the authority are, with a space behind each, and the values of `10.abc/x`.
+fn stand(rt: &impl Abort, alloc: Global, table: &mut Table, handles: &[u8]) -> Result<(), Fail> {
+    let mut all = vec![in alloc]?;
+    for name in &table.names(b"10.abc")? {
+        all.extend_from_slice(name.as_slice())?;
+        all.push(b' ')?;
+    }
+    same(rt, "handles", all.as_slice(), handles);
+    let x = Name::read(alloc, b"10.abc/x")?;
+    assert!(rt; are(&table.values(&x)?, &[(2, b"two"), (3, b"third")]));
+    same(rt, "refusals", table.refusals(), 0);
+    Ok(())
+}
+
+/// Each of the five writes, of which the last deletes the handle of the text.
+fn written(rt: &impl Abort, alloc: Global) -> Result<Connection<MemStore>, Fail> {
+    let mut table = over_text(alloc, Connection::open_in_memory(alloc)?)?;
+    let text = Name::read(alloc, b"10.abc/text")?;
+    assert!(rt; are(&table.values(&text)?, &[(1, b"one")]));
+    create_two(rt, alloc, &mut table)?;
+    add_third(rt, alloc, &mut table)?;
+    modify_third(rt, alloc, &mut table)?;
+    remove(rt, &mut table, &reference(alloc, b"10.abc/x", 5)?)?;
+    stand(rt, alloc, &mut table, b"10.abc/text 10.abc/x ")?;
+    delete(rt, &mut table, &text)?;
+    Ok(table.into_connection())
+}
+
+/// The next open finds what was written, and opens the handle of the text no second time.
+#[test]
+fn writes_last(rt: HostRuntime) -> Result<(), Fail> {
+    let alloc = rt.alloc();
+    let conn = written(&rt, alloc)?;
+    let mut table = over_text(alloc, conn)?;
+    stand(&rt, alloc, &mut table, b"10.abc/x ")
+}
+
+/// A handle that comes into the text later is opened then, and the others stay as they are.
+#[test]
+fn late_handle_is_opened(rt: HostRuntime) -> Result<(), Fail> {
+    let alloc = rt.alloc();
+    let conn = written(&rt, alloc)?;
+    let name = Name::read(alloc, b"10.ABC/late")?;
+    let mut table = over(alloc, conn, name, value(alloc, 9, b"URL", b"nine")?)?;
+    let late = Name::read(alloc, b"10.abc/late")?;
+    assert!(&rt; are(&table.values(&late)?, &[(9, b"nine")]));
+    stand(&rt, alloc, &mut table, b"10.abc/late 10.abc/x ")
+}
