@@ -22,6 +22,8 @@
 //!   was taken and isn't answered, and no batch to be kept. Served in a row, the events of a lane find what they need in the processor's
 //!   caches, and their outcomes reach the worker together, which then writes them by one call (docs/BENCHMARKS.md, "Serving").
 //! - **A lane's events in a row cost as many turns**, so of so many turns each lane has at most so many events, in whatever order lanes are asked.
+//! - **A client with many requests in flight has up to 16 answered before the next lane is asked.** Whoever has one at a time waits for that long at
+//!   most, times the lanes; one of each in turn would cost the workers half as much again.
 //! - **Serving ends one round after the last End**, so that a turn that served nothing is one with a pause, whatever round an End came in.
 //! - **`serve` has two clauses: one record (`served`) and that the lanes' numbers still differ (`distinct`)**, so that it can be called again.
 //!   One record and not a clause for each sentence, since four clauses would each speak of a list of events of its own.
