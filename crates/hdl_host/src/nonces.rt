@@ -24,6 +24,8 @@ impl Nonces for MachineNonces {
     ghost answers = { λ _. [] };
 
     fn next(&mut self) -> [u8; 16] {
-        self.rng.random()
+        let mut nonce = [0; 16];
+        self.rng.fill(&mut nonce);
+        nonce
     }
 }

@@ -25,21 +25,21 @@ then_same a b c p q = (
 )
 
 -- lanes that were served are each the same as before
-pub served_same : (events : List Event) (outcomes : List Outcome) (kept : List Event) (firsts olds news : List LaneEnds)
-    → AllZip (LaneServed events outcomes kept) olds news → All (IsEach firsts) olds → All (IsEach firsts) news
-served_same events outcomes kept firsts [] [] zip all = All-nil (IsEach firsts)
-served_same events outcomes kept firsts (o ∷ os) (n ∷ ns) zip all =
+pub served_same : (events : List Event) (outcomes : List Outcome) (firsts olds news : List LaneEnds)
+    → AllZip (LaneServed events outcomes) olds news → All (IsEach firsts) olds → All (IsEach firsts) news
+served_same events outcomes firsts [] [] zip all = All-nil (IsEach firsts)
+served_same events outcomes firsts (o ∷ os) (n ∷ ns) zip all =
     let first : IsEach firsts o = All-head (IsEach firsts) o os all in
     All-cons (IsEach firsts) n ns (λ k d below. then_same (get_or firsts k d) o n (first k d below) (zip.0.outlet, zip.0.inlet))
-    (served_same events outcomes kept firsts os ns zip.1 (All-tail (IsEach firsts) o os all))
-served_same events outcomes kept firsts [] (n ∷ ns) zip all = absurd zip
-served_same events outcomes kept firsts (o ∷ os) [] zip all = absurd zip
+    (served_same events outcomes firsts os ns zip.1 (All-tail (IsEach firsts) o os all))
+served_same events outcomes firsts [] (n ∷ ns) zip all = absurd zip
+served_same events outcomes firsts (o ∷ os) [] zip all = absurd zip
 
 pub itself : (a : LaneEnds) → SameLane a a
 itself a = (((refl, refl, refl, refl), refl), ((refl, refl, refl, refl), refl))
 
-pub served_each : (w new : World) (before after : List LaneEnds) (kept : List Event) → IsServed w before new after kept → (firsts : List LaneEnds) → All (IsEach firsts) before → All (IsEach firsts) after
-served_each w new before after kept s firsts all = served_same s.events s.outcomes kept firsts before after s.lanes all
+pub served_each : (w new : World) (before after : List LaneEnds) → IsServed w before new after → (firsts : List LaneEnds) → All (IsEach firsts) before → All (IsEach firsts) after
+served_each w new before after s firsts all = served_same s.events s.outcomes firsts before after s.lanes all
 
 -- one lane
 each_of : (xs : List LaneEnds) → length xs ≡ 1 → All (IsEach xs) xs

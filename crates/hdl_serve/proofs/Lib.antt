@@ -1,4 +1,4 @@
 pub mod Beside
 pub mod Steps
-pub mod Batches
+pub mod Lanes
 pub mod Joined

@@ -1,5 +1,5 @@
 -- What a serving loop does with its lanes.
-use Rattle.std.specs.Prelude.{◌≡◌, ◌≤◌, ℕ, List, [], ◌∷◌, ◌++◌, ◌==◌, if◌then◌else◌, Option, Some, None, All, Contains, length, map, filter_map}
+use Rattle.std.specs.Prelude.{◌≡◌, ℕ, List, [], ◌∷◌, ◌++◌, ◌==◌, if◌then◌else◌, Option, Some, None, All, Contains, map, filter_map}
 use Rattle.std.specs.List.{AllZip}
 use Rattle.hdl_lanes.specs.Lane.{put_into, taken_from, SameInlet, SameOutlet}
 use Rattle.hdl_events.specs.declared.What.{What}
@@ -45,15 +45,14 @@ events_on n es = beside n (lanes_of es) (whats_of es)
 abbrev pub outcomes_on : ℕ → List Event → List Outcome → List Outcome
 outcomes_on n es os = beside n (lanes_of es) os
 
--- the same lane's ends, before and after: what was taken is, End aside, its events and then its kept ones, of which there is at
--- most one; behind an End nothing was taken; what was put is its events' outcomes
-pub record LaneServed (events : List Event) (outcomes : List Outcome) (kept : List Event) (a b : LaneEnds) : Type 0 where
+-- the same lane's ends, before and after: what was taken is, End aside, its events; behind an End nothing was taken; what was put is
+-- its events' outcomes
+pub record LaneServed (events : List Event) (outcomes : List Outcome) (a b : LaneEnds) : Type 0 where
   pub lane : b.lane ≡ a.lane
   pub outlet : SameOutlet a.items b.items
   pub inlet : SameInlet a.outcomes b.outcomes
-  pub taken : events_in (taken_from b.items) ≡ events_in (taken_from a.items) ++ events_on a.lane events ++ events_on a.lane kept
-  pub one_kept : length (events_on a.lane kept) ≤ 1
-  pub end_last : WithEnd (taken_from a.items ++ items_of (events_on a.lane events ++ events_on a.lane kept)) (taken_from b.items)
+  pub taken : events_in (taken_from b.items) ≡ events_in (taken_from a.items) ++ events_on a.lane events
+  pub end_last : WithEnd (taken_from a.items ++ items_of (events_on a.lane events)) (taken_from b.items)
   pub put : put_into b.outcomes ≡ put_into a.outcomes ++ outcomes_on a.lane events outcomes
 
 -- the event bears the number of one of the lanes
@@ -61,14 +60,12 @@ abbrev pub IsOnOne : List LaneEnds → Event → Type 0
 IsOnOne lanes e = Contains (map (λ a. a.lane) lanes) e.lane
 
 -- there are one list of events and one of outcomes that are a run from one world to the other, isolate each publisher and hide what
--- may not be read; each lane gave its events of that list, and was given their outcomes; and no event of it, nor a kept one, is of
--- another lane
-pub record IsServed (w : World) (before : List LaneEnds) (new : World) (after : List LaneEnds) (kept : List Event) : Type 0 where
+-- may not be read; each lane gave its events of that list, and was given their outcomes; and no event of it is of another lane
+pub record IsServed (w : World) (before : List LaneEnds) (new : World) (after : List LaneEnds) : Type 0 where
   pub events : List Event
   pub outcomes : List Outcome
   pub run : Run w events outcomes new
   pub isolated : Isolated w events outcomes
   pub hidden : Hidden w events outcomes
-  pub lanes : AllZip (LaneServed events outcomes kept) before after
+  pub lanes : AllZip (LaneServed events outcomes) before after
   pub of : All (IsOnOne before) events
-  pub kept_of : All (IsOnOne before) kept

@@ -1,13 +1,12 @@
 //! The serving loop between lanes and the service.
 //!
 //! ```text
-//! a worker -> ring of items -> serve -> Service::run
+//! a worker -> ring of items -> serve -> Service::step
 //!          <- ring of outcomes <-
 //! ```
 //!
-//! [`serve`] goes round the lanes: a round takes at most one event of each lane, serves these as one batch by `Service::run`, and puts
-//! each outcome into its event's lane. What stands between a lane and a socket is `hdl_workers`, which knows no service; its names are
-//! passed on here.
+//! [`serve`] goes round the lanes: of each it takes an event, serves it by `Service::step`, and puts the outcome back before it takes the next,
+//! up to 16 in a row. What stands between a lane and a socket is `hdl_workers`, which knows no service; its names are passed on here.
 //!
 //! Promised of `serve`: what the lanes gave, and nothing else, is a run of the service, in which publishers are isolated and no reply
 //! tells of a value that may not be read, and each lane was given its events' outcomes. [`laws`] joins this with what the workers promise: after the joins
@@ -19,8 +18,13 @@
 //!
 //! # Decisions
 //!
-//! - **A round takes at most one item of each lane.** After Early a batch is kept and can't go back into the rings, so a kept batch has at
-//!   most one event of a lane; the places rise strictly, which is what shows it.
+//! - **An event is answered before the next one is taken**, by `step`, which needs no room that could be refused: so there is nothing that
+//!   was taken and isn't answered, and no batch to be kept. Served in a row, the events of a lane find what they need in the processor's
+//!   caches, and their outcomes reach the worker together, which then writes them by one call (docs/BENCHMARKS.md, "Serving").
+//! - **A lane's events in a row cost as many turns**, so of so many turns each lane has at most so many events, in whatever order lanes are asked.
+//! - **A client with many requests in flight has up to 16 answered before the next lane is asked.** Whoever has one at a time waits for that long at
+//!   most, times the lanes; one of each in turn would cost the workers half as much again.
+//! - **Serving ends one round after the last End**, so that a turn that served nothing is one with a pause, whatever round an End came in.
 //! - **`serve` has two clauses: one record (`served`) and that the lanes' numbers still differ (`distinct`)**, so that it can be called again.
 //!   One record and not a clause for each sentence, since four clauses would each speak of a list of events of its own.
 //! - **Nothing is taken behind an End (`end_last`)**: what was taken in a call is events and then at most one End, as an equation of lists; it

@@ -89,7 +89,6 @@ impl Serving for Held {
         let Served {
             service,
             lanes: ends,
-            kept: _,
         } = served;
         *lanes = ends;
         self.service = Some(service);

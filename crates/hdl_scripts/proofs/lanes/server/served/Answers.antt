@@ -4,5 +4,5 @@ use Rattle.hdl_scripts.proofs.lanes.server.served.Goals as goal
 pub returns : goal.returns
 returns c = record {
   distinct = c.serve-served.ensures.distinct;
-  same = served_each _ _ _ _ _ c.serve-served.ensures.served;
+  same = served_each _ _ _ _ c.serve-served.ensures.served;
 }

@@ -1,0 +1,181 @@
+-- Serving goes on by one lane, and ends.
+use Rattle.std.proofs.Common.{◌≡◌, ◌≢◌, ℕ, zero, suc, ◌<◌, ◌≤◌, List, [], ◌∷◌, ◌++◌, length, get_or, set, take, drop, Bool, true, false, All, refl, inl, inr, sym, ap, ◌∙◌, subst, arith}
+use Rattle.std.specs.List.{AllZip}
+use Rattle.std.proofs.lemmas.Bool.{cases_eq, cases_order}
+use Rattle.std.proofs.lemmas.List.{append-nil, length-map, length-set, get_or-set_same, get_or-set_other, get_or_default, get_or_past, drop_all, take_all}
+use Rattle.std.proofs.lemmas.List.Elements.{All-nil, All-cons, All-append}
+use Rattle.hdl_lanes.specs.Lane.{put_into, taken_from}
+use Rattle.hdl_events.specs.declared.What.{What}
+use Rattle.hdl_events.specs.declared.Event.{Event}
+use Rattle.hdl_events.specs.declared.Outcome.{Outcome}
+use Rattle.hdl_laws.specs.Worlds.{World}
+use Rattle.hdl_laws.specs.Steps.{Turn}
+use Rattle.hdl_laws.specs.Runs.{Run}
+use Rattle.hdl_laws.specs.Laws.{JoinsRuns, HostsNoRoot, RestrictsRuns, TwinsReplyAlike}
+use Rattle.hdl_workers.specs.declared.item.Item.{Item}
+use Rattle.hdl_workers.specs.declared.ends.LaneEnds.{LaneEnds}
+use Rattle.hdl_workers.specs.Sign.{WithEnd}
+use Rattle.hdl_workers.specs.Ends.{AreDistinct}
+use Rattle.hdl_serve.specs.Served.{events_on, outcomes_on, items_of, IsOnOne, LaneServed, IsServed}
+use Rattle.hdl_serve.specs.Rounds.{AreWithEnd, Passes, Serves, EachLane, IsServing, on_lane}
+use Rattle.hdl_serve.proofs.Beside.{own_events, own_outcomes, foreign_events, foreign_outcomes}
+use Rattle.hdl_serve.proofs.Steps.{passes_then, passes_nothing}
+
+-- a run has one outcome for each event
+length_run : (w new : World) (es : List Event) (os : List Outcome) → Run w es os new → length es ≡ length os
+length_run w new es os run =
+    sym (ap length run.2) ∙ length-map run.0 (λ (t : Turn). t.event) ∙ sym (length-map run.0 (λ (t : Turn). t.outcome)) ∙ ap length run.3
+
+-- ---- each event is of a lane
+
+on_one : (lanes : List LaneEnds) (p : ℕ) (e : Event) → p < length lanes → ((d : LaneEnds) → (get_or lanes p d).lane ≡ e.lane) → IsOnOne lanes e
+on_one [] p e there is = absurd (omega (arith, there))
+on_one (a ∷ lanes) zero e there is = (0, omega arith, is a)
+on_one (a ∷ lanes) (suc p) e there is =
+    let rest = on_one lanes p e (omega (arith, there)) is in
+    (suc rest.0, omega (arith, rest.1), rest.2)
+
+all_on_one : (lanes : List LaneEnds) (p n : ℕ) (whats : List What) → p < length lanes → ((d : LaneEnds) → (get_or lanes p d).lane ≡ n) → All (IsOnOne lanes) (on_lane n whats)
+all_on_one lanes p n [] there is = All-nil (IsOnOne lanes)
+all_on_one lanes p n (w ∷ ws) there is =
+    All-cons (IsOnOne lanes) (record { lane = n; what = w }) (on_lane n ws) (on_one lanes p (record { lane = n; what = w }) there is) (all_on_one lanes p n ws there is)
+
+-- lanes at two places have two numbers
+two_numbers : (lanes : List LaneEnds) (n i : ℕ) (d : LaneEnds) → AreDistinct lanes → n ≢ i → n < length lanes → i < length lanes → (get_or lanes i d).lane ≢ (get_or lanes n d).lane
+two_numbers lanes n i d distinct other here there same = elim (cases_order n i) [
+  | inl is ↦ other is
+  | inr order ↦ elim order [ inl below ↦ distinct n i d below there (sym same) | inr above ↦ distinct i n d above here same ]
+]
+
+-- ---- steps of serving
+
+pub serving_first : (w : World) (lanes : List LaneEnds) (ended : List Bool) → AreDistinct lanes → ended ≡ [] → IsServing w lanes w lanes ended
+serving_first w lanes ended distinct going =
+    subst (λ flags. IsServing w lanes w lanes flags) (sym going) (record {
+      distinct = distinct;
+      events = [];
+      outcomes = [];
+      run = ([], tt, refl, refl, refl);
+      given = All-nil (IsOnOne lanes);
+      lanes = record { long = refl; each = λ n d below. passes_nothing false (get_or lanes n d) };
+    })
+
+-- one lane was served
+pub serving_on : JoinsRuns → (w mid new : World) (before lanes : List LaneEnds) (now : List Bool) (i : ℕ) (e f : Bool) (d b : LaneEnds) → i < length lanes → i < length now
+    → Serves (get_or now i e) f mid new (get_or lanes i d) b → IsServing w before mid lanes now → IsServing w before new (set lanes i b) (set now i f)
+serving_on joins w mid new before lanes now i e f d b there flagged s h =
+    let n : ℕ = (get_or lanes i d).lane in
+    let more : List Event = on_lane n s.whats in
+    let here : i < length before = subst (λ m. i < m) h.lanes.long there in
+    let long : length h.events ≡ length h.outcomes = length_run w mid h.events h.outcomes h.run in
+    let few : length s.whats ≡ length s.outcomes = sym (length-map s.whats (λ (what : What). record { lane = n; what = what })) ∙ length_run mid new more s.outcomes s.run in
+    let number : (x : LaneEnds) → (get_or before i x).lane ≡ n
+    = λ x. sym (h.lanes.each i x here).lane ∙ ap (λ (z : LaneEnds). z.lane) (get_or_default lanes i x d there) in
+    let R : ℕ → LaneEnds → LaneEnds → Type 0 = λ k a c. Passes false (get_or (set now i f) k false) (events_on a.lane (h.events ++ more)) (outcomes_on a.lane (h.events ++ more) (h.outcomes ++ s.outcomes)) a c in
+    let this : (x : LaneEnds) → R i (get_or before i x) b = λ x.
+    let a : LaneEnds = get_or before i x in
+    let old : Passes false (get_or now i false) (events_on a.lane h.events) (outcomes_on a.lane h.events h.outcomes) a (get_or lanes i d)
+    = subst (λ c. Passes false (get_or now i false) (events_on a.lane h.events) (outcomes_on a.lane h.events h.outcomes) a c) (get_or_default lanes i x d there) (h.lanes.each i x here) in
+    let last : Passes (get_or now i false) f s.whats s.outcomes (get_or lanes i d) b
+    = subst (λ g. Passes g f s.whats s.outcomes (get_or lanes i d) b) (get_or_default now i e false flagged) s.passes in
+    let both = passes_then false (get_or now i false) f (events_on a.lane h.events) s.whats (outcomes_on a.lane h.events h.outcomes) s.outcomes a (get_or lanes i d) b old last in
+    subst (λ g. Passes false g (events_on a.lane (h.events ++ more)) (outcomes_on a.lane (h.events ++ more) (h.outcomes ++ s.outcomes)) a b) (sym (get_or-set_same now i f false flagged))
+    (subst (λ ws. Passes false f ws (outcomes_on a.lane (h.events ++ more) (h.outcomes ++ s.outcomes)) a b) (sym (own_events a.lane n h.events s.whats (sym (number x))))
+    (subst (λ os. Passes false f (events_on a.lane h.events ++ s.whats) os a b) (sym (own_outcomes a.lane n h.events h.outcomes s.whats s.outcomes long few (sym (number x)))) both)) in
+    let others : (k : ℕ) (x : LaneEnds) → k < length before → k ≢ i → R k (get_or before k x) (get_or lanes k x) = λ k x below other.
+    let a : LaneEnds = get_or before k x in
+    let c : LaneEnds = get_or lanes k x in
+    let apart : n ≢ a.lane = λ same. two_numbers before k i x h.distinct other below here (number x ∙ same) in
+    subst (λ g. Passes false g (events_on a.lane (h.events ++ more)) (outcomes_on a.lane (h.events ++ more) (h.outcomes ++ s.outcomes)) a c) (sym (get_or-set_other now i k f false other))
+    (subst (λ ws. Passes false (get_or now k false) ws (outcomes_on a.lane (h.events ++ more) (h.outcomes ++ s.outcomes)) a c) (sym (foreign_events a.lane n h.events s.whats apart ∙ append-nil _))
+    (subst (λ os. Passes false (get_or now k false) (events_on a.lane h.events) os a c) (sym (foreign_outcomes a.lane n h.events h.outcomes s.whats s.outcomes long apart ∙ append-nil _)) (h.lanes.each k x below))) in
+    record {
+      distinct = h.distinct;
+      events = h.events ++ more;
+      outcomes = h.outcomes ++ s.outcomes;
+      run = joins w mid new h.events more h.outcomes s.outcomes h.run s.run;
+      given = All-append (IsOnOne before) h.events more h.given (all_on_one before i n s.whats here number);
+      lanes = record {
+        long = length-set lanes i b ∙ h.lanes.long;
+        each = λ k x below. elim (cases_eq k i) [
+          | inl same ↦ subst (λ m. R m (get_or before m x) (get_or (set lanes i b) m x)) (sym same) (subst (λ c. R i (get_or before i x) c) (sym (get_or-set_same lanes i b x there)) (this x))
+          | inr other ↦ subst (λ c. R k (get_or before k x) c) (sym (get_or-set_other lanes i k b x other)) (others k x below other)
+        ];
+      };
+    }
+
+-- flags that say the same of each lane
+pub same_flags : (w new : World) (before after : List LaneEnds) (was now : List Bool) → ((n : ℕ) → n < length after → get_or now n false ≡ get_or was n false) → IsServing w before new after was → IsServing w before new after now
+same_flags w new before after was now same h = record {
+  distinct = h.distinct;
+  events = h.events;
+  outcomes = h.outcomes;
+  run = h.run;
+  given = h.given;
+  lanes = record {
+    long = h.lanes.long;
+    each = λ n x below.
+        let a : LaneEnds = get_or before n x in
+        subst (λ g. Passes false g (events_on a.lane h.events) (outcomes_on a.lane h.events h.outcomes) a (get_or after n x)) (sym (same n (subst (λ m. n < m) (sym h.lanes.long) below))) (h.lanes.each n x below);
+  };
+}
+
+-- new flags are false
+pub new_flags : (old new : List Bool) (len m : ℕ) → len ≡ length old → ((k : ℕ) (d : Bool) → k < m → k < len → get_or new k d ≡ get_or old k d) → ((k : ℕ) (d : Bool) → len ≤ k → k < m → get_or new k d ≡ false)
+    → (n : ℕ) → n < m → get_or new n false ≡ get_or old n false
+new_flags old new len m long kept more n below = elim (cases_order n len) [
+  | inl same ↦ more n false (omega (arith, same)) below ∙ sym (get_or_past old n false (omega (arith, same, long)))
+  | inr order ↦ elim order [
+    | inl before ↦ kept n false below before
+    | inr behind ↦ more n false (omega (arith, behind)) below ∙ sym (get_or_past old n false (omega (arith, behind, long)))
+  ]
+]
+
+-- ---- lanes in a vector
+
+-- a slice of a whole vector was written, and kept its length
+pub written_back : {X : Type 0} (old new : List X) (n : ℕ) → n ≡ length old → length new ≡ length old → take n (new ++ drop (length new) old) ≡ new
+written_back old new n whole long =
+    ap (λ rest. take n (new ++ rest)) (drop_all (length new) old (omega (arith, long))) ∙ ap (take n) (append-nil new) ∙ take_all n new (omega (arith, whole, long))
+
+-- ---- the end
+
+-- an End that was taken is the last item
+with_end : (ended : Bool) (events items : List Item) → AreWithEnd ended events items → WithEnd events items
+with_end false events items is = inl is
+with_end true events items is = inr is
+
+lane_served : (events : List Event) (outcomes : List Outcome) (f : Bool) (a b : LaneEnds) → Passes false f (events_on a.lane events) (outcomes_on a.lane events outcomes) a b → LaneServed events outcomes a b
+lane_served events outcomes f a b p = record {
+  lane = p.lane;
+  outlet = p.outlet;
+  inlet = p.inlet;
+  taken = p.taken;
+  end_last = with_end f (taken_from a.items ++ items_of (events_on a.lane events)) (taken_from b.items) (p.with_end (taken_from a.items) refl);
+  put = p.put;
+}
+
+zip_each : (R : LaneEnds → LaneEnds → Type 0) (olds news : List LaneEnds) → length news ≡ length olds → ((n : ℕ) (d : LaneEnds) → n < length olds → R (get_or olds n d) (get_or news n d)) → AllZip R olds news
+zip_each R [] [] long each = tt
+zip_each R [] (y ∷ ys) long each = absurd (omega (arith, long))
+zip_each R (x ∷ xs) [] long each = absurd (omega (arith, long))
+zip_each R (x ∷ xs) (y ∷ ys) long each = (each 0 x (omega arith), zip_each R xs ys (omega (arith, long)) (λ n d below. each (suc n) d (omega (arith, below))))
+
+-- serving ends
+pub served : RestrictsRuns → TwinsReplyAlike → (w new : World) (before after : List LaneEnds) (ended : List Bool) → HostsNoRoot w.site → IsServing w before new after ended → IsServed w before new after
+served restricts twins w new before after ended no_root h = record {
+  events = h.events;
+  outcomes = h.outcomes;
+  run = h.run;
+  isolated = λ ts run is os. restricts w ts no_root run;
+  hidden = λ ts run is os. twins w ts run;
+  lanes = zip_each (LaneServed h.events h.outcomes) before after h.lanes.long
+      (λ n d below. lane_served h.events h.outcomes (get_or ended n false) (get_or before n d) (get_or after n d) (h.lanes.each n d below));
+  of = h.given;
+}
+
+-- the lanes that come back still have numbers of their own
+pub still_distinct : (w new : World) (before after : List LaneEnds) (ended : List Bool) → IsServing w before new after ended → AreDistinct after
+still_distinct w new before after ended h = λ i j d below here same.
+    let there : j < length before = subst (λ m. j < m) h.lanes.long here in
+    h.distinct i j d below there (sym (h.lanes.each i d (omega (arith, below, there))).lane ∙ same ∙ (h.lanes.each j d there).lane)

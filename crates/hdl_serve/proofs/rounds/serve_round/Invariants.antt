@@ -1,0 +1,11 @@
+use Rattle.std.proofs.Common.{◌≤◌, List}
+use Rattle.hdl_laws.specs.Worlds.{World}
+use Rattle.hdl_workers.specs.declared.ends.LaneEnds.{LaneEnds}
+use Rattle.hdl_serve.specs.Rounds.{IsServing}
+use Rattle.hdl_serve.proofs.rounds.serve_round.Given as goal
+
+abbrev pub invariant-loop-i : goal.invariant-loop-i
+invariant-loop-i g l = record {
+  few : l.longest ≤ l.most;
+  serving : (w : World) (before : List LaneEnds) → IsServing w before l.initial.service l.initial.lanes l.initial.ended → IsServing w before l.service l.lanes l.ended;
+}
