@@ -5,9 +5,8 @@ use clap::{Arg, ArgAction, ArgMatches, Command, Error, value_parser};
 use hdl_cachedrows::LIMIT_DEFAULT;
 use hdl_host::Limits;
 use hdl_replay::Fault;
-use hdl_status::{VERSION, status_of_words};
+use hdl_status::{VERSION, status_of_words, words_of};
 use std::alloc::{AllocError, Global};
-use std::{env, io};
 
 /// The file of a table that lasts.
 #[derive(Debug, Drop)]
@@ -150,11 +149,6 @@ fn parsed(alloc: Global, words: &[String]) -> Result<Asked, Error> {
         }),
         None => Ok(Asked::Replay { table: None }),
     }
-}
-
-fn words_of(rt: &HostRuntime) -> io::Result<Vec<String>> {
-    let words = env::args(rt)?.collect(rt.alloc())?;
-    Ok(words)
 }
 
 /// Reads the command line, and prints what `clap` has to say of it.

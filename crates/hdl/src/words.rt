@@ -3,9 +3,8 @@
 use clap::{Arg, ArgAction, ArgMatches, Command, Error};
 use hdl_commands::{Question, operation_in};
 use hdl_msg::OpCode;
-use hdl_status::{VERSION, status_of_words};
+use hdl_status::{VERSION, status_of_words, words_of};
 use std::alloc::{AllocError, Global};
-use std::{env, io};
 
 /// The server that is asked where none is named.
 const SERVER: &str = "127.0.0.1:2641";
@@ -266,11 +265,6 @@ fn parsed(alloc: Global, words: &[String]) -> Result<Asked, Error> {
         Some((name, found)) => Ok(asked_of(alloc, name, found)?),
         None => Ok(Asked::Ended(2)),
     }
-}
-
-fn words_of(rt: &HostRuntime) -> io::Result<Vec<String>> {
-    let words = env::args(rt)?.collect(rt.alloc())?;
-    Ok(words)
 }
 
 /// Reads the command line, and prints what `clap` has to say of it.

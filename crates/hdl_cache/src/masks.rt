@@ -45,10 +45,7 @@ fn found_by(alloc: Global, search: &Search, key: &Reference) -> Result<Option<Ad
     if !search.is_done() {
         return Err(Refused);
     }
-    match search.mask(alloc, key) {
-        Ok(mask) => Ok(mask),
-        Err(_) => Err(Refused),
-    }
+    Ok(search.mask(alloc, key)?)
 }
 
 impl Masks {

@@ -1,11 +1,12 @@
 //! The values of the handles that were read last.
 
-ghost use Rattle.std.specs.Prelude.{◌≡◌, ◌≤◌, [], true, option_copied, IfOk, IfSome};
+ghost use Rattle.std.specs.Prelude.{◌≡◌, ◌≤◌, [], true, IfOk, IfSome};
 ghost use Rattle.hdl_rows.specs.Table.{Table, place, has, at, value_with};
 ghost use Rattle.hdl_cachedrows.specs.Cost.{total};
 ghost use Rattle.hdl_cachedrows.specs.Cache.{AgreeBut, AreTrue, IsFound};
 
 use crate::cost::entry_cost;
+use hdl_rows::value_with;
 use hdl_value::Value;
 use lru::LruCache;
 use std::alloc::{AllocError, Global};
@@ -33,13 +34,6 @@ fn copies(alloc: Global, values: &[Value]) -> Result<Vec<Value>, AllocError>
         all.push(value.copy(alloc)?)?;
     }
     Ok(all)
-}
-
-/// The value with this index.
-fn value_with(values: &[Value], index: u32) -> Option<&Value>
-    ensures { option_copied result ≡ value_with index values.now }
-{
-    values.iter().find(|value| value.index == index)
 }
 
 /// A copy of the value with this index, if there is one.

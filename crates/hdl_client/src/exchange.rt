@@ -22,15 +22,7 @@ pub fn framed(
     requires short { length message.now ≤ MESSAGE_MAX }
     ensures framed { IfOk result (λ v. v.items ≡ frame_octets session request message.now) }
 {
-    let envelope = Envelope {
-        major: 2,
-        minor: 1,
-        flags: 0,
-        session,
-        request,
-        sequence: 0,
-        length: message.len() as u32,
-    };
+    let envelope = Envelope::of_message(session, request, message.len() as u32);
     let mut octets = Vec::with_capacity(alloc, ENVELOPE_LEN)?;
     octets.extend_from_slice(&envelope.to_octets())?;
     octets.extend_from_slice(message)?;

@@ -3,10 +3,10 @@ use Rattle.std.proofs.Common.{◌≡◌, ℕ, List, Bool, true, false, cond, dro
 use Rattle.hdl_auth.specs.declared.algorithm.Algorithm.{Algorithm}
 use Rattle.hdl_frame.specs.declared.envelope.Envelope.{Envelope}
 use Rattle.hdl_frame.specs.declared.frame.Frame.{Frame}
-use Rattle.hdl_frame.specs.Envelope.{envelope_at, is_truncated}
+use Rattle.hdl_frame.specs.Envelope.{envelope_at, is_truncated, message_envelope}
 use Rattle.hdl_frame.specs.Frames.{IsFrame}
 use Rattle.hdl_frame.specs.Splitting.{IsFrameOf}
-use Rattle.hdl_msg.specs.Reply.{reply_envelope, short_reply}
+use Rattle.hdl_msg.specs.Reply.{short_reply}
 use Rattle.hdl_msg.specs.ReplyView.{IsReplyFrame}
 use Rattle.hdl_msg.proofs.ReplyReadings.{short_reply_read}
 use Rattle.hdl_rows.specs.Table.{Table}
@@ -95,13 +95,13 @@ module _ (hosts : List ℕ → Bool) (algorithms : List ℕ → Algorithm) (t : 
         let s = state_at lanes number in
         silent s lanes (subst (λ w. tasks.IsTask s w (Ignore s)) (sym e) (ap (λ b. cond b (Break session request s) (Ignore s)) (sym up))) (kept lanes number)
 
-    pub broken : (session request : ℕ) (reply : List ℕ) → what ≡ Bad session request → (state_at lanes number).is_open ≡ true → reply ≡ short_reply 4 (reply_envelope session request 0) → ServesAt hosts algorithms t lanes number what (CloseAfter reply) lanes t
+    pub broken : (session request : ℕ) (reply : List ℕ) → what ≡ Bad session request → (state_at lanes number).is_open ≡ true → reply ≡ short_reply 4 (message_envelope session request 0) → ServesAt hosts algorithms t lanes number what (CloseAfter reply) lanes t
     broken session request reply e up is =
         let s = state_at lanes number in (
           s,
           kept lanes number,
           inl (
-            record { outcome = CloseAfter (short_reply 4 (reply_envelope session request 0)); state = s; change = None },
+            record { outcome = CloseAfter (short_reply 4 (message_envelope session request 0)); state = s; change = None },
             Break session request s,
             subst (λ w. tasks.IsTask s w (Break session request s)) (sym e) (ap (λ b. cond b (Break session request s) (Ignore s)) (sym up)),
             refl,

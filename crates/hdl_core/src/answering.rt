@@ -64,9 +64,7 @@ pub(crate) fn answer<R: Rows>(
         content,
         change,
     } = decision;
-    let Ok(octets) = render(alloc, asked, &letter.envelope, code, content) else {
-        return Err(Refused);
-    };
+    let octets = render(alloc, asked, &letter.envelope, code, content)?;
     make(rows, masks, change, letter.moment)?;
     Ok(Octets::new(octets))
 }
@@ -83,10 +81,8 @@ pub(crate) fn tell(
 {
     let empty = ReplyContent::Empty;
     empty_fits();
-    match render(alloc, asked, &letter.envelope, code, empty) {
-        Ok(octets) => Ok(Octets::new(octets)),
-        Err(_) => Err(Refused),
-    }
+    let octets = render(alloc, asked, &letter.envelope, code, empty)?;
+    Ok(Octets::new(octets))
 }
 
 /// The short reply to a message that isn't in the grammar.
@@ -94,8 +90,6 @@ pub(crate) fn malformed(alloc: Global, envelope: &Envelope) -> Result<Octets, Re
     ensures octets { IfOk result (λ octets. octets ≡ short_reply 4 envelope.now) }
     ensures read { IfOk result (λ octets. IsReplyFrame octets) }
 {
-    match Vec::from_slice(alloc, &refuse(envelope)) {
-        Ok(octets) => Ok(Octets::new(octets)),
-        Err(_) => Err(Refused),
-    }
+    let octets = Vec::from_slice(alloc, &refuse(envelope))?;
+    Ok(Octets::new(octets))
 }

@@ -3,7 +3,6 @@
 ghost use Rattle.std.specs.Prelude.{◌≡◌, ◌<◌, true, drop, length, IfOk, IfSome, OnErr};
 ghost use Rattle.hdl_frame.specs.Envelope.{envelope_at, is_truncated};
 ghost use Rattle.hdl_frame.specs.Splitting.{IsFrameOf};
-ghost use Rattle.hdl_msg.specs.Reply.{reply_envelope};
 ghost use Rattle.hdl_msg.specs.ReplyView.{IsReplyFrame};
 ghost use Rattle.hdl_cache.specs.Truth.{AreTrue};
 ghost use Rattle.hdl_ops.specs.Views.{algorithms_by, hosted_by};
@@ -118,21 +117,6 @@ fn receive<R: Rows>(
     }
 }
 
-/// An envelope with these two numbers, which are all that a short reply echoes.
-fn came(session: u32, request: u32) -> Envelope
-    ensures { result ≡ reply_envelope session request 0 }
-{
-    Envelope {
-        major: 2,
-        minor: 1,
-        flags: 0,
-        session,
-        request,
-        sequence: 0,
-        length: 0,
-    }
-}
-
 /// Serves an event of a lane that somebody owns.
 pub(crate) fn serve<R: Rows>(
     owner: &Owner<'_>,
@@ -161,7 +145,7 @@ pub(crate) fn serve<R: Rows>(
             if !lanes.is_open(lane) {
                 return Outcome::Silent;
             }
-            Outcome::CloseAfter(refuse(&came(session, request)))
+            Outcome::CloseAfter(refuse(&Envelope::of_message(session, request, 0)))
         }
         What::Frame {
             peer,

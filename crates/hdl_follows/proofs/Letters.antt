@@ -4,11 +4,11 @@ use Rattle.hdl_auth.specs.declared.algorithm.Algorithm.{Algorithm}
 use Rattle.hdl_auth.specs.declared.algorithm.Algorithm.TheVariants.{Sha1}
 use Rattle.hdl_auth.specs.Digest.{algorithm_of}
 use Rattle.hdl_frame.specs.declared.envelope.Envelope.{Envelope}
-use Rattle.hdl_frame.specs.Envelope.{envelope_at}
+use Rattle.hdl_frame.specs.Envelope.{envelope_at, message_envelope}
 use Rattle.hdl_rows.specs.Table.{Table}
 use Rattle.hdl_msg.specs.Message.{Content, SpellsRequest, header_octets, IsNumber}
 use Rattle.hdl_msg.specs.Laws.{response_code_at}
-use Rattle.hdl_msg.specs.Reply.{reply_envelope, reply_message, reply_octets, short_reply, short_header}
+use Rattle.hdl_msg.specs.Reply.{reply_message, reply_octets, short_reply, short_header}
 use Rattle.hdl_value.specs.Spelling.{string}
 use Rattle.hdl_msg.specs.declared.replies.Reply as message
 use Rattle.hdl_msg.specs.declared.replies.ReplyContent.TheVariants.{Empty}
@@ -50,11 +50,11 @@ session_in octets = (envelope_at (front octets)).session
 
 reply_seen : (y : message.Reply) → reply_of (front (reply_octets y)) ≡ Some (response_code_at (reply_octets y), session_in (reply_octets y))
 unfolding reply_octets
-reply_seen y = reply_read (reply_envelope y.session y.request (length (reply_message y))) (reply_message y) refl (long y)
+reply_seen y = reply_read (message_envelope y.session y.request (length (reply_message y))) (reply_message y) refl (long y)
 
 session_is : (y : message.Reply) → y.session < 2 ^ 32 → session_in (reply_octets y) ≡ y.session
 unfolding reply_octets
-session_is y fits = session_seen (reply_envelope y.session y.request (length (reply_message y))) (reply_message y) fits
+session_is y fits = session_seen (message_envelope y.session y.request (length (reply_message y))) (reply_message y) fits
 
 challenge_session : (a : Algorithm) (number : ℕ) (e : Envelope) (r : Content) (nonce : List ℕ) → number < 2 ^ 32 → session_in (challenge_octets a number e r nonce) ≡ number
 unfolding challenge_to
@@ -64,7 +64,7 @@ pub short_seen : (code : ℕ) (e : Envelope) → IsNumber code → reply_of (fro
 unfolding short_reply header_octets
 short_seen code e fits =
     let m : List ℕ = header_octets (short_header code) ++ (string (string []) ++ string []) in
-    reply_read (reply_envelope e.session e.request 32) m refl (omega arith)
+    reply_read (message_envelope e.session e.request 32) m refl (omega arith)
     ∙ ap (λ (c : ℕ). Some (c, session_in (short_reply code e))) (code-short_reply code e fits)
 
 -- ---- what the reply leaves

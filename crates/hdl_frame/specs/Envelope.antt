@@ -30,6 +30,10 @@ envelope_at s = record {
 unfoldable pub envelope_octets : Envelope → List ℕ
 envelope_octets e = e.major ∷ e.minor ∷ (to_be_bytes w16 e.flags ++ to_be_bytes w32 e.session ++ to_be_bytes w32 e.request ++ to_be_bytes w32 e.sequence ++ to_be_bytes w32 e.length)
 
+-- the envelope of a whole message in one frame: version 2.1, and no flag
+abbrev pub message_envelope : ℕ → ℕ → ℕ → Envelope
+message_envelope session request len = record { major = 2; minor = 1; flags = 0; session = session; request = request; sequence = 0; length = len }
+
 -- each number fits its field
 pub record Fits (e : Envelope) : Type 0 where
   pub major : e.major < 2 ^ 8

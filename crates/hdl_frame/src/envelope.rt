@@ -1,7 +1,7 @@
 //! The envelope: its layout, which envelopes are accepted, and how long a payload is.
 
 ghost use Rattle.std.specs.Prelude.{◌≡◌, ◌≤◌, length, None};
-ghost use Rattle.hdl_frame.specs.Envelope.{envelope_at, envelope_octets, fault_of, payload_len, is_compressed, is_encrypted, is_truncated};
+ghost use Rattle.hdl_frame.specs.Envelope.{envelope_at, envelope_octets, message_envelope, fault_of, payload_len, is_compressed, is_encrypted, is_truncated};
 
 use byteorder::{BigEndian, ByteOrder};
 use hdl_limits::{MESSAGE_MAX, PIECE_LEN};
@@ -12,6 +12,9 @@ pub const ENVELOPE_LEN: usize = 20;
 
 /// The major version that is spoken; any minor version is accepted.
 pub const MAJOR_VERSION: u8 = 2;
+
+/// The minor version of what is sent.
+pub const MINOR_VERSION: u8 = 1;
 
 /// MessageFlag bit CP: the message is compressed. Such envelopes are refused.
 pub const COMPRESSED: u16 = 0x8000;
@@ -67,7 +70,22 @@ pub enum FrameFault {
 }
 
 impl Envelope {
-    ghost use Rattle.hdl_frame.specs.Envelope.{envelope_at, envelope_octets, fault_of, payload_len, is_compressed, is_encrypted, is_truncated};
+    ghost use Rattle.hdl_frame.specs.Envelope.{envelope_at, envelope_octets, message_envelope, fault_of, payload_len, is_compressed, is_encrypted, is_truncated};
+
+    /// The envelope of a whole message in one frame, without flags. `length` counts the message's octets.
+    pub fn of_message(session: u32, request: u32, length: u32) -> Envelope
+        ensures envelope { result ≡ message_envelope session request length }
+    {
+        Envelope {
+            major: MAJOR_VERSION,
+            minor: MINOR_VERSION,
+            flags: 0,
+            session,
+            request,
+            sequence: 0,
+            length,
+        }
+    }
 
     /// The envelope that the first 20 octets spell; every 20 octets spell one.
     #[tactic(auto, unfolding(crate::specs::Envelope::envelope_at))]

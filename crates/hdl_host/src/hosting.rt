@@ -103,9 +103,9 @@ fn places_of<R: Net<Listener = TcpListener, Stream = TcpStream> + Clock>(
 ) -> Result<(Vec<Place>, String), Fault> {
     let mut places = Vec::new(alloc);
     let mut lines = String::new(alloc);
-    for i in 0..usize::from(tenants.lanes()) {
-        let Some((name, lanes, port)) = tenants.publisher(i) else {
-            break;
+    for place in 0..tenants.publishers() {
+        let Some((name, lanes, port)) = tenants.publisher(place) else {
+            unreachable!()
         };
         places.push(had(listen(rt, alloc, lanes, port, limits))?)?;
         let line = format!(in alloc; "{name} 127.0.0.1:{port}\n")?;

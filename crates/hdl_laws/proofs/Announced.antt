@@ -5,14 +5,14 @@ use Rattle.hdl_auth.specs.declared.algorithm.Algorithm.{Algorithm}
 use Rattle.hdl_auth.specs.declared.algorithm.Algorithm.TheVariants.{Sha1}
 use Rattle.hdl_auth.specs.Digest.{algorithm_of}
 use Rattle.hdl_frame.specs.declared.envelope.Envelope.{Envelope}
-use Rattle.hdl_frame.specs.Envelope.{envelope_at, envelope_octets, is_truncated}
+use Rattle.hdl_frame.specs.Envelope.{envelope_at, envelope_octets, is_truncated, message_envelope}
 use Rattle.hdl_rows.specs.Table.{Table}
 use Rattle.hdl_msg.specs.declared.replies.Reply as message
 use Rattle.hdl_msg.specs.declared.replies.ReplyContent.TheVariants.{Empty}
 use Rattle.hdl_msg.specs.Codes.{IsNumberOf}
 use Rattle.hdl_msg.specs.Laws.{short_parts}
 use Rattle.hdl_msg.specs.Message.{Content, code_of, SpellsRequest}
-use Rattle.hdl_msg.specs.Reply.{reply_body, reply_message, reply_octets, short_reply, reply_envelope}
+use Rattle.hdl_msg.specs.Reply.{reply_body, reply_message, reply_octets, short_reply}
 use Rattle.hdl_msg.specs.ReplyView.{ReplyParts, reply_parts, IsAnnounced, parts_message}
 use Rattle.hdl_msg.proofs.ReplyReadings.{reply_again, short_reply_spelt_lem}
 use Rattle.hdl_pool.specs.Taking.{taken, freed, whole_message}
@@ -129,7 +129,7 @@ sends eff = sent_by eff.outcome
 
 does_announce : (hosted : List ℕ → Bool) (algorithms : List ℕ → Algorithm) (t : Table) (k : Task) (eff : Effect) (octets : List ℕ) → CodedTask k → Does hosted algorithms t k eff → sends eff ≡ Some octets → IsSelfTold octets
 does_announce hosted algorithms t (Ignore s) eff octets has is e = nothing_sent octets (sym (ap sends is) ∙ e)
-does_announce hosted algorithms t (Break session request s) eff octets has is e = same_octets octets _ (sym (ap sends is) ∙ e) (refused_self (reply_envelope session request 0))
+does_announce hosted algorithms t (Break session request s) eff octets has is e = same_octets octets _ (sym (ap sends is) ∙ e) (refused_self (message_envelope session request 0))
 does_announce hosted algorithms t (Malformed m s) eff octets has is e = same_octets octets _ (sym (ap sends is) ∙ e) (refused_self m.envelope)
 does_announce hosted algorithms t (Unknown m r s) eff octets has is e =
     same_octets octets _ (sym (ap sends is) ∙ e) (made_self (reply_to Sha1 m.envelope.session m.envelope.request r 4 Empty) (protocol_error_announced Sha1 m.envelope.session m.envelope.request r))

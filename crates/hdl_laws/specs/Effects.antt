@@ -7,7 +7,8 @@ use Rattle.hdl_frame.specs.declared.envelope.Envelope.{Envelope}
 use Rattle.hdl_msg.specs.Message.{Content}
 use Rattle.hdl_msg.specs.declared.replies.ReplyContent.{ReplyContent}
 use Rattle.hdl_msg.specs.declared.replies.ReplyContent.TheVariants.{Empty}
-use Rattle.hdl_msg.specs.Reply.{reply_envelope, reply_octets, short_reply}
+use Rattle.hdl_frame.specs.Envelope.{message_envelope}
+use Rattle.hdl_msg.specs.Reply.{reply_octets, short_reply}
 use Rattle.hdl_rows.specs.Table.{Table}
 use Rattle.hdl_slots.specs.declared.pending.Pending.{Pending}
 use Rattle.hdl_slots.specs.Lanes.{challenged}
@@ -76,7 +77,7 @@ DoesRedeem hosted algorithm table arrival request proof state effect =
 -- prefix, a challenged one that of its challenge's digest
 abbrev pub Does : (List ℕ → Bool) → (List ℕ → Algorithm) → Table → Task → Effect → Type 0
 Does hosted algorithms table (Ignore state) effect = effect ≡ record { outcome = Silent; state = state; change = None }
-Does hosted algorithms table (Break session request state) effect = effect ≡ record { outcome = CloseAfter (short_reply 4 (reply_envelope session request 0)); state = state; change = None }
+Does hosted algorithms table (Break session request state) effect = effect ≡ record { outcome = CloseAfter (short_reply 4 (message_envelope session request 0)); state = state; change = None }
 Does hosted algorithms table (Malformed arrival state) effect = effect ≡ record { outcome = Reply (short_reply 4 arrival.envelope); state = state; change = None }
 Does hosted algorithms table (Unknown arrival request state) effect = effect ≡ answer_effect Sha1 state arrival request (failure 4 Empty)
 Does hosted algorithms table (Late arrival request algorithm state) effect = effect ≡ answer_effect algorithm state arrival request (failure 405 Empty)

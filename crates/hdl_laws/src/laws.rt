@@ -22,7 +22,7 @@ pub fn restricted()
 {}
 
 /// Runs of the same events from twins, with the same codes, have the same octets and end in twins: beyond its code no reply
-/// depends on a value that its caller may not read.
+/// depends on a value that nobody in the run may read.
 pub fn twin_replies()
     ensures { TwinsReplyAlike }
 {}

@@ -13,7 +13,8 @@ use Rattle.hdl_value.specs.Reading.{◌>>=◌}
 use Rattle.hdl_value.specs.Data.{IsAdminData, IsListData, secret_key_kind}
 use Rattle.hdl_value.specs.Refs.{is_admin, is_list, admin_in, list_in, admin_read, list_read}
 use Rattle.hdl_value.proofs.DataRead.{admin_in_is, list_in_is}
-use Rattle.hdl_lines.specs.Fields.{space, colon, is_graphic, is_word, is_text, is_line, has_end, number_in, bits, permission_digits, number_at}
+use Rattle.hdl_value.specs.Permission.{bits}
+use Rattle.hdl_lines.specs.Fields.{space, colon, is_graphic, is_word, is_text, is_line, has_end, number_in, permission_digits, number_at}
 use Rattle.hdl_lines.specs.declared.fault.LineFault.TheVariants as fault
 use Rattle.hdl_lines.specs.Data.{admin_words, reference_text, list_words, list_text, plain_text, data_text}
 use Rattle.hdl_lines.specs.Lines.{value_in, value_in_fields, has_fields, field, fields_text, line_of, ttl_fault}

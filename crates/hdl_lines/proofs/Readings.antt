@@ -11,7 +11,8 @@ use Rattle.std.proofs.lemmas.Str.Parse.{digit_from_value}
 use Rattle.std.proofs.lemmas.Option.{cond_some}
 use Rattle.std.proofs.lemmas.Str.{IsUtf8-from_ascii}
 use Rattle.std.proofs.lemmas.Fmt.{decimal_is_IsNumeral, parse-decimal, IsAscii-decimal}
-use Rattle.hdl_lines.specs.Fields.{space, colon, is_graphic, is_word, cut_at, number_in, bits, bit_in, bits_in, mask_in, permission_digits, permissions_in, number_at, word_at, permissions_at}
+use Rattle.hdl_value.specs.Permission.{bits}
+use Rattle.hdl_lines.specs.Fields.{space, colon, is_graphic, is_word, cut_at, number_in, bit_in, bits_in, mask_in, permission_digits, permissions_in, number_at, word_at, permissions_at}
 
 -- either way of a test
 abbrev pub cases : (b : Bool) → Type 0
@@ -149,20 +150,6 @@ bits_lack_space k n = bits_lack space k n refl refl
 
 pub bits_lack_colon : (k n : ℕ) → Lacks colon (bits k n)
 bits_lack_colon k n = bits_lack colon k n refl refl
-
--- putting digit after digit
-pub bits_begin : (count number : ℕ) (out : List ℕ) → out ++ bits (count - 0) number ≡ out ++ bits count number
-bits_begin count number out = let e : count - 0 ≡ count = omega arith in rw e refl
-
-pub bits_on : (count i rest : ℕ) (out all : List ℕ) → i < count → out ++ bits (count - i) rest ≡ all → (out ++ (48 + rest % 2) ∷ []) ++ bits (count - (i + 1)) (rest / 2) ≡ all
-bits_on count i rest out all lt h =
-    let k : count - i ≡ suc (count - (i + 1)) = omega arith in
-    append_assoc out ((48 + rest % 2) ∷ []) (bits (count - (i + 1)) (rest / 2)) ∙ (rw k at h)
-
-pub bits_end : (count i rest : ℕ) (out all : List ℕ) → count ≤ i → out ++ bits (count - i) rest ≡ all → out ≡ all
-bits_end count i rest out all le h =
-    let k : count - i ≡ 0 = omega arith in
-    sym (append-nil out) ∙ (rw k at h)
 
 bit_again : (n : ℕ) → bit_in (48 + n % 2) ≡ Some (n % 2)
 bit_again n =

@@ -24,7 +24,8 @@ use Rattle.hdl_value.specs.Data.{IsAdminData, IsListData}
 use Rattle.hdl_value.specs.Refs.{is_admin, is_list, admin_in, list_in, admin_read, list_read}
 use Rattle.hdl_value.proofs.DataRead.{admin_in_is, list_in_is}
 use Rattle.hdl_value.proofs.FieldLaws.{AreOctets-drop, wide32}
-use Rattle.hdl_lines.specs.Fields.{space, colon, is_word, is_text, is_handle_word, bits, permission_digits}
+use Rattle.hdl_value.specs.Permission.{bits}
+use Rattle.hdl_lines.specs.Fields.{space, colon, is_word, is_text, is_handle_word, permission_digits}
 use Rattle.hdl_lines.specs.declared.fault.LineFault.TheVariants as fault
 use Rattle.hdl_lines.specs.Data.{admin_parts, reference_in, each_in, references_in, hex_in, admin_words, reference_text, list_words, list_text, plain_text, data_text}
 use Rattle.hdl_lines.specs.Lines.{data_in, unstamped, value_in_octets, value_in_digits, value_in_fields, value_in, has_fields, field, fields_text, line_of}

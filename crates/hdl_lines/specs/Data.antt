@@ -13,7 +13,8 @@ use Rattle.hdl_value.specs.Reading.{◌>>=◌}
 use Rattle.hdl_value.specs.Refs.{admin_read, list_read}
 use Rattle.hdl_lines.specs.declared.data.Format.{Format}
 use Rattle.hdl_lines.specs.declared.data.Format.TheVariants as format
-use Rattle.hdl_lines.specs.Fields.{space, colon, is_word, is_text, is_handle_word, cut_at, number_in, bits, mask_in}
+use Rattle.hdl_value.specs.Permission.{bits}
+use Rattle.hdl_lines.specs.Fields.{space, colon, is_word, is_text, is_handle_word, cut_at, number_in, mask_in}
 
 -- ---- data, by its format
 

@@ -6,6 +6,7 @@ use Rattle.std.specs.Str.{bytes_eq, chars, is_utf8}
 use Rattle.std.specs.Str.Parse.{digits_value, IsNumeral}
 use Rattle.hdl_name.specs.Name.{IsHandle}
 use Rattle.hdl_name.specs.Tests.{is_handle}
+use Rattle.hdl_value.specs.Permission.{bits}
 use Rattle.hdl_value.specs.Reading.{◌>>=◌}
 
 -- ' ' stands between fields, ':' between the parts of a reference
@@ -59,11 +60,6 @@ abbrev pub IsReferenceOf : List ℕ → ℕ → List ℕ → Type 0
 IsReferenceOf words index handle = IsHandle handle × ((digits : List ℕ) × IsIndexOf digits index × ((words ≡ digits ++ colon ∷ handle) ⊎ (words ≡ handle ++ colon ∷ digits)))
 
 -- ---- binary digits
-
--- so many of a number, the lowest first
-abbrev pub bits : ℕ → ℕ → List ℕ
-bits zero n = []
-bits (suc k) n = (48 + n % 2) ∷ bits k (n / 2)
 
 -- the number of such digits
 abbrev pub bit_in : ℕ → Option ℕ

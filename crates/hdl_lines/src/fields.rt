@@ -4,7 +4,8 @@ ghost use Rattle.std.specs.Prelude.{◌≡◌, ◌+◌, ◌%◌, ◌++◌, ◌<�
 ghost use Rattle.std.specs.List.{list_all};
 ghost use Rattle.std.specs.Str.{chars};
 ghost use Rattle.hdl_value.specs.Reading.{Reads};
-ghost use Rattle.hdl_lines.specs.Fields.{is_graphic, is_printed, is_line, has_end, is_word, is_text, is_handle_word, cut_at, number_in, number_at, word_at, bits, bit_in, bits_in, mask_in, permissions_in, permissions_at, permission_digits};
+ghost use Rattle.hdl_value.specs.Permission.{bits};
+ghost use Rattle.hdl_lines.specs.Fields.{is_graphic, is_printed, is_line, has_end, is_word, is_text, is_handle_word, cut_at, number_in, number_at, word_at, bit_in, bits_in, mask_in, permissions_in, permissions_at, permission_digits};
 
 use hdl_name::is_name;
 use itoa::Buffer;

@@ -16,7 +16,7 @@ use Rattle.hdl_value.proofs.FieldLaws.{bind_some, some_is, octets_take, octets_a
 use Rattle.hdl_value.proofs.Codecs.{pair_codec, string_codec, octets_codec}
 use Rattle.hdl_value.proofs.DataRead.{whole_takes, whole_again}
 use Rattle.hdl_frame.specs.declared.envelope.Envelope.{Envelope}
-use Rattle.hdl_frame.specs.Envelope.{envelope_octets, envelope_at, fault_of, payload_len}
+use Rattle.hdl_frame.specs.Envelope.{envelope_octets, envelope_at, fault_of, payload_len, message_envelope}
 use Rattle.hdl_frame.specs.Frames.{IsFrame}
 use Rattle.hdl_msg.specs.declared.fields.Header.{Header}
 use Rattle.hdl_msg.specs.declared.replies.Reply.{Reply}
@@ -27,7 +27,7 @@ use Rattle.hdl_msg.specs.declared.reply_view.ReplyForm.TheVariants as form
 use Rattle.hdl_msg.specs.Message.{number, counted, header_octets, IsNumber, AreFew}
 use Rattle.hdl_msg.specs.Reading.{strings_at, values_at, message_at}
 use Rattle.hdl_limits.specs.declared.TheConstants.{MESSAGE_MAX}
-use Rattle.hdl_msg.specs.Reply.{content_octets, digest_octets, reply_body, reply_envelope, reply_message, reply_octets, short_header, short_reply}
+use Rattle.hdl_msg.specs.Reply.{content_octets, digest_octets, reply_body, reply_message, reply_octets, short_header, short_reply}
 use Rattle.hdl_msg.specs.ReplyView.{ReplyParts, reply_parts, announces_digest, announced_form, form_of, IsWholeDigest, DigestFits, ContentFits, IsAnnounced, PartsFit, parts_body, SpellsReply, FramesReply, IsReplyFrame}
 use Rattle.hdl_msg.specs.ReplyReading.{sized_digest_at, digest_behind, digest_at, announced_digest_at, prefix_in, shown_values_in, handles_in, nothing_in, referral_in, nonce_in, empty_in, content_in, reply_body_in, reply_at}
 use Rattle.hdl_msg.specs.Laws.{IsReadable, reply_of, short_parts}
@@ -266,7 +266,7 @@ reply_again octets p s =
 
 -- ---- what is written
 
-framed : (session request : ℕ) (message : List ℕ) → length message ≤ MESSAGE_MAX → IsFrame (envelope_octets (reply_envelope session request (length message)) ++ message)
+framed : (session request : ℕ) (message : List ℕ) → length message ≤ MESSAGE_MAX → IsFrame (envelope_octets (message_envelope session request (length message)) ++ message)
 unfolding envelope_octets envelope_at fault_of payload_len
 framed session request message le =
     let size = from_be_bytes-to_be_bytes_4 (length message) (omega (arith, le)) in

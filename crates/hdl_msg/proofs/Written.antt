@@ -9,12 +9,12 @@ use Rattle.hdl_value.specs.declared.references.RawRef.{RawRef}
 use Rattle.hdl_value.specs.Spelling.{string, reference, references, spelling, CanBeSpelt}
 use Rattle.hdl_msg.specs.declared.fields.Header.{Header}
 use Rattle.hdl_msg.specs.Message.{number, counted, header_octets}
-use Rattle.hdl_frame.specs.Envelope.{envelope_octets}
+use Rattle.hdl_frame.specs.Envelope.{envelope_octets, message_envelope}
 use Rattle.hdl_msg.specs.declared.replies.Reply.{Reply}
 use Rattle.hdl_msg.specs.declared.replies.ReplyContent.{ReplyContent}
 use Rattle.hdl_msg.specs.declared.replies.ReplyContent.TheVariants.{Values, Handles, Nothing, Referral, Nonce, Empty}
 use Rattle.hdl_limits.specs.declared.TheConstants.{MESSAGE_MAX}
-use Rattle.hdl_msg.specs.Reply.{capped, CanBeWritten, content_octets, digest_octets, reply_body, reply_message, reply_envelope, reply_octets}
+use Rattle.hdl_msg.specs.Reply.{capped, CanBeWritten, content_octets, digest_octets, reply_body, reply_message, reply_octets}
 
 regroup_header : (o a b c d : List ℕ) (p q : ℕ) (g : List ℕ) → o ++ a ++ b ++ c ++ d ++ (p ∷ []) ++ (q ∷ []) ++ g ≡ o ++ (a ++ (b ++ (c ++ (d ++ (p ∷ (q ∷ g))))))
 regroup_header o a b c d p q g = simp append_assoc
@@ -114,14 +114,14 @@ regroup_reply : (e h b d c z : List ℕ) → e ++ h ++ b ++ d ++ c ++ z ≡ e ++
 regroup_reply e h b d c z = simp append_assoc
 
 whole : (y : Reply) (n : ℕ) → n ≡ length (reply_message y)
-    → envelope_octets (reply_envelope y.session y.request n) ++ (header_octets y.header ++ ((number (n - 28) ++ (digest_octets y.digest ++ content_octets y.content)) ++ number 0))
-    ≡ envelope_octets (reply_envelope y.session y.request (length (reply_message y))) ++ reply_message y
+    → envelope_octets (message_envelope y.session y.request n) ++ (header_octets y.header ++ ((number (n - 28) ++ (digest_octets y.digest ++ content_octets y.content)) ++ number 0))
+    ≡ envelope_octets (message_envelope y.session y.request (length (reply_message y))) ++ reply_message y
 unfolding reply_message reply_body
 whole y n is =
     let body : n - 28 ≡ length (digest_octets y.digest ++ content_octets y.content) = omega (arith, is, length-reply_message y, length-append (digest_octets y.digest) (content_octets y.content)) in
     rw (body, is) refl
 
-pub reply_written : (env x1 x2 x3 x4 x5 x6 : List ℕ) (y : Reply) (n : ℕ) → n ≡ length (reply_message y) → env ≡ envelope_octets (reply_envelope y.session y.request n)
+pub reply_written : (env x1 x2 x3 x4 x5 x6 : List ℕ) (y : Reply) (n : ℕ) → n ≡ length (reply_message y) → env ≡ envelope_octets (message_envelope y.session y.request n)
     → x1 ≡ env → x2 ≡ x1 ++ header_octets y.header → x3 ≡ x2 ++ number (n - 28) → x4 ≡ x3 ++ digest_octets y.digest → x5 ≡ x4 ++ content_octets y.content → x6 ≡ x5 ++ number 0 → x6 ≡ reply_octets y
 unfolding reply_octets
 reply_written env x1 x2 x3 x4 x5 x6 y n is e0 e1 e2 e3 e4 e5 e6 =
@@ -130,5 +130,5 @@ reply_written env x1 x2 x3 x4 x5 x6 y n is e0 e1 e2 e3 e4 e5 e6 =
     (e4 ∙ ap (λ (x : List ℕ). x ++ digest_octets y.digest)
     (e3 ∙ ap (λ (x : List ℕ). x ++ number (n - 28))
     (e2 ∙ ap (λ (x : List ℕ). x ++ header_octets y.header) (e1 ∙ e0)))))
-    ∙ regroup_reply (envelope_octets (reply_envelope y.session y.request n)) (header_octets y.header) (number (n - 28)) (digest_octets y.digest) (content_octets y.content) (number 0)
+    ∙ regroup_reply (envelope_octets (message_envelope y.session y.request n)) (header_octets y.header) (number (n - 28)) (digest_octets y.digest) (content_octets y.content) (number 0)
     ∙ whole y n is

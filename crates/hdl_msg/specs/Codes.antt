@@ -7,7 +7,9 @@ use Rattle.hdl_msg.specs.declared.codes.OpCode.TheVariants.{Resolution, CreateHa
 use Rattle.hdl_msg.specs.declared.codes.OpFlag.{OpFlag}
 use Rattle.hdl_msg.specs.declared.codes.OpFlag.TheVariants.{Authoritative, Certified, Encrypted, Recursive, CacheAuthentication, Continuous, KeepConnection, PublicOnly, ReturnDigest}
 use Rattle.hdl_msg.specs.declared.codes.ResponseCode.{ResponseCode}
-use Rattle.hdl_msg.specs.declared.codes.ResponseCode.TheVariants.{Success, Error, ServerBusy, ProtocolError, OperationDenied, HandleNotFound, HandleAlreadyExists, InvalidHandle, ValueNotFound, ValueAlreadyExists, ValueInvalid, ServiceReferral, NotAuthorized, AccessDenied, AuthenticationNeeded, AuthenticationFailed, InvalidCredential, AuthenticationTimeout, UnableToAuthenticate}
+use Rattle.hdl_msg.specs.declared.codes.ResponseCode.TheVariants.{Success, Error, ServerBusy, ProtocolError, OperationDenied, HandleNotFound, HandleAlreadyExists, InvalidHandle}
+use Rattle.hdl_msg.specs.declared.codes.ResponseCode.TheVariants.{ValueNotFound, ValueAlreadyExists, ValueInvalid, ServiceReferral, NotAuthorized, AccessDenied}
+use Rattle.hdl_msg.specs.declared.codes.ResponseCode.TheVariants.{AuthenticationNeeded, AuthenticationFailed, InvalidCredential, AuthenticationTimeout, UnableToAuthenticate}
 
 abbrev pub op_number : OpCode → ℕ
 op_number Resolution = 1

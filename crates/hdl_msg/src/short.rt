@@ -6,7 +6,7 @@ ghost use Rattle.hdl_msg.specs.Reply.{short_reply};
 
 use crate::codes::ResponseCode;
 use byteorder::{BigEndian, ByteOrder};
-use hdl_frame::{Envelope, MAJOR_VERSION};
+use hdl_frame::{Envelope, MAJOR_VERSION, MINOR_VERSION};
 
 /// Envelope, header, and an empty string for body and for credential: MessageLength is 32, and BodyLength 4.
 #[tactic(auto, unfolding(crate::specs::Reply::short_reply, crate::specs::Message::header_octets, hdl_frame::specs::Envelope::envelope_octets))]
@@ -15,7 +15,7 @@ fn short(code: u32, came: &Envelope) -> [u8; 52]
 {
     let mut octets = [0; 52];
     octets[0] = MAJOR_VERSION;
-    octets[1] = 1;
+    octets[1] = MINOR_VERSION;
     BigEndian::write_u32(&mut octets[4..8], came.session);
     BigEndian::write_u32(&mut octets[8..12], came.request);
     BigEndian::write_u32(&mut octets[16..20], 32);

@@ -11,10 +11,11 @@ ghost use Rattle.hdl_ops.specs.Anyone.{is_left, is_open, is_open_write, code_for
 ghost use Rattle.hdl_ops.specs.Sights.{passes_at};
 ghost use Rattle.hdl_ops.specs.Views.{sight_of};
 
-use crate::asked::{asks, is_kept, is_public, value_with};
 use crate::decision::Sight;
 use crate::requests::{creates, is_public_only, resolves};
+use crate::sights::{asks, is_kept, is_public};
 use hdl_msg::{Body, Numbers, Request, ResponseCode, Values};
+use hdl_rows::value_with;
 use hdl_value::{CutValue, Permission, Value};
 
 /// The value is left of those that are asked for: it isn't hidden, nor kept where only the public are wanted.
@@ -42,7 +43,7 @@ fn any_kept_left(request: &Request<'_>, values: &[Value]) -> bool
 fn is_open_at(values: &[Value], index: u32) -> bool
     ensures { result ≡ passes_at is_open values.now index }
 {
-    match value_with(index, values) {
+    match value_with(values, index) {
         Some(value) => value.permits(Permission::PublicWrite) && !value.is_admin(),
         None => false,
     }

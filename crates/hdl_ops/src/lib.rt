@@ -15,7 +15,6 @@
 
 mod admit;
 mod anyone;
-mod asked;
 mod change;
 mod deciding;
 mod decision;
@@ -27,6 +26,7 @@ mod proven;
 mod rendering;
 mod requests;
 mod settle;
+mod sights;
 mod written;
 
 pub use admit::request_algorithm;

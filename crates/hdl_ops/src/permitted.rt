@@ -7,8 +7,9 @@ ghost use Rattle.hdl_msg.specs.Bodies.{operation_of};
 ghost use Rattle.hdl_msg.specs.Views.{numbers_of, values_of};
 ghost use Rattle.hdl_ops.specs.Proven.{add_needs, remove_needs, modify_needs, is_allowed, is_locked_at, is_locked};
 
-use crate::asked::{is_admin_at, value_with};
+use crate::sights::is_admin_at;
 use hdl_msg::{Body, Numbers, Values};
+use hdl_rows::value_with;
 use hdl_value::{AdminMask, AdminPermission, CutValue, Permission, Value};
 
 fn may_add(mask: AdminMask, new: &CutValue<'_>) -> bool
@@ -79,7 +80,7 @@ pub(crate) fn is_allowed(body: &Body<'_>, values: &[Value], mask: AdminMask) -> 
 fn is_locked_at(values: &[Value], index: u32) -> bool
     ensures { result ≡ is_locked_at values.now index }
 {
-    match value_with(index, values) {
+    match value_with(values, index) {
         Some(value) => !value.permits(Permission::AdminWrite),
         None => true,
     }

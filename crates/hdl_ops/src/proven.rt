@@ -10,14 +10,15 @@ ghost use Rattle.hdl_ops.specs.Proven.{is_right, misses_at, takes_at, misses, ta
 ghost use Rattle.hdl_ops.specs.Sights.{passes};
 ghost use Rattle.hdl_ops.specs.Views.{sight_of, proof_of};
 
-use crate::asked::{asks, is_kept, is_public, value_with};
 use crate::decision::{Proof, Sight};
 use crate::permitted::{is_allowed, is_locked};
 use crate::requests::{creates, resolves};
+use crate::sights::{asks, is_kept, is_public};
 use crate::written::count_of_values;
 use hdl_auth::{check, has_response_form};
 use hdl_limits::VALUES_MAX;
 use hdl_msg::{Body, Numbers, Request, ResponseCode, Values};
+use hdl_rows::value_with;
 use hdl_value::{AdminMask, HS_SECKEY, Value};
 
 fn is_key(key: &Option<Value>) -> bool
@@ -44,13 +45,13 @@ fn is_right(key: &Option<Value>, proof: &Proof<'_>) -> bool
 fn misses_at(values: &[Value], index: u32) -> bool
     ensures { result ≡ misses_at values.now index }
 {
-    value_with(index, values).is_none()
+    value_with(values, index).is_none()
 }
 
 fn takes_at(values: &[Value], index: u32) -> bool
     ensures { result ≡ takes_at values.now index }
 {
-    value_with(index, values).is_some()
+    value_with(values, index).is_some()
 }
 
 fn any_missing(values: &[Value], mut indexes: Numbers<'_>) -> bool

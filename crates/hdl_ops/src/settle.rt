@@ -11,10 +11,10 @@ ghost use Rattle.hdl_ops.specs.Requests.{named, resolves};
 ghost use Rattle.hdl_ops.specs.Sights.{asks};
 ghost use Rattle.hdl_ops.specs.Views.{decision_of, level_of, sight_of};
 
-use crate::asked::{asks, is_kept, is_public};
 use crate::change::Change;
 use crate::decision::{Asked, Decision, Level, Sight};
 use crate::rendering::fitting;
+use crate::sights::{asks, is_kept, is_public};
 use crate::written::{copied_indexes, copied_values};
 use hdl_msg::{Body, ReplyContent, Request, ResponseCode, Values};
 use hdl_name::Name;

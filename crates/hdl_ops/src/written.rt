@@ -8,7 +8,7 @@ ghost use Rattle.hdl_msg.specs.Bodies.{operation_of};
 ghost use Rattle.hdl_msg.specs.Views.{numbers_of, values_of};
 ghost use Rattle.hdl_ops.specs.Admission.{has_twins, is_bad_list, are_bad, is_bad_write};
 
-use crate::asked::lists_index;
+use crate::sights::lists_index;
 use hdl_limits::WRITTEN_MAX;
 use hdl_msg::{Body, Numbers, Values};
 use hdl_value::Value;

@@ -1,5 +1,4 @@
 pub mod Addresses
-pub mod Bits
 pub mod Inert
 pub mod Joined
 pub mod Located

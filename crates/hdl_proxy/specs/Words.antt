@@ -8,6 +8,7 @@ use Rattle.jiff_core.specs.DateTime.{civil_nanos}
 use Rattle.jiff_core.specs.Timestamp.{IsTimestampNanos}
 use Rattle.jiff_fmt.specs.Text.{datetime_text, zulu_text}
 use Rattle.std.specs.Prelude.{false}
+use Rattle.hdl_value.specs.Permission.{bits}
 use Rattle.hdl_value.specs.declared.value.Value.{Value}
 use Rattle.hdl_proxy.specs.declared.words.KeptFor.{KeptFor}
 use Rattle.hdl_proxy.specs.declared.words.KeptFor.TheVariants.{Seconds, Until}
@@ -20,12 +21,7 @@ text_of octets = if is_utf8 octets then octets else encode_lower octets
 
 -- ---- permissions
 
--- so many binary digits of a number, the lowest first
-unfoldable pub bits : ℕ → ℕ → List ℕ
-bits zero n = []
-bits (suc k) n = (48 + n % 2) ∷ bits k (n / 2)
-
--- an administrator's permissions are twelve of them
+-- an administrator's permissions are twelve binary digits, the lowest first
 abbrev pub permission_digits : ℕ → List ℕ
 permission_digits mask = bits 12 mask
 

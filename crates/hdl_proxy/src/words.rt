@@ -1,7 +1,8 @@
 //! The numbers of values in words.
 
 ghost use Rattle.std.specs.Prelude.{◌≡◌, ◌+◌, ◌<◌, ◌++◌, IfOk, OnOk, option_map, string_bytes};
-ghost use Rattle.hdl_proxy.specs.Words.{bits, permission_digits, IsMomentText, IsKeptFor, IsWritten};
+ghost use Rattle.hdl_value.specs.Permission.{bits};
+ghost use Rattle.hdl_proxy.specs.Words.{permission_digits, IsMomentText, IsKeptFor, IsWritten};
 
 use hdl_value::{AdminMask, Value};
 use jiff_core::Timestamp;

@@ -46,8 +46,5 @@ pub(crate) fn list_at<R: Rows>(
     let Some(value) = rows.at(here)? else {
         return Ok(Vec::new(alloc));
     };
-    match references_of(alloc, &value) {
-        Ok(all) => Ok(all),
-        Err(_) => Err(Refused),
-    }
+    Ok(references_of(alloc, &value)?)
 }

@@ -88,10 +88,7 @@ impl Search {
         ensures count { IsCounted result (R.refused rows.old) (R.refused rows.new) }
     {
         let values = rows.values(name)?;
-        match search_from(alloc, name, &values) {
-            Ok(search) => Ok(search),
-            Err(_) => Err(Refused),
-        }
+        Ok(search_from(alloc, name, &values)?)
     }
 
     /// Whether it is one for this handle.
@@ -137,12 +134,8 @@ impl Search {
     {
         let here = &self.seen.references[self.passed];
         let listed = list_at(alloc, rows, here)?;
-        let Ok(()) = self.sources.add_all(alloc, here, &listed) else {
-            return Err(Refused);
-        };
-        let Ok(()) = self.seen.extend(alloc, &listed) else {
-            return Err(Refused);
-        };
+        self.sources.add_all(alloc, here, &listed)?;
+        self.seen.extend(alloc, &listed)?;
         self.passed += 1;
         Ok(())
     }

@@ -28,4 +28,5 @@ mod shelf;
 pub use fuse::Fuse;
 pub use hdl_value::Octets;
 pub use plain::PlainRows;
+pub use row::value_with;
 pub use rows::{Refused, Rows};

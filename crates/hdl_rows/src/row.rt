@@ -5,6 +5,7 @@ ghost use Rattle.std.specs.List.{list_any, prefix_len};
 ghost use Rattle.std.specs.FinMap.{find, put, is_sorted};
 ghost use Rattle.std.specs.Ordering.{nat_cmp};
 ghost use Rattle.hdl_rows.specs.Shelf.{by_index, put_all};
+ghost use Rattle.hdl_rows.specs.Table.{value_with};
 
 use hdl_value::Value;
 use std::alloc::{AllocError, Global};
@@ -17,7 +18,14 @@ fn count_below(values: &[Value], index: u32) -> usize
     values.partition_point(|value| value.index < index)
 }
 
-/// The value with this index.
+/// The value with this index, where the values stand in any order.
+pub fn value_with(values: &[Value], index: u32) -> Option<&Value>
+    ensures found { option_copied result ≡ value_with index values.now }
+{
+    values.iter().find(|value| value.index == index)
+}
+
+/// The value with this index, found by halving.
 pub(crate) fn value_of(values: &[Value], index: u32) -> Option<&Value>
     requires ordered { IsTrue (is_sorted nat_cmp (by_index values.now)) }
     ensures { option_copied result ≡ find nat_cmp index (by_index values.now) }

@@ -7,10 +7,17 @@ ghost use Rattle.hdl_rows.specs.Table.{Table, has, at, values_of, values_in, nam
 
 use hdl_name::Name;
 use hdl_value::{Octets, Reference, Value};
+use std::alloc::AllocError;
 
 /// The store or memory refused. The table is as it was, and its count of refusals rose by one.
 #[derive(Clone, Copy, Debug, PartialEq, Eq, Drop)]
 pub struct Refused;
+
+impl From<AllocError> for Refused {
+    fn from(_: AllocError) -> Refused {
+        Refused
+    }
+}
 
 /// A finite set of canonical handles, and a finite map from places (canonical handle, index) to values.
 ///

@@ -1,4 +1,5 @@
-//! What the command lines of `handled`, `hdl` and `hdl proxy` share: the exit status behind faulty words, and the version.
+//! What the command lines of `handled`, `hdl` and `hdl proxy` share: the words themselves, the exit
+//! status behind faulty ones, and the version.
 //!
 //! A program that has words on its command line reads them with `clap`. Where these leave nothing to do, [`status_of_words`] says
 //! with which status it ends (docs/PROTOCOL.md, "The tenants text and scripts"). It stands in a crate of its own, so that its wrong
@@ -6,6 +7,10 @@
 #![tactic(auto)]
 
 ghost use Rattle.std.specs.Prelude.{◌≡◌, if◌then◌else◌};
+
+use std::alloc::AllocGlobal;
+use std::env::Env;
+use std::{env, io};
 
 /// The version of the product, and the kit that it is proved with.
 pub const VERSION: &str = "0.1.0 (Buckramjade; rattle-kit-13f logic dac8208d650f15bf)";
@@ -15,4 +20,10 @@ pub fn status_of_words(is_help: bool) -> u8
     ensures status { result ≡ (if is_help then 0 else 2) }
 {
     if is_help { 0 } else { 2 }
+}
+
+/// The words of the command line, the program's name first. An error where one is no text, or memory is refused.
+pub fn words_of<R: Env + AllocGlobal>(rt: &R) -> io::Result<Vec<String>> {
+    let words = env::args(rt)?.collect(rt.alloc())?;
+    Ok(words)
 }

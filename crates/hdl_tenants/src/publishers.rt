@@ -78,6 +78,13 @@ impl Publishers {
         Ok(())
     }
 
+    /// How many publishers there are.
+    pub fn len(&self) -> usize
+        ensures { result ≡ length self.now }
+    {
+        self.by_name.len()
+    }
+
     /// How many lanes the publishers have together.
     pub fn lanes(&self) -> u16
         ensures { result ≡ lane_count self.now }

@@ -198,6 +198,13 @@ impl Tenants {
         self.prefixes.algorithm(publisher, name.prefix())
     }
 
+    /// How many publishers there are.
+    pub fn publishers(&self) -> usize
+        ensures count { result ≡ length self.now.publishers }
+    {
+        self.publishers.len()
+    }
+
     /// Name, number of lanes and port of the publisher at this place, if there is one.
     pub fn publisher(&self, place: usize) -> Option<(&str, u16, u16)>
         ensures { MatchOption result (slice_get self.now.publishers place ≡ None)

@@ -1,5 +1,5 @@
 -- The permissions of a value and of an administrator, and the class of a value.
-use Rattle.std.specs.Prelude.{ℕ, Bool, not, ◌==◌, ◌&&◌, if◌then◌else◌, bit_and}
+use Rattle.std.specs.Prelude.{ℕ, zero, suc, ◌+◌, ◌/◌, ◌%◌, Bool, not, ◌==◌, ◌&&◌, if◌then◌else◌, List, [], ◌∷◌, bit_and}
 use Rattle.hdl_value.specs.declared.value.Value.{Value}
 use Rattle.hdl_value.specs.declared.permission.Permission.{Permission}
 use Rattle.hdl_value.specs.declared.permission.Permission.TheVariants.{PublicWrite, PublicRead, AdminWrite, AdminRead}
@@ -10,7 +10,12 @@ use Rattle.hdl_value.specs.declared.permission.AdminPermission.TheVariants.{AddH
 
 -- one of the bits is set
 abbrev pub has_bit : ℕ → ℕ → Bool
-has_bit bits bit = not (bit_and bits bit == 0)
+has_bit number bit = not (bit_and number bit == 0)
+
+-- so many binary digits of a number, the lowest first
+abbrev pub bits : ℕ → ℕ → List ℕ
+bits zero n = []
+bits (suc k) n = (48 + n % 2) ∷ bits k (n / 2)
 
 -- the bit of each permission in a value's octet
 abbrev pub permission_bit : Permission → ℕ

@@ -1,9 +1,8 @@
 //! The words of the command line.
 
 use clap::{Arg, ArgAction, ArgMatches, Command, Error, value_parser};
-use hdl_status::{VERSION, status_of_words};
+use hdl_status::{VERSION, status_of_words, words_of};
 use std::alloc::{AllocError, Global};
-use std::{env, io};
 
 /// How the program is called: ./hdl starts it where its first word is `proxy`.
 const NAME: &str = "hdl proxy";
@@ -84,11 +83,6 @@ fn proxy_words(alloc: Global, found: &ArgMatches<'_>) -> Result<ProxyWords, Allo
 fn parsed(alloc: Global, words: &[String]) -> Result<ProxyWords, Error> {
     let matches = command(alloc)?.try_get_matches_from(words)?;
     Ok(proxy_words(alloc, &matches)?)
-}
-
-fn words_of(rt: &HostRuntime) -> io::Result<Vec<String>> {
-    let words = env::args(rt)?.collect(rt.alloc())?;
-    Ok(words)
 }
 
 /// Reads the command line, and prints what `clap` has to say of it.

@@ -148,8 +148,12 @@ fn exchange<P: Packets, C: Clock, N: Nonces>(
     ensures received { IsTrue P.tells → P.received packets.new ≡ P.received packets.old }
     ensures moments { IsTrue C.tells → MomentsUsed (C.answers clock.old) (put_by line.old) (C.answers clock.new) (put_by line.new) }
     ensures nonces { IsTrue N.tells → NoncesUsed (N.answers nonces.old) (put_by line.old) (N.answers nonces.new) (put_by line.new) }
-    ensures traded { IsTrue P.tells → IsTrue result → TradesOn (peer, octets.now) (P.received packets.old) (P.sent packets.old) (P.fault_count packets.old) (put_by line.old) (taken_by line.old) (P.sent packets.new) (P.fault_count packets.new) (put_by line.new) (taken_by line.new) }
-    ensures cut { IsTrue P.tells → IsFalse result → MostTradesOn (peer, octets.now) (P.received packets.old) (P.sent packets.old) (P.fault_count packets.old) (put_by line.old) (taken_by line.old) (P.sent packets.new) (P.fault_count packets.new) (put_by line.new) (taken_by line.new) }
+    ensures traded { IsTrue P.tells → IsTrue result → TradesOn (peer, octets.now) (P.received packets.old)
+        (P.sent packets.old) (P.fault_count packets.old) (put_by line.old) (taken_by line.old)
+        (P.sent packets.new) (P.fault_count packets.new) (put_by line.new) (taken_by line.new) }
+    ensures cut { IsTrue P.tells → IsFalse result → MostTradesOn (peer, octets.now) (P.received packets.old)
+        (P.sent packets.old) (P.fault_count packets.old) (put_by line.old) (taken_by line.old)
+        (P.sent packets.new) (P.fault_count packets.new) (put_by line.new) (taken_by line.new) }
 {
     match copy(alloc, octets, turns) {
         Err(_) => return false,
@@ -182,8 +186,12 @@ fn serve_datagram<P: Packets, C: Clock, N: Nonces>(
     ensures received { IsTrue P.tells → P.received packets.new ≡ P.received packets.old }
     ensures moments { IsTrue C.tells → MomentsUsed (C.answers clock.old) (put_by line.old) (C.answers clock.new) (put_by line.new) }
     ensures nonces { IsTrue N.tells → NoncesUsed (N.answers nonces.old) (put_by line.old) (N.answers nonces.new) (put_by line.new) }
-    ensures traded { IsTrue P.tells → IsTrue result → TradesOn (peer, octets.now) (P.received packets.old) (P.sent packets.old) (P.fault_count packets.old) (put_by line.old) (taken_by line.old) (P.sent packets.new) (P.fault_count packets.new) (put_by line.new) (taken_by line.new) }
-    ensures cut { IsTrue P.tells → IsFalse result → MostTradesOn (peer, octets.now) (P.received packets.old) (P.sent packets.old) (P.fault_count packets.old) (put_by line.old) (taken_by line.old) (P.sent packets.new) (P.fault_count packets.new) (put_by line.new) (taken_by line.new) }
+    ensures traded { IsTrue P.tells → IsTrue result → TradesOn (peer, octets.now) (P.received packets.old)
+        (P.sent packets.old) (P.fault_count packets.old) (put_by line.old) (taken_by line.old)
+        (P.sent packets.new) (P.fault_count packets.new) (put_by line.new) (taken_by line.new) }
+    ensures cut { IsTrue P.tells → IsFalse result → MostTradesOn (peer, octets.now) (P.received packets.old)
+        (P.sent packets.old) (P.fault_count packets.old) (put_by line.old) (taken_by line.old)
+        (P.sent packets.new) (P.fault_count packets.new) (put_by line.new) (taken_by line.new) }
 {
     match one_datagram(octets) {
         Ok(_) => exchange(alloc, packets, line, clock, nonces, turns, peer, octets),
@@ -272,8 +280,10 @@ pub fn packet_worker<P: Packets, C: Clock, N: Nonces>(
     ensures device { result.why ≡ Device → (P.fault_count packets.old < P.fault_count packets.new) ⊎ (P.fault_count packets.old ≡ 2 ^ 64 - 1) }
     ensures moments { IsTrue C.tells → Gives 0 (C.answers clock.old) (moments_of (all_put result.ended)) (C.answers clock.new) }
     ensures nonces { IsTrue N.tells → Gives (replicate 16 0) (N.answers nonces.old) (nonces_of (all_put result.ended)) (N.answers nonces.new) }
-    ensures whole { IsTrue P.tells → result.why ≡ Device → (events : List Item) × WithEnd events (all_put result.ended) × Traded (P.received packets.new) (P.sent packets.new) (P.fault_count packets.old) (P.fault_count packets.new) events (taken_from result.outlet) }
-    ensures trades { IsTrue P.tells → (events : List Item) × WithEnd events (all_put result.ended) × Trades (P.received packets.new) (P.sent packets.new) (P.fault_count packets.old) (P.fault_count packets.new) events (taken_from result.outlet) }
+    ensures whole { IsTrue P.tells → result.why ≡ Device → (events : List Item) × WithEnd events (all_put result.ended)
+        × Traded (P.received packets.new) (P.sent packets.new) (P.fault_count packets.old) (P.fault_count packets.new) events (taken_from result.outlet) }
+    ensures trades { IsTrue P.tells → (events : List Item) × WithEnd events (all_put result.ended)
+        × Trades (P.received packets.new) (P.sent packets.new) (P.fault_count packets.old) (P.fault_count packets.new) events (taken_from result.outlet) }
 {
     let mut turns = turns;
     let mut line = Line {

@@ -1,6 +1,6 @@
 use Rattle.std.proofs.Common.{◌++◌}
-use Rattle.hdl_lines.specs.Fields.{bits}
-use Rattle.hdl_lines.proofs.Readings.{bits_on}
+use Rattle.hdl_value.specs.Permission.{bits}
+use Rattle.hdl_value.proofs.Bits.{bits_on}
 use Rattle.hdl_lines.proofs.fields.put_bits.Goals as goal
 
 pub loop-preserved : goal.loop-preserved

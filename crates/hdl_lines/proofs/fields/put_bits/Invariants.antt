@@ -1,5 +1,5 @@
 use Rattle.std.proofs.Common.{◌≡◌, ◌-◌, ◌++◌}
-use Rattle.hdl_lines.specs.Fields.{bits}
+use Rattle.hdl_value.specs.Permission.{bits}
 use Rattle.hdl_lines.proofs.fields.put_bits.Given as goal
 
 abbrev pub invariant-loop : goal.invariant-loop

@@ -1,6 +1,6 @@
 use Rattle.std.proofs.Common.{◌≡◌, ◌++◌, ◌∷◌, [], ◌%◌, ◌+◌, string_bytes, rules}
-use Rattle.hdl_proxy.specs.Words.{bits}
-use Rattle.hdl_proxy.proofs.Bits.{bits_on, bits_end}
+use Rattle.hdl_value.specs.Permission.{bits}
+use Rattle.hdl_value.proofs.Bits.{bits_on, bits_end}
 use Rattle.hdl_proxy.proofs.words.put_bits.Goals as goal
 
 pub loop-preserved : goal.loop-preserved

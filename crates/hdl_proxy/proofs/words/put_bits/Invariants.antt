@@ -1,5 +1,5 @@
 use Rattle.std.proofs.Common.{◌≡◌, ◌-◌, ◌++◌, string_bytes}
-use Rattle.hdl_proxy.specs.Words.{bits}
+use Rattle.hdl_value.specs.Permission.{bits}
 use Rattle.hdl_proxy.proofs.words.put_bits.Given as goal
 
 abbrev pub invariant-loop : goal.invariant-loop

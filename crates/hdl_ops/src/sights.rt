@@ -1,15 +1,15 @@
-//! What a resolution asks for, and values by their index.
+//! What a resolution asks for, and the classes of values.
 
-ghost use Rattle.std.specs.Prelude.{◌≡◌, ◌==◌, length, option_copied};
+ghost use Rattle.std.specs.Prelude.{◌≡◌, ◌==◌, length};
 ghost use Rattle.std.specs.List.{list_any};
 ghost use Rattle.hdl_value.specs.Permission.{is_public, is_kept};
 ghost use Rattle.hdl_value.specs.Refs.{is_admin};
-ghost use Rattle.hdl_rows.specs.Table.{value_with};
 ghost use Rattle.hdl_msg.specs.Bodies.{operation_of};
 ghost use Rattle.hdl_msg.specs.Views.{numbers_of, strings_of};
 ghost use Rattle.hdl_ops.specs.Sights.{matches, is_named, asks, passes_at};
 
 use hdl_msg::{Body, Numbers, Strings};
+use hdl_rows::value_with;
 use hdl_value::{Class, Value};
 
 /// A listed type matches the type of a value.
@@ -75,18 +75,11 @@ pub(crate) fn is_kept(value: &Value) -> bool
     value.class() == Class::Kept
 }
 
-/// The value of this index.
-pub(crate) fn value_with(index: u32, values: &[Value]) -> Option<&Value>
-    ensures { option_copied result ≡ value_with index values.now }
-{
-    values.iter().find(|value| value.index == index)
-}
-
 /// The value of this index is there, and is an HS_ADMIN value.
 pub(crate) fn is_admin_at(values: &[Value], index: u32) -> bool
     ensures { result ≡ passes_at is_admin values.now index }
 {
-    match value_with(index, values) {
+    match value_with(values, index) {
         Some(value) => value.is_admin(),
         None => false,
     }
