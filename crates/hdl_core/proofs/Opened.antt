@@ -12,7 +12,7 @@ use Rattle.std.specs.FinSet as set
 use Rattle.hdl_name.specs.Name.{canonical}
 use Rattle.hdl_value.specs.declared.value.Value.{Value}
 use Rattle.hdl_value.specs.Place.{Place, handle_cmp, place_cmp, same_handle, same_place}
-use Rattle.hdl_value.proofs.Places.{handle_total, handle_antisymmetric, place_total, place_antisymmetric, handles_equal, places_equal}
+use Rattle.hdl_value.proofs.Places.{handle_total, handle_antisymmetric, place_total, place_antisymmetric, handles_equal, places_equal, insert_member}
 use Rattle.hdl_rows.specs.Table.{Table, has, at, created, with_values}
 use Rattle.hdl_tenants.specs.Register as register
 use Rattle.hdl_tenants.specs.Register.{Register, Publisher, Row, place, lane_count, owner_among, AreDistinct, IsRegister}
@@ -27,19 +27,11 @@ use Rattle.hdl_core.proofs.Places.{owner_of, lane_of_world}
 
 -- ---- one row
 
--- a handle that is there is put into the set without a change
-insert_member : (t : Table) (h : List ℕ) → has t h ≡ true → set.insert t.handles h ≡ t.handles
-insert_member t h there = set.same_set handle_total handle_antisymmetric _ _ (λ q. set.contains-insert handle_total t.handles h q ∙ by q (same_handle q h) refl)
-  where
-    by : (q : List ℕ) (b : Bool) → same_handle q h ≡ b → (b || set.contains t.handles q) ≡ set.contains t.handles q
-    by q true e = sym (ap (set.contains t.handles) (handles_equal q h e) ∙ there)
-    by q false e = refl
-
 pub row_created : (t : Table) (name : List ℕ) (v : Value) → created t (canonical name) (v ∷ []) ≡ with_row t (name, v)
 row_created t name v = refl
 
 pub row_added : (t : Table) (name : List ℕ) (v : Value) → has t (canonical name) ≡ true → with_values t (canonical name) (v ∷ []) ≡ with_row t (name, v)
-row_added t name v there = λ i. record { handles = sym (insert_member t (canonical name) there) i; values = map.insert t.values (place (name, v)) v }
+row_added t name v there = λ i. record { handles = sym (insert_member t.handles (canonical name) there) i; values = map.insert t.values (place (name, v)) v }
 
 -- ---- all rows
 

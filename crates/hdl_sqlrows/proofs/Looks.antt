@@ -1,5 +1,5 @@
 -- What a look within a transaction leaves, and what it answers.
-use Rattle.std.proofs.Common.{◌≡◌, ◌⊎◌, inl, inr, ℕ, List, Bool, true, false, ◌||◌, None, Some, Option, IsTrue, refl, sym, ap, subst, ◌∙◌}
+use Rattle.std.proofs.Common.{◌≡◌, ◌⊎◌, inl, inr, ℕ, List, true, None, Some, Option, IsTrue, refl, sym, ap, subst, ◌∙◌}
 use Rattle.std.specs.FinSet as set
 use Rattle.sqlite_value.specs.Order.{Row}
 use Rattle.sqlite_schema.specs.declared.command.Returning.{Returning}
@@ -10,8 +10,7 @@ use Rattle.sqlite.specs.Effect.{Database}
 use Rattle.sqlite.specs.Listing.{understood}
 use Rattle.sqlite.specs.State.{State, Shown, ShowsRows, IsUnchanged, FailsToQuery, IsTooLate}
 use Rattle.sqlite.proofs.Callers.{IsPlain}
-use Rattle.hdl_value.specs.Place.{handle_cmp, same_handle}
-use Rattle.hdl_value.proofs.Places.{handle_total, handle_antisymmetric, handles_equal}
+use Rattle.hdl_value.proofs.Places.{insert_member}
 use Rattle.hdl_rows.specs.Table.{has}
 use Rattle.hdl_sqlrows.specs.Layout.{layout}
 use Rattle.hdl_sqlrows.specs.Kept.{IsInside, IsWhole, table_in}
@@ -43,14 +42,6 @@ stays_committed old new up (inr back) = (back.was_open up, (back.undone up).1)
 pub look_fails : (old new : State) (sql : List ℕ) (params : Row) (e : Error) → IsTrue new.is_open → FailsToQuery sql params old new e ⊎ IsTooLate sql params old new e → IsTrue old.is_open × (new.committed ≡ old.committed)
 look_fails old new sql params e up (inl h) = stays_committed old new up (query_fails old new sql params e h)
 look_fails old new sql params e up (inr late) = (late.5.0.was_open, late.5.0.committed_is)
-
--- a member is put into a set without a change
-pub insert_member : (s : set.FinSet handle_cmp) (h : List ℕ) → set.contains s h ≡ true → set.insert s h ≡ s
-insert_member s h there = set.same_set handle_total handle_antisymmetric _ _ (λ q. set.contains-insert handle_total s h q ∙ by q (same_handle q h) refl)
-  where
-    by : (q : List ℕ) (b : Bool) → same_handle q h ≡ b → (b || set.contains s q) ≡ set.contains s q
-    by q true e = sym (ap (set.contains s) (handles_equal q h e) ∙ there)
-    by q false e = refl
 
 pub looks_inside : (old new : State) → IsInside old → OnlyLooks old new → IsInside new
 looks_inside old new inside looks = record { whole = subst IsWhole (sym looks.now) inside.whole; inside = looks.mode ∙ inside.inside }

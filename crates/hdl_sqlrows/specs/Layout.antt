@@ -14,16 +14,6 @@ use Rattle.sqlite_schema.specs.declared.schema.Schema.{Schema}
 use Rattle.sqlite_value.specs.Keys.{plain}
 use Rattle.sqlite_catalog.specs.Change.{created}
 
--- the texts that make them
-abbrev pub create_handles : List ℕ
-create_handles = codes "CREATE TABLE handles (name BLOB NOT NULL PRIMARY KEY, authority BLOB NOT NULL) STRICT"
-
-abbrev pub create_entries : List ℕ
-create_entries = codes "CREATE TABLE entries (name BLOB NOT NULL REFERENCES handles (name) ON DELETE CASCADE, idx INTEGER NOT NULL, kind BLOB NOT NULL, bytes BLOB NOT NULL, ttl BLOB NOT NULL, perm INTEGER NOT NULL, stamp BLOB NOT NULL, refs BLOB NOT NULL, PRIMARY KEY (name, idx)) STRICT"
-
-abbrev pub create_opened : List ℕ
-create_opened = codes "CREATE TABLE opened (name BLOB NOT NULL PRIMARY KEY) STRICT"
-
 -- a column of this kind that is never null
 abbrev pub required : List ℕ → Kind → Column
 required name kind = record { name = name; kind = kind; is_strict = true; not_null = true; default = Null; collation = Binary }

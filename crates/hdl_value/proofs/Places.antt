@@ -1,9 +1,10 @@
 -- The orders of handles and of places are total, and only equal ones tie.
-use Rattle.std.proofs.Common.{◌≡◌, ℕ, List, true, T, refl, sym, ap, subst, Ordering, Less, Equal, Greater, is_eq, IsTrue}
+use Rattle.std.proofs.Common.{◌≡◌, ℕ, List, Bool, true, false, ◌||◌, T, refl, sym, ap, subst, ◌∙◌, Ordering, Less, Equal, Greater, is_eq, IsTrue}
 use Rattle.std.specs.Ordering.{nat_cmp, ordering_then}
 use Rattle.std.specs.Cmp.{IsTotalOrder, then_total, on_total, nat_cmp_total, tied_itself}
 use Rattle.std.specs.Cmp.Lexicographic.{nat_list_cmp_total}
 use Rattle.std.specs.FinMap.{IsAntisymmetric, nat_cmp-IsAntisymmetric, slice_cmp-IsAntisymmetric}
+use Rattle.std.specs.FinSet as set
 use Rattle.hdl_value.specs.Place.{Place, handle_cmp, place_cmp, same_handle, same_place}
 
 pub handle_total : IsTotalOrder handle_cmp
@@ -44,3 +45,13 @@ places_equal p q e = place_antisymmetric p q (tied _ e)
 
 pub place_itself : (p : Place) → IsTrue (same_place p p)
 place_itself p = ap is_eq (tied_itself place_total p)
+
+-- ---- sets of handles
+
+-- a member is put into a set without a change
+pub insert_member : (s : set.FinSet handle_cmp) (h : List ℕ) → set.contains s h ≡ true → set.insert s h ≡ s
+insert_member s h there = set.same_set handle_total handle_antisymmetric _ _ (λ q. set.contains-insert handle_total s h q ∙ by q (same_handle q h) refl)
+  where
+    by : (q : List ℕ) (b : Bool) → same_handle q h ≡ b → (b || set.contains s q) ≡ set.contains s q
+    by q true e = sym (ap (set.contains s) (handles_equal q h e) ∙ there)
+    by q false e = refl

@@ -2,7 +2,7 @@ use Rattle.std.proofs.Common.{◌∙◌, sym, ap}
 use Rattle.sqlite.specs.Effect.{Database}
 use Rattle.sqlite.specs.Held.{state}
 use Rattle.hdl_sqlrows.specs.Opening.{base_in}
-use Rattle.hdl_sqlrows.proofs.Looks.{insert_member}
+use Rattle.hdl_value.proofs.Places.{insert_member}
 use Rattle.hdl_sqlrows.proofs.opening.note_once.Goals as goal
 
 pub returns-then-branch-clause-noted : goal.returns-then-branch-clause-noted
