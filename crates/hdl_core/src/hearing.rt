@@ -17,8 +17,8 @@ use hdl_laws::Octets;
 use hdl_limits::CHALLENGE_LIFE;
 use hdl_msg::{Request, ResponseCode, read_request};
 use hdl_ops::{
-    Asked, Level, Masks, Owner, Proof, Refused, Response, Rows, decide, render_challenge,
-    request_algorithm, response_of,
+    Asked, Level, Masks, NamedRequest, Owner, Proof, Refused, Response, Rows, decide,
+    render_challenge, response_of,
 };
 use hdl_slots::Pending;
 use std::alloc::Global;
@@ -61,9 +61,9 @@ fn ask<R: Rows>(
     ensures undone { OnErr result (R.content rows.new ≡ R.content rows.old) }
     ensures true_masks { AreTrue (R.content rows.new) masks.new }
 {
-    let algorithm = request_algorithm(owner, request)?;
-    let asked = Asked { algorithm, request };
-    let decision = decide(owner, &asked, rows, masks, &Level::Anyone)?;
+    let named = NamedRequest::of_owner(owner, request)?;
+    let asked = named.asked;
+    let decision = decide(owner, named, rows, masks, &Level::Anyone)?;
     if decision.code == ResponseCode::AuthenticationNeeded {
         return challenge(owner.alloc, &asked, letter, next);
     }
@@ -113,7 +113,8 @@ fn redeem<R: Rows>(
         nonce: &pending.nonce,
         digest: &pending.digest,
     };
-    let decision = decide(owner, &asked, rows, masks, &Level::Proven(proof))?;
+    let named = NamedRequest::read(owner.alloc, asked)?;
+    let decision = decide(owner, named, rows, masks, &Level::Proven(proof))?;
     answer(owner.alloc, &asked, rows, masks, letter, decision)
 }
 

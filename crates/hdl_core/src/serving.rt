@@ -23,7 +23,9 @@ fn message_of(octets: Octets) -> Vec<u8>
     ensures { result.items ≡ drop 20 octets }
 {
     let mut message = octets.into_vec();
-    message.drain(..ENVELOPE_LEN.min(message.len()));
+    let start = ENVELOPE_LEN.min(message.len());
+    message.copy_within(start.., 0);
+    message.truncate(message.len() - start);
     message
 }
 

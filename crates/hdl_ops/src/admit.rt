@@ -4,9 +4,10 @@ ghost use Rattle.std.specs.Prelude.{◌≡◌, ◌≤◌, length, option_map, If
 ghost use Rattle.hdl_name.specs.Name.{canonical, sent_prefix};
 ghost use Rattle.hdl_name.specs.Tests.{is_handle};
 ghost use Rattle.hdl_ops.specs.Admission.{handle_in, request_algorithm};
+ghost use Rattle.hdl_ops.specs.Requests.{named};
 ghost use Rattle.hdl_ops.specs.Views.{algorithms_by, hosted_by, IsAdmitted};
 
-use crate::decision::Decision;
+use crate::decision::{Asked, Decision};
 use crate::owner::Owner;
 use crate::requests::{is_list, is_unused, makes_or_ends, named};
 use crate::written::is_bad_write;
@@ -47,18 +48,49 @@ pub(crate) fn read_name(alloc: Global, octets: &[u8]) -> Result<Option<Name>, Re
     }
 }
 
-/// The hash function of a request on a lane of the publisher: that of the prefix of the handle that it names, where this is
-/// hosted for the publisher, else SHA-1.
-pub fn request_algorithm(owner: &Owner<'_>, request: &Request<'_>) -> Result<Algorithm, Refused>
-    ensures { IfOk result (λ a. a ≡ request_algorithm (algorithms_by owner.now) request.now) }
-{
-    let octets = named(request.body());
-    if !is_name(octets) {
-        return Ok(Algorithm::Sha1);
+/// A request whose name is read.
+#[derive(Drop)]
+pub struct NamedRequest<'a> {
+    pub asked: Asked<'a>,
+    /// The handle that it names, if that is a name.
+    name: Option<Name>,
+    ghost handle: { option_map canonical name ≡ handle_in (named asked.request.now.operation) },
+    ghost sent: { IfSome name (λ name. name ≡ named asked.request.now.operation) },
+}
+
+impl<'a> NamedRequest<'a> {
+    /// Reads the name of a request on a lane of its owner. Its hash function is that of the prefix of the handle that it names, where
+    /// this is hosted for the owner, else SHA-1. Refused only for want of memory.
+    #[tactic(auto, unfolding(crate::specs::Admission::handle_in))]
+    pub fn of_owner(
+        owner: &Owner<'_>,
+        request: &'a Request<'a>,
+    ) -> Result<NamedRequest<'a>, Refused>
+        ensures asked { IfOk result (λ named. named.asked ≡ record { algorithm = request_algorithm (algorithms_by owner.now) request.now; request = request }) }
+    {
+        let octets = named(request.body());
+        if !is_name(octets) {
+            let algorithm = Algorithm::Sha1;
+            let asked = Asked { algorithm, request };
+            return Ok(NamedRequest { asked, name: None });
+        }
+        let Ok(name) = Name::read(owner.alloc, octets) else {
+            return Err(Refused);
+        };
+        let algorithm = owner.tenants.algorithm(owner.publisher, &name);
+        let asked = Asked { algorithm, request };
+        Ok(NamedRequest {
+            asked,
+            name: Some(name),
+        })
     }
-    match Name::read(owner.alloc, octets) {
-        Ok(name) => Ok(owner.tenants.algorithm(owner.publisher, &name)),
-        Err(_) => Err(Refused),
+
+    /// Reads the name of a request whose hash function is known. Refused only for want of memory.
+    pub fn read(alloc: Global, asked: Asked<'a>) -> Result<NamedRequest<'a>, Refused>
+        ensures asked { IfOk result (λ named. named.asked ≡ asked) }
+    {
+        let name = read_name(alloc, named(asked.request.body()))?;
+        Ok(NamedRequest { asked, name })
     }
 }
 
@@ -80,16 +112,16 @@ fn failed(code: ResponseCode, content: ReplyContent) -> Admitted
     })
 }
 
-/// Tests the request before the table is looked at, and reads its name.
+/// Tests the request before the table is looked at.
 #[tactic(auto, unfolding(crate::specs::First::first, crate::specs::Admission::refusal, crate::specs::Decisions::refused), using(crate::proofs::Lengths::empty_fits, crate::proofs::Lengths::referral_fits))]
-pub(crate) fn admit(owner: &Owner<'_>, request: &Request<'_>) -> Result<Admitted, Refused>
-    ensures { IfOk result (λ admitted. IsAdmitted (hosted_by owner.now) request.now admitted) }
+pub(crate) fn admit(owner: &Owner<'_>, request: NamedRequest<'_>) -> Result<Admitted, Refused>
+    ensures { IfOk result (λ admitted. IsAdmitted (hosted_by owner.now) request.asked.request.now admitted) }
 {
-    let body = request.body();
+    let body = request.asked.request.body();
     if is_unused(body) {
         return Ok(failed(ResponseCode::OperationDenied, ReplyContent::Empty));
     }
-    let Some(name) = read_name(owner.alloc, named(body))? else {
+    let Some(name) = request.name else {
         return Ok(failed(ResponseCode::InvalidHandle, ReplyContent::Empty));
     };
     if is_list(body) && !name.is_admin_handle() {

@@ -13,7 +13,7 @@ ghost use Rattle.hdl_ops.specs.Sights.{sight};
 ghost use Rattle.hdl_ops.specs.Tables.{CanApply};
 ghost use Rattle.hdl_ops.specs.Views.{decision_of, hosted_by, level_of, proof_of, sight_of};
 
-use crate::admit::{Admitted, admit};
+use crate::admit::{Admitted, NamedRequest, admit};
 use crate::anyone::code_for_anyone;
 use crate::decision::{Asked, Decision, Level, Proof, Sight};
 use crate::keys::code_for_proof;
@@ -124,7 +124,7 @@ fn decide_with_proof<R: Rows>(
 /// it was. What is carried fits into the message of a reply, and a change meets the conditions of its write.
 pub fn decide<R: Rows>(
     owner: &Owner<'_>,
-    asked: &Asked<'_>,
+    request: NamedRequest<'_>,
     rows: &mut R,
     masks: &mut Masks,
     level: &Level<'_>,
@@ -132,17 +132,18 @@ pub fn decide<R: Rows>(
     requires true_masks { AreTrue (R.content rows.old) masks.old }
     ensures unchanged { R.content rows.new ≡ R.content rows.old }
     ensures true_masks { AreTrue (R.content rows.new) masks.new }
-    ensures decided { IfOk result (λ d. Decides (hosted_by owner.now) asked.now.algorithm (R.content rows.old) asked.now.request.now (level_of level.now) (decision_of d)) }
-    ensures carried { IfOk result (λ d. IsTrue (fits asked.now.algorithm asked.now.request.now d.content)) }
+    ensures decided { IfOk result (λ d. Decides (hosted_by owner.now) request.asked.algorithm (R.content rows.old) request.asked.request.now (level_of level.now) (decision_of d)) }
+    ensures carried { IfOk result (λ d. IsTrue (fits request.asked.algorithm request.asked.request.now d.content)) }
     ensures can_apply { IfOk result (λ d. IfSome d.change (λ change. CanApply (R.content rows.old) change)) }
     ensures count { IsCounted result (R.refused rows.old) (R.refused rows.new) }
 {
     let alloc = owner.alloc;
-    match admit(owner, asked.request)? {
+    let asked = request.asked;
+    match admit(owner, request)? {
         Admitted::Refused(decision) => Ok(decision),
         Admitted::Passed(name) => match level {
-            Level::Anyone => decide_for_anyone(alloc, asked, rows, name),
-            Level::Proven(proof) => decide_with_proof(alloc, asked, rows, masks, name, proof),
+            Level::Anyone => decide_for_anyone(alloc, &asked, rows, name),
+            Level::Proven(proof) => decide_with_proof(alloc, &asked, rows, masks, name, proof),
         },
     }
 }

@@ -29,7 +29,7 @@ mod settle;
 mod sights;
 mod written;
 
-pub use admit::request_algorithm;
+pub use admit::NamedRequest;
 pub use change::{Change, apply};
 pub use deciding::decide;
 pub use decision::{Asked, Decision, Level, Proof};

@@ -1,7 +1,8 @@
 use Rattle.std.proofs.Common.{ℕ, List, sym, ap, ◌∙◌, subst}
 use Rattle.hdl_msg.specs.Message.{SpellsRequest}
 use Rattle.hdl_ops.proofs.Announced.{answer_announced_lem, proven_code, timeout_announced}
-use Rattle.hdl_ops.specs.Decisions.{Proven}
+use Rattle.hdl_ops.specs.Decisions.{Decides, Proven}
+use Rattle.hdl_ops.specs.declared.decision.Asked.{Asked}
 use Rattle.hdl_ops.specs.Proven.{Proof}
 use Rattle.hdl_ops.specs.Tables.{apply_if}
 use Rattle.hdl_ops.specs.Views.{algorithms_by, decision_of, hosted_by, response_view}
@@ -24,10 +25,14 @@ returns-then-is_late-clause-redeemed g c =
 
 pub returns-clause-redeemed : goal.returns-clause-redeemed
 returns-clause-redeemed g c =
+    let hosts = hosted_by c.args.owner.now in
+    let t = g.R.Rows.content c.args.rows.now in
+    let p : Proof = record { response = response_view c.args.response; nonce = c.args.pending.now.nonce; digest = c.args.pending.now.digest } in
+    let d = decision_of c.in_ok-decision.decision in
     on_both c.answer.result _ _ _
-    (λ octets is table. proven (hosted_by c.args.owner.now) (algorithms_by c.args.owner.now) (g.R.Rows.content c.args.rows.now) c.args.letter.now (response_view c.args.response) c.args.pending.now c.in-Ok.request c.algorithm.result (decision_of c.in_ok-decision.decision) octets (g.R.Rows.content c.answer.new.rows) c.algorithm.ensures
+    (λ octets is table. proven hosts (algorithms_by c.args.owner.now) t c.args.letter.now (response_view c.args.response) c.args.pending.now c.in-Ok.request c.algorithm.result d octets (g.R.Rows.content c.answer.new.rows) c.algorithm.ensures
     (subst (λ (b : List ℕ). SpellsRequest b c.in-Ok.request) c.as_slice.ensures c.in-Ok.ensures.read) (λ message. sym c.if-is_late.false ∙ c.is_late.ensures message)
-    c.in_ok-decision.ensures.decided is (table ∙ ap (λ t. apply_if t c.args.letter.now.moment c.in_ok-decision.decision.change) c.decide.ensures.unchanged))
+    (subst (λ (x : Asked). Decides hosts x.algorithm t x.request.now (Proven p) d) c.in_ok-named.ensures c.in_ok-decision.ensures.decided) is (table ∙ ap (λ t. apply_if t c.args.letter.now.moment c.in_ok-decision.decision.change) c.decide.ensures.unchanged))
     c.answer.ensures.reply c.answer.ensures.done
 
 pub returns-then-is_late-clause-read : goal.returns-then-is_late-clause-read
@@ -43,6 +48,7 @@ returns-clause-read g c =
     let t = g.R.Rows.content c.args.rows.now in
     let p : Proof = record { response = response_view c.args.response; nonce = c.args.pending.now.nonce; digest = c.args.pending.now.digest } in
     let d = decision_of c.in_ok-decision.decision in
+    let decided = subst (λ (x : Asked). Decides hosts x.algorithm t x.request.now (Proven p) d) c.in_ok-named.ensures c.in_ok-decision.ensures.decided in
     on_ok c.answer.result _ _
-    (λ octets reads. reads (answer_announced_lem hosts c.algorithm.result t r (Proven p) d e.session e.request c.in-Ok.ensures.read.has_code c.in_ok-decision.ensures.decided (proven_code hosts c.algorithm.result t r p d c.in_ok-decision.ensures.decided)))
+    (λ octets reads. reads (answer_announced_lem hosts c.algorithm.result t r (Proven p) d e.session e.request c.in-Ok.ensures.read.has_code decided (proven_code hosts c.algorithm.result t r p d decided)))
     c.answer.ensures.read
