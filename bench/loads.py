@@ -4,8 +4,10 @@ Every server holds the same: a number of handles, `10/000000` and on, each with 
 handle that it asks for into each request and expects it in the reply, twice where the value's text comes back.
 """
 
+import contextlib
 import os
 import socket
+import sqlite3
 import struct
 import subprocess
 import sys
@@ -98,13 +100,30 @@ class Server:
         self.process.wait()
 
 
-def start_handled(program, lanes, values):
-    """`handled serve`; a program `PATH@NAME=VALUE` has that in its environment, as `LD_PRELOAD`."""
+def start_handled(program, lanes, values, table=None):
+    """`handled serve`, over a table in a file where one is named, which has its handles; a program `PATH@NAME=VALUE` has that in its
+    environment, as `LD_PRELOAD`."""
     words = program.split("@")
     environment = dict(os.environ, **dict(word.split("=", 1) for word in words[1:]))
+    options, values = (("--table", table), 0) if table else ((), values)
     begin = time.monotonic()
-    process, (port,) = servers.serve(lambda port: tenants(lanes, port, values), 1, words[0], env=environment)
+    process, (port,) = servers.serve(lambda port: tenants(lanes, port, values), 1, words[0], options, env=environment)
     return Server(process, port, request(0), reply(0), time.monotonic() - begin)
+
+
+def fill(file, rows):
+    """Has SQLite put handles into a file that the program made: each a name, and the type and the data of its one value."""
+    with contextlib.closing(sqlite3.connect(file)) as conn, conn:
+        for name, kind, data in rows:
+            conn.execute("INSERT INTO handles (name, authority) VALUES (?, ?)", (name, b"10"))
+            conn.execute("INSERT INTO entries (name, idx, kind, bytes, ttl, perm, stamp, refs) VALUES (?, 1, ?, ?, ?, 14, ?, ?)",
+                         (name, kind, data, bytes.fromhex("0000015180"), bytes(8), bytes(4)))
+
+
+def make_table(program, file, values):
+    """A table in a file with so many handles."""
+    start_handled(program, 2, 0, file).stop()
+    fill(file, ((handle(number), b"URL", text(number)) for number in range(values)))
 
 
 def bulk(octets):

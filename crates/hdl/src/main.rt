@@ -5,6 +5,7 @@
 //! hdl batch < BATCH                                   many requests of a server, over one connection
 //! hdl explain [--keys] < LINES                        each line of a script, of what handled prints, or of octets alone, in words
 //! hdl script < WORDS, hdl tenants < WORDS             words to the lines that handled takes
+//! hdl init PREFIX.., hdl key                          a tenants text in words for new publishers; a fresh secret
 //! ```
 //!
 //! It is the command line of `hdl_commands`, which stands on the codecs that the service stands on: what it sends is in the grammar,
@@ -13,7 +14,10 @@
 
 mod words;
 
-use hdl_commands::{BatchFault, Page, ask, explain, run_batch_text, write_script, write_tenants};
+use hdl_commands::{
+    BatchFault, Page, ask, explain, fresh_secret, run_batch_text, write_fresh_tenants,
+    write_script, write_tenants,
+};
 use std::io::{self, Read};
 use std::process::ExitCode;
 use words::{Asked, read_words};
@@ -72,6 +76,28 @@ fn tenants_all(rt: &HostRuntime) -> io::Result<u8> {
     print_made(rt, write_tenants(rt.alloc(), &text))
 }
 
+/// What the operator does with the text of `hdl init`.
+const NEXT: &str = "\
+    hdl: keep the text where nobody else reads it (chmod 600): it holds the secrets of its publishers, in the lines HS_SECKEY\n\
+    hdl: to start: hdl tenants < TEXT > publishers.tenants, then handled serve --table handles.db < publishers.tenants\n\
+    hdl: to create: a secret in HDL_SECRET, then hdl create PREFIX/NAME VALUE.. --key 300:0.NA/PREFIX\n";
+
+fn init(rt: &HostRuntime, prefixes: &[String]) -> io::Result<u8> {
+    let status = print_made(rt, write_fresh_tenants(rt, prefixes))?;
+    if status == 0 {
+        let _ = eprint!(rt; "{NEXT}");
+    }
+    Ok(status)
+}
+
+fn key(rt: &HostRuntime) -> io::Result<u8> {
+    let line = match fresh_secret(rt) {
+        Ok(secret) => Ok(format!(in rt.alloc(); "{secret}\n")?),
+        Err(fault) => Err(fault),
+    };
+    print_made(rt, line)
+}
+
 /// Does what the command line asks for, and answers the exit status.
 fn run(rt: &HostRuntime) -> io::Result<u8> {
     match read_words(rt) {
@@ -83,6 +109,8 @@ fn run(rt: &HostRuntime) -> io::Result<u8> {
         Asked::Batch { server } => batch_all(rt, &server),
         Asked::Script => script_all(rt),
         Asked::Tenants => tenants_all(rt),
+        Asked::Init { prefixes } => init(rt, &prefixes),
+        Asked::Key => key(rt),
         Asked::Ended(status) => Ok(status),
     }
 }

@@ -22,6 +22,10 @@ pub enum Asked {
     Script,
     /// The tenants text of the words on standard input.
     Tenants,
+    /// A tenants text in words for new publishers.
+    Init { prefixes: Vec<String> },
+    /// A fresh secret.
+    Key,
     /// Nothing: help, the version or a fault was printed, and this is the exit status.
     Ended(u8),
 }
@@ -125,6 +129,20 @@ fn batch<'a>(alloc: Global) -> Result<Command<'a>, AllocError> {
         .arg(server(alloc))
 }
 
+fn init<'a>(alloc: Global) -> Result<Command<'a>, AllocError> {
+    Command::new(alloc, "init")
+        .about(
+            "Makes a tenants text in words: a publisher for each prefix, with an administrator who has a fresh secret",
+        )
+        .arg(
+            Arg::new(alloc, "prefixes")
+                .value_name("PREFIX")
+                .required(true)
+                .num_args(1..)
+                .action(ArgAction::Append),
+        )
+}
+
 /// Adds a command that asks about a handle.
 fn with_question<'a>(
     command: Command<'a>,
@@ -196,6 +214,10 @@ fn command<'a>(alloc: Global) -> Result<Command<'a>, AllocError> {
         ))?
         .subcommand(Command::new(alloc, "tenants").about(
             "Makes a tenants text of one with values in words, on standard input",
+        ))?
+        .subcommand(init(alloc)?)?
+        .subcommand(Command::new(alloc, "key").about(
+            "Makes a fresh secret: 32 random octets in hexadecimal digits",
         ))
 }
 
@@ -252,6 +274,10 @@ fn asked_of(alloc: Global, name: &str, matches: &ArgMatches<'_>) -> Result<Asked
         }),
         "script" => Ok(Asked::Script),
         "tenants" => Ok(Asked::Tenants),
+        "init" => Ok(Asked::Init {
+            prefixes: words(alloc, matches, "prefixes")?,
+        }),
+        "key" => Ok(Asked::Key),
         other => match operation_in(other) {
             Some(operation) => Ok(Asked::Ask(question_of(alloc, operation, matches)?)),
             None => Ok(Asked::Ended(2)),

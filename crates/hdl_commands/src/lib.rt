@@ -5,6 +5,7 @@
 //! octets -> explain -> the request, reply or value that they are, in words ([`words`])
 //! text of a batch -> read_batch -> Batch -> run_batch, or write_script -> the script that `handled` takes
 //! lines with values in words -> write_tenants -> lines of a tenants text
+//! prefixes, random octets -> write_fresh_tenants -> a tenants text in words, with fresh secrets
 //! ```
 //!
 //! Requests are read from words and written by `hdl_msg`'s `write_request`, so what is sent is in the grammar; a value's words are
@@ -16,6 +17,7 @@ mod asking;
 mod batch_text;
 mod batches;
 mod fault;
+mod fresh;
 mod key;
 mod request;
 mod scripts;
@@ -26,6 +28,7 @@ pub use asking::{Question, ask};
 pub use batch_text::{BatchFault, read_batch};
 pub use batches::run_batch_text;
 pub use fault::WordFault;
+pub use fresh::{FreshFault, fresh_secret, write_fresh_tenants};
 pub use key::SECRET_VARIABLE;
 pub use scripts::write_script;
 pub use tenants::write_tenants;

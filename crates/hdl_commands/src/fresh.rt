@@ -1,0 +1,152 @@
+//! Fresh secrets, and the tenants text of new publishers, with values in words.
+
+use hdl_name::is_authority;
+use std::alloc::{AllocError, AllocFailed, AllocGlobal, Global};
+use std::io;
+use std::random::RandomSource;
+use thiserror::Error;
+
+/// How many random octets a secret is made of.
+const SECRET_LEN: usize = 32;
+
+/// The most lanes that all publishers have together, and the most that one gets.
+const LANES: usize = 64;
+
+const LANES_OF_ONE: usize = 8;
+
+/// The port of the first publisher; each other one's is one more.
+const FIRST_PORT: usize = 2641;
+
+/// The longest name of a publisher.
+const NAME_MAX: usize = 32;
+
+/// Why no text is written. Prefixes are counted from 1.
+#[derive(Clone, Copy, Debug, Error)]
+pub enum FreshFault {
+    #[error("prefix {0} is no naming authority: write one such as 10 or 10.5072, without a slash, other than 0.NA")]
+    Prefix(usize),
+    #[error("prefix {0} is given twice: name each once, in capitals or not")]
+    Twice(usize),
+    #[error("more than 32 prefixes: each publisher needs 2 of a process's 64 lanes, so write a text for each process")]
+    TooMany,
+    #[error("the system gives no random octets")]
+    Random,
+    #[error("no memory")]
+    Memory,
+}
+
+impl From<AllocError> for FreshFault {
+    fn from(_: AllocError) -> FreshFault {
+        FreshFault::Memory
+    }
+}
+
+impl<T: Drop> From<AllocFailed<T>> for FreshFault {
+    fn from(_: AllocFailed<T>) -> FreshFault {
+        FreshFault::Memory
+    }
+}
+
+impl From<io::Error> for FreshFault {
+    fn from(_: io::Error) -> FreshFault {
+        FreshFault::Random
+    }
+}
+
+/// A fresh secret: 32 octets of the system's random source in hexadecimal digits. The 64 digits are the secret, as text: a HS_SECKEY value
+/// has them as its data, and a client proves them.
+pub fn fresh_secret<R: RandomSource + AllocGlobal>(rt: &R) -> Result<String, FreshFault> {
+    let mut octets = [0u8; SECRET_LEN];
+    rt.fill_bytes(&mut octets)?;
+    Ok(hex::encode(rt.alloc(), octets.as_slice())?)
+}
+
+/// Whether a character may stand in the name of a publisher.
+fn is_plain(letter: char) -> bool {
+    letter.is_ascii_lowercase() || letter.is_ascii_digit() || letter == '-'
+}
+
+/// The name of a publisher: its prefix with `-` for each dot, or, where that is no name, its number.
+fn publisher_name(alloc: Global, prefix: &str, number: usize) -> Result<String, AllocError> {
+    let mut name = String::new(alloc);
+    for letter in prefix.chars() {
+        name.push(if letter == '.' { '-' } else { letter })?;
+    }
+    if name.len() <= NAME_MAX && name.chars().all(is_plain) {
+        return Ok(name);
+    }
+    format!(in alloc; "publisher-{number}")
+}
+
+/// The prefixes as a tenants text has them, in lower case.
+fn prefixes_of(alloc: Global, words: &[String]) -> Result<Vec<String>, FreshFault> {
+    let mut prefixes: Vec<String> = Vec::new(alloc);
+    let mut number = 0usize;
+    for word in words {
+        number = number.saturating_add(1);
+        let prefix = word.to_ascii_lowercase(alloc)?;
+        if !is_authority(&prefix) || prefix.as_str() == "0.na" {
+            return Err(FreshFault::Prefix(number));
+        }
+        if prefixes
+            .iter()
+            .any(|other| other.as_str() == prefix.as_str())
+        {
+            return Err(FreshFault::Twice(number));
+        }
+        prefixes.push(prefix)?;
+    }
+    Ok(prefixes)
+}
+
+/// Adds the lines of a publisher with one prefix, its administrator and that one's key.
+fn push_publisher<R: RandomSource + AllocGlobal>(
+    rt: &R,
+    text: &mut String,
+    prefix: &str,
+    number: usize,
+    lanes: usize,
+) -> Result<(), FreshFault> {
+    let alloc = rt.alloc();
+    let name = publisher_name(alloc, prefix, number)?;
+    let port = FIRST_PORT.saturating_add(number).saturating_sub(1);
+    let secret = fresh_secret(rt)?;
+    let lines = format!(in alloc;
+        "\n\
+         publisher {name} {lanes} {port}\n\
+         prefix {prefix} {name}\n\
+         value 0.NA/{prefix} 100 HS_ADMIN 86400 1110 ADMIN 300:111111111111:0.NA/{prefix}\n\
+         value 0.NA/{prefix} 300 HS_SECKEY 86400 1100 UTF8 {secret}\n"
+    )?;
+    text.push_str(&lines)?;
+    Ok(())
+}
+
+/// What stands before the publishers.
+const HEAD: &str = "\
+    # A tenants text with its values in words: hdl tenants < THIS > publishers.tenants, then handled serve < publishers.tenants.\n\
+    # It holds secrets, the last word of each line HS_SECKEY: nobody but who starts the service may read it.\n\
+    #\n\
+    # publisher NAME LANES PORT: one lane less is the number of connections at a time; the last lane is that of datagrams.\n\
+    # prefix PREFIX NAME: who answers for the handles of the prefix.\n\
+    # value 0.NA/PREFIX ..: its administrator, who may do everything, and that one's key. Whoever has the secret creates handles.\n";
+
+/// The tenants text, with values in words, of a publisher for each of these prefixes, with an administrator who has a fresh secret.
+pub fn write_fresh_tenants<R: RandomSource + AllocGlobal>(
+    rt: &R,
+    words: &[String],
+) -> Result<String, FreshFault> {
+    let alloc = rt.alloc();
+    let prefixes = prefixes_of(alloc, words)?;
+    let lanes = LANES.checked_div(prefixes.len()).unwrap_or(LANES_OF_ONE);
+    if lanes < 2 {
+        return Err(FreshFault::TooMany);
+    }
+    let mut text = String::from_str(alloc, HEAD)?;
+    let mut number = 0usize;
+    for prefix in &prefixes {
+        number = number.saturating_add(1);
+        push_publisher(rt, &mut text, prefix, number, lanes.min(LANES_OF_ONE))?;
+    }
+    Ok(text)
+}
