@@ -143,6 +143,9 @@ WORDS = (
     (["batch"], "AUTHENTICATE SECKEY:0.NA/10\n%s\n" % SECRET, "hdl: line 2: a key isn't INDEX:HANDLE"),
     (["batch"], "AUTHENTICATE SECKEY:300:0.NA/10\n", "hdl: line 1: the secret is missing"),
     (["tenants"], "value 10/a 1 URL 86400 1110 HIDDEN 3 octets\n", "hdl: line 1: its data is hidden"),
+    (["init", "10", "10"], "", "hdl: prefix 2 is given twice: name each once, in capitals or not"),
+    (["init", "10/a"], "", "hdl: prefix 1 is no naming authority: write one such as 10 or 10.5072, without a slash, other than 0.NA"),
+    (["init", *map(str, range(33))], "", "hdl: more than 32 prefixes: each publisher needs 2 of a process's 64 lanes, so write a text for each process"),
     (["script"], "publisher acme 2 2641\n", "hdl: the line `run` is missing"),
     (["script"], "publisher acme 1 2641\n\nrun\n", "hdl: tenants: line 1: bad line"),
 )
@@ -210,8 +213,8 @@ def served_slowly(listener, octets):
                 time.sleep(1)
 
 
-def run(words, text=""):
-    environment = dict(os.environ, HDL_SECRET=SECRET)
+def run(words, text="", **more):
+    environment = {**os.environ, "HDL_SECRET": SECRET, **more}
     return subprocess.run([PROGRAM, *words], input=text, env=environment, capture_output=True, text=True, check=False, timeout=60)
 
 
@@ -235,6 +238,20 @@ def versions():
     for name, program in (("hdl", PROGRAM), ("handled", servers.HANDLED)):
         said = subprocess.run([program, "--version"], capture_output=True, text=True, check=False, timeout=60)
         yield "%s --version" % name, (said.returncode, said.stdout) == (0, "%s %s\n" % (name, version))
+
+
+def fresh():
+    """A fresh secret, and a text for new publishers: what is served by it is changed by its secrets, each on its own port."""
+    secrets = [run(["key"]).stdout for _ in range(2)]
+    yield "hdl key", secrets[0] != secrets[1] and all(re.fullmatch("[0-9a-f]{64}\n", secret) for secret in secrets)
+    words = run(["init", "10", "20.ABC"])
+    keys = re.findall("HS_SECKEY 86400 1100 UTF8 ([0-9a-f]{64})$", words.stdout, re.MULTILINE)
+    text = run(["tenants"], words.stdout).stdout
+    with servers.serving(lambda *ports: text.replace(" 2641\n", " %d\n" % ports[0]).replace(" 2642\n", " %d\n" % ports[1]).encode(), 2) as ports:
+        for prefix, secret, port in zip(("10", "20.abc"), keys, ports):
+            create = ["create", prefix + "/a", "100 HS_ADMIN 86400 1110 ADMIN 300:111111111111:0.NA/" + prefix, "--key", "300:0.NA/" + prefix]
+            done = [run([*create, "--server", "127.0.0.1:%d" % port], HDL_SECRET=given) for given in (SECRET, secret)]
+            yield "hdl init " + prefix, [one.returncode for one in done] == [1, 0] and secret not in words.stderr + done[1].stdout + done[1].stderr
 
 
 def exchanges():
@@ -274,7 +291,7 @@ def cases():
 
 def main():
     passed = failed = 0
-    for name, good in [*exchanges(), *versions()]:
+    for name, good in [*exchanges(), *fresh(), *versions()]:
         passed, failed = passed + good, failed + (not good)
         if not good:
             print("%s: other octets than those that should be" % name)
