@@ -23,14 +23,14 @@ returns-clause-search g c =
     let low = mapped_low place_of s.seen.references.items s.passed short in
     let is = mapped_at place_of s.seen.references.items s.passed c.index-here.result.now short c.index-here.ensures in
     let listed = c.in_ok-listed.ensures.found in
-    let grown = subst (λ (rs : List Reference). Extends seen (places rs) new) c.deref-2.ensures.value c.in-Ok-extend.ensures.extended in
-    let added = subst (λ (rs : List Reference). (p q : Place) → is_among p (sources_of c.add_all.new.self q) ≡ (is_among p (sources_of s.sources q) || (same_place p here && is_among q (places rs)))) c.deref.ensures.value c.in-Ok.ensures in (
+    let grown = subst (λ (rs : List Reference). Extends seen (places rs) new) c.deref-2.ensures.value c.in_ok-extend.ensures.extended in
+    let added = subst (λ (rs : List Reference). (p q : Place) → is_among p (sources_of c.add_all.new.self q) ≡ (is_among p (sources_of s.sources q) || (same_place p here && is_among q (places rs)))) c.deref.ensures.value c.in_ok-add_all.ensures in (
       record {
         granted = c.requires.search.granted;
         searched = goes_on (lists t) (λ p. Unit {0}) all seen more new s.passed here (λ q _ _. tt) c.requires.search.searched low is listed grown;
         sources = subst (λ ps. HasSources (lists t) ps c.add_all.new.self) (sym (passed_more seen more new s.passed here low is grown))
             (sources_passed (lists t) (take s.passed seen) more s.sources c.add_all.new.self here c.requires.search.sources listed added);
-        kept = c.in-Ok-extend.ensures.kept;
+        kept = c.in_ok-extend.ensures.kept;
       },
       refl,
     )

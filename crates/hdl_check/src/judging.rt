@@ -1,0 +1,115 @@
+//! Judging a line by the service's own reader.
+
+use crate::lines_by::LinesBy;
+use hdl_name::Name;
+use hdl_tenants::{TenantFault, Tenants};
+use std::alloc::{AllocError, Global};
+
+/// The one key of the lines of publishers.
+const PUBLISHERS: &[u8] = b"";
+
+/// What a line says, as far as that decides what it rests on.
+#[derive(Drop)]
+pub(crate) enum Kind<'a> {
+    Publisher,
+    Prefix(&'a str),
+    Value(Name),
+    Other,
+}
+
+/// The kind of the line with these fields.
+pub(crate) fn kind_of<'a>(alloc: Global, fields: &[&'a str]) -> Kind<'a> {
+    let Some(word) = fields.first() else {
+        return Kind::Other;
+    };
+    let Some(subject) = fields.get(1) else {
+        return Kind::Other;
+    };
+    if *word == "publisher" {
+        return Kind::Publisher;
+    }
+    if *word == "prefix" {
+        return Kind::Prefix(*subject);
+    }
+    if *word != "value" {
+        return Kind::Other;
+    }
+    match Name::read(alloc, subject.as_bytes()) {
+        Ok(name) => Kind::Value(name),
+        Err(_) => Kind::Other,
+    }
+}
+
+/// The accepted lines that others rest on.
+#[derive(Drop)]
+pub(crate) struct Accepted<'a> {
+    alloc: Global,
+    publishers: LinesBy<'a>,
+    prefixes: LinesBy<'a>,
+    /// By handle, in canonical form.
+    values: LinesBy<'a>,
+}
+
+impl<'a> Accepted<'a> {
+    pub(crate) fn new(alloc: Global) -> Accepted<'a> {
+        Accepted {
+            alloc,
+            publishers: LinesBy::new(alloc),
+            prefixes: LinesBy::new(alloc),
+            values: LinesBy::new(alloc),
+        }
+    }
+
+    /// The accepted lines that a line of this kind rests on.
+    fn ground(&self, kind: &Kind<'_>) -> Result<String, AllocError> {
+        let mut text = String::new(self.alloc);
+        match kind {
+            Kind::Publisher => self.publishers.push_to(&mut text, PUBLISHERS)?,
+            Kind::Prefix(prefix) => {
+                self.publishers.push_to(&mut text, PUBLISHERS)?;
+                self.prefixes.push_to(&mut text, prefix.as_bytes())?;
+            }
+            Kind::Value(name) => {
+                self.publishers.push_to(&mut text, PUBLISHERS)?;
+                self.prefixes.push_to(&mut text, name.prefix())?;
+                self.values.push_to(&mut text, name.canon())?;
+            }
+            Kind::Other => {}
+        }
+        Ok(text)
+    }
+
+    /// What the service says of the line behind those that it rests on.
+    pub(crate) fn judge(
+        &self,
+        kind: &Kind<'_>,
+        line: &str,
+    ) -> Result<Option<TenantFault>, AllocError> {
+        let mut text = self.ground(kind)?;
+        text.push_str(line)?;
+        match Tenants::read(self.alloc, &text) {
+            Ok(_) => Ok(None),
+            Err((_, TenantFault::Memory)) => Err(AllocError),
+            Err((_, fault)) => Ok(Some(fault)),
+        }
+    }
+
+    pub(crate) fn add(&mut self, kind: &Kind<'_>, line: &'a str) -> Result<(), AllocError> {
+        match kind {
+            Kind::Publisher => self.publishers.add(PUBLISHERS, line),
+            Kind::Prefix(prefix) => self.prefixes.add(prefix.as_bytes(), line),
+            Kind::Value(name) => self.values.add(name.canon(), line),
+            Kind::Other => Ok(()),
+        }
+    }
+
+    /// Whether a line of a prefix stands before.
+    pub(crate) fn has_prefix(&self, prefix: &[u8]) -> bool {
+        self.prefixes.has(prefix)
+    }
+
+    /// How many lines of the handle's values stand before.
+    pub(crate) fn value_count(&self, name: &Name) -> usize {
+        self.values.count(name.canon())
+    }
+}

@@ -1,0 +1,184 @@
+//! Why a line is refused, and what to do, in words.
+
+use crate::judging::{Accepted, Kind};
+use hdl_limits::{LANES, PUBLISHER_NAME_MAX, VALUES_MAX};
+use hdl_name::{Name, is_authority};
+use hdl_tenants::{TenantFault, decimal_u16};
+use hdl_value::read_value;
+use std::alloc::{AllocError, Global};
+
+const PUBLISHER_FORM: &str = "write: publisher NAME LANES PORT, with single spaces";
+
+const PREFIX_FORM: &str =
+    "write: prefix PREFIX NAME, or with 2 (SHA-1) or 3 (SHA-256) behind it, with single spaces";
+
+const VALUE_FORM: &str =
+    "write: value HANDLE HEX, with single spaces; hdl tenants makes such lines of values in words";
+
+const LINE_FORM: &str =
+    "a line begins with `publisher`, `prefix` or `value` and a space, or with `#`, or is empty";
+
+const NAME_FORM: &str = "a publisher's name is 1 to 32 of a-z, 0-9 and -";
+
+const LANES_FORM: &str = "LANES is a number from 2 to 64; the last lane is that of datagrams";
+
+const PORT_FORM: &str = "PORT is a number from 1 to 65535";
+
+const AUTHORITY_FORM: &str =
+    "a prefix is a naming authority in lower case, such as 10 or 10.5072, without a slash, and not 0.na";
+
+const UNKNOWN_PUBLISHER: &str =
+    "no line of this publisher stands above: write the line `publisher ..` before its prefixes";
+
+const HASH_FORM: &str = "the word behind the publisher is 2 for SHA-1 or 3 for SHA-256";
+
+const UNKNOWN_PREFIX: &str =
+    "no line of the handle's prefix stands above: write the line `prefix ..` before its values";
+
+const HEX_FORM: &str =
+    "HEX is an even number of hexadecimal digits; hdl tenants makes them of a value in words";
+
+const MORE_OCTETS: &str = "octets stand behind the value: a line has one value";
+
+const MANY_VALUES: &str = "the handle has 1,024 values above: that is the most";
+
+const TWICE_INDEX: &str =
+    "a value with this index stands above: give each value of a handle an index of its own";
+
+fn is_publisher_name(name: &str) -> bool {
+    !name.is_empty()
+        && name.len() <= PUBLISHER_NAME_MAX
+        && name.as_bytes().iter().all(|octet| octet.is_ascii_lowercase()
+            || octet.is_ascii_digit()
+            || *octet == b'-')
+}
+
+fn has_upper(text: &str) -> bool {
+    text.as_bytes()
+        .iter()
+        .any(|octet| octet.is_ascii_uppercase())
+}
+
+/// What is wrong with the words of a publisher.
+fn publisher_reason(fields: &[&str]) -> &'static str {
+    let [_, name, lanes, port] = fields else {
+        return PUBLISHER_FORM;
+    };
+    if !is_publisher_name(name) {
+        return NAME_FORM;
+    }
+    let lanes = decimal_u16(lanes).unwrap_or(0);
+    if lanes < 2 || lanes as usize > LANES {
+        return LANES_FORM;
+    }
+    if decimal_u16(port).unwrap_or(0) == 0 {
+        return PORT_FORM;
+    }
+    PUBLISHER_FORM
+}
+
+/// What is wrong with the words of a prefix.
+fn prefix_reason(fields: &[&str]) -> &'static str {
+    let [_, prefix, _, more @ ..] = fields else {
+        return PREFIX_FORM;
+    };
+    if !is_authority(prefix) || has_upper(prefix) || *prefix == "0.na" {
+        return AUTHORITY_FORM;
+    }
+    match more {
+        [] => UNKNOWN_PUBLISHER,
+        [hash] => {
+            if *hash == "2" || *hash == "3" {
+                UNKNOWN_PUBLISHER
+            } else {
+                HASH_FORM
+            }
+        }
+        _ => PREFIX_FORM,
+    }
+}
+
+/// What is wrong with a value of a handle whose prefix stands above.
+fn value_reason(
+    alloc: Global,
+    accepted: &Accepted<'_>,
+    name: &Name,
+    digits: &str,
+) -> Result<String, AllocError> {
+    let words = |text: &str| String::from_str(alloc, text);
+    let Ok(octets) = hex::decode(alloc, digits) else {
+        return words(HEX_FORM);
+    };
+    match read_value(alloc, &octets) {
+        Ok((_, count)) => {
+            if count != octets.len() {
+                return words(MORE_OCTETS);
+            }
+        }
+        Err(fault) => return format!(in alloc; "{fault}"),
+    }
+    if accepted.value_count(name) >= VALUES_MAX {
+        return words(MANY_VALUES);
+    }
+    words(TWICE_INDEX)
+}
+
+/// What is wrong with the words of a value.
+fn value_words(
+    alloc: Global,
+    accepted: &Accepted<'_>,
+    kind: &Kind<'_>,
+    fields: &[&str],
+) -> Result<String, AllocError> {
+    let [_, handle, digits] = fields else {
+        return String::from_str(alloc, VALUE_FORM);
+    };
+    match kind {
+        Kind::Value(name) => {
+            if !accepted.has_prefix(name.prefix()) {
+                return String::from_str(alloc, UNKNOWN_PREFIX);
+            }
+            value_reason(alloc, accepted, name, digits)
+        }
+        _ => match Name::read(alloc, handle.as_bytes()) {
+            Ok(_) => String::from_str(alloc, VALUE_FORM),
+            Err(fault) => format!(in alloc; "{fault}"),
+        },
+    }
+}
+
+/// A fault that its line alone doesn't show.
+pub(crate) fn words_of(alloc: Global, fault: TenantFault) -> Result<String, AllocError> {
+    let advice = match fault {
+        TenantFault::TwicePrefix => ": this publisher has it above",
+        TenantFault::TwicePublisher => ": give each publisher a name of its own",
+        TenantFault::TooMany => {
+            " together: give this publisher fewer, or serve it by a process of its own"
+        }
+        TenantFault::BadLine => "",
+        TenantFault::Memory => "",
+    };
+    format!(in alloc; "{fault}{advice}")
+}
+
+/// Why the line with these fields is refused.
+pub(crate) fn reason_of(
+    alloc: Global,
+    accepted: &Accepted<'_>,
+    kind: &Kind<'_>,
+    fields: &[&str],
+    fault: TenantFault,
+) -> Result<String, AllocError> {
+    if fault != TenantFault::BadLine {
+        return words_of(alloc, fault);
+    }
+    match fields.first() {
+        Some(word) => match *word {
+            "publisher" => String::from_str(alloc, publisher_reason(fields)),
+            "prefix" => String::from_str(alloc, prefix_reason(fields)),
+            "value" => value_words(alloc, accepted, kind, fields),
+            _ => String::from_str(alloc, LINE_FORM),
+        },
+        None => String::from_str(alloc, LINE_FORM),
+    }
+}
