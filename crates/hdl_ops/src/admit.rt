@@ -1,6 +1,7 @@
 //! What is tested before the table is looked at.
 
 ghost use Rattle.std.specs.Prelude.{◌≡◌, ◌≤◌, length, option_map, IfOk, IfSome};
+ghost use Rattle.std.specs.Option.{ForSome};
 ghost use Rattle.hdl_name.specs.Name.{canonical, sent_prefix};
 ghost use Rattle.hdl_name.specs.Tests.{is_handle};
 ghost use Rattle.hdl_ops.specs.Admission.{handle_in, request_algorithm};
@@ -55,7 +56,7 @@ pub struct NamedRequest<'a> {
     /// The handle that it names, if that is a name.
     name: Option<Name>,
     ghost handle: { option_map canonical name ≡ handle_in (named asked.request.now.operation) },
-    ghost sent: { IfSome name (λ name. name ≡ named asked.request.now.operation) },
+    ghost sent: { ForSome name (λ name. name ≡ named asked.request.now.operation) },
 }
 
 impl<'a> NamedRequest<'a> {
@@ -66,7 +67,7 @@ impl<'a> NamedRequest<'a> {
         owner: &Owner<'_>,
         request: &'a Request<'a>,
     ) -> Result<NamedRequest<'a>, Refused>
-        ensures asked { IfOk result (λ named. named.asked ≡ record { algorithm = request_algorithm (algorithms_by owner.now) request.now; request = request }) }
+        ensures asked { IfOk result (λ named. named.asked ≡ record { algorithm = request_algorithm (algorithms_by owner.now) request.now; request = request.entry }) }
     {
         let octets = named(request.body());
         if !is_name(octets) {
@@ -87,7 +88,7 @@ impl<'a> NamedRequest<'a> {
 
     /// Reads the name of a request whose hash function is known. Refused only for want of memory.
     pub fn read(alloc: Global, asked: Asked<'a>) -> Result<NamedRequest<'a>, Refused>
-        ensures asked { IfOk result (λ named. named.asked ≡ asked) }
+        ensures asked { IfOk result (λ named. named.asked ≡ asked.entry) }
     {
         let name = read_name(alloc, named(asked.request.body()))?;
         Ok(NamedRequest { asked, name })
@@ -115,13 +116,14 @@ fn failed(code: ResponseCode, content: ReplyContent) -> Admitted
 /// Tests the request before the table is looked at.
 #[tactic(auto, unfolding(crate::specs::First::first, crate::specs::Admission::refusal, crate::specs::Decisions::refused), using(crate::proofs::Lengths::empty_fits, crate::proofs::Lengths::referral_fits))]
 pub(crate) fn admit(owner: &Owner<'_>, request: NamedRequest<'_>) -> Result<Admitted, Refused>
-    ensures { IfOk result (λ admitted. IsAdmitted (hosted_by owner.now) request.asked.request.now admitted) }
+    ensures { IfOk result (λ admitted. IsAdmitted (hosted_by owner.now) request.entry.asked.request.now admitted) }
 {
-    let body = request.asked.request.body();
+    let NamedRequest { asked, name, .. } = request;
+    let body = asked.request.body();
     if is_unused(body) {
         return Ok(failed(ResponseCode::OperationDenied, ReplyContent::Empty));
     }
-    let Some(name) = request.name else {
+    let Some(name) = name else {
         return Ok(failed(ResponseCode::InvalidHandle, ReplyContent::Empty));
     };
     if is_list(body) && !name.is_admin_handle() {

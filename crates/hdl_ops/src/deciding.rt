@@ -132,8 +132,8 @@ pub fn decide<R: Rows>(
     requires true_masks { AreTrue (R.content rows.old) masks.old }
     ensures unchanged { R.content rows.new ≡ R.content rows.old }
     ensures true_masks { AreTrue (R.content rows.new) masks.new }
-    ensures decided { IfOk result (λ d. Decides (hosted_by owner.now) request.asked.algorithm (R.content rows.old) request.asked.request.now (level_of level.now) (decision_of d)) }
-    ensures carried { IfOk result (λ d. IsTrue (fits request.asked.algorithm request.asked.request.now d.content)) }
+    ensures decided { IfOk result (λ d. Decides (hosted_by owner.now) request.entry.asked.algorithm (R.content rows.old) request.entry.asked.request.now (level_of level.now) (decision_of d)) }
+    ensures carried { IfOk result (λ d. IsTrue (fits request.entry.asked.algorithm request.entry.asked.request.now d.content)) }
     ensures can_apply { IfOk result (λ d. IfSome d.change (λ change. CanApply (R.content rows.old) change)) }
     ensures count { IsCounted result (R.refused rows.old) (R.refused rows.new) }
 {

@@ -4,7 +4,7 @@ use Rattle.hdl_msg.specs.ReplyView.{IsReplyFrame}
 use Rattle.hdl_msg.proofs.ReplyReadings.{short_reply_read}
 use Rattle.hdl_core.proofs.answering.malformed.Goals as goal
 
-pub returns-in-Ok-clause-read : goal.returns-in-Ok-clause-read
-returns-in-Ok-clause-read c =
+pub returns-clause-read : goal.returns-clause-read
+returns-clause-read c =
     let is : c.new.result ≡ short_reply 4 c.args.envelope.now = search rules in
     subst IsReplyFrame (sym is) (short_reply_read c.args.envelope.now).1

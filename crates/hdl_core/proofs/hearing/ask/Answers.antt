@@ -19,7 +19,7 @@ returns-then-eq-clause-asked g c =
     let hosts = hosted_by c.args.owner.now in
     let a = request_algorithm (algorithms_by c.args.owner.now) r in
     let t = g.R.Rows.content c.args.rows.now in
-    let named = c.in_ok-named.ensures in
+    let named = c.in_ok-named.ensures.asked in
     let needed : (response_number c.in_ok-decision.decision.code == 402) ≡ true = search rules in
     on_ok c.challenge.result _ _
     (λ heard is. subst (λ (h : Heard). IsAsked hosts a t m c.args.next r h (g.R.Rows.content c.decide.new.rows)) (sym (is ∙ ap (λ (x : Asked). challenge_of_request x.algorithm m c.args.next x.request.now) named)) (
@@ -35,7 +35,7 @@ returns-then-eq-clause-asked g c =
 pub returns-clause-asked : goal.returns-clause-asked
 returns-clause-asked g c =
     let d = decision_of c.in_ok-decision.decision in
-    let named = c.in_ok-named.ensures in
+    let named = c.in_ok-named.ensures.asked in
     let answered : (response_number c.in_ok-decision.decision.code == 402) ≡ false = search rules in (
       d,
       subst (λ (x : Asked). Decides (hosted_by c.args.owner.now) x.algorithm (g.R.Rows.content c.args.rows.now) x.request.now Anyone d) named c.in_ok-decision.ensures.decided,
@@ -50,4 +50,4 @@ returns-clause-read g c = λ has.
     let e = c.args.letter.now.envelope in
     let asked = c.in_ok-named.named.asked in
     c.in_ok-octets.ensures.read
-    (answer_announced_lem (hosted_by c.args.owner.now) asked.algorithm (g.R.Rows.content c.args.rows.now) asked.request.now Anyone (decision_of c.in_ok-decision.decision) e.session e.request (subst (λ (x : Asked). HasItsCode x.request.now) (sym c.in_ok-named.ensures) has) c.in_ok-decision.ensures.decided answered)
+    (answer_announced_lem (hosted_by c.args.owner.now) asked.algorithm (g.R.Rows.content c.args.rows.now) asked.request.now Anyone (decision_of c.in_ok-decision.decision) e.session e.request (subst (λ (x : Asked). HasItsCode x.request.now) (sym c.in_ok-named.ensures.asked) has) c.in_ok-decision.ensures.decided answered)

@@ -32,7 +32,7 @@ returns-clause-redeemed g c =
     on_both c.answer.result _ _ _
     (λ octets is table. proven hosts (algorithms_by c.args.owner.now) t c.args.letter.now (response_view c.args.response) c.args.pending.now c.in-Ok.request c.algorithm.result d octets (g.R.Rows.content c.answer.new.rows) c.algorithm.ensures
     (subst (λ (b : List ℕ). SpellsRequest b c.in-Ok.request) c.as_slice.ensures c.in-Ok.ensures.read) (λ message. sym c.if-is_late.false ∙ c.is_late.ensures message)
-    (subst (λ (x : Asked). Decides hosts x.algorithm t x.request.now (Proven p) d) c.in_ok-named.ensures c.in_ok-decision.ensures.decided) is (table ∙ ap (λ t. apply_if t c.args.letter.now.moment c.in_ok-decision.decision.change) c.decide.ensures.unchanged))
+    (subst (λ (x : Asked). Decides hosts x.algorithm t x.request.now (Proven p) d) c.in_ok-named.ensures.asked c.in_ok-decision.ensures.decided) is (table ∙ ap (λ t. apply_if t c.args.letter.now.moment c.in_ok-decision.decision.change) c.decide.ensures.unchanged))
     c.answer.ensures.reply c.answer.ensures.done
 
 pub returns-then-is_late-clause-read : goal.returns-then-is_late-clause-read
@@ -48,7 +48,7 @@ returns-clause-read g c =
     let t = g.R.Rows.content c.args.rows.now in
     let p : Proof = record { response = response_view c.args.response; nonce = c.args.pending.now.nonce; digest = c.args.pending.now.digest } in
     let d = decision_of c.in_ok-decision.decision in
-    let decided = subst (λ (x : Asked). Decides hosts x.algorithm t x.request.now (Proven p) d) c.in_ok-named.ensures c.in_ok-decision.ensures.decided in
+    let decided = subst (λ (x : Asked). Decides hosts x.algorithm t x.request.now (Proven p) d) c.in_ok-named.ensures.asked c.in_ok-decision.ensures.decided in
     on_ok c.answer.result _ _
     (λ octets reads. reads (answer_announced_lem hosts c.algorithm.result t r (Proven p) d e.session e.request c.in-Ok.ensures.read.has_code decided (proven_code hosts c.algorithm.result t r p d decided)))
     c.answer.ensures.read

@@ -27,7 +27,7 @@ returns-in-Close-clause-served g c =
 pub returns-else-not-is_open-clause-served : goal.returns-else-not-is_open-clause-served
 returns-else-not-is_open-clause-served g c =
     broken (hosted_by c.args.owner.now) (algorithms_by c.args.owner.now) (g.R.Rows.content c.args.rows.now) c.args.lanes.now c.args.event.lane c.args.event.what c.in-Bad.session c.in-Bad.request c.refuse.result c.in-Bad.is (sym c.is_open.ensures ∙ c.if-not-is_open.false)
-    (c.refuse.ensures ∙ ap (short_reply 4) c.came.ensures)
+    (c.refuse.ensures ∙ ap (short_reply 4) c.of_message.ensures.envelope)
 
 pub returns-else-not-is_open-2-clause-served : goal.returns-else-not-is_open-2-clause-served
 returns-else-not-is_open-2-clause-served g c =
@@ -35,4 +35,4 @@ returns-else-not-is_open-2-clause-served g c =
     received (hosted_by c.args.owner.now) (algorithms_by c.args.owner.now) (g.R.Rows.content c.args.rows.now) c.args.lanes.now c.args.event.lane c.args.event.what x c.receive.result c.receive.new.lanes (g.R.Rows.content c.receive.new.rows) c.in-Frame.is (sym c.is_open-in-Frame.ensures ∙ c.if-not-is_open-2.false) c.receive.ensures.received
 
 pub returns-else-not-is_open-clause-read : goal.returns-else-not-is_open-clause-read
-returns-else-not-is_open-clause-read g c = subst IsReplyFrame (sym c.refuse.ensures) (short_reply_read c.came.result).1
+returns-else-not-is_open-clause-read g c = subst IsReplyFrame (sym c.refuse.ensures) (short_reply_read c.of_message.result).1
