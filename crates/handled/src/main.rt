@@ -1,7 +1,7 @@
 //! The program `handled`: replays a script, or serves over TCP and UDP.
 //!
 //! `handled` and `handled replay` are [`hdl_replay::replay`], handed the standard streams and a table in SQL, in memory.
-//! `handled serve` is [`hdl_host::host`], handed the tenants text on standard input and such a table, whose handles are kept where they
+//! `handled serve` is [`hdl_host::hosted`], handed the tenants text on standard input and such a table, whose handles are kept where they
 //! were read last (hdl_cachedrows). With `--table FILE` both go on over the table in that file (hdl_lastingrows). What is printed, the fault lines and the exit statuses are those of docs/PROTOCOL.md, "The tenants
 //! text and scripts". This crate has the command line alone, since nothing else needs `clap`.
 #![tactic(auto)]
@@ -9,13 +9,16 @@
 ghost use Rattle.std.specs.Prelude.{◌≡◌, IfOk};
 ghost use Rattle.hdl_rows.specs.Table.{no_rows};
 
+mod notices;
 mod tabled;
 mod words;
 
 use hdl_cachedrows::CachedRows;
-use hdl_host::{Limits, host, hosted_on};
-use hdl_replay::{Fault, read_input, replay};
+use hdl_core::Tenants;
+use hdl_host::{Setting, hosted, hosted_on};
+use hdl_replay::{Fault, read_input, replay, tenants_of};
 use hdl_sqlrows::SqlRows;
+use notices::{Kept, say_begins, say_ends};
 use std::hash::RandomState;
 use std::process::ExitCode;
 use tabled::{Desk, TabledFault, ended, open_desk, replay_on};
@@ -26,16 +29,16 @@ use words::{Asked, read_words};
 enum Next {
     /// Nothing: this is the exit status.
     Ended(u8),
-    /// Serve this tenants text.
+    /// Serve these tenants.
     Serve {
-        text: String,
-        limits: Limits,
+        tenants: Tenants,
+        setting: Setting,
         row_cache: usize,
     },
     /// Serve over the table in a file.
     ServeOn {
         desk: Desk,
-        limits: Limits,
+        setting: Setting,
     },
 }
 
@@ -68,23 +71,27 @@ fn run(rt: &HostRuntime) -> Result<Next, TabledFault> {
             replay_on(rt, &file, text.as_str())?;
             Ok(Next::Ended(0))
         }
+        Asked::NoAddress(_) => Ok(Next::Ended(2)),
         Asked::Serve {
-            limits,
+            setting,
             row_cache,
             table: None,
-        } => Ok(Next::Serve {
-            text: read_text(rt)?,
-            limits,
-            row_cache,
-        }),
+        } => {
+            let text = read_text(rt)?;
+            Ok(Next::Serve {
+                tenants: tenants_of(rt.alloc(), text.as_str())?,
+                setting,
+                row_cache,
+            })
+        }
         Asked::Serve {
-            limits,
+            setting,
             table: Some(file),
             ..
         } => {
             let text = read_text(rt)?;
-            let desk = open_desk(rt, &file, text.as_str())?;
-            Ok(Next::ServeOn { desk, limits })
+            let desk = open_desk(rt, file, text.as_str())?;
+            Ok(Next::ServeOn { desk, setting })
         }
     }
 }
@@ -102,6 +109,17 @@ fn served_rows(rt: &HostRuntime, row_cache: usize) -> Result<CachedRows<SqlRows>
     Ok(CachedRows::new(rt.alloc(), rows, row_cache, hasher)?)
 }
 
+/// Says how a server ended, and answers the exit status.
+fn told(rt: &HostRuntime, served: Result<(), TabledFault>) -> ExitCode {
+    match served {
+        Ok(()) => {
+            say_ends(rt);
+            ExitCode::from(0)
+        }
+        Err(fault) => failed(rt, fault),
+    }
+}
+
 /// Prints the fault line, and answers the exit status.
 fn failed(rt: &HostRuntime, fault: TabledFault) -> ExitCode {
     let _ = eprintln!(rt; "{fault}");
@@ -113,28 +131,31 @@ fn main(rt: HostRuntime) -> ExitCode {
         Ok(next) => next,
         Err(fault) => return failed(&rt, fault),
     };
+    let mut output = rt.stdout();
     match next {
         Next::Ended(status) => ExitCode::from(status),
         Next::Serve {
-            text,
-            limits,
+            tenants,
+            setting,
             row_cache,
-        } => match served_rows(&rt, row_cache) {
-            Ok(rows) => {
-                let mut output = rt.stdout();
-                let mut faults = rt.stderr();
-                ExitCode::from(host(&rt, rows, text.as_str(), limits, &mut output, &mut faults))
-            }
-            Err(fault) => failed(&rt, TabledFault::from(fault)),
-        },
-        Next::ServeOn { desk, limits } => {
-            let Desk { tenants, table } = desk;
-            let mut output = rt.stdout();
-            let served = hosted_on(&rt, rt.alloc(), table, tenants, limits, &mut output);
-            match ended(served) {
-                Ok(()) => ExitCode::from(0),
-                Err(fault) => failed(&rt, fault),
-            }
+        } => {
+            let rows = match served_rows(&rt, row_cache) {
+                Ok(rows) => rows,
+                Err(fault) => return failed(&rt, TabledFault::from(fault)),
+            };
+            say_begins(&rt, &tenants, Kept::Memory { row_cache }, setting.limits);
+            let served = hosted(&rt, rt.alloc(), rows, tenants, &setting, &mut output);
+            told(&rt, served.map_err(TabledFault::from))
+        }
+        Next::ServeOn { desk, setting } => {
+            let Desk {
+                tenants,
+                table,
+                path,
+            } = desk;
+            say_begins(&rt, &tenants, Kept::File(path.as_str()), setting.limits);
+            let served = hosted_on(&rt, rt.alloc(), table, tenants, &setting, &mut output);
+            told(&rt, ended(served))
         }
     }
 }

@@ -2,6 +2,7 @@
 
 use crate::words::TableFile;
 use hdl_core::Tenants;
+use hdl_host::HostFault;
 use hdl_lastingrows::{Alarm, FileTable, TableFault, open_file, table_over};
 use hdl_replay::{Fault, events_of, parts_of, put_all, tenants_of, told_on};
 use hdl_rows::PlainRows;
@@ -12,7 +13,7 @@ use std::fmt;
 /// Why a run over a file ends with a fault line.
 #[derive(Clone, Copy, Debug)]
 pub enum TabledFault {
-    Run(Fault),
+    Run(HostFault),
     Table(TableFault),
 }
 
@@ -38,6 +39,12 @@ impl fmt::Display for TabledFault {
 
 impl From<Fault> for TabledFault {
     fn from(fault: Fault) -> TabledFault {
+        TabledFault::Run(HostFault::Run(fault))
+    }
+}
+
+impl From<HostFault> for TabledFault {
+    fn from(fault: HostFault) -> TabledFault {
         TabledFault::Run(fault)
     }
 }
@@ -107,21 +114,26 @@ pub fn replay_on(rt: &HostRuntime, file: &TableFile, text: &str) -> Result<(), T
     close(table)
 }
 
-/// What is served: the tenants of the text, and the table in the file.
+/// What is served: the tenants of the text, and the table in the file at this path.
 #[derive(Drop)]
 pub struct Desk {
     pub tenants: Tenants,
     pub table: Table,
+    pub path: String,
 }
 
 /// Opens what is served.
-pub fn open_desk(rt: &HostRuntime, file: &TableFile, text: &str) -> Result<Desk, TabledFault> {
+pub fn open_desk(rt: &HostRuntime, file: TableFile, text: &str) -> Result<Desk, TabledFault> {
     let tenants = tenants_of(rt.alloc(), text)?;
-    let table = opened(rt, file, &tenants)?;
-    Ok(Desk { tenants, table })
+    let table = opened(rt, &file, &tenants)?;
+    Ok(Desk {
+        tenants,
+        table,
+        path: file.path,
+    })
 }
 
 /// Closes the file of a table that was served.
-pub fn ended(served: Result<Table, Fault>) -> Result<(), TabledFault> {
+pub fn ended(served: Result<Table, HostFault>) -> Result<(), TabledFault> {
     close(served?)
 }

@@ -3,10 +3,11 @@
 use clap::error::ErrorKind;
 use clap::{Arg, ArgAction, ArgMatches, Command, Error, value_parser};
 use hdl_cachedrows::LIMIT_DEFAULT;
-use hdl_host::Limits;
+use hdl_host::{Limits, Setting};
 use hdl_replay::Fault;
 use hdl_status::{VERSION, status_of_words, words_of};
 use std::alloc::{AllocError, Global};
+use std::net::{IpAddr, Ipv4Addr};
 
 /// The file of a table that lasts.
 #[derive(Debug, Drop)]
@@ -23,13 +24,15 @@ pub enum Asked {
     Replay {
         table: Option<TableFile>,
     },
-    /// The tenants text is on standard input, served within these limits. The table is in a file, if one is named; else in memory alone, and at
+    /// The tenants text is on standard input, served in this setting. The table is in a file, if one is named; else in memory alone, and at
     /// most so many octets of it are kept where they were read last.
     Serve {
-        limits: Limits,
+        setting: Setting,
         row_cache: usize,
         table: Option<TableFile>,
     },
+    /// Nothing: this is no address to listen at.
+    NoAddress(String),
     /// Nothing: help, the version or a fault was printed, and this is the exit status.
     Ended(u8),
 }
@@ -58,7 +61,16 @@ fn table_args<'a>(alloc: Global, command: Command<'a>) -> Result<Command<'a>, Al
 
 fn serve_command<'a>(alloc: Global) -> Result<Command<'a>, AllocError> {
     let command = Command::new(alloc, "serve")
-        .about("Serves the tenants text on standard input over TCP and UDP, on 127.0.0.1")
+        .about("Serves the tenants text on standard input over TCP and UDP")
+        .arg(
+            Arg::new(alloc, "listen")
+                .long("listen")
+                .value_name("ADDRESS")
+                .help(
+                    "Opens each publisher's port at this IPv4 or IPv6 address, repeated for more; without it on 127.0.0.1",
+                )
+                .action(ArgAction::Append),
+        )?
         .arg(
             Arg::new(alloc, "turns")
                 .long("turns")
@@ -123,6 +135,51 @@ fn limits(found: &ArgMatches) -> Limits {
     }
 }
 
+/// The address that a word spells.
+fn address_of(word: &str) -> Option<IpAddr> {
+    word.parse::<IpAddr>().ok()
+}
+
+/// The first word that spells no address.
+fn no_address<'a>(words: &[&'a str]) -> Option<&'a str> {
+    for word in words {
+        if address_of(word).is_none() {
+            return Some(word);
+        }
+    }
+    None
+}
+
+/// The addresses that the words spell; 127.0.0.1 where there is none.
+fn addresses(alloc: Global, words: &[&str]) -> Result<Vec<IpAddr>, AllocError> {
+    let mut addresses = Vec::new(alloc);
+    for word in words {
+        if let Some(address) = address_of(word) {
+            addresses.push(address)?;
+        }
+    }
+    if addresses.is_empty() {
+        addresses.push(IpAddr::V4(Ipv4Addr::LOCALHOST))?;
+    }
+    Ok(addresses)
+}
+
+/// What is asked for by the words behind `serve`.
+fn serve_words(alloc: Global, found: &ArgMatches) -> Result<Asked, AllocError> {
+    let words = found.get_strs("listen").unwrap_or(&[]);
+    if let Some(word) = no_address(words) {
+        return Ok(Asked::NoAddress(String::from_str(alloc, word)?));
+    }
+    Ok(Asked::Serve {
+        setting: Setting {
+            addresses: addresses(alloc, words)?,
+            limits: limits(found),
+        },
+        row_cache: row_cache(found),
+        table: table_file(alloc, found)?,
+    })
+}
+
 /// The file that the table is in.
 fn table_file(alloc: Global, found: &ArgMatches) -> Result<Option<TableFile>, AllocError> {
     match found.get_str("table") {
@@ -137,11 +194,7 @@ fn table_file(alloc: Global, found: &ArgMatches) -> Result<Option<TableFile>, Al
 fn parsed(alloc: Global, words: &[String]) -> Result<Asked, Error> {
     let matches = command(alloc)?.try_get_matches_from(words)?;
     if let Some(found) = matches.subcommand_matches("serve") {
-        return Ok(Asked::Serve {
-            limits: limits(found),
-            row_cache: row_cache(found),
-            table: table_file(alloc, found)?,
-        });
+        return Ok(serve_words(alloc, found)?);
     }
     match matches.subcommand_matches("replay") {
         Some(found) => Ok(Asked::Replay {
@@ -159,6 +212,12 @@ pub fn read_words(rt: &HostRuntime) -> Result<Asked, Fault> {
         return Ok(Asked::Ended(2));
     };
     match parsed(rt.alloc(), words.as_slice()) {
+        Ok(Asked::NoAddress(word)) => {
+            let _ = eprintln!(rt;
+                "error: invalid value '{word}' for '--listen <ADDRESS>': no IPv4 or IPv6 address, such as 192.0.2.1 or 2001:db8::1\n\nFor more information, try '--help'."
+            );
+            Ok(Asked::Ended(status_of_words(false)))
+        }
         Ok(found) => Ok(found),
         Err(error) => match error.kind() {
             ErrorKind::OutOfMemory => Err(Fault::NoMemory),

@@ -5,8 +5,8 @@ use crate::watch::Watch;
 use hdl_serve::{Door, DoorFault};
 use std::net::TcpStream;
 
-/// A listener that several workers share, and the connection of this one, which is watched. `accept` waits as long as the listener lets
-/// it, so that a worker without a connection costs little.
+/// Listeners that several workers share, and the connection of this one, which is watched. `accept` waits for a while, so that a worker
+/// without a connection costs little.
 #[derive(Drop)]
 pub struct SocketDoor<R> {
     watch: Watch<R>,
@@ -39,8 +39,8 @@ impl<R: std::rt::Clock> Door for SocketDoor<R> {
     ghost fault_count = { λ d. d.faults };
 
     fn accept(&mut self) -> Result<bool, DoorFault> {
-        match self.watch.listener().accept() {
-            Ok((stream, _)) => {
+        match self.watch.accept() {
+            Ok(stream) => {
                 let _ = stream.set_nodelay(true);
                 self.watch.begin(&stream);
                 self.stream = Some(stream);

@@ -1,51 +1,26 @@
-//! Listening, and the service on the calling thread.
+//! The service on the calling thread, behind the sockets.
 
 ghost use Rattle.std.specs.Prelude.{◌≡◌};
 ghost use Rattle.hdl_rows.specs.Table.{no_rows};
 ghost use Rattle.hdl_workers.specs.Ends.{AreDistinct};
 
 use crate::clock::{MachineClock, Part};
-use crate::silence::{Seat, seats_at};
+use crate::fault::HostFault;
+use crate::listening::{Limits, Place, Setting, had, places_of};
 use crate::waking::{Patience, Sleep};
 use crate::workers::{join_all, start};
 use hdl_core::{Rows, Service, Tenants};
 use hdl_replay::{Fault, put_all, tenants_of};
 use hdl_serve::{Clock as Pauses, Far, LaneEnds, lanes_of, serve};
 use std::alloc::Global;
-use std::io::{self, Write};
-use std::net::{IpAddr, Ipv4Addr, Net, SocketAddr, TcpListener, TcpStream, UdpSocket};
-use std::os::fd::OwnedFd;
+use std::io::Write;
+use std::net::{Net, TcpListener, TcpStream};
 use std::random::RandomSource;
 use std::rt::Clock;
 use std::thread::Threads;
-use std::time::Duration;
 
 /// How many items a lane's ring has room for, each way.
 const RING: usize = 16;
-
-/// How long a server serves, and how long it waits for its clients.
-#[derive(Clone, Copy, Debug, PartialEq, Eq)]
-pub struct Limits {
-    /// How many turns each worker and the service have.
-    pub turns: u64,
-    /// For how many seconds a connection may say nothing while another client of its publisher waits.
-    pub idle: u32,
-}
-
-impl Limits {
-    /// No end of turns, and a minute of silence.
-    pub const DEFAULT: Limits = Limits {
-        turns: u64::MAX,
-        idle: 60,
-    };
-}
-
-/// A publisher's datagram socket, and the seats of its stream lanes.
-#[derive(Drop)]
-pub struct Place {
-    pub seats: Vec<Seat>,
-    pub socket: UdpSocket,
-}
 
 /// What is there before anything is served: every lane, every socket, the lines that tell where they are, the sleep of the thread that
 /// serves, and how many turns each worker and the service have.
@@ -60,77 +35,24 @@ struct Ready {
     ghost distinct: { AreDistinct ends.items },
 }
 
-/// What the machine doesn't give is a device fault.
-pub fn had<T: Drop>(gained: io::Result<T>) -> Result<T, Fault> {
-    match gained {
-        Ok(value) => Ok(value),
-        Err(_) => Err(Fault::Device),
-    }
-}
-
-/// Has `accept` wait so long at most. A socket's time to receive holds for it too, but listeners have no call to set it.
-fn limit_accept(listener: &TcpListener, most: Duration) -> io::Result<()> {
-    let same = TcpStream::from(OwnedFd::from(listener.try_clone()?));
-    same.set_read_timeout(Some(most))
-}
-
-/// Listens on loopback for a publisher with so many lanes, of which the last is that of its datagrams.
-fn listen<R: Net<Listener = TcpListener, Stream = TcpStream> + Clock>(
-    rt: &R,
-    alloc: Global,
-    lanes: u16,
-    port: u16,
-    limits: Limits,
-) -> io::Result<Place> {
-    let most = Patience::of(limits.turns).door;
-    let addr = SocketAddr::new(IpAddr::V4(Ipv4Addr::LOCALHOST), port);
-    let listener = TcpListener::bind(rt, addr)?;
-    limit_accept(&listener, most)?;
-    let socket = UdpSocket::bind(rt, addr)?;
-    socket.set_read_timeout(Some(most))?;
-    Ok(Place {
-        seats: seats_at(rt, alloc, &listener, lanes.saturating_sub(1), limits.idle)?,
-        socket,
-    })
-}
-
-/// The sockets of each publisher, and the lines that tell where they are.
-fn places_of<R: Net<Listener = TcpListener, Stream = TcpStream> + Clock>(
-    rt: &R,
-    alloc: Global,
-    tenants: &Tenants,
-    limits: Limits,
-) -> Result<(Vec<Place>, String), Fault> {
-    let mut places = Vec::new(alloc);
-    let mut lines = String::new(alloc);
-    for place in 0..tenants.publishers() {
-        let Some((name, lanes, port)) = tenants.publisher(place) else {
-            unreachable!()
-        };
-        places.push(had(listen(rt, alloc, lanes, port, limits))?)?;
-        let line = format!(in alloc; "{name} 127.0.0.1:{port}\n")?;
-        lines.push_str(line.as_str())?;
-    }
-    Ok((places, lines))
-}
-
 /// Makes the lanes of the tenants and listens for each publisher.
 fn ready_for<R: Net<Listener = TcpListener, Stream = TcpStream> + Clock>(
     rt: &R,
     alloc: Global,
     tenants: &Tenants,
-    limits: Limits,
-) -> Result<Ready, Fault> {
+    setting: &Setting,
+) -> Result<Ready, HostFault> {
+    let turns = setting.limits.turns;
     let (ends, far) = lanes_of(alloc, tenants.lanes(), RING)?;
-    let (places, lines) = places_of(rt, alloc, tenants, limits)?;
-    let sleep = had(Sleep::new(rt, alloc, Patience::of(limits.turns).events))?;
+    let (places, lines) = places_of(rt, alloc, tenants, setting)?;
+    let sleep = had(Sleep::new(rt, alloc, Patience::of(turns).events))?;
     Ok(Ready {
         ends,
         far,
         places,
         lines,
         sleep,
-        turns: limits.turns,
+        turns,
     })
 }
 
@@ -231,11 +153,11 @@ fn resume_and_serve<
     Ok(service.into_rows())
 }
 
-/// Serves the tenants of the text over an empty table. The lines that tell where are written once all sockets listen, and before
-/// a worker starts.
+/// Serves the tenants over an empty table, until each worker ended or the turns are spent. The lines that tell where are written once all
+/// sockets listen, and before a worker starts.
 ///
-/// Refusals: the tenants text's first fault, memory, the table's refusal of an opening row, and `Device` where a socket, a
-/// thread or a random source isn't to be had (at once, with nothing joined), or where a worker's device failed.
+/// Refusals: memory, the table's refusal of an opening row, `Listen` where a port can't be had at one of the addresses, and `Device` where
+/// another thing of the machine isn't to be had (at once, with nothing joined), or where a worker's device failed.
 pub fn hosted<
     R: Net<Listener = TcpListener, Stream = TcpStream>
         + Threads
@@ -247,16 +169,22 @@ pub fn hosted<
         + 'static,
     T: Rows + Drop,
     W: Write,
->(rt: &R, alloc: Global, rows: T, text: &str, limits: Limits, output: &mut W) -> Result<(), Fault>
+>(
+    rt: &R,
+    alloc: Global,
+    rows: T,
+    tenants: Tenants,
+    setting: &Setting,
+    output: &mut W,
+) -> Result<(), HostFault>
     requires empty { T.content rows ≡ no_rows }
 {
-    let tenants = tenants_of(alloc, text)?;
-    let ready = ready_for(rt, alloc, &tenants, limits)?;
-    open_and_serve(rt, alloc, rows, tenants, ready, output)
+    let ready = ready_for(rt, alloc, &tenants, setting)?;
+    open_and_serve(rt, alloc, rows, tenants, ready, output)?;
+    Ok(())
 }
 
-/// Serves the tenants over a table that is there already, as [`hosted`] does, and gives the table back once each worker ended or the turns are
-/// spent. The table is dropped with a refusal.
+/// Serves the tenants over a table that is there already, as [`hosted`] does, and gives the table back. The table is dropped with a refusal.
 pub fn hosted_on<
     R: Net<Listener = TcpListener, Stream = TcpStream>
         + Threads
@@ -273,14 +201,41 @@ pub fn hosted_on<
     alloc: Global,
     rows: T,
     tenants: Tenants,
-    limits: Limits,
+    setting: &Setting,
     output: &mut W,
-) -> Result<T, Fault> {
-    let ready = ready_for(rt, alloc, &tenants, limits)?;
-    resume_and_serve(rt, alloc, rows, tenants, ready, output)
+) -> Result<T, HostFault> {
+    let ready = ready_for(rt, alloc, &tenants, setting)?;
+    Ok(resume_and_serve(rt, alloc, rows, tenants, ready, output)?)
 }
 
-/// Serves the tenants of the text over TCP and UDP on loopback, over an empty table, until each worker ended or the turns are
+/// Serves the tenants of the text over TCP and UDP, over an empty table, as [`hosted`] does.
+fn hosted_text<
+    R: Net<Listener = TcpListener, Stream = TcpStream>
+        + Threads
+        + Clock
+        + RandomSource
+        + Copy
+        + Send
+        + Drop
+        + 'static,
+    T: Rows + Drop,
+    W: Write,
+>(
+    rt: &R,
+    alloc: Global,
+    rows: T,
+    text: &str,
+    limits: Limits,
+    output: &mut W,
+) -> Result<(), HostFault>
+    requires empty { T.content rows ≡ no_rows }
+{
+    let tenants = tenants_of(alloc, text)?;
+    let setting = Setting::on_loopback(alloc, limits)?;
+    hosted(rt, alloc, rows, tenants, &setting, output)
+}
+
+/// Serves the tenants of the text over TCP and UDP on 127.0.0.1, over an empty table, until each worker ended or the turns are
 /// spent. Writes `NAME 127.0.0.1:PORT` for each publisher to the output once all of them listen, and a fault line to the faults.
 /// Answers the exit status (docs/PROTOCOL.md, "The tenants text and scripts"); a fault line that can't be written changes none.
 pub fn host<
@@ -299,7 +254,7 @@ pub fn host<
 >(rt: &R, rows: T, text: &str, limits: Limits, output: &mut W, faults: &mut F) -> u8
     requires empty { T.content rows ≡ no_rows }
 {
-    match hosted(rt, rt.alloc(), rows, text, limits, output) {
+    match hosted_text(rt, rt.alloc(), rows, text, limits, output) {
         Ok(()) => 0,
         Err(fault) => {
             let _ = writeln!(faults, "{fault}");

@@ -41,7 +41,10 @@
 
 mod clock;
 mod door;
+mod fault;
 mod hosting;
+mod listening;
+mod lookout;
 mod nonces;
 mod packets;
 mod progress;
@@ -51,4 +54,6 @@ mod waking;
 mod watch;
 mod workers;
 
-pub use hosting::{Limits, host, hosted, hosted_on};
+pub use fault::HostFault;
+pub use hosting::{host, hosted, hosted_on};
+pub use listening::{Limits, Setting};

@@ -1,6 +1,6 @@
 //! The machine's datagram sockets as doors. They tell nothing.
 
-use crate::sockets::nothing_came;
+use crate::sockets::{Sockets, nothing_came};
 use hdl_serve::{DoorFault, Packets};
 use hdl_trail::Peers;
 use std::net::{SocketAddr, UdpSocket};
@@ -8,20 +8,35 @@ use std::net::{SocketAddr, UdpSocket};
 /// How many datagrams that are no frame one call passes over.
 const PASSED: u32 = 64;
 
-/// A datagram socket, and who has which number.
+/// Where a datagram came from: the place of the socket that received it, and the sender's address. The reply goes the same way.
+#[derive(Clone, Copy, Debug, PartialEq, Eq)]
+pub struct Origin {
+    place: usize,
+    address: SocketAddr,
+}
+
+/// The datagram sockets of a publisher, and who has which number.
 #[derive(Drop)]
 pub struct SocketPackets {
-    socket: UdpSocket,
-    peers: Peers<SocketAddr>,
+    sockets: Sockets<UdpSocket>,
+    peers: Peers<Origin>,
     faults: u64,
 }
 
 impl SocketPackets {
-    pub fn new(socket: UdpSocket, peers: Peers<SocketAddr>) -> SocketPackets {
+    pub fn new(sockets: Sockets<UdpSocket>, peers: Peers<Origin>) -> SocketPackets {
         SocketPackets {
-            socket,
+            sockets,
             peers,
             faults: 0,
+        }
+    }
+
+    /// Sends octets back to where they are asked from. Whether they went.
+    fn send_back(&self, to: Origin, octets: &[u8]) -> bool {
+        match self.sockets.get(to.place) {
+            Some(socket) => socket.send_to(octets, to.address).is_ok(),
+            None => false,
         }
     }
 }
@@ -39,8 +54,10 @@ impl Packets for SocketPackets {
 
     fn receive(&mut self, buffer: &mut [u8]) -> Result<Option<(u16, usize)>, DoorFault> {
         for _ in 0..PASSED {
-            match self.socket.recv_from(buffer) {
-                Ok((length, from)) => {
+            match self.sockets.take(buffer) {
+                Ok((place, (length, address))) => {
+                    let length = length.min(buffer.len());
+                    let from = Origin { place, address };
                     if let Ok(Some(peer)) = self.peers.came(from, &buffer[..length]) {
                         return Ok(Some((peer, length)));
                     }
@@ -58,7 +75,7 @@ impl Packets for SocketPackets {
     fn send(&mut self, peer: u16, octets: &[u8]) -> Result<(), DoorFault> {
         self.peers.answered(octets);
         if let Some(to) = self.peers.address(peer) {
-            if self.socket.send_to(octets, to).is_ok() {
+            if self.send_back(to, octets) {
                 return Ok(());
             }
         }

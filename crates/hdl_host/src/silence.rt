@@ -1,18 +1,13 @@
 //! Since when the connections of a publisher are silent, and whether a client waits for one of its lanes.
 
-use mio::unix::SourceFd;
-use mio::{Events, Interest, Poll, Token};
+use crate::sockets::Sockets;
 use std::alloc::Global;
 use std::io;
-use std::net::{Net, TcpListener};
-use std::os::fd::AsRawFd;
+use std::net::{Net, TcpListener, TcpStream};
 use std::sync::Arc;
 use std::sync::atomic::AtomicU64;
 use std::sync::atomic::Ordering::SeqCst;
 use std::time::{Duration, Instant};
-
-/// The token of the one source of a lookout.
-const WAITS: Token = Token(0);
 
 /// The moment of a lane without a connection, which is free for whoever comes: it counts as silent longer than any other.
 const FREE: u64 = 0;
@@ -53,44 +48,10 @@ impl Silences {
     }
 }
 
-/// Whether somebody waits for a listener's `accept`.
-#[derive(Drop)]
-struct Lookout {
-    poll: Poll,
-    events: Events,
-}
-
-impl Lookout {
-    fn new<R: Net>(rt: &R, alloc: Global) -> io::Result<Lookout> {
-        Ok(Lookout {
-            poll: Poll::new(rt)?,
-            events: Events::with_capacity(alloc, 1)?,
-        })
-    }
-
-    /// Looks, without waiting. The listener is registered for this one look: a listener that was ready before is told of
-    /// then, and a connection that comes between two looks wakes nobody.
-    fn sees(&mut self, listener: &TcpListener) -> bool {
-        let descriptor = listener.as_raw_fd();
-        let mut source = SourceFd(&descriptor);
-        let registry = self.poll.registry();
-        if registry
-            .register(&mut source, WAITS, Interest::READABLE)
-            .is_err()
-        {
-            return false;
-        }
-        let looked = self.poll.poll(&mut self.events, Some(Duration::ZERO));
-        let _ = self.poll.registry().deregister(&mut source);
-        looked.is_ok() && !self.events.is_empty()
-    }
-}
-
 /// The place of a stream lane among those of its publisher.
 #[derive(Drop)]
 pub struct Seat {
-    pub listener: TcpListener,
-    lookout: Lookout,
+    listeners: Sockets<TcpListener>,
     silences: Arc<Silences>,
     place: usize,
     /// When the publisher's clocks began.
@@ -133,17 +94,39 @@ impl Seat {
     pub fn makes_room(&mut self, now: u64) -> bool {
         now.saturating_sub(self.since) >= self.idle
             && self.silences.is_longest(self.place, self.since)
-            && self.lookout.sees(&self.listener)
+            && self.listeners.has_more()
+    }
+
+    /// A connection that came at one of the publisher's addresses. It may wait for one for a while.
+    pub fn accept(&mut self) -> io::Result<TcpStream> {
+        let (_, stream) = self.listeners.take(&mut [])?;
+        Ok(stream)
     }
 }
 
-/// A seat for each of so many lanes at this listener.
+/// Other owners of the same listeners.
+fn shared(alloc: Global, listeners: &[TcpListener]) -> io::Result<Vec<TcpListener>> {
+    let mut owned = Vec::with_capacity(alloc, listeners.len())?;
+    for listener in listeners {
+        owned.push(listener.try_clone()?)?;
+    }
+    Ok(owned)
+}
+
+/// How long a publisher's workers wait for a connection, and for how many seconds a connection may be silent while another client waits.
+#[derive(Clone, Copy)]
+pub struct Waits {
+    pub door: Duration,
+    pub idle: u32,
+}
+
+/// A seat for each of so many lanes at these listeners.
 pub fn seats_at<R: Net + std::rt::Clock>(
     rt: &R,
     alloc: Global,
-    listener: &TcpListener,
+    listeners: &[TcpListener],
     lanes: u16,
-    idle: u32,
+    waits: Waits,
 ) -> io::Result<Vec<Seat>> {
     let lanes = usize::from(lanes);
     let silences = Arc::new(alloc, Silences::new(alloc, lanes)?)?;
@@ -151,12 +134,11 @@ pub fn seats_at<R: Net + std::rt::Clock>(
     let mut seats = Vec::with_capacity(alloc, lanes)?;
     for place in 0..lanes {
         seats.push(Seat {
-            listener: listener.try_clone()?,
-            lookout: Lookout::new(rt, alloc)?,
+            listeners: Sockets::new(rt, alloc, shared(alloc, listeners)?, waits.door)?,
             silences: Arc::try_clone(&silences)?,
             place,
             start,
-            idle: u64::from(idle).saturating_mul(1000),
+            idle: u64::from(waits.idle).saturating_mul(1000),
             since: 1,
         })?;
     }

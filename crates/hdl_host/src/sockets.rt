@@ -1,6 +1,11 @@
-//! What failed calls of a socket say.
+//! The sockets of a lane, one at each address, and what failed calls of a socket say.
 
-use std::io::ErrorKind;
+use crate::lookout::Lookout;
+use std::alloc::Global;
+use std::io::{self, ErrorKind};
+use std::net::{Net, SocketAddr, TcpListener, TcpStream, UdpSocket};
+use std::os::fd::{AsRawFd, OwnedFd};
+use std::time::Duration;
 
 /// Whether a call that failed says only that nothing came: it would wait or was interrupted, or the peer gave up before it was
 /// accepted.
@@ -12,4 +17,121 @@ pub fn nothing_came(kind: ErrorKind) -> bool {
             | ErrorKind::Interrupted
             | ErrorKind::ConnectionAborted
     )
+}
+
+/// A socket at which something comes.
+pub trait Source: AsRawFd {
+    /// What comes.
+    type Taken: Drop;
+
+    /// Takes what came first; octets stand at the front of the buffer.
+    fn take(&self, buffer: &mut [u8]) -> io::Result<Self::Taken>;
+
+    /// Has `take` wait so long at most, or not at all.
+    fn limit(&self, most: Option<Duration>) -> io::Result<()>;
+}
+
+impl Source for TcpListener {
+    type Taken = TcpStream;
+
+    fn take(&self, _buffer: &mut [u8]) -> io::Result<TcpStream> {
+        let (stream, _) = self.accept()?;
+        Ok(stream)
+    }
+
+    /// A socket's time to receive holds for `accept` too, but listeners have no call to set it.
+    fn limit(&self, most: Option<Duration>) -> io::Result<()> {
+        match most {
+            Some(_) => TcpStream::from(OwnedFd::from(self.try_clone()?)).set_read_timeout(most),
+            None => self.set_nonblocking(true),
+        }
+    }
+}
+
+impl Source for UdpSocket {
+    /// How many octets, and the sender.
+    type Taken = (usize, SocketAddr);
+
+    fn take(&self, buffer: &mut [u8]) -> io::Result<(usize, SocketAddr)> {
+        self.recv_from(buffer)
+    }
+
+    fn limit(&self, most: Option<Duration>) -> io::Result<()> {
+        match most {
+            Some(_) => self.set_read_timeout(most),
+            None => self.set_nonblocking(true),
+        }
+    }
+}
+
+/// The sockets of a lane, one at each address.
+#[derive(Drop)]
+pub struct Sockets<S> {
+    sockets: Vec<S>,
+    /// The place of the one that is asked first.
+    first: usize,
+    lookout: Lookout,
+    most: Duration,
+}
+
+impl<S: Source + Drop> Sockets<S> {
+    /// Sockets at which a call waits so long at most. Where there is one its own call waits; the calls of several don't, and a look at them all does.
+    pub fn new<R: Net>(
+        rt: &R,
+        alloc: Global,
+        sockets: Vec<S>,
+        most: Duration,
+    ) -> io::Result<Sockets<S>> {
+        let own = if sockets.len() == 1 { Some(most) } else { None };
+        for socket in &sockets {
+            socket.limit(own)?;
+        }
+        Ok(Sockets {
+            sockets,
+            first: 0,
+            lookout: Lookout::new(rt, alloc)?,
+            most,
+        })
+    }
+
+    /// The socket at this place.
+    pub fn get(&self, place: usize) -> Option<&S> {
+        self.sockets.get(place)
+    }
+
+    /// Whether something came for one of them, without waiting.
+    pub fn has_more(&mut self) -> bool {
+        self.lookout.sees(self.sockets.as_slice(), Duration::ZERO)
+    }
+
+    /// Asks each of them once, the one that gave something last at the end, so that none keeps another from being asked.
+    fn ask(&mut self, buffer: &mut [u8]) -> io::Result<(usize, S::Taken)> {
+        let count = self.sockets.len();
+        for turn in 0..count {
+            let place = self.first.wrapping_add(turn) % count;
+            let Some(socket) = self.sockets.get(place) else {
+                break;
+            };
+            match socket.take(buffer) {
+                Ok(taken) => {
+                    self.first = place.wrapping_add(1);
+                    return Ok((place, taken));
+                }
+                Err(e) if nothing_came(e.kind()) => {}
+                Err(e) => return Err(e),
+            }
+        }
+        Err(io::Error::from(ErrorKind::WouldBlock))
+    }
+
+    /// Takes what came for one of them, with its place. It may wait for a while.
+    pub fn take(&mut self, buffer: &mut [u8]) -> io::Result<(usize, S::Taken)> {
+        match self.ask(buffer) {
+            Err(e) if nothing_came(e.kind()) && self.sockets.len() > 1 => {
+                self.lookout.sees(self.sockets.as_slice(), self.most);
+                self.ask(buffer)
+            }
+            answer => answer,
+        }
+    }
 }

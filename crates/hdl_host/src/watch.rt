@@ -4,7 +4,7 @@ use crate::progress::Progress;
 use crate::silence::Seat;
 use crate::sockets::nothing_came;
 use std::io::{self, ErrorKind, Read, Write};
-use std::net::{TcpListener, TcpStream};
+use std::net::TcpStream;
 use std::time::Duration;
 
 /// For how many seconds one call waits for octets, or for room, behind which the limits are looked at.
@@ -37,9 +37,9 @@ impl<R: std::rt::Clock> Watch<R> {
         }
     }
 
-    /// The listener of the lane.
-    pub fn listener(&self) -> &TcpListener {
-        &self.seat.listener
+    /// A connection for the lane. It may wait for one for a while.
+    pub fn accept(&mut self) -> io::Result<TcpStream> {
+        self.seat.accept()
     }
 
     /// A connection begins.

@@ -5,10 +5,11 @@ ghost use Rattle.hdl_lanes.specs.Lane.{put_into, taken_from};
 
 use crate::clock::{MachineClock, Part};
 use crate::door::SocketDoor;
-use crate::hosting::{Place, had};
+use crate::listening::{Place, had};
 use crate::nonces::MachineNonces;
 use crate::packets::SocketPackets;
 use crate::silence::Seat;
+use crate::sockets::Sockets;
 use crate::waking::{Bell, Sleep};
 use crate::watch::Watch;
 use hdl_replay::Fault;
@@ -72,7 +73,7 @@ fn start_stream<R: Threads + Clock + RandomSource + Copy + Send + Drop + 'static
 fn start_packets<R: Threads + Clock + RandomSource + Copy + Send + Drop + 'static>(
     rt: &R,
     alloc: Global,
-    socket: UdpSocket,
+    sockets: Sockets<UdpSocket>,
     side: Side,
 ) -> Result<JoinHandle<WorkerEnd>, Fault> {
     let Side { far, bell, turns } = side;
@@ -84,7 +85,7 @@ fn start_packets<R: Threads + Clock + RandomSource + Copy + Send + Drop + 'stati
         move ||
             requires { (put_into inlet ≡ []) × (taken_from outcomes ≡ []) }
         {
-            let mut packets = SocketPackets::new(socket, Peers::new(alloc));
+            let mut packets = SocketPackets::new(sockets, Peers::new(alloc));
             let mut clock = MachineClock::new(theirs, Part::Works(bell));
             let mut nonces = MachineNonces::new(rng);
             packet_worker(
@@ -112,14 +113,14 @@ fn start_place<R: Threads + Clock + RandomSource + Copy + Send + Drop + 'static>
     sides: &mut IntoIter<Side>,
     workers: &mut Vec<JoinHandle<WorkerEnd>>,
 ) -> Result<(), Fault> {
-    let Place { seats, socket } = place;
+    let Place { seats, sockets } = place;
     for seat in seats {
         if let Some(side) = sides.next() {
             workers.push(start_stream(rt, alloc, seat, side)?)?;
         }
     }
     if let Some(side) = sides.next() {
-        workers.push(start_packets(rt, alloc, socket, side)?)?;
+        workers.push(start_packets(rt, alloc, sockets, side)?)?;
     }
     Ok(())
 }

@@ -1,0 +1,61 @@
+//! What a server says on standard error as it begins and as it ends.
+
+use hdl_core::Tenants;
+use hdl_host::Limits;
+use hdl_status::VERSION;
+use std::fmt;
+
+/// Where the table is.
+#[derive(Clone, Copy, Debug)]
+pub enum Kept<'a> {
+    /// In memory alone; the handles that were read last may take so many octets more.
+    Memory { row_cache: usize },
+    /// In this file.
+    File(&'a str),
+}
+
+impl fmt::Display for Kept<'_> {
+    fn fmt<W: fmt::Write>(&self, f: &mut fmt::Formatter<W>) -> fmt::Result {
+        match self {
+            Kept::Memory { row_cache } => write!(f, "memory, row cache of {row_cache} octets"),
+            Kept::File(path) => write!(f, "{path}"),
+        }
+    }
+}
+
+/// What a server begins with.
+#[derive(Clone, Copy, Debug)]
+struct Beginning<'a> {
+    publishers: usize,
+    lanes: u16,
+    kept: Kept<'a>,
+    limits: Limits,
+}
+
+impl fmt::Display for Beginning<'_> {
+    fn fmt<W: fmt::Write>(&self, f: &mut fmt::Formatter<W>) -> fmt::Result {
+        let Limits { turns, idle } = self.limits;
+        write!(f, "{} publishers, {} lanes, table in {}", self.publishers, self.lanes, self.kept)?;
+        write!(f, ", connections silent for {idle} seconds")?;
+        if turns < u64::MAX {
+            write!(f, ", {turns} turns")?;
+        }
+        Ok(())
+    }
+}
+
+/// Says what begins: which program, over which table, for whom, and within which limits.
+pub fn say_begins(rt: &HostRuntime, tenants: &Tenants, kept: Kept<'_>, limits: Limits) {
+    let beginning = Beginning {
+        publishers: tenants.publishers(),
+        lanes: tenants.lanes(),
+        kept,
+        limits,
+    };
+    let _ = eprintln!(rt; "handled {VERSION}: begins: {beginning}");
+}
+
+/// Says that the server ends of itself.
+pub fn say_ends(rt: &HostRuntime) {
+    let _ = eprintln!(rt; "handled: ends: the turns are spent");
+}

@@ -1,0 +1,73 @@
+//! Why a server ends with a fault line.
+
+use hdl_replay::Fault;
+use std::alloc::{AllocError, AllocFailed};
+use std::fmt;
+use std::io::ErrorKind;
+use std::net::SocketAddr;
+
+/// Why a server didn't serve, or ended with a fault.
+#[derive(Clone, Copy, Debug)]
+pub enum HostFault {
+    /// The faults that a run of a script has too.
+    Run(Fault),
+    /// The system doesn't let the server listen here, for a reason of this kind.
+    Listen(SocketAddr, ErrorKind),
+}
+
+impl HostFault {
+    /// The exit status (docs/PROTOCOL.md, "The tenants text and scripts").
+    pub fn status(&self) -> u8 {
+        match self {
+            HostFault::Run(fault) => fault.status(),
+            HostFault::Listen(_, _) => Fault::Device.status(),
+        }
+    }
+}
+
+/// What is wrong with an address, and what to do.
+fn advice(kind: ErrorKind) -> &'static str {
+    match kind {
+        ErrorKind::AddrInUse => {
+            "a program has this port there, or the address is given twice: end that program, or take another port"
+        }
+        ErrorKind::AddrNotAvailable => {
+            "this machine doesn't have the address: name one that `ip address` shows"
+        }
+        ErrorKind::PermissionDenied => {
+            "it isn't permitted: take a port from 1024 on, or give the program the right"
+        }
+        ErrorKind::Unsupported => "the system has no addresses of this kind: leave it out",
+        _ => "the system refused: look at the address and at how many files the program may open",
+    }
+}
+
+impl fmt::Display for HostFault {
+    fn fmt<W: fmt::Write>(&self, f: &mut fmt::Formatter<W>) -> fmt::Result {
+        match self {
+            HostFault::Run(fault) => write!(f, "{fault}"),
+            HostFault::Listen(address, kind) => {
+                let advice = advice(*kind);
+                write!(f, "{}: cannot listen on {address}: {advice}", Fault::Device)
+            }
+        }
+    }
+}
+
+impl From<Fault> for HostFault {
+    fn from(fault: Fault) -> HostFault {
+        HostFault::Run(fault)
+    }
+}
+
+impl From<AllocError> for HostFault {
+    fn from(_: AllocError) -> HostFault {
+        HostFault::Run(Fault::NoMemory)
+    }
+}
+
+impl<T: Drop> From<AllocFailed<T>> for HostFault {
+    fn from(_: AllocFailed<T>) -> HostFault {
+        HostFault::Run(Fault::NoMemory)
+    }
+}

@@ -1,0 +1,142 @@
+//! Listening: the sockets of each publisher, and the lines that tell where they are.
+
+use crate::fault::HostFault;
+use crate::silence::{Seat, Waits, seats_at};
+use crate::sockets::Sockets;
+use crate::waking::Patience;
+use hdl_core::Tenants;
+use hdl_replay::Fault;
+use std::alloc::{AllocError, Global};
+use std::io;
+use std::net::{IpAddr, Ipv4Addr, Net, SocketAddr, TcpListener, TcpStream, UdpSocket};
+use std::rt::Clock;
+
+/// How long a server serves, and how long it waits for its clients.
+#[derive(Clone, Copy, Debug, PartialEq, Eq)]
+pub struct Limits {
+    /// How many turns each worker and the service have.
+    pub turns: u64,
+    /// For how many seconds a connection may say nothing while another client of its publisher waits.
+    pub idle: u32,
+}
+
+impl Limits {
+    /// No end of turns, and a minute of silence.
+    pub const DEFAULT: Limits = Limits {
+        turns: u64::MAX,
+        idle: 60,
+    };
+}
+
+/// Where a server listens, and its limits.
+#[derive(Debug, Drop)]
+pub struct Setting {
+    /// The addresses at which each publisher's port is opened, by TCP and UDP.
+    pub addresses: Vec<IpAddr>,
+    pub limits: Limits,
+}
+
+impl Setting {
+    /// 127.0.0.1 alone, with these limits.
+    pub fn on_loopback(alloc: Global, limits: Limits) -> Result<Setting, AllocError> {
+        let mut addresses = Vec::new(alloc);
+        addresses.push(IpAddr::V4(Ipv4Addr::LOCALHOST))?;
+        Ok(Setting { addresses, limits })
+    }
+}
+
+/// A publisher's datagram sockets, and the seats of its stream lanes.
+#[derive(Drop)]
+pub struct Place {
+    pub seats: Vec<Seat>,
+    pub sockets: Sockets<UdpSocket>,
+}
+
+/// What is opened at the addresses of a publisher.
+#[derive(Drop)]
+struct Opened {
+    listeners: Vec<TcpListener>,
+    sockets: Vec<UdpSocket>,
+}
+
+/// What the machine doesn't give is a device fault.
+pub fn had<T: Drop>(gained: io::Result<T>) -> Result<T, Fault> {
+    match gained {
+        Ok(value) => Ok(value),
+        Err(_) => Err(Fault::Device),
+    }
+}
+
+/// Listens for connections and datagrams.
+fn open_at<R: Net<Listener = TcpListener, Stream = TcpStream>>(
+    rt: &R,
+    at: SocketAddr,
+) -> io::Result<(TcpListener, UdpSocket)> {
+    Ok((TcpListener::bind(rt, at)?, UdpSocket::bind(rt, at)?))
+}
+
+/// Opens a publisher's port at each address, and adds the line of each.
+fn open<R: Net<Listener = TcpListener, Stream = TcpStream>>(
+    rt: &R,
+    alloc: Global,
+    addresses: &[IpAddr],
+    publisher: (&str, u16),
+    lines: &mut String,
+) -> Result<Opened, HostFault> {
+    let (name, port) = publisher;
+    let mut listeners = Vec::new(alloc);
+    let mut sockets = Vec::new(alloc);
+    for address in addresses {
+        let at = SocketAddr::new(*address, port);
+        match open_at(rt, at) {
+            Ok((listener, socket)) => {
+                listeners.push(listener)?;
+                sockets.push(socket)?;
+            }
+            Err(e) => return Err(HostFault::Listen(at, e.kind())),
+        }
+        let line = format!(in alloc; "{name} {at}\n")?;
+        lines.push_str(line.as_str())?;
+    }
+    Ok(Opened { listeners, sockets })
+}
+
+/// The place of a publisher with so many lanes, of which the last is that of its datagrams.
+fn place_of<R: Net + Clock>(
+    rt: &R,
+    alloc: Global,
+    opened: Opened,
+    lanes: u16,
+    limits: Limits,
+) -> io::Result<Place> {
+    let Opened { listeners, sockets } = opened;
+    let waits = Waits {
+        door: Patience::of(limits.turns).door,
+        idle: limits.idle,
+    };
+    let lanes = lanes.saturating_sub(1);
+    Ok(Place {
+        seats: seats_at(rt, alloc, listeners.as_slice(), lanes, waits)?,
+        sockets: Sockets::new(rt, alloc, sockets, waits.door)?,
+    })
+}
+
+/// The sockets of each publisher, and the lines that tell where they are.
+pub fn places_of<R: Net<Listener = TcpListener, Stream = TcpStream> + Clock>(
+    rt: &R,
+    alloc: Global,
+    tenants: &Tenants,
+    setting: &Setting,
+) -> Result<(Vec<Place>, String), HostFault> {
+    let mut places = Vec::new(alloc);
+    let mut lines = String::new(alloc);
+    let addresses = setting.addresses.as_slice();
+    for place in 0..tenants.publishers() {
+        let Some((name, lanes, port)) = tenants.publisher(place) else {
+            unreachable!()
+        };
+        let opened = open(rt, alloc, addresses, (name, port), &mut lines)?;
+        places.push(had(place_of(rt, alloc, opened, lanes, setting.limits))?)?;
+    }
+    Ok((places, lines))
+}

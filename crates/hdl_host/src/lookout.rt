@@ -1,0 +1,46 @@
+//! A look at sockets: whether something came for one of them.
+
+use mio::unix::SourceFd;
+use mio::{Events, Interest, Poll, Token};
+use std::alloc::Global;
+use std::io;
+use std::net::Net;
+use std::os::fd::AsRawFd;
+use std::time::Duration;
+
+/// The token of every socket: it isn't asked which one is ready.
+const READY: Token = Token(0);
+
+/// A look at sockets.
+#[derive(Drop)]
+pub struct Lookout {
+    poll: Poll,
+    events: Events,
+}
+
+impl Lookout {
+    pub fn new<R: Net>(rt: &R, alloc: Global) -> io::Result<Lookout> {
+        Ok(Lookout {
+            poll: Poll::new(rt)?,
+            events: Events::with_capacity(alloc, 1)?,
+        })
+    }
+
+    /// Whether one of the sockets is ready, for which it waits so long at most. They are registered for this one look: one that was
+    /// ready before is told of then, and what comes between two looks wakes nobody.
+    pub fn sees<S: AsRawFd>(&mut self, sockets: &[S], most: Duration) -> bool {
+        for socket in sockets {
+            let descriptor = socket.as_raw_fd();
+            let mut source = SourceFd(&descriptor);
+            let registry = self.poll.registry();
+            // one that can't be registered is asked again at the next look
+            let _ = registry.register(&mut source, READY, Interest::READABLE);
+        }
+        let looked = self.poll.poll(&mut self.events, Some(most));
+        for socket in sockets {
+            let descriptor = socket.as_raw_fd();
+            let _ = self.poll.registry().deregister(&mut SourceFd(&descriptor));
+        }
+        looked.is_ok() && !self.events.is_empty()
+    }
+}
