@@ -14,6 +14,7 @@
 ghost use Rattle.std.specs.Prelude.{◌≡◌, ◌≤◌, ◌<◌, ◌+◌, ◌==◌, [], None, Some, IsFalse, IfNone, IfSome, find, length, option_map};
 ghost use Rattle.std.specs.List.{list_any, position};
 ghost use Rattle.hdl_limits.specs.declared.TheConstants.{PEERS_MAX};
+ghost use Rattle.hdl_trail.specs.Allowance.{answers_challenge, is_within_last};
 ghost use Rattle.hdl_trail.specs.Exchange.{exchange_of, with_reply};
 ghost use Rattle.hdl_trail.specs.Kept.{answered, challenged, ended, is_held, is_of, operation_of, redeemed, settled, with_piece};
 ghost use Rattle.hdl_trail.specs.Trail.{followed};
@@ -122,6 +123,16 @@ impl Trail {
         }
     }
 
+    /// Whether a reply to what came last whose message has so many octets is one datagram, or has at most so many times the octets that asked.
+    pub fn is_within(&self, times: u32, length: u32) -> bool
+        ensures { result ≡ is_within_last times length self.now.exchange }
+    {
+        match self.exchange {
+            Some(exchange) => exchange.is_within(times, length),
+            None => false,
+        }
+    }
+
     /// The reply to what came last is whole, or there is none.
     pub fn settle(&mut self)
         ensures followed { followed self.new ≡ settled (followed self.old) self.old.exchange }
@@ -151,6 +162,16 @@ impl Trail {
         self.end(exchange);
         self.redeem(exchange.key, operation, code);
         self.challenge(exchange.key.number, code, session);
+    }
+
+    /// Whether the frame that came last is a challenge response, or makes one whole, and the reply to it says success.
+    pub fn answers_challenge(&self) -> bool
+        ensures { result ≡ answers_challenge (followed self.now) self.now.exchange }
+    {
+        let Some(exchange) = self.exchange else {
+            return false;
+        };
+        self.operation(exchange) == Some(RESPONSE) && exchange.is_success()
     }
 
     /// The operation of the message that the frame brings, or makes whole.
