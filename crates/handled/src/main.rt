@@ -71,7 +71,6 @@ fn run(rt: &HostRuntime) -> Result<Next, TabledFault> {
             replay_on(rt, &file, text.as_str())?;
             Ok(Next::Ended(0))
         }
-        Asked::NoAddress(_) => Ok(Next::Ended(2)),
         Asked::Serve {
             setting,
             row_cache,

@@ -1,7 +1,7 @@
 //! What a server says on standard error as it begins and as it ends.
 
 use hdl_core::Tenants;
-use hdl_host::Limits;
+use hdl_host::{AMPLIFY, Limits};
 use hdl_status::VERSION;
 use std::fmt;
 
@@ -34,9 +34,17 @@ struct Beginning<'a> {
 
 impl fmt::Display for Beginning<'_> {
     fn fmt<W: fmt::Write>(&self, f: &mut fmt::Formatter<W>) -> fmt::Result {
-        let Limits { turns, idle } = self.limits;
+        let Limits {
+            turns,
+            idle,
+            amplify,
+        } = self.limits;
         write!(f, "{} publishers, {} lanes, table in {}", self.publishers, self.lanes, self.kept)?;
-        write!(f, ", connections silent for {idle} seconds")?;
+        write!(f, ", idle {idle} seconds, amplify ")?;
+        match amplify {
+            Some(times) => write!(f, "{times}")?,
+            None => write!(f, "{AMPLIFY} beyond loopback")?,
+        }
         if turns < u64::MAX {
             write!(f, ", {turns} turns")?;
         }

@@ -31,8 +31,6 @@ pub enum Asked {
         row_cache: usize,
         table: Option<TableFile>,
     },
-    /// Nothing: this is no address to listen at.
-    NoAddress(String),
     /// Nothing: help, the version or a fault was printed, and this is the exit status.
     Ended(u8),
 }
@@ -90,6 +88,16 @@ fn serve_command<'a>(alloc: Global) -> Result<Command<'a>, AllocError> {
                 .value_parser(value_parser!(u32).range(1..)),
         )?
         .arg(
+            Arg::new(alloc, "amplify")
+                .long("amplify")
+                .value_name("N")
+                .help(
+                    "Answers by UDP with at most N times the octets that asked, or one datagram, until the client answers a challenge; 8 by default, on loopback no limit unless N is given",
+                )
+                .action(ArgAction::Set)
+                .value_parser(value_parser!(u32).range(1..)),
+        )?
+        .arg(
             Arg::new(alloc, "row-cache")
                 .long("row-cache")
                 .value_name("OCTETS")
@@ -132,6 +140,7 @@ fn limits(found: &ArgMatches) -> Limits {
             .get_one::<u64>("turns")
             .unwrap_or(Limits::DEFAULT.turns),
         idle: found.get_one::<u32>("idle").unwrap_or(Limits::DEFAULT.idle),
+        amplify: found.get_one::<u32>("amplify"),
     }
 }
 
@@ -164,11 +173,32 @@ fn addresses(alloc: Global, words: &[&str]) -> Result<Vec<IpAddr>, AllocError> {
     Ok(addresses)
 }
 
+/// Why the words ask for nothing.
+#[derive(Drop)]
+enum Unclear {
+    /// `clap` has something to say of them.
+    Words(Error),
+    /// This is no address to listen at.
+    Address(String),
+}
+
+impl From<Error> for Unclear {
+    fn from(error: Error) -> Unclear {
+        Unclear::Words(error)
+    }
+}
+
+impl From<AllocError> for Unclear {
+    fn from(error: AllocError) -> Unclear {
+        Unclear::Words(Error::from(error))
+    }
+}
+
 /// What is asked for by the words behind `serve`.
-fn serve_words(alloc: Global, found: &ArgMatches) -> Result<Asked, AllocError> {
+fn serve_words(alloc: Global, found: &ArgMatches) -> Result<Asked, Unclear> {
     let words = found.get_strs("listen").unwrap_or(&[]);
     if let Some(word) = no_address(words) {
-        return Ok(Asked::NoAddress(String::from_str(alloc, word)?));
+        return Err(Unclear::Address(String::from_str(alloc, word)?));
     }
     Ok(Asked::Serve {
         setting: Setting {
@@ -191,10 +221,10 @@ fn table_file(alloc: Global, found: &ArgMatches) -> Result<Option<TableFile>, Al
     }
 }
 
-fn parsed(alloc: Global, words: &[String]) -> Result<Asked, Error> {
+fn parsed(alloc: Global, words: &[String]) -> Result<Asked, Unclear> {
     let matches = command(alloc)?.try_get_matches_from(words)?;
     if let Some(found) = matches.subcommand_matches("serve") {
-        return Ok(serve_words(alloc, found)?);
+        return serve_words(alloc, found);
     }
     match matches.subcommand_matches("replay") {
         Some(found) => Ok(Asked::Replay {
@@ -204,30 +234,33 @@ fn parsed(alloc: Global, words: &[String]) -> Result<Asked, Error> {
     }
 }
 
-/// Reads the command line, and prints what `clap` has to say of it.
+/// Prints what `clap` has to say, and answers the exit status.
+fn told(rt: &HostRuntime, error: Error) -> Result<Asked, Fault> {
+    if error.kind() == ErrorKind::OutOfMemory {
+        return Err(Fault::NoMemory);
+    }
+    let is_help = !error.use_stderr();
+    match error.print(rt) {
+        Err(_) if is_help => Err(Fault::Device),
+        _ => Ok(Asked::Ended(status_of_words(is_help))),
+    }
+}
+
+/// Reads the command line, and prints what there is to say of it.
 pub fn read_words(rt: &HostRuntime) -> Result<Asked, Fault> {
     let Ok(words) = words_of(rt) else {
         // words that are no text, or no memory for them
         let _ = eprintln!(rt; "error: the command line cannot be read");
-        return Ok(Asked::Ended(2));
+        return Ok(Asked::Ended(status_of_words(false)));
     };
     match parsed(rt.alloc(), words.as_slice()) {
-        Ok(Asked::NoAddress(word)) => {
+        Ok(asked) => Ok(asked),
+        Err(Unclear::Words(error)) => told(rt, error),
+        Err(Unclear::Address(word)) => {
             let _ = eprintln!(rt;
                 "error: invalid value '{word}' for '--listen <ADDRESS>': no IPv4 or IPv6 address, such as 192.0.2.1 or 2001:db8::1\n\nFor more information, try '--help'."
             );
             Ok(Asked::Ended(status_of_words(false)))
         }
-        Ok(found) => Ok(found),
-        Err(error) => match error.kind() {
-            ErrorKind::OutOfMemory => Err(Fault::NoMemory),
-            _ => {
-                let is_help = !error.use_stderr();
-                match error.print(rt) {
-                    Err(_) if is_help => Err(Fault::Device),
-                    _ => Ok(Asked::Ended(status_of_words(is_help))),
-                }
-            }
-        },
     }
 }

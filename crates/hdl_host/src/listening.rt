@@ -2,7 +2,7 @@
 
 use crate::fault::HostFault;
 use crate::silence::{Seat, Waits, seats_at};
-use crate::sockets::Sockets;
+use crate::sockets::{PacketSocket, Sockets};
 use crate::waking::Patience;
 use hdl_core::Tenants;
 use hdl_replay::Fault;
@@ -18,14 +18,30 @@ pub struct Limits {
     pub turns: u64,
     /// For how many seconds a connection may say nothing while another client of its publisher waits.
     pub idle: u32,
+    /// How many times the octets that asked a reply over UDP may have, to an address that answered no challenge lately. None: `AMPLIFY` times,
+    /// and on loopback as many as it has.
+    pub amplify: Option<u32>,
 }
+
+/// How many times the octets that asked a reply over UDP may have, where nothing else is said, and the server listens beyond loopback.
+pub const AMPLIFY: u32 = 8;
 
 impl Limits {
     /// No end of turns, and a minute of silence.
     pub const DEFAULT: Limits = Limits {
         turns: u64::MAX,
         idle: 60,
+        amplify: None,
     };
+
+    /// How many times the octets that asked a reply may have, through a datagram socket at this address.
+    fn times_at(self, address: IpAddr) -> Option<u32> {
+        match self.amplify {
+            None if address.is_loopback() => None,
+            None => Some(AMPLIFY),
+            times => times,
+        }
+    }
 }
 
 /// Where a server listens, and its limits.
@@ -49,14 +65,14 @@ impl Setting {
 #[derive(Drop)]
 pub struct Place {
     pub seats: Vec<Seat>,
-    pub sockets: Sockets<UdpSocket>,
+    pub sockets: Sockets<PacketSocket>,
 }
 
 /// What is opened at the addresses of a publisher.
 #[derive(Drop)]
 struct Opened {
     listeners: Vec<TcpListener>,
-    sockets: Vec<UdpSocket>,
+    sockets: Vec<PacketSocket>,
 }
 
 /// What the machine doesn't give is a device fault.
@@ -79,19 +95,20 @@ fn open_at<R: Net<Listener = TcpListener, Stream = TcpStream>>(
 fn open<R: Net<Listener = TcpListener, Stream = TcpStream>>(
     rt: &R,
     alloc: Global,
-    addresses: &[IpAddr],
+    setting: &Setting,
     publisher: (&str, u16),
     lines: &mut String,
 ) -> Result<Opened, HostFault> {
     let (name, port) = publisher;
     let mut listeners = Vec::new(alloc);
     let mut sockets = Vec::new(alloc);
-    for address in addresses {
+    for address in &setting.addresses {
         let at = SocketAddr::new(*address, port);
         match open_at(rt, at) {
             Ok((listener, socket)) => {
                 listeners.push(listener)?;
-                sockets.push(socket)?;
+                let times = setting.limits.times_at(*address);
+                sockets.push(PacketSocket { socket, times })?;
             }
             Err(e) => return Err(HostFault::Listen(at, e.kind())),
         }
@@ -130,12 +147,11 @@ pub fn places_of<R: Net<Listener = TcpListener, Stream = TcpStream> + Clock>(
 ) -> Result<(Vec<Place>, String), HostFault> {
     let mut places = Vec::new(alloc);
     let mut lines = String::new(alloc);
-    let addresses = setting.addresses.as_slice();
     for place in 0..tenants.publishers() {
         let Some((name, lanes, port)) = tenants.publisher(place) else {
             unreachable!()
         };
-        let opened = open(rt, alloc, addresses, (name, port), &mut lines)?;
+        let opened = open(rt, alloc, setting, (name, port), &mut lines)?;
         places.push(had(place_of(rt, alloc, opened, lanes, setting.limits))?)?;
     }
     Ok((places, lines))

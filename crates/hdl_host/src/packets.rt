@@ -1,9 +1,13 @@
 //! The machine's datagram sockets as doors. They tell nothing.
 
-use crate::sockets::{Sockets, nothing_came};
+use crate::instead::too_long;
+use crate::proven::Proven;
+use crate::sockets::{PacketSocket, Sockets, nothing_came};
+use hdl_frame::{ENVELOPE_LEN, Envelope};
 use hdl_serve::{DoorFault, Packets};
 use hdl_trail::Peers;
-use std::net::{SocketAddr, UdpSocket};
+use std::alloc::Global;
+use std::net::SocketAddr;
 
 /// How many datagrams that are no frame one call passes over.
 const PASSED: u32 = 64;
@@ -15,19 +19,36 @@ pub struct Origin {
     address: SocketAddr,
 }
 
-/// The datagram sockets of a publisher, and who has which number.
+/// How far the reply to the last frame is.
+#[derive(Clone, Copy)]
+enum Course {
+    /// Nothing of it was sent.
+    Begins,
+    /// Its datagrams go.
+    Goes,
+    /// Another reply went in its place.
+    IsWithheld,
+}
+
+/// The datagram sockets of a publisher, who has which number, and who answered a challenge.
 #[derive(Drop)]
-pub struct SocketPackets {
-    sockets: Sockets<UdpSocket>,
+pub struct SocketPackets<R> {
+    alloc: Global,
+    sockets: Sockets<PacketSocket>,
     peers: Peers<Origin>,
+    proven: Proven<R, Origin>,
+    course: Course,
     faults: u64,
 }
 
-impl SocketPackets {
-    pub fn new(sockets: Sockets<UdpSocket>, peers: Peers<Origin>) -> SocketPackets {
+impl<R: std::rt::Clock> SocketPackets<R> {
+    pub fn new(rt: R, alloc: Global, sockets: Sockets<PacketSocket>) -> SocketPackets<R> {
         SocketPackets {
+            alloc,
             sockets,
-            peers,
+            peers: Peers::new(alloc),
+            proven: Proven::new(rt, alloc),
+            course: Course::Begins,
             faults: 0,
         }
     }
@@ -35,13 +56,57 @@ impl SocketPackets {
     /// Sends octets back to where they are asked from. Whether they went.
     fn send_back(&self, to: Origin, octets: &[u8]) -> bool {
         match self.sockets.get(to.place) {
-            Some(socket) => socket.send_to(octets, to.address).is_ok(),
+            Some(packets) => packets.socket.send_to(octets, to.address).is_ok(),
             None => false,
+        }
+    }
+
+    /// Whether the reply that begins with this datagram may go whole: it isn't much longer than what asked, or its address answered a challenge, perhaps
+    /// by the very frame that it replies to.
+    fn may_go(&mut self, to: Origin, first: &[u8]) -> bool {
+        let Some(times) = self.sockets.get(to.place).and_then(|packets| packets.times) else {
+            return true;
+        };
+        if self.peers.answers_challenge() {
+            self.proven.put(to);
+        }
+        let Some(envelope) = first.first_chunk::<ENVELOPE_LEN>() else {
+            return false;
+        };
+        let length = Envelope::read(envelope).length;
+        self.peers.is_within(times, length) || self.proven.has(to)
+    }
+
+    /// Sends another reply in place of the one that begins with this datagram. Memory that is refused is a lost datagram.
+    fn send_instead(&self, to: Origin, first: &[u8]) -> bool {
+        match too_long(self.alloc, first) {
+            Some(octets) => self.send_back(to, octets.as_slice()),
+            None => true,
+        }
+    }
+
+    /// Begins a reply by its first datagram, or by another reply in its place. Whether that went.
+    fn begin(&mut self, to: Origin, first: &[u8]) -> bool {
+        if self.may_go(to, first) {
+            self.course = Course::Goes;
+            self.send_back(to, first)
+        } else {
+            self.course = Course::IsWithheld;
+            self.send_instead(to, first)
+        }
+    }
+
+    /// Sends the next datagram of a reply, unless another reply went in its place. Whether what is sent went.
+    fn send_next(&mut self, to: Origin, octets: &[u8]) -> bool {
+        match self.course {
+            Course::Begins => self.begin(to, octets),
+            Course::Goes => self.send_back(to, octets),
+            Course::IsWithheld => true,
         }
     }
 }
 
-impl Packets for SocketPackets {
+impl<R: std::rt::Clock> Packets for SocketPackets<R> {
     ghost use Rattle.std.specs.Prelude.{false, []};
 
     ghost tells = { false };
@@ -59,6 +124,7 @@ impl Packets for SocketPackets {
                     let length = length.min(buffer.len());
                     let from = Origin { place, address };
                     if let Ok(Some(peer)) = self.peers.came(from, &buffer[..length]) {
+                        self.course = Course::Begins;
                         return Ok(Some((peer, length)));
                     }
                 }
@@ -75,7 +141,7 @@ impl Packets for SocketPackets {
     fn send(&mut self, peer: u16, octets: &[u8]) -> Result<(), DoorFault> {
         self.peers.answered(octets);
         if let Some(to) = self.peers.address(peer) {
-            if self.send_back(to, octets) {
+            if self.send_next(to, octets) {
                 return Ok(());
             }
         }

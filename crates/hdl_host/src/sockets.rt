@@ -4,7 +4,7 @@ use crate::lookout::Lookout;
 use std::alloc::Global;
 use std::io::{self, ErrorKind};
 use std::net::{Net, SocketAddr, TcpListener, TcpStream, UdpSocket};
-use std::os::fd::{AsRawFd, OwnedFd};
+use std::os::fd::{AsRawFd, OwnedFd, RawFd};
 use std::time::Duration;
 
 /// Whether a call that failed says only that nothing came: it would wait or was interrupted, or the peer gave up before it was
@@ -48,18 +48,32 @@ impl Source for TcpListener {
     }
 }
 
-impl Source for UdpSocket {
+/// A datagram socket, and how many times the octets that asked a reply through it may have to an address that nothing shows to be there.
+#[derive(Drop)]
+pub struct PacketSocket {
+    pub socket: UdpSocket,
+    /// None: as many as it has.
+    pub times: Option<u32>,
+}
+
+impl AsRawFd for PacketSocket {
+    fn as_raw_fd(&self) -> RawFd {
+        self.socket.as_raw_fd()
+    }
+}
+
+impl Source for PacketSocket {
     /// How many octets, and the sender.
     type Taken = (usize, SocketAddr);
 
     fn take(&self, buffer: &mut [u8]) -> io::Result<(usize, SocketAddr)> {
-        self.recv_from(buffer)
+        self.socket.recv_from(buffer)
     }
 
     fn limit(&self, most: Option<Duration>) -> io::Result<()> {
         match most {
-            Some(_) => self.set_read_timeout(most),
-            None => self.set_nonblocking(true),
+            Some(_) => self.socket.set_read_timeout(most),
+            None => self.socket.set_nonblocking(true),
         }
     }
 }

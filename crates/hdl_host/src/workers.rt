@@ -9,15 +9,13 @@ use crate::listening::{Place, had};
 use crate::nonces::MachineNonces;
 use crate::packets::SocketPackets;
 use crate::silence::Seat;
-use crate::sockets::Sockets;
+use crate::sockets::{PacketSocket, Sockets};
 use crate::waking::{Bell, Sleep};
 use crate::watch::Watch;
 use hdl_replay::Fault;
 use hdl_serve::{Far, Why, WorkerEnd, packet_worker, stream_worker};
-use hdl_trail::Peers;
 use rand::make_rng;
 use std::alloc::Global;
-use std::net::UdpSocket;
 use std::random::RandomSource;
 use std::rt::Clock;
 use std::sync::Arc;
@@ -73,7 +71,7 @@ fn start_stream<R: Threads + Clock + RandomSource + Copy + Send + Drop + 'static
 fn start_packets<R: Threads + Clock + RandomSource + Copy + Send + Drop + 'static>(
     rt: &R,
     alloc: Global,
-    sockets: Sockets<UdpSocket>,
+    sockets: Sockets<PacketSocket>,
     side: Side,
 ) -> Result<JoinHandle<WorkerEnd>, Fault> {
     let Side { far, bell, turns } = side;
@@ -85,7 +83,7 @@ fn start_packets<R: Threads + Clock + RandomSource + Copy + Send + Drop + 'stati
         move ||
             requires { (put_into inlet ≡ []) × (taken_from outcomes ≡ []) }
         {
-            let mut packets = SocketPackets::new(sockets, Peers::new(alloc));
+            let mut packets = SocketPackets::new(theirs, alloc, sockets);
             let mut clock = MachineClock::new(theirs, Part::Works(bell));
             let mut nonces = MachineNonces::new(rng);
             packet_worker(

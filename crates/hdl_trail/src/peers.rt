@@ -4,14 +4,13 @@ ghost use Rattle.std.specs.Prelude.{◌≡◌, ◌≤◌, ◌<◌, ◌+◌, ℕ,
 ghost use Rattle.std.specs.List.{position};
 ghost use Rattle.hdl_frame.specs.Frames.{IsFrame};
 ghost use Rattle.hdl_limits.specs.declared.TheConstants.{CHALLENGES_MAX, PARTIALS_MAX, PEERS_MAX};
-ghost use Rattle.hdl_frame.specs.Envelope.{envelope_at};
 ghost use Rattle.hdl_trail.specs.Allowance.{answers_challenge, is_within_last};
 ghost use Rattle.hdl_trail.specs.Exchange.{with_reply};
 ghost use Rattle.hdl_trail.specs.Kept.{settled};
 ghost use Rattle.hdl_trail.specs.Peers.{address_among, arrival, IsNumberOf, holds};
 
 use crate::trail::Trail;
-use hdl_frame::{Envelope, one_datagram};
+use hdl_frame::one_datagram;
 use std::alloc::{AllocError, Global};
 use std::marker::Model;
 
@@ -125,13 +124,12 @@ impl<A: Eq + Copy> Peers<A> {
         self.trail.answered(datagram);
     }
 
-    /// Whether the reply to what came last, of which this datagram goes first, is this one alone, or has in all its datagrams at most so many
-    /// times the octets that asked. False where nothing came.
-    pub fn is_within(&self, times: u32, first: &[u8]) -> bool
-        ensures { result ≡ is_within_last times (envelope_at first.now).length self.now.exchange }
+    /// Whether a reply to what came last whose message has so many octets is one datagram, or has in all its datagrams at most so many times
+    /// the octets that asked. False where nothing came.
+    pub fn is_within(&self, times: u32, length: u32) -> bool
+        ensures { result ≡ is_within_last times length self.now.exchange }
     {
-        let envelope = Envelope::read(first);
-        self.trail.is_within(times, envelope.length)
+        self.trail.is_within(times, length)
     }
 
     /// Whether who sent what came last answered a challenge by it: it was a challenge response, and the reply says success.
