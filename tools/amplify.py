@@ -201,7 +201,7 @@ def main():
     passed = failed = 0
     for options, places in runs():
         count = max(1, options.count("--listen"))
-        with servers.serving(tenants, 1, options=options, lines=count) as ports:
+        with servers.serving(tenants, 1, options=options, addresses=count) as ports:
             for address, times in places:
                 for case in CASES:
                     good = case(Server(address, ports[0], times))

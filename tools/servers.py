@@ -41,20 +41,21 @@ def end(process):
     process.stdout.close()
 
 
-def serve(tenants, publishers, program=HANDLED, options=(), **how):
-    """`handled serve` with these options and the text that `tenants` makes of so many ports, once it listens: the process and the ports."""
+def serve(tenants, publishers, program=HANDLED, options=(), addresses=1, **how):
+    """`handled serve` with these options and the text that `tenants` makes of so many ports, once it listens at so many addresses: the process and
+    the ports."""
     for _ in range(TRIES):
         ports = free_ports(publishers)
-        process = start([program, "serve", *options], tenants(*ports), publishers, **how)
+        process = start([program, "serve", *options], tenants(*ports), publishers * addresses, **how)
         if process:
             return process, ports
     sys.exit("%s ended: see what it said above" % program)
 
 
 @contextlib.contextmanager
-def serving(tenants, publishers, program=HANDLED, options=()):
+def serving(tenants, publishers, program=HANDLED, options=(), addresses=1):
     """The ports of such a server, which ends with the block."""
-    process, ports = serve(tenants, publishers, program, options)
+    process, ports = serve(tenants, publishers, program, options, addresses)
     try:
         yield ports
     finally:

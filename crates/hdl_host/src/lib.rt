@@ -1,17 +1,19 @@
 //! The server: the proved service behind the machine's sockets.
 //!
 //! ```text
-//! a TCP connection -> SocketDoor    -> stream_worker ─┐ ring ┌─ serve (Service over any table), on the calling thread
-//! a UDP socket     -> SocketPackets -> packet_worker ─┘ each └─
-//!                       a thread for each lane
+//! TCP connections -> SocketDoor    -> stream_worker ─┐ ring ┌─ serve (Service over any table), on the calling thread
+//! UDP sockets     -> SocketPackets -> packet_worker ─┘ each └─
+//!                      a thread for each lane
 //! ```
 //!
-//! [`host`] listens at each publisher's port on loopback by TCP and UDP, starts a worker for each lane, and serves on the thread
-//! that called it. [`hosted_on`] does so over a table that is there already, and gives it back. Everything between a door and a table is proved of `hdl_workers`, `hdl_serve` and `hdl_core`, and the numbers of datagram
+//! [`hosted`] listens at each publisher's port and each address of a [`Setting`] by TCP and UDP, starts a worker for each lane, and serves on the thread
+//! that called it. [`hosted_on`] does so over a table that is there already, and gives it back; [`host`] takes a text, on loopback. Everything between a door and a table is proved of `hdl_workers`, `hdl_serve` and `hdl_core`, and the numbers of datagram
 //! peers of `hdl_trail`; this crate hands them what the machine has: sockets, a clock, random numbers and threads. No contract can
-//! say what these give, so the doors here tell nothing, and nothing is promised of octets on a wire.
+//! say what these give, so the doors here tell nothing, and nothing is promised of octets on a wire. Beyond loopback a reply by UDP that is too long for a
+//! stranger stays back here, behind the worker's door (docs/PROTOCOL.md, "Replies to strangers").
 //!
-//! It stands on `hdl_workers`, `hdl_lanes`, `hdl_serve`, `hdl_trail`, `hdl_core`, `hdl_frame` and `hdl_rows`, and on `hdl_replay` for the faults of the program.
+//! It stands on `hdl_workers`, `hdl_lanes`, `hdl_serve`, `hdl_trail`, `hdl_core`, `hdl_frame` and `hdl_rows`, on `hdl_msg` and what that speaks of for the reply in
+//! place of one that stays back, and on `hdl_replay` for the faults of the program.
 //!
 //! # Decisions
 //!
@@ -36,7 +38,9 @@
 //!   the next ones begin with it, seven of eight times. A wait ends when something was done (`worked`), which the clock is told: it can't see it.
 //!   A sleep that begins ten milliseconds behind its wait isn't counted, since nobody asked then. The first pause of any wait is short: a worker
 //!   that has outcomes in hand pauses once before it writes them, and shall not sleep over them.
-//! - **Shared listeners**: a publisher's stream workers have clones of one listener, so whichever is free takes the next connection.
+//! - **Shared listeners**: a publisher's stream workers have clones of its listeners, one at each address, so whichever is free takes the next connection.
+//! - **Several addresses are asked in turn and waited for together** (`sockets`, `lookout`): their calls don't wait, a `poll` of them all does. Where there is one
+//!   address its own call waits.
 #![tactic(auto)]
 
 mod clock;
