@@ -21,7 +21,7 @@ BY_DEFAULT, ASKED_FOR = 8, 3
 PATIENCE, SILENCE = 2, 0.1
 KEY = b"never-shown"
 ADMIN, HASH = b"0.NA/10", b"20/long"
-TOO_LONG, RETURN_DIGEST = 2, 0x00800000
+TOO_LONG, AUTHENTICATION_FAILED, RETURN_DIGEST = 2, 403, 0x00800000
 PIECE, PIECES_FLAG, DATAGRAM = 492, 0x2000, 512
 ADMINISTRATOR = wire.value(100, b"HS_ADMIN", wire.administrator(ADMIN, 300), wire.ADMIN_READ)
 LONG = wire.value(1, b"TEXT", b"x" * 30000, wire.PUBLIC_READ)
@@ -39,12 +39,16 @@ def tenants(port):
     return wire.text(lines + [wire.value_line(*row) for row in (*values, *handles)])
 
 
+def pieces(length):
+    """How many datagrams a message of so many octets has."""
+    return max(1, -(-length // PIECE))
+
+
 def cut(message, request, session=0):
     """The datagrams of a message."""
     if len(message) <= PIECE:
         return [wire.frame(message, session, request)]
-    head = b"\2\1" + struct.pack(">HII", PIECES_FLAG, session, request)
-    count = -(-len(message) // PIECE)
+    head, count = b"\2\1" + struct.pack(">HII", PIECES_FLAG, session, request), pieces(len(message))
     return [head + struct.pack(">II", k, len(message)) + message[PIECE * k:PIECE * k + PIECE] for k in range(count)]
 
 
@@ -56,7 +60,7 @@ class Server:
         self.family = socket.AF_INET6 if ":" in address else socket.AF_INET
 
     def allowance(self, asked):
-        return max(DATAGRAM, self.times * sum(map(len, asked)))
+        return max(DATAGRAM, self.times * sum(map(len, asked))) if self.times else float("inf")
 
 
 class Client:
@@ -66,17 +70,21 @@ class Client:
         self.socket = socket.socket(server.family, socket.SOCK_DGRAM)
         self.socket.connect((server.address, server.port))
 
-    def asked(self, datagrams):
-        """All datagrams that come for these."""
+    def got(self, patience=PATIENCE):
+        """The next datagram, or nothing."""
+        self.socket.settimeout(patience)
+        with contextlib.suppress(socket.timeout):
+            return self.socket.recv(1024)
+        return b""
+
+    def asked(self, datagrams, silence=0.001):
+        """The datagrams of the reply to these, and one more, if it comes."""
         for octets in datagrams:
             self.socket.send(octets)
-        found, patience = [], PATIENCE
-        with contextlib.suppress(TimeoutError):
-            while True:
-                self.socket.settimeout(patience)
-                found.append(self.socket.recv(1024))
-                patience = SILENCE
-        return found
+        first = self.got()
+        found = [first] + [self.got() for _ in range(pieces(int.from_bytes(first[16:20], "big")) - 1)]
+        more = self.got(silence)
+        return found + [more] if more else found
 
     def proved(self, message, request):
         """What comes for the response to the challenge of this message."""
@@ -100,9 +108,9 @@ WHOLE = cut(wire.values_reply(b"10/long", LONG), 5)
 def stranger(server):
     """A long reply isn't sent to a stranger; the one in its place is that of code 2."""
     asked = [wire.frame(ASKED, request=5)]
-    found = Client(server).asked(asked)
-    wanted = WHOLE if not server.times else [wire.frame(too_long(ASKED), request=5)]
-    return found == wanted and (not server.times or sum(map(len, found)) <= server.allowance(asked))
+    found = Client(server).asked(asked, SILENCE)
+    wanted = [wire.frame(too_long(ASKED), request=5)] if server.times else WHOLE
+    return found == wanted and sum(map(len, found)) <= server.allowance(asked)
 
 
 def digests(server):
@@ -148,7 +156,8 @@ def refused(server):
     session, nonce = int.from_bytes(challenge[4:8], "big"), challenge[-20:-4]
     said = client.asked([wire.frame(wire.response(listing, b"another key", ADMIN, 300, nonce=nonce), session, 9)])
     again = client.asked([wire.frame(ASKED, request=5)])
-    return said[0][24:28] == wire.number(403) and again == (WHOLE if not server.times else [wire.frame(too_long(ASKED), request=5)])
+    wanted = [wire.frame(too_long(ASKED), request=5)] if server.times else WHOLE
+    return said[0][24:28] == wire.number(AUTHENTICATION_FAILED) and again == wanted
 
 
 def over_tcp(server):
@@ -165,36 +174,15 @@ def over_tcp(server):
 CASES = (stranger, digests, short_ones, asked_in_pieces, challenged, refused, over_tcp)
 
 
-def own_address():
-    """An address of this host beyond loopback, by the way to one that is kept for documents; nothing is sent. None where there is no way."""
-    for family, address in ((socket.AF_INET, "192.0.2.1"), (socket.AF_INET6, "2001:db8::1")):
-        with contextlib.suppress(OSError), socket.socket(family, socket.SOCK_DGRAM) as one:
-            one.connect((address, 9))
-            found = one.getsockname()[0]
-            if not found.startswith("127.") and found != "::1":
-                return found
-    return None
-
-
-def has_loopback6():
-    with contextlib.suppress(OSError), socket.create_server(("::1", 0), family=socket.AF_INET6):
-        return True
-    return False
-
-
 def runs():
     """Options of a server, and at which addresses it is asked, with how many times the octets that asked."""
-    beyond, both = own_address(), ["127.0.0.1"] + (["::1"] if has_loopback6() else [])
+    loopback, beyond = servers.loopback(), servers.beyond_loopback()
     yield [], [("127.0.0.1", 0)]
-    yield ["--amplify", str(ASKED_FOR), *listening(both)], [(address, ASKED_FOR) for address in both]
+    yield ["--amplify", str(ASKED_FOR), *servers.listening(loopback)], [(address, ASKED_FOR) for address in loopback]
     if beyond:
-        yield listening(["127.0.0.1", beyond]), [("127.0.0.1", 0), (beyond, BY_DEFAULT)]
+        yield servers.listening(["127.0.0.1", beyond]), [("127.0.0.1", 0), (beyond, BY_DEFAULT)]
     else:
         print("this host has no address beyond loopback: the bound is tried with --amplify alone")
-
-
-def listening(addresses):
-    return [word for address in addresses for word in ("--listen", address)]
 
 
 def main():

@@ -22,6 +22,29 @@ def free_ports(count):
     return ports
 
 
+def loopback():
+    """The addresses of loopback that this host has."""
+    with contextlib.suppress(OSError), socket.create_server(("::1", 0), family=socket.AF_INET6):
+        return ["127.0.0.1", "::1"]
+    return ["127.0.0.1"]
+
+
+def beyond_loopback():
+    """An address of this host beyond loopback: that by which it would reach one that is kept for documents; nothing is sent. None where there is no way."""
+    for family, address in ((socket.AF_INET, "192.0.2.1"), (socket.AF_INET6, "2001:db8::1")):
+        with contextlib.suppress(OSError), socket.socket(family, socket.SOCK_DGRAM) as one:
+            one.connect((address, 9))
+            found = one.getsockname()[0]
+            if not found.startswith("127.") and found != "::1":
+                return found
+    return None
+
+
+def listening(addresses):
+    """The options by which a server listens at these."""
+    return [word for address in addresses for word in ("--listen", address)]
+
+
 def start(words, given, lines, **how):
     """A program with its standard input, once it has said so many lines; None where it ends before."""
     process = subprocess.Popen(words, stdin=subprocess.PIPE, stdout=subprocess.PIPE, **how)

@@ -1,0 +1,178 @@
+"""listens.py: starts the proved program crates/handled/out/handled at several addresses, and where it can't listen, and compares what it prints, its status, and
+what standard error has as it begins and as it ends. Clients at each address are served side by side, and none hides another.
+
+It takes some three seconds. Its last line is 'N passed, M failed', a case counting one."""
+
+import contextlib
+import re
+import socket
+import subprocess
+import sys
+import time
+
+# nothing is left beside the tools
+sys.dont_write_bytecode = True
+import servers
+import wire
+
+PATIENCE = 5
+# How often a client asks while another one floods, and how many datagrams the flood sends meanwhile.
+OFTEN, FLOOD = 20, 50
+BEGINS = rb"handled [\d.]+ \(Buckramjade; [^)]*\): begins: 2 publishers, 5 lanes, table in memory, row cache of 41943040 octets, idle 60 seconds, amplify (8 beyond loopback|3)(, \d+ turns)?"
+ENDS = rb"handled: ends: the turns are spent"
+ASKED = wire.frame(wire.resolution(b"10/a"), request=1)
+ABSENT = wire.frame(wire.message(wire.RESOLVE, wire.number(0), wire.ABSENT), request=1)
+
+
+def tenants(first, second):
+    return wire.text(["publisher acme 3 %d" % first, "publisher bolt 2 %d" % second, "prefix 10 acme", "prefix 10 bolt"])
+
+
+def run(options, ports):
+    done = subprocess.run([servers.HANDLED, "serve", *options], input=tenants(*ports), stdout=subprocess.PIPE, stderr=subprocess.PIPE, timeout=60, check=False)
+    return done.returncode, done.stdout, done.stderr.splitlines()
+
+
+def bracketed(address):
+    return "[%s]" % address if ":" in address else address
+
+
+def family(address):
+    return socket.AF_INET6 if ":" in address else socket.AF_INET
+
+
+def over_tcp(address, port):
+    with socket.create_connection((address, port), PATIENCE) as stream:
+        stream.sendall(ASKED)
+        found = b""
+        while len(found) < len(ABSENT) and (octets := stream.recv(1024)):
+            found += octets
+    return found == ABSENT
+
+
+@contextlib.contextmanager
+def packets(address, port):
+    with socket.socket(family(address), socket.SOCK_DGRAM) as one:
+        one.settimeout(PATIENCE)
+        one.connect((address, port))
+        yield one
+
+
+def over_udp(address, port):
+    with packets(address, port) as one:
+        one.send(ASKED)
+        return one.recv(1024) == ABSENT
+
+
+def addresses():
+    beyond = servers.beyond_loopback()
+    return servers.loopback() + ([beyond] if beyond else [])
+
+
+def lines_and_end():
+    """Each publisher and address has a line, in order; standard error says what begins and that it ends."""
+    found, ports = addresses(), servers.free_ports(2)
+    status, printed, said = run(["--turns", "50", *servers.listening(found)], ports)
+    lines = ["%s %s:%d\n" % (name, bracketed(address), port) for name, port in zip(("acme", "bolt"), ports) for address in found]
+    return status == 0 and printed == "".join(lines).encode() and len(said) == 2 and re.fullmatch(BEGINS, said[0]) and re.fullmatch(ENDS, said[1])
+
+
+def loopback_alone():
+    """Without the option it listens on 127.0.0.1 and nowhere else."""
+    others = [address for address in addresses() if address != "127.0.0.1"]
+    with servers.serving(tenants, 2) as ports:
+        good = over_tcp("127.0.0.1", ports[0]) and over_udp("127.0.0.1", ports[1])
+        for address in others:
+            with contextlib.suppress(ConnectionRefusedError):
+                over_tcp(address, ports[0])
+                good = False
+    return good
+
+
+def all_are_served():
+    """At each address both publishers answer by TCP and by UDP, also while a client holds a lane and another floods an address."""
+    found, good = addresses(), True
+    with servers.serving(tenants, 2, options=servers.listening(found), addresses=len(found)) as ports:
+        with socket.create_connection((found[0], ports[0]), PATIENCE), packets(found[0], ports[0]) as flood:
+            for _ in range(OFTEN):
+                for _ in range(FLOOD):
+                    flood.send(ASKED)
+                for address in found:
+                    good = good and over_udp(address, ports[0]) and over_tcp(address, ports[0])
+        for address in found:
+            good = good and over_udp(address, ports[1]) and over_tcp(address, ports[1])
+    return good
+
+
+def idle_costs_little():
+    """A server at several addresses that nobody asks uses next to no processor time."""
+    found = addresses()
+    process, _ = servers.serve(tenants, 2, options=servers.listening(found), addresses=len(found), stderr=subprocess.DEVNULL)
+    try:
+        before = used(process.pid)
+        time.sleep(1)
+        return used(process.pid) - before < 0.1
+    finally:
+        servers.end(process)
+
+
+def used(pid):
+    """The processor seconds of a process."""
+    with open("/proc/%d/stat" % pid, encoding="utf-8") as numbers:
+        words = numbers.read().rsplit(")", 1)[1].split()
+    return (int(words[11]) + int(words[12])) / 100
+
+
+def fault_of(options, ports, address, port):
+    """Whether a start prints nothing, ends with status 1, and says where it can't listen."""
+    status, printed, said = run(options, ports)
+    where = "device fault: cannot listen on %s:%d: " % (bracketed(address), port)
+    return status == 1 and not printed and said[-1].startswith(where.encode()) and len(said[-1]) > len(where) and said[-1]
+
+
+def port_is_taken():
+    """A port that another program has, at one of the addresses, is told."""
+    first, second = servers.free_ports(2)
+    with socket.create_server(("127.0.0.1", second)):
+        said = fault_of([], (first, second), "127.0.0.1", second)
+    return said and b"another port" in said
+
+
+def not_ours():
+    """An address that isn't this machine's is told, also behind one that is."""
+    ports = servers.free_ports(2)
+    said = fault_of(servers.listening(["127.0.0.1", "203.0.113.77"]), ports, "203.0.113.77", ports[0])
+    return said and b"doesn't have the address" in said
+
+
+def given_twice():
+    """An address that is given twice is told."""
+    ports = servers.free_ports(2)
+    said = fault_of(servers.listening(["127.0.0.1", "127.0.0.1"]), ports, "127.0.0.1", ports[0])
+    return said and b"given twice" in said
+
+
+def no_address():
+    """A word that is no address is refused with status 2, and so is --amplify without a number."""
+    good = True
+    for options in (["--listen", "localhost"], ["--listen", "127.0.0.1:80"], ["--listen", ""], ["--amplify", "0"], ["--amplify", "many"]):
+        status, printed, said = run(options, servers.free_ports(2))
+        good = good and status == 2 and not printed and said[0].startswith(b"error: ")
+    return good
+
+
+CASES = (lines_and_end, loopback_alone, all_are_served, idle_costs_little, port_is_taken, not_ours, given_twice, no_address)
+
+
+def main():
+    passed = 0
+    for case in CASES:
+        good = bool(case())
+        passed += good
+        if not good:
+            print("%s: it isn't so that %s" % (case.__name__, case.__doc__))
+    print("%d passed, %d failed" % (passed, len(CASES) - passed))
+    return 0 if passed == len(CASES) else 1
+
+
+sys.exit(main())
