@@ -39,7 +39,11 @@ impl fmt::Display for Beginning<'_> {
             idle,
             amplify,
         } = self.limits;
-        write!(f, "{} publishers, {} lanes, table in {}", self.publishers, self.lanes, self.kept)?;
+        write!(
+            f,
+            "{} publishers, {} lanes, table in {}",
+            self.publishers, self.lanes, self.kept
+        )?;
         write!(f, ", idle {idle} seconds, amplify ")?;
         match amplify {
             Some(times) => write!(f, "{times}")?,

@@ -3,7 +3,10 @@
 use hdl_auth::algorithm::Algorithm;
 use hdl_frame::{ENVELOPE_LEN, Envelope};
 use hdl_limits::MESSAGE_MAX;
-use hdl_msg::{Digest, Header, OpFlag, Reply, ReplyContent, ResponseCode, answer_header, reply_len, write_reply};
+use hdl_msg::{
+    Digest, Header, OpFlag, Reply, ReplyContent, ResponseCode, answer_header, reply_len,
+    write_reply,
+};
 use hdl_value::{octet_at, u16_at, u32_at};
 use std::alloc::Global;
 

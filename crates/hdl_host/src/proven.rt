@@ -59,9 +59,7 @@ impl<R: Clock, A: Eq + Copy> Proven<R, A> {
             return false;
         };
         match Instant::now(&self.rt) {
-            Ok(now) => {
-                now.saturating_duration_since(proof.moment) <= Duration::from_secs(LIFE)
-            }
+            Ok(now) => { now.saturating_duration_since(proof.moment) <= Duration::from_secs(LIFE) }
             Err(_) => false,
         }
     }
