@@ -64,7 +64,10 @@ impl<R: std::rt::Clock> SocketPackets<R> {
     /// Whether the reply that begins with this datagram may go whole: it isn't much longer than what asked, or its address answered a challenge, perhaps
     /// by the very frame that it replies to.
     fn may_go(&mut self, to: Origin, first: &[u8]) -> bool {
-        let Some(times) = self.sockets.get(to.place).and_then(|packets| packets.times) else {
+        let Some(packets) = self.sockets.get(to.place) else {
+            return false;
+        };
+        let Some(times) = packets.times else {
             return true;
         };
         if self.peers.answers_challenge() {

@@ -35,31 +35,48 @@ impl<R: Clock, A: Eq + Copy> Proven<R, A> {
         }
     }
 
+    /// The place of the address among those that are kept.
+    fn place(&self, address: A) -> Option<usize> {
+        let mut proofs = self.proofs.iter();
+        proofs.position(|proof| proof.address == address)
+    }
+
     /// An address answered a challenge just now. It isn't kept where the clock or memory fails, and has to answer another one.
     pub fn put(&mut self, address: A) {
         let Ok(moment) = Instant::now(&self.rt) else {
             return;
         };
         let proof = Proof { address, moment };
-        let mut proofs = self.proofs.iter_mut();
-        if let Some(kept) = proofs.find(|kept| kept.address == address) {
+        let place = match self.place(address) {
+            Some(place) => place,
+            None if self.proofs.len() < KEPT => {
+                let _ = self.proofs.push(proof);
+                return;
+            }
+            None => self.next_place(),
+        };
+        if let Some(kept) = self.proofs.get_mut(place) {
             *kept = proof;
-        } else if self.proofs.len() < KEPT {
-            let _ = self.proofs.push(proof);
-        } else if let Some(kept) = self.proofs.get_mut(self.next) {
-            *kept = proof;
-            self.next = self.next.wrapping_add(1) % KEPT;
         }
+    }
+
+    /// The place of the one that is displaced.
+    fn next_place(&mut self) -> usize {
+        let place = self.next;
+        self.next = self.next.wrapping_add(1) % KEPT;
+        place
     }
 
     /// Whether the address answered a challenge in the last minute.
     pub fn has(&self, address: A) -> bool {
-        let mut proofs = self.proofs.iter();
-        let Some(proof) = proofs.find(|kept| kept.address == address) else {
+        let Some(place) = self.place(address) else {
+            return false;
+        };
+        let Some(proof) = self.proofs.get(place) else {
             return false;
         };
         match Instant::now(&self.rt) {
-            Ok(now) => { now.saturating_duration_since(proof.moment) <= Duration::from_secs(LIFE) }
+            Ok(now) => now.saturating_duration_since(proof.moment) <= Duration::from_secs(LIFE),
             Err(_) => false,
         }
     }

@@ -1,5 +1,5 @@
 -- How much of a reply may go to an address that nothing shows to be there (docs/PROTOCOL.md, "Replies to strangers").
-use Rattle.std.specs.Prelude.{ℕ, ◌+◌, ◌*◌, Bool, false, ◌==◌, ◌&&◌, ◌||◌, nat_le, if◌then◌else◌, List, Option, Some, None}
+use Rattle.std.specs.Prelude.{ℕ, ◌+◌, ◌*◌, Bool, false, ◌==◌, ◌&&◌, ◌||◌, nat_le, if◌then◌else◌, Option, Some, None}
 use Rattle.hdl_frame.specs.Pieces.{datagram_count, piece_count}
 use Rattle.hdl_trail.specs.declared.exchange.Exchange.{Exchange}
 use Rattle.hdl_trail.specs.Kept.{Followed, is_response, operation_of}
