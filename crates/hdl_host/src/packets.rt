@@ -1,5 +1,7 @@
 //! The machine's datagram sockets as doors. They tell nothing.
 
+ghost use Rattle.std.specs.Prelude.{◌≡◌};
+
 use crate::instead::too_long;
 use crate::proven::Proven;
 use crate::sockets::{PacketSocket, Sockets, nothing_came};
@@ -63,7 +65,9 @@ impl<R: std::rt::Clock> SocketPackets<R> {
 
     /// Whether the reply that begins with this datagram may go whole: it isn't much longer than what asked, or its address answered a challenge, perhaps
     /// by the very frame that it replies to.
-    fn may_go(&mut self, to: Origin, first: &[u8]) -> bool {
+    fn may_go(&mut self, to: Origin, first: &[u8]) -> bool
+        ensures faults { self.new.faults ≡ self.old.faults }
+    {
         let Some(packets) = self.sockets.get(to.place) else {
             return false;
         };
@@ -89,7 +93,9 @@ impl<R: std::rt::Clock> SocketPackets<R> {
     }
 
     /// Begins a reply by its first datagram, or by another reply in its place. Whether that went.
-    fn begin(&mut self, to: Origin, first: &[u8]) -> bool {
+    fn begin(&mut self, to: Origin, first: &[u8]) -> bool
+        ensures faults { self.new.faults ≡ self.old.faults }
+    {
         if self.may_go(to, first) {
             self.course = Course::Goes;
             self.send_back(to, first)
@@ -100,7 +106,9 @@ impl<R: std::rt::Clock> SocketPackets<R> {
     }
 
     /// Sends the next datagram of a reply, unless another reply went in its place. Whether what is sent went.
-    fn send_next(&mut self, to: Origin, octets: &[u8]) -> bool {
+    fn send_next(&mut self, to: Origin, octets: &[u8]) -> bool
+        ensures faults { self.new.faults ≡ self.old.faults }
+    {
         match self.course {
             Course::Begins => self.begin(to, octets),
             Course::Goes => self.send_back(to, octets),

@@ -2,4 +2,4 @@ use Rattle.std.proofs.Common.{◌≡◌}
 use Rattle.hdl_host.proofs.packets.SocketPacketsPackets.receive.Given as goal
 
 abbrev pub invariant-loop : goal.invariant-loop
-invariant-loop l = l.self.faults ≡ l.initial.self.faults
+invariant-loop g l = l.self.faults ≡ l.initial.self.faults
