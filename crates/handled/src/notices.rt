@@ -17,7 +17,7 @@ pub enum Kept<'a> {
 impl fmt::Display for Kept<'_> {
     fn fmt<W: fmt::Write>(&self, f: &mut fmt::Formatter<W>) -> fmt::Result {
         match self {
-            Kept::Memory { row_cache } => write!(f, "memory, row cache of {row_cache} octets"),
+            Kept::Memory { row_cache } => write!(f, "memory, row cache {row_cache} octets"),
             Kept::File(path) => write!(f, "{path}"),
         }
     }
@@ -41,7 +41,7 @@ impl fmt::Display for Beginning<'_> {
         } = self.limits;
         write!(
             f,
-            "{} publishers, {} lanes, table in {}",
+            "publishers {}, lanes {}, table in {}",
             self.publishers, self.lanes, self.kept
         )?;
         write!(f, ", idle {idle} seconds, amplify ")?;
@@ -50,7 +50,7 @@ impl fmt::Display for Beginning<'_> {
             None => write!(f, "{AMPLIFY} beyond loopback")?,
         }
         if turns < u64::MAX {
-            write!(f, ", {turns} turns")?;
+            write!(f, ", turns {turns}")?;
         }
         Ok(())
     }
