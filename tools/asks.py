@@ -254,6 +254,60 @@ def fresh():
             yield "hdl init " + prefix, [one.returncode for one in done] == [1, 0] and secret not in words.stderr + done[1].stdout + done[1].stderr
 
 
+TEXT_FAULTS = """\
+# Each of these lines but the second and the eighth is faulty.
+publisher acme 8 2641
+publisher acme 4 2642
+publisher Bolt 4 2642
+publisher bolt 1 2642
+publisher bolt 4 99999
+publisher huge 60 2643
+prefix 10 acme
+prefix 10 acme
+prefix 10.ABC acme
+prefix 30 nobody
+prefix 10 acme 9
+value 10/a 1 URL 86400 1110 UTF8 http://a.example
+value 40/a 00
+value 10a 00
+value 10/a 0
+value 10/a 00
+prefixes 10 acme
+"""
+TEXT_SAID = """\
+tenants: line 3: publisher given twice: give each publisher a name of its own
+tenants: line 4: a publisher's name is 1 to 32 of a-z, 0-9 and -
+tenants: line 5: LANES is a number from 2 to 64; the last lane is that of datagrams
+tenants: line 6: PORT is a number from 1 to 65535
+tenants: line 7: more than 64 lanes together: give this publisher fewer, or serve it by a process of its own
+tenants: line 9: prefix given twice: this publisher has it above
+tenants: line 10: a prefix is a naming authority in lower case, such as 10 or 10.5072, without a slash, and not 0.na
+tenants: line 11: no line of this publisher stands above: write the line `publisher ..` before its prefixes
+tenants: line 12: the word behind the publisher is 2 for SHA-1 or 3 for SHA-256
+tenants: line 13: write: value HANDLE HEX, with single spaces; hdl tenants makes such lines of values in words
+tenants: line 14: no line of the handle's prefix stands above: write the line `prefix ..` before its values
+tenants: line 15: the name has no slash
+tenants: line 16: HEX is an even number of hexadecimal digits; hdl tenants makes them of a value in words
+tenants: line 17: the value is cut short
+tenants: line 18: a line begins with `publisher`, `prefix` or `value` and a space, or with `#`, or is empty
+"""
+TEXT_HAS = """\
+acme: port 2641, 7 connections at a time; prefixes 10
+bolt: port 2642, 3 connections at a time; prefixes 20
+12 of 64 lanes, 6 values
+"""
+
+
+def checks():
+    """`handled check` of a text with faults of each kind, of one without, and of one with an index twice."""
+    good = repository.text_of("examples", "serve.tenants")
+    line = next(line for line in good.splitlines() if line.startswith("value 10/report-7"))
+    twice = "tenants: line %d: a value with this index stands above: give each value of a handle an index of its own\n" % (len(good.splitlines()) + 1)
+    for name, text, wanted in (("faults", TEXT_FAULTS, (3, "", TEXT_SAID)), ("none", good, (0, TEXT_HAS, "")), ("twice", good + line + "\n", (3, "", twice))):
+        done = subprocess.run([servers.HANDLED, "check"], input=text, capture_output=True, text=True, check=False, timeout=60)
+        yield "handled check: " + name, (done.returncode, done.stdout, done.stderr) == wanted
+
+
 def exchanges():
     """Each whole exchange: its name, and whether just these octets were sent and all went well."""
     for name, sent, wanted in WHOLE:
@@ -291,7 +345,7 @@ def cases():
 
 def main():
     passed = failed = 0
-    for name, good in [*exchanges(), *fresh(), *versions()]:
+    for name, good in [*exchanges(), *fresh(), *checks(), *versions()]:
         passed, failed = passed + good, failed + (not good)
         if not good:
             print("%s: other octets than those that should be" % name)

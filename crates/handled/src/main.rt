@@ -2,17 +2,19 @@
 //!
 //! `handled` and `handled replay` are [`hdl_replay::replay`], handed the standard streams and a table in SQL, in memory.
 //! `handled serve` is [`hdl_host::hosted`], handed the tenants text on standard input and such a table, whose handles are kept where they
-//! were read last (hdl_cachedrows). With `--table FILE` both go on over the table in that file (hdl_lastingrows). What is printed, the fault lines and the exit statuses are those of docs/PROTOCOL.md, "The tenants
+//! were read last (hdl_cachedrows). `handled check` says what such a text has, or all of its faults (hdl_check). With `--table FILE` both go on over the table in that file (hdl_lastingrows). What is printed, the fault lines and the exit statuses are those of docs/PROTOCOL.md, "The tenants
 //! text and scripts". This crate has the command line alone, since nothing else needs `clap`.
 #![tactic(auto)]
 
 ghost use Rattle.std.specs.Prelude.{◌≡◌, IfOk};
 ghost use Rattle.hdl_rows.specs.Table.{no_rows};
 
+mod checking;
 mod notices;
 mod tabled;
 mod words;
 
+use checking::check_text;
 use hdl_cachedrows::CachedRows;
 use hdl_core::Tenants;
 use hdl_host::{Setting, hosted, hosted_on};
@@ -65,6 +67,10 @@ fn replayed(rt: &HostRuntime) -> Result<u8, Fault> {
 fn run(rt: &HostRuntime) -> Result<Next, TabledFault> {
     match read_words(rt)? {
         Asked::Ended(status) => Ok(Next::Ended(status)),
+        Asked::Check => {
+            let text = read_text(rt)?;
+            Ok(Next::Ended(check_text(rt, text.as_str())?))
+        }
         Asked::Replay { table: None } => Ok(Next::Ended(replayed(rt)?)),
         Asked::Replay { table: Some(file) } => {
             let text = read_text(rt)?;

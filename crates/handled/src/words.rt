@@ -31,6 +31,8 @@ pub enum Asked {
         row_cache: usize,
         table: Option<TableFile>,
     },
+    /// The tenants text is on standard input, to be checked.
+    Check,
     /// Nothing: help, the version or a fault was printed, and this is the exit status.
     Ended(u8),
 }
@@ -122,7 +124,10 @@ fn command<'a>(alloc: Global) -> Result<Command<'a>, AllocError> {
             "A local handle service; with no word, as with replay, it runs the script on standard input",
         )
         .subcommand(replay_command(alloc)?)?
-        .subcommand(serve_command(alloc)?)
+        .subcommand(serve_command(alloc)?)?
+        .subcommand(Command::new(alloc, "check").about(
+            "Says what the tenants text on standard input has, or all of its faults, and serves nothing",
+        ))
 }
 
 /// How many octets the handles that were read last may take.
@@ -223,6 +228,9 @@ fn table_file(alloc: Global, found: &ArgMatches) -> Result<Option<TableFile>, Al
 
 fn parsed(alloc: Global, words: &[String]) -> Result<Asked, Unclear> {
     let matches = command(alloc)?.try_get_matches_from(words)?;
+    if matches.subcommand_matches("check").is_some() {
+        return Ok(Asked::Check);
+    }
     if let Some(found) = matches.subcommand_matches("serve") {
         return serve_words(alloc, found);
     }

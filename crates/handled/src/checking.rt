@@ -1,0 +1,25 @@
+//! Checking a tenants text before it is served.
+
+use hdl_check::{Report, check};
+use hdl_replay::{Fault, put_all};
+
+/// The exit status of a text with faults, as where it is served.
+const FAULTY: u8 = 3;
+
+/// Prints what the text has, or says on standard error what is wrong with each faulty line; answers the exit status.
+pub fn check_text(rt: &HostRuntime, text: &str) -> Result<u8, Fault> {
+    match check(rt.alloc(), text)? {
+        Report::Accepted(lines) => {
+            put_all(&mut rt.stdout(), lines.as_bytes())?;
+            Ok(0)
+        }
+        Report::Refused(faults) => {
+            for fault in &faults {
+                let line = fault.line;
+                let words = fault.words.as_str();
+                let _ = eprintln!(rt; "tenants: line {line}: {words}");
+            }
+            Ok(FAULTY)
+        }
+    }
+}
