@@ -1,6 +1,7 @@
 //! Hearing a message that came on an open lane: a request that is decided, challenged, or comes back with a proof.
 
-ghost use Rattle.std.specs.Prelude.{◌≡◌, ◌<◌, ℕ, List, length, IfOk, OnErr};
+ghost use Rattle.std.specs.Prelude.{◌≡◌, ◌==◌, ◌<◌, ℕ, List, length, IfOk, OnErr};
+ghost use Rattle.hdl_msg.specs.Codes.{response_number};
 ghost use Rattle.hdl_msg.specs.ReplyView.{IsReplyFrame};
 ghost use Rattle.hdl_cache.specs.Truth.{AreTrue};
 ghost use Rattle.hdl_ops.specs.Admission.{request_algorithm};
@@ -17,7 +18,7 @@ use hdl_laws::Octets;
 use hdl_limits::CHALLENGE_LIFE;
 use hdl_msg::{Request, ResponseCode, read_request};
 use hdl_ops::{
-    Asked, Level, Masks, NamedRequest, Owner, Proof, Refused, Response, Rows, decide,
+    Asked, Decision, Level, Masks, NamedRequest, Owner, Proof, Refused, Response, Rows, decide,
     render_challenge, response_of,
 };
 use hdl_slots::Pending;
@@ -46,6 +47,13 @@ fn challenge(alloc: Global, asked: &Asked<'_>, letter: &Letter, next: u32) -> Re
     Ok(Heard::Challenged(Octets::new(octets), digest))
 }
 
+/// Whether the decision is that a key has to be proved.
+fn is_challenged(decision: &Decision) -> bool
+    ensures { result ≡ (response_number decision.now.code == 402) }
+{
+    decision.code == ResponseCode::AuthenticationNeeded
+}
+
 /// Decides a request for anyone. A challenge gets the lane's next number.
 fn ask<R: Rows>(
     owner: &Owner<'_>,
@@ -64,7 +72,7 @@ fn ask<R: Rows>(
     let named = NamedRequest::of_owner(owner, request)?;
     let asked = named.asked;
     let decision = decide(owner, named, rows, masks, &Level::Anyone)?;
-    if decision.code == ResponseCode::AuthenticationNeeded {
+    if is_challenged(&decision) {
         return challenge(owner.alloc, &asked, letter, next);
     }
     let octets = answer(owner.alloc, &asked, rows, masks, letter, decision)?;

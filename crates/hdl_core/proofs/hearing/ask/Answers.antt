@@ -1,4 +1,4 @@
-use Rattle.std.proofs.Common.{◌≡◌, ◌==◌, true, false, refl, sym, ◌∙◌, ap, subst, rules}
+use Rattle.std.proofs.Common.{◌≡◌, ◌==◌, true, false, refl, sym, ◌∙◌, ap, subst}
 use Rattle.hdl_msg.specs.Codes.{response_number}
 use Rattle.hdl_ops.proofs.Announced.{answer_announced_lem}
 use Rattle.hdl_ops.specs.Decisions.{Decides, Anyone}
@@ -12,15 +12,15 @@ use Rattle.hdl_core.specs.declared.hearing.Heard.{Heard}
 use Rattle.hdl_core.proofs.Heard.{on_ok}
 use Rattle.hdl_core.proofs.hearing.ask.Goals as goal
 
-pub returns-then-eq-clause-asked : goal.returns-then-eq-clause-asked
-returns-then-eq-clause-asked g c =
+pub returns-then-is_challenged-clause-asked : goal.returns-then-is_challenged-clause-asked
+returns-then-is_challenged-clause-asked g c =
     let r = c.args.request.now in
     let m = c.args.letter.now in
     let hosts = hosted_by c.args.owner.now in
     let a = request_algorithm (algorithms_by c.args.owner.now) r in
     let t = g.R.Rows.content c.args.rows.now in
+    let needed : (response_number c.in_ok-decision.decision.code == 402) ≡ true = sym c.is_challenged.ensures ∙ c.if-is_challenged.true in
     let named = c.in_ok-named.ensures.asked in
-    let needed : (response_number c.in_ok-decision.decision.code == 402) ≡ true = search rules in
     on_ok c.challenge.result _ _
     (λ heard is. subst (λ (h : Heard). IsAsked hosts a t m c.args.next r h (g.R.Rows.content c.decide.new.rows)) (sym (is ∙ ap (λ (x : Asked). challenge_of_request x.algorithm m c.args.next x.request.now) named)) (
       decision_of c.in_ok-decision.decision,
@@ -35,8 +35,8 @@ returns-then-eq-clause-asked g c =
 pub returns-clause-asked : goal.returns-clause-asked
 returns-clause-asked g c =
     let d = decision_of c.in_ok-decision.decision in
-    let named = c.in_ok-named.ensures.asked in
-    let answered : (response_number c.in_ok-decision.decision.code == 402) ≡ false = search rules in (
+    let answered : (response_number c.in_ok-decision.decision.code == 402) ≡ false = sym c.is_challenged.ensures ∙ c.if-is_challenged.false in
+    let named = c.in_ok-named.ensures.asked in (
       d,
       subst (λ (x : Asked). Decides (hosted_by c.args.owner.now) x.algorithm (g.R.Rows.content c.args.rows.now) x.request.now Anyone d) named c.in_ok-decision.ensures.decided,
       answered,
@@ -46,7 +46,7 @@ returns-clause-asked g c =
 
 pub returns-clause-read : goal.returns-clause-read
 returns-clause-read g c = λ has.
-    let answered : (response_number c.in_ok-decision.decision.code == 402) ≡ false = search rules in
+    let answered : (response_number c.in_ok-decision.decision.code == 402) ≡ false = sym c.is_challenged.ensures ∙ c.if-is_challenged.false in
     let e = c.args.letter.now.envelope in
     let asked = c.in_ok-named.named.asked in
     c.in_ok-octets.ensures.read
