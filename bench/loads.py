@@ -100,6 +100,14 @@ class Server:
         self.process.wait()
 
 
+def lanes_of(case):
+    """A lane for each connection, the overflow lane where the server has one, and that of datagrams."""
+    kind, clients, _ = case
+    if kind != "tcp":
+        return 2
+    return clients + 1 if clients < 3 else clients + 2
+
+
 def start_handled(program, lanes, values, table=None):
     """`handled serve`, over a table in a file where one is named, which has its handles; a program `PATH@NAME=VALUE` has that in its
     environment, as `LD_PRELOAD`."""

@@ -1,5 +1,5 @@
 """The gate of a submission, from nothing: the definitions quoted in docs/, the map, what pages cite and what must be believed, ./test, memory refused in turn, random scripts,
-the examples, answers that are none, the proxy for browsers, what README shows, a table in a file over kills, addresses, clients that hold a lane, come from many ports or are strangers, and a dry run
+the examples, answers that are none, the proxy for browsers, what README shows, a table in a file over kills, addresses, clients that hold a lane, come in a crowd, from many ports or are strangers, and a dry run
 of each benchmark.
 
 Before its last line it prints what each crate and each part took, in processor minutes, and names the crates that took more than docs/GATE.md
@@ -31,6 +31,7 @@ PARTS = (
     ["tools/refuse-disk"],
     ["tools/cut-power"],
     [sys.executable, "tools/strangers.py"],
+    [sys.executable, "tools/crowd.py"],
     [sys.executable, "tools/ports.py"],
     [sys.executable, "tools/listens.py"],
     [sys.executable, "tools/amplify.py"],

@@ -18,7 +18,7 @@ import wire
 PATIENCE = 5
 # How often a client asks while another one floods, and how many datagrams the flood sends meanwhile.
 OFTEN, FLOOD = 20, 50
-BEGINS = rb"handled [\d.]+ \(Buckramjade; [^)]*\): begins: publishers 2, lanes 5, table in memory, row cache 41943040 octets, idle 60 seconds, amplify 8 beyond loopback, turns 50"
+BEGINS = rb"handled [\d.]+ \(Buckramjade; [^)]*\): begins: publishers 2, lanes 5, table in memory, row cache 41943040 octets, idle 60 seconds, crowd 1000, amplify 8 beyond loopback, turns 50"
 ENDS = rb"handled: ends: the turns are spent"
 ASKED = wire.frame(wire.resolution(b"10/a"), request=1)
 ABSENT = wire.frame(wire.message(wire.RESOLVE, wire.number(0), wire.ABSENT), request=1)

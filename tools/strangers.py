@@ -1,10 +1,12 @@
 """strangers.py: connects to the proved program crates/handled/out/handled as strangers do who hold a lane: one that says nothing, one that gives its frame
 slower than a frame may come, and one that asks for much and reads nothing. Each must be closed, at its time and not before, and the
-client that waits behind it must get its whole answer.
+client that waits behind it must get its whole answer. On a lane that many share the slow one and the greedy one are closed too, and the others there
+get their answers meanwhile.
 
 The cases run side by side and take some 12 seconds, of which most is waiting. Its last line is 'N passed, M failed', a case counting one."""
 
 import contextlib
+import select
 import socket
 import sys
 import threading
@@ -22,9 +24,9 @@ LARGE = wire.value(1, b"TEXT", b"x" * 32000, wire.PUBLIC_READ)
 
 
 def tenants(*ports):
-    """A publisher with two lanes for connections, and two with one, who share a prefix."""
-    names = ("silent", "slow", "greedy")
-    lines = ["publisher %s %d %d" % row for row in zip(names, (3, 2, 2), ports)]
+    """A publisher with two lanes for connections, two with one, and one with an overflow lane beside two, who share a prefix."""
+    names = ("silent", "slow", "greedy", "crowded")
+    lines = ["publisher %s %d %d" % row for row in zip(names, (3, 2, 2, 4), ports)]
     return wire.text(lines + ["prefix 10 %s" % name for name in names] + [wire.value_line(b"10/large", LARGE)])
 
 
@@ -65,6 +67,13 @@ def count_to_end(stream):
         while octets := stream.recv(1 << 20):
             count += len(octets)
     return count
+
+
+def is_closed(stream):
+    """Whether the other side closes the connection, of which nothing is read meanwhile."""
+    watch = select.poll()
+    watch.register(stream, select.POLLRDHUP)
+    return bool(watch.poll((LIMIT + LATE) * 1000))
 
 
 def silent(port):
@@ -108,13 +117,29 @@ def greedy(port):
     return good and count_to_end(stream) < OFTEN * len(LARGE)
 
 
+def crowded(port):
+    """Of a crowd one gives an octet each half second and one reads nothing of 32,000 octets an answer; both are closed ten seconds later, and nobody else is."""
+    others = [client(port) for _ in range(6)]
+    good = all(is_answered(other) for other in others)
+    slow_one, greedy_one, began = client(port), client(port), time.monotonic()
+    send_ahead(greedy_one, b"".join(asked(request, b"10/large") for request in range(1, OFTEN + 1)))
+    for octet in asked(1)[:LIMIT * 2 - 5]:
+        slow_one.sendall(bytes([octet]))
+        good = good and is_answered(others[octet % 6], 2)
+        time.sleep(0.5)
+    went_on = time.monotonic() - began < LIMIT
+    good = good and went_on and count_to_end(slow_one) == 0 and LIMIT <= time.monotonic() - began < LIMIT + LATE
+    good = is_closed(greedy_one) and LIMIT <= time.monotonic() - began < LIMIT + LATE and good
+    return good and count_to_end(greedy_one) < OFTEN * len(LARGE) and all(is_answered(other, 3) for other in others)
+
+
 def tried(case, port, passed):
     if case(port):
         passed.append(case)
 
 
 def main():
-    cases, passed = (silent, slow, greedy), []
+    cases, passed = (silent, slow, greedy, crowded), []
     with servers.serving(tenants, len(cases), options=("--idle", str(IDLE))) as ports:
         threads = [threading.Thread(target=tried, args=(case, port, passed), daemon=True) for case, port in zip(cases, ports)]
         for thread in threads:

@@ -37,6 +37,7 @@ impl fmt::Display for Beginning<'_> {
         let Limits {
             turns,
             idle,
+            crowd,
             amplify,
         } = self.limits;
         write!(
@@ -44,7 +45,7 @@ impl fmt::Display for Beginning<'_> {
             "publishers {}, lanes {}, table in {}",
             self.publishers, self.lanes, self.kept
         )?;
-        write!(f, ", idle {idle} seconds, amplify ")?;
+        write!(f, ", idle {idle} seconds, crowd {crowd}, amplify ")?;
         match amplify {
             Some(times) => write!(f, "{times}")?,
             None => write!(f, "{AMPLIFY} beyond loopback")?,

@@ -100,6 +100,16 @@ fn serve_command<'a>(alloc: Global) -> Result<Command<'a>, AllocError> {
                 .value_parser(value_parser!(u32).range(1..)),
         )?
         .arg(
+            Arg::new(alloc, "crowd")
+                .long("crowd")
+                .value_name("CONNECTIONS")
+                .help(
+                    "Serves at most so many connections of a publisher on its overflow lane, once its other lanes are taken; 1000 by default, 0 for no such lane",
+                )
+                .action(ArgAction::Set)
+                .value_parser(value_parser!(u32)),
+        )?
+        .arg(
             Arg::new(alloc, "row-cache")
                 .long("row-cache")
                 .value_name("OCTETS")
@@ -146,6 +156,9 @@ fn limits(found: &ArgMatches) -> Limits {
             .unwrap_or(Limits::DEFAULT.turns),
         idle: found.get_one::<u32>("idle").unwrap_or(Limits::DEFAULT.idle),
         amplify: found.get_one::<u32>("amplify"),
+        crowd: found
+            .get_one::<u32>("crowd")
+            .unwrap_or(Limits::DEFAULT.crowd),
     }
 }
 

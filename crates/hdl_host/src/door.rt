@@ -1,6 +1,6 @@
 //! The machine's streams as doors. They tell nothing.
 
-use crate::sockets::nothing_came;
+use crate::sockets::{has_no_room, nothing_came};
 use crate::watch::Watch;
 use hdl_serve::{Door, DoorFault};
 use std::net::TcpStream;
@@ -47,6 +47,10 @@ impl<R: std::rt::Clock> Door for SocketDoor<R> {
                 Ok(true)
             }
             Err(e) if nothing_came(e.kind()) => Ok(false),
+            Err(e) if has_no_room(&e) => {
+                self.watch.pause();
+                Ok(false)
+            }
             Err(_) => {
                 self.watch.stop();
                 self.faults = self.faults.saturating_add(1);

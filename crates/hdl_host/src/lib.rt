@@ -1,18 +1,19 @@
 //! The server: the proved service behind the machine's sockets.
 //!
 //! ```text
-//! TCP connections -> SocketDoor    -> stream_worker ─┐ ring ┌─ serve (Service over any table), on the calling thread
-//! UDP sockets     -> SocketPackets -> packet_worker ─┘ each └─
-//!                      a thread for each lane
+//! a TCP connection  -> SocketDoor    -> stream_worker ─┐ ring ┌─ serve (Service over any table), on the calling thread
+//! many of them      -> SocketCrowd   -> packet_worker ─┤ each │
+//! UDP sockets       -> SocketPackets -> packet_worker ─┘      └─
+//!                        a thread for each lane
 //! ```
 //!
 //! [`hosted`] listens at each publisher's port and each address of a [`Setting`] by TCP and UDP, starts a worker for each lane, and serves on the thread
 //! that called it. [`hosted_on`] does so over a table that is there already, and gives it back; [`host`] takes a text, on loopback. Everything between a door and a table is proved of `hdl_workers`, `hdl_serve` and `hdl_core`, and the numbers of datagram
-//! peers of `hdl_trail`; this crate hands them what the machine has: sockets, a clock, random numbers and threads. No contract can
+//! peers of `hdl_trail`, what a crowd of connections keeps of `hdl_crowd`; this crate hands them what the machine has: sockets, a clock, random numbers and threads. No contract can
 //! say what these give, so the doors here tell nothing, and nothing is promised of octets on a wire. Beyond loopback a reply by UDP that is too long for a
 //! stranger stays back here, behind the worker's door (docs/PROTOCOL.md, "Replies to strangers").
 //!
-//! It stands on `hdl_workers`, `hdl_lanes`, `hdl_serve`, `hdl_trail`, `hdl_core`, `hdl_frame` and `hdl_rows`, on `hdl_msg` and what that speaks of for the reply in
+//! It stands on `hdl_workers`, `hdl_lanes`, `hdl_serve`, `hdl_trail`, `hdl_crowd`, `hdl_core`, `hdl_frame` and `hdl_rows`, on `hdl_msg` and what that speaks of for the reply in
 //! place of one that stays back, and on `hdl_replay` for the faults of the program.
 //!
 //! # Decisions
@@ -38,13 +39,21 @@
 //!   the next ones begin with it, seven of eight times. A wait ends when something was done (`worked`), which the clock is told: it can't see it.
 //!   A sleep that begins ten milliseconds behind its wait isn't counted, since nobody asked then. The first pause of any wait is short: a worker
 //!   that has outcomes in hand pauses once before it writes them, and shall not sleep over them.
+//! - **A crowd takes whom no other lane takes** (`entrance`): the last lane for connections of a publisher with four lanes or more has many, and accepts only while each other one has its
+//!   connection. Free workers wait in `accept`, and the crowd for events; it makes the listeners wait for nobody while it accepts, since a worker may be quicker. A worker that comes to them just then
+//!   finds nobody, pauses as after any other look, and comes again.
+//! - **A crowd is a lane among the others where silence is compared**: with room it counts as free, full it is silent since its longest silent connection. Its limits of time are those of the
+//!   others, looked at once a second: octets that the kernel has are read before a connection is called slow. What nobody keeps waiting costs no look.
+//! - **Where the machine has no room for one more descriptor** the crowd accepts nobody for a second, and counts as full; a worker tries again ten times a second. No lane ends of it.
 //! - **Shared listeners**: a publisher's stream workers have clones of its listeners, one at each address, so whichever is free takes the next connection.
 //! - **Several addresses are asked in turn and waited for together** (`sockets`, `lookout`): their calls don't wait, a `poll` of them all does. Where there is one
 //!   address its own call waits.
 #![tactic(auto)]
 
 mod clock;
+mod crowd;
 mod door;
+mod entrance;
 mod fault;
 mod hosting;
 mod instead;
@@ -58,6 +67,7 @@ mod silence;
 mod sockets;
 mod waking;
 mod watch;
+mod wires;
 mod workers;
 
 pub use fault::HostFault;

@@ -1,5 +1,6 @@
 //! Listening: the sockets of each publisher, and the lines that tell where they are.
 
+use crate::crowd::Crowd;
 use crate::fault::HostFault;
 use crate::silence::{Seat, Waits, seats_at};
 use crate::sockets::{PacketSocket, Sockets};
@@ -18,6 +19,8 @@ pub struct Limits {
     pub turns: u64,
     /// For how many seconds a connection may say nothing while another client of its publisher waits.
     pub idle: u32,
+    /// How many connections the overflow lane of a publisher has at most, where it has one. 0: none has.
+    pub crowd: u32,
     /// How many times the octets that asked a reply over UDP may have, to an address that answered no challenge lately. None: `AMPLIFY` times,
     /// and on loopback as many as it has.
     pub amplify: Option<u32>,
@@ -27,10 +30,11 @@ pub struct Limits {
 pub const AMPLIFY: u32 = 8;
 
 impl Limits {
-    /// No end of turns, and a minute of silence.
+    /// No end of turns, a minute of silence, and a thousand connections.
     pub const DEFAULT: Limits = Limits {
         turns: u64::MAX,
         idle: 60,
+        crowd: 1000,
         amplify: None,
     };
 
@@ -61,10 +65,14 @@ impl Setting {
     }
 }
 
-/// A publisher's datagram sockets, and the seats of its stream lanes.
+/// So many lanes a publisher has at least that has an overflow lane: two for a connection each, this one, and that of its datagrams.
+const LANES_WITH_CROWD: u16 = 4;
+
+/// A publisher's datagram sockets, the seats of its lanes for a connection each, and its overflow lane, if it has one.
 #[derive(Drop)]
 pub struct Place {
     pub seats: Vec<Seat>,
+    pub crowd: Option<Crowd>,
     pub sockets: Sockets<PacketSocket>,
 }
 
@@ -118,6 +126,25 @@ fn open<R: Net<Listener = TcpListener, Stream = TcpStream>>(
     Ok(Opened { listeners, sockets })
 }
 
+/// The overflow lane, which takes the last seat, where there is to be one.
+fn crowd_at<R: Net>(
+    rt: &R,
+    alloc: Global,
+    lanes: u16,
+    seats: &mut Vec<Seat>,
+    limits: Limits,
+) -> io::Result<Option<Crowd>> {
+    if limits.crowd == 0 || lanes < LANES_WITH_CROWD {
+        return Ok(None);
+    }
+    let Some(seat) = seats.pop() else {
+        return Ok(None);
+    };
+    let most = usize::try_from(limits.crowd).unwrap_or(usize::MAX);
+    let patience = Patience::of(limits.turns).door;
+    Ok(Some(Crowd::new(rt, alloc, seat, most, patience)?))
+}
+
 /// The place of a publisher with so many lanes, of which the last is that of its datagrams.
 fn place_of<R: Net + Clock>(
     rt: &R,
@@ -131,9 +158,12 @@ fn place_of<R: Net + Clock>(
         door: Patience::of(limits.turns).door,
         idle: limits.idle,
     };
-    let lanes = lanes.saturating_sub(1);
+    let streams = lanes.saturating_sub(1);
+    let mut seats = seats_at(rt, alloc, listeners.as_slice(), streams, waits)?;
+    let crowd = crowd_at(rt, alloc, lanes, &mut seats, limits)?;
     Ok(Place {
-        seats: seats_at(rt, alloc, listeners.as_slice(), lanes, waits)?,
+        seats,
+        crowd,
         sockets: Sockets::new(rt, alloc, sockets, waits.door)?,
     })
 }

@@ -1,9 +1,12 @@
 //! Since when the connections of a publisher are silent, and whether a client waits for one of its lanes.
 
 use crate::sockets::Sockets;
+use mio::unix::SourceFd;
+use mio::{Interest, Poll, Token};
 use std::alloc::Global;
 use std::io;
 use std::net::{Net, TcpListener, TcpStream};
+use std::os::fd::AsRawFd;
 use std::sync::Arc;
 use std::sync::atomic::AtomicU64;
 use std::sync::atomic::Ordering::SeqCst;
@@ -36,6 +39,12 @@ impl Silences {
         if let Some(since) = self.since.get(place) {
             since.store(moment, SeqCst);
         }
+    }
+
+    /// Whether another lane than that at this place is free.
+    fn has_free_beside(&self, place: usize) -> bool {
+        let mut others = self.since.iter().enumerate();
+        others.any(|(other, since)| other != place && since.load(SeqCst) == FREE)
     }
 
     /// Whether no other lane is silent for longer than that at this place, which is since this moment; of equal ones the first is.
@@ -90,17 +99,51 @@ impl Seat {
         self.silences.put(self.place, moment);
     }
 
+    /// Whether another lane of the publisher is free.
+    pub fn has_free_neighbour(&self) -> bool {
+        self.silences.has_free_beside(self.place)
+    }
+
+    /// Whether a client waits at one of the publisher's addresses.
+    pub fn sees_client(&mut self) -> bool {
+        self.listeners.has_more()
+    }
+
     /// Whether the silent connection has to make room: it is silent for too long, longest among all of its publisher, and somebody waits.
     pub fn makes_room(&mut self, now: u64) -> bool {
         now.saturating_sub(self.since) >= self.idle
             && self.silences.is_longest(self.place, self.since)
-            && self.listeners.has_more()
+            && self.sees_client()
     }
 
     /// A connection that came at one of the publisher's addresses. It may wait for one for a while.
     pub fn accept(&mut self) -> io::Result<TcpStream> {
         let (_, stream) = self.listeners.take(&mut [])?;
         Ok(stream)
+    }
+
+    /// A connection that came already.
+    pub fn accept_now(&mut self) -> io::Result<TcpStream> {
+        let (_, stream) = self.listeners.take_now(&mut [])?;
+        Ok(stream)
+    }
+
+    /// Has the calls of all workers of the publisher wait at its one listener, or not. Those at several don't wait anyhow.
+    pub fn set_waiting(&self, waits: bool) -> io::Result<()> {
+        match self.listeners.all() {
+            [listener] => listener.set_nonblocking(!waits),
+            _ => Ok(()),
+        }
+    }
+
+    /// Has a poll tell by this token of clients that come at the publisher's addresses.
+    pub fn tell_of_clients(&self, poll: &Poll, token: Token) -> io::Result<()> {
+        for listener in self.listeners.all() {
+            let descriptor = listener.as_raw_fd();
+            poll.registry()
+                .register(&mut SourceFd(&descriptor), token, Interest::READABLE)?;
+        }
+        Ok(())
     }
 }
 

@@ -19,6 +19,17 @@ pub fn nothing_came(kind: ErrorKind) -> bool {
     )
 }
 
+/// Errors of the system that say that it has no room for one more descriptor or connection: ENOMEM, ENFILE, EMFILE, ENOBUFS.
+const WITHOUT_ROOM: [i32; 4] = [12, 23, 24, 105];
+
+/// Whether a call that failed says only that the machine has no room for what came, which it may have later.
+pub fn has_no_room(error: &io::Error) -> bool {
+    match error.raw_os_error() {
+        Some(code) => WITHOUT_ROOM.contains(&code),
+        None => false,
+    }
+}
+
 /// A socket at which something comes.
 pub trait Source: AsRawFd {
     /// What comes.
@@ -108,6 +119,11 @@ impl<S: Source + Drop> Sockets<S> {
         })
     }
 
+    /// All of them.
+    pub fn all(&self) -> &[S] {
+        self.sockets.as_slice()
+    }
+
     /// The socket at this place.
     pub fn get(&self, place: usize) -> Option<&S> {
         self.sockets.get(place)
@@ -118,8 +134,9 @@ impl<S: Source + Drop> Sockets<S> {
         self.lookout.sees(self.sockets.as_slice(), Duration::ZERO)
     }
 
-    /// Asks each of them once, the one that gave something last at the end, so that none keeps another from being asked.
-    fn ask(&mut self, buffer: &mut [u8]) -> io::Result<(usize, S::Taken)> {
+    /// Takes what came for one of them already, with its place. Each is asked once, the one that gave something last at the end, so that none keeps another
+    /// from being asked.
+    pub fn take_now(&mut self, buffer: &mut [u8]) -> io::Result<(usize, S::Taken)> {
         let count = self.sockets.len();
         for turn in 0..count {
             let place = self.first.wrapping_add(turn) % count;
@@ -140,10 +157,10 @@ impl<S: Source + Drop> Sockets<S> {
 
     /// Takes what came for one of them, with its place. It may wait for a while.
     pub fn take(&mut self, buffer: &mut [u8]) -> io::Result<(usize, S::Taken)> {
-        match self.ask(buffer) {
+        match self.take_now(buffer) {
             Err(e) if nothing_came(e.kind()) && self.sockets.len() > 1 => {
                 self.lookout.sees(self.sockets.as_slice(), self.most);
-                self.ask(buffer)
+                self.take_now(buffer)
             }
             answer => answer,
         }

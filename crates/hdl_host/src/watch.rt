@@ -5,6 +5,7 @@ use crate::silence::Seat;
 use crate::sockets::nothing_came;
 use std::io::{self, ErrorKind, Read, Write};
 use std::net::TcpStream;
+use std::thread;
 use std::time::Duration;
 
 /// For how many seconds one call waits for octets, or for room, behind which the limits are looked at.
@@ -15,6 +16,9 @@ const FRAME: u64 = 10_000;
 
 /// For how many ticks a connection may take nothing of an answer.
 const ANSWER: u64 = 10;
+
+/// How many milliseconds a lane waits before it accepts again, where the machine had no room for a connection.
+const WITHOUT_ROOM: u64 = 100;
 
 /// Watches the connection of one lane.
 #[derive(Drop)]
@@ -55,6 +59,11 @@ impl<R: std::rt::Clock> Watch<R> {
     /// The connection has ended.
     pub fn end(&mut self) {
         self.seat.set_free();
+    }
+
+    /// The machine has no room for the client that waits: a little later it may have.
+    pub fn pause(&self) {
+        thread::sleep(&self.rt, Duration::from_millis(WITHOUT_ROOM));
     }
 
     /// The lane takes no more connections.

@@ -4,6 +4,7 @@ ghost use Rattle.std.specs.Prelude.{◌≡◌, []};
 ghost use Rattle.hdl_lanes.specs.Lane.{put_into, taken_from};
 
 use crate::clock::{MachineClock, Part};
+use crate::crowd::{Crowd, SocketCrowd};
 use crate::door::SocketDoor;
 use crate::listening::{Place, had};
 use crate::nonces::MachineNonces;
@@ -67,6 +68,42 @@ fn start_stream<R: Threads + Clock + RandomSource + Copy + Send + Drop + 'static
     }
 }
 
+/// Starts the worker of an overflow lane.
+fn start_crowd<R: Threads + Clock + RandomSource + Copy + Send + Drop + 'static>(
+    rt: &R,
+    alloc: Global,
+    crowd: Crowd,
+    side: Side,
+) -> Result<JoinHandle<WorkerEnd>, Fault> {
+    let Side { far, bell, turns } = side;
+    let Far { inlet, outcomes } = far;
+    let rng = had(make_rng(rt))?;
+    let theirs = *rt;
+    let spawned = thread::spawn(
+        rt,
+        move ||
+            requires { (put_into inlet ≡ []) × (taken_from outcomes ≡ []) }
+        {
+            let mut crowd = SocketCrowd::new(theirs, crowd);
+            let mut clock = MachineClock::new(theirs, Part::Works(bell));
+            let mut nonces = MachineNonces::new(rng);
+            packet_worker(
+                alloc,
+                &mut crowd,
+                &mut clock,
+                &mut nonces,
+                inlet,
+                outcomes,
+                turns,
+            )
+        },
+    );
+    match spawned {
+        Ok(worker) => Ok(worker),
+        Err(_) => Err(Fault::Device),
+    }
+}
+
 /// Starts the worker of a datagram lane.
 fn start_packets<R: Threads + Clock + RandomSource + Copy + Send + Drop + 'static>(
     rt: &R,
@@ -103,7 +140,7 @@ fn start_packets<R: Threads + Clock + RandomSource + Copy + Send + Drop + 'stati
     }
 }
 
-/// Starts the workers of a publisher's lanes: the last is that of its datagrams.
+/// Starts the workers of a publisher's lanes: the last is that of its datagrams, and that before it the overflow lane, if it has one.
 fn start_place<R: Threads + Clock + RandomSource + Copy + Send + Drop + 'static>(
     rt: &R,
     alloc: Global,
@@ -111,10 +148,19 @@ fn start_place<R: Threads + Clock + RandomSource + Copy + Send + Drop + 'static>
     sides: &mut IntoIter<Side>,
     workers: &mut Vec<JoinHandle<WorkerEnd>>,
 ) -> Result<(), Fault> {
-    let Place { seats, sockets } = place;
+    let Place {
+        seats,
+        crowd,
+        sockets,
+    } = place;
     for seat in seats {
         if let Some(side) = sides.next() {
             workers.push(start_stream(rt, alloc, seat, side)?)?;
+        }
+    }
+    if let Some(crowd) = crowd {
+        if let Some(side) = sides.next() {
+            workers.push(start_crowd(rt, alloc, crowd, side)?)?;
         }
     }
     if let Some(side) = sides.next() {

@@ -1,0 +1,5 @@
+mod BookLemmas
+mod FrameLemmas
+mod JoiningLemmas
+mod RunLemmas
+mod TalkLemmas

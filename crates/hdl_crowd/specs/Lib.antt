@@ -1,0 +1,6 @@
+pub mod Joining
+pub mod Talk
+pub mod Run
+pub mod Laws
+pub mod Pace
+pub mod Book

@@ -1,0 +1,34 @@
+-- Since when a connection keeps others waiting.
+use Rattle.std.specs.Prelude.{ℕ, ◌-◌, Bool, false, ◌||◌, nat_lt, Option, Some, None, is_some}
+use Rattle.hdl_crowd.specs.declared.pace.TheConstants.{WAIT_MAX}
+use Rattle.hdl_crowd.specs.declared.pace.Pace.{Pace}
+
+-- a connection that came at this moment
+abbrev pub at_first : ℕ → Pace
+at_first now = record { silent = now; begun = None; untaken = None }
+
+-- the moment of what began before, or this one
+abbrev pub since_first : Option ℕ → ℕ → Option ℕ
+since_first None now = Some now
+since_first (Some moment) now = Some moment
+
+-- what began, if anything did, is waited for longer than may be
+abbrev pub has_lasted : Option ℕ → ℕ → Bool
+has_lasted None now = false
+has_lasted (Some moment) now = nat_lt WAIT_MAX (now - moment)
+
+-- the rest of its frame is waited for, or an answer isn't taken
+abbrev pub keeps_waiting : Pace → Bool
+keeps_waiting p = is_some p.begun || is_some p.untaken
+
+-- the rest of its frame, or its taking some of an answer, was waited for longer than may be
+abbrev pub is_late : Pace → ℕ → Bool
+is_late p now = has_lasted p.begun now || has_lasted p.untaken now
+
+-- since when it is silent, unless it has an answer to take
+abbrev pub silent_unless : Option ℕ → ℕ → Option ℕ
+silent_unless None moment = Some moment
+silent_unless (Some untaken) moment = None
+
+abbrev pub silent_since : Pace → Option ℕ
+silent_since p = silent_unless p.untaken p.silent

@@ -1,0 +1,90 @@
+-- What a connection has under way, and what happens on it.
+use Rattle.std.specs.Prelude.{◌≡◌, ℕ, List, [], ◌∷◌, ◌++◌, Option, Some, None}
+use Rattle.std.specs.List.{flat_map}
+use Rattle.hdl_frame.specs.declared.envelope.FrameFault.{FrameFault}
+use Rattle.hdl_frame.specs.declared.envelope.FrameFault.TheVariants.{Version, Flags, TooLong, Memory}
+use Rattle.hdl_frame.specs.Frames.{IsFrame, fault_at}
+use Rattle.hdl_msg.specs.Reply.{short_reply}
+
+-- what was read and not handed out, the fault that was told of it, and what is owed: said and not written
+pub record Talking : Type 0 where
+  pub rest : List ℕ
+  pub fault : Option FrameFault
+  pub owed : List ℕ
+
+-- a connection on which nothing happened yet
+abbrev pub fresh : Talking
+fresh = record { rest = []; fault = None; owed = [] }
+
+-- octets are read, the frame that stands next is handed out, the fault that stands next is told, octets are said to the client, or written
+pub data Step : Type 0 where
+  reads : List ℕ → Step
+  hands : List ℕ → Step
+  tells : FrameFault → Step
+  says : List ℕ → Step
+  writes : List ℕ → Step
+
+-- what a step does
+abbrev pub Takes : Talking → Step → Talking → Type 0
+Takes t (reads octets) u = (t.fault ≡ None) × (u ≡ record { rest = t.rest ++ octets; fault = None; owed = t.owed })
+Takes t (hands frame) u = IsFrame frame × (t.rest ≡ frame ++ u.rest) × (t.fault ≡ None) × (u.fault ≡ None) × (u.owed ≡ t.owed)
+Takes t (tells fault) u = (fault_at t.rest ≡ Some fault) × (u ≡ record { rest = t.rest; fault = Some fault; owed = t.owed })
+Takes t (says octets) u = u ≡ record { rest = t.rest; fault = t.fault; owed = t.owed ++ octets }
+Takes t (writes octets) u = (t.owed ≡ octets ++ u.owed) × (u.rest ≡ t.rest) × (u.fault ≡ t.fault)
+
+-- what is said of a faulty envelope: code 4, under its numbers
+abbrev pub refusal_of : FrameFault → List ℕ
+refusal_of (Version e) = short_reply 4 e
+refusal_of (Flags e) = short_reply 4 e
+refusal_of (TooLong e) = short_reply 4 e
+refusal_of Memory = []
+
+-- the fault that stands next is told, and refused
+abbrev pub TurnsAway : Talking → Talking → Type 0
+TurnsAway t u = (fault : FrameFault) × (v : Talking) × Takes t (tells fault) v × Takes v (says (refusal_of fault)) u
+
+-- steps one after the other
+abbrev pub TakesAll : Talking → List Step → Talking → Type 0
+TakesAll t [] u = u ≡ t
+TakesAll t (s ∷ ss) u = (v : Talking) × Takes t s v × TakesAll v ss u
+
+-- the octets that a step reads, the frames that it hands out, the octets that it says, and those that it writes
+abbrev pub read_in : Step → List ℕ
+read_in (reads octets) = octets
+read_in (hands frame) = []
+read_in (tells fault) = []
+read_in (says octets) = []
+read_in (writes octets) = []
+
+abbrev pub handed_in : Step → List (List ℕ)
+handed_in (reads octets) = []
+handed_in (hands frame) = frame ∷ []
+handed_in (tells fault) = []
+handed_in (says octets) = []
+handed_in (writes octets) = []
+
+abbrev pub said_in : Step → List ℕ
+said_in (reads octets) = []
+said_in (hands frame) = []
+said_in (tells fault) = []
+said_in (says octets) = octets
+said_in (writes octets) = []
+
+abbrev pub written_in : Step → List ℕ
+written_in (reads octets) = []
+written_in (hands frame) = []
+written_in (tells fault) = []
+written_in (says octets) = []
+written_in (writes octets) = octets
+
+abbrev pub all_read : List Step → List ℕ
+all_read steps = flat_map read_in steps
+
+abbrev pub all_handed : List Step → List (List ℕ)
+all_handed steps = flat_map handed_in steps
+
+abbrev pub all_said : List Step → List ℕ
+all_said steps = flat_map said_in steps
+
+abbrev pub all_written : List Step → List ℕ
+all_written steps = flat_map written_in steps

@@ -1,0 +1,261 @@
+//! The connections of a crowd.
+
+ghost use Rattle.std.specs.Prelude.{◌≡◌, ◌≤◌, ◌<◌, ◌+◌, ◌∷◌, [], ℕ, true, IsTrue, length, option_map, take, None, Some, IfSome, IfNone, IfErr, IfOk, OnOk, OnErr, MatchOption};
+ghost use Rattle.slab.specs.Slab.{get, slab_len, Updates, SameValues};
+ghost use Rattle.hdl_frame.specs.Frames.{IsFrame};
+ghost use Rattle.hdl_limits.specs.declared.TheConstants.{PEERS_MAX};
+ghost use Rattle.hdl_trail.specs.Exchange.{with_reply};
+ghost use Rattle.hdl_trail.specs.Peers.{address_among, holds};
+ghost use Rattle.hdl_crowd.specs.Book.{Goes, IsAt, IsNumberAt, Rests, SameBut};
+ghost use Rattle.hdl_crowd.specs.Joining.{said_of};
+ghost use Rattle.hdl_crowd.specs.Pace.{at_first};
+ghost use Rattle.hdl_crowd.specs.Talk.{fresh, reads, hands, says, writes};
+
+use crate::entry::{Entry, Member};
+use crate::pace::Pace;
+use crate::talk::Talk;
+use hdl_frame::ENVELOPE_LEN;
+use hdl_limits::MESSAGE_MAX;
+use hdl_trail::Peers;
+use slab::Slab;
+use std::alloc::Global;
+
+/// The connection is to be left: memory was refused, or it isn't there.
+#[derive(Clone, Copy, Debug, PartialEq, Eq)]
+pub struct Left;
+
+/// The connections of a crowd, by their places, and which peers' numbers they have.
+#[derive(Drop)]
+pub struct Book {
+    alloc: Global,
+    entries: Slab<Entry>,
+    /// The serial of the connection that came last.
+    last: u64,
+    peers: Peers<Member>,
+}
+
+impl Book {
+    /// Nobody came.
+    pub fn new(alloc: Global) -> Book {
+        Book {
+            alloc,
+            entries: Slab::new(alloc),
+            last: 0,
+            peers: Peers::new(alloc),
+        }
+    }
+
+    /// A connection comes: its place, which nobody has. Its serial is one more than that of the connection before, so no two ever have the same. None where
+    /// memory is refused.
+    pub fn enter(&mut self, now: u64) -> Option<usize>
+        ensures serial { IfSome result (λ _. self.new.last ≡ self.old.last + 1) }
+        ensures vacant { IfSome result (λ place. get self.old.entries place ≡ None) }
+        ensures entered { IfSome result (λ place. Updates self.old.entries self.new.entries place (Some (record { serial = self.new.last; talk = fresh; pace = at_first now }))) }
+        ensures refused { IfNone result ((self.new.last ≡ self.old.last) × SameValues self.old.entries self.new.entries) }
+        ensures peers { self.new.peers ≡ self.old.peers }
+    {
+        let Some(serial) = self.last.checked_add(1) else {
+            return None;
+        };
+        let entry = Entry {
+            serial,
+            talk: Talk::new(self.alloc),
+            pace: Pace::new(now),
+        };
+        match self.entries.insert(entry) {
+            Ok(place) => {
+                self.last = serial;
+                Some(place)
+            }
+            Err(_) => None,
+        }
+    }
+
+    /// The connection at this place is left. Its serial is given to no other, so nobody gets what is kept under its number.
+    pub fn leave(&mut self, place: usize)
+        ensures left { Updates self.old.entries self.new.entries place None }
+        ensures last { self.new.last ≡ self.old.last }
+        ensures peers { self.new.peers ≡ self.old.peers }
+    {
+        drop(self.entries.try_remove(place));
+    }
+
+    /// Octets were read on the connection at this place. An `Err` changes nothing.
+    pub fn heard(&mut self, place: usize, octets: &[u8], now: u64) -> Result<(), Left>
+        ensures ok { OnOk result (Goes self.old.entries self.new.entries place (reads octets.now ∷ [])) }
+        ensures unchanged { OnErr result (SameValues self.old.entries self.new.entries) }
+        ensures last { self.new.last ≡ self.old.last }
+        ensures peers { self.new.peers ≡ self.old.peers }
+    {
+        let Some(entry) = self.entries.get_mut(place) else {
+            return Err(Left);
+        };
+        match entry.heard(octets, now) {
+            Ok(()) => Ok(()),
+            Err(_) => Err(Left),
+        }
+    }
+
+    /// The frame that stands next on the connection at this place, at the front of the buffer, and whose it is.
+    fn take_frame(
+        &mut self,
+        place: usize,
+        buffer: &mut [u8],
+    ) -> Result<Option<(Member, usize)>, Left>
+        requires room { ENVELOPE_LEN + MESSAGE_MAX ≤ length buffer.old }
+        ensures frame { IfOk result (λ found. IfSome found (λ f. (f.1 ≤ length buffer.new) × IsFrame (take f.1 buffer.new) × IsAt self.new.entries f.0 place × Goes self.old.entries self.new.entries place (hands (take f.1 buffer.new) ∷ []))) }
+        ensures none { IfOk result (λ found. IfNone found (Rests self.old.entries self.new.entries place)) }
+        ensures others { SameBut place self.old.entries self.new.entries }
+        ensures last { self.new.last ≡ self.old.last }
+        ensures peers { self.new.peers ≡ self.old.peers }
+    {
+        let Some(entry) = self.entries.get_mut(place) else {
+            return Err(Left);
+        };
+        let serial = entry.serial;
+        match entry.next_frame(buffer) {
+            Ok(Some(len)) => Ok(Some((Member { place, serial }, len))),
+            Ok(None) => Ok(None),
+            Err(_) => Err(Left),
+        }
+    }
+
+    /// The number under which a frame of the connection goes to the service.
+    fn number(&mut self, member: Member, frame: &[u8]) -> Result<u16, Left>
+        requires frame { IsFrame frame.now }
+        ensures number { IfOk result (λ number. (0 < number) × (number ≤ PEERS_MAX) × (address_among self.new.peers.known number ≡ Some member)) }
+        ensures kept { (n : ℕ) → IsTrue (holds self.new.peers n) → IfSome (address_among self.old.peers.known n) (λ m. address_among self.new.peers.known n ≡ Some m) }
+        ensures entries { self.new.entries ≡ self.old.entries }
+        ensures last { self.new.last ≡ self.old.last }
+    {
+        match self.peers.came(member, frame) {
+            Ok(Some(number)) => Ok(number),
+            Ok(None) | Err(_) => Err(Left),
+        }
+    }
+
+    /// The frame that stands next on the connection at this place, copied to the front of the buffer: its number among the lane's peers, and its length. The
+    /// number is this connection's until the next frame, and longer while something is followed under it. None where no whole frame stands there; a faulty
+    /// envelope is refused when it is met, and nothing is handed out behind it. What is an `Err` is for the caller to leave.
+    pub fn next_frame(
+        &mut self,
+        place: usize,
+        buffer: &mut [u8],
+    ) -> Result<Option<(u16, usize)>, Left>
+        requires room { ENVELOPE_LEN + MESSAGE_MAX ≤ length buffer.old }
+        ensures frame { IfOk result (λ found. IfSome found (λ f. (f.1 ≤ length buffer.new) × Goes self.old.entries self.new.entries place (hands (take f.1 buffer.new) ∷ []))) }
+        ensures number { IfOk result (λ found. IfSome found (λ f. (0 < f.0) × (f.0 ≤ PEERS_MAX) × IsNumberAt self.new.peers.known self.new.entries f.0 place)) }
+        ensures none { IfOk result (λ found. IfNone found (Rests self.old.entries self.new.entries place)) }
+        ensures kept { (n : ℕ) → IsTrue (holds self.new.peers n) → IfSome (address_among self.old.peers.known n) (λ m. address_among self.new.peers.known n ≡ Some m) }
+        ensures others { SameBut place self.old.entries self.new.entries }
+        ensures last { self.new.last ≡ self.old.last }
+    {
+        match self.take_frame(place, buffer)? {
+            Some((member, len)) => {
+                let number = self.number(member, &buffer[..len])?;
+                Ok(Some((number, len)))
+            }
+            None => Ok(None),
+        }
+    }
+
+    /// A datagram of the reply to the frame that was handed out last, which had this number: it is said to the connection that has the number, whose place
+    /// is answered. None where that is left, or memory is refused; then nothing is said.
+    pub fn answered(&mut self, number: u16, datagram: &[u8]) -> Option<usize>
+        ensures said { IfSome result (λ place. IsNumberAt self.old.peers.known self.old.entries number place × Goes self.old.entries self.new.entries place (says (said_of datagram.now) ∷ [])) }
+        ensures unsaid { IfNone result (SameValues self.old.entries self.new.entries) }
+        ensures known { self.new.peers.known ≡ self.old.peers.known }
+        ensures followed { self.new.peers.followed ≡ self.old.peers.followed }
+        ensures exchange { self.new.peers.exchange ≡ option_map (with_reply datagram.now) self.old.peers.exchange }
+        ensures last { self.new.last ≡ self.old.last }
+    {
+        self.peers.answered(datagram);
+        let member = self.peers.address(number)?;
+        self.say(member, datagram)
+    }
+
+    /// Says a datagram to this connection, if it is there.
+    fn say(&mut self, member: Member, datagram: &[u8]) -> Option<usize>
+        ensures said { IfSome result (λ place. IsAt self.old.entries member place × Goes self.old.entries self.new.entries place (says (said_of datagram.now) ∷ [])) }
+        ensures unsaid { IfNone result (SameValues self.old.entries self.new.entries) }
+        ensures peers { self.new.peers ≡ self.old.peers }
+        ensures last { self.new.last ≡ self.old.last }
+    {
+        let entry = self.entries.get_mut(member.place)?;
+        if entry.serial != member.serial {
+            return None;
+        }
+        match entry.say(datagram) {
+            Ok(()) => Some(member.place),
+            Err(_) => None,
+        }
+    }
+
+    /// What is owed to the connection at this place.
+    pub fn owed(&self, place: usize) -> &[u8]
+        ensures { MatchOption (get self.now.entries place) (result.now ≡ []) (λ e. result.now ≡ e.talk.owed) }
+    {
+        match self.entries.get(place) {
+            Some(entry) => entry.talk.owed(),
+            None => &[],
+        }
+    }
+
+    /// So many of the octets that are owed to the connection at this place were written.
+    pub fn wrote(&mut self, place: usize, count: usize, now: u64)
+        ensures written { MatchOption (get self.old.entries place) (SameValues self.old.entries self.new.entries) (λ e. Goes self.old.entries self.new.entries place (writes (take count e.talk.owed) ∷ [])) }
+        ensures peers { self.new.peers ≡ self.old.peers }
+        ensures last { self.new.last ≡ self.old.last }
+    {
+        if let Some(entry) = self.entries.get_mut(place) {
+            entry.wrote(count, now);
+        }
+    }
+
+    /// Nothing more is there to be read at this place for now, and what isn't needed meanwhile is given back.
+    pub fn waits(&mut self, place: usize, now: u64)
+        ensures talks { MatchOption (get self.old.entries place) (SameValues self.old.entries self.new.entries) (λ _. Goes self.old.entries self.new.entries place []) }
+        ensures peers { self.new.peers ≡ self.old.peers }
+        ensures last { self.new.last ≡ self.old.last }
+    {
+        if let Some(entry) = self.entries.get_mut(place) {
+            entry.waits(now);
+        }
+    }
+
+    /// Nothing more of what is owed at this place is taken for now.
+    pub fn refuses(&mut self, place: usize, now: u64)
+        ensures talks { MatchOption (get self.old.entries place) (SameValues self.old.entries self.new.entries) (λ _. Goes self.old.entries self.new.entries place []) }
+        ensures peers { self.new.peers ≡ self.old.peers }
+        ensures last { self.new.last ≡ self.old.last }
+    {
+        if let Some(entry) = self.entries.get_mut(place) {
+            entry.refuses(now);
+        }
+    }
+
+    /// Whether the connection at this place is to be left: its envelope was faulty, and the refusal is written. So is one that isn't there.
+    pub fn is_over(&self, place: usize) -> bool
+        ensures { MatchOption (get self.now.entries place) (result ≡ true) (λ e. IsTrue result → e.talk.owed ≡ []) }
+    {
+        match self.entries.get(place) {
+            Some(entry) => entry.is_over(),
+            None => true,
+        }
+    }
+
+    /// Since when the connection at this place keeps others waiting, if one is there.
+    pub fn pace(&self, place: usize) -> Option<Pace>
+        ensures { result ≡ option_map (λ e. e.pace) (get self.now.entries place) }
+    {
+        let entry = self.entries.get(place)?;
+        Some(entry.pace)
+    }
+
+    /// How many connections there are.
+    pub fn len(&self) -> usize
+        ensures { result ≡ slab_len self.now.entries }
+    {
+        self.entries.len()
+    }
+}

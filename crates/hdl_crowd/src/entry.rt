@@ -1,0 +1,112 @@
+//! One connection of a crowd.
+
+ghost use Rattle.std.specs.Prelude.{◌≡◌, ◌≤◌, ◌+◌, ◌⊎◌, [], IsTrue, length, take, IfErr, IfOk, IfSome, IfNone, OnOk, OnErr};
+ghost use Rattle.hdl_crowd.specs.Joining.{said_of};
+ghost use Rattle.hdl_crowd.specs.Talk.{reads, hands, says, writes, Takes, TurnsAway};
+
+use crate::pace::Pace;
+use crate::talk::Talk;
+use hdl_frame::{ENVELOPE_LEN, FrameFault};
+use hdl_limits::MESSAGE_MAX;
+use std::alloc::AllocError;
+
+/// A connection of a crowd: its place there, and which one it is of all that came.
+#[derive(Clone, Copy, Debug, PartialEq, Eq)]
+pub struct Member {
+    pub place: usize,
+    pub serial: u64,
+}
+
+/// What is kept of a connection.
+#[derive(Drop)]
+pub(crate) struct Entry {
+    pub serial: u64,
+    pub talk: Talk,
+    pub pace: Pace,
+}
+
+impl Entry {
+    /// Octets were read. An `Err` changes nothing.
+    pub(crate) fn heard(&mut self, octets: &[u8], now: u64) -> Result<(), FrameFault>
+        ensures ok { OnOk result (Takes self.old.talk (reads octets.now) self.new.talk) }
+        ensures unchanged { OnErr result (self.new ≡ self.old) }
+        ensures serial { self.new.serial ≡ self.old.serial }
+    {
+        self.talk.heard(octets)?;
+        self.pace = self.pace.came(now);
+        Ok(())
+    }
+
+    /// Hands out the frame that stands next, at the front of the buffer; its length. None where no whole frame stands there, or behind a fault, which is
+    /// refused when it is met. An `Err`: that memory for this was refused.
+    pub(crate) fn next_frame(&mut self, buffer: &mut [u8]) -> Result<Option<usize>, AllocError>
+        requires room { ENVELOPE_LEN + MESSAGE_MAX ≤ length buffer.old }
+        ensures frame { IfOk result (λ found. IfSome found (λ len. (len ≤ length buffer.new) × Takes self.old.talk (hands (take len buffer.new)) self.new.talk)) }
+        ensures none { IfOk result (λ found. IfNone found ((self.new.talk ≡ self.old.talk) ⊎ TurnsAway self.old.talk self.new.talk)) }
+        ensures serial { self.new.serial ≡ self.old.serial }
+    {
+        if self.talk.is_faulty() {
+            return Ok(None);
+        }
+        match self.talk.next_frame(buffer) {
+            Ok(Some(len)) => {
+                self.pace = self.pace.framed();
+                Ok(Some(len))
+            }
+            Ok(None) => Ok(None),
+            Err(fault) => {
+                self.talk.refuse(fault)?;
+                Ok(None)
+            }
+        }
+    }
+
+    /// Says a datagram. Refused memory changes nothing.
+    pub(crate) fn say(&mut self, datagram: &[u8]) -> Result<(), AllocError>
+        ensures ok { OnOk result (Takes self.old.talk (says (said_of datagram.now)) self.new.talk) }
+        ensures unchanged { OnErr result (self.new ≡ self.old) }
+        ensures serial { self.new.serial ≡ self.old.serial }
+    {
+        self.talk.say(datagram)
+    }
+
+    /// So much of what is owed was written, as far as it is owed.
+    pub(crate) fn wrote(&mut self, count: usize, now: u64)
+        ensures written { Takes self.old.talk (writes (take count self.old.talk.owed)) self.new.talk }
+        ensures serial { self.new.serial ≡ self.old.serial }
+    {
+        let owed = self.talk.owed().len();
+        self.talk.wrote(count.min(owed));
+        self.pace = if count < owed {
+            self.pace.took(now)
+        } else {
+            self.pace.taken(now)
+        };
+    }
+
+    /// Nothing more is there to be read for now.
+    pub(crate) fn waits(&mut self, now: u64)
+        ensures talk { self.new.talk ≡ self.old.talk }
+        ensures serial { self.new.serial ≡ self.old.serial }
+    {
+        self.talk.give_back();
+        if self.talk.is_begun() {
+            self.pace = self.pace.waits(now);
+        }
+    }
+
+    /// Nothing more of what is owed is taken for now.
+    pub(crate) fn refuses(&mut self, now: u64)
+        ensures talk { self.new.talk ≡ self.old.talk }
+        ensures serial { self.new.serial ≡ self.old.serial }
+    {
+        self.pace = self.pace.refuses(now);
+    }
+
+    /// Whether a fault was told, and everything said is written.
+    pub(crate) fn is_over(&self) -> bool
+        ensures { IsTrue result → self.now.talk.owed ≡ [] }
+    {
+        self.talk.is_faulty() && self.talk.owed().is_empty()
+    }
+}

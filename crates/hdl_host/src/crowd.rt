@@ -1,0 +1,426 @@
+//! Many connections on one lane, as peers of it. They tell nothing.
+//!
+//! The worker of such a lane is that of datagrams: one frame at a time, each answered before the next is received. `hdl_crowd` keeps what is read and
+//! owed, and whose number is whose; here are the sockets, none of which waits.
+
+use crate::entrance::Entrance;
+use crate::silence::Seat;
+use crate::sockets::nothing_came;
+use crate::wires::Wires;
+use hdl_crowd::Book;
+use hdl_frame::ENVELOPE_LEN;
+use hdl_limits::{MESSAGE_MAX, PEERS_MAX};
+use hdl_serve::{DoorFault, Packets};
+use mio::net::TcpStream;
+use mio::{Events, Interest, Poll, Token};
+use std::alloc::Global;
+use std::io::{self, ErrorKind, Read, Write};
+use std::net::Net;
+use std::time::Duration;
+
+/// The listeners' token; that of a connection is one more than its place.
+const LISTENER: Token = Token(0);
+
+/// How many events are taken, clients accepted, and places looked at, in one call.
+const AT_ONCE: usize = 64;
+
+/// How many frames are received between two looks for events.
+const BETWEEN_LOOKS: u32 = 32;
+
+/// How many octets are asked of a connection at a time.
+const READ_AT_ONCE: usize = 8192;
+
+/// How many writes one answer is tried by before others have their turn.
+const WRITES: u32 = 64;
+
+/// Each so many milliseconds the limits of time are looked at.
+const TICK: u64 = 1000;
+
+/// What stands next at a place.
+enum Next {
+    /// A frame of so many octets, from the peer with this number.
+    Frame(u16, usize),
+    /// Something more may stand there.
+    More,
+    /// Nothing, until the socket is ready again.
+    Nothing,
+    /// Its end.
+    End,
+}
+
+/// The connections of a lane.
+#[derive(Drop)]
+pub struct Crowd {
+    entrance: Entrance,
+    poll: Poll,
+    events: Events,
+    /// How long a look for events may take.
+    patience: Duration,
+    book: Book,
+    wires: Wires,
+    /// Where the frame that was received last came from.
+    asked: Option<usize>,
+    /// How many frames are still received before the next look for events.
+    until_look: u32,
+    /// The moment of this call, and that at which the limits of time were looked at.
+    now: u64,
+    ticked: u64,
+    /// Whether some connection may be too slow.
+    is_watched: bool,
+}
+
+impl Crowd {
+    /// Nobody, at the listeners of this seat; at most so many. A look for events takes so long at most.
+    pub fn new<R: Net>(
+        rt: &R,
+        alloc: Global,
+        seat: Seat,
+        most: usize,
+        patience: Duration,
+    ) -> io::Result<Crowd> {
+        let poll = Poll::new(rt)?;
+        seat.tell_of_clients(&poll, LISTENER)?;
+        Ok(Crowd {
+            entrance: Entrance::new(seat, most),
+            poll,
+            events: Events::with_capacity(alloc, AT_ONCE)?,
+            patience,
+            book: Book::new(alloc),
+            wires: Wires::new(alloc),
+            asked: None,
+            until_look: 0,
+            now: 0,
+            ticked: 0,
+            is_watched: false,
+        })
+    }
+
+    /// Leaves the connection at this place.
+    fn close(&mut self, place: usize) {
+        self.wires.close(place);
+        self.book.leave(place);
+        self.entrance.is_left();
+        if self.asked == Some(place) {
+            self.asked = None;
+        }
+    }
+
+    /// Waits for events, if nothing is known to stand anywhere, and notes where something may stand.
+    fn look(&mut self) {
+        let most = if self.wires.is_quiet() {
+            self.entrance
+                .patience(self.book.len(), self.now, self.patience)
+        } else {
+            Duration::ZERO
+        };
+        self.until_look = BETWEEN_LOOKS;
+        if self.poll.poll(&mut self.events, Some(most)).is_err() {
+            return;
+        }
+        for event in self.events.iter() {
+            let token = event.token();
+            if token == LISTENER {
+                self.entrance.knocks();
+            } else {
+                self.wires.queue(token.0.saturating_sub(1));
+            }
+        }
+    }
+
+    /// Takes a client in. What can't be had closes the connection.
+    fn admit(&mut self, stream: std::net::TcpStream) {
+        let _ = stream.set_nodelay(true);
+        if stream.set_nonblocking(true).is_err() {
+            return;
+        }
+        let Some(place) = self.book.enter(self.now) else {
+            return;
+        };
+        let mut stream = TcpStream::from_std(stream);
+        let token = Token(place.saturating_add(1));
+        let both = Interest::READABLE | Interest::WRITABLE;
+        let is_in = self
+            .poll
+            .registry()
+            .register(&mut stream, token, both)
+            .is_ok()
+            && self.wires.put(place, stream).is_ok();
+        if !is_in {
+            self.close(place);
+        }
+    }
+
+    /// Takes in those who wait and have no other lane.
+    fn admit_some(&mut self) {
+        if !self.entrance.opens(self.book.len(), self.now) {
+            return;
+        }
+        for _ in 0..AT_ONCE {
+            match self.entrance.accept(self.book.len(), self.now) {
+                Some(stream) => self.admit(stream),
+                None => break,
+            }
+        }
+        self.entrance.shuts();
+    }
+
+    /// Writes what is owed at this place, as far as that goes. False: the connection is broken.
+    fn flush(&mut self, place: usize) -> bool {
+        for _ in 0..WRITES {
+            let owed = self.book.owed(place);
+            if owed.is_empty() {
+                return true;
+            }
+            let Some(stream) = self.wires.stream(place) else {
+                return false;
+            };
+            match stream.write(owed) {
+                Ok(0) => return false,
+                Ok(count) => self.book.wrote(place, count, self.now),
+                Err(e) if e.kind() == ErrorKind::Interrupted => {}
+                Err(e) => {
+                    self.book.refuses(place, self.now);
+                    self.is_watched = true;
+                    return nothing_came(e.kind());
+                }
+            }
+        }
+        self.wires.queue(place);
+        true
+    }
+
+    /// Whether the rest of a frame is waited for at this place, or an answer isn't taken there.
+    fn keeps_waiting(&self, place: usize) -> bool {
+        match self.book.pace(place) {
+            Some(pace) => pace.keeps_waiting(),
+            None => false,
+        }
+    }
+
+    /// Reads once at this place.
+    fn hear(&mut self, place: usize) -> Next {
+        let Some(stream) = self.wires.stream(place) else {
+            return Next::End;
+        };
+        let mut octets = [0; READ_AT_ONCE];
+        match stream.read(&mut octets) {
+            Ok(0) => Next::End,
+            Ok(count) => match self.book.heard(place, &octets[..count], self.now) {
+                Ok(()) => Next::More,
+                Err(_) => Next::End,
+            },
+            Err(e) if nothing_came(e.kind()) => {
+                self.book.waits(place, self.now);
+                self.is_watched = self.is_watched || self.keeps_waiting(place);
+                Next::Nothing
+            }
+            Err(_) => Next::End,
+        }
+    }
+
+    /// What stands next at this place. Nothing is read where something is owed.
+    fn next_at(&mut self, place: usize, buffer: &mut [u8]) -> Next {
+        if buffer.len() < ENVELOPE_LEN + MESSAGE_MAX as usize || !self.flush(place) {
+            return Next::End;
+        }
+        if !self.book.owed(place).is_empty() {
+            return Next::Nothing;
+        }
+        if self.book.is_over(place) {
+            return Next::End;
+        }
+        match self.book.next_frame(place, buffer) {
+            Ok(Some((number, len))) => Next::Frame(number, len),
+            Ok(None) => self.hear_or_turn_away(place),
+            Err(_) => Next::End,
+        }
+    }
+
+    /// Reads on, unless a refusal is owed.
+    fn hear_or_turn_away(&mut self, place: usize) -> Next {
+        if self.book.owed(place).is_empty() {
+            self.hear(place)
+        } else {
+            Next::More
+        }
+    }
+
+    /// The frame that stands first in the queue, if one does.
+    fn take_first(&mut self, buffer: &mut [u8]) -> Option<(u16, usize)> {
+        let place = self.wires.next()?;
+        match self.next_at(place, buffer) {
+            Next::Frame(number, len) => {
+                self.wires.queue(place);
+                self.asked = Some(place);
+                return Some((number, len));
+            }
+            Next::More => self.wires.queue(place),
+            Next::Nothing => {}
+            Next::End => self.close(place),
+        }
+        None
+    }
+
+    /// The next frame of those in the queue.
+    fn take_next(&mut self, buffer: &mut [u8]) -> Option<(u16, usize)> {
+        for _ in 0..AT_ONCE {
+            if self.wires.is_quiet() {
+                break;
+            }
+            if let Some(found) = self.take_first(buffer) {
+                return Some(found);
+            }
+        }
+        None
+    }
+
+    /// Closes the connections that are too slow, and finds the place of the one that is silent longest, and since when.
+    fn close_late(&mut self) -> Option<(usize, u64)> {
+        let mut longest: Option<(usize, u64)> = None;
+        for place in 0..self.wires.places() {
+            if self.wires.is_queued(place) {
+                continue;
+            }
+            let Some(pace) = self.book.pace(place) else {
+                continue;
+            };
+            self.is_watched = self.is_watched || pace.keeps_waiting();
+            if pace.is_late(self.now) || self.wires.stream(place).is_none() {
+                self.close(place);
+            } else if let Some(since) = pace.silent_since() {
+                longest = longer(longest, place, since);
+            }
+        }
+        longest
+    }
+
+    /// Closes the connections that are too slow, if some may be, and finds the one that is silent longest, if one may have to go.
+    fn watch(&mut self) -> Option<(usize, u64)> {
+        if !self.is_watched && !self.entrance.is_full(self.book.len(), self.now) {
+            return None;
+        }
+        self.is_watched = self.wires.has_lost();
+        self.close_late()
+    }
+
+    /// Looks at the limits of time.
+    fn tick(&mut self) {
+        if self.now.saturating_sub(self.ticked) < TICK {
+            return;
+        }
+        self.ticked = self.now;
+        let longest = self.watch();
+        let since = longest.map(|(_, since)| since);
+        if self.entrance.is_crowded(self.book.len(), since, self.now) {
+            if let Some((place, _)) = longest {
+                self.close(place);
+                self.entrance.knocks();
+            }
+        }
+    }
+
+    /// Writes the last answer as far as that goes, and looks for events if it is time to: that may take a while.
+    fn look_round(&mut self, now: u64) {
+        self.now = now;
+        if let Some(place) = self.asked {
+            self.asked = None;
+            if !self.flush(place) {
+                self.close(place);
+            }
+        }
+        if self.wires.is_quiet() || self.until_look == 0 {
+            self.look();
+        }
+    }
+
+    /// The next frame of any connection.
+    fn next_frame(&mut self, now: u64, buffer: &mut [u8]) -> Option<(u16, usize)> {
+        self.now = now;
+        self.until_look = self.until_look.saturating_sub(1);
+        self.tick();
+        self.admit_some();
+        self.take_next(buffer)
+    }
+
+    /// Says a datagram of an answer. False: its client is left.
+    fn say(&mut self, number: u16, datagram: &[u8]) -> bool {
+        if self.book.answered(number, datagram).is_some() {
+            return true;
+        }
+        if let Some(place) = self.asked {
+            self.close(place);
+        }
+        false
+    }
+}
+
+/// Of two that are silent the one that is so longer.
+fn longer(first: Option<(usize, u64)>, place: usize, since: u64) -> Option<(usize, u64)> {
+    match first {
+        Some((_, moment)) if moment <= since => first,
+        _ => Some((place, since)),
+    }
+}
+
+/// A crowd as a place where frames come in from numbered peers.
+#[derive(Drop)]
+pub struct SocketCrowd<R> {
+    rt: R,
+    crowd: Crowd,
+    faults: u64,
+}
+
+impl<R> SocketCrowd<R> {
+    pub fn new(rt: R, crowd: Crowd) -> SocketCrowd<R> {
+        SocketCrowd {
+            rt,
+            crowd,
+            faults: 0,
+        }
+    }
+}
+
+impl<R: std::rt::Clock> SocketCrowd<R> {
+    /// The moment, of the clock that the lanes of the publisher share.
+    fn now(&self) -> u64 {
+        self.crowd.entrance.seat.moment(&self.rt)
+    }
+}
+
+impl<R: std::rt::Clock> Packets for SocketCrowd<R> {
+    ghost use Rattle.std.specs.Prelude.{false, []};
+
+    ghost tells = { false };
+
+    ghost received = { λ _. [] };
+
+    ghost sent = { λ _. [] };
+
+    ghost fault_count = { λ p. p.faults };
+
+    fn receive(&mut self, buffer: &mut [u8]) -> Result<Option<(u16, usize)>, DoorFault> {
+        let before = self.now();
+        self.crowd.look_round(before);
+        let now = self.now();
+        // each frame of the book is within these bounds
+        match self.crowd.next_frame(now, buffer) {
+            Some((number, len))
+                if number > 0 && usize::from(number) <= PEERS_MAX && len <= buffer.len() => {
+                Ok(Some((number, len)))
+            }
+            _ => Ok(None),
+        }
+    }
+
+    fn send(&mut self, peer: u16, octets: &[u8]) -> Result<(), DoorFault> {
+        if self.crowd.say(peer, octets) {
+            return Ok(());
+        }
+        self.faults = self.faults.saturating_add(1);
+        Err(DoorFault)
+    }
+
+    fn faults(&self) -> u64 {
+        self.faults
+    }
+}
