@@ -1,7 +1,5 @@
 //! The machine's datagram sockets as doors. They tell nothing.
 
-ghost use Rattle.std.specs.Prelude.{◌≡◌};
-
 use crate::instead::too_long;
 use crate::proven::Proven;
 use crate::sockets::{PacketSocket, Sockets, nothing_came};
@@ -34,27 +32,15 @@ enum Course {
 
 /// The datagram sockets of a publisher, who has which number, and who answered a challenge.
 #[derive(Drop)]
-pub struct SocketPackets<R> {
+struct Post<R> {
     alloc: Global,
     sockets: Sockets<PacketSocket>,
     peers: Peers<Origin>,
     proven: Proven<R, Origin>,
     course: Course,
-    faults: u64,
 }
 
-impl<R: std::rt::Clock> SocketPackets<R> {
-    pub fn new(rt: R, alloc: Global, sockets: Sockets<PacketSocket>) -> SocketPackets<R> {
-        SocketPackets {
-            alloc,
-            sockets,
-            peers: Peers::new(alloc),
-            proven: Proven::new(rt, alloc),
-            course: Course::Begins,
-            faults: 0,
-        }
-    }
-
+impl<R: std::rt::Clock> Post<R> {
     /// Sends octets back to where they are asked from. Whether they went.
     fn send_back(&self, to: Origin, octets: &[u8]) -> bool {
         match self.sockets.get(to.place) {
@@ -65,9 +51,7 @@ impl<R: std::rt::Clock> SocketPackets<R> {
 
     /// Whether the reply that begins with this datagram may go whole: it isn't much longer than what asked, or its address answered a challenge, perhaps
     /// by the very frame that it replies to.
-    fn may_go(&mut self, to: Origin, first: &[u8]) -> bool
-        ensures faults { self.new.faults ≡ self.old.faults }
-    {
+    fn may_go(&mut self, to: Origin, first: &[u8]) -> bool {
         let Some(packets) = self.sockets.get(to.place) else {
             return false;
         };
@@ -93,9 +77,7 @@ impl<R: std::rt::Clock> SocketPackets<R> {
     }
 
     /// Begins a reply by its first datagram, or by another reply in its place. Whether that went.
-    fn begin(&mut self, to: Origin, first: &[u8]) -> bool
-        ensures faults { self.new.faults ≡ self.old.faults }
-    {
+    fn begin(&mut self, to: Origin, first: &[u8]) -> bool {
         if self.may_go(to, first) {
             self.course = Course::Goes;
             self.send_back(to, first)
@@ -106,14 +88,41 @@ impl<R: std::rt::Clock> SocketPackets<R> {
     }
 
     /// Sends the next datagram of a reply, unless another reply went in its place. Whether what is sent went.
-    fn send_next(&mut self, to: Origin, octets: &[u8]) -> bool
-        ensures faults { self.new.faults ≡ self.old.faults }
-    {
+    fn send_next(&mut self, to: Origin, octets: &[u8]) -> bool {
         match self.course {
             Course::Begins => self.begin(to, octets),
             Course::Goes => self.send_back(to, octets),
             Course::IsWithheld => true,
         }
+    }
+
+    /// The next datagram of a reply is due to a peer. Whether what is sent of it went.
+    fn send(&mut self, peer: u16, octets: &[u8]) -> bool {
+        self.peers.answered(octets);
+        match self.peers.address(peer) {
+            Some(to) => self.send_next(to, octets),
+            None => false,
+        }
+    }
+}
+
+/// A publisher's post as a door.
+#[derive(Drop)]
+pub struct SocketPackets<R> {
+    post: Post<R>,
+    faults: u64,
+}
+
+impl<R: std::rt::Clock> SocketPackets<R> {
+    pub fn new(rt: R, alloc: Global, sockets: Sockets<PacketSocket>) -> SocketPackets<R> {
+        let post = Post {
+            alloc,
+            sockets,
+            peers: Peers::new(alloc),
+            proven: Proven::new(rt, alloc),
+            course: Course::Begins,
+        };
+        SocketPackets { post, faults: 0 }
     }
 }
 
@@ -130,12 +139,12 @@ impl<R: std::rt::Clock> Packets for SocketPackets<R> {
 
     fn receive(&mut self, buffer: &mut [u8]) -> Result<Option<(u16, usize)>, DoorFault> {
         for _ in 0..PASSED {
-            match self.sockets.take(buffer) {
+            match self.post.sockets.take(buffer) {
                 Ok((place, (length, address))) => {
                     let length = length.min(buffer.len());
                     let from = Origin { place, address };
-                    if let Ok(Some(peer)) = self.peers.came(from, &buffer[..length]) {
-                        self.course = Course::Begins;
+                    if let Ok(Some(peer)) = self.post.peers.came(from, &buffer[..length]) {
+                        self.post.course = Course::Begins;
                         return Ok(Some((peer, length)));
                     }
                 }
@@ -150,11 +159,8 @@ impl<R: std::rt::Clock> Packets for SocketPackets<R> {
     }
 
     fn send(&mut self, peer: u16, octets: &[u8]) -> Result<(), DoorFault> {
-        self.peers.answered(octets);
-        if let Some(to) = self.peers.address(peer) {
-            if self.send_next(to, octets) {
-                return Ok(());
-            }
+        if self.post.send(peer, octets) {
+            return Ok(());
         }
         self.faults = self.faults.saturating_add(1);
         Err(DoorFault)
