@@ -78,7 +78,7 @@ def amplified(port, counts):
     with socket.socket(socket.AF_INET, socket.SOCK_DGRAM) as one:
         one.settimeout(0.2)
         one.sendto(ASK_LARGE, ("127.0.0.1", port))
-        with contextlib.suppress(TimeoutError):
+        with contextlib.suppress(socket.timeout):
             while True:
                 got.append(one.recv(65536))
     counts.add("long answers asked for by UDP")
