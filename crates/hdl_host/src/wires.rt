@@ -36,7 +36,8 @@ impl Wires {
 
     /// Puts a socket at this place.
     pub fn put(&mut self, place: usize, stream: TcpStream) -> Result<(), AllocError> {
-        while self.wires.len() <= place {
+        let missing = place.saturating_add(1).saturating_sub(self.wires.len());
+        for _ in 0..missing {
             self.wires.push(None)?;
         }
         if let Some(slot) = self.wires.get_mut(place) {
