@@ -131,36 +131,47 @@ fn failed(rt: &HostRuntime, fault: TabledFault) -> ExitCode {
     ExitCode::from(fault.status())
 }
 
-fn main(rt: HostRuntime) -> ExitCode {
-    let next = match run(&rt) {
-        Ok(next) => next,
-        Err(fault) => return failed(&rt, fault),
+/// Serves over a table in memory, and answers the exit status.
+fn serve_in_memory(
+    rt: &HostRuntime,
+    tenants: Tenants,
+    setting: &Setting,
+    row_cache: usize,
+) -> ExitCode {
+    let rows = match served_rows(rt, row_cache) {
+        Ok(rows) => rows,
+        Err(fault) => return failed(rt, TabledFault::from(fault)),
     };
+    say_begins(rt, &tenants, Kept::Memory { row_cache }, setting.limits);
     let mut output = rt.stdout();
-    match next {
-        Next::Ended(status) => ExitCode::from(status),
-        Next::Serve {
-            tenants,
-            setting,
-            row_cache,
-        } => {
-            let rows = match served_rows(&rt, row_cache) {
-                Ok(rows) => rows,
-                Err(fault) => return failed(&rt, TabledFault::from(fault)),
-            };
-            say_begins(&rt, &tenants, Kept::Memory { row_cache }, setting.limits);
-            let served = hosted(&rt, rt.alloc(), rows, tenants, &setting, &mut output);
-            told(&rt, served.map_err(TabledFault::from))
-        }
-        Next::ServeOn { desk, setting } => {
-            let Desk {
+    let served = hosted(rt, rt.alloc(), rows, tenants, setting, &mut output);
+    told(rt, served.map_err(TabledFault::from))
+}
+
+/// Serves over the table in a file, and answers the exit status.
+fn serve_on(rt: &HostRuntime, desk: Desk, setting: &Setting) -> ExitCode {
+    let Desk {
+        tenants,
+        table,
+        path,
+    } = desk;
+    say_begins(rt, &tenants, Kept::File(path.as_str()), setting.limits);
+    let mut output = rt.stdout();
+    let served = hosted_on(rt, rt.alloc(), table, tenants, setting, &mut output);
+    told(rt, ended(served))
+}
+
+fn main(rt: HostRuntime) -> ExitCode {
+    match run(&rt) {
+        Ok(Next::Ended(status)) => ExitCode::from(status),
+        Ok(
+            Next::Serve {
                 tenants,
-                table,
-                path,
-            } = desk;
-            say_begins(&rt, &tenants, Kept::File(path.as_str()), setting.limits);
-            let served = hosted_on(&rt, rt.alloc(), table, tenants, &setting, &mut output);
-            told(&rt, ended(served))
-        }
+                setting,
+                row_cache,
+            },
+        ) => serve_in_memory(&rt, tenants, &setting, row_cache),
+        Ok(Next::ServeOn { desk, setting }) => serve_on(&rt, desk, &setting),
+        Err(fault) => failed(&rt, fault),
     }
 }
