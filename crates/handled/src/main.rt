@@ -22,9 +22,13 @@ use hdl_replay::{Fault, read_input, replay, tenants_of};
 use hdl_sqlrows::SqlRows;
 use notices::{Kept, say_begins, say_ends};
 use std::hash::RandomState;
+use std::net::{Net, TcpListener, TcpStream};
 use std::process::ExitCode;
+use std::random::RandomSource;
+use std::rt::Clock;
+use std::thread::Threads;
 use tabled::{Desk, TabledFault, ended, open_desk, replay_on};
-use words::{Asked, read_words};
+use words::{Asked, TableFile, read_words};
 
 /// What is left to do once the command line and the input were read.
 #[derive(Drop)]
@@ -64,6 +68,27 @@ fn replayed(rt: &HostRuntime) -> Result<u8, Fault> {
     Ok(replay(rt.alloc(), rows, &mut input, &mut output, &mut faults))
 }
 
+/// What is asked to be served, once its text was read.
+fn run_serve(
+    rt: &HostRuntime,
+    setting: Setting,
+    row_cache: usize,
+    table: Option<TableFile>,
+) -> Result<Next, TabledFault> {
+    let text = read_text(rt)?;
+    match table {
+        None => Ok(Next::Serve {
+            tenants: tenants_of(rt.alloc(), text.as_str())?,
+            setting,
+            row_cache,
+        }),
+        Some(file) => {
+            let desk = open_desk(rt, file, text.as_str())?;
+            Ok(Next::ServeOn { desk, setting })
+        }
+    }
+}
+
 fn run(rt: &HostRuntime) -> Result<Next, TabledFault> {
     match read_words(rt)? {
         Asked::Ended(status) => Ok(Next::Ended(status)),
@@ -80,24 +105,8 @@ fn run(rt: &HostRuntime) -> Result<Next, TabledFault> {
         Asked::Serve {
             setting,
             row_cache,
-            table: None,
-        } => {
-            let text = read_text(rt)?;
-            Ok(Next::Serve {
-                tenants: tenants_of(rt.alloc(), text.as_str())?,
-                setting,
-                row_cache,
-            })
-        }
-        Asked::Serve {
-            setting,
-            table: Some(file),
-            ..
-        } => {
-            let text = read_text(rt)?;
-            let desk = open_desk(rt, file, text.as_str())?;
-            Ok(Next::ServeOn { desk, setting })
-        }
+            table,
+        } => run_serve(rt, setting, row_cache, table),
     }
 }
 
@@ -132,7 +141,17 @@ fn failed(rt: &HostRuntime, fault: TabledFault) -> ExitCode {
 }
 
 /// Serves over a table in memory, and answers the exit status.
-fn serve_in_memory(
+fn serve_in_memory<
+    R: Net<Listener = TcpListener, Stream = TcpStream>
+        + Threads
+        + Clock
+        + RandomSource
+        + Copy
+        + Send
+        + Drop
+        + 'static,
+>(
+    machine: &R,
     rt: &HostRuntime,
     tenants: Tenants,
     setting: &Setting,
@@ -144,12 +163,21 @@ fn serve_in_memory(
     };
     say_begins(rt, &tenants, Kept::Memory { row_cache }, setting.limits);
     let mut output = rt.stdout();
-    let served = hosted(rt, rt.alloc(), rows, tenants, setting, &mut output);
+    let served = hosted(machine, rt.alloc(), rows, tenants, setting, &mut output);
     told(rt, served.map_err(TabledFault::from))
 }
 
 /// Serves over the table in a file, and answers the exit status.
-fn serve_on(rt: &HostRuntime, desk: Desk, setting: &Setting) -> ExitCode {
+fn serve_on<
+    R: Net<Listener = TcpListener, Stream = TcpStream>
+        + Threads
+        + Clock
+        + RandomSource
+        + Copy
+        + Send
+        + Drop
+        + 'static,
+>(machine: &R, rt: &HostRuntime, desk: Desk, setting: &Setting) -> ExitCode {
     let Desk {
         tenants,
         table,
@@ -157,7 +185,7 @@ fn serve_on(rt: &HostRuntime, desk: Desk, setting: &Setting) -> ExitCode {
     } = desk;
     say_begins(rt, &tenants, Kept::File(path.as_str()), setting.limits);
     let mut output = rt.stdout();
-    let served = hosted_on(rt, rt.alloc(), table, tenants, setting, &mut output);
+    let served = hosted_on(machine, rt.alloc(), table, tenants, setting, &mut output);
     told(rt, ended(served))
 }
 
@@ -170,8 +198,8 @@ fn main(rt: HostRuntime) -> ExitCode {
                 setting,
                 row_cache,
             },
-        ) => serve_in_memory(&rt, tenants, &setting, row_cache),
-        Ok(Next::ServeOn { desk, setting }) => serve_on(&rt, desk, &setting),
+        ) => serve_in_memory(&rt, &rt, tenants, &setting, row_cache),
+        Ok(Next::ServeOn { desk, setting }) => serve_on(&rt, &rt, desk, &setting),
         Err(fault) => failed(&rt, fault),
     }
 }
