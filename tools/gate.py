@@ -1,6 +1,6 @@
 """The gate of a submission, from nothing: the definitions quoted in docs/, the map, what pages cite and what must be believed, ./test, memory refused in turn, random scripts,
-the examples, answers that are none, the proxy for browsers, what README shows, a table in a file over kills, addresses, clients that hold a lane, come in a crowd, from many ports or are strangers, and a dry run
-of each benchmark.
+the examples, answers that are none, the proxy for browsers, what README shows, a table in a file over kills, addresses, clients that hold a lane, come in a crowd, from many ports or are strangers, what is
+installed, and a dry run of each benchmark.
 
 Before its last line it prints what each crate and each part took, in processor minutes, and names the crates that took more than docs/GATE.md
 allows them. Its last line is 'N passed, M failed', the sum of what the parts' last lines count; its status is 0 only where nothing failed."""
@@ -13,6 +13,7 @@ import time
 
 # nothing is left beside the tools
 sys.dont_write_bytecode = True
+import release
 import spent
 
 ROOT = os.path.dirname(os.path.dirname(os.path.abspath(__file__)))
@@ -34,6 +35,7 @@ PARTS = (
     [sys.executable, "tools/ports.py"],
     [sys.executable, "tools/listens.py"],
     [sys.executable, "tools/amplify.py"],
+    [sys.executable, "tools/release.py", "--try"],
     [sys.executable, "tools/benches.py"],
 )
 
@@ -83,6 +85,8 @@ def main():
         by_part.append((words, part.seconds))
     told(by_place, by_part, (time.monotonic() - began) / 60)
     passed, failed = (sum(column) for column in zip(*counts))
+    if not failed:
+        release.note_passed()
     print("%d passed, %d failed" % (passed, failed))
     return 1 if failed else 0
 
