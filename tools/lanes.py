@@ -6,7 +6,7 @@ jobs as there are processors; the others get two and give way to it.
 
 `lanes.py PROGRAM` has LLVM compile a program that is proved, and puts it in the place of the one that Rattle's own compiler made.
 
-Both call inner parts of the kit, so this holds for the one version that it was tried with. With another one `rt run` does all."""
+Both call inner parts of the kit, so this holds for the versions that it was tried with. With another one `rt run` does all."""
 
 import importlib.machinery
 import importlib.util
@@ -19,15 +19,15 @@ import sys
 import threading
 import traceback
 
-# The kit whose inner parts these are, as `rt version` says it.
-KIT = "rattle-kit-13f logic dac8208d650f15bf"
+# The kits whose inner parts these are, as `rt version` says it.
+KITS = ("rattle-kit-13b logic dac8208d650f15bf", "rattle-kit-13f logic dac8208d650f15bf")
 # What a check of so many lines takes at most, in bytes, and what each job behind the first one takes.
 LEAST, PER_LINE, PER_JOB = 1_000_000_000, 1_000_000, 400_000_000
 
 
 def knows_kit():
-    """Whether the kit on the PATH is the one that this was written for."""
-    return subprocess.run(["rt", "version"], capture_output=True, text=True, check=False).stdout.strip() == KIT
+    """Whether the kit on the PATH is one that this was written for."""
+    return subprocess.run(["rt", "version"], capture_output=True, text=True, check=False).stdout.strip() in KITS
 
 
 def kit():

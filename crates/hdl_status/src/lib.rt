@@ -13,7 +13,7 @@ use std::env::Env;
 use std::{env, io};
 
 /// The version of the product, and the kit that it is proved with.
-pub const VERSION: &str = "0.1.0 (Buckramjade; rattle-kit-13f logic dac8208d650f15bf)";
+pub const VERSION: &str = "0.1.0 (Buckramjade; rattle-kit-13b logic dac8208d650f15bf)";
 
 /// The exit status where the words leave nothing to do: 0 behind help or a version that was asked for, 2 behind a fault in them.
 pub fn status_of_words(is_help: bool) -> u8
