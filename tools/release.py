@@ -25,6 +25,7 @@ import servers
 PRODUCT = "buckramjade"
 PROGRAMS = {"handled": "bin/handled", "hdl": "lib/buckramjade/hdl", "hdl_web": "lib/buckramjade/hdl_web"}
 SERVICE = "packaging/handled.service"
+SHOWN = (SERVICE, "packaging/haproxy.cfg", "packaging/nginx.conf")
 TENANTS = """# Replace this by the text of your publishers: see OPERATING.md beside this package, and `hdl init`.
 """
 CONTROL = """Package: {product}
@@ -97,7 +98,7 @@ def program_files(prefix):
 
 def archive_files():
     found = program_files("")
-    found["handled.service"] = (octets_of(SERVICE), 0o644)
+    found.update((os.path.basename(name), (octets_of(name), 0o644)) for name in SHOWN)
     found.update((name, (octets, 0o644)) for name, octets in pages().items())
     return found
 
@@ -105,6 +106,7 @@ def archive_files():
 def package_files():
     found = program_files("usr/")
     found["lib/systemd/system/handled.service"] = (octets_of(SERVICE), 0o644)
+    found.update(("usr/share/doc/buckramjade/" + name.partition("/")[2], (octets_of(name), 0o644)) for name in SHOWN[1:])
     found["etc/buckramjade/publishers.tenants"] = (TENANTS.encode(), 0o600)
     for name, octets in pages().items():
         found["usr/share/doc/buckramjade/" + re.sub(r"^docs/", "", name)] = (octets, 0o644)
@@ -193,8 +195,9 @@ def trials(room):
     if len(names) > 1:
         said("dpkg-deb", "--extract", os.path.join(first, names[1]), os.path.join(room, "installed"))
         yield from answers(os.path.join(room, "installed", "usr", "bin"))
-    shown = "\n".join("    " + line if line else "" for line in repository.text_of(SERVICE).splitlines())
-    yield "docs/OPERATING.md shows the service file", shown in repository.text_of("docs", "OPERATING.md")
+    for name in SHOWN:
+        shown = "\n".join("    " + line if line else "" for line in repository.text_of(*name.split("/")).splitlines())
+        yield "docs/OPERATING.md shows %s" % name, shown in repository.text_of("docs", "OPERATING.md")
 
 
 def tried():

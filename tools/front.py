@@ -1,0 +1,138 @@
+#!/usr/bin/env python3
+"""Tries the files of packaging/ for those who stand in front: HAProxy before `handled serve`, nginx before `hdl proxy`.
+
+    tools/front.py        by hand; needs Debian's packages haproxy, nginx and openssl, and both programs proved and built
+
+The files are used as they are, but for addresses, ports and the certificate's place. Its last line is 'N passed, M failed'."""
+
+import os
+import re
+import socket
+import ssl
+import subprocess
+import sys
+import tempfile
+import time
+import urllib.error
+import urllib.request
+
+# nothing is left beside the tools
+sys.dont_write_bytecode = True
+import repository
+import servers
+import wire
+
+REQUEST = wire.frame(wire.resolution(b"10/report-7"), 0, 1)
+# How many connections of one address packaging/haproxy.cfg takes.
+CONNECTIONS = 16
+
+
+class Stays(urllib.request.HTTPRedirectHandler):
+    """Follows nothing."""
+
+    def redirect_request(self, *_):
+        return None
+
+
+def put(folder, name, text):
+    place = os.path.join(folder, name)
+    with open(place, "w", encoding="utf-8") as file:
+        file.write(text)
+    return place
+
+
+def waits_for(port):
+    for _ in range(100):
+        try:
+            return socket.create_connection(("127.0.0.1", port), 5).close()
+        except OSError:
+            time.sleep(0.05)
+    sys.exit("nothing listens at %d" % port)
+
+
+def haproxy(folder, port, behind):
+    text = repository.text_of("packaging", "haproxy.cfg").replace("192.0.2.10:2641", "127.0.0.1:%d" % port)
+    file = put(folder, "haproxy.cfg", text.replace("handled 127.0.0.1:2641", "handled 127.0.0.1:%d" % behind))
+    return subprocess.Popen(["haproxy", "-db", "-f", file], stdout=subprocess.DEVNULL, stderr=subprocess.DEVNULL)
+
+
+def nginx(folder, port, behind):
+    subprocess.run(["openssl", "req", "-x509", "-newkey", "rsa:2048", "-nodes", "-days", "1", "-subj", "/CN=handles.example.org", "-keyout",
+                    folder + "/key", "-out", folder + "/pem"], check=True, capture_output=True)
+    text = repository.text_of("packaging", "nginx.conf").replace("192.0.2.10:443", "127.0.0.1:%d" % port).replace("127.0.0.1:8080", "127.0.0.1:%d" % behind)
+    site = put(folder, "site.conf", re.sub(r"/etc/ssl/\S+\.key;", folder + "/key;", re.sub(r"/etc/ssl/\S+\.pem;", folder + "/pem;", text)))
+    kept = "".join("%s_temp_path %s/%s; " % (one, folder, one) for one in ("client_body", "proxy", "fastcgi", "uwsgi", "scgi"))
+    file = put(folder, "nginx.conf", "daemon off; pid %s/pid; error_log %s/log; events {} http { access_log off; %s include %s; }\n" % (folder, folder, kept, site))
+    return subprocess.Popen(["nginx", "-p", folder, "-e", folder + "/log", "-c", file], stdout=subprocess.DEVNULL, stderr=subprocess.DEVNULL)
+
+
+def asked(port):
+    """What a resolution is answered at this port; nothing where the connection is refused."""
+    try:
+        with socket.create_connection(("127.0.0.1", port), 5) as stream:
+            stream.sendall(REQUEST)
+            return stream.recv(65536)
+    except OSError:
+        return b""
+
+
+def fetched(port, path):
+    """The status and the Location of a page."""
+    trusting = ssl._create_unverified_context()
+    opener = urllib.request.build_opener(Stays, urllib.request.HTTPSHandler(context=trusting))
+    try:
+        with opener.open("https://127.0.0.1:%d%s" % (port, path), timeout=20) as page:
+            return page.status, page.headers.get("Location")
+    except urllib.error.HTTPError as page:
+        return page.code, page.headers.get("Location")
+
+
+def through_haproxy(front, behind):
+    yield "a reply through HAProxy is the server's", len(asked(front)) > 24 and asked(front) == asked(behind)
+    held = [socket.create_connection(("127.0.0.1", front), 5) for _ in range(CONNECTIONS)]
+    time.sleep(0.3)
+    yield "one connection more of an address is refused", asked(front) == b""
+    for stream in held:
+        stream.close()
+    time.sleep(0.3)
+    yield "behind those it is served again", asked(front) == asked(behind)
+
+
+def through_nginx(front):
+    yield "a redirect by HTTPS", fetched(front, "/10/report-7") == (302, "https://example.org/report-7")
+    yield "a page by HTTPS", fetched(front, "/10/report-7?noredirect")[0] == 200
+    statuses = [fetched(front, "/10/none")[0] for _ in range(3)]
+    yield "a handle that isn't there", statuses == [404] * 3
+
+
+def trials(folder):
+    front, site, proxy = servers.free_ports(3)
+    with servers.serving(servers.example, 2) as (acme, bolt):
+        words = [repository.program("hdl_web"), "--server", "127.0.0.1:%d" % acme, "--server", "127.0.0.1:%d" % bolt, "--listen", "127.0.0.1:%d" % proxy]
+        with servers.running(words, 1):
+            before = [haproxy(folder, front, acme), nginx(folder, site, proxy)]
+            try:
+                waits_for(front)
+                waits_for(site)
+                time.sleep(0.3)
+                yield from through_haproxy(front, acme)
+                yield from through_nginx(site)
+            finally:
+                for one in before:
+                    one.terminate()
+                    one.wait()
+
+
+def main():
+    passed = failed = 0
+    with tempfile.TemporaryDirectory() as folder:
+        for what, is_well in trials(folder):
+            passed, failed = passed + is_well, failed + (not is_well)
+            if not is_well:
+                print("front: %s: failed" % what)
+    print("%d passed, %d failed" % (passed, failed))
+    return 1 if failed else 0
+
+
+if __name__ == "__main__":
+    sys.exit(main())
