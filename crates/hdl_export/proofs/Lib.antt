@@ -1,0 +1,9 @@
+pub mod LinesRead
+pub mod ValueLines
+pub mod Others
+pub mod Accepted
+pub mod Only
+pub mod Walks
+pub mod Feeds
+pub mod Hosted
+pub mod Whole

@@ -1,0 +1,103 @@
+-- What is written of a table is the text of its rows, and reading it gives these.
+use Rattle.std.proofs.Common.{◌≡◌, ℕ, Bool, true, false, cond, List, [], ◌∷◌, ◌++◌, map, refl, sym, ap, subst, ◌∙◌}
+use Rattle.std.specs.Prelude.{filter, codes, IsTrue}
+use Rattle.std.specs.List.{flat_map, AllByRecursion}
+use Rattle.std.specs.Str.Lines.{lines}
+use Rattle.std.proofs.lemmas.Bool.{and_parts}
+use Rattle.std.proofs.lemmas.List.{map-append}
+use Rattle.std.proofs.lemmas.Grind.{flat_map-append}
+use Rattle.hdl_name.specs.Name.{canonical, prefix}
+use Rattle.hdl_value.specs.declared.value.Value.{Value}
+use Rattle.hdl_rows.specs.Table.{Table, names_of, values_of}
+use Rattle.hdl_tenants.specs.Register.{Register, Row, prefixes_of}
+use Rattle.hdl_tenants.specs.Text.{IsAccepted}
+use Rattle.hdl_export.specs.Lines.{Lacks, is_sayable, value_line, ended, text_of, is_other, IsWritable}
+use Rattle.hdl_export.specs.Prefixes.{AreAmong}
+use Rattle.hdl_export.specs.Rows.{is_among, is_written, values_at, rows_at, rows_under, rows_in, line_text, handle_text, authority_text, AreWritable, AreWritableUnder}
+use Rattle.hdl_export.specs.Laws.{IsWritableRow, with_rows, written_lines, prefixes_in, IsWritten, IsExport}
+use Rattle.hdl_export.proofs.LinesRead.{all_read}
+use Rattle.hdl_export.proofs.ValueLines.{line_lacks_feed}
+use Rattle.hdl_export.proofs.Only.{all_only}
+use Rattle.hdl_export.proofs.Feeds.{lines_lack, all_filtered, all_joined}
+use Rattle.hdl_export.proofs.Hosted.{prefixes_are}
+
+abbrev rows_text : List Row → List ℕ
+rows_text rows = text_of (map value_line rows)
+
+rows_text-append : (xs ys : List Row) → rows_text (xs ++ ys) ≡ rows_text xs ++ rows_text ys
+rows_text-append xs ys = ap text_of (map-append {A = Row} {B = List ℕ} value_line xs ys) ∙ flat_map-append ended (map value_line xs) (map value_line ys)
+
+texts_flat : {X : Type 0} (f : X → List ℕ) (g : X → List Row) → ((x : X) → f x ≡ rows_text (g x)) → (xs : List X) → flat_map f xs ≡ rows_text (flat_map g xs)
+texts_flat f g e [] = refl
+texts_flat f g e (x ∷ xs) = rw (e x, texts_flat f g e xs) (sym (rows_text-append (g x) (flat_map g xs)))
+
+all_flat : {X Y : Type 0} (P : Y → Type 0) (Q : X → Type 0) (g : X → List Y) → ((x : X) → Q x → AllByRecursion P (g x)) → (xs : List X) → AllByRecursion Q xs → AllByRecursion P (flat_map g xs)
+all_flat P Q g e [] h = tt
+all_flat P Q g e (x ∷ xs) h = all_joined P (g x) (flat_map g xs) (e x h.0) (all_flat P Q g e xs h.1)
+
+module _ (prefixes : List (List ℕ)) (t : Table) where
+  values_text : (handle : List ℕ) (vs : List Value) → flat_map (line_text handle) vs ≡ rows_text (map (λ v. (handle, v)) vs)
+  values_text handle [] = refl
+  values_text handle (v ∷ vs) = ap (λ (more : List ℕ). line_text handle v ++ more) (values_text handle vs)
+
+  under : (authority : List ℕ) → authority_text prefixes t authority ≡ rows_text (rows_under prefixes t authority)
+  under authority = texts_flat (handle_text prefixes t) (rows_at prefixes t) (λ h. values_text h (values_at prefixes t h)) (names_of t authority)
+
+  pub rows_texts : (authorities : List (List ℕ)) → flat_map (authority_text prefixes t) authorities ≡ text_of (map value_line (rows_in prefixes authorities t))
+  rows_texts authorities = texts_flat (authority_text prefixes t) (rows_under prefixes t) under authorities
+
+  values_writable : (handle : List ℕ) → IsTrue (is_sayable handle) → (vs : List Value) → AllByRecursion IsWritable vs → AllByRecursion IsWritableRow (map (λ v. (handle, v)) vs)
+  values_writable handle s [] h = tt
+  values_writable handle s (v ∷ vs) h = (record { handle = s; value = h.0 }, values_writable handle s vs h.1)
+
+  handle_writable : (handle : List ℕ) → AreWritable prefixes t handle → AllByRecursion IsWritableRow (rows_at prefixes t handle)
+  handle_writable handle h = by (is_written prefixes handle) refl h
+    where
+      by : (b : Bool) → is_written prefixes handle ≡ b → AllByRecursion IsWritable (cond b (values_of t (canonical handle)) []) → AllByRecursion IsWritableRow (map (λ v. (handle, v)) (cond b (values_of t (canonical handle)) []))
+      by true e k = values_writable handle (and_parts (is_sayable handle) (is_among (prefix handle) prefixes) e).0 (values_of t (canonical handle)) k
+      by false e k = tt
+
+  under_writable : (authority : List ℕ) → AreWritableUnder prefixes t authority → AllByRecursion IsWritableRow (rows_under prefixes t authority)
+  under_writable authority h = all_flat IsWritableRow (AreWritable prefixes t) (rows_at prefixes t) handle_writable (names_of t authority) h
+
+  pub rows_writable : (authorities : List (List ℕ)) → AllByRecursion (AreWritableUnder prefixes t) authorities → AllByRecursion IsWritableRow (rows_in prefixes authorities t)
+  rows_writable authorities h = all_flat IsWritableRow (AreWritableUnder prefixes t) (rows_under prefixes t) under_writable authorities h
+
+-- what stands behind the other lines
+pub behind : (texts : List (List ℕ)) (rows : List Row) → text_of (filter is_other texts) ++ rows_text rows ≡ text_of (written_lines texts rows)
+behind texts rows = sym (flat_map-append ended (filter is_other texts) (map value_line rows))
+
+-- what is written, from what each part wrote
+pub written_is : (texts prefixes authorities given : List (List ℕ)) (t : Table) (front out : List ℕ) → prefixes ≡ prefixes_in texts → given ≡ authorities
+    → AreAmong (codes "0.na" ∷ prefixes) authorities → front ≡ text_of (filter is_other texts) → out ≡ front ++ flat_map (authority_text prefixes t) given
+    → AllByRecursion (AreWritableUnder prefixes t) given → IsWritten texts t out
+written_is texts prefixes authorities given t front out p q all f e h =
+    let rows = rows_in (prefixes_in texts) authorities t in
+    let own : front ++ flat_map (authority_text prefixes t) given ≡ text_of (filter is_other texts) ++ flat_map (authority_text (prefixes_in texts) t) authorities = rw (f, p, q) refl in
+    record {
+      authorities = authorities;
+      all = subst (λ (ps : List (List ℕ)). AreAmong (codes "0.na" ∷ ps) authorities) p all;
+      text = e ∙ own ∙ ap (λ (more : List ℕ). text_of (filter is_other texts) ++ more) (rows_texts (prefixes_in texts) t authorities) ∙ behind texts rows;
+      rows = rows_writable (prefixes_in texts) t authorities
+          (subst (λ (ps : List (List ℕ)). AllByRecursion (AreWritableUnder ps t) authorities) p (subst (λ (all : List (List ℕ)). AllByRecursion (AreWritableUnder prefixes t) all) q h));
+    }
+
+rows_lack : (rows : List Row) → AllByRecursion IsWritableRow rows → AllByRecursion (Lacks 10) (map value_line rows)
+rows_lack [] h = tt
+rows_lack (row ∷ rows) h = (line_lacks_feed row h.0, rows_lack rows h.1)
+
+pub export_is : (text : List ℕ) (t : Table) (out : List ℕ) (r s : Register) → IsAccepted (lines text) r → IsWritten (lines text) t out → IsAccepted (lines out) s → IsExport (lines text) t out
+export_is text t out r s h w k =
+    let texts = lines text in
+    let rows = rows_in (prefixes_in texts) w.authorities t in
+    let lack = all_joined (Lacks 10) (filter is_other texts) (map value_line rows) (all_filtered (Lacks 10) is_other texts (lines_lack text)) (rows_lack rows w.rows) in
+    let read : lines out ≡ written_lines texts rows = ap lines w.text ∙ all_read (written_lines texts rows) lack in
+    let same : s ≡ with_rows r rows = all_only texts r s rows h w.rows (subst (λ (ls : List (List ℕ)). IsAccepted ls s) read k) in
+    let prefixes : prefixes_in texts ≡ prefixes_of r.hostings = prefixes_are r texts h in
+    record {
+      register = r;
+      given = h;
+      authorities = w.authorities;
+      all = subst (λ (ps : List (List ℕ)). AreAmong (codes "0.na" ∷ ps) w.authorities) prefixes w.all;
+      written = subst (λ (ps : List (List ℕ)). IsAccepted (lines out) (with_rows r (rows_in ps w.authorities t))) prefixes (subst (λ (x : Register). IsAccepted (lines out) x) same k);
+    }

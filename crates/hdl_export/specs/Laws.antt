@@ -1,0 +1,66 @@
+-- What is written is read back.
+use Rattle.std.specs.Prelude.{◌≡◌, ◌++◌, ◌∷◌, ℕ, List, map, filter, codes, IsTrue}
+use Rattle.std.specs.List.{AllByRecursion, flat_map}
+use Rattle.std.specs.Str.Lines.{lines}
+use Rattle.hdl_name.specs.Name.{IsHandle}
+use Rattle.hdl_value.specs.Fault.{IsSound}
+use Rattle.hdl_rows.specs.Table.{Table}
+use Rattle.hdl_tenants.specs.Lines.{fields_of}
+use Rattle.hdl_tenants.specs.Register.{Register, Row, IsRegister, prefixes_of}
+use Rattle.hdl_tenants.specs.Text.{opened, IsLine, IsAccepted}
+use Rattle.hdl_export.specs.Lines.{Lacks, is_sayable, value_line, text_of, is_other, IsWritable}
+use Rattle.hdl_export.specs.Prefixes.{prefix_named, AreAmong}
+use Rattle.hdl_export.specs.Rows.{rows_in}
+
+-- the text of lines without a line feed has these lines
+abbrev pub LinesAreRead : Type 0
+LinesAreRead = (ls : List (List ℕ)) → AllByRecursion (Lacks 10) ls → lines (text_of ls) ≡ ls
+
+-- a row whose handle can stand in a line, and whose value is octets
+pub record IsWritableRow (row : Row) : Type 0 where
+  pub handle : IsTrue (is_sayable row.0)
+  pub value : IsWritable row.1
+
+-- what the line of a row says is this row
+abbrev pub ValueLineIsRead : Type 0
+ValueLineIsRead = (row : Row) → IsWritableRow row → IsHandle row.0 → IsSound row.1 → IsLine (value_line row) (opened row.0 row.1)
+
+-- the register with these rows to open with, in place of its own
+abbrev pub with_rows : Register → List Row → Register
+with_rows r rows = record r { opening = rows }
+
+-- the lines that are written: those of a text that say no value, and the lines of these rows
+abbrev pub written_lines : List (List ℕ) → List Row → List (List ℕ)
+written_lines texts rows = filter is_other texts ++ map value_line rows
+
+-- lines of an accepted text and of rows with which it is a register are accepted, and say these rows
+abbrev pub RegisterIsRead : Type 0
+RegisterIsRead = (texts : List (List ℕ)) (r : Register) (rows : List Row) → IsAccepted texts r → AllByRecursion IsWritableRow rows → IsRegister (with_rows r rows)
+    → IsAccepted (written_lines texts rows) (with_rows r rows)
+
+-- a text of lines of an accepted text and of rows says nothing else, if it is accepted
+abbrev pub RowsAreOnly : Type 0
+RowsAreOnly = (texts : List (List ℕ)) (r s : Register) (rows : List Row) → IsAccepted texts r → AllByRecursion IsWritableRow rows → IsAccepted (written_lines texts rows) s
+    → s ≡ with_rows r rows
+
+-- ---- what is written of a table
+
+-- the prefixes that the lines of a text host
+abbrev pub prefixes_in : List (List ℕ) → List (List ℕ)
+prefixes_in texts = flat_map (λ line. prefix_named (fields_of line)) texts
+
+-- The text has the lines that say no value, and those of the rows with the prefixes that they host.
+pub record IsWritten (texts : List (List ℕ)) (t : Table) (out : List ℕ) : Type 0 where
+  pub authorities : List (List ℕ)
+  pub all : AreAmong (codes "0.na" ∷ prefixes_in texts) authorities
+  pub text : out ≡ text_of (written_lines texts (rows_in (prefixes_in texts) authorities t))
+  pub rows : AllByRecursion IsWritableRow (rows_in (prefixes_in texts) authorities t)
+
+-- The text that was given says a register. The text that was written says the same publishers and prefixes, and the rows of the table with these
+-- prefixes, under all of their authorities.
+pub record IsExport (texts : List (List ℕ)) (t : Table) (out : List ℕ) : Type 0 where
+  pub register : Register
+  pub given : IsAccepted texts register
+  pub authorities : List (List ℕ)
+  pub all : AreAmong (codes "0.na" ∷ prefixes_of register.hostings) authorities
+  pub written : IsAccepted (lines out) (with_rows register (rows_in (prefixes_of register.hostings) authorities t))

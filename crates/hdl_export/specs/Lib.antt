@@ -1,0 +1,4 @@
+pub mod Lines
+pub mod Prefixes
+pub mod Rows
+pub mod Laws

@@ -1,0 +1,24 @@
+//! Laws over what is written, each the contract of a function without a body.
+
+ghost use Rattle.hdl_export.specs.Laws.{LinesAreRead, ValueLineIsRead, RegisterIsRead, RowsAreOnly};
+
+/// Lines without a line feed are read back as they were written.
+pub fn lines_are_read()
+    ensures { LinesAreRead }
+{}
+
+/// The line of a row says this row, and nothing else.
+pub fn value_line_is_read()
+    ensures { ValueLineIsRead }
+{}
+
+/// Behind lines that say publishers and prefixes, the lines of rows that a text can say are accepted, and say these rows in this order.
+pub fn register_is_read()
+    ensures { RegisterIsRead }
+{}
+
+/// A text that has the lines of an accepted text that say no value, and behind them lines of rows, says these rows and nothing else, if it is
+/// accepted.
+pub fn rows_are_only()
+    ensures { RowsAreOnly }
+{}

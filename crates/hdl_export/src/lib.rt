@@ -1,0 +1,35 @@
+//! A table written as a tenants text, which is read back as the same rows.
+//!
+//! ```text
+//! tenants text ── its lines but those of values ──┐
+//!                                                 ├──► tenants text: publishers and prefixes, then a line for each value
+//! table ── names, values of each ── value_line ───┘
+//! ```
+//!
+//! [`export`] writes it. `specs/Lines.antt` defines the line of a row (`value_line`), `specs/Rows.antt` which rows are written. What is
+//! promised is said in the words of `hdl_tenants`: reading what was written gives the publishers and prefixes of the text that was given, and
+//! just these rows, in this order. [`value_line_is_read`] is the law of one line, [`register_is_read`] that of all: whatever a tenants text can
+//! say is read back as it was written; and [`rows_are_only`] that such a text says nothing else.
+//!
+//! A text can't say a handle without a value, nor one with a space or a line feed in its name. [`left_out`] lists these.
+//!
+//! # Decisions
+//!
+//! - **The lines of publishers and prefixes are taken over as they stand**, comments too, since a register keeps what they say and not how
+//!   they say it. A line that ends with CR gets another one before its LF, so that reading gives each line back.
+//! - **What was written is read before it is given out**: a table may have what no text says, such as more than 1,024 values of a handle, and a
+//!   text that nothing opens is no backup. That it is then the text of these rows, and of no others, is proved.
+#![tactic(auto)]
+
+mod fault;
+mod laws;
+mod line;
+mod prefixes;
+mod rows;
+mod text;
+mod writing;
+
+pub use fault::ExportFault;
+pub use laws::{lines_are_read, register_is_read, rows_are_only, value_line_is_read};
+pub use line::value_line;
+pub use writing::export;
