@@ -237,7 +237,7 @@ plain_from v h =
     let d = and_parts (eqb (get_or v.ttl 0 0) 0) (ltb v.perm (2 ^ 4)) b.0 in
     record { how = eqb-true _ _ d.0; perm = ltb-true _ _ d.1; refs = nil_from_length v.refs (eqb-true _ _ b.1); kind = a.1 }
 
-ttl_again : (ttl : List ℕ) → length ttl ≡ 5 → AreOctets ttl → get_or ttl 0 0 ≡ 0 → 0 ∷ to_be_bytes w32 (from_be_bytes w32 (drop 1 ttl)) ≡ ttl
+pub ttl_again : (ttl : List ℕ) → length ttl ≡ 5 → AreOctets ttl → get_or ttl 0 0 ≡ 0 → 0 ∷ to_be_bytes w32 (from_be_bytes w32 (drop 1 ttl)) ≡ ttl
 ttl_again [] len fits how = absurd (omega (arith, len))
 ttl_again (octet ∷ rest) len fits how =
     let back = wide32.back rest (omega (arith, len)) (λ i. fits (suc i)) in

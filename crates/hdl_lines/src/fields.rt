@@ -71,7 +71,7 @@ pub(crate) fn is_text(octets: &[u8]) -> bool
 }
 
 /// The octets before the first that is `stop`, and those behind it.
-pub(crate) fn cut_at(octets: &[u8], stop: u8) -> Option<(&[u8], &[u8])>
+pub fn cut_at(octets: &[u8], stop: u8) -> Option<(&[u8], &[u8])>
     ensures { Reads (λ x. (x.0.now, x.1.now)) result (cut_at stop octets.now) }
 {
     for (i, octet) in octets.iter().enumerate() {
@@ -83,7 +83,7 @@ pub(crate) fn cut_at(octets: &[u8], stop: u8) -> Option<(&[u8], &[u8])>
 }
 
 /// The number below 2^32 that is written so in decimal digits: no sign, no leading zero.
-pub(crate) fn number_in(word: &[u8]) -> Option<u32>
+pub fn number_in(word: &[u8]) -> Option<u32>
     ensures { result ≡ number_in word.now }
 {
     let Ok(text) = str::from_utf8(word) else {
@@ -146,7 +146,7 @@ fn bits_in(digits: &[u8]) -> Option<u16>
 }
 
 /// The permissions of an administrator: twelve binary digits, the lowest first.
-pub(crate) fn mask_in(digits: &[u8]) -> Option<u16>
+pub fn mask_in(digits: &[u8]) -> Option<u16>
     ensures { result ≡ mask_in digits.now }
 {
     if digits.len() != 12 {
@@ -156,7 +156,7 @@ pub(crate) fn mask_in(digits: &[u8]) -> Option<u16>
 }
 
 /// The permissions of a value: four binary digits, the highest first.
-fn permissions_in(digits: &[u8]) -> Option<u8>
+pub fn permissions_in(digits: &[u8]) -> Option<u8>
     ensures { result ≡ permissions_in digits.now }
 {
     let [a, b, c, d] = digits else {
@@ -202,7 +202,7 @@ fn digit(bits: u8) -> u8
 }
 
 /// The four digits of a value's permissions: administrator reads, administrator writes, anybody reads, anybody writes.
-pub(crate) fn permission_digits(bits: u8) -> [u8; 4]
+pub fn permission_digits(bits: u8) -> [u8; 4]
     ensures { result ≡ permission_digits bits }
 {
     [

@@ -1,5 +1,5 @@
 -- No number that is told is a float.
-use Rattle.std.proofs.Common.{◌≡◌, ℕ, List, [], ◌∷◌, false, map, Option, Some, None, Ordering, Less, Equal, Greater, nat_cmp, refl, ap, ◌∙◌}
+use Rattle.std.proofs.Common.{◌≡◌, ◌==◌, ℕ, List, [], ◌∷◌, false, map, Option, Some, None, Ordering, Less, Equal, Greater, nat_cmp, refl, ap, ◌∙◌}
 use Rattle.std.specs.List.{AllZip}
 use Rattle.std.specs.Ordering.{match_ordering}
 use Rattle.std.specs.Cmp.Lexicographic.{slice_cmp}
@@ -16,8 +16,8 @@ use Rattle.hdl_value.specs.declared.value.Value.{Value}
 use Rattle.hdl_value.specs.Refs.{admin_read, list_read}
 use Rattle.hdl_proxy.specs.declared.words.KeptFor.{KeptFor}
 use Rattle.hdl_proxy.specs.declared.words.KeptFor.TheVariants.{Seconds, Until}
-use Rattle.hdl_proxy.specs.Words.{text_of, permission_digits}
-use Rattle.hdl_proxy.specs.Json.{put_text, formatted, reference_members, reference_json, admin_json, list_json, octets_json, data_json, kept_json, written_json, value_json, answer_json, refusal_json, IsValueJson}
+use Rattle.hdl_proxy.specs.Words.{text_of, permission_digits, value_digits, usual_permissions}
+use Rattle.hdl_proxy.specs.Json.{put_text, formatted, reference_members, reference_json, admin_json, list_json, octets_json, data_json, kept_json, written_json, put_permissions, value_json, answer_json, refusal_json, IsValueJson}
 
 by_ordering : (o : Ordering) (a b c : Members) → members_have_float a ≡ false → members_have_float b ≡ false → members_have_float c ≡ false → members_have_float (match_ordering o a b c) ≡ false
 by_ordering Less a b c ha hb hc = ha
@@ -84,6 +84,12 @@ written_none : (written : Option (List ℕ)) → has_float (written_json written
 written_none None = refl
 written_none (Some words) = refl
 
+permissions_none : (v : Value) (ms : Members) → members_have_float ms ≡ false → members_have_float (put_permissions v ms) ≡ false
+permissions_none v ms h =
+    let digits = string (value_digits v.perm) in
+    cond_both (v.perm == usual_permissions v.kind) ms (put (codes "permissions") digits ms) (λ m. members_have_float m ≡ false)
+    (λ _. h) (λ _. put_none (codes "permissions") digits ms refl h)
+
 value_none : (v : Value) (kept : KeptFor) (written : Option (List ℕ)) → has_float (value_json v kept written) ≡ false
 unfolding value_json
 value_none v kept written =
@@ -91,11 +97,12 @@ value_none v kept written =
     let kind = put_text (codes "type") v.kind index in
     let told = put (codes "data") (data_json v) kind in
     let ttl = put (codes "ttl") (kept_json kept) told in
-    put_none (codes "timestamp") (written_json written) ttl (written_none written)
+    permissions_none v (put (codes "timestamp") (written_json written) ttl)
+    (put_none (codes "timestamp") (written_json written) ttl (written_none written)
     (put_none (codes "ttl") (kept_json kept) told (kept_none kept)
     (put_none (codes "data") (data_json v) kind (data_none v)
     (put_none (codes "type") (string (text_of v.kind)) index refl
-    (put_none (codes "index") (number (unsigned v.index)) no_members refl refl))))
+    (put_none (codes "index") (number (unsigned v.index)) no_members refl refl)))))
 
 values_none : (values : List Value) (ds : List Data) → AllZip IsValueJson values ds → items_have_float (items_of ds) ≡ false
 values_none [] [] h = refl

@@ -1,5 +1,5 @@
 -- Values as JSON: the handle and what these values say, and nothing else.
-use Rattle.std.specs.Prelude.{◌≡◌, ℕ, List, map, codes, if◌then◌else◌, Option, Some, None, option_map, unwrap_or, string_bytes}
+use Rattle.std.specs.Prelude.{◌≡◌, ◌==◌, ℕ, List, map, codes, if◌then◌else◌, Option, Some, None, option_map, unwrap_or, string_bytes}
 use Rattle.std.specs.List.{AllZip}
 use Rattle.std.specs.Str.{is_utf8}
 use Rattle.base64.specs.Engines.{standard}
@@ -12,7 +12,7 @@ use Rattle.hdl_value.specs.declared.value.Value.{Value}
 use Rattle.hdl_value.specs.Refs.{admin_read, list_read}
 use Rattle.hdl_proxy.specs.declared.words.KeptFor.{KeptFor}
 use Rattle.hdl_proxy.specs.declared.words.KeptFor.TheVariants.{Seconds, Until}
-use Rattle.hdl_proxy.specs.Words.{text_of, permission_digits, IsKeptFor, IsWritten}
+use Rattle.hdl_proxy.specs.Words.{text_of, permission_digits, value_digits, usual_permissions, IsKeptFor, IsWritten}
 
 -- a member that is text
 abbrev pub put_text : List ℕ → List ℕ → Members → Members
@@ -58,13 +58,17 @@ abbrev pub written_json : Option (List ℕ) → Data
 written_json None = null
 written_json (Some words) = string words
 
+-- the permissions, where they aren't the usual ones of the type
+abbrev pub put_permissions : Value → Members → Members
+put_permissions v members = if v.perm == usual_permissions v.kind then members else put (codes "permissions") (string (value_digits v.perm)) members
+
 unfoldable pub value_json : Value → KeptFor → Option (List ℕ) → Data
 value_json v kept written =
-    object (put (codes "timestamp") (written_json written)
+    object (put_permissions v (put (codes "timestamp") (written_json written)
     (put (codes "ttl") (kept_json kept)
     (put (codes "data") (data_json v)
     (put_text (codes "type") v.kind
-    (put (codes "index") (number (unsigned v.index)) no_members)))))
+    (put (codes "index") (number (unsigned v.index)) no_members))))))
 
 abbrev pub IsValueJson : Value → Data → Type 0
 IsValueJson v d = (kept : KeptFor) × (written : Option (List ℕ)) × IsKeptFor v kept × IsWritten v written × (d ≡ value_json v kept written)

@@ -1,14 +1,21 @@
 -- The statuses of HTTP (RFC 9110, section 15), and the status and the words of each response code.
 use Rattle.std.specs.Prelude.{ℕ, ◌==◌, ◌||◌, List, codes, if◌then◌else◌}
 use Rattle.hdl_proxy.specs.declared.answer.Status.{Status}
-use Rattle.hdl_proxy.specs.declared.answer.Status.TheVariants.{Success, Found, BadRequest, NotFound, MethodNotAllowed, BadGateway, Unavailable}
+use Rattle.hdl_proxy.specs.declared.answer.Status.TheVariants.{Success, Created, NoContent, Found, BadRequest, Unauthorized, Forbidden, NotFound, MethodNotAllowed, RequestTimeout, Conflict, ContentTooLarge, BadGateway, Unavailable}
 
 abbrev pub status_number : Status → ℕ
 status_number Success = 200
+status_number Created = 201
+status_number NoContent = 204
 status_number Found = 302
 status_number BadRequest = 400
+status_number Unauthorized = 401
+status_number Forbidden = 403
 status_number NotFound = 404
 status_number MethodNotAllowed = 405
+status_number RequestTimeout = 408
+status_number Conflict = 409
+status_number ContentTooLarge = 413
 status_number BadGateway = 502
 status_number Unavailable = 503
 

@@ -8,6 +8,8 @@ use Rattle.jiff_core.specs.DateTime.{civil_nanos}
 use Rattle.jiff_core.specs.Timestamp.{IsTimestampNanos}
 use Rattle.jiff_fmt.specs.Text.{datetime_text, zulu_text}
 use Rattle.std.specs.Prelude.{false}
+use Rattle.std.specs.Str.{bytes_eq}
+use Rattle.hdl_value.specs.Data.{secret_key_kind}
 use Rattle.hdl_value.specs.Permission.{bits}
 use Rattle.hdl_value.specs.declared.value.Value.{Value}
 use Rattle.hdl_proxy.specs.declared.words.KeptFor.{KeptFor}
@@ -24,6 +26,14 @@ text_of octets = if is_utf8 octets then octets else encode_lower octets
 -- an administrator's permissions are twelve binary digits, the lowest first
 abbrev pub permission_digits : ℕ → List ℕ
 permission_digits mask = bits 12 mask
+
+-- those of a value are four, the highest first: administrator reads, administrator writes, anybody reads, anybody writes
+abbrev pub value_digits : ℕ → List ℕ
+value_digits n = (48 + n / 8 % 2) ∷ (48 + n / 4 % 2) ∷ (48 + n / 2 % 2) ∷ (48 + n % 2) ∷ []
+
+-- The permissions where none are said: an administrator reads and writes, and anybody reads what is no key.
+abbrev pub usual_permissions : List ℕ → ℕ
+usual_permissions kind = if bytes_eq kind secret_key_kind then 12 else 14
 
 -- ---- moments
 

@@ -7,10 +7,17 @@ ghost use Rattle.hdl_proxy.specs.Status.{status_number, status_of_code};
 #[derive(Clone, Copy, Debug, PartialEq, Eq)]
 pub enum Status {
     Success = 200,
+    Created = 201,
+    NoContent = 204,
     Found = 302,
     BadRequest = 400,
+    Unauthorized = 401,
+    Forbidden = 403,
     NotFound = 404,
     MethodNotAllowed = 405,
+    RequestTimeout = 408,
+    Conflict = 409,
+    ContentTooLarge = 413,
     BadGateway = 502,
     Unavailable = 503,
 }

@@ -6,18 +6,21 @@ ghost use Rattle.serde_json.specs.Data.{Data, array, object, no_members};
 ghost use Rattle.serde_json.specs.View.{view, items_of, members_view};
 ghost use Rattle.serde_json.specs.Written.{compact_text, has_float};
 ghost use Rattle.hdl_value.specs.Refs.{raw, raws};
-ghost use Rattle.hdl_proxy.specs.Json.{put_text as with_text, formatted, reference_members, reference_json, admin_json, list_json, octets_json, data_json, kept_json, written_json, value_json, answer_json, refusal_json, IsValueJson, IsJsonOf};
+ghost use Rattle.hdl_proxy.specs.Json.{put_text as with_text, formatted, reference_members, reference_json, admin_json, list_json, octets_json, data_json, kept_json, written_json, put_permissions, value_json, answer_json, refusal_json, IsValueJson, IsJsonOf};
 ghost use Rattle.hdl_proxy.specs.Answer.{Tells};
 
 use crate::answer::{Answer, Media, Status};
 use crate::names::text_of;
-use crate::words::{KeptFor, kept_for, permission_digits, written_words};
+use crate::words::{
+    KeptFor, kept_for, permission_digits, usual_permissions, value_digits, written_words,
+};
 use base64::engine::general_purpose::STANDARD;
 use hdl_value::{AdminMask, Reference, Value, admin_of, vlist_of};
 use serde_json::{Map, Value as Json, put};
 use std::alloc::{AllocError, Global};
 
-fn json_answer(alloc: Global, status: Status, json: &Json) -> Result<Answer, AllocError>
+/// An answer in JSON.
+pub fn json_answer(alloc: Global, status: Status, json: &Json) -> Result<Answer, AllocError>
     ensures told { IfOk result (Tells status Media.Json) }
     ensures body { IfOk result (λ a. has_float (view json.now) ≡ false → a.body.items ≡ compact_text (view json.now)) }
 {
@@ -30,8 +33,8 @@ fn json_answer(alloc: Global, status: Status, json: &Json) -> Result<Answer, All
     })
 }
 
-/// Puts a member that is text.
-fn put_text(
+/// Puts a member that is text; octets that are none by their hexadecimal digits.
+pub fn put_text(
     alloc: Global,
     object: &mut Map<String, Json>,
     key: &str,
@@ -55,7 +58,7 @@ fn refusal_json(alloc: Global, asked: &[u8], code: u32, why: &str) -> Result<Jso
 }
 
 /// What was asked, and the code of a reply without values.
-pub(crate) fn refusal(
+pub fn refusal(
     alloc: Global,
     status: Status,
     asked: &[u8],
@@ -162,6 +165,21 @@ fn written_json(written: Option<String>) -> Json
     }
 }
 
+/// Puts the permissions of a value where they aren't the usual ones of its type.
+fn put_permissions(
+    alloc: Global,
+    object: &mut Map<String, Json>,
+    value: &Value,
+) -> Result<(), AllocError>
+    ensures { OnOk result (members_view object.new.entries ≡ put_permissions value.now (members_view object.old.entries)) }
+{
+    if value.perm == usual_permissions(value.kind.as_slice()) {
+        return Ok(());
+    }
+    let digits = value_digits(alloc, value.perm)?;
+    put(object, alloc, "permissions", Json::from(digits))
+}
+
 #[tactic(auto, unfolding(crate::specs::Json::value_json))]
 fn value_json(alloc: Global, value: &Value) -> Result<Json, AllocError>
     ensures { IfOk result (λ json. IsValueJson value.now (view json)) }
@@ -174,6 +192,7 @@ fn value_json(alloc: Global, value: &Value) -> Result<Json, AllocError>
     put(&mut object, alloc, "data", data_json(alloc, value)?)?;
     put(&mut object, alloc, "ttl", kept_json(kept))?;
     put(&mut object, alloc, "timestamp", written_json(written))?;
+    put_permissions(alloc, &mut object, value)?;
     Ok(Json::from(object))
 }
 
@@ -199,7 +218,7 @@ fn answer_json(alloc: Global, handle: &[u8], values: &[Value]) -> Result<Json, A
 }
 
 /// The values of a handle.
-pub(crate) fn values_answer(
+pub fn values_answer(
     alloc: Global,
     handle: &[u8],
     values: &[Value],

@@ -10,7 +10,7 @@ use percent_encoding::percent_decode;
 use std::alloc::{AllocError, Global};
 
 /// The name that these octets are, or its fault, which is never want of memory.
-pub(crate) fn read_name(alloc: Global, octets: &[u8]) -> Result<Result<Name, NameFault>, AllocError>
+pub fn read_name(alloc: Global, octets: &[u8]) -> Result<Result<Name, NameFault>, AllocError>
     ensures { IfOk result (λ read. MatchResult read (λ name. (name ≡ octets.now) × IsHandle octets.now) (λ _. ¬ (IsHandle octets.now))) }
 {
     match Name::read(alloc, octets) {
@@ -21,7 +21,7 @@ pub(crate) fn read_name(alloc: Global, octets: &[u8]) -> Result<Result<Name, Nam
 }
 
 /// The octets that a part of a path stands for: its escapes are read once.
-pub(crate) fn unescaped(alloc: Global, text: &str) -> Result<Vec<u8>, AllocError>
+pub fn unescaped(alloc: Global, text: &str) -> Result<Vec<u8>, AllocError>
     ensures { IfOk result (λ octets. octets.items ≡ percent_decode text.now) }
 {
     let mut octets = Vec::new(alloc);

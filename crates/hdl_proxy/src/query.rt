@@ -7,10 +7,10 @@ use hdl_name::Octets;
 use std::alloc::{AllocError, Global};
 
 /// A name and its value, as the query means them.
-pub(crate) type Pair = (String, String);
+pub type Pair = (String, String);
 
 /// The pairs of a query, in their order.
-pub(crate) fn read_pairs(alloc: Global, query: &str) -> Result<Vec<Pair>, AllocError>
+pub fn read_pairs(alloc: Global, query: &str) -> Result<Vec<Pair>, AllocError>
     ensures { IfOk result (λ pairs. texts_of pairs.items ≡ pairs_of query.now) }
 {
     let mut pairs = Vec::new(alloc);
@@ -21,7 +21,7 @@ pub(crate) fn read_pairs(alloc: Global, query: &str) -> Result<Vec<Pair>, AllocE
 }
 
 /// Whether there is a pair of this name.
-pub(crate) fn has_pair(pairs: &[Pair], name: &str) -> bool
+pub fn has_pair(pairs: &[Pair], name: &str) -> bool
     ensures { result ≡ has_pair name.now (texts_of pairs.now) }
 {
     for pair in pairs {
@@ -33,7 +33,7 @@ pub(crate) fn has_pair(pairs: &[Pair], name: &str) -> bool
 }
 
 /// The values of the pairs of this name, in their order.
-fn values_named<'a>(
+pub fn values_named<'a>(
     alloc: Global,
     pairs: &'a [Pair],
     name: &str,
@@ -50,7 +50,7 @@ fn values_named<'a>(
 }
 
 /// The last value of this name, if there is one.
-pub(crate) fn last_named<'a>(
+pub fn last_named<'a>(
     alloc: Global,
     pairs: &'a [Pair],
     name: &str,
@@ -62,7 +62,7 @@ pub(crate) fn last_named<'a>(
 }
 
 /// The types that are asked for.
-pub(crate) fn types_of(alloc: Global, pairs: &[Pair]) -> Result<Vec<Octets>, AllocError>
+pub fn types_of(alloc: Global, pairs: &[Pair]) -> Result<Vec<Octets>, AllocError>
     ensures { IfOk result (λ types. types.items ≡ values_named (codes "type") (texts_of pairs.now)) }
 {
     let values = values_named(alloc, pairs, "type")?;
@@ -74,7 +74,7 @@ pub(crate) fn types_of(alloc: Global, pairs: &[Pair]) -> Result<Vec<Octets>, All
 }
 
 /// The indexes that are asked for. None just where one of them is no number below 4,294,967,296.
-pub(crate) fn indexes_of(alloc: Global, pairs: &[Pair]) -> Result<Option<Vec<u32>>, AllocError>
+pub fn indexes_of(alloc: Global, pairs: &[Pair]) -> Result<Option<Vec<u32>>, AllocError>
     ensures { IfOk result (AreIndexes (values_named (codes "index") (texts_of pairs.now))) }
 {
     let values = values_named(alloc, pairs, "index")?;

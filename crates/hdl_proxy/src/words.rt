@@ -2,12 +2,18 @@
 
 ghost use Rattle.std.specs.Prelude.{◌≡◌, ◌+◌, ◌<◌, ◌++◌, IfOk, OnOk, option_map, string_bytes};
 ghost use Rattle.hdl_value.specs.Permission.{bits};
-ghost use Rattle.hdl_proxy.specs.Words.{permission_digits, IsMomentText, IsKeptFor, IsWritten};
+ghost use Rattle.hdl_proxy.specs.Words.{permission_digits, value_digits, usual_permissions, IsMomentText, IsKeptFor, IsWritten};
 
-use hdl_value::{AdminMask, Value};
+use hdl_value::{AdminMask, HS_SECKEY, Value};
 use jiff_core::Timestamp;
 use jiff_fmt::temporal::DateTimePrinter;
 use std::alloc::{AllocError, Global};
+
+/// An administrator reads and writes a value, and nobody else.
+const ADMIN_ALONE: u8 = 0b1100;
+
+/// An administrator reads and writes it, and anybody reads it.
+const ANYBODY_READS: u8 = 0b1110;
 
 fn digit(bit: u16) -> char
     requires { bit < 2 }
@@ -37,6 +43,30 @@ pub(crate) fn permission_digits(alloc: Global, mask: AdminMask) -> Result<String
     Ok(digits)
 }
 
+/// The permissions of a value as four digits: administrator reads, administrator writes, anybody reads, anybody writes.
+pub(crate) fn value_digits(alloc: Global, perm: u8) -> Result<String, AllocError>
+    ensures { IfOk result (λ digits. string_bytes digits ≡ value_digits perm) }
+{
+    let mut digits = String::new(alloc);
+    digits.push(digit(u16::from(perm / 8 % 2)))?;
+    digits.push(digit(u16::from(perm / 4 % 2)))?;
+    digits.push(digit(u16::from(perm / 2 % 2)))?;
+    digits.push(digit(u16::from(perm % 2)))?;
+    Ok(digits)
+}
+
+/// The permissions of a value of this type where none are said: an administrator reads and writes it, and anybody reads it unless it
+/// is a key.
+pub fn usual_permissions(kind: &[u8]) -> u8
+    ensures { result ≡ usual_permissions kind.now }
+{
+    if kind == HS_SECKEY {
+        ADMIN_ALONE
+    } else {
+        ANYBODY_READS
+    }
+}
+
 /// A moment in RFC 3339, at UTC.
 fn moment_words(alloc: Global, moment: Timestamp) -> Result<String, AllocError>
     ensures { IfOk result (λ words. IsMomentText moment.nanosecond (string_bytes words)) }
@@ -58,7 +88,7 @@ pub(crate) fn written_words(alloc: Global, value: &Value) -> Result<Option<Strin
 
 /// How long a value may be kept (RFC 3651, section 3.1): so many seconds, or until then.
 #[derive(Drop)]
-pub(crate) enum KeptFor {
+pub enum KeptFor {
     Seconds(u32),
     Until(String),
 }
