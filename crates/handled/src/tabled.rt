@@ -1,7 +1,7 @@
 //! Replaying and serving over a table in a file.
 
 use crate::words::TableFile;
-use hdl_core::Tenants;
+use hdl_core::{Event, Rows, Tenants};
 use hdl_host::HostFault;
 use hdl_lastingrows::{Alarm, FileTable, TableFault, open_file, table_over};
 use hdl_replay::{Fault, events_of, parts_of, put_all, tenants_of, told_on};
@@ -95,12 +95,33 @@ fn opened(rt: &HostRuntime, file: &TableFile, tenants: &Tenants) -> Result<Table
     table_over(alloc, conn, rows, spare, tenants.opening(), Said(*rt))
 }
 
-/// Copies the log into the file.
-fn close(table: Table) -> Result<(), TabledFault> {
-    match table.into_connection().close() {
-        Ok(()) => Ok(()),
-        Err(fault) => Err(TabledFault::Table(TableFault::from(fault))),
+/// What has a file, which is closed at the end.
+///
+/// What owns a table is generic over it: proving a function that owns all parts of a file's table costs many times as much.
+trait Closing {
+    /// Copies the log into the file.
+    fn close(self) -> Result<(), TabledFault>;
+}
+
+impl Closing for Table {
+    fn close(self) -> Result<(), TabledFault> {
+        match self.into_connection().close() {
+            Ok(()) => Ok(()),
+            Err(fault) => Err(TabledFault::Table(TableFault::from(fault))),
+        }
     }
+}
+
+/// Runs the events over the table, prints the outcomes, and closes the file.
+fn replay_over<T: Rows + Closing + Drop>(
+    rt: &HostRuntime,
+    table: T,
+    tenants: Tenants,
+    events: Vec<Event>,
+) -> Result<(), TabledFault> {
+    let (lines, table) = told_on(rt.alloc(), table, tenants, events)?;
+    put_all(&mut rt.stdout(), lines.as_bytes())?;
+    table.close()
 }
 
 /// Runs the script over the table in the file, prints the outcomes, and closes the file.
@@ -109,9 +130,7 @@ pub fn replay_on(rt: &HostRuntime, file: &TableFile, text: &str) -> Result<(), T
     let tenants = tenants_of(rt.alloc(), parts.tenants)?;
     let events = events_of(rt.alloc(), parts.script, parts.run_line)?;
     let table = opened(rt, file, &tenants)?;
-    let (lines, table) = told_on(rt.alloc(), table, tenants, events)?;
-    put_all(&mut rt.stdout(), lines.as_bytes())?;
-    close(table)
+    replay_over(rt, table, tenants, events)
 }
 
 /// What is served: the tenants of the text, and the table in the file at this path.
@@ -135,5 +154,5 @@ pub fn open_desk(rt: &HostRuntime, file: TableFile, text: &str) -> Result<Desk, 
 
 /// Closes the file of a table that was served.
 pub fn ended(served: Result<Table, HostFault>) -> Result<(), TabledFault> {
-    close(served?)
+    served?.close()
 }
