@@ -20,6 +20,7 @@ import wire
 
 PROGRAM = servers.HANDLED
 TICKS = os.sysconf("SC_CLK_TCK")
+PERMISSION = wire.ADMIN_WRITE | wire.PUBLIC_READ
 
 
 def handle(number):
@@ -31,7 +32,7 @@ def text(number):
 
 
 def value(number):
-    return wire.value(1, b"URL", text(number), wire.ADMIN_WRITE | wire.PUBLIC_READ)
+    return wire.value(1, b"URL", text(number), PERMISSION)
 
 
 def request(number):
@@ -115,23 +116,23 @@ def start_handled(program, lanes, values, table=None):
     environment = dict(os.environ, **dict(word.split("=", 1) for word in words[1:]))
     options, values = (("--table", table), 0) if table else ((), values)
     begin = time.monotonic()
-    process, (port,) = servers.serve(lambda port: tenants(lanes, port, values), 1, words[0], options, env=environment)
+    process, (port,) = servers.serve(lambda port: tenants(lanes, port, values), 1, words[0], options, env=environment, stderr=subprocess.DEVNULL)
     return Server(process, port, request(0), reply(0), time.monotonic() - begin)
 
 
-def fill(file, rows):
-    """Has SQLite put handles into a file that the program made: each a name, and the type and the data of its one value."""
+def fill(file, rows, ttl, permission):
+    """Has SQLite put handles into a file that the program made: each a name, and the type and the data of its one value; all have this TTL and these permissions."""
     with contextlib.closing(sqlite3.connect(file)) as conn, conn:
         for name, kind, data in rows:
             conn.execute("INSERT INTO handles (name, authority) VALUES (?, ?)", (name, b"10"))
-            conn.execute("INSERT INTO entries (name, idx, kind, bytes, ttl, perm, stamp, refs) VALUES (?, 1, ?, ?, ?, 14, ?, ?)",
-                         (name, kind, data, bytes.fromhex("0000015180"), bytes(8), bytes(4)))
+            conn.execute("INSERT INTO entries (name, idx, kind, bytes, ttl, perm, stamp, refs) VALUES (?, 1, ?, ?, ?, ?, ?, ?)",
+                         (name, kind, data, b"\0" + wire.number(ttl), permission, bytes(8), bytes(4)))
 
 
 def make_table(program, file, values):
     """A table in a file with so many handles."""
     start_handled(program, 2, 0, file).stop()
-    fill(file, ((handle(number), b"URL", text(number)) for number in range(values)))
+    fill(file, ((handle(number), b"URL", text(number)) for number in range(values)), 0, PERMISSION)
 
 
 def bulk(octets):
