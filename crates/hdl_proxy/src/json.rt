@@ -218,11 +218,7 @@ fn answer_json(alloc: Global, handle: &[u8], values: &[Value]) -> Result<Json, A
 }
 
 /// The values of a handle.
-pub fn values_answer(
-    alloc: Global,
-    handle: &[u8],
-    values: &[Value],
-) -> Result<Answer, AllocError>
+pub fn values_answer(alloc: Global, handle: &[u8], values: &[Value]) -> Result<Answer, AllocError>
     ensures told { IfOk result (Tells Status.Success Media.Json) }
     ensures body { IfOk result (λ a. IsJsonOf handle.now values.now a.body.items) }
 {

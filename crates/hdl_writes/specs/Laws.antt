@@ -1,0 +1,40 @@
+-- Laws over records in JSON.
+use Rattle.std.specs.Prelude.{◌≡◌, false, All, ◌++◌, ℕ, ◌<◌, ◌^◌, true, List, [], slice_index, Option, None, Ok, IfSome}
+use Rattle.std.specs.List.Sorted.{IsPermutation}
+use Rattle.std.specs.Str.{is_utf8}
+use Rattle.hdl_value.specs.declared.value.Value.{Value}
+use Rattle.hdl_value.specs.Spelling.{Fits}
+use Rattle.hdl_value.specs.Refs.{admin_read}
+use Rattle.hdl_lines.specs.Lines.{unstamped}
+use Rattle.hdl_proxy.specs.declared.words.KeptFor.TheVariants.{Seconds}
+use Rattle.hdl_proxy.specs.Json.{value_json}
+use Rattle.hdl_proxy.specs.Words.{ttl_seconds}
+use Rattle.hdl_writes.specs.Entry.{first_fault, value_told}
+use Rattle.hdl_writes.specs.Plan.{is_among, known, fresh, gone}
+use Rattle.hdl_writes.specs.Record.{has_index}
+
+-- JSON can say all of a sound value: its type is text, its TTL a number of seconds, no upper bit of its permissions or of an administrator's is set, and it has no references
+pub record CanBeTold (v : Value) : Type 0 where
+  pub fits : Fits v
+  pub sound : first_fault v ≡ None
+  pub kind : is_utf8 v.kind ≡ true
+  pub how : slice_index v.ttl 0 ≡ 0
+  pub perm : v.perm < 2 ^ 4
+  pub mask : IfSome (admin_read v) (λ x. x.0 < 2 ^ 12)
+  pub refs : v.refs ≡ []
+
+-- the JSON of such a value is read as it, but for its timestamp
+abbrev pub WrittenIsRead : Type 0
+WrittenIsRead =
+    (v : Value) (written : Option (List ℕ)) → CanBeTold v → value_told (value_json v (Seconds (ttl_seconds v)) written) ≡ Ok (unstamped v)
+
+-- A change loses nothing: each given value is written once, what is there by a modification and what isn't by an addition, and what is
+-- removed at the end was not given.
+pub record LosesNothing (there : List ℕ) (vs : List Value) : Type 0 where
+  pub written : IsPermutation vs (known there vs ++ fresh there vs)
+  pub modified : All (λ v. is_among v.index there ≡ true) (known there vs)
+  pub added : All (λ v. is_among v.index there ≡ false) (fresh there vs)
+  pub removed : All (λ n. has_index n vs ≡ false) (gone there vs)
+
+abbrev pub NothingIsLost : Type 0
+NothingIsLost = (there : List ℕ) (vs : List Value) → LosesNothing there vs

@@ -1,0 +1,80 @@
+-- The record that a body in JSON means, or the first thing that is wrong with it.
+use Rattle.std.specs.Prelude.{◌≡◌, ◌⊎◌, ℕ, ◌+◌, ◌==◌, nat_lt, ◌&&◌, not, Bool, true, false, is_some, if◌then◌else◌, List, [], ◌∷◌, length, codes, Option, Some, None, Result, Ok, Err}
+use Rattle.std.specs.List.{list_any}
+use Rattle.std.specs.Str.{is_utf8}
+use Rattle.serde_json.specs.Data.{Data, Items}
+use Rattle.serde_json.specs.Find.{get, as_array, as_object}
+use Rattle.serde_json.specs.Read.{read}
+use Rattle.hdl_limits.specs.declared.TheConstants.{WRITTEN_MAX}
+use Rattle.hdl_value.specs.declared.value.Value.{Value}
+use Rattle.hdl_value.specs.Reading.{◌>>=◌}
+use Rattle.hdl_writes.specs.declared.fault.EntryFault.{EntryFault}
+use Rattle.hdl_writes.specs.declared.fault.RecordFault.{RecordFault}
+use Rattle.hdl_writes.specs.declared.fault.RecordFault.TheVariants as fault
+use Rattle.hdl_writes.specs.Data.{◌>>>◌, each}
+use Rattle.hdl_writes.specs.Entry.{value_told}
+
+-- why nothing is read: there was no memory, or what is wrong
+abbrev pub IsRecordFault : {A : Type 0} → Result A RecordFault → RecordFault → Type 0
+IsRecordFault told e = (e ≡ fault.Memory) ⊎ (told ≡ Err e)
+
+-- a value, or its fault with its place
+abbrev pub placed : ℕ → Result Value EntryFault → Result Value RecordFault
+placed place (Ok v) = Ok v
+placed place (Err e) = Err (fault.Entry place e)
+
+-- the values that these are, counted from a place
+abbrev pub values_from : ℕ → List Data → Result (List Value) RecordFault
+values_from place [] = Ok []
+values_from place (d ∷ ds) =
+    placed place (value_told d) >>> λ v. (values_from (place + 1) ds >>> λ vs. Ok (v ∷ vs))
+
+-- one of these has this index
+abbrev pub has_index : ℕ → List Value → Bool
+has_index index vs = list_any (λ v. v.index == index) vs
+
+-- the first value whose index stands behind it again
+abbrev pub twice_from : ℕ → List Value → Option ℕ
+twice_from place [] = None
+twice_from place (v ∷ vs) = if has_index v.index vs then Some place else twice_from (place + 1) vs
+
+abbrev pub distinct_at : Option ℕ → List Value → Result (List Value) RecordFault
+distinct_at None vs = Ok vs
+distinct_at (Some place) vs = Err (fault.Twice place)
+
+-- these values, of which there is one, and not too many
+unfoldable pub entries_told : List Data → Result (List Value) RecordFault
+entries_told ds =
+    if length ds == 0 then Err fault.Empty
+    else if nat_lt WRITTEN_MAX (length ds) then Err fault.Many
+    else (values_from 1 ds >>> λ vs. distinct_at (twice_from 1 vs) vs)
+
+-- the list in a body: it is one, or its member `values` is
+abbrev pub listed_in : Data → Option Items
+listed_in d = if is_some (as_array d) then as_array d else (get (codes "values") d >>= as_array)
+
+-- the body is one value: an object without such a member
+abbrev pub is_single : Data → Bool
+is_single d = is_some (as_object d) && not (is_some (get (codes "values") d))
+
+abbrev pub record_by : Option Items → Data → Result (List Value) RecordFault
+record_by (Some ds) d = entries_told (each ds)
+record_by None d = if is_single d then entries_told (d ∷ []) else Err fault.Shape
+
+unfoldable pub record_told : Data → Result (List Value) RecordFault
+record_told d = record_by (listed_in d) d
+
+-- the JSON that a body is, in UTF-8
+abbrev pub text_in : List ℕ → Option (List ℕ)
+text_in body = if is_utf8 body then Some body else None
+
+abbrev pub body_told : List ℕ → Option Data
+body_told body = text_in body >>= read
+
+abbrev pub record_of : Option Data → Result (List Value) RecordFault
+record_of None = Err fault.Json
+record_of (Some d) = record_told d
+
+-- the record that a body means
+unfoldable pub record_in : List ℕ → Result (List Value) RecordFault
+record_in body = record_of (body_told body)

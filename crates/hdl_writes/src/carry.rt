@@ -1,0 +1,459 @@
+//! An order that is carried out.
+
+use crate::fault::RecordFault;
+use crate::listing::list_answer;
+use crate::order::{Act, Order, Way};
+use crate::plan::{is_among, merging, replacing};
+use crate::record::read_record;
+use crate::service::Service;
+use crate::told::{change_words, failure, status_of_change, success};
+use hdl_limits::{MESSAGE_MAX, WRITTEN_MAX};
+use hdl_msg::{ContentView, RequestBody, ResponseCode, Values, read_reply, request_len};
+use hdl_name::{Listed, Octets};
+use hdl_proxy::{Answer, NoAnswer, Status, refusal, values_answer};
+use hdl_value::{Value, ValueFault};
+use std::alloc::{AllocError, Global};
+
+/// Why a change, or what it needs, wasn't done.
+#[derive(Clone, Copy)]
+pub(crate) enum Stop {
+    /// A reply of this code.
+    Code(u32),
+    /// No reply came that can be read, so what became of the request isn't known.
+    Silent,
+    /// A request would be longer than a message may be.
+    TooLong,
+    /// More values would be removed than one request may.
+    TooMany,
+    Memory,
+}
+
+impl From<AllocError> for Stop {
+    fn from(_: AllocError) -> Stop {
+        Stop::Memory
+    }
+}
+
+impl From<NoAnswer> for Stop {
+    fn from(none: NoAnswer) -> Stop {
+        match none {
+            NoAnswer::Memory => Stop::Memory,
+            NoAnswer::Unreachable => Stop::Silent,
+        }
+    }
+}
+
+const SILENT: &str = "No answer of a server came. Whether this was done isn't known.";
+
+const TOO_LONG: &str = "The change needs a request of more than 65536 octets. Nothing was done.";
+
+const TOO_MANY: &str = "The change would remove more than 256 values. Nothing was done.";
+
+/// The answer to an order that stopped, behind the requests of it that were done.
+pub(crate) fn stopped(
+    alloc: Global,
+    handle: &[u8],
+    stop: Stop,
+    done: &[RequestBody],
+) -> Result<Answer, AllocError> {
+    let error = ResponseCode::Error.number();
+    match stop {
+        Stop::Code(code) => {
+            let status = status_of_change(code);
+            failure(alloc, handle, status, code, change_words(code), done)
+        }
+        Stop::Silent => failure(alloc, handle, Status::BadGateway, error, SILENT, done),
+        Stop::TooLong => failure(
+            alloc,
+            handle,
+            Status::ContentTooLarge,
+            error,
+            TOO_LONG,
+            done,
+        ),
+        Stop::TooMany => failure(
+            alloc,
+            handle,
+            Status::ContentTooLarge,
+            error,
+            TOO_MANY,
+            done,
+        ),
+        Stop::Memory => Err(AllocError),
+    }
+}
+
+/// A copy of the order's handle.
+fn handle_of(alloc: Global, order: &Order) -> Result<Octets, AllocError> {
+    Ok(Octets::new(Vec::from_slice(alloc, order.name.sent())?))
+}
+
+fn is_short(body: &RequestBody) -> bool {
+    request_len(body) <= MESSAGE_MAX as usize
+}
+
+/// The message of the reply to a request, whatever its code is.
+pub(crate) fn reply_to<S: Service>(
+    service: &mut S,
+    order: &Order,
+    body: &RequestBody,
+) -> Result<Vec<u8>, Stop> {
+    if !is_short(body) {
+        return Err(Stop::TooLong);
+    }
+    Ok(service.ask(body, &order.key)?)
+}
+
+/// Asks for a change. It is done where the reply's code is 1.
+fn done<S: Service>(service: &mut S, order: &Order, body: &RequestBody) -> Result<(), Stop> {
+    let message = reply_to(service, order, body)?;
+    let Ok(reply) = read_reply(&message) else {
+        return Err(Stop::Silent);
+    };
+    match reply.header.response_code {
+        1 => Ok(()),
+        code => Err(Stop::Code(code)),
+    }
+}
+
+/// One request, and what is answered to it.
+fn carry_one<S: Service>(
+    alloc: Global,
+    service: &mut S,
+    order: &Order,
+    body: &RequestBody,
+    status: Status,
+) -> Result<Answer, AllocError> {
+    match done(service, order, body) {
+        Ok(()) => success(alloc, order.name.sent(), status),
+        Err(stop) => stopped(alloc, order.name.sent(), stop, &[]),
+    }
+}
+
+/// Requests one after the other, until one isn't done: how many were done, and why the next one wasn't.
+fn steps_done<S: Service>(
+    service: &mut S,
+    order: &Order,
+    steps: &[RequestBody],
+) -> (usize, Option<Stop>) {
+    if !steps.iter().all(is_short) {
+        return (0, Some(Stop::TooLong));
+    }
+    for (count, step) in steps.iter().enumerate() {
+        if let Err(stop) = done(service, order, step) {
+            return (count, Some(stop));
+        }
+    }
+    (steps.len(), None)
+}
+
+fn carry_steps<S: Service>(
+    alloc: Global,
+    service: &mut S,
+    order: &Order,
+    steps: &[RequestBody],
+) -> Result<Answer, AllocError> {
+    match steps_done(service, order, steps) {
+        (_, None) => success(alloc, order.name.sent(), Status::Success),
+        (count, Some(stop)) => {
+            let behind = steps.get(..count).unwrap_or(&[]);
+            stopped(alloc, order.name.sent(), stop, behind)
+        }
+    }
+}
+
+/// The indexes of these values.
+fn indexes_in(alloc: Global, mut values: Values<'_>) -> Result<Vec<u32>, Stop> {
+    let mut indexes = Vec::new(alloc);
+    while let Some(cut) = values.next() {
+        match indexes.push(cut.index()) {
+            Ok(()) => {}
+            Err(_) => return Err(Stop::Memory),
+        }
+    }
+    Ok(indexes)
+}
+
+/// The indexes that a reply to the reading of this handle tells.
+fn indexes_told(alloc: Global, handle: &[u8], message: &[u8]) -> Result<Vec<u32>, Stop> {
+    let Ok(reply) = read_reply(message) else {
+        return Err(Stop::Silent);
+    };
+    match reply.content {
+        ContentView::Values {
+            handle: answered,
+            values,
+        } if answered == handle => indexes_in(alloc, values),
+        ContentView::Values { .. } => Err(Stop::Silent),
+        _ if reply.header.response_code == ResponseCode::ValueNotFound.number() => {
+            Ok(Vec::new(alloc))
+        }
+        _ => Err(Stop::Code(reply.header.response_code)),
+    }
+}
+
+/// Of these indexes, or of all, those that are there and that the key may read.
+fn indexes_there<S: Service>(
+    alloc: Global,
+    service: &mut S,
+    order: &Order,
+    asked: Vec<u32>,
+) -> Result<Vec<u32>, Stop> {
+    let body = RequestBody::Resolution {
+        handle: handle_of(alloc, order)?,
+        indexes: Listed::new(asked),
+        types: Listed::new(Vec::new(alloc)),
+    };
+    let message = reply_to(service, order, &body)?;
+    indexes_told(alloc, order.name.sent(), &message)
+}
+
+fn indexes_of(alloc: Global, values: &[Value]) -> Result<Vec<u32>, AllocError> {
+    let mut indexes = Vec::new(alloc);
+    for value in values {
+        indexes.push(value.index)?;
+    }
+    Ok(indexes)
+}
+
+fn copies(alloc: Global, values: &[Value]) -> Result<Listed<Value>, AllocError> {
+    let mut all = Vec::new(alloc);
+    for value in values {
+        all.push(value.copy(alloc)?)?;
+    }
+    Ok(Listed::new(all))
+}
+
+fn create<S: Service>(
+    alloc: Global,
+    service: &mut S,
+    order: &Order,
+    values: &[Value],
+) -> Result<Answer, AllocError> {
+    let body = RequestBody::Create {
+        handle: handle_of(alloc, order)?,
+        values: copies(alloc, values)?,
+    };
+    carry_one(alloc, service, order, &body, Status::Created)
+}
+
+fn add<S: Service>(
+    alloc: Global,
+    service: &mut S,
+    order: &Order,
+    values: &[Value],
+) -> Result<Answer, AllocError> {
+    let body = RequestBody::Add {
+        handle: handle_of(alloc, order)?,
+        values: copies(alloc, values)?,
+    };
+    carry_one(alloc, service, order, &body, Status::Success)
+}
+
+fn merge<S: Service>(
+    alloc: Global,
+    service: &mut S,
+    order: &Order,
+    values: &[Value],
+) -> Result<Answer, AllocError> {
+    let asked = indexes_of(alloc, values)?;
+    match indexes_there(alloc, service, order, asked) {
+        Ok(there) => {
+            let steps = merging(alloc, order.name.sent(), &there, values)?;
+            carry_steps(alloc, service, order, &steps)
+        }
+        Err(stop) => stopped(alloc, order.name.sent(), stop, &[]),
+    }
+}
+
+/// Puts the values in the place of all that is there.
+fn overwrite<S: Service>(
+    alloc: Global,
+    service: &mut S,
+    order: &Order,
+    values: &[Value],
+) -> Result<Answer, AllocError> {
+    let there = match indexes_there(alloc, service, order, Vec::new(alloc)) {
+        Ok(there) => there,
+        Err(stop) => return stopped(alloc, order.name.sent(), stop, &[]),
+    };
+    if there.len() > WRITTEN_MAX {
+        return stopped(alloc, order.name.sent(), Stop::TooMany, &[]);
+    }
+    let steps = replacing(alloc, order.name.sent(), &there, values)?;
+    carry_steps(alloc, service, order, &steps)
+}
+
+/// Creates the handle, or where it is there puts the values in the place of all that it has.
+fn replace<S: Service>(
+    alloc: Global,
+    service: &mut S,
+    order: &Order,
+    values: &[Value],
+) -> Result<Answer, AllocError> {
+    let body = RequestBody::Create {
+        handle: handle_of(alloc, order)?,
+        values: copies(alloc, values)?,
+    };
+    match done(service, order, &body) {
+        Ok(()) => success(alloc, order.name.sent(), Status::Created),
+        Err(Stop::Code(101)) => overwrite(alloc, service, order, values),
+        Err(stop) => stopped(alloc, order.name.sent(), stop, &[]),
+    }
+}
+
+/// The first value whose index isn't among these.
+fn unasked(among: &[u32], values: &[Value]) -> Option<RecordFault> {
+    let place = values
+        .iter()
+        .position(|value| !is_among(value.index, among))?;
+    Some(RecordFault::Unasked {
+        place: (place as u64).saturating_add(1),
+    })
+}
+
+/// The values of a body, each among the indexes that were named.
+fn values_of(
+    alloc: Global,
+    among: &Option<Vec<u32>>,
+    body: &[u8],
+) -> Result<Vec<Value>, RecordFault> {
+    let values = read_record(alloc, body)?;
+    if let Some(indexes) = among {
+        if let Some(fault) = unasked(indexes, &values) {
+            return Err(fault);
+        }
+    }
+    Ok(values)
+}
+
+fn bad_record(alloc: Global, handle: &[u8], fault: RecordFault) -> Result<Answer, AllocError> {
+    if fault == RecordFault::Memory {
+        return Err(AllocError);
+    }
+    let why = format!(in alloc; "The record can't be read: {fault}.")?;
+    let code = ResponseCode::ValueInvalid.number();
+    refusal(alloc, Status::BadRequest, handle, code, &why)
+}
+
+fn carry_put<S: Service>(
+    alloc: Global,
+    service: &mut S,
+    order: &Order,
+    way: Way,
+    among: &Option<Vec<u32>>,
+    body: &[u8],
+) -> Result<Answer, AllocError> {
+    let values = match values_of(alloc, among, body) {
+        Ok(values) => values,
+        Err(fault) => return bad_record(alloc, order.name.sent(), fault),
+    };
+    match way {
+        Way::Create => create(alloc, service, order, &values),
+        Way::Replace => replace(alloc, service, order, &values),
+        Way::Merge => merge(alloc, service, order, &values),
+        Way::Add => add(alloc, service, order, &values),
+    }
+}
+
+fn carry_delete<S: Service>(
+    alloc: Global,
+    service: &mut S,
+    order: &Order,
+) -> Result<Answer, AllocError> {
+    let body = RequestBody::Delete {
+        handle: handle_of(alloc, order)?,
+    };
+    carry_one(alloc, service, order, &body, Status::Success)
+}
+
+fn carry_remove<S: Service>(
+    alloc: Global,
+    service: &mut S,
+    order: &Order,
+    indexes: &[u32],
+) -> Result<Answer, AllocError> {
+    let body = RequestBody::Remove {
+        handle: handle_of(alloc, order)?,
+        indexes: Listed::new(Vec::from_slice(alloc, indexes)?),
+    };
+    carry_one(alloc, service, order, &body, Status::Success)
+}
+
+/// All of the values, each whole. None where one of them breaks the limits of values.
+fn whole_values(alloc: Global, mut values: Values<'_>) -> Result<Option<Vec<Value>>, AllocError> {
+    let mut all = Vec::new(alloc);
+    while let Some(cut) = values.next() {
+        match cut.read(alloc) {
+            Ok(value) => all.push(value)?,
+            Err(ValueFault::Memory) => return Err(AllocError),
+            Err(_) => return Ok(None),
+        }
+    }
+    Ok(Some(all))
+}
+
+/// What the reply to a reading with a key says of this handle.
+fn read_told(alloc: Global, handle: &[u8], message: &[u8]) -> Result<Answer, AllocError> {
+    let Ok(reply) = read_reply(message) else {
+        return stopped(alloc, handle, Stop::Silent, &[]);
+    };
+    match reply.content {
+        ContentView::Values {
+            handle: answered,
+            values,
+        } if answered == handle => match whole_values(alloc, values)? {
+            Some(all) => values_answer(alloc, handle, &all),
+            None => stopped(alloc, handle, Stop::Silent, &[]),
+        },
+        ContentView::Values { .. } => stopped(alloc, handle, Stop::Silent, &[]),
+        _ => {
+            let stop = Stop::Code(reply.header.response_code);
+            stopped(alloc, handle, stop, &[])
+        }
+    }
+}
+
+fn type_copies(alloc: Global, types: &[Octets]) -> Result<Listed<Octets>, AllocError> {
+    let mut all = Vec::new(alloc);
+    for kind in types {
+        all.push(Octets::new(Vec::from_slice(alloc, kind.as_slice())?))?;
+    }
+    Ok(Listed::new(all))
+}
+
+fn carry_read<S: Service>(
+    alloc: Global,
+    service: &mut S,
+    order: &Order,
+    indexes: &[u32],
+    types: &[Octets],
+) -> Result<Answer, AllocError> {
+    let body = RequestBody::Resolution {
+        handle: handle_of(alloc, order)?,
+        indexes: Listed::new(Vec::from_slice(alloc, indexes)?),
+        types: type_copies(alloc, types)?,
+    };
+    match reply_to(service, order, &body) {
+        Ok(message) => read_told(alloc, order.name.sent(), &message),
+        Err(stop) => stopped(alloc, order.name.sent(), stop, &[]),
+    }
+}
+
+/// Carries out an order: reads the body of its request, where it takes one, asks for one thing after the other, and makes the answer.
+/// Nothing is asked where the body is refused. Where a request isn't done, none behind it is sent, and the answer says what was done.
+pub fn carry_out<S: Service>(
+    alloc: Global,
+    service: &mut S,
+    order: &Order,
+    body: &[u8],
+) -> Result<Answer, AllocError> {
+    service.renew();
+    match &order.act {
+        Act::Put { way, among } => carry_put(alloc, service, order, *way, among, body),
+        Act::Delete => carry_delete(alloc, service, order),
+        Act::Remove { indexes } => carry_remove(alloc, service, order, indexes),
+        Act::List { window } => list_answer(alloc, service, order, *window),
+        Act::Read { indexes, types } => carry_read(alloc, service, order, indexes, types),
+    }
+}

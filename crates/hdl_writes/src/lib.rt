@@ -1,0 +1,38 @@
+//! Handles that are changed over HTTP: the JSON of Handle.Net's REST interface, and the requests that it takes.
+//!
+//! ```text
+//! method, path, query, the field Authorization -> begin_with_key -> Begun::Answer, Begun::Order, or Begun::Other
+//! Order, the body -> carry_out: read_record, then a Service is asked one request after the other -> Answer
+//! ```
+//!
+//! This crate has no sockets and no clock: [`Service`] is who is asked. A secret is in the key of an order alone, which nothing prints,
+//! and no function that makes an answer is handed one.
+//!
+//! What it promises: `specs/Record.antt` defines the record that a body in JSON means, or the first thing that is wrong with it
+//! (`record_in`), `specs/Credentials.antt` the key that a field means (`key_in`), and `specs/Plan.antt` which requests put values into a
+//! handle, in which order (`merging`, `replacing`); [`read_record`], [`read_key`], [`merging`] and [`replacing`] do just that, want of
+//! memory aside. Laws: the JSON of a value is read as it ([`written_is_read`]), and a change loses nothing ([`nothing_is_lost`]).
+#![tactic(auto)]
+
+mod carry;
+mod credentials;
+mod data;
+mod entry;
+mod fault;
+mod fields;
+mod laws;
+mod listing;
+mod order;
+mod plan;
+mod record;
+mod service;
+mod told;
+
+pub use carry::carry_out;
+pub use credentials::{KeyFault, read_key};
+pub use fault::{EntryFault, RecordFault};
+pub use laws::{nothing_is_lost, written_is_read};
+pub use order::{Act, Begun, Order, Sent, Way, Window, begin_with_key};
+pub use plan::{merging, replacing};
+pub use record::read_record;
+pub use service::Service;

@@ -1,0 +1,114 @@
+//! The handles of a prefix.
+
+use crate::carry::{Stop, reply_to, stopped};
+use crate::order::{Order, Window};
+use crate::service::Service;
+use hdl_msg::{ContentView, RequestBody, ResponseCode, Strings, read_reply};
+use hdl_name::Octets;
+use hdl_proxy::{Answer, Status, json_answer, put_text};
+use serde_json::{Map, Value as Json, put};
+use std::alloc::{AllocError, Global};
+
+/// How many octets stand before the prefix in an administrative handle: `0.NA/`.
+const FRONT_LEN: usize = 5;
+
+/// The handles in a page of a list, and how many the list has.
+#[derive(Drop)]
+struct Page {
+    handles: Vec<Json>,
+    count: u32,
+}
+
+fn is_within(window: Option<Window>, place: u64) -> bool {
+    let Some(Window { page, size }) = window else {
+        return true;
+    };
+    let front = u64::from(page) * u64::from(size);
+    place >= front && place - front < u64::from(size)
+}
+
+fn text_json(alloc: Global, octets: &[u8]) -> Result<Json, AllocError> {
+    match str::from_utf8(octets) {
+        Ok(text) => Ok(Json::from(String::from_str(alloc, text)?)),
+        Err(_) => Ok(Json::from(hex::encode(alloc, octets)?)),
+    }
+}
+
+fn page_of(
+    alloc: Global,
+    mut strings: Strings<'_>,
+    window: Option<Window>,
+) -> Result<Page, AllocError> {
+    let mut handles = Vec::new(alloc);
+    let mut count = 0u32;
+    while let Some(handle) = strings.next() {
+        if is_within(window, u64::from(count)) {
+            handles.push(text_json(alloc, handle)?)?;
+        }
+        count = count.saturating_add(1);
+    }
+    Ok(Page { handles, count })
+}
+
+/// The page and its size, as they were asked for: without a size one page has all.
+fn told_window(window: Option<Window>, count: u32) -> Window {
+    match window {
+        Some(window) => window,
+        None => Window {
+            page: 0,
+            size: count,
+        },
+    }
+}
+
+fn page_answer(
+    alloc: Global,
+    prefix: &[u8],
+    page: Page,
+    window: Window,
+) -> Result<Answer, AllocError> {
+    let Page { handles, count } = page;
+    let mut object = Map::new(alloc);
+    let code = ResponseCode::Success.number();
+    put(&mut object, alloc, "responseCode", Json::from(code))?;
+    put_text(alloc, &mut object, "prefix", prefix)?;
+    put(&mut object, alloc, "totalCount", Json::from(count))?;
+    put(&mut object, alloc, "page", Json::from(window.page))?;
+    put(&mut object, alloc, "pageSize", Json::from(window.size))?;
+    put(&mut object, alloc, "handles", Json::from(handles))?;
+    json_answer(alloc, Status::Success, &Json::from(object))
+}
+
+fn list_told(
+    alloc: Global,
+    handle: &[u8],
+    message: &[u8],
+    window: Option<Window>,
+) -> Result<Answer, AllocError> {
+    let Ok(reply) = read_reply(message) else {
+        return stopped(alloc, handle, Stop::Silent, &[]);
+    };
+    let ContentView::Handles { handles } = reply.content else {
+        let stop = Stop::Code(reply.header.response_code);
+        return stopped(alloc, handle, stop, &[]);
+    };
+    let page = page_of(alloc, handles, window)?;
+    let told = told_window(window, page.count);
+    let prefix = handle.get(FRONT_LEN..).unwrap_or(handle);
+    page_answer(alloc, prefix, page, told)
+}
+
+/// Lists the handles of the prefix whose administrative handle the order names.
+pub(crate) fn list_answer<S: Service>(
+    alloc: Global,
+    service: &mut S,
+    order: &Order,
+    window: Option<Window>,
+) -> Result<Answer, AllocError> {
+    let handle = Octets::new(Vec::from_slice(alloc, order.name.sent())?);
+    let body = RequestBody::List { handle };
+    match reply_to(service, order, &body) {
+        Ok(message) => list_told(alloc, order.name.sent(), &message, window),
+        Err(stop) => stopped(alloc, order.name.sent(), stop, &[]),
+    }
+}

@@ -1,0 +1,326 @@
+//! What a request that comes with a key asks for.
+
+use crate::credentials::{KeyFault, read_key};
+use hdl_client::Key;
+use hdl_msg::ResponseCode;
+use hdl_name::{Name, Octets};
+use hdl_proxy::{
+    Answer, Media, Pair, Status, has_pair, indexes_of, last_named, read_name, read_pairs, refusal,
+    types_of, unescaped, values_named,
+};
+use std::alloc::{AllocError, Global};
+
+/// Where handles are changed, and read with a key.
+const HANDLES_PATH: &str = "/api/handles/";
+
+/// Where the handles of a prefix are listed.
+const LIST_PATH: &str = "/api/handles";
+
+/// Where JSON is answered.
+const JSON_PATH: &str = "/api/";
+
+/// How the values of a body are put into a handle.
+#[derive(Clone, Copy, Debug, PartialEq, Eq)]
+pub enum Way {
+    /// The handle is created; it isn't there.
+    Create,
+    /// The handle is created, or the values are put in the place of all that it has.
+    Replace,
+    /// Values that are there are modified, the others are added, and what isn't named stays.
+    Merge,
+    /// The values are added; none of their indexes is there.
+    Add,
+}
+
+/// Which page of a list: its number from 0 on, and how many handles a page has.
+#[derive(Clone, Copy, Debug, PartialEq, Eq)]
+pub struct Window {
+    pub page: u32,
+    pub size: u32,
+}
+
+/// What is done.
+#[derive(Drop)]
+pub enum Act {
+    /// The values of the body are put into the handle; where indexes are named, no others may be among them.
+    Put {
+        way: Way,
+        among: Option<Vec<u32>>,
+    },
+    Delete,
+    /// The values of these indexes are removed.
+    Remove {
+        indexes: Vec<u32>,
+    },
+    /// The handles of a prefix are listed: all of them, or a page. The name is the prefix's administrative handle.
+    List {
+        window: Option<Window>,
+    },
+    /// What the key may read is read: of these indexes or types, or where none is named all.
+    Read {
+        indexes: Vec<u32>,
+        types: Vec<Octets>,
+    },
+}
+
+/// What is done to which handle, by whose key.
+#[derive(Drop)]
+pub struct Order {
+    pub name: Name,
+    pub key: Key,
+    pub act: Act,
+}
+
+impl Order {
+    /// Whether it needs the body of its request.
+    pub fn takes_body(&self) -> bool {
+        matches!(self.act, Act::Put { .. })
+    }
+}
+
+/// What is to be done for a request.
+#[derive(Drop)]
+pub enum Begun {
+    /// It is answered.
+    Answer(Answer),
+    /// A server is to be asked.
+    Order(Order),
+    /// It is none that comes with a key.
+    Other,
+}
+
+/// A request's parts as they were sent: the query without its `?`, and the field `Authorization` if there is one.
+#[derive(Clone, Copy)]
+pub struct Sent<'a> {
+    pub method: &'a str,
+    pub path: &'a str,
+    pub query: &'a str,
+    pub authorization: Option<&'a [u8]>,
+}
+
+/// Why an address is refused.
+#[derive(Drop)]
+enum AddressFault {
+    Words(&'static str),
+    Memory,
+}
+
+impl From<AllocError> for AddressFault {
+    fn from(_: AllocError) -> AddressFault {
+        AddressFault::Memory
+    }
+}
+
+fn said(why: &'static str) -> AddressFault {
+    AddressFault::Words(why)
+}
+
+/// The indexes that the query names. None of them may stand twice.
+fn named_indexes(alloc: Global, pairs: &[Pair]) -> Result<Vec<u32>, AddressFault> {
+    match indexes_of(alloc, pairs)? {
+        Some(indexes) => Ok(indexes),
+        None => Err(said("An index is a number below 4294967296.")),
+    }
+}
+
+fn is_set(alloc: Global, pairs: &[Pair], name: &str) -> Result<Option<bool>, AddressFault> {
+    match last_named(alloc, pairs, name)? {
+        Some("true") => Ok(Some(true)),
+        Some("false") => Ok(Some(false)),
+        Some(_) => Err(said("The words overwrite and auth are true or false.")),
+        None => Ok(None),
+    }
+}
+
+/// Which indexes a body may have: any, or those that are named.
+fn among(alloc: Global, pairs: &[Pair]) -> Result<Option<Vec<u32>>, AddressFault> {
+    if values_named(alloc, pairs, "index")?
+        .iter()
+        .any(|word| *word == "various")
+    {
+        return Ok(None);
+    }
+    Ok(Some(named_indexes(alloc, pairs)?))
+}
+
+fn putting(alloc: Global, pairs: &[Pair]) -> Result<Act, AddressFault> {
+    let overwrites = is_set(alloc, pairs, "overwrite")?.unwrap_or(true);
+    if !has_pair(pairs, "index") {
+        let way = if overwrites {
+            Way::Replace
+        } else {
+            Way::Create
+        };
+        return Ok(Act::Put { way, among: None });
+    }
+    let way = if overwrites { Way::Merge } else { Way::Add };
+    let among = among(alloc, pairs)?;
+    Ok(Act::Put { way, among })
+}
+
+fn deleting(alloc: Global, pairs: &[Pair]) -> Result<Act, AddressFault> {
+    if !has_pair(pairs, "index") {
+        return Ok(Act::Delete);
+    }
+    let indexes = named_indexes(alloc, pairs)?;
+    Ok(Act::Remove { indexes })
+}
+
+fn reading(alloc: Global, pairs: &[Pair]) -> Result<Act, AddressFault> {
+    let indexes = named_indexes(alloc, pairs)?;
+    let types = types_of(alloc, pairs)?;
+    Ok(Act::Read { indexes, types })
+}
+
+/// What is done to a handle by this method.
+fn act_of(alloc: Global, method: &str, pairs: &[Pair]) -> Result<Act, AddressFault> {
+    match method {
+        "PUT" => putting(alloc, pairs),
+        "DELETE" => deleting(alloc, pairs),
+        _ => reading(alloc, pairs),
+    }
+}
+
+/// A number of the query, if it is there.
+fn counted(alloc: Global, pairs: &[Pair], name: &str) -> Result<Option<u32>, AddressFault> {
+    match last_named(alloc, pairs, name)? {
+        Some(text) => match text.parse::<u32>() {
+            Ok(number) => Ok(Some(number)),
+            Err(_) => Err(said("The words page and pageSize are numbers below 4294967296.")),
+        },
+        None => Ok(None),
+    }
+}
+
+fn listing(alloc: Global, pairs: &[Pair]) -> Result<Act, AddressFault> {
+    let page = counted(alloc, pairs, "page")?.unwrap_or(0);
+    let window = match counted(alloc, pairs, "pageSize")? {
+        Some(size) => Some(Window { page, size }),
+        None => None,
+    };
+    Ok(Act::List { window })
+}
+
+fn bad_address(alloc: Global, asked: &[u8], why: &str) -> Result<Begun, AllocError> {
+    let code = ResponseCode::InvalidHandle.number();
+    Ok(Begun::Answer(refusal(alloc, Status::BadRequest, asked, code, why)?))
+}
+
+/// The order of a handle's name, an act and the key that came with it, or why there is none.
+fn ordered(
+    alloc: Global,
+    octets: &[u8],
+    act: Result<Act, AddressFault>,
+    field: Option<&[u8]>,
+) -> Result<Begun, AllocError> {
+    let act = match act {
+        Ok(act) => act,
+        Err(AddressFault::Memory) => return Err(AllocError),
+        Err(AddressFault::Words(why)) => return bad_address(alloc, octets, why),
+    };
+    let name = match read_name(alloc, octets)? {
+        Ok(name) => name,
+        Err(fault) => {
+            let why = format!(in alloc; "This is no handle: {fault}.")?;
+            return bad_address(alloc, octets, &why);
+        }
+    };
+    match read_key(alloc, field) {
+        Ok(key) => Ok(Begun::Order(Order { name, key, act })),
+        Err(KeyFault::Memory) => Err(AllocError),
+        Err(fault) => Ok(Begun::Answer(no_key(alloc, octets, fault)?)),
+    }
+}
+
+/// That a request has no key, or none that can be read.
+fn no_key(alloc: Global, asked: &[u8], fault: KeyFault) -> Result<Answer, AllocError> {
+    let code = match fault {
+        KeyFault::Missing => ResponseCode::AuthenticationNeeded,
+        _ => ResponseCode::InvalidCredential,
+    };
+    let why = format!(in alloc; "{fault}")?;
+    refusal(alloc, Status::Unauthorized, asked, code.number(), &why)
+}
+
+/// The octets of the administrative handle of the prefix that is named.
+fn prefix_handle(alloc: Global, pairs: &[Pair]) -> Result<Vec<u8>, AllocError> {
+    let mut handle = Vec::from_slice(alloc, b"0.NA/")?;
+    if let Some(prefix) = last_named(alloc, pairs, "prefix")? {
+        handle.extend_from_slice(prefix.as_bytes())?;
+    }
+    Ok(handle)
+}
+
+fn begin_list(alloc: Global, sent: Sent<'_>, pairs: &[Pair]) -> Result<Begun, AllocError> {
+    let octets = prefix_handle(alloc, pairs)?;
+    ordered(alloc, &octets, listing(alloc, pairs), sent.authorization)
+}
+
+fn begin_handle(
+    alloc: Global,
+    sent: Sent<'_>,
+    text: &str,
+    pairs: &[Pair],
+) -> Result<Begun, AllocError> {
+    let octets = unescaped(alloc, text)?;
+    let act = act_of(alloc, sent.method, pairs);
+    ordered(alloc, &octets, act, sent.authorization)
+}
+
+/// What browsers are told that ask whether another page may send such requests: nothing but the fields of the answer.
+fn options(alloc: Global) -> Answer {
+    Answer {
+        status: Status::NoContent,
+        location: None,
+        media: Media::Json,
+        body: Vec::new(alloc),
+    }
+}
+
+fn other_method(alloc: Global, path: &str) -> Result<Begun, AllocError> {
+    let why = "A handle is asked for by GET or HEAD, and changed by PUT or DELETE.";
+    let code = ResponseCode::OperationDenied.number();
+    let answer = refusal(alloc, Status::MethodNotAllowed, path.as_bytes(), code, why)?;
+    Ok(Begun::Answer(answer))
+}
+
+/// A request that reads: with a key where that is asked for.
+fn begin_reading(alloc: Global, sent: Sent<'_>) -> Result<Begun, AllocError> {
+    let pairs = read_pairs(alloc, sent.query)?;
+    if sent.path == LIST_PATH {
+        return begin_list(alloc, sent, &pairs);
+    }
+    let Some(text) = sent.path.strip_prefix(HANDLES_PATH) else {
+        return Ok(Begun::Other);
+    };
+    match is_set(alloc, &pairs, "auth") {
+        Ok(Some(true)) => begin_handle(alloc, sent, text, &pairs),
+        Err(AddressFault::Memory) => Err(AllocError),
+        _ => Ok(Begun::Other),
+    }
+}
+
+fn begin_changing(alloc: Global, sent: Sent<'_>) -> Result<Begun, AllocError> {
+    match sent.path.strip_prefix(HANDLES_PATH) {
+        Some(text) => {
+            let pairs = read_pairs(alloc, sent.query)?;
+            begin_handle(alloc, sent, text, &pairs)
+        }
+        None => other_method(alloc, sent.path),
+    }
+}
+
+/// What is to be done for a request, where the proxy changes handles: PUT and DELETE of a handle's address under `/api/handles/`, GET of
+/// it with `auth=true`, and GET of `/api/handles`, each with a key; OPTIONS of any address under `/api/`. Every other request that reads is
+/// [`Begun::Other`].
+pub fn begin_with_key(alloc: Global, sent: Sent<'_>) -> Result<Begun, AllocError> {
+    if !sent.path.starts_with(JSON_PATH) {
+        return Ok(Begun::Other);
+    }
+    match sent.method {
+        "GET" | "HEAD" => begin_reading(alloc, sent),
+        "PUT" | "DELETE" => begin_changing(alloc, sent),
+        "OPTIONS" => Ok(Begun::Answer(options(alloc))),
+        _ => other_method(alloc, sent.path),
+    }
+}

@@ -1,0 +1,155 @@
+//! The record of a handle in JSON.
+
+ghost use Rattle.std.specs.Prelude.{◌≡◌, option_map, ◌+◌, ◌≤◌, ◌<◌, ◌^◌, ◌∷◌, [], length, map, IfOk, IfErr, IfNone};
+ghost use Rattle.hdl_limits.specs.declared.TheConstants.{WRITTEN_MAX};
+ghost use Rattle.hdl_value.specs.Reading.{Reads};
+ghost use Rattle.serde_json.specs.Data.{Data};
+ghost use Rattle.serde_json.specs.View.{view, items_view};
+ghost use Rattle.hdl_writes.specs.Entry.{value_told};
+ghost use Rattle.hdl_writes.specs.Record.{placed, values_from, has_index, twice_from, distinct_at, entries_told, listed_in, is_single, record_told, text_in, body_told, record_in, IsRecordFault};
+
+use crate::entry::value_told;
+use crate::fault::{EntryFault, RecordFault};
+use hdl_limits::WRITTEN_MAX;
+use hdl_value::Value;
+use serde_json::Value as Json;
+use std::alloc::{AllocError, Global};
+
+/// The value at this place of a record.
+fn placed(alloc: Global, place: u64, json: &Json) -> Result<Value, RecordFault>
+    ensures value { IfOk result (λ v. placed place (value_told (view json.now)) ≡ Ok v) }
+    ensures fault { IfErr result (IsRecordFault (placed place (value_told (view json.now)))) }
+{
+    match value_told(alloc, json) {
+        Ok(value) => Ok(value),
+        Err(EntryFault::Memory) => Err(RecordFault::Memory),
+        Err(fault) => Err(RecordFault::Entry { place, fault }),
+    }
+}
+
+/// The values that these are.
+fn values_in(alloc: Global, list: &[Json]) -> Result<Vec<Value>, RecordFault>
+    ensures value { IfOk result (λ v. values_from 1 (map view list.now) ≡ Ok v.items) }
+    ensures fault { IfErr result (IsRecordFault (values_from 1 (map view list.now))) }
+{
+    let mut values = Vec::new(alloc);
+    let mut place = 1;
+    for json in list {
+        values.push(placed(alloc, place, json)?)?;
+        place += 1;
+    }
+    Ok(values)
+}
+
+/// Whether one of these has this index.
+pub(crate) fn has_index(index: u32, values: &[Value]) -> bool
+    ensures { result ≡ has_index index values.now }
+{
+    values.iter().any(|value| value.index == index)
+}
+
+/// The place of the first value whose index stands behind it again; the first of these values is at `place`.
+fn twice_from(place: u64, values: &[Value]) -> Option<u64>
+    requires { place + length values.now < 2 ^ 64 }
+    ensures { result ≡ twice_from place values.now }
+{
+    let [value, rest @ ..] = values else {
+        return None;
+    };
+    if has_index(value.index, rest) {
+        return Some(place);
+    }
+    twice_from(place + 1, rest)
+}
+
+/// A record of these values: one or more, not too many, no index twice.
+#[tactic(auto, unfolding(crate::specs::Record::entries_told))]
+fn entries_told(alloc: Global, list: &[Json]) -> Result<Vec<Value>, RecordFault>
+    ensures value { IfOk result (λ v. entries_told (map view list.now) ≡ Ok v.items) }
+    ensures fault { IfErr result (IsRecordFault (entries_told (map view list.now))) }
+{
+    if list.is_empty() {
+        return Err(RecordFault::Empty);
+    }
+    if list.len() > WRITTEN_MAX {
+        return Err(RecordFault::Many);
+    }
+    let values = values_in(alloc, list)?;
+    match twice_from(1, &values) {
+        None => Ok(values),
+        Some(place) => Err(RecordFault::Twice { place }),
+    }
+}
+
+/// The list in a body: the body, or its member `values`.
+fn listed_in(json: &Json) -> Option<&[Json]>
+    ensures { Reads (λ list. items_view list.now) result (listed_in (view json.now)) }
+{
+    if let Some(list) = json.as_array() {
+        return Some(list);
+    }
+    Some(json.get("values")?.as_array()?)
+}
+
+/// A record that is one value.
+#[tactic(auto, unfolding(crate::specs::Record::entries_told))]
+fn single_told(alloc: Global, json: &Json) -> Result<Vec<Value>, RecordFault>
+    ensures value { IfOk result (λ v. entries_told (view json.now ∷ []) ≡ Ok v.items) }
+    ensures fault { IfErr result (IsRecordFault (entries_told (view json.now ∷ []))) }
+{
+    let mut values = Vec::new(alloc);
+    values.push(placed(alloc, 1, json)?)?;
+    Ok(values)
+}
+
+/// The record that a body means: an object with a list of values as its `values`, such a list, or one value.
+#[tactic(auto, using(crate::proofs::Items::each_items_of), unfolding(crate::specs::Record::record_told))]
+fn record_told(alloc: Global, json: &Json) -> Result<Vec<Value>, RecordFault>
+    ensures value { IfOk result (λ v. record_told (view json.now) ≡ Ok v.items) }
+    ensures fault { IfErr result (IsRecordFault (record_told (view json.now))) }
+{
+    if let Some(list) = listed_in(json) {
+        return entries_told(alloc, list);
+    }
+    if json.is_object() && json.get("values").is_none() {
+        return single_told(alloc, json);
+    }
+    Err(RecordFault::Shape)
+}
+
+/// A body as text.
+fn text_in(body: &[u8]) -> Option<&str>
+    ensures { Reads (λ t. t.now) result (text_in body.now) }
+{
+    match str::from_utf8(body) {
+        Ok(text) => Some(text),
+        _ => None,
+    }
+}
+
+/// The JSON that a body is, if it is some.
+fn body_told(alloc: Global, body: &[u8]) -> Result<Option<Json>, AllocError>
+    ensures { IfOk result (λ o. option_map view o ≡ body_told body.now) }
+{
+    let Some(text) = text_in(body) else {
+        return Ok(None);
+    };
+    match Json::from_str(alloc, text) {
+        Ok(json) => Ok(Some(json)),
+        Err(error) if error.is_memory() => Err(AllocError),
+        Err(_) => Ok(None),
+    }
+}
+
+/// The record that a body means, or the first thing that is wrong with it: it is no JSON; it has no list of values, an empty one, or one
+/// that is too long; then the first value that is none, by its fields in their order; then an index that stands twice.
+#[tactic(auto, unfolding(crate::specs::Record::record_in))]
+pub fn read_record(alloc: Global, body: &[u8]) -> Result<Vec<Value>, RecordFault>
+    ensures value { IfOk result (λ v. record_in body.now ≡ Ok v.items) }
+    ensures fault { IfErr result (IsRecordFault (record_in body.now)) }
+{
+    match body_told(alloc, body)? {
+        Some(json) => record_told(alloc, &json),
+        None => Err(RecordFault::Json),
+    }
+}

@@ -1,0 +1,108 @@
+//! What is answered to a change. Nothing here is handed a key.
+
+ghost use Rattle.std.specs.Prelude.{◌≡◌, ◌++◌, map, IfOk, OnOk};
+ghost use Rattle.hdl_proxy.specs.Answer.{Tells};
+ghost use Rattle.hdl_writes.specs.Told.{status_of_change, change_words};
+
+use hdl_msg::{RequestBody, ResponseCode};
+use hdl_proxy::{Answer, Media, Status, json_answer, put_text, refusal};
+use serde_json::{Map, Value as Json, put};
+use std::alloc::{AllocError, Global};
+
+/// The status of a change's code: what isn't there isn't found, what is there already is a conflict, values and names that are none are
+/// the client's fault, a key that is no administrator or isn't proved isn't authorized, and one that lacks a permission is forbidden.
+pub(crate) fn status_of_change(code: u32) -> Status
+    ensures { result ≡ status_of_change code }
+{
+    match code {
+        1 => Status::Success,
+        100 | 200 | 302 => Status::NotFound,
+        101 | 201 => Status::Conflict,
+        102 | 202 => Status::BadRequest,
+        400 | 402 | 403 | 404 | 405 | 406 => Status::Unauthorized,
+        5 | 401 => Status::Forbidden,
+        3 => Status::Unavailable,
+        _ => Status::BadGateway,
+    }
+}
+
+/// What a change's code says.
+pub(crate) fn change_words(code: u32) -> &'static str
+    ensures { result.now ≡ change_words code }
+{
+    match code {
+        2 => "The server's answer would be too long.",
+        3 => "The server is busy. Please try again.",
+        5 => "The server doesn't do this.",
+        100 => "This handle isn't there.",
+        101 => "This handle is there already.",
+        102 => "The server says that this is no handle.",
+        200 => "A value isn't there, or isn't to be read.",
+        201 => "A value of such an index is there already.",
+        202 =>
+            "The server refuses the values: a record has an HS_ADMIN value, and at most 1024 values.",
+        302 => "No server that was asked has handles of this prefix.",
+        400 => "The key is no administrator of this handle.",
+        401 => "The key lacks a permission for this.",
+        403 => "The secret isn't that of the key.",
+        406 => "There is no such key.",
+        _ => "The server couldn't answer.",
+    }
+}
+
+/// The word of a request.
+fn step_word(body: &RequestBody) -> &'static str {
+    match body {
+        RequestBody::Create { .. } => "create",
+        RequestBody::Delete { .. } => "delete",
+        RequestBody::Add { .. } => "add",
+        RequestBody::Remove { .. } => "remove",
+        RequestBody::Modify { .. } => "modify",
+        RequestBody::List { .. } => "list",
+        RequestBody::Resolution { .. } => "resolve",
+        RequestBody::Response { .. } => "response",
+    }
+}
+
+/// That a change was done.
+pub(crate) fn success(alloc: Global, handle: &[u8], status: Status) -> Result<Answer, AllocError>
+    ensures told { IfOk result (Tells status Media.Json) }
+{
+    let mut object = Map::new(alloc);
+    let code = ResponseCode::Success.number();
+    put(&mut object, alloc, "responseCode", Json::from(code))?;
+    put_text(alloc, &mut object, "handle", handle)?;
+    json_answer(alloc, status, &Json::from(object))
+}
+
+/// The words of these requests.
+fn step_words(alloc: Global, steps: &[RequestBody]) -> Result<Json, AllocError> {
+    let mut words = Vec::new(alloc);
+    for step in steps {
+        let word = String::from_str(alloc, step_word(step))?;
+        words.push(Json::from(word))?;
+    }
+    Ok(Json::from(words))
+}
+
+/// That a change wasn't done, or not whole: what of it was done, by its requests.
+pub(crate) fn failure(
+    alloc: Global,
+    handle: &[u8],
+    status: Status,
+    code: u32,
+    why: &str,
+    done: &[RequestBody],
+) -> Result<Answer, AllocError>
+    ensures told { IfOk result (Tells status Media.Json) }
+{
+    if done.is_empty() {
+        return refusal(alloc, status, handle, code, why);
+    }
+    let mut object = Map::new(alloc);
+    put(&mut object, alloc, "responseCode", Json::from(code))?;
+    put_text(alloc, &mut object, "handle", handle)?;
+    put_text(alloc, &mut object, "message", why.as_bytes())?;
+    put(&mut object, alloc, "done", step_words(alloc, done)?)?;
+    json_answer(alloc, status, &Json::from(object))
+}
