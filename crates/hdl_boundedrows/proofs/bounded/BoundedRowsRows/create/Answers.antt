@@ -1,0 +1,32 @@
+use Rattle.std.proofs.Common.{ap, sym, refl, ◌∙◌}
+use Rattle.hdl_name.specs.Name.{canonical, prefix}
+use Rattle.hdl_boundedrows.specs.Amount.{in_values, in_octets, with_handle, capped}
+use Rattle.hdl_boundedrows.specs.Bounded.{Bounded, none}
+use Rattle.hdl_boundedrows.proofs.Counts.{settled_as, within_as, uncounted, uncounted_within}
+use Rattle.hdl_boundedrows.proofs.bounded.BoundedRowsRows.create.Goals as goal
+
+pub returns-then-not-count-clause-settled : goal.returns-then-not-count-clause-settled
+returns-then-not-count-clause-settled g c =
+    uncounted c.prefix-prefix.result.now (prefix c.args.name.now) c.prefix-prefix.ensures (λ m. with_handle m (canonical c.args.name.now) c.args.values.now) none c.self.inside.accounts c.args.self.now.holdings (ap (λ (b : Bounded). b.holdings) c.self.view_is) c.create.result c.count.result c.count.ensures c.if-not-count.true
+
+pub returns-then-not-count-clause-within : goal.returns-then-not-count-clause-within
+returns-then-not-count-clause-within g c =
+    uncounted_within c.prefix-prefix.result.now (prefix c.args.name.now) c.prefix-prefix.ensures (λ m. with_handle m (canonical c.args.name.now) c.args.values.now) none c.self.inside.accounts c.args.self.now.holdings (ap (λ (b : Bounded). b.holdings) c.self.view_is) c.create.result c.count.result c.count.ensures c.if-not-count.true
+
+pub returns-clause-settled : goal.returns-clause-settled
+returns-clause-settled g c =
+    settled_as c.prefix-prefix.result.now (prefix c.args.name.now) c.prefix-prefix.ensures (λ m. with_handle m (canonical c.args.name.now) c.args.values.now) none c.self.inside.accounts c.args.self.now.holdings (ap (λ (b : Bounded). b.holdings) c.self.view_is) _ (record {
+      gain_values = c.handle_amount.ensures.values ∙ ap (λ h. capped (with_handle in_values h c.args.values.now)) c.canon.ensures;
+      gain_octets = c.handle_amount.ensures.octets ∙ ap (λ h. capped (with_handle in_octets h c.args.values.now)) c.canon.ensures;
+      back_values = refl;
+      back_octets = refl;
+    }) _ c.settle.ensures
+
+pub returns-clause-within : goal.returns-clause-within
+returns-clause-within g c =
+    within_as c.prefix-prefix.result.now (prefix c.args.name.now) c.prefix-prefix.ensures (λ m. with_handle m (canonical c.args.name.now) c.args.values.now) none c.self.inside.accounts c.args.self.now.holdings (ap (λ (b : Bounded). b.holdings) c.self.view_is) _ (record {
+      gain_values = c.handle_amount.ensures.values ∙ ap (λ h. capped (with_handle in_values h c.args.values.now)) c.canon.ensures;
+      gain_octets = c.handle_amount.ensures.octets ∙ ap (λ h. capped (with_handle in_octets h c.args.values.now)) c.canon.ensures;
+      back_values = refl;
+      back_octets = refl;
+    }) (sym c.in_ok-permit.ensures.permitted)

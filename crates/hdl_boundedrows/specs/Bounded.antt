@@ -1,0 +1,93 @@
+-- A table with bounds: whose handles count for whom, and what a write makes of the counts.
+use Rattle.std.specs.Prelude.{refl, ◌≡◌, ◌≤◌, max, ℕ, List, Bool, true, not, ◌&&◌, ◌||◌, if◌then◌else◌}
+use Rattle.std.specs.List.{list_any, list_all}
+use Rattle.std.specs.Str.{bytes_eq}
+use Rattle.std.specs.Coded.{Coded, code_by, coded×, coded_ℕ, coded_list}
+use Rattle.hdl_name.specs.Name.{prefix}
+use Rattle.hdl_rows.specs.Table.{Table, table_code}
+use Rattle.hdl_boundedrows.specs.declared.amount.Amount.{Amount}
+use Rattle.hdl_boundedrows.specs.declared.account.Account.{Account}
+use Rattle.hdl_boundedrows.specs.declared.account.Change.{Change}
+use Rattle.hdl_boundedrows.specs.Amount.{Measure, in_values, in_octets, capped, moved, may_become}
+
+-- ---- what is kept
+
+-- whether this is the prefix of one of these administrative handles
+abbrev pub is_among : List (List ℕ) → List ℕ → Bool
+is_among roots p = list_any (λ r. bytes_eq (prefix r) p) roots
+
+-- whether handles of this prefix count
+abbrev pub has_prefix : Account → List ℕ → Bool
+has_prefix a p = is_among a.bound.roots.items p
+
+abbrev pub is_counted : List Account → List ℕ → Bool
+is_counted accounts p = list_any (λ a. has_prefix a p) accounts
+
+-- what is held after a change
+abbrev pub held_after : Change → Amount → Amount
+held_after c held = record { values = moved held.values c.gain.values c.back.values; octets = moved held.octets c.gain.octets c.back.octets }
+
+-- whether the publisher may hold that
+abbrev pub may_change : Account → Change → Bool
+may_change a c = may_become a.bound.most.values a.held.values (held_after c a.held).values && may_become a.bound.most.octets a.held.octets (held_after c a.held).octets
+
+-- an account once a handle of this prefix changed
+abbrev pub after_change : List ℕ → Change → Account → Account
+after_change p c a = if has_prefix a p then record a { held = held_after c a.held } else a
+
+-- the change is nothing to the publisher, or one that it may make
+abbrev pub is_permitted : List ℕ → Change → Account → Bool
+is_permitted p c a = not (has_prefix a p) || may_change a c
+
+abbrev pub are_permitted : List Account → List ℕ → Change → Bool
+are_permitted accounts p c = list_all (is_permitted p c) accounts
+
+-- ---- what a contract sees
+
+-- What is counted for a publisher: the administrative handles of its prefixes, the most that these may count, and what is held as far as it is counted.
+pub record Holding : Type 0 where
+  pub roots : List (List ℕ)
+  pub most_values : ℕ
+  pub most_octets : ℕ
+  pub values : ℕ
+  pub octets : ℕ
+
+abbrev pub holding_of : Account → Holding
+holding_of a = record { roots = a.bound.roots.items; most_values = a.bound.most.values; most_octets = a.bound.most.octets; values = a.held.values; octets = a.held.octets }
+
+-- what the table holds, how many calls were refused by it or by a bound, and what is counted for each publisher with a bound
+pub record Bounded : Type 0 where
+  pub table : Table
+  pub refused : ℕ
+  pub holdings : List Holding
+
+-- what is counted once so much was gained and so much given back
+abbrev pub moved_by : (Measure → ℕ) → (Measure → ℕ) → Holding → Holding
+moved_by gain back h = record h { values = moved h.values (capped (gain in_values)) (capped (back in_values)); octets = moved h.octets (capped (gain in_octets)) (capped (back in_octets)) }
+
+-- What a write of a handle of this prefix makes of it, by what it gains and what it gives back: nothing where they don't count.
+abbrev pub settled : List ℕ → (Measure → ℕ) → (Measure → ℕ) → Holding → Holding
+settled p gain back h = if is_among h.roots p then moved_by gain back h else h
+
+-- nothing
+abbrev pub none : Measure → ℕ
+none _ = 0
+
+-- the count is within the bound, or no more than it was
+abbrev pub IsBelow : Holding → Holding → Type 0
+IsBelow old new = (new.values ≤ max old.most_values old.values) × (new.octets ≤ max old.most_octets old.octets)
+
+-- the same, where handles of this prefix count
+abbrev pub IsWithin : List ℕ → Holding → Holding → Type 0
+IsWithin p old new = is_among old.roots p ≡ true → IsBelow old new
+
+abbrev pub holding_code : Coded Holding
+holding_code =
+    code_by (List (List ℕ) × (ℕ × (ℕ × (ℕ × ℕ)))) (coded× (coded_list (coded_list coded_ℕ)) (coded× coded_ℕ (coded× coded_ℕ (coded× coded_ℕ coded_ℕ))))
+    (λ h. (h.roots, (h.most_values, (h.most_octets, (h.values, h.octets)))))
+    (λ p. record { roots = p.0; most_values = p.1.0; most_octets = p.1.1.0; values = p.1.1.1.0; octets = p.1.1.1.1 }) (λ _. refl)
+
+abbrev pub bounded_code : Coded Bounded
+bounded_code =
+    code_by (Table × (ℕ × List Holding)) (coded× table_code (coded× coded_ℕ (coded_list holding_code)))
+    (λ b. (b.table, (b.refused, b.holdings))) (λ p. record { table = p.0; refused = p.1.0; holdings = p.1.1 }) (λ _. refl)

@@ -1,0 +1,228 @@
+//! What a publisher holds, and how much it may.
+
+ghost use Rattle.std.specs.Prelude.{◌≡◌, map, [], ◌∷◌, ◌++◌, OnOk};
+ghost use Rattle.hdl_boundedrows.specs.Amount as spec;
+ghost use Rattle.hdl_boundedrows.specs.Bounded as bounded;
+ghost use Rattle.hdl_boundedrows.specs.Bounded.{is_among, has_prefix, is_counted, are_permitted, after_change, may_change};
+
+use crate::amount::{Amount, handle_amount, values_amount};
+use hdl_name::Name;
+use hdl_rows::Refused;
+use hdl_value::Value;
+use std::alloc::{AllocError, Global};
+use std::marker::Model;
+use std::slice;
+
+/// The authority of the administrative handles, which nobody hosts.
+const ROOT: &[u8] = b"0.na";
+
+/// How much a publisher may hold.
+#[derive(Debug, Drop)]
+pub struct Bound {
+    /// The publisher's name, for who is told of it.
+    pub publisher: String,
+    /// The most that the handles of its prefixes may count.
+    pub most: Amount,
+    /// The administrative handles of these prefixes, such as 0.NA/10.
+    pub(crate) roots: Vec<Name>,
+}
+
+impl Bound {
+    /// The bound of a publisher, of which no handle counts yet.
+    pub fn new(alloc: Global, publisher: String, most: Amount) -> Bound {
+        Bound {
+            publisher,
+            most,
+            roots: Vec::new(alloc),
+        }
+    }
+
+    /// From now on the handles of a prefix count, named by its administrative handle, which counts too. A prefix counts once; another
+    /// handle than an administrative one changes nothing, and neither does 0.NA/0.NA.
+    pub fn add(&mut self, root: Name) -> Result<(), AllocError> {
+        let prefix = root.prefix();
+        if !root.is_admin_handle() || prefix == ROOT || self.has(prefix) {
+            return Ok(());
+        }
+        self.roots.push(root)?;
+        Ok(())
+    }
+
+    /// Whether handles of this prefix count.
+    pub(crate) fn has(&self, prefix: &[u8]) -> bool
+        ensures { result ≡ is_among self.now.roots.items prefix.now }
+    {
+        self.roots.iter().any(|root| root.prefix() == prefix)
+    }
+
+    /// What the rows of a text count, each handle once.
+    pub fn opened(&self, alloc: Global, rows: &[(Name, Value)]) -> Result<Amount, AllocError> {
+        let mut handles = Vec::new(alloc);
+        let mut sum = Amount::NONE;
+        for row in rows {
+            if self.has(row.0.prefix()) {
+                handles.push(row.0.canon())?;
+                sum = sum.plus(values_amount(slice::from_ref(&row.1)));
+            }
+        }
+        handles.sort()?;
+        let mut last: Option<&[u8]> = None;
+        for handle in handles {
+            if last != Some(handle) {
+                sum = sum.plus(handle_amount(handle, &[]));
+                last = Some(handle);
+            }
+        }
+        Ok(sum)
+    }
+}
+
+/// What a write makes of a count.
+#[derive(Clone, Copy, Debug, Drop)]
+pub(crate) struct Change {
+    pub(crate) gain: Amount,
+    pub(crate) back: Amount,
+}
+
+/// A bound, and what is held.
+#[derive(Drop)]
+pub(crate) struct Account {
+    pub(crate) bound: Bound,
+    pub(crate) held: Amount,
+}
+
+/// A count once some was given back and some gained. The greatest stays.
+fn moved(held: u64, gain: u64, back: u64) -> u64
+    ensures { result ≡ spec.moved held gain back }
+{
+    if held == u64::MAX {
+        return held;
+    }
+    held.saturating_sub(back).saturating_add(gain)
+}
+
+/// Whether a count may become this.
+fn may_become(bound: u64, held: u64, next: u64) -> bool
+    ensures { result ≡ spec.may_become bound held next }
+{
+    next < u64::MAX && (next <= bound || next <= held)
+}
+
+impl Amount {
+    /// What is held after a change.
+    fn after(self, change: Change) -> Amount
+        ensures values { result.values ≡ spec.moved self.values change.gain.values change.back.values }
+        ensures octets { result.octets ≡ spec.moved self.octets change.gain.octets change.back.octets }
+    {
+        Amount {
+            values: moved(self.values, change.gain.values, change.back.values),
+            octets: moved(self.octets, change.gain.octets, change.back.octets),
+        }
+    }
+}
+
+impl Account {
+    /// Whether handles of this prefix count.
+    fn counts(&self, prefix: &[u8]) -> bool
+        ensures { result ≡ has_prefix self.now prefix.now }
+    {
+        self.bound.roots.iter().any(|root| root.prefix() == prefix)
+    }
+
+    /// Whether the publisher may hold what a change makes of it.
+    fn may_take(&self, change: Change) -> bool
+        ensures { result ≡ may_change self.now change }
+    {
+        let next = self.held.after(change);
+        may_become(self.bound.most.values, self.held.values, next.values)
+            && may_become(self.bound.most.octets, self.held.octets, next.octets)
+    }
+
+    /// Whether the change of a handle of this prefix is nothing to the publisher, or one that it may make.
+    fn is_permitted(&self, prefix: &[u8], change: Change) -> bool
+        ensures { result ≡ bounded.is_permitted prefix.now change self.now }
+    {
+        !self.counts(prefix) || self.may_take(change)
+    }
+
+    /// Counts the change of a handle of this prefix.
+    fn take(&mut self, prefix: &[u8], change: Change)
+        ensures { self.new ≡ after_change prefix.now change self.old }
+    {
+        if self.counts(prefix) {
+            self.held = self.held.after(change);
+        }
+    }
+}
+
+/// The accounts of all publishers that have a bound. Contracts see the list of them.
+#[derive(Drop)]
+pub(crate) struct Accounts {
+    all: Vec<Account>,
+}
+
+impl Model for Accounts {
+    ghost use Rattle.std.specs.Prelude.{List};
+    ghost use Rattle.hdl_boundedrows.specs.declared.account.Account.{Account};
+
+    ghost Value = { List Account };
+
+    ghost view = { λ s. s.all.items };
+}
+
+impl Accounts {
+    /// Nobody has a bound.
+    pub(crate) fn new(alloc: Global) -> Accounts
+        ensures { result ≡ [] }
+    {
+        Accounts {
+            all: Vec::new(alloc),
+        }
+    }
+
+    /// One more.
+    pub(crate) fn push(&mut self, account: Account) -> Result<(), Refused>
+        ensures { OnOk result (self.new ≡ self.old ++ account ∷ []) }
+    {
+        match self.all.push(account) {
+            Ok(()) => Ok(()),
+            Err(_) => Err(Refused),
+        }
+    }
+
+    /// Whether a handle of this prefix counts for somebody.
+    pub(crate) fn count(&self, prefix: &[u8]) -> bool
+        ensures { result ≡ is_counted self.now prefix.now }
+    {
+        self.all.iter().any(|account| account.counts(prefix))
+    }
+
+    /// Whether everybody for whom handles of this prefix count may hold what a change makes of it.
+    pub(crate) fn permit(&self, prefix: &[u8], change: Change) -> bool
+        ensures { result ≡ are_permitted self.now prefix.now change }
+    {
+        self.all
+            .iter()
+            .all(|account| account.is_permitted(prefix, change))
+    }
+
+    /// The place of the first publisher that may not, and its bound.
+    pub(crate) fn first_beyond(&self, prefix: &[u8], change: Change) -> Option<(usize, &Bound)> {
+        for place in 0..self.all.len() {
+            let account = &self.all[place];
+            if !account.is_permitted(prefix, change) {
+                return Some((place, &account.bound));
+            }
+        }
+        None
+    }
+
+    /// Counts the change of a handle of this prefix.
+    pub(crate) fn settle(&mut self, prefix: &[u8], change: Change)
+        ensures { self.new ≡ map (after_change prefix.now change) self.old }
+    {
+        for account in self.all.iter_mut() {
+            account.take(prefix, change);
+        }
+    }
+}

@@ -1,0 +1,145 @@
+//! What handles and their values count. The greatest number stands for those that are more, so no sum can wrap.
+
+ghost use Rattle.std.specs.Prelude.{◌≡◌, ◌+◌, map, sum_by};
+ghost use Rattle.hdl_rows.specs.Table.{indexes as indexes_of};
+ghost use Rattle.hdl_boundedrows.specs.Amount as spec;
+ghost use Rattle.hdl_boundedrows.specs.Amount.{capped, in_values, in_octets, with_handle, values_at};
+
+use hdl_rows::value_with;
+use hdl_value::{RawRef, Value};
+use std::fmt;
+
+/// Octets that a handle counts beside its name, and a value beside its type, data and references. So small rows have a bound too.
+const ROW_OCTETS: u64 = 64;
+
+/// Octets that a reference counts beside its handle.
+const REFERENCE_OCTETS: u64 = 16;
+
+/// So many values, and so many octets.
+#[derive(Clone, Copy, Debug, PartialEq, Eq, Drop)]
+pub struct Amount {
+    /// A handle by itself is none.
+    pub values: u64,
+    /// Of each handle 64 and those of its name; of each value 64 and those of its type and its data, and for each reference 16 and those of its handle.
+    pub octets: u64,
+}
+
+impl fmt::Display for Amount {
+    fn fmt<W: fmt::Write>(&self, f: &mut fmt::Formatter<W>) -> fmt::Result {
+        let Amount { values, octets } = *self;
+        write!(f, "{values} values and {octets} octets")
+    }
+}
+
+impl Amount {
+    /// Nothing.
+    pub(crate) const NONE: Amount = Amount {
+        values: 0,
+        octets: 0,
+    };
+
+    /// Whether there is no more of this than of the other.
+    pub fn fits(self, most: Amount) -> bool {
+        self.values <= most.values && self.octets <= most.octets
+    }
+
+    /// Both together.
+    pub(crate) fn plus(self, other: Amount) -> Amount
+        ensures values { result.values ≡ capped (self.values + other.values) }
+        ensures octets { result.octets ≡ capped (self.octets + other.octets) }
+    {
+        Amount {
+            values: self.values.saturating_add(other.values),
+            octets: self.octets.saturating_add(other.octets),
+        }
+    }
+}
+
+fn references_octets(refs: &[RawRef]) -> u64
+    ensures { result ≡ capped (sum_by spec.reference_octets refs.now) }
+{
+    let mut sum: u64 = 0;
+    for r in refs {
+        let handle = r.handle.as_slice().len() as u64;
+        sum = sum.saturating_add(REFERENCE_OCTETS).saturating_add(handle);
+    }
+    sum
+}
+
+fn value_octets(value: &Value) -> u64
+    ensures { result ≡ capped (spec.value_octets value.now) }
+{
+    let kind = value.kind.as_slice().len() as u64;
+    let bytes = value.bytes.as_slice().len() as u64;
+    let refs = references_octets(value.refs.as_slice());
+    ROW_OCTETS
+        .saturating_add(kind)
+        .saturating_add(bytes)
+        .saturating_add(refs)
+}
+
+fn value_amount(value: &Value) -> Amount
+    ensures values { result.values ≡ capped (in_values.value value.now) }
+    ensures octets { result.octets ≡ capped (in_octets.value value.now) }
+{
+    Amount {
+        values: 1,
+        octets: value_octets(value),
+    }
+}
+
+/// What values count.
+pub(crate) fn values_amount(values: &[Value]) -> Amount
+    ensures values { result.values ≡ capped (sum_by in_values.value values.now) }
+    ensures octets { result.octets ≡ capped (sum_by in_octets.value values.now) }
+{
+    let mut sum = Amount::NONE;
+    for value in values {
+        sum = sum.plus(value_amount(value));
+    }
+    sum
+}
+
+/// What a handle counts with these values.
+pub(crate) fn handle_amount(name: &[u8], values: &[Value]) -> Amount
+    ensures values { result.values ≡ capped (with_handle in_values name.now values.now) }
+    ensures octets { result.octets ≡ capped (with_handle in_octets name.now values.now) }
+{
+    let octets = ROW_OCTETS.saturating_add(name.len() as u64);
+    values_amount(values).plus(Amount { values: 0, octets })
+}
+
+/// What the value at an index counts, nothing where there is none.
+fn amount_at(held: &[Value], index: u32) -> Amount
+    ensures values { result.values ≡ capped (spec.value_at in_values held.now index) }
+    ensures octets { result.octets ≡ capped (spec.value_at in_octets held.now index) }
+{
+    match value_with(held, index) {
+        Some(value) => value_amount(value),
+        None => Amount::NONE,
+    }
+}
+
+/// What those count that stand at these indexes.
+pub(crate) fn amount_of_indexes(held: &[Value], indexes: &[u32]) -> Amount
+    ensures values { result.values ≡ capped (values_at in_values held.now indexes.now) }
+    ensures octets { result.octets ≡ capped (values_at in_octets held.now indexes.now) }
+{
+    let mut sum = Amount::NONE;
+    for index in indexes {
+        sum = sum.plus(amount_at(held, *index));
+    }
+    sum
+}
+
+/// What those count that stand at the indexes of these values.
+pub(crate) fn amount_of_replaced(held: &[Value], values: &[Value]) -> Amount
+    ensures values { result.values ≡ capped (values_at in_values held.now (indexes_of values.now)) }
+    ensures octets { result.octets ≡ capped (values_at in_octets held.now (indexes_of values.now)) }
+{
+    let mut sum = Amount::NONE;
+    for value in values {
+        sum = sum.plus(amount_at(held, value.index));
+    }
+    sum
+}

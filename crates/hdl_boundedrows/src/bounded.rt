@@ -1,0 +1,329 @@
+//! The table.
+
+ghost use Rattle.std.specs.Prelude.{◌≡◌, ◌+◌, min, true, false, map, sum_by, is_some, is_ok, IfOk, OnOk, OnErr};
+ghost use Rattle.hdl_boundedrows.specs.Bounded.{are_permitted, none, settled, IsWithin};
+ghost use Rattle.std.specs.List.{AllByRecursion};
+ghost use Rattle.hdl_boundedrows.specs.Amount.{with_handle, values_at};
+ghost use Rattle.hdl_name.specs.Name.{canonical, prefix};
+ghost use Rattle.hdl_value.specs.Refs.{place_of};
+ghost use Rattle.hdl_rows.specs.Table.{most, counted, has, at, values_of, values_in, names_of, HaveTheirIndexes, created, with_values, without_values, without_handle, AreDistinct, AreAbsent, ArePresent, indexes};
+
+use crate::account::{Account, Accounts, Bound, Change};
+use crate::amount::{Amount, amount_of_indexes, amount_of_replaced, handle_amount, values_amount};
+use hdl_name::Name;
+use hdl_rows::{Refused, Rows};
+use hdl_value::{Octets, Reference, Value};
+use std::alloc::Global;
+use std::marker::Model;
+
+/// Who is told of each write that a bound refused.
+pub trait Alarm {
+    /// The publisher at this place among the bounds would have more than its bound.
+    fn ring(&mut self, place: usize, bound: &Bound);
+}
+
+/// A table with a bound for each of some publishers. Contracts see what the table holds, how many calls were refused by it or by a bound,
+/// and what is counted for each publisher with a bound.
+#[derive(Drop)]
+pub struct BoundedRows<R: Rows + Drop, A: Alarm + Drop> {
+    rows: R,
+    accounts: Accounts,
+    refusals: u64,
+    alarm: A,
+}
+
+impl<R: Rows + Drop, A: Alarm + Drop> Model for BoundedRows<R, A> {
+    ghost use Rattle.std.specs.Prelude.{◌+◌, min, map};
+    ghost use Rattle.hdl_rows.specs.Table.{most};
+    ghost use Rattle.hdl_boundedrows.specs.Bounded.{Bounded, bounded_code, holding_of};
+
+    ghost Value = { Bounded };
+
+    ghost coded = { bounded_code };
+
+    ghost view = { λ s. record { table = R.content s.rows; refused = min (R.refused s.rows + s.refusals) most; holdings = map holding_of s.accounts } };
+}
+
+/// Refuses a write that would take a publisher beyond its bound, counts that, and tells of it.
+fn permit<A: Alarm>(
+    accounts: &Accounts,
+    refusals: &mut u64,
+    alarm: &mut A,
+    prefix: &[u8],
+    change: Change,
+) -> Result<(), Refused>
+    ensures permitted { is_ok result ≡ are_permitted accounts.now prefix.now change }
+    ensures count { refusals.new ≡ counted result refusals.old }
+{
+    if accounts.permit(prefix, change) {
+        return Ok(());
+    }
+    if let Some((place, bound)) = accounts.first_beyond(prefix, change) {
+        alarm.ring(place, bound);
+    }
+    *refusals = refusals.saturating_add(1);
+    Err(Refused)
+}
+
+/// What the handles of a prefix count, its administrative handle among them.
+fn held_under<R: Rows>(alloc: Global, rows: &mut R, root: &Name) -> Result<Amount, Refused>
+    ensures unchanged { R.content rows.new ≡ R.content rows.old }
+{
+    let mut sum = match rows.look(root)? {
+        Some(values) => handle_amount(root.canon(), &values),
+        None => Amount::NONE,
+    };
+    for handle in rows.names(root.prefix())? {
+        let Ok(name) = Name::read(alloc, handle.as_slice()) else {
+            return Err(Refused);
+        };
+        if name.canon() != handle.as_slice() {
+            return Err(Refused);
+        }
+        let values = rows.values(&name)?;
+        sum = sum.plus(handle_amount(handle.as_slice(), &values));
+    }
+    Ok(sum)
+}
+
+/// What the handles of these prefixes count.
+fn held_by<R: Rows>(alloc: Global, rows: &mut R, roots: &[Name]) -> Result<Amount, Refused>
+    ensures unchanged { R.content rows.new ≡ R.content rows.old }
+{
+    let mut sum = Amount::NONE;
+    for root in roots {
+        sum = sum.plus(held_under(alloc, rows, root)?);
+    }
+    Ok(sum)
+}
+
+impl<R: Rows + Drop, A: Alarm + Drop> BoundedRows<R, A> {
+    /// A table that is there already, with these bounds. What each publisher holds is counted.
+    ///
+    /// Refused where the table refuses a look, for want of memory, or where a handle of a prefix isn't a name in canonical form. The table is
+    /// dropped then.
+    pub fn new(
+        alloc: Global,
+        mut rows: R,
+        bounds: Vec<Bound>,
+        alarm: A,
+    ) -> Result<BoundedRows<R, A>, Refused>
+        ensures { IfOk result (λ bounded. bounded.table ≡ R.content rows) }
+    {
+        let mut accounts = Accounts::new(alloc);
+        for bound in bounds {
+            let held = held_by(alloc, &mut rows, &bound.roots)?;
+            accounts.push(Account { bound, held })?;
+        }
+        Ok(BoundedRows {
+            rows,
+            accounts,
+            refusals: 0,
+            alarm,
+        })
+    }
+
+    /// The table behind the bounds.
+    pub fn into_rows(self) -> R
+        ensures { R.content result ≡ self.table }
+    {
+        self.rows
+    }
+}
+
+impl<R: Rows + Drop, A: Alarm + Drop> Rows for BoundedRows<R, A> {
+    ghost content = { λ s. s.table };
+
+    ghost refused = { λ s. s.refused };
+
+    fn exists(&mut self, name: &Name) -> Result<bool, Refused>
+        ensures found { IfOk result (λ is. is ≡ has self.old.table (canonical name.now)) }
+        ensures unchanged { self.new.table ≡ self.old.table }
+        ensures count { self.new.refused ≡ counted result self.old.refused }
+        ensures holdings { self.new.holdings ≡ self.old.holdings }
+    {
+        self.rows.exists(name)
+    }
+
+    fn at(&mut self, reference: &Reference) -> Result<Option<Value>, Refused>
+        ensures found { IfOk result (λ value. value ≡ at self.old.table (place_of reference.now)) }
+        ensures unchanged { self.new.table ≡ self.old.table }
+        ensures count { self.new.refused ≡ counted result self.old.refused }
+        ensures holdings { self.new.holdings ≡ self.old.holdings }
+    {
+        self.rows.at(reference)
+    }
+
+    fn values(&mut self, name: &Name) -> Result<Vec<Value>, Refused>
+        ensures found { IfOk result (λ all. all.items ≡ values_of self.old.table (canonical name.now)) }
+        ensures by_index { IfOk result (λ all. HaveTheirIndexes self.old.table (canonical name.now) all.items) }
+        ensures unchanged { self.new.table ≡ self.old.table }
+        ensures count { self.new.refused ≡ counted result self.old.refused }
+        ensures holdings { self.new.holdings ≡ self.old.holdings }
+    {
+        self.rows.values(name)
+    }
+
+    fn look(&mut self, name: &Name) -> Result<Option<Vec<Value>>, Refused>
+        ensures there { IfOk result (λ all. is_some all ≡ has self.old.table (canonical name.now)) }
+        ensures found { IfOk result (λ all. values_in all ≡ values_of self.old.table (canonical name.now)) }
+        ensures by_index { IfOk result (λ all. HaveTheirIndexes self.old.table (canonical name.now) (values_in all)) }
+        ensures unchanged { self.new.table ≡ self.old.table }
+        ensures count { self.new.refused ≡ counted result self.old.refused }
+        ensures holdings { self.new.holdings ≡ self.old.holdings }
+    {
+        self.rows.look(name)
+    }
+
+    fn names(&mut self, authority: &[u8]) -> Result<Vec<Octets>, Refused>
+        ensures found { IfOk result (λ all. all.items ≡ names_of self.old.table authority.now) }
+        ensures unchanged { self.new.table ≡ self.old.table }
+        ensures count { self.new.refused ≡ counted result self.old.refused }
+        ensures holdings { self.new.holdings ≡ self.old.holdings }
+    {
+        self.rows.names(authority)
+    }
+
+    fn create(&mut self, name: &Name, values: &[Value]) -> Result<(), Refused>
+        requires absent { has self.old.table (canonical name.now) ≡ false }
+        requires distinct { AreDistinct (indexes values.now) }
+        ensures done { OnOk result (self.new.table ≡ created self.old.table (canonical name.now) values.now) }
+        ensures undone { OnErr result (self.new.table ≡ self.old.table) }
+        ensures count { self.new.refused ≡ counted result self.old.refused }
+        ensures kept { OnErr result (self.new.holdings ≡ self.old.holdings) }
+        ensures settled { OnOk result (self.new.holdings ≡ map (settled (prefix name.now) (λ m. with_handle m (canonical name.now) values.now) none) self.old.holdings) }
+        ensures within { OnOk result (AllByRecursion (λ h. IsWithin (prefix name.now) h (settled (prefix name.now) (λ m. with_handle m (canonical name.now) values.now) none h)) self.old.holdings) }
+    {
+        let prefix = name.prefix();
+        if !self.accounts.count(prefix) {
+            return self.rows.create(name, values);
+        }
+        let change = Change {
+            gain: handle_amount(name.canon(), values),
+            back: Amount::NONE,
+        };
+        permit(
+            &self.accounts,
+            &mut self.refusals,
+            &mut self.alarm,
+            prefix,
+            change,
+        )?;
+        self.rows.create(name, values)?;
+        self.accounts.settle(prefix, change);
+        Ok(())
+    }
+
+    fn add(&mut self, name: &Name, values: &[Value]) -> Result<(), Refused>
+        requires there { has self.old.table (canonical name.now) ≡ true }
+        requires distinct { AreDistinct (indexes values.now) }
+        requires free { AreAbsent self.old.table (canonical name.now) (indexes values.now) }
+        ensures done { OnOk result (self.new.table ≡ with_values self.old.table (canonical name.now) values.now) }
+        ensures undone { OnErr result (self.new.table ≡ self.old.table) }
+        ensures count { self.new.refused ≡ counted result self.old.refused }
+        ensures kept { OnErr result (self.new.holdings ≡ self.old.holdings) }
+        ensures settled { OnOk result (self.new.holdings ≡ map (settled (prefix name.now) (λ m. sum_by m.value values.now) none) self.old.holdings) }
+        ensures within { OnOk result (AllByRecursion (λ h. IsWithin (prefix name.now) h (settled (prefix name.now) (λ m. sum_by m.value values.now) none h)) self.old.holdings) }
+    {
+        let prefix = name.prefix();
+        if !self.accounts.count(prefix) {
+            return self.rows.add(name, values);
+        }
+        let change = Change {
+            gain: values_amount(values),
+            back: Amount::NONE,
+        };
+        permit(
+            &self.accounts,
+            &mut self.refusals,
+            &mut self.alarm,
+            prefix,
+            change,
+        )?;
+        self.rows.add(name, values)?;
+        self.accounts.settle(prefix, change);
+        Ok(())
+    }
+
+    fn modify(&mut self, name: &Name, values: &[Value]) -> Result<(), Refused>
+        requires there { has self.old.table (canonical name.now) ≡ true }
+        requires distinct { AreDistinct (indexes values.now) }
+        requires taken { ArePresent self.old.table (canonical name.now) (indexes values.now) }
+        ensures done { OnOk result (self.new.table ≡ with_values self.old.table (canonical name.now) values.now) }
+        ensures undone { OnErr result (self.new.table ≡ self.old.table) }
+        ensures count { self.new.refused ≡ counted result self.old.refused }
+        ensures kept { OnErr result (self.new.holdings ≡ self.old.holdings) }
+        ensures settled { OnOk result (self.new.holdings ≡ map (settled (prefix name.now) (λ m. sum_by m.value values.now) (λ m. values_at m (values_of self.old.table (canonical name.now)) (indexes values.now))) self.old.holdings) }
+        ensures within { OnOk result (AllByRecursion (λ h. IsWithin (prefix name.now) h (settled (prefix name.now) (λ m. sum_by m.value values.now) (λ m. values_at m (values_of self.old.table (canonical name.now)) (indexes values.now)) h)) self.old.holdings) }
+    {
+        let prefix = name.prefix();
+        if !self.accounts.count(prefix) {
+            return self.rows.modify(name, values);
+        }
+        let held = self.rows.values(name)?;
+        let change = Change {
+            gain: values_amount(values),
+            back: amount_of_replaced(&held, values),
+        };
+        permit(
+            &self.accounts,
+            &mut self.refusals,
+            &mut self.alarm,
+            prefix,
+            change,
+        )?;
+        self.rows.modify(name, values)?;
+        self.accounts.settle(prefix, change);
+        Ok(())
+    }
+
+    fn remove(&mut self, name: &Name, indexes: &[u32]) -> Result<(), Refused>
+        requires there { has self.old.table (canonical name.now) ≡ true }
+        requires distinct { AreDistinct indexes.now }
+        requires taken { ArePresent self.old.table (canonical name.now) indexes.now }
+        ensures done { OnOk result (self.new.table ≡ without_values self.old.table (canonical name.now) indexes.now) }
+        ensures undone { OnErr result (self.new.table ≡ self.old.table) }
+        ensures count { self.new.refused ≡ counted result self.old.refused }
+        ensures kept { OnErr result (self.new.holdings ≡ self.old.holdings) }
+        ensures settled { OnOk result (self.new.holdings ≡ map (settled (prefix name.now) none (λ m. values_at m (values_of self.old.table (canonical name.now)) indexes.now)) self.old.holdings) }
+    {
+        let prefix = name.prefix();
+        if !self.accounts.count(prefix) {
+            return self.rows.remove(name, indexes);
+        }
+        let held = self.rows.values(name)?;
+        let change = Change {
+            gain: Amount::NONE,
+            back: amount_of_indexes(&held, indexes),
+        };
+        self.rows.remove(name, indexes)?;
+        self.accounts.settle(prefix, change);
+        Ok(())
+    }
+
+    fn delete(&mut self, name: &Name) -> Result<(), Refused>
+        requires there { has self.old.table (canonical name.now) ≡ true }
+        ensures done { OnOk result (self.new.table ≡ without_handle self.old.table (canonical name.now)) }
+        ensures undone { OnErr result (self.new.table ≡ self.old.table) }
+        ensures count { self.new.refused ≡ counted result self.old.refused }
+        ensures kept { OnErr result (self.new.holdings ≡ self.old.holdings) }
+        ensures settled { OnOk result (self.new.holdings ≡ map (settled (prefix name.now) none (λ m. with_handle m (canonical name.now) (values_of self.old.table (canonical name.now)))) self.old.holdings) }
+    {
+        let prefix = name.prefix();
+        if !self.accounts.count(prefix) {
+            return self.rows.delete(name);
+        }
+        let held = self.rows.values(name)?;
+        let change = Change {
+            gain: Amount::NONE,
+            back: handle_amount(name.canon(), &held),
+        };
+        self.rows.delete(name)?;
+        self.accounts.settle(prefix, change);
+        Ok(())
+    }
+
+    fn refusals(&self) -> u64 {
+        self.rows.refusals().saturating_add(self.refusals)
+    }
+}

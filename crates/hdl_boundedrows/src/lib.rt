@@ -1,0 +1,30 @@
+//! A table with a bound of values and octets for each of some publishers: the contract of `hdl_rows::Rows`, word for word, over any other table.
+//!
+//! [`BoundedRows`] has a table of any kind behind it, and a count for each [`Bound`]: of the handles that the table has now under the bound's prefixes,
+//! and of their values. A create, an add or a modify that would take a count beyond its bound is refused, the table is as it was, and an
+//! [`Alarm`] is told. What makes no count larger than it is goes through, and a remove or a delete always does. Every other call goes to the
+//! table as it came.
+//!
+//! What is counted is defined (`specs/Amount.antt`), and each write's clauses say what becomes of the counts: what the write gains is added and what
+//! it gives back, by what the table held, is taken away (`settled`); where it was done each count is within its bound, or no more than it was
+//! (`within`).
+//!
+//! It stands on `hdl_rows` and what that speaks of.
+//!
+//! # Decisions
+//!
+//! - **The count is kept**, and not made anew at each write: that would read all handles of a publisher. It is made once, at the start.
+//! - **What a write gives back is looked up before it** where it replaces or takes away, which costs a look. Where the prefix counts for nobody there
+//!   is no look and no sum.
+//! - **The greatest number stands for all that are more**, and a count that reached it stays there and grows no more: no sum can wrap, and no premise
+//!   is needed on how much a table holds.
+//! - **A list of publishers is gone through, prefix by prefix**: there are 32 publishers at most, and a look at a prefix is a comparison of few octets.
+#![tactic(auto)]
+
+mod account;
+mod amount;
+mod bounded;
+
+pub use account::Bound;
+pub use amount::Amount;
+pub use bounded::{Alarm, BoundedRows};
