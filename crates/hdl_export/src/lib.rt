@@ -11,7 +11,8 @@
 //! just these rows, in this order. [`value_line_is_read`] is the law of one line, [`register_is_read`] that of all: whatever a tenants text can
 //! say is read back as it was written; and [`rows_are_only`] that such a text says nothing else.
 //!
-//! A text can't say a handle without a value, nor one with a space or a line feed in its name. [`left_out`] lists these.
+//! A text can't say a handle without a value, nor one with a space or a line feed in its name. [`left_out`] counts these, which no
+//! clause says.
 //!
 //! # Decisions
 //!
@@ -23,6 +24,7 @@
 
 mod fault;
 mod laws;
+mod left;
 mod line;
 mod prefixes;
 mod rows;
@@ -31,5 +33,6 @@ mod writing;
 
 pub use fault::ExportFault;
 pub use laws::{lines_are_read, register_is_read, rows_are_only, value_line_is_read};
+pub use left::{LeftOut, left_out};
 pub use line::value_line;
 pub use writing::export;

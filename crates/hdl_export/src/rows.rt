@@ -31,7 +31,7 @@ fn put_values(
 }
 
 /// The name of a handle of a table.
-fn name_of(alloc: Global, handle: &[u8]) -> Result<Name, ExportFault>
+pub(crate) fn name_of(alloc: Global, handle: &[u8]) -> Result<Name, ExportFault>
     ensures { IfOk result (λ name. name ≡ handle.now) }
 {
     match Name::read(alloc, handle) {

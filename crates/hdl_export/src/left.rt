@@ -1,0 +1,65 @@
+//! What no tenants text says of a table.
+
+use crate::fault::ExportFault;
+use crate::line::is_sayable;
+use crate::prefixes::{authorities_of, is_among, prefixes_of};
+use crate::rows::name_of;
+use hdl_rows::{Octets, Rows};
+use std::alloc::Global;
+
+/// How many handles of a table aren't in the text that [`export`](crate::export) writes, though it hosts their prefixes.
+#[derive(Clone, Copy, Debug, PartialEq, Eq)]
+pub struct LeftOut {
+    /// Those that are there and have no value.
+    pub empty: u64,
+    /// Those with a value, whose name has a space or a line feed.
+    pub unsayable: u64,
+}
+
+/// Counts a handle, if it is left out.
+fn count_handle<R: Rows>(
+    alloc: Global,
+    rows: &mut R,
+    prefixes: &[&str],
+    handle: &[u8],
+    left: &mut LeftOut,
+) -> Result<(), ExportFault> {
+    let name = name_of(alloc, handle)?;
+    if !is_among(name.prefix(), prefixes) {
+        return Ok(());
+    }
+    if rows.values(&name)?.is_empty() {
+        left.empty = left.empty.saturating_add(1);
+    } else if !is_sayable(handle) {
+        left.unsayable = left.unsayable.saturating_add(1);
+    }
+    Ok(())
+}
+
+fn count_handles<R: Rows>(
+    alloc: Global,
+    rows: &mut R,
+    prefixes: &[&str],
+    handles: &[Octets],
+    left: &mut LeftOut,
+) -> Result<(), ExportFault> {
+    for handle in handles {
+        count_handle(alloc, rows, prefixes, handle.as_slice(), left)?;
+    }
+    Ok(())
+}
+
+/// How many handles with the prefixes that the text hosts are left out of what is written.
+pub fn left_out<R: Rows>(alloc: Global, text: &str, rows: &mut R) -> Result<LeftOut, ExportFault> {
+    let prefixes = prefixes_of(alloc, text)?;
+    let authorities = authorities_of(alloc, prefixes.as_slice())?;
+    let mut left = LeftOut {
+        empty: 0,
+        unsayable: 0,
+    };
+    for authority in &authorities {
+        let handles = rows.names(authority.as_bytes())?;
+        count_handles(alloc, rows, prefixes.as_slice(), handles.as_slice(), &mut left)?;
+    }
+    Ok(left)
+}
