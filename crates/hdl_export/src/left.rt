@@ -59,7 +59,13 @@ pub fn left_out<R: Rows>(alloc: Global, text: &str, rows: &mut R) -> Result<Left
     };
     for authority in &authorities {
         let handles = rows.names(authority.as_bytes())?;
-        count_handles(alloc, rows, prefixes.as_slice(), handles.as_slice(), &mut left)?;
+        count_handles(
+            alloc,
+            rows,
+            prefixes.as_slice(),
+            handles.as_slice(),
+            &mut left,
+        )?;
     }
     Ok(left)
 }
