@@ -26,6 +26,7 @@ PARTS = (
     [sys.executable, "tools/examples.py"],
     [sys.executable, "tools/asks.py"],
     [sys.executable, "tools/proxies.py"],
+    [sys.executable, "tools/rests.py"],
     [sys.executable, "tools/readme.py"],
     [sys.executable, "tools/lasting.py"],
     ["tools/refuse-disk"],

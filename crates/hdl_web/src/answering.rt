@@ -1,62 +1,89 @@
 //! An answer that is on its way.
 
-ghost use Rattle.std.specs.Prelude.{◌≡◌, IsSomeAnd};
+ghost use Rattle.std.specs.Prelude.{◌≡◌, ◌⊎◌, None, IfSome, IsSomeAnd};
 ghost use Rattle.futures.specs.Channel.{completed_source};
 
+use crate::gathering::{Gathered, Gathering, Turn};
 use crate::response::response_of;
+use crate::worker::Made;
 use bytes::Bytes;
 use futures::channel::oneshot;
 use futures::task::{Context, Poll};
 use futures::{Future, ready};
-use hdl_proxy::Answer;
 use http_body_util::Full;
 use hyper::Response;
 use std::alloc::{AllocError, Global};
+use std::sync::Wait;
 
-/// The response to a request: one that is there, or that a resolver's thread makes.
+/// The response to a request: one that is there, that a thread makes, or that waits for the request's body.
 #[derive(Drop)]
-pub struct Answering {
+pub struct Answering<R, B> {
     alloc: Global,
-    made: Option<Result<Answer, AllocError>>,
-    coming: Option<oneshot::Receiver<Result<Answer, AllocError>>>,
+    gathering: Option<Gathering<R, B>>,
+    made: Option<Made>,
+    coming: Option<oneshot::Receiver<Made>>,
 }
 
-impl Answering {
-    /// An answer that is there.
-    pub(crate) fn made(alloc: Global, answer: Result<Answer, AllocError>) -> Answering {
+impl<R: Wait + Drop, B: Drop> Answering<R, B> {
+    /// An answer that is there, or that comes from a thread.
+    pub(crate) fn next(alloc: Global, turn: Turn) -> Answering<R, B>
+        ensures { result.gathering ≡ None }
+    {
+        let (made, coming) = match turn {
+            Turn::Made(answer) => (Some(answer), None),
+            Turn::Coming(from) => (None, Some(from)),
+        };
         Answering {
             alloc,
-            made: Some(answer),
+            gathering: None,
+            made,
+            coming,
+        }
+    }
+
+    /// An answer that waits for the body of its request.
+    pub(crate) fn gathering(alloc: Global, gathering: Gathering<R, B>) -> Answering<R, B>
+        ensures { result.gathering ≡ Some gathering }
+    {
+        Answering {
+            alloc,
+            gathering: Some(gathering),
+            made: None,
             coming: None,
         }
     }
 
-    /// An answer that comes from a resolver's thread.
-    pub(crate) fn coming(
-        alloc: Global,
-        from: oneshot::Receiver<Result<Answer, AllocError>>,
-    ) -> Answering {
-        Answering {
-            alloc,
-            made: None,
-            coming: Some(from),
+    /// What is next, now that this came of the body.
+    fn gathered(&mut self, gathered: Gathered)
+        ensures { self.new.gathering ≡ None }
+    {
+        let Some(gathering) = self.gathering.take() else {
+            return;
+        };
+        match gathering.end(gathered) {
+            Turn::Made(answer) => self.made = Some(answer),
+            Turn::Coming(from) => self.coming = Some(from),
         }
     }
 }
 
-fn response(
-    alloc: Global,
-    answer: Result<Answer, AllocError>,
-) -> Result<Response<Full<Bytes>>, AllocError> {
+fn response(alloc: Global, answer: Made) -> Result<Response<Full<Bytes>>, AllocError> {
     response_of(alloc, &answer?)
 }
 
-impl Future for Answering {
+impl<R: Wait + Drop, B: Future<Output = Gathered>> Future for Answering<R, B> {
     type Output = Result<Response<Full<Bytes>>, AllocError>;
 
-    ghost needs = { λ answering s. IsSomeAnd answering.coming (λ from. s ≡ completed_source from) };
+    ghost can_poll = { λ answering. IfSome answering.gathering (λ g. B.can_poll g.body) };
+
+    ghost needs = { λ answering s. IsSomeAnd answering.gathering (λ g. B.needs g.body s)
+        ⊎ ((answering.gathering ≡ None) × IsSomeAnd answering.coming (λ from. s ≡ completed_source from)) };
 
     fn poll(&mut self, cx: &mut Context<'_>) -> Poll<Self::Output> {
+        if let Some(gathering) = &mut self.gathering {
+            let gathered = ready!(gathering.body.poll(cx));
+            self.gathered(gathered);
+        }
         if let Some(answer) = self.made.take() {
             return Poll::Ready(response(self.alloc, answer));
         }

@@ -1,66 +1,132 @@
 //! Where requests come in.
 
 use crate::answering::Answering;
-use crate::worker::Ask;
+use crate::gathering::{BODY_MOST, BODY_SECONDS, Counter, Gathering, Turn};
+use crate::worker::{Ask, Ways};
 use bytes::Bytes;
-use crossbeam_channel::Sender;
 use futures::channel::oneshot;
-use hdl_proxy::{Answer, Next, Question, begin};
-use http_body_util::Full;
+use hdl_proxy::{Next, Question, begin};
+use hdl_writes::{Begun, Order, Sent, begin_with_key};
+use http::header::AUTHORIZATION;
+use http_body_util::combinators::Collect;
+use http_body_util::{BodyExt, Full, Limited};
 use hyper::body::Incoming;
 use hyper::service::Service;
 use hyper::{Request, Response};
 use std::alloc::{AllocError, Global};
 use std::sync::Wait;
+use std::time::{Clock, Duration};
+use tokio::time::{Handle, Timeout};
 
 /// The service of one connection: it answers at once what needs no server, and hands on what does.
 #[derive(Drop)]
 pub struct Desk<R> {
     rt: R,
     alloc: Global,
-    asks: Sender<Ask>,
+    timers: Handle,
+    ways: Ways,
 }
 
-impl<R: Wait + Drop> Desk<R> {
-    pub(crate) fn new(rt: R, alloc: Global, asks: Sender<Ask>) -> Desk<R> {
-        Desk { rt, alloc, asks }
+/// What a request is.
+#[derive(Drop)]
+enum Start<R> {
+    Turn(Turn),
+    /// An order, and who carries it out.
+    Order(Order, Counter<R>),
+}
+
+impl<R: Wait + Clock + Copy + Drop> Desk<R> {
+    pub(crate) fn new(rt: R, alloc: Global, timers: Handle, ways: Ways) -> Desk<R> {
+        Desk {
+            rt,
+            alloc,
+            timers,
+            ways,
+        }
     }
 
     /// Hands a question to the resolvers' threads.
-    fn hand_on(&self, question: Question) -> Result<Answering, AllocError> {
+    fn hand_on(&self, question: Question) -> Result<Turn, AllocError> {
         let (answer, from) = oneshot::channel(self.alloc)?;
         let ask = Ask { question, answer };
-        match self.asks.send(&self.rt, ask) {
-            Ok(()) => Ok(Answering::coming(self.alloc, from)),
+        match self.ways.asks.send(&self.rt, ask) {
+            Ok(()) => Ok(Turn::Coming(from)),
             Err(_) => Err(AllocError),
         }
     }
 
-    fn take(&self, method: &str, path: &str, query: &str) -> Result<Answering, AllocError> {
-        match begin(self.alloc, method, path, query)? {
-            Next::Answer(answer) => Ok(Answering::made(self.alloc, Ok(answer))),
+    /// What becomes of a request that comes without a key.
+    fn take(&self, sent: Sent<'_>) -> Result<Turn, AllocError> {
+        match begin(self.alloc, sent.method, sent.path, sent.query)? {
+            Next::Answer(answer) => Ok(Turn::Made(Ok(answer))),
             Next::Ask(question) => self.hand_on(question),
         }
     }
 
-    /// What is answered to a request, whose body isn't read.
-    fn answering<B>(&self, req: &Request<B>) -> Answering {
-        let query = req.uri().query().unwrap_or("");
-        match self.take(req.method().as_str(), req.uri().path(), query) {
-            Ok(answering) => answering,
-            Err(refused) => Answering::made(self.alloc, Err(refused)),
+    fn begun(&self, sent: Sent<'_>) -> Result<Start<R>, AllocError> {
+        let Some(errands) = &self.ways.errands else {
+            return Ok(Start::Turn(self.take(sent)?));
+        };
+        match begin_with_key(self.alloc, sent)? {
+            Begun::Answer(answer) => Ok(Start::Turn(Turn::Made(Ok(answer)))),
+            Begun::Other => Ok(Start::Turn(self.take(sent)?)),
+            Begun::Order(order) => {
+                let counter = Counter {
+                    rt: self.rt,
+                    alloc: self.alloc,
+                    errands: errands.clone()?,
+                };
+                Ok(Start::Order(order, counter))
+            }
         }
+    }
+
+    /// What a request is, by its head.
+    fn start<B>(&self, req: &Request<B>) -> Result<Start<R>, AllocError> {
+        let authorization = match req.headers().get(AUTHORIZATION) {
+            Some(value) => Some(value.as_bytes()),
+            None => None,
+        };
+        self.begun(Sent {
+            method: req.method().as_str(),
+            path: req.uri().path(),
+            query: req.uri().query().unwrap_or(""),
+            authorization,
+        })
     }
 }
 
-impl<R: Wait + Drop, I: Drop> Service<Request<Incoming<I>>> for Desk<R> {
+/// The body of a request, up to its limits of length and time.
+type Limits<I> = Timeout<Collect<Limited<Incoming<I>>>>;
+
+impl<R: Wait + Clock + Copy + Drop, I: Drop> Service<Request<Incoming<I>>> for Desk<R> {
     type Response = Response<Full<Bytes>>;
 
     type Error = AllocError;
 
-    type Future = Answering;
+    type Future = Answering<R, Limits<I>>;
 
-    fn call(&self, req: Request<Incoming<I>>) -> Answering {
-        self.answering(&req)
+    fn call(&self, req: Request<Incoming<I>>) -> Answering<R, Limits<I>> {
+        let (order, counter) = match self.start(&req) {
+            Ok(Start::Order(order, counter)) => (order, counter),
+            Ok(Start::Turn(turn)) => return Answering::next(self.alloc, turn),
+            Err(refused) => return Answering::next(self.alloc, Turn::Made(Err(refused))),
+        };
+        if !order.takes_body() {
+            return Answering::next(self.alloc, counter.take(order, Bytes::new()));
+        }
+        let body = Limited::new(req.into_body(), BODY_MOST).collect(self.alloc);
+        let limit = Duration::from_secs(BODY_SECONDS);
+        match self.timers.timeout(&self.rt, limit, body) {
+            Ok(body) => Answering::gathering(
+                self.alloc,
+                Gathering {
+                    counter,
+                    order,
+                    body,
+                },
+            ),
+            Err(_) => Answering::next(self.alloc, Turn::Made(Err(AllocError))),
+        }
     }
 }

@@ -2,6 +2,7 @@
 //!
 //! ```text
 //! hyper, one event loop -> Desk: begin -> at once, or a channel -> a thread for each asker: ask, finish -> Answering -> hyper
+//!                      with --writes: begin_with_key, the body -> a channel -> one thread: carry_out -> Answering -> hyper
 //! ```
 //!
 //! One thread has all connections, and never waits for a server: each asker (`Servers`) has a thread of its own, and connections to
@@ -12,6 +13,7 @@
 
 mod answering;
 mod desk;
+mod gathering;
 mod patient;
 mod response;
 mod servers;
@@ -21,7 +23,7 @@ mod words;
 mod worker;
 
 use servers::Servers;
-use serving::serve_http;
+use serving::{Staff, serve_http};
 use std::alloc::AllocError;
 use std::io;
 use std::net::SocketAddr;
@@ -41,12 +43,22 @@ fn askers(rt: &HostRuntime, words: &ProxyWords) -> Result<Vec<Servers>, AllocErr
     Ok(askers)
 }
 
+/// Who carries out orders, where any are taken: one, so that changes go one after the other.
+fn writer(rt: &HostRuntime, words: &ProxyWords) -> Result<Option<Servers>, AllocError> {
+    if !words.writes {
+        return Ok(None);
+    }
+    Ok(Some(Servers::new(*rt, &words.servers)?))
+}
+
 /// What is served: where, and who asks.
-fn opened(rt: &HostRuntime, words: &ProxyWords) -> io::Result<(SocketAddr, Vec<Servers>)> {
+fn opened(rt: &HostRuntime, words: &ProxyWords) -> io::Result<(SocketAddr, Staff<Servers>)> {
     let Ok(listen) = words.listen.parse::<SocketAddr>() else {
         return Err(io::Error::other("--listen wants an IP address and a port"));
     };
-    Ok((listen, askers(rt, words)?))
+    let resolvers = askers(rt, words)?;
+    let writer = writer(rt, words)?;
+    Ok((listen, Staff { resolvers, writer }))
 }
 
 fn main(rt: HostRuntime) -> ExitCode {
@@ -55,7 +67,7 @@ fn main(rt: HostRuntime) -> ExitCode {
         Asked::Ended(status) => return ExitCode::from(status),
     };
     let served = match opened(&rt, &words) {
-        Ok((listen, askers)) => serve_http(&rt, listen, askers, &mut rt.stdout()),
+        Ok((listen, staff)) => serve_http(&rt, listen, staff, &mut rt.stdout()),
         Err(fault) => Err(fault),
     };
     if let Err(fault) = served {

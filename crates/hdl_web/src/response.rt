@@ -8,8 +8,9 @@ use bytes::Bytes;
 use hdl_proxy::{Answer, Media, Status};
 use http::StatusCode;
 use http::header::{
-    ACCESS_CONTROL_ALLOW_ORIGIN, ALLOW, CONTENT_SECURITY_POLICY, CONTENT_TYPE, HeaderMap,
-    HeaderName, HeaderValue, LOCATION, REFERRER_POLICY, X_CONTENT_TYPE_OPTIONS,
+    ACCESS_CONTROL_ALLOW_HEADERS, ACCESS_CONTROL_ALLOW_METHODS, ACCESS_CONTROL_ALLOW_ORIGIN,
+    ACCESS_CONTROL_MAX_AGE, ALLOW, CONTENT_SECURITY_POLICY, CONTENT_TYPE, HeaderMap, HeaderName,
+    HeaderValue, LOCATION, REFERRER_POLICY, WWW_AUTHENTICATE, X_CONTENT_TYPE_OPTIONS,
 };
 use http::response::{Parts, Response};
 use http_body_util::Full;
@@ -53,15 +54,43 @@ fn put_media(
     }
 }
 
+/// The methods of an address under `/api/`, where handles are changed.
+const METHODS: &str = "GET, HEAD, PUT, DELETE, OPTIONS";
+
+/// The fields by which a browser learns which requests another page may send, for a day.
+fn put_options(alloc: Global, headers: &mut HeaderMap<HeaderValue>) -> Result<(), AllocError> {
+    put(alloc, headers, ALLOW, METHODS)?;
+    put(alloc, headers, ACCESS_CONTROL_ALLOW_METHODS, METHODS)?;
+    let fields = "Authorization, Content-Type";
+    put(alloc, headers, ACCESS_CONTROL_ALLOW_HEADERS, fields)?;
+    put(alloc, headers, ACCESS_CONTROL_MAX_AGE, "86400")
+}
+
+/// The fields of an answer by its status.
+fn put_status(
+    alloc: Global,
+    headers: &mut HeaderMap<HeaderValue>,
+    answer: &Answer,
+) -> Result<(), AllocError> {
+    match (answer.status, answer.media) {
+        (Status::MethodNotAllowed, Media::Page) => put(alloc, headers, ALLOW, "GET, HEAD"),
+        (Status::MethodNotAllowed, Media::Json) => put(alloc, headers, ALLOW, METHODS),
+        (Status::NoContent, _) => put_options(alloc, headers),
+        (Status::Unauthorized, _) => {
+            let basic = "Basic realm=\"handles\"";
+            put(alloc, headers, WWW_AUTHENTICATE, basic)
+        }
+        _ => Ok(()),
+    }
+}
+
 fn put_headers(
     alloc: Global,
     headers: &mut HeaderMap<HeaderValue>,
     answer: &Answer,
 ) -> Result<(), AllocError> {
     put_media(alloc, headers, answer.media)?;
-    if answer.status == Status::MethodNotAllowed {
-        put(alloc, headers, ALLOW, "GET, HEAD")?;
-    }
+    put_status(alloc, headers, answer)?;
     if let Some(location) = &answer.location {
         put(alloc, headers, LOCATION, location.as_str())?;
     }

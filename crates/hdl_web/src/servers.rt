@@ -1,8 +1,10 @@
 //! Servers that are asked one after another.
 
-use hdl_client::{ClientFault, Connection, Session, connect};
-use hdl_msg::{ResponseCode, read_reply};
+use hdl_client::{ClientFault, Connection, Key, Session, connect};
+use hdl_frame::one_datagram;
+use hdl_msg::{RequestBody, ResponseCode, read_reply};
 use hdl_proxy::{NoAnswer, Resolver};
+use hdl_writes::Service;
 use std::alloc::AllocError;
 
 /// A server, and the connection to it where it was asked before.
@@ -59,6 +61,30 @@ impl Server {
             Err(fault) => Err(fault),
         }
     }
+
+    /// The connection that was kept, or a new one.
+    fn opened(&mut self, rt: &HostRuntime) -> Result<Session<Connection>, ClientFault> {
+        match self.session.take() {
+            Some(session) => Ok(session),
+            None => connect(rt, &self.name),
+        }
+    }
+
+    /// Asks with a key on this connection, which is kept if it answers. Nothing is sent twice.
+    fn ask_with(
+        &mut self,
+        rt: &HostRuntime,
+        mut session: Session<Connection>,
+        body: &RequestBody,
+        key: &Key,
+    ) -> Result<Vec<u8>, ClientFault> {
+        let octets = session.ask(body, Some(key))?;
+        self.session = Some(session);
+        let Ok(frame) = one_datagram(&octets) else {
+            return Err(ClientFault::NoReply);
+        };
+        Ok(Vec::from_slice(rt.alloc(), frame.payload())?)
+    }
 }
 
 impl Servers {
@@ -95,6 +121,46 @@ impl Servers {
         match failed {
             Some(fault) => Err(fault),
             None => last,
+        }
+    }
+
+    /// The same with a key. A server that can't be reached is passed over; where one that was asked doesn't answer, no other is asked,
+    /// since it may have done what was asked for.
+    fn reply_with(&mut self, body: &RequestBody, key: &Key) -> Result<Vec<u8>, ClientFault> {
+        let rt = self.rt;
+        let mut last = Err(ClientFault::Connection);
+        let mut failed = None;
+        for server in &mut self.servers {
+            match server.opened(&rt) {
+                Ok(session) => {
+                    let reply = server.ask_with(&rt, session, body, key)?;
+                    if !refers(&reply) {
+                        return Ok(reply);
+                    }
+                    last = Ok(reply);
+                }
+                Err(fault) => failed = Some(fault),
+            }
+        }
+        match failed {
+            Some(fault) => Err(fault),
+            None => last,
+        }
+    }
+}
+
+impl Service for Servers {
+    fn renew(&mut self) {
+        for server in &mut self.servers {
+            server.session = None;
+        }
+    }
+
+    fn ask(&mut self, body: &RequestBody, key: &Key) -> Result<Vec<u8>, NoAnswer> {
+        match self.reply_with(body, key) {
+            Ok(reply) => Ok(reply),
+            Err(ClientFault::Memory) => Err(NoAnswer::Memory),
+            Err(_) => Err(NoAnswer::Unreachable),
         }
     }
 }

@@ -3,10 +3,11 @@
 use crate::desk::Desk;
 use crate::patient::Patient;
 use crate::visitors::{Host, Quiet, Visitors};
-use crate::worker::{Ask, work};
+use crate::worker::{Ask, Errand, Ways, work, work_on_orders};
 use bytes::Bytes;
 use crossbeam_channel::{Receiver, Sender, unbounded};
 use hdl_proxy::Resolver;
+use hdl_writes::Service;
 use http_body_util::Full;
 use hyper::rt::{Timer, TokioTimer};
 use hyper::server::conn::http1::{Builder, Connection};
@@ -52,6 +53,19 @@ where
     Ok(workers)
 }
 
+/// Starts the thread of who carries out orders.
+fn start_writer<R, S>(rt: &R, writer: S) -> io::Result<(Sender<Errand>, JoinHandle<()>)>
+where
+    R: Wait + Threads + AllocGlobal + Copy + Send + Drop + 'static,
+    S: Service + Send + 'static,
+{
+    let alloc = rt.alloc();
+    let (errands, taken) = unbounded(alloc)?;
+    let theirs = *rt;
+    let thread = thread::spawn(rt, move || work_on_orders(&theirs, alloc, writer, taken))?;
+    Ok((errands, thread))
+}
+
 /// The limits of connections: of a head's octets, and of the time that it takes.
 pub(crate) fn limited<T: Timer>(mut http: Builder<T>) -> Builder<T> {
     http.max_buf_size(HEAD_MOST);
@@ -66,7 +80,7 @@ struct Reception<R> {
     alloc: Global,
     http: Builder<TokioTimer<R>>,
     timers: Handle,
-    asks: Sender<Ask>,
+    ways: Ways,
 }
 
 impl<R: Wait + Clock + Copy + Drop> Host for Reception<R> {
@@ -74,9 +88,10 @@ impl<R: Wait + Clock + Copy + Drop> Host for Reception<R> {
 
     fn receive(&self, socket: TcpStream) -> Option<Self::Served> {
         let timers = self.timers.clone().ok()?;
-        let asks = self.asks.clone().ok()?;
+        let theirs = self.timers.clone().ok()?;
+        let ways = self.ways.copy()?;
         let socket = Patient::new(socket, self.rt, timers);
-        let desk = Desk::new(self.rt, self.alloc, asks);
+        let desk = Desk::new(self.rt, self.alloc, theirs, ways);
         Some(Quiet::new(self.http.serve_connection(socket, desk)))
     }
 
@@ -87,7 +102,7 @@ impl<R: Wait + Clock + Copy + Drop> Host for Reception<R> {
 }
 
 /// What all connections share, in this runtime.
-fn opened<R>(rt: &R, runtime: &LocalRuntime, asks: Sender<Ask>) -> io::Result<Reception<R>>
+fn opened<R>(rt: &R, runtime: &LocalRuntime, ways: Ways) -> io::Result<Reception<R>>
 where
     R: Wait + Clock + RandomSource + AllocGlobal + Copy + Drop,
 {
@@ -99,7 +114,7 @@ where
         alloc: rt.alloc(),
         http,
         timers,
-        asks,
+        ways,
     })
 }
 
@@ -112,17 +127,17 @@ where
     runtime.run_all(rt, visitors)
 }
 
-/// Serves the connections of a listener, whose questions go to `asks`.
+/// Serves the connections of a listener, whose questions and orders go these ways.
 fn serve_listener<R>(
     rt: &R,
     runtime: &mut LocalRuntime,
     listener: TcpListener,
-    asks: Sender<Ask>,
+    ways: Ways,
 ) -> io::Result<()>
 where
     R: Wait + Clock + RandomSource + AllocGlobal + Copy + Drop,
 {
-    let reception = opened(rt, runtime, asks)?;
+    let reception = opened(rt, runtime, ways)?;
     serve_all(rt, runtime, Visitors::new(listener.incoming(), reception))
 }
 
@@ -136,15 +151,31 @@ where
     Ok((runtime, listener))
 }
 
-/// Starts a thread for each resolver, and gives where questions go.
-fn start_asking<R, S>(rt: &R, resolvers: Vec<S>) -> io::Result<(Sender<Ask>, Vec<JoinHandle<()>>)>
+/// Who asks: as many as questions are asked at once, and who carries out orders, where any are taken.
+#[derive(Drop)]
+pub struct Staff<S> {
+    pub resolvers: Vec<S>,
+    pub writer: Option<S>,
+}
+
+/// Starts a thread for each resolver and for the writer, and gives where questions and orders go.
+fn start_asking<R, S>(rt: &R, staff: Staff<S>) -> io::Result<(Ways, Vec<JoinHandle<()>>)>
 where
     R: Wait + Threads + AllocGlobal + Copy + Send + Drop + 'static,
-    S: Resolver + Send + 'static,
+    S: Resolver + Service + Send + 'static,
 {
+    let Staff { resolvers, writer } = staff;
     let (asks, taken) = unbounded(rt.alloc())?;
-    let workers = start_workers(rt, rt.alloc(), resolvers, &taken)?;
-    Ok((asks, workers))
+    let mut workers = start_workers(rt, rt.alloc(), resolvers, &taken)?;
+    let errands = match writer {
+        Some(writer) => {
+            let (errands, thread) = start_writer(rt, writer)?;
+            workers.push(thread)?;
+            Some(errands)
+        }
+        None => None,
+    };
+    Ok((Ways { asks, errands }, workers))
 }
 
 fn say_address(output: &mut impl Write, listen: SocketAddr) -> io::Result<()> {
@@ -165,16 +196,16 @@ fn serve_with<R, S>(
     runtime: &mut LocalRuntime,
     listener: TcpListener,
     listen: SocketAddr,
-    resolvers: Vec<S>,
+    staff: Staff<S>,
     output: &mut impl Write,
 ) -> io::Result<()>
 where
     R: Net + Wait + Threads + Clock + RandomSource + AllocGlobal + Copy + Send + Drop + 'static,
-    S: Resolver + Send + 'static,
+    S: Resolver + Service + Send + 'static,
 {
-    let (asks, workers) = start_asking(rt, resolvers)?;
+    let (ways, workers) = start_asking(rt, staff)?;
     say_address(output, listen)?;
-    serve_listener(rt, runtime, listener, asks)?;
+    serve_listener(rt, runtime, listener, ways)?;
     join_all(rt, workers);
     Ok(())
 }
@@ -183,13 +214,13 @@ where
 pub fn serve_http<R, S>(
     rt: &R,
     listen: SocketAddr,
-    resolvers: Vec<S>,
+    staff: Staff<S>,
     output: &mut impl Write,
 ) -> io::Result<()>
 where
     R: Net + Wait + Threads + Clock + RandomSource + AllocGlobal + Copy + Send + Drop + 'static,
-    S: Resolver + Send + 'static,
+    S: Resolver + Service + Send + 'static,
 {
     let (mut runtime, listener) = listening(rt, listen)?;
-    serve_with(rt, &mut runtime, listener, listen, resolvers, output)
+    serve_with(rt, &mut runtime, listener, listen, staff, output)
 }

@@ -1,6 +1,6 @@
 //! Connections that come.
 
-ghost use Rattle.std.specs.Prelude.{◌≡◌, IfSome, OnSome};
+ghost use Rattle.std.specs.Prelude.{IfSome, OnSome};
 ghost use Rattle.futures.specs.Poll.{IfReady, OnPending};
 ghost use Rattle.futures.specs.Runs.{ItemsWhere};
 ghost use Rattle.futures.specs.Task.{IsArmed, Keeps};
@@ -82,7 +82,7 @@ pub(crate) struct Quiet<F> {
 
 impl<F: Future> Quiet<F> {
     pub(crate) fn new(inner: F) -> Quiet<F>
-        ensures { result.inner ≡ inner }
+        ensures { F.can_poll inner → F.can_poll result.inner }
     {
         Quiet { inner }
     }

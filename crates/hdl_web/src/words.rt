@@ -22,6 +22,8 @@ pub struct ProxyWords {
     pub servers: Vec<String>,
     /// How many questions it asks at once: 1 to 64.
     pub askers: u64,
+    /// Whether handles are changed, by who has a key.
+    pub writes: bool,
 }
 
 /// What the command line asks for.
@@ -64,6 +66,14 @@ fn command<'a>(alloc: Global) -> Result<Command<'a>, AllocError> {
                 )
                 .action(ArgAction::Set)
                 .value_parser(value_parser!(u64).range(1..65)),
+        )?
+        .arg(
+            Arg::new(alloc, "writes")
+                .long("writes")
+                .help(
+                    "Changes handles too, by PUT and DELETE with a key, which needs TLS in front of it",
+                )
+                .action(ArgAction::SetTrue),
         )
 }
 
@@ -77,6 +87,7 @@ fn proxy_words(alloc: Global, found: &ArgMatches<'_>) -> Result<ProxyWords, Allo
         listen: String::from_str(alloc, found.get_str("listen").unwrap_or(LISTEN))?,
         servers,
         askers: found.get_one::<u64>("askers").unwrap_or(ASKERS),
+        writes: found.get_flag("writes"),
     })
 }
 

@@ -1,16 +1,48 @@
 //! Threads that ask.
 
-use crossbeam_channel::Receiver;
+use bytes::Bytes;
+use crossbeam_channel::{Receiver, Sender};
 use futures::channel::oneshot;
 use hdl_proxy::{Answer, NoAnswer, Question, Resolver, finish};
+use hdl_writes::{Order, Service, carry_out};
 use std::alloc::{AllocError, Global};
 use std::sync::Wait;
+
+/// An answer, or that there was no memory for it.
+pub(crate) type Made = Result<Answer, AllocError>;
 
 /// A question on its way to a resolver, and where its answer goes.
 #[derive(Drop)]
 pub struct Ask {
     pub(crate) question: Question,
-    pub(crate) answer: oneshot::Sender<Result<Answer, AllocError>>,
+    pub(crate) answer: oneshot::Sender<Made>,
+}
+
+/// An order on its way to who carries it out, the body of its request, and where its answer goes.
+#[derive(Drop)]
+pub struct Errand {
+    pub(crate) order: Order,
+    pub(crate) body: Bytes,
+    pub(crate) answer: oneshot::Sender<Made>,
+}
+
+/// Where questions go, and where orders do if any are taken.
+#[derive(Drop)]
+pub(crate) struct Ways {
+    pub(crate) asks: Sender<Ask>,
+    pub(crate) errands: Option<Sender<Errand>>,
+}
+
+impl Ways {
+    /// The same ways once more. None where memory was refused.
+    pub(crate) fn copy(&self) -> Option<Ways> {
+        let asks = self.asks.clone().ok()?;
+        let errands = match &self.errands {
+            Some(errands) => Some(errands.clone().ok()?),
+            None => None,
+        };
+        Some(Ways { asks, errands })
+    }
 }
 
 /// Asks the resolver, and makes the answer of what it says.
@@ -39,5 +71,22 @@ pub(crate) fn work<R: Wait, S: Resolver>(
     for ask in asks.iter(rt) {
         let Ask { question, answer } = ask;
         let _ = answer.send(answered(alloc, &mut resolver, &question));
+    }
+}
+
+/// Carries out orders one after the other, until nobody is left who could give one.
+pub(crate) fn work_on_orders<R: Wait, S: Service>(
+    rt: &R,
+    alloc: Global,
+    mut service: S,
+    errands: Receiver<Errand>,
+) {
+    for errand in errands.iter(rt) {
+        let Errand {
+            order,
+            body,
+            answer,
+        } = errand;
+        let _ = answer.send(carry_out(alloc, &mut service, &order, &body));
     }
 }

@@ -1,0 +1,366 @@
+"""rests.py: changes handles through the proved program crates/hdl_web/out/hdl_web (`hdl proxy --writes`) as clients of Handle.Net's REST interface do, and compares whole
+answers: of a real server behind it (the proved program crates/handled/out/handled), and of servers in this program that close or refuse in the middle of a change.
+
+It takes some 12 seconds, of which most is waiting for a body that doesn't come. Its last line is 'N passed, M failed', a case counting one."""
+
+import base64
+import contextlib
+import http.client
+import json
+import os
+import socket
+import struct
+import sys
+import threading
+import urllib.parse
+
+# nothing is left beside the tools
+sys.dont_write_bytecode = True
+import repository
+import servers
+import wire
+
+PROGRAM = os.environ.get("PROXY", repository.program("hdl_web"))
+SECRET = "never:shown/%25 \u00fc"
+ADMIN = "300:0.NA/10"
+
+READABLE = wire.ADMIN_READ | wire.ADMIN_WRITE | wire.PUBLIC_READ
+KEPT = wire.ADMIN_READ | wire.ADMIN_WRITE
+MAY_DO_ALL, MAY_ADD_HANDLES = b"\x0f\xff", b"\x00\x01"
+
+
+def administered(handle):
+    """Two administrators of a handle: one who may do everything, and one who may create handles alone."""
+    for index, key, mask in ((100, 300, MAY_DO_ALL), (101, 301, MAY_ADD_HANDLES)):
+        yield handle, wire.value(index, b"HS_ADMIN", wire.administrator(b"0.NA/10", key, mask), READABLE, 86400)
+
+
+OPENING = (
+    *administered(b"0.NA/10"),
+    (b"0.NA/10", wire.value(300, b"HS_SECKEY", SECRET.encode(), KEPT, 86400)),
+    (b"0.NA/10", wire.value(301, b"HS_SECKEY", b"weak", KEPT, 86400)),
+    *administered(b"10/kept"),
+    (b"10/kept", wire.value(1, b"URL", b"https://example.org/", READABLE, 86400)),
+    (b"10/kept", wire.value(2, b"NOTE", b"kept", KEPT, 600)),
+)
+
+
+def tenants(port):
+    return wire.text(["publisher acme 8 %d" % port, "prefix 10 acme", *(wire.value_line(handle, octets) for handle, octets in OPENING)])
+
+
+def basic(user=ADMIN, secret=SECRET):
+    """The field that such clients send: both parts percent-encoded, a colon between, in base64."""
+    both = urllib.parse.quote(user) + ":" + urllib.parse.quote(secret)
+    return "Basic " + base64.b64encode(both.encode()).decode()
+
+
+KEY = basic()
+
+
+def ask(port, method, path, body=None, key=KEY):
+    """The status, the fields and the body of an answer, as JSON where it is some."""
+    fields = {"Content-Type": "application/json"}
+    if key:
+        fields["Authorization"] = key
+    client = http.client.HTTPConnection("127.0.0.1", port, timeout=30)
+    with contextlib.closing(client):
+        client.request(method, path, body if body is None or isinstance(body, (bytes, str)) else json.dumps(body), fields)
+        answer = client.getresponse()
+        whole = answer.read()
+    assert SECRET.encode() not in whole and urllib.parse.quote(SECRET).encode() not in whole
+    told = dict((name.lower(), value) for name, value in answer.getheaders())
+    return answer.status, told, json.loads(whole) if whole[:1] == b"{" else whole.decode()
+
+
+def entry(index, kind, data, **more):
+    return dict({"index": index, "type": kind, "data": data}, **more)
+
+
+def text(shown):
+    return {"format": "string", "value": shown}
+
+
+ADMINISTRATOR = entry(100, "HS_ADMIN", {"format": "admin", "value": {"handle": "0.NA/10", "index": "300", "permissions": "111111111111"}})
+SHOWN_ADMIN = {"format": "admin", "value": {"handle": "0.NA/10", "index": 300, "permissions": "111111111111"}}
+URL = entry(1, "URL", "https://example.org/")
+
+
+def done(handle):
+    return {"handle": handle, "responseCode": 1}
+
+
+def refused(handle, why, code, **more):
+    return dict({"handle": handle, "message": why, "responseCode": code}, **more)
+
+
+def shown(answer):
+    """The values of an answer without their timestamps."""
+    status, _, found = answer
+    return status, [tuple(value.get(name) for name in ("index", "type", "data", "ttl", "permissions")) for value in found.get("values", ())]
+
+
+NO_KEY = "A key is needed: send the field Authorization with Basic and INDEX:HANDLE as the user."
+ABSENT = "This handle isn't there."
+THERE = "This handle is there already."
+NO_ADMIN = "The key is no administrator of this handle."
+LACKS = "The key lacks a permission for this."
+WRONG = "The secret isn't that of the key."
+NO_VALUES = "The server refuses the values: a record has an HS_ADMIN value, and at most 1024 values."
+SILENT = "No answer of a server came. Whether this was done isn't known."
+RECORD = "The record can't be read: %s."
+
+# Requests one after the other: method, path, body, key, and the status and body of the answer.
+CHANGES = (
+    ("PUT", "10/a", {"values": [ADMINISTRATOR, URL]}, None, 401, refused("10/a", NO_KEY, 402)),
+    ("PUT", "10/a", {"values": [ADMINISTRATOR, URL]}, "Bearer x", 401, refused("10/a", "The field Authorization isn't Basic.", 404)),
+    ("PUT", "10/a", [URL], "Basic !", 401, refused("10/a", "The field Authorization isn't base64 of a user, a colon and a secret.", 404)),
+    ("PUT", "10/a", [URL], basic("10"), 401, refused("10/a", "The user of the field Authorization isn't INDEX:HANDLE with its colon written %3A.", 404)),
+    ("PUT", "10/a", [URL], basic(secret=""), 401, refused("10/a", "The secret of the field Authorization is empty.", 404)),
+    ("PUT", "10/a", {"values": [ADMINISTRATOR, URL]}, basic(secret="wrong"), 401, refused("10/a", WRONG, 403)),
+    ("PUT", "10/a", {"values": [ADMINISTRATOR, URL]}, basic("302:0.NA/10"), 401, refused("10/a", NO_ADMIN, 400)),
+    ("PUT", "10/a?overwrite=false", {"values": [ADMINISTRATOR, URL]}, KEY, 201, done("10/a")),
+    ("PUT", "10/a?overwrite=false", {"values": [ADMINISTRATOR, URL]}, KEY, 409, refused("10/a", THERE, 101)),
+    ("PUT", "10/a", {"values": [ADMINISTRATOR, entry("2", "EMAIL", text("a@example.org"), ttl="600")]}, KEY, 200, done("10/a")),
+    ("PUT", "10/a?index=various", {"values": [entry(3, "HEX", {"format": "hex", "value": "00fF"}), entry(2, "EMAIL", "b@example.org")]}, KEY, 200, done("10/a")),
+    ("PUT", "10/a?index=2&index=4&overwrite=true", [entry(4, "LIST", {"format": "base64", "value": "AP8="}, permissions="1100")], KEY, 200, done("10/a")),
+    ("PUT", "10/a?index=5", entry(6, "NOTE", "x"), KEY, 400, refused("10/a", RECORD % "value 1: its index isn't among those that the address names", 202)),
+    ("PUT", "10/a?index=4&overwrite=false", entry(4, "NOTE", "x"), KEY, 409, refused("10/a", "A value of such an index is there already.", 201)),
+    ("PUT", "10/a?index=5&overwrite=false", entry(5, "NOTE", "x"), KEY, 200, done("10/a")),
+    ("DELETE", "10/a?index=5&index=3", None, KEY, 200, done("10/a")),
+    ("DELETE", "10/a?index=5", None, KEY, 404, refused("10/a", "A value isn't there, or isn't to be read.", 200)),
+    ("PUT", "10/b", {"values": [URL]}, KEY, 400, refused("10/b", NO_VALUES, 202)),
+    ("PUT", "10/none?index=various", {"values": [URL]}, KEY, 404, refused("10/none", ABSENT, 100)),
+    ("PUT", "10/kept?index=1", {"values": [URL]}, basic("301:0.NA/10", "weak"), 403, refused("10/kept", LACKS, 401)),
+    ("DELETE", "10/kept", None, basic("301:0.NA/10", "weak"), 403, refused("10/kept", LACKS, 401)),
+    ("PUT", "20/a", {"values": [ADMINISTRATOR]}, KEY, 404, refused("20/a", "No server that was asked has handles of this prefix.", 302)),
+    ("PUT", "ten", {"values": [ADMINISTRATOR]}, KEY, 400, refused("ten", "This is no handle: the name has no slash.", 102)),
+    ("PUT", "10/a?overwrite=perhaps", [URL], KEY, 400, refused("10/a", "The words overwrite and auth are true or false.", 102)),
+    ("DELETE", "10/a?index=x", None, KEY, 400, refused("10/a", "An index is a number below 4294967296.", 102)),
+    ("POST", "10/a", [URL], KEY, 405, refused("/api/handles/10/a", "A handle is asked for by GET or HEAD, and changed by PUT or DELETE.", 5)),
+)
+# What 10/a has behind them, read with the key and without.
+LEFT = [(2, "EMAIL", text("b@example.org"), 86400, None), (4, "LIST", {"format": "base64", "value": "AP8="}, 86400, "1100"), (100, "HS_ADMIN", SHOWN_ADMIN, 86400, None)]
+
+# Bodies that are refused before anything is sent, and why.
+BODIES = (
+    ("{", "the body isn't JSON, or it is nested too deep"),
+    ("[" * 200, "the body isn't JSON, or it is nested too deep"),
+    (b'"\xff"', "the body isn't JSON, or it is nested too deep"),
+    ("7", "the body is neither a value, nor a list of values, nor an object with such a list as its values"),
+    ({"values": 7}, "the body is neither a value, nor a list of values, nor an object with such a list as its values"),
+    ({"values": []}, "the body has no value"),
+    ([URL] * 257, "the body has more than 256 values"),
+    ([URL, 7], "value 2: the index isn't a number below 4294967296"),
+    ([entry(-1, "URL", "x")], "value 1: the index isn't a number below 4294967296"),
+    ([entry("01", "URL", "x")], "value 1: the index isn't a number below 4294967296"),
+    ([entry(4294967296, "URL", "x")], "value 1: the index isn't a number below 4294967296"),
+    ([entry(0, "URL", "x")], "value 1: the value's index is 0"),
+    ([entry(1, 7, "x")], "value 1: the type isn't text"),
+    ([entry(1, "t" * 256, "x")], "value 1: the value's type is too long"),
+    ([{"index": 1, "type": "URL"}], "value 1: the data is neither text nor a format and a value"),
+    ([entry(1, "URL", {"format": "site", "value": "x"})], "value 1: the data's format isn't string, base64, hex, admin, vlist or key"),
+    ([entry(1, "URL", {"format": "string", "value": 7})], "value 1: the data isn't text"),
+    ([entry(1, "URL", {"format": "base64", "value": "A"})], "value 1: the data isn't base64"),
+    ([entry(1, "URL", {"format": "hex", "value": "0"})], "value 1: the data isn't hexadecimal digits"),
+    ([entry(1, "HS_ADMIN", {"format": "admin", "value": {"handle": "ten", "index": 1, "permissions": "0" * 12}})],
+     "value 1: the data isn't an administrator: a handle, an index and twelve permissions"),
+    ([entry(1, "HS_VLIST", {"format": "vlist", "value": [{"handle": "10/a"}]})], "value 1: the data isn't a list of a handle and an index each"),
+    ([entry(1, "HS_ADMIN", "text")], "value 1: the value's data is no administrator"),
+    ([entry(1, "URL", "x" * 32769)], "value 1: the value's data is too long"),
+    ([entry(1, "URL", "x", ttl="soon")], "value 1: the TTL isn't a number of seconds below 4294967296"),
+    ([entry(1, "URL", "x", permissions="111")], "value 1: the permissions aren't four digits 0 or 1"),
+    ([URL, ADMINISTRATOR, entry(1, "TEXT", "x")], "value 1: its index stands twice"),
+)
+
+
+@contextlib.contextmanager
+def proxy(behind, *options):
+    """A proxy before the server at this port: its own port."""
+    (port,) = servers.free_ports(1)
+    with servers.running([PROGRAM, "--listen", "127.0.0.1:%d" % port, "--server", "127.0.0.1:%d" % behind, *options], 1):
+        yield port
+
+
+def at(path):
+    return "/api/handles/" + path
+
+
+def without_the_word(port):
+    for method in ("PUT", "DELETE", "OPTIONS"):
+        status, fields, _ = ask(port, method, at("10/kept"), {"values": [URL]} if method == "PUT" else None)
+        yield "%s without --writes" % method, (status, fields["allow"]) == (405, "GET, HEAD")
+    yield "auth=true without --writes", [value[0] for value in shown(ask(port, "GET", at("10/kept?auth=true")))[1]] == [1, 100, 101]
+
+
+def changes(port):
+    for method, path, body, key, status, wanted in CHANGES:
+        found, fields, told = ask(port, method, at(path), body, key)
+        good = (found, told) == (status, wanted) and fields["access-control-allow-origin"] == "*"
+        yield "%s %s: %s" % (method, path, status), good and (status == 401) == (fields.get("www-authenticate") == 'Basic realm="handles"')
+    yield "what is left, with the key", shown(ask(port, "GET", at("10/a?auth=true"))) == (200, LEFT)
+    yield "what is left, for anybody", shown(ask(port, "GET", at("10/a"), key=None)) == (200, [LEFT[0], LEFT[2]])
+    yield "a part, with the key", shown(ask(port, "GET", at("10/a?auth=true&type=LIST&index=2"))) == (200, LEFT[:2])
+    yield "reading without a key", ask(port, "GET", at("10/a?auth=true"), key=None)[::2] == (401, refused("10/a", NO_KEY, 402))
+    yield "reading with a wrong secret", ask(port, "GET", at("10/a?auth=true"), key=basic(secret="x"))[::2] == (401, refused("10/a", WRONG, 403))
+    whole = ask(port, "GET", at("10/a?auth=true"))[2]
+    yield "what was written is read again", ask(port, "PUT", at("10/a"), whole)[::2] == (200, done("10/a")) and shown(ask(port, "GET", at("10/a?auth=true"))) == (200, LEFT)
+    for body, why in BODIES:
+        found = ask(port, "PUT", at("10/a"), body)
+        yield why, found[::2] == (400, refused("10/a", RECORD % why, 202))
+    yield "what was there stays", shown(ask(port, "GET", at("10/a?auth=true"))) == (200, LEFT)
+
+
+def large(port):
+    long = {"values": [ADMINISTRATOR, entry(1, "A", "x" * 32768), entry(2, "B", "x" * 32768)]}
+    found = ask(port, "PUT", at("10/a"), long)
+    yield "more than a request holds", found[::2] == (413, refused("10/a", "The change needs a request of more than 65536 octets. Nothing was done.", 2))
+    found = ask(port, "PUT", at("10/a"), " " * 1048577)
+    yield "more than a body holds", found[::2] == (413, refused("10/a", "The body has more than 1048576 octets. Nothing was done.", 2))
+    found = ask(port, "PUT", at("10/a"), json.dumps([ADMINISTRATOR]) + " " * 1000000)
+    yield "as much as a body holds", found[::2] == (200, done("10/a"))
+    many = {"values": [ADMINISTRATOR] + [entry(number, "NOTE", "x") for number in range(200, 400)]}
+    yield "many values", ask(port, "PUT", at("10/a"), many)[::2] == (200, done("10/a")) and len(shown(ask(port, "GET", at("10/a")))[1]) == 201
+    yield "and one in their place", ask(port, "PUT", at("10/a"), [ADMINISTRATOR])[::2] == (200, done("10/a")) and len(shown(ask(port, "GET", at("10/a")))[1]) == 1
+
+
+def listed(port):
+    def page(handles, **more):
+        return 200, dict({"handles": handles, "prefix": "10", "responseCode": 1, "totalCount": 2}, **more)
+    yield "a list", ask(port, "GET", "/api/handles?prefix=10")[::2] == page(["10/a", "10/kept"], page=0, pageSize=2)
+    yield "a page", ask(port, "GET", "/api/handles?prefix=10&page=1&pageSize=1")[::2] == page(["10/kept"], page=1, pageSize=1)
+    yield "a page behind the last", ask(port, "GET", "/api/handles?prefix=10&page=4294967295&pageSize=4294967295")[::2] == page([], page=4294967295, pageSize=4294967295)
+    yield "the count", ask(port, "GET", "/api/handles?prefix=10&page=0&pageSize=0")[::2] == page([], page=0, pageSize=0)
+    yield "a list without a key", ask(port, "GET", "/api/handles?prefix=10", key=None)[::2] == (401, refused("0.NA/10", NO_KEY, 402))
+    yield "a list without a permission", ask(port, "GET", "/api/handles?prefix=10", key=basic("301:0.NA/10", "weak"))[::2] == (403, refused("0.NA/10", LACKS, 401))
+    yield "a list of no prefix", ask(port, "GET", "/api/handles")[0] == 400
+    yield "a page that is no number", ask(port, "GET", "/api/handles?prefix=10&page=x")[0] == 400
+
+
+def browsers(port):
+    status, fields, body = ask(port, "OPTIONS", at("10/a"), key=None)
+    methods = "GET, HEAD, PUT, DELETE, OPTIONS"
+    told = [fields.get("access-control-" + name) for name in ("allow-origin", "allow-methods", "allow-headers", "max-age")]
+    yield "OPTIONS", (status, body, told) == (204, "", ["*", methods, "Authorization, Content-Type", "86400"])
+    status, fields, body = ask(port, "HEAD", at("10/a?auth=true"))
+    yield "HEAD", (status, body, fields["content-type"]) == (200, "", "application/json")
+    yield "addresses of browsers stay", ask(port, "GET", "/10/kept", key=None)[1].get("location") == "https://example.org/"
+    yield "other methods of theirs too", ask(port, "PUT", "/10/kept", {"values": [URL]})[0] == 405
+
+
+def slow(port, ended):
+    """A body that doesn't come."""
+    with socket.create_connection(("127.0.0.1", port)) as stream:
+        stream.settimeout(30)
+        stream.sendall(("PUT /api/handles/10/a HTTP/1.1\r\nhost: h\r\nauthorization: %s\r\ncontent-length: 9\r\n\r\n{" % KEY).encode())
+        octets = b""
+        with contextlib.suppress(OSError):
+            while piece := stream.recv(65536):
+                octets += piece
+    ended.append(octets)
+
+
+def at_once(port):
+    """Two clients that change one handle, each some values of its own."""
+    def client(front):
+        for number in range(20):
+            found = ask(port, "PUT", at("10/shared?index=various"), {"values": [entry(front + number, "NOTE", "x")]})
+            statuses.append(found[0])
+    statuses = [ask(port, "PUT", at("10/shared?overwrite=false"), {"values": [ADMINISTRATOR]})[0]]
+    clients = [threading.Thread(target=client, args=(front,)) for front in (200, 300)]
+    for one in clients:
+        one.start()
+    for one in clients:
+        one.join()
+    found = shown(ask(port, "GET", at("10/shared")))[1]
+    yield "two clients", statuses == [201] + [200] * 40 and len(found) == 41
+    yield "a handle is deleted", ask(port, "DELETE", at("10/shared"))[::2] == (200, done("10/shared"))
+    yield "and isn't there", ask(port, "DELETE", at("10/shared"))[::2] == (404, refused("10/shared", ABSENT, 100))
+
+
+def real(cases):
+    with servers.serving(tenants, 1) as (behind,):
+        with proxy(behind) as port:
+            cases += without_the_word(port)
+        with proxy(behind, "--writes") as port:
+            ended = []
+            waiting = threading.Thread(target=slow, args=(port, ended))
+            waiting.start()
+            for part in (changes, large, at_once, listed, browsers):
+                cases += part(port)
+            waiting.join()
+            cases.append(("a body that doesn't come", ended[0].startswith(b"HTTP/1.1 408 ") and b"The body didn't come within 10 seconds. Nothing was done." in ended[0]))
+
+
+def whole(stream, count):
+    octets = b""
+    while len(octets) < count:
+        piece = stream.recv(count - len(octets))
+        if not piece:
+            raise ConnectionError
+        octets += piece
+    return octets
+
+
+def serve_script(listener, script, came):
+    """On one connection after the other answers each request by the next of these replies: a function of its message, or None to close."""
+    replies = iter(script)
+    with contextlib.suppress(OSError, StopIteration):
+        while True:
+            stream = listener.accept()[0]
+            with stream, contextlib.suppress(ConnectionError):
+                while True:
+                    head = whole(stream, 20)
+                    asked = whole(stream, struct.unpack(">I", head[16:])[0])
+                    came.append(struct.unpack(">I", asked[:4])[0])
+                    reply = next(replies)
+                    if reply is None:
+                        break
+                    stream.sendall(wire.frame(reply(asked), 7, struct.unpack(">I", head[8:12])[0]))
+
+
+def code(number):
+    return lambda asked: wire.message(struct.unpack(">I", asked[:4])[0], b"" if number == 1 else wire.number(0), number)
+
+
+def there(asked):
+    return wire.values_reply(b"10/a", wire.value(1, b"URL", b"x", 14), wire.value(5, b"URL", b"x", 14))
+
+
+BROKEN = (
+    ("it closes between challenge and response", (wire.challenge, None), [wire.CREATE, wire.RESPONSE], 502, refused("10/a", SILENT, 2)),
+    ("it closes at once", (None,), [wire.CREATE], 502, refused("10/a", SILENT, 2)),
+    ("it challenges another request", (lambda asked: wire.challenge(wire.resolution(b"10/b")),), [wire.CREATE], 502, refused("10/a", SILENT, 2)),
+    ("it is busy", (code(3),), [wire.CREATE], 503, refused("10/a", "The server is busy. Please try again.", 3)),
+    ("it refuses the second request of a change", (code(101), there, code(1), code(401)), [wire.CREATE, wire.RESOLVE, wire.MODIFY, wire.ADD], 403,
+     refused("10/a", LACKS, 401, done=["modify"])),
+    ("it closes in the third", (code(101), there, code(1), code(1), None), [wire.CREATE, wire.RESOLVE, wire.MODIFY, wire.ADD, wire.REMOVE], 502,
+     refused("10/a", SILENT, 2, done=["modify", "add"])),
+    ("it reads another handle", (code(101), lambda asked: wire.values_reply(b"10/b")), [wire.CREATE, wire.RESOLVE], 502, refused("10/a", SILENT, 2)),
+)
+
+
+def broken(cases):
+    for name, script, operations, status, wanted in BROKEN:
+        came = []
+        with socket.create_server(("127.0.0.1", 0)) as listener:
+            threading.Thread(target=serve_script, args=(listener, script, came), daemon=True).start()
+            with proxy(listener.getsockname()[1], "--writes") as port:
+                found = ask(port, "PUT", at("10/a"), {"values": [ADMINISTRATOR, URL]})
+                cases.append((name, found[::2] == (status, wanted)))
+        cases.append((name + ": what is asked", came == operations))
+
+
+def main():
+    cases = []
+    real(cases)
+    broken(cases)
+    for name, good in cases:
+        if not good:
+            print("%s: another answer than the one that should be" % name)
+    failed = sum(not good for _, good in cases)
+    print("%d passed, %d failed" % (len(cases) - failed, failed))
+    return 1 if failed else 0
+
+
+sys.exit(main())
