@@ -9,11 +9,13 @@
 ghost use Rattle.std.specs.Prelude.{◌≡◌, IfOk};
 ghost use Rattle.hdl_rows.specs.Table.{no_rows};
 
+mod bounds;
 mod checking;
 mod notices;
 mod tabled;
 mod words;
 
+use bounds::{BoundWord, bounds_of};
 use checking::check_text;
 use hdl_cachedrows::CachedRows;
 use hdl_core::Tenants;
@@ -71,19 +73,28 @@ fn replayed(rt: &HostRuntime) -> Result<u8, Fault> {
 /// What is asked to be served, once its text was read.
 fn run_serve(
     rt: &HostRuntime,
-    setting: Setting,
+    mut setting: Setting,
+    bounds: Vec<BoundWord>,
     row_cache: usize,
     table: Option<TableFile>,
 ) -> Result<Next, TabledFault> {
     let text = read_text(rt)?;
+    let tenants = tenants_of(rt.alloc(), text.as_str())?;
+    match bounds_of(rt.alloc(), bounds, text.as_str(), &tenants) {
+        Ok(bounds) => setting.bounds = bounds,
+        Err(fault) => {
+            let _ = eprintln!(rt; "{fault}");
+            return Ok(Next::Ended(fault.status()));
+        }
+    }
     match table {
         None => Ok(Next::Serve {
-            tenants: tenants_of(rt.alloc(), text.as_str())?,
+            tenants,
             setting,
             row_cache,
         }),
         Some(file) => {
-            let desk = open_desk(rt, file, text.as_str())?;
+            let desk = open_desk(rt, file, tenants)?;
             Ok(Next::ServeOn { desk, setting })
         }
     }
@@ -104,9 +115,10 @@ fn run(rt: &HostRuntime) -> Result<Next, TabledFault> {
         }
         Asked::Serve {
             setting,
+            bounds,
             row_cache,
             table,
-        } => run_serve(rt, setting, row_cache, table),
+        } => run_serve(rt, setting, bounds, row_cache, table),
     }
 }
 
@@ -146,6 +158,7 @@ fn serve_in_memory<
         + Threads
         + Clock
         + RandomSource
+        + Eprint
         + Copy
         + Send
         + Drop
@@ -154,7 +167,7 @@ fn serve_in_memory<
     machine: &R,
     rt: &HostRuntime,
     tenants: Tenants,
-    setting: &Setting,
+    setting: Setting,
     row_cache: usize,
 ) -> ExitCode {
     let rows = match served_rows(rt, row_cache) {
@@ -173,11 +186,12 @@ fn serve_on<
         + Threads
         + Clock
         + RandomSource
+        + Eprint
         + Copy
         + Send
         + Drop
         + 'static,
->(machine: &R, rt: &HostRuntime, desk: Desk, setting: &Setting) -> ExitCode {
+>(machine: &R, rt: &HostRuntime, desk: Desk, setting: Setting) -> ExitCode {
     let Desk {
         tenants,
         table,
@@ -198,8 +212,8 @@ fn main(rt: HostRuntime) -> ExitCode {
                 setting,
                 row_cache,
             },
-        ) => serve_in_memory(&rt, &rt, tenants, &setting, row_cache),
-        Ok(Next::ServeOn { desk, setting }) => serve_on(&rt, &rt, desk, &setting),
+        ) => serve_in_memory(&rt, &rt, tenants, setting, row_cache),
+        Ok(Next::ServeOn { desk, setting }) => serve_on(&rt, &rt, desk, setting),
         Err(fault) => failed(&rt, fault),
     }
 }

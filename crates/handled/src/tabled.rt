@@ -142,8 +142,11 @@ pub struct Desk {
 }
 
 /// Opens what is served.
-pub fn open_desk(rt: &HostRuntime, file: TableFile, text: &str) -> Result<Desk, TabledFault> {
-    let tenants = tenants_of(rt.alloc(), text)?;
+pub fn open_desk(
+    rt: &HostRuntime,
+    file: TableFile,
+    tenants: Tenants,
+) -> Result<Desk, TableFault> {
     let table = opened(rt, &file, &tenants)?;
     Ok(Desk {
         tenants,

@@ -1,9 +1,10 @@
 //! The words of the command line.
 
+use crate::bounds::BoundWord;
 use clap::error::ErrorKind;
 use clap::{Arg, ArgAction, ArgMatches, Command, Error, value_parser};
 use hdl_cachedrows::LIMIT_DEFAULT;
-use hdl_host::{Limits, Setting};
+use hdl_host::{Amount, Limits, Setting};
 use hdl_replay::Fault;
 use hdl_status::{VERSION, status_of_words, words_of};
 use std::alloc::{AllocError, Global};
@@ -25,9 +26,10 @@ pub enum Asked {
         table: Option<TableFile>,
     },
     /// The tenants text is on standard input, served in this setting. The table is in a file, if one is named; else in memory alone, and at
-    /// most so many octets of it are kept where they were read last.
+    /// most so many octets of it are kept where they were read last. The setting has no bounds yet: their words are beside it.
     Serve {
         setting: Setting,
+        bounds: Vec<BoundWord>,
         row_cache: usize,
         table: Option<TableFile>,
     },
@@ -108,6 +110,15 @@ fn serve_command<'a>(alloc: Global) -> Result<Command<'a>, AllocError> {
                 )
                 .action(ArgAction::Set)
                 .value_parser(value_parser!(u32)),
+        )?
+        .arg(
+            Arg::new(alloc, "bound")
+                .long("bound")
+                .value_name("NAME=VALUES,OCTETS")
+                .help(
+                    "Lets this publisher hold at most so many values and octets, repeated for others; a change that would take more is answered busy",
+                )
+                .action(ArgAction::Append),
         )?
         .arg(
             Arg::new(alloc, "row-cache")
@@ -191,6 +202,49 @@ fn addresses(alloc: Global, words: &[&str]) -> Result<Vec<IpAddr>, AllocError> {
     Ok(addresses)
 }
 
+/// The number that a word spells in digits alone.
+fn number_of(word: &str) -> Option<u64> {
+    if word.starts_with('+') {
+        return None;
+    }
+    word.parse::<u64>().ok()
+}
+
+/// The parts of a word behind `--bound`: a publisher's name, and the most that it may hold.
+fn bound_parts(word: &str) -> Option<(&str, Amount)> {
+    let (publisher, most) = word.split_once('=')?;
+    let (values, octets) = most.split_once(',')?;
+    let most = Amount {
+        values: number_of(values)?,
+        octets: number_of(octets)?,
+    };
+    Some((publisher, most))
+}
+
+/// Whether one of the bounds is this publisher's.
+fn is_bounded(bounds: &[BoundWord], publisher: &str) -> bool {
+    bounds
+        .iter()
+        .any(|bound| bound.publisher.as_str() == publisher)
+}
+
+/// The bounds that the words spell, each of another publisher.
+fn bound_words(alloc: Global, words: &[&str]) -> Result<Vec<BoundWord>, Unclear> {
+    let mut bounds = Vec::new(alloc);
+    for word in words {
+        let Some((publisher, most)) = bound_parts(word) else {
+            return Err(Unclear::Bound(String::from_str(alloc, word)?));
+        };
+        if is_bounded(&bounds, publisher) {
+            return Err(Unclear::BoundTwice(String::from_str(alloc, word)?));
+        }
+        let publisher = String::from_str(alloc, publisher)?;
+        let bound = BoundWord { publisher, most };
+        bounds.push(bound).map_err(AllocError::from)?;
+    }
+    Ok(bounds)
+}
+
 /// Why the words ask for nothing.
 #[derive(Drop)]
 enum Unclear {
@@ -198,6 +252,10 @@ enum Unclear {
     Words(Error),
     /// This is no address to listen at.
     Address(String),
+    /// This is no bound.
+    Bound(String),
+    /// This is a second bound of its publisher.
+    BoundTwice(String),
 }
 
 impl From<Error> for Unclear {
@@ -222,7 +280,9 @@ fn serve_words(alloc: Global, found: &ArgMatches) -> Result<Asked, Unclear> {
         setting: Setting {
             addresses: addresses(alloc, words)?,
             limits: limits(found),
+            bounds: Vec::new(alloc),
         },
+        bounds: bound_words(alloc, found.get_strs("bound").unwrap_or(&[]))?,
         row_cache: row_cache(found),
         table: table_file(alloc, found)?,
     })
@@ -267,6 +327,17 @@ fn told(rt: &HostRuntime, error: Error) -> Result<Asked, Fault> {
     }
 }
 
+/// How the option of a bound is written.
+const BOUND: &str = "--bound <NAME=VALUES,OCTETS>";
+
+/// Says what is wrong with the value of an option.
+fn refused(rt: &HostRuntime, word: &str, option: &str, reason: &str) -> Asked {
+    let _ = eprintln!(rt;
+        "error: invalid value '{word}' for '{option}': {reason}\n\nFor more information, try '--help'."
+    );
+    Asked::Ended(status_of_words(false))
+}
+
 /// Reads the command line, and prints what there is to say of it.
 pub fn read_words(rt: &HostRuntime) -> Result<Asked, Fault> {
     let Ok(words) = words_of(rt) else {
@@ -277,11 +348,23 @@ pub fn read_words(rt: &HostRuntime) -> Result<Asked, Fault> {
     match parsed(rt.alloc(), words.as_slice()) {
         Ok(asked) => Ok(asked),
         Err(Unclear::Words(error)) => told(rt, error),
-        Err(Unclear::Address(word)) => {
-            let _ = eprintln!(rt;
-                "error: invalid value '{word}' for '--listen <ADDRESS>': no IPv4 or IPv6 address, such as 192.0.2.1 or 2001:db8::1\n\nFor more information, try '--help'."
-            );
-            Ok(Asked::Ended(status_of_words(false)))
-        }
+        Err(Unclear::Address(word)) => Ok(refused(
+            rt,
+            word.as_str(),
+            "--listen <ADDRESS>",
+            "no IPv4 or IPv6 address, such as 192.0.2.1 or 2001:db8::1",
+        )),
+        Err(Unclear::Bound(word)) => Ok(refused(
+            rt,
+            word.as_str(),
+            BOUND,
+            "write a publisher's name and two numbers, such as acme=10000,5000000",
+        )),
+        Err(Unclear::BoundTwice(word)) => Ok(refused(
+            rt,
+            word.as_str(),
+            BOUND,
+            "its publisher has a bound already",
+        )),
     }
 }

@@ -4,11 +4,13 @@ ghost use Rattle.std.specs.Prelude.{◌≡◌};
 ghost use Rattle.hdl_rows.specs.Table.{no_rows};
 ghost use Rattle.hdl_workers.specs.Ends.{AreDistinct};
 
+use crate::bounds::Told;
 use crate::clock::{MachineClock, Part};
 use crate::fault::HostFault;
 use crate::listening::{Limits, Place, Setting, had, places_of};
 use crate::waking::{Patience, Sleep};
 use crate::workers::{join_all, start};
+use hdl_boundedrows::BoundedRows;
 use hdl_core::{Rows, Service, Tenants};
 use hdl_replay::{Fault, put_all, tenants_of};
 use hdl_serve::{Clock as Pauses, Far, LaneEnds, lanes_of, serve};
@@ -153,8 +155,8 @@ fn resume_and_serve<
     Ok(service.into_rows())
 }
 
-/// Serves the tenants over an empty table, until each worker ended or the turns are spent. The lines that tell where are written once all
-/// sockets listen, and before a worker starts.
+/// Serves the tenants over an empty table within the bounds of the setting, until each worker ended or the turns are spent. The lines that
+/// tell where are written once all sockets listen, and before a worker starts.
 ///
 /// Refusals: memory, the table's refusal of an opening row, `Listen` where a port can't be had at one of the addresses, and `Device` where
 /// another thing of the machine isn't to be had (at once, with nothing joined), or where a worker's device failed.
@@ -163,6 +165,7 @@ pub fn hosted<
         + Threads
         + Clock
         + RandomSource
+        + Eprint
         + Copy
         + Send
         + Drop
@@ -174,12 +177,15 @@ pub fn hosted<
     alloc: Global,
     rows: T,
     tenants: Tenants,
-    setting: &Setting,
+    setting: Setting,
     output: &mut W,
 ) -> Result<(), HostFault>
     requires empty { T.content rows ≡ no_rows }
 {
-    let ready = ready_for(rt, alloc, &tenants, setting)?;
+    let ready = ready_for(rt, alloc, &tenants, &setting)?;
+    let Ok(rows) = BoundedRows::new(alloc, rows, setting.bounds, Told::new(*rt)) else {
+        return Err(HostFault::from(Fault::StoreRefused));
+    };
     open_and_serve(rt, alloc, rows, tenants, ready, output)?;
     Ok(())
 }
@@ -190,6 +196,7 @@ pub fn hosted_on<
         + Threads
         + Clock
         + RandomSource
+        + Eprint
         + Copy
         + Send
         + Drop
@@ -201,11 +208,14 @@ pub fn hosted_on<
     alloc: Global,
     rows: T,
     tenants: Tenants,
-    setting: &Setting,
+    setting: Setting,
     output: &mut W,
 ) -> Result<T, HostFault> {
-    let ready = ready_for(rt, alloc, &tenants, setting)?;
-    Ok(resume_and_serve(rt, alloc, rows, tenants, ready, output)?)
+    let ready = ready_for(rt, alloc, &tenants, &setting)?;
+    let Ok(rows) = BoundedRows::new(alloc, rows, setting.bounds, Told::new(*rt)) else {
+        return Err(HostFault::from(Fault::StoreRefused));
+    };
+    Ok(resume_and_serve(rt, alloc, rows, tenants, ready, output)?.into_rows())
 }
 
 /// Serves the tenants of the text over TCP and UDP, over an empty table, as [`hosted`] does.
@@ -214,6 +224,7 @@ fn hosted_text<
         + Threads
         + Clock
         + RandomSource
+        + Eprint
         + Copy
         + Send
         + Drop
@@ -232,7 +243,7 @@ fn hosted_text<
 {
     let tenants = tenants_of(alloc, text)?;
     let setting = Setting::on_loopback(alloc, limits)?;
-    hosted(rt, alloc, rows, tenants, &setting, output)
+    hosted(rt, alloc, rows, tenants, setting, output)
 }
 
 /// Serves the tenants of the text over TCP and UDP on 127.0.0.1, over an empty table, until each worker ended or the turns are
@@ -244,6 +255,7 @@ pub fn host<
         + Clock
         + RandomSource
         + AllocGlobal
+        + Eprint
         + Copy
         + Send
         + Drop

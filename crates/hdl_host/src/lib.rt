@@ -50,6 +50,7 @@
 //!   address its own call waits.
 #![tactic(auto)]
 
+mod bounds;
 mod clock;
 mod crowd;
 mod door;
@@ -71,5 +72,6 @@ mod wires;
 mod workers;
 
 pub use fault::HostFault;
+pub use hdl_boundedrows::{Amount, Bound};
 pub use hosting::{host, hosted, hosted_on};
 pub use listening::{AMPLIFY, Limits, Setting};

@@ -5,6 +5,7 @@ use crate::fault::HostFault;
 use crate::silence::{Seat, Waits, seats_at};
 use crate::sockets::{PacketSocket, Sockets};
 use crate::waking::Patience;
+use hdl_boundedrows::Bound;
 use hdl_core::Tenants;
 use hdl_replay::Fault;
 use std::alloc::{AllocError, Global};
@@ -48,20 +49,26 @@ impl Limits {
     }
 }
 
-/// Where a server listens, and its limits.
+/// Where a server listens, its limits, and the bounds of its publishers.
 #[derive(Debug, Drop)]
 pub struct Setting {
     /// The addresses at which each publisher's port is opened, by TCP and UDP.
     pub addresses: Vec<IpAddr>,
     pub limits: Limits,
+    /// How much of the table publishers may take; who has none may take all.
+    pub bounds: Vec<Bound>,
 }
 
 impl Setting {
-    /// 127.0.0.1 alone, with these limits.
+    /// 127.0.0.1 alone, with these limits and no bounds.
     pub fn on_loopback(alloc: Global, limits: Limits) -> Result<Setting, AllocError> {
         let mut addresses = Vec::new(alloc);
         addresses.push(IpAddr::V4(Ipv4Addr::LOCALHOST))?;
-        Ok(Setting { addresses, limits })
+        Ok(Setting {
+            addresses,
+            limits,
+            bounds: Vec::new(alloc),
+        })
     }
 }
 

@@ -1,0 +1,145 @@
+//! The bounds of the command line, once the tenants text was read.
+
+use hdl_core::Tenants;
+use hdl_host::{Amount, Bound};
+use hdl_name::Name;
+use std::alloc::{AllocError, AllocFailed, Global};
+use std::fmt;
+
+/// A word behind `--bound`: a publisher's name, and the most that it may hold.
+#[derive(Debug, Drop)]
+pub struct BoundWord {
+    pub publisher: String,
+    pub most: Amount,
+}
+
+/// Why a server can't have its bounds.
+#[derive(Debug, Drop)]
+pub enum BoundFault {
+    Memory,
+    /// The text has no publisher of this name.
+    Unknown(String),
+    /// What the text opens with is more than the bound of this publisher.
+    Beyond {
+        publisher: String,
+        opened: Amount,
+        most: Amount,
+    },
+}
+
+impl fmt::Display for BoundFault {
+    fn fmt<W: fmt::Write>(&self, f: &mut fmt::Formatter<W>) -> fmt::Result {
+        match self {
+            BoundFault::Memory => write!(f, "no memory"),
+            BoundFault::Unknown(publisher) => {
+                write!(
+                    f,
+                    "error: invalid value '{publisher}' for '--bound <NAME=VALUES,OCTETS>': the text has no publisher of this name\n\nFor more information, try '--help'."
+                )
+            }
+            BoundFault::Beyond {
+                publisher,
+                opened,
+                most,
+            } => {
+                write!(
+                    f,
+                    "tenants: {publisher} opens with {opened}, beyond its bound, {most}: give it a larger --bound, or fewer values in the text"
+                )
+            }
+        }
+    }
+}
+
+impl From<AllocError> for BoundFault {
+    fn from(_: AllocError) -> BoundFault {
+        BoundFault::Memory
+    }
+}
+
+impl<T: Drop> From<AllocFailed<T>> for BoundFault {
+    fn from(_: AllocFailed<T>) -> BoundFault {
+        BoundFault::Memory
+    }
+}
+
+impl BoundFault {
+    /// The exit status: 2 for the words, 3 for the text.
+    pub fn status(&self) -> u8 {
+        match self {
+            BoundFault::Memory => 1,
+            BoundFault::Unknown(_) => 2,
+            BoundFault::Beyond { .. } => 3,
+        }
+    }
+}
+
+/// Whether the text has a publisher of this name.
+fn has_publisher(tenants: &Tenants, name: &str) -> bool {
+    for place in 0..tenants.publishers() {
+        if let Some((publisher, _, _)) = tenants.publisher(place) {
+            if publisher == name {
+                return true;
+            }
+        }
+    }
+    false
+}
+
+/// The prefix that a line of an accepted text gives to this publisher.
+fn prefix_on<'a>(line: &'a str, publisher: &str) -> Option<&'a str> {
+    let mut fields = line.split(' ');
+    if fields.next() != Some("prefix") {
+        return None;
+    }
+    let prefix = fields.next()?;
+    if fields.next() == Some(publisher) {
+        Some(prefix)
+    } else {
+        None
+    }
+}
+
+/// The bound of a word, with the prefixes that the text gives to its publisher.
+fn bound_of(alloc: Global, word: BoundWord, text: &str) -> Result<Bound, AllocError> {
+    let BoundWord { publisher, most } = word;
+    let mut roots = Vec::new(alloc);
+    for line in text.lines() {
+        if let Some(prefix) = prefix_on(line, publisher.as_str()) {
+            roots.push(format!(in alloc; "0.NA/{prefix}")?)?;
+        }
+    }
+    let mut bound = Bound::new(alloc, publisher, most);
+    for root in &roots {
+        if let Ok(root) = Name::read(alloc, root.as_bytes()) {
+            bound.add(root)?;
+        }
+    }
+    Ok(bound)
+}
+
+/// The bounds of the words, over an accepted text and what was read of it.
+pub fn bounds_of(
+    alloc: Global,
+    words: Vec<BoundWord>,
+    text: &str,
+    tenants: &Tenants,
+) -> Result<Vec<Bound>, BoundFault> {
+    let mut bounds = Vec::new(alloc);
+    for word in words {
+        if !has_publisher(tenants, word.publisher.as_str()) {
+            return Err(BoundFault::Unknown(word.publisher));
+        }
+        let bound = bound_of(alloc, word, text)?;
+        let opened = bound.opened(alloc, tenants.opening())?;
+        if !opened.fits(bound.most) {
+            return Err(BoundFault::Beyond {
+                publisher: bound.publisher,
+                opened,
+                most: bound.most,
+            });
+        }
+        bounds.push(bound)?;
+    }
+    Ok(bounds)
+}
