@@ -203,14 +203,15 @@ def memory_refused():
 
     with served(["--row-cache", "0"], preexec_fn=scarce) as ports:
         acme, bolt = Publisher(ports[0], b"10"), Publisher(ports[1], b"11")
-        found = {bolt.create(b"11/a")}
-        codes = [acme.create(b"10/%d" % one, bytes(60000)) for one in range(WRITES)]
+        found, codes = {bolt.create(b"11/a")}, []
+        while codes.count(BUSY) < 3 and len(codes) < WRITES:
+            codes.append(acme.create(b"10/%d" % len(codes), bytes(LONG)))
         found |= {bolt.resolved(b"11/a")[0], acme.resolved(b"10/0")[0], codes[0]}
         return alike((found, set(codes)), ({wire.SUCCESS}, {wire.SUCCESS, BUSY}))
 
 
-# The address space that the process may have, and how many values of 60,000 octets are more than that.
-MEMORY, WRITES = 256 << 20, 6000
+# The address space that the process may have, octets of a value, and more of them than that holds.
+MEMORY, LONG, WRITES = 256 << 20, 30000, 10000
 
 
 def main():

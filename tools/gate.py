@@ -34,6 +34,7 @@ PARTS = (
     [sys.executable, "tools/strangers.py"],
     [sys.executable, "tools/crowd.py"],
     [sys.executable, "tools/ports.py"],
+    [sys.executable, "tools/bounds.py"],
     [sys.executable, "tools/listens.py"],
     [sys.executable, "tools/amplify.py"],
     [sys.executable, "tools/release.py", "--try"],
