@@ -29,6 +29,7 @@ PARTS = (
     [sys.executable, "tools/rests.py"],
     [sys.executable, "tools/readme.py"],
     [sys.executable, "tools/lasting.py"],
+    [sys.executable, "tools/exports.py"],
     ["tools/refuse-disk"],
     ["tools/cut-power"],
     [sys.executable, "tools/strangers.py"],

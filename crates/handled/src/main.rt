@@ -2,7 +2,7 @@
 //!
 //! `handled` and `handled replay` are [`hdl_replay::replay`], handed the standard streams and a table in SQL, in memory.
 //! `handled serve` is [`hdl_host::hosted`], handed the tenants text on standard input and such a table, whose handles are kept where they
-//! were read last (hdl_cachedrows). `handled check` says what such a text has, or all of its faults (hdl_check). With `--table FILE` both go on over the table in that file (hdl_lastingrows). What is printed, the fault lines and the exit statuses are those of docs/PROTOCOL.md, "The tenants
+//! were read last (hdl_cachedrows). `handled check` says what such a text has, or all of its faults (hdl_check), `handled export` writes a table as such a text (hdl_export). With `--table FILE` both go on over the table in that file (hdl_lastingrows). What is printed, the fault lines and the exit statuses are those of docs/PROTOCOL.md, "The tenants
 //! text and scripts". This crate has the command line alone, since nothing else needs `clap`.
 #![tactic(auto)]
 
@@ -11,6 +11,7 @@ ghost use Rattle.hdl_rows.specs.Table.{no_rows};
 
 mod bounds;
 mod checking;
+mod exporting;
 mod notices;
 mod tabled;
 mod words;
@@ -29,7 +30,7 @@ use std::process::ExitCode;
 use std::random::RandomSource;
 use std::rt::Clock;
 use std::thread::Threads;
-use tabled::{Desk, TabledFault, ended, open_desk, replay_on};
+use tabled::{Desk, TabledFault, ended, export_on, open_desk, replay_on};
 use words::{Asked, TableFile, read_words};
 
 /// What is left to do once the command line and the input were read.
@@ -107,6 +108,10 @@ fn run(rt: &HostRuntime) -> Result<Next, TabledFault> {
             let text = read_text(rt)?;
             Ok(Next::Ended(check_text(rt, text.as_str())?))
         }
+        Asked::Export { table } => {
+            let text = read_text(rt)?;
+            Ok(Next::Ended(export_on(rt, &table, text.as_str())?))
+        }
         Asked::Replay { table: None } => Ok(Next::Ended(replayed(rt)?)),
         Asked::Replay { table: Some(file) } => {
             let text = read_text(rt)?;
@@ -163,13 +168,7 @@ fn serve_in_memory<
         + Send
         + Drop
         + 'static,
->(
-    machine: &R,
-    rt: &HostRuntime,
-    tenants: Tenants,
-    setting: Setting,
-    row_cache: usize,
-) -> ExitCode {
+>(machine: &R, rt: &HostRuntime, tenants: Tenants, setting: Setting, row_cache: usize) -> ExitCode {
     let rows = match served_rows(rt, row_cache) {
         Ok(rows) => rows,
         Err(fault) => return failed(rt, TabledFault::from(fault)),

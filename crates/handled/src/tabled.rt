@@ -1,7 +1,9 @@
 //! Replaying and serving over a table in a file.
 
+use crate::exporting::{put_export, status_of};
 use crate::words::TableFile;
 use hdl_core::{Event, Rows, Tenants};
+use hdl_export::ExportFault;
 use hdl_host::HostFault;
 use hdl_lastingrows::{Alarm, FileTable, TableFault, open_file, table_over};
 use hdl_replay::{Fault, events_of, parts_of, put_all, tenants_of, told_on};
@@ -9,12 +11,14 @@ use hdl_rows::PlainRows;
 use hdl_sqlrows::load::Progress;
 use sqlite::Wary;
 use std::fmt;
+use std::fs::File;
 
 /// Why a run over a file ends with a fault line.
 #[derive(Clone, Copy, Debug)]
 pub enum TabledFault {
     Run(HostFault),
     Table(TableFault),
+    Export(ExportFault),
 }
 
 impl TabledFault {
@@ -24,6 +28,7 @@ impl TabledFault {
             TabledFault::Run(fault) => fault.status(),
             TabledFault::Table(TableFault::Memory) => Fault::NoMemory.status(),
             TabledFault::Table(_) => 4,
+            TabledFault::Export(fault) => status_of(fault),
         }
     }
 }
@@ -33,6 +38,7 @@ impl fmt::Display for TabledFault {
         match self {
             TabledFault::Run(fault) => write!(f, "{fault}"),
             TabledFault::Table(fault) => write!(f, "{fault}"),
+            TabledFault::Export(fault) => write!(f, "{fault}"),
         }
     }
 }
@@ -46,6 +52,12 @@ impl From<Fault> for TabledFault {
 impl From<HostFault> for TabledFault {
     fn from(fault: HostFault) -> TabledFault {
         TabledFault::Run(fault)
+    }
+}
+
+impl From<ExportFault> for TabledFault {
+    fn from(fault: ExportFault) -> TabledFault {
+        TabledFault::Export(fault)
     }
 }
 
@@ -133,6 +145,27 @@ pub fn replay_on(rt: &HostRuntime, file: &TableFile, text: &str) -> Result<(), T
     replay_over(rt, table, tenants, events)
 }
 
+/// Prints the table as a tenants text, and closes the file. Answers the exit status.
+fn export_over<T: Rows + Closing + Drop>(
+    rt: &HostRuntime,
+    mut table: T,
+    text: &str,
+) -> Result<u8, TabledFault> {
+    let status = put_export(rt, text, &mut table)?;
+    table.close()?;
+    Ok(status)
+}
+
+/// Prints the table in the file as a tenants text, and answers the exit status. The file is opened as a server's start opens it, but none is made.
+pub fn export_on(rt: &HostRuntime, file: &TableFile, text: &str) -> Result<u8, TabledFault> {
+    if File::open(rt, file.path.as_str()).is_err() {
+        return Err(TabledFault::Table(TableFault::CannotOpen));
+    }
+    let tenants = tenants_of(rt.alloc(), text)?;
+    let table = opened(rt, file, &tenants)?;
+    export_over(rt, table, text)
+}
+
 /// What is served: the tenants of the text, and the table in the file at this path.
 #[derive(Drop)]
 pub struct Desk {
@@ -142,11 +175,7 @@ pub struct Desk {
 }
 
 /// Opens what is served.
-pub fn open_desk(
-    rt: &HostRuntime,
-    file: TableFile,
-    tenants: Tenants,
-) -> Result<Desk, TableFault> {
+pub fn open_desk(rt: &HostRuntime, file: TableFile, tenants: Tenants) -> Result<Desk, TableFault> {
     let table = opened(rt, &file, &tenants)?;
     Ok(Desk {
         tenants,

@@ -33,6 +33,10 @@ pub enum Asked {
         row_cache: usize,
         table: Option<TableFile>,
     },
+    /// The tenants text is on standard input; the table in the file is written as such a text.
+    Export {
+        table: TableFile,
+    },
     /// The tenants text is on standard input, to be checked.
     Check,
     /// Nothing: help, the version or a fault was printed, and this is the exit status.
@@ -138,6 +142,21 @@ fn replay_command<'a>(alloc: Global) -> Result<Command<'a>, AllocError> {
     table_args(alloc, command)
 }
 
+fn export_command<'a>(alloc: Global) -> Result<Command<'a>, AllocError> {
+    Command::new(alloc, "export")
+        .about(
+            "Writes the table in a file as a tenants text, with the publishers and prefixes of the one on standard input",
+        )
+        .arg(
+            Arg::new(alloc, "table")
+                .long("table")
+                .value_name("FILE")
+                .help("The SQLite file of the table, which no server has open")
+                .action(ArgAction::Set)
+                .required(true),
+        )
+}
+
 fn command<'a>(alloc: Global) -> Result<Command<'a>, AllocError> {
     Command::new(alloc, "handled")
         .version(VERSION)
@@ -146,6 +165,7 @@ fn command<'a>(alloc: Global) -> Result<Command<'a>, AllocError> {
         )
         .subcommand(replay_command(alloc)?)?
         .subcommand(serve_command(alloc)?)?
+        .subcommand(export_command(alloc)?)?
         .subcommand(Command::new(alloc, "check").about(
             "Says what the tenants text on standard input has, or all of its faults, and serves nothing",
         ))
@@ -299,10 +319,23 @@ fn table_file(alloc: Global, found: &ArgMatches) -> Result<Option<TableFile>, Al
     }
 }
 
+/// What is asked for by the words behind `export`.
+fn exported_table(alloc: Global, found: &ArgMatches) -> Result<Asked, Unclear> {
+    Ok(Asked::Export {
+        table: TableFile {
+            path: String::from_str(alloc, found.get_str("table").unwrap_or(""))?,
+            has_sums: false,
+        },
+    })
+}
+
 fn parsed(alloc: Global, words: &[String]) -> Result<Asked, Unclear> {
     let matches = command(alloc)?.try_get_matches_from(words)?;
     if matches.subcommand_matches("check").is_some() {
         return Ok(Asked::Check);
+    }
+    if let Some(found) = matches.subcommand_matches("export") {
+        return exported_table(alloc, found);
     }
     if let Some(found) = matches.subcommand_matches("serve") {
         return serve_words(alloc, found);

@@ -1,0 +1,39 @@
+//! Writing a table as a tenants text.
+
+use crate::tabled::TabledFault;
+use hdl_export::{ExportFault, export, left_out};
+use hdl_replay::{Fault, put_all};
+use hdl_rows::Rows;
+
+/// The exit status where the table has handles that the text can't say.
+const INCOMPLETE: u8 = 5;
+
+/// The exit status of a fault: 3 for the text that was given, 4 for the table, 1 where memory or the table refused.
+pub fn status_of(fault: &ExportFault) -> u8 {
+    match fault {
+        ExportFault::Given { .. } => 3,
+        ExportFault::Row | ExportFault::Written { .. } => 4,
+        ExportFault::Memory => Fault::NoMemory.status(),
+        ExportFault::Store => Fault::StoreRefused.status(),
+    }
+}
+
+/// Says on standard error how many handles the text doesn't say; answers the exit status.
+fn say_left_out<R: Rows>(rt: &HostRuntime, text: &str, rows: &mut R) -> Result<u8, ExportFault> {
+    let left = left_out(rt.alloc(), text, rows)?;
+    if left.empty == 0 && left.unsayable == 0 {
+        return Ok(0);
+    }
+    let (empty, unsayable) = (left.empty, left.unsayable);
+    let _ = eprintln!(rt;
+        "export: left out, since no tenants text says them: {empty} handles without a value, {unsayable} with a space or a line feed in the name"
+    );
+    Ok(INCOMPLETE)
+}
+
+/// Prints the table as a tenants text, with the publishers and prefixes of this one. Answers the exit status.
+pub fn put_export<R: Rows>(rt: &HostRuntime, text: &str, rows: &mut R) -> Result<u8, TabledFault> {
+    let out = export(rt.alloc(), text, rows)?;
+    put_all(&mut rt.stdout(), out.as_bytes())?;
+    Ok(say_left_out(rt, text, rows)?)
+}
