@@ -1,3 +1,2 @@
 pub mod Amount
-pub mod Holding
 pub mod Bounded
