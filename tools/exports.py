@@ -39,9 +39,10 @@ HEADS = {
     "bolt": ["publisher bolt 2 %d", "prefix 20 bolt"],
 }
 OPENING = owner(b"0.NA/10") + owner(b"0.NA/20") + [(b"10.5/b", url(1, b"https://b/"))]
-CREATED = [(b"10/a", [url(2, b"https://a/2"), url(1, b"https://a/1"), administrator(b"0.NA/10")]), (b"10/A", [url(1, b"https://A/")]), (b"20/x", [url(7, b"kept", KEPT)])]
+CREATED = [(b"10/a", [url(2, b"https://a/2"), url(1, b"https://a/1"), administrator(b"0.NA/10")]), (b"10/A", [url(1, b"https://A/"), administrator(b"0.NA/10")]),
+           (b"20/x", [url(7, b"kept", KEPT), administrator(b"0.NA/20")])]
 # what a text can't say
-UNSAYABLE = [(b"10/with a space", [url(1, b"https://space/")]), (b"10/with\na line", [url(1, b"https://line/")])]
+UNSAYABLE = [(handle, [url(1, b"https://space/"), administrator(b"0.NA/10")]) for handle in (b"10/with a space", b"10/with\na line")]
 
 
 def heads(names, ports):
