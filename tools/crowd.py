@@ -205,6 +205,8 @@ def full(port):
     time.sleep(IDLE + 0.5)
     longest = everybody.pop(OWN)
     good = good and is_answered(longest, 2)
+    # silence is counted in milliseconds, and of two that are silent as long either may go
+    time.sleep(0.05)
     for stream in everybody:
         good = is_answered(stream, 2) and good
     late = client(port)
