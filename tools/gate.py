@@ -36,6 +36,8 @@ PARTS = (
     [sys.executable, "tools/crowd.py"],
     [sys.executable, "tools/ports.py"],
     [sys.executable, "tools/bounds.py"],
+    [sys.executable, "tools/watches.py"],
+    [sys.executable, "tools/copies.py"],
     [sys.executable, "tools/listens.py"],
     [sys.executable, "tools/amplify.py"],
     [sys.executable, "tools/release.py", "--try"],

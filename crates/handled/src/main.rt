@@ -6,31 +6,32 @@
 //! text and scripts". This crate has the command line alone, since nothing else needs `clap`.
 #![tactic(auto)]
 
-ghost use Rattle.std.specs.Prelude.{◌≡◌, IfOk};
-ghost use Rattle.hdl_rows.specs.Table.{no_rows};
-
 mod bounds;
 mod checking;
+mod commands;
+mod copying;
 mod exporting;
 mod notices;
+mod supervising;
 mod tabled;
 mod words;
 
 use bounds::{BoundWord, bounds_of};
 use checking::check_text;
-use hdl_cachedrows::CachedRows;
+use copying::copy_table;
 use hdl_core::Tenants;
-use hdl_host::{Setting, hosted, hosted_on};
-use hdl_replay::{Fault, read_input, replay, tenants_of};
-use hdl_sqlrows::SqlRows;
+use hdl_host::{Ending, Setting, hosted, hosted_on};
+use hdl_replay::{Fault, read_input, tenants_of};
 use notices::{Kept, say_begins, say_ends};
-use std::hash::RandomState;
+use std::fs::Files;
 use std::net::{Net, TcpListener, TcpStream};
 use std::process::ExitCode;
 use std::random::RandomSource;
 use std::rt::Clock;
+use std::sync::Arc;
 use std::thread::Threads;
-use tabled::{Desk, TabledFault, ended, export_on, open_desk, replay_on};
+use supervising::{log_at, stop};
+use tabled::{Desk, TabledFault, empty_table, ended, export_on, open_desk, replay_in, replay_on};
 use words::{Asked, TableFile, read_words};
 
 /// What is left to do once the command line and the input were read.
@@ -62,13 +63,8 @@ fn read_text(rt: &HostRuntime) -> Result<String, Fault> {
 
 /// Runs the script over a table in SQL, in memory, and answers the exit status.
 fn replayed(rt: &HostRuntime) -> Result<u8, Fault> {
-    let Ok(rows) = SqlRows::new(rt.alloc()) else {
-        return Err(Fault::StoreRefused);
-    };
-    let mut input = rt.stdin();
-    let mut output = rt.stdout();
-    let mut faults = rt.stderr();
-    Ok(replay(rt.alloc(), rows, &mut input, &mut output, &mut faults))
+    let rows = empty_table(rt, 0)?;
+    replay_in(rt, rows)
 }
 
 /// What is asked to be served, once its text was read.
@@ -76,9 +72,13 @@ fn run_serve(
     rt: &HostRuntime,
     mut setting: Setting,
     bounds: Vec<BoundWord>,
+    log: Option<String>,
     row_cache: usize,
     table: Option<TableFile>,
 ) -> Result<Next, TabledFault> {
+    if let Some(path) = log {
+        setting.supervision.log = Some(log_at(rt, path.as_str())?);
+    }
     let text = read_text(rt)?;
     let tenants = tenants_of(rt.alloc(), text.as_str())?;
     match bounds_of(rt.alloc(), bounds, text.as_str(), &tenants) {
@@ -95,7 +95,7 @@ fn run_serve(
             row_cache,
         }),
         Some(file) => {
-            let desk = open_desk(rt, file, tenants)?;
+            let desk = open_desk(rt, file, tenants, &setting.supervision.health)?;
             Ok(Next::ServeOn { desk, setting })
         }
     }
@@ -118,33 +118,26 @@ fn run(rt: &HostRuntime) -> Result<Next, TabledFault> {
             replay_on(rt, &file, text.as_str())?;
             Ok(Next::Ended(0))
         }
+        Asked::Copy { from, to } => {
+            copy_table(rt, from.as_str(), to.as_str())?;
+            Ok(Next::Ended(0))
+        }
+        Asked::Stop { control } => Ok(Next::Ended(stop(rt, control.as_str()))),
         Asked::Serve {
             setting,
             bounds,
+            log,
             row_cache,
             table,
-        } => run_serve(rt, setting, bounds, row_cache, table),
+        } => run_serve(rt, setting, bounds, log, row_cache, table),
     }
 }
 
-/// An empty table in SQL, of which at most so many octets are kept where they were read last.
-fn served_rows(rt: &HostRuntime, row_cache: usize) -> Result<CachedRows<SqlRows>, Fault>
-    ensures empty { IfOk result (λ rows. rows.table ≡ no_rows) }
-{
-    let Ok(hasher) = RandomState::new(rt) else {
-        return Err(Fault::Device);
-    };
-    let Ok(rows) = SqlRows::new(rt.alloc()) else {
-        return Err(Fault::StoreRefused);
-    };
-    Ok(CachedRows::new(rt.alloc(), rows, row_cache, hasher)?)
-}
-
 /// Says how a server ended, and answers the exit status.
-fn told(rt: &HostRuntime, served: Result<(), TabledFault>) -> ExitCode {
+fn told(rt: &HostRuntime, served: Result<(), TabledFault>, ending: &Ending) -> ExitCode {
     match served {
         Ok(()) => {
-            say_ends(rt);
+            say_ends(rt, ending.is_asked());
             ExitCode::from(0)
         }
         Err(fault) => failed(rt, fault),
@@ -163,20 +156,25 @@ fn serve_in_memory<
         + Threads
         + Clock
         + RandomSource
+        + Files
         + Eprint
         + Copy
         + Send
         + Drop
         + 'static,
 >(machine: &R, rt: &HostRuntime, tenants: Tenants, setting: Setting, row_cache: usize) -> ExitCode {
-    let rows = match served_rows(rt, row_cache) {
+    let rows = match empty_table(rt, row_cache) {
         Ok(rows) => rows,
         Err(fault) => return failed(rt, TabledFault::from(fault)),
     };
     say_begins(rt, &tenants, Kept::Memory { row_cache }, setting.limits);
     let mut output = rt.stdout();
+    let ending = match Arc::try_clone(&setting.supervision.ending) {
+        Ok(ending) => ending,
+        Err(_) => return failed(rt, TabledFault::from(Fault::NoMemory)),
+    };
     let served = hosted(machine, rt.alloc(), rows, tenants, setting, &mut output);
-    told(rt, served.map_err(TabledFault::from))
+    told(rt, served.map_err(TabledFault::from), &ending)
 }
 
 /// Serves over the table in a file, and answers the exit status.
@@ -185,6 +183,7 @@ fn serve_on<
         + Threads
         + Clock
         + RandomSource
+        + Files
         + Eprint
         + Copy
         + Send
@@ -198,8 +197,12 @@ fn serve_on<
     } = desk;
     say_begins(rt, &tenants, Kept::File(path.as_str()), setting.limits);
     let mut output = rt.stdout();
+    let ending = match Arc::try_clone(&setting.supervision.ending) {
+        Ok(ending) => ending,
+        Err(_) => return failed(rt, TabledFault::from(Fault::NoMemory)),
+    };
     let served = hosted_on(machine, rt.alloc(), table, tenants, setting, &mut output);
-    told(rt, ended(served))
+    told(rt, ended(served), &ending)
 }
 
 fn main(rt: HostRuntime) -> ExitCode {

@@ -68,7 +68,12 @@ pub fn say_begins(rt: &HostRuntime, tenants: &Tenants, kept: Kept<'_>, limits: L
     let _ = eprintln!(rt; "handled {VERSION}: begins: {beginning}");
 }
 
-/// Says that the server ends of itself.
-pub fn say_ends(rt: &HostRuntime) {
-    let _ = eprintln!(rt; "handled: ends: the turns are spent");
+/// Says that the server ends, and why.
+pub fn say_ends(rt: &HostRuntime, was_asked: bool) {
+    let reason = if was_asked {
+        "it was asked to"
+    } else {
+        "the turns are spent"
+    };
+    let _ = eprintln!(rt; "handled: ends: {reason}");
 }

@@ -1,17 +1,27 @@
-//! Replaying and serving over a table in a file.
+//! The table of a run, in memory or with a file beside it, and what is done over a file.
 
+ghost use Rattle.std.specs.Prelude.{◌≡◌, IfOk};
+ghost use Rattle.hdl_rows.specs.Table.{no_rows};
+
+use crate::copying::CopyFault;
 use crate::exporting::{put_export, status_of};
 use crate::words::TableFile;
+use hdl_boundedrows::BoundedRows;
+use hdl_cachedrows::CachedRows;
 use hdl_core::{Event, Rows, Tenants};
+use hdl_eitherrows::EitherRows;
 use hdl_export::ExportFault;
-use hdl_host::HostFault;
+use hdl_host::{Health, HostFault, Notices};
 use hdl_lastingrows::{Alarm, FileTable, TableFault, open_file, table_over};
-use hdl_replay::{Fault, events_of, parts_of, put_all, tenants_of, told_on};
+use hdl_replay::{Fault, events_of, parts_of, put_all, replay, tenants_of, told_on};
 use hdl_rows::PlainRows;
+use hdl_sqlrows::SqlRows;
 use hdl_sqlrows::load::Progress;
 use sqlite::Wary;
 use std::fmt;
 use std::fs::File;
+use std::hash::RandomState;
+use std::sync::Arc;
 
 /// Why a run over a file ends with a fault line.
 #[derive(Clone, Copy, Debug)]
@@ -19,6 +29,7 @@ pub enum TabledFault {
     Run(HostFault),
     Table(TableFault),
     Export(ExportFault),
+    Copy(CopyFault),
 }
 
 impl TabledFault {
@@ -29,6 +40,7 @@ impl TabledFault {
             TabledFault::Table(TableFault::Memory) => Fault::NoMemory.status(),
             TabledFault::Table(_) => 4,
             TabledFault::Export(fault) => status_of(fault),
+            TabledFault::Copy(fault) => fault.status(),
         }
     }
 }
@@ -39,6 +51,7 @@ impl fmt::Display for TabledFault {
             TabledFault::Run(fault) => write!(f, "{fault}"),
             TabledFault::Table(fault) => write!(f, "{fault}"),
             TabledFault::Export(fault) => write!(f, "{fault}"),
+            TabledFault::Copy(fault) => write!(f, "{fault}"),
         }
     }
 }
@@ -61,6 +74,12 @@ impl From<ExportFault> for TabledFault {
     }
 }
 
+impl From<CopyFault> for TabledFault {
+    fn from(fault: CopyFault) -> TabledFault {
+        TabledFault::Copy(fault)
+    }
+}
+
 impl From<TableFault> for TabledFault {
     fn from(fault: TableFault) -> TabledFault {
         TabledFault::Table(fault)
@@ -71,12 +90,17 @@ impl From<TableFault> for TabledFault {
 const STEP: u64 = 100_000;
 
 /// Says on standard error how far the load of a large table is, and that the table takes no more writes.
-#[derive(Clone, Copy, Drop)]
-pub struct Said(HostRuntime);
+#[derive(Drop)]
+pub struct Said {
+    rt: HostRuntime,
+    /// What the status page tells of the table.
+    health: Arc<Health>,
+}
 
 impl Alarm for Said {
     fn ring(&mut self) {
-        let _ = eprintln!(self.0;
+        self.health.shut();
+        let _ = eprintln!(self.rt;
             "table: shut for writes: a write or a sync of the file failed, or memory did; reads go on, changes are answered busy; restart once the cause is gone"
         );
     }
@@ -85,26 +109,50 @@ impl Alarm for Said {
 impl Progress for Said {
     fn handles(&mut self, count: u64) {
         if count % STEP == 0 {
-            let _ = eprintln!(self.0; "table: {count} handles read");
+            let _ = eprintln!(self.rt; "table: {count} handles read");
         }
     }
 
     fn values(&mut self, count: u64) {
         if count % STEP == 0 {
-            let _ = eprintln!(self.0; "table: {count} values read");
+            let _ = eprintln!(self.rt; "table: {count} values read");
         }
     }
 }
 
 /// The table in memory, with the file beside it.
-pub type Table = FileTable<PlainRows, Wary, Said>;
+type FileRows = FileTable<PlainRows, Wary, Said>;
 
-fn opened(rt: &HostRuntime, file: &TableFile, tenants: &Tenants) -> Result<Table, TableFault> {
+/// The table of a run. It is one type, so that the program has one machine.
+pub type Table = EitherRows<CachedRows<SqlRows>, FileRows>;
+
+/// An empty table in SQL, in memory, of which at most so many octets are kept where they were read last.
+pub fn empty_table(rt: &HostRuntime, row_cache: usize) -> Result<Table, Fault>
+    ensures empty { IfOk result (λ rows. ⟦<Table as Rows>⟧.content rows ≡ no_rows) }
+{
+    let Ok(hasher) = RandomState::new(rt) else {
+        return Err(Fault::Device);
+    };
+    let Ok(rows) = SqlRows::new(rt.alloc()) else {
+        return Err(Fault::StoreRefused);
+    };
+    let rows = CachedRows::new(rt.alloc(), rows, row_cache, hasher)?;
+    Ok(EitherRows::First(rows))
+}
+
+fn opened(
+    rt: &HostRuntime,
+    file: &TableFile,
+    tenants: &Tenants,
+    health: Arc<Health>,
+) -> Result<Table, TableFault> {
     let conn = open_file(rt, file.path.as_str(), file.has_sums, Wary)?;
     let alloc = rt.alloc();
     let rows = PlainRows::new(alloc);
     let spare = PlainRows::new(alloc);
-    table_over(alloc, conn, rows, spare, tenants.opening(), Said(*rt))
+    let said = Said { rt: *rt, health };
+    let rows = table_over(alloc, conn, rows, spare, tenants.opening(), said)?;
+    Ok(EitherRows::Second(rows))
 }
 
 /// What has a file, which is closed at the end.
@@ -115,13 +163,52 @@ trait Closing {
     fn close(self) -> Result<(), TabledFault>;
 }
 
-impl Closing for Table {
+impl Closing for FileRows {
     fn close(self) -> Result<(), TabledFault> {
         match self.into_connection().close() {
             Ok(()) => Ok(()),
             Err(fault) => Err(TabledFault::Table(TableFault::from(fault))),
         }
     }
+}
+
+impl<A: Drop, B: Closing + Drop> Closing for EitherRows<A, B> {
+    fn close(self) -> Result<(), TabledFault> {
+        match self {
+            EitherRows::First(_) => Ok(()),
+            EitherRows::Second(rows) => rows.close(),
+        }
+    }
+}
+
+/// A table behind no bounds, as one that is served is behind its own.
+fn unbounded<T: Rows + Drop>(
+    rt: &HostRuntime,
+    rows: T,
+) -> Result<BoundedRows<T, Notices<HostRuntime>>, Fault>
+    ensures { IfOk result (λ bounded. bounded.table ≡ T.content rows) }
+{
+    let alloc = rt.alloc();
+    match BoundedRows::new(alloc, rows, Vec::new(alloc), Notices::new(*rt)) {
+        Ok(rows) => Ok(rows),
+        Err(_) => Err(Fault::StoreRefused),
+    }
+}
+
+/// The health of a table that nobody asks for.
+fn new_health(rt: &HostRuntime) -> Result<Arc<Health>, Fault> {
+    Ok(Arc::new(rt.alloc(), Health::new())?)
+}
+
+/// Runs the script on standard input over an empty table, and answers the exit status.
+pub fn replay_in<T: Rows + Drop>(rt: &HostRuntime, rows: T) -> Result<u8, Fault>
+    requires empty { T.content rows ≡ no_rows }
+{
+    let rows = unbounded(rt, rows)?;
+    let mut input = rt.stdin();
+    let mut output = rt.stdout();
+    let mut faults = rt.stderr();
+    Ok(replay(rt.alloc(), rows, &mut input, &mut output, &mut faults))
 }
 
 /// Runs the events over the table, prints the outcomes, and closes the file.
@@ -131,9 +218,10 @@ fn replay_over<T: Rows + Closing + Drop>(
     tenants: Tenants,
     events: Vec<Event>,
 ) -> Result<(), TabledFault> {
-    let (lines, table) = told_on(rt.alloc(), table, tenants, events)?;
+    let rows = unbounded(rt, table)?;
+    let (lines, rows) = told_on(rt.alloc(), rows, tenants, events)?;
     put_all(&mut rt.stdout(), lines.as_bytes())?;
-    table.close()
+    rows.into_rows().close()
 }
 
 /// Runs the script over the table in the file, prints the outcomes, and closes the file.
@@ -141,7 +229,7 @@ pub fn replay_on(rt: &HostRuntime, file: &TableFile, text: &str) -> Result<(), T
     let parts = parts_of(text);
     let tenants = tenants_of(rt.alloc(), parts.tenants)?;
     let events = events_of(rt.alloc(), parts.script, parts.run_line)?;
-    let table = opened(rt, file, &tenants)?;
+    let table = opened(rt, file, &tenants, new_health(rt)?)?;
     replay_over(rt, table, tenants, events)
 }
 
@@ -162,8 +250,16 @@ pub fn export_on(rt: &HostRuntime, file: &TableFile, text: &str) -> Result<u8, T
         return Err(TabledFault::Table(TableFault::CannotOpen));
     }
     let tenants = tenants_of(rt.alloc(), text)?;
-    let table = opened(rt, file, &tenants)?;
+    let table = opened(rt, file, &tenants, new_health(rt)?)?;
     export_over(rt, table, text)
+}
+
+/// Opens a copy of a table's file, which takes in its log, and closes it.
+pub fn close_copy(rt: &HostRuntime, path: &str) -> Result<(), TabledFault> {
+    match open_file(rt, path, false, Wary)?.close() {
+        Ok(()) => Ok(()),
+        Err(fault) => Err(TabledFault::Table(TableFault::from(fault))),
+    }
 }
 
 /// What is served: the tenants of the text, and the table in the file at this path.
@@ -174,9 +270,17 @@ pub struct Desk {
     pub path: String,
 }
 
-/// Opens what is served.
-pub fn open_desk(rt: &HostRuntime, file: TableFile, tenants: Tenants) -> Result<Desk, TableFault> {
-    let table = opened(rt, &file, &tenants)?;
+/// Opens what is served. What becomes of the table's health is said there.
+pub fn open_desk(
+    rt: &HostRuntime,
+    file: TableFile,
+    tenants: Tenants,
+    health: &Arc<Health>,
+) -> Result<Desk, TableFault> {
+    let Ok(health) = Arc::try_clone(health) else {
+        return Err(TableFault::Memory);
+    };
+    let table = opened(rt, &file, &tenants, health)?;
     Ok(Desk {
         tenants,
         table,

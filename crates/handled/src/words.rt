@@ -1,14 +1,15 @@
 //! The words of the command line.
 
 use crate::bounds::BoundWord;
+use crate::commands::command;
 use clap::error::ErrorKind;
-use clap::{Arg, ArgAction, ArgMatches, Command, Error, value_parser};
+use clap::{ArgMatches, Error};
 use hdl_cachedrows::LIMIT_DEFAULT;
-use hdl_host::{Amount, Limits, Setting};
+use hdl_host::{Amount, Limits, Setting, Supervision};
 use hdl_replay::Fault;
-use hdl_status::{VERSION, status_of_words, words_of};
+use hdl_status::{status_of_words, words_of};
 use std::alloc::{AllocError, Global};
-use std::net::{IpAddr, Ipv4Addr};
+use std::net::{IpAddr, Ipv4Addr, SocketAddr};
 
 /// The file of a table that lasts.
 #[derive(Debug, Drop)]
@@ -19,19 +20,29 @@ pub struct TableFile {
 }
 
 /// What the command line asks for.
-#[derive(Debug, Drop)]
+#[derive(Drop)]
 pub enum Asked {
     /// A script on standard input, over the table in a file, if one is named.
     Replay {
         table: Option<TableFile>,
     },
     /// The tenants text is on standard input, served in this setting. The table is in a file, if one is named; else in memory alone, and at
-    /// most so many octets of it are kept where they were read last. The setting has no bounds yet: their words are beside it.
+    /// most so many octets of it are kept where they were read last. The setting has no bounds and no log yet: their words are beside it.
     Serve {
         setting: Setting,
         bounds: Vec<BoundWord>,
+        log: Option<String>,
         row_cache: usize,
         table: Option<TableFile>,
+    },
+    /// The table's file is copied, though a server may have it open.
+    Copy {
+        from: String,
+        to: String,
+    },
+    /// The server that listens at this socket is asked to end.
+    Stop {
+        control: String,
     },
     /// The tenants text is on standard input; the table in the file is written as such a text.
     Export {
@@ -41,134 +52,6 @@ pub enum Asked {
     Check,
     /// Nothing: help, the version or a fault was printed, and this is the exit status.
     Ended(u8),
-}
-
-fn table_args<'a>(alloc: Global, command: Command<'a>) -> Result<Command<'a>, AllocError> {
-    command
-        .arg(
-            Arg::new(alloc, "table")
-                .long("table")
-                .value_name("FILE")
-                .help(
-                    "Keeps the table in this SQLite file, where every change lasts; makes the file where there is none",
-                )
-                .action(ArgAction::Set),
-        )?
-        .arg(
-            Arg::new(alloc, "sums")
-                .long("sums")
-                .help(
-                    "Gives a new FILE a sum on each page, which tells changed bits; a plain sqlite3 that writes it spoils them",
-                )
-                .action(ArgAction::SetTrue)
-                .requires_arg("table")?,
-        )
-}
-
-fn serve_command<'a>(alloc: Global) -> Result<Command<'a>, AllocError> {
-    let command = Command::new(alloc, "serve")
-        .about("Serves the tenants text on standard input over TCP and UDP")
-        .arg(
-            Arg::new(alloc, "listen")
-                .long("listen")
-                .value_name("ADDRESS")
-                .help(
-                    "Opens each publisher's port at this IPv4 or IPv6 address, repeated for more; without it on 127.0.0.1",
-                )
-                .action(ArgAction::Append),
-        )?
-        .arg(
-            Arg::new(alloc, "turns")
-                .long("turns")
-                .value_name("N")
-                .help("Ends after N turns of each worker and of the service")
-                .action(ArgAction::Set)
-                .value_parser(value_parser!(u64).range(1..)),
-        )?
-        .arg(
-            Arg::new(alloc, "idle")
-                .long("idle")
-                .value_name("SECONDS")
-                .help(
-                    "Closes a connection that says nothing for so long while another client waits; 60 by default",
-                )
-                .action(ArgAction::Set)
-                .value_parser(value_parser!(u32).range(1..)),
-        )?
-        .arg(
-            Arg::new(alloc, "amplify")
-                .long("amplify")
-                .value_name("N")
-                .help(
-                    "Answers by UDP with at most N times the octets that asked, or one datagram, until the client answers a challenge; 8 by default, on loopback no limit unless N is given",
-                )
-                .action(ArgAction::Set)
-                .value_parser(value_parser!(u32).range(1..)),
-        )?
-        .arg(
-            Arg::new(alloc, "crowd")
-                .long("crowd")
-                .value_name("CONNECTIONS")
-                .help(
-                    "Serves at most so many connections of a publisher on its overflow lane, once its other lanes are taken; 1000 by default, 0 for no such lane",
-                )
-                .action(ArgAction::Set)
-                .value_parser(value_parser!(u32)),
-        )?
-        .arg(
-            Arg::new(alloc, "bound")
-                .long("bound")
-                .value_name("NAME=VALUES,OCTETS")
-                .help(
-                    "Lets this publisher hold at most so many values and octets, repeated for others; a change that would take more is answered busy",
-                )
-                .action(ArgAction::Append),
-        )?
-        .arg(
-            Arg::new(alloc, "row-cache")
-                .long("row-cache")
-                .value_name("OCTETS")
-                .help(
-                    "Keeps the handles read last, in at most so many octets; 41943040 by default, 0 for none",
-                )
-                .action(ArgAction::Set)
-                .value_parser(value_parser!(u64)),
-        )?;
-    table_args(alloc, command)
-}
-
-fn replay_command<'a>(alloc: Global) -> Result<Command<'a>, AllocError> {
-    let command = Command::new(alloc, "replay").about("Runs the script on standard input");
-    table_args(alloc, command)
-}
-
-fn export_command<'a>(alloc: Global) -> Result<Command<'a>, AllocError> {
-    Command::new(alloc, "export")
-        .about(
-            "Writes the table in a file as a tenants text, with the publishers and prefixes of the one on standard input",
-        )
-        .arg(
-            Arg::new(alloc, "table")
-                .long("table")
-                .value_name("FILE")
-                .help("The SQLite file of the table, which no server has open")
-                .action(ArgAction::Set)
-                .required(true),
-        )
-}
-
-fn command<'a>(alloc: Global) -> Result<Command<'a>, AllocError> {
-    Command::new(alloc, "handled")
-        .version(VERSION)
-        .about(
-            "A local handle service; with no word, as with replay, it runs the script on standard input",
-        )
-        .subcommand(replay_command(alloc)?)?
-        .subcommand(serve_command(alloc)?)?
-        .subcommand(export_command(alloc)?)?
-        .subcommand(Command::new(alloc, "check").about(
-            "Says what the tenants text on standard input has, or all of its faults, and serves nothing",
-        ))
 }
 
 /// How many octets the handles that were read last may take.
@@ -276,6 +159,8 @@ enum Unclear {
     Bound(String),
     /// This is a second bound of its publisher.
     BoundTwice(String),
+    /// This is no address with a port.
+    Status(String),
 }
 
 impl From<Error> for Unclear {
@@ -301,10 +186,47 @@ fn serve_words(alloc: Global, found: &ArgMatches) -> Result<Asked, Unclear> {
             addresses: addresses(alloc, words)?,
             limits: limits(found),
             bounds: Vec::new(alloc),
+            supervision: supervision(alloc, found)?,
         },
         bounds: bound_words(alloc, found.get_strs("bound").unwrap_or(&[]))?,
+        log: owned(alloc, found.get_str("log"))?,
         row_cache: row_cache(found),
         table: table_file(alloc, found)?,
+    })
+}
+
+fn owned(alloc: Global, word: Option<&str>) -> Result<Option<String>, AllocError> {
+    match word {
+        Some(word) => Ok(Some(String::from_str(alloc, word)?)),
+        None => Ok(None),
+    }
+}
+
+/// What the server tells of itself, but for the log, and how it takes the word to end.
+fn supervision(alloc: Global, found: &ArgMatches) -> Result<Supervision, Unclear> {
+    let mut supervision = Supervision::none(alloc)?;
+    if let Some(word) = found.get_str("status") {
+        match word.parse::<SocketAddr>() {
+            Ok(at) => supervision.status = Some(at),
+            Err(_) => return Err(Unclear::Status(String::from_str(alloc, word)?)),
+        }
+    }
+    supervision.control = owned(alloc, found.get_str("control"))?;
+    Ok(supervision)
+}
+
+/// What is asked for by the words behind `copy`.
+fn copy_words(alloc: Global, found: &ArgMatches) -> Result<Asked, Unclear> {
+    Ok(Asked::Copy {
+        from: String::from_str(alloc, found.get_str("table").unwrap_or(""))?,
+        to: String::from_str(alloc, found.get_str("to").unwrap_or(""))?,
+    })
+}
+
+/// What is asked for by the words behind `stop`.
+fn stop_words(alloc: Global, found: &ArgMatches) -> Result<Asked, Unclear> {
+    Ok(Asked::Stop {
+        control: String::from_str(alloc, found.get_str("control").unwrap_or(""))?,
     })
 }
 
@@ -339,6 +261,12 @@ fn parsed(alloc: Global, words: &[String]) -> Result<Asked, Unclear> {
     }
     if let Some(found) = matches.subcommand_matches("serve") {
         return serve_words(alloc, found);
+    }
+    if let Some(found) = matches.subcommand_matches("copy") {
+        return copy_words(alloc, found);
+    }
+    if let Some(found) = matches.subcommand_matches("stop") {
+        return stop_words(alloc, found);
     }
     match matches.subcommand_matches("replay") {
         Some(found) => Ok(Asked::Replay {
@@ -392,6 +320,12 @@ pub fn read_words(rt: &HostRuntime) -> Result<Asked, Fault> {
             word.as_str(),
             BOUND,
             "write a publisher's name and two numbers, such as acme=10000,5000000",
+        )),
+        Err(Unclear::Status(word)) => Ok(refused(
+            rt,
+            word.as_str(),
+            "--status <ADDRESS:PORT>",
+            "no IPv4 or IPv6 address with a port, such as 127.0.0.1:9100 or [::1]:9100",
         )),
         Err(Unclear::BoundTwice(word)) => Ok(refused(
             rt,

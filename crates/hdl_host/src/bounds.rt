@@ -4,20 +4,20 @@ use hdl_boundedrows::{Alarm, Bound};
 
 /// Says on standard error that a publisher reached its bound, once for each.
 #[derive(Drop)]
-pub struct Told<R: Eprint + Drop> {
+pub struct Notices<R: Eprint + Drop> {
     rt: R,
     /// A bit for each place among the bounds, of which a server has as many as publishers, so at most 32.
     told: u64,
 }
 
-impl<R: Eprint + Drop> Told<R> {
+impl<R: Eprint + Drop> Notices<R> {
     /// Nothing was said.
-    pub fn new(rt: R) -> Told<R> {
-        Told { rt, told: 0 }
+    pub fn new(rt: R) -> Notices<R> {
+        Notices { rt, told: 0 }
     }
 }
 
-impl<R: Eprint + Drop> Alarm for Told<R> {
+impl<R: Eprint + Drop> Alarm for Notices<R> {
     fn ring(&mut self, place: usize, bound: &Bound) {
         let bit = 1u64
             .checked_shl(u32::try_from(place).unwrap_or(u32::MAX))

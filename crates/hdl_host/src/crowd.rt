@@ -4,6 +4,7 @@
 //! owed, and whose number is whose; here are the sockets, none of which waits.
 
 use crate::entrance::Entrance;
+use crate::recorder::Recorder;
 use crate::silence::Seat;
 use crate::sockets::nothing_came;
 use crate::wires::Wires;
@@ -15,7 +16,7 @@ use mio::net::TcpStream;
 use mio::{Events, Interest, Poll, Token};
 use std::alloc::Global;
 use std::io::{self, ErrorKind, Read, Write};
-use std::net::Net;
+use std::net::{Net, SocketAddr};
 use std::time::Duration;
 
 /// The listeners' token; that of a connection is one more than its place.
@@ -342,6 +343,12 @@ impl Crowd {
         self.take_next(buffer)
     }
 
+    /// The address of the client whose frame was received last.
+    fn asker(&mut self) -> Option<SocketAddr> {
+        let place = self.asked?;
+        self.wires.stream(place)?.peer_addr().ok()
+    }
+
     /// Says a datagram of an answer. False: its client is left.
     fn say(&mut self, number: u16, datagram: &[u8]) -> bool {
         if self.book.answered(number, datagram).is_some() {
@@ -362,32 +369,34 @@ fn longer(first: Option<(usize, u64)>, place: usize, since: u64) -> Option<(usiz
     }
 }
 
-/// A crowd as a place where frames come in from numbered peers.
+/// A crowd as a place where frames come in from numbered peers. Of a server that is to end it fails.
 #[derive(Drop)]
 pub struct SocketCrowd<R> {
     rt: R,
     crowd: Crowd,
+    recorder: Option<Recorder<R>>,
     faults: u64,
 }
 
 impl<R> SocketCrowd<R> {
-    pub fn new(rt: R, crowd: Crowd) -> SocketCrowd<R> {
+    pub fn new(rt: R, crowd: Crowd, recorder: Option<Recorder<R>>) -> SocketCrowd<R> {
         SocketCrowd {
             rt,
             crowd,
+            recorder,
             faults: 0,
         }
     }
 }
 
-impl<R: std::rt::Clock> SocketCrowd<R> {
+impl<R: std::rt::Clock + Eprint + Drop> SocketCrowd<R> {
     /// The moment, of the clock that the lanes of the publisher share.
     fn now(&self) -> u64 {
         self.crowd.entrance.seat.moment(&self.rt)
     }
 }
 
-impl<R: std::rt::Clock> Packets for SocketCrowd<R> {
+impl<R: std::rt::Clock + Eprint + Drop> Packets for SocketCrowd<R> {
     ghost use Rattle.std.specs.Prelude.{false, []};
 
     ghost tells = { false };
@@ -401,11 +410,19 @@ impl<R: std::rt::Clock> Packets for SocketCrowd<R> {
     fn receive(&mut self, buffer: &mut [u8]) -> Result<Option<(u16, usize)>, DoorFault> {
         let before = self.now();
         self.crowd.look_round(before);
+        if self.crowd.entrance.seat.is_ending() {
+            self.faults = self.faults.saturating_add(1);
+            return Err(DoorFault);
+        }
         let now = self.now();
         // each frame of the book is within these bounds
         match self.crowd.next_frame(now, buffer) {
             Some((number, len))
                 if number > 0 && usize::from(number) <= PEERS_MAX && len <= buffer.len() => {
+                if let Some(recorder) = &mut self.recorder {
+                    recorder.set_connections(self.crowd.book.len());
+                    recorder.asked_alone(number, &buffer[..len]);
+                }
                 Ok(Some((number, len)))
             }
             _ => Ok(None),
@@ -413,6 +430,11 @@ impl<R: std::rt::Clock> Packets for SocketCrowd<R> {
     }
 
     fn send(&mut self, peer: u16, octets: &[u8]) -> Result<(), DoorFault> {
+        if let Some(recorder) = &mut self.recorder {
+            if let Some(entry) = recorder.answered(peer, octets) {
+                recorder.put(self.crowd.asker(), &entry);
+            }
+        }
         if self.crowd.say(peer, octets) {
             return Ok(());
         }

@@ -6,7 +6,7 @@ use hdl_serve::{Door, DoorFault};
 use std::net::TcpStream;
 
 /// Listeners that several workers share, and the connection of this one, which is watched. `accept` waits for a while, so that a worker
-/// without a connection costs little.
+/// without a connection costs little. Of a server that is to end it fails.
 #[derive(Drop)]
 pub struct SocketDoor<R> {
     watch: Watch<R>,
@@ -24,7 +24,7 @@ impl<R> SocketDoor<R> {
     }
 }
 
-impl<R: std::rt::Clock> Door for SocketDoor<R> {
+impl<R: std::rt::Clock + Eprint + Drop> Door for SocketDoor<R> {
     ghost use Rattle.std.specs.Prelude.{false, true, []};
     ghost use Rattle.hdl_workers.specs.Door.{fresh};
 

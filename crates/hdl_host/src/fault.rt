@@ -13,6 +13,8 @@ pub enum HostFault {
     Run(Fault),
     /// The system doesn't let the server listen here, for a reason of this kind.
     Listen(SocketAddr, ErrorKind),
+    /// The socket at which the word to end is taken can't be made, for a reason of this kind.
+    Control(ErrorKind),
 }
 
 impl HostFault {
@@ -20,7 +22,7 @@ impl HostFault {
     pub fn status(&self) -> u8 {
         match self {
             HostFault::Run(fault) => fault.status(),
-            HostFault::Listen(_, _) => Fault::Device.status(),
+            HostFault::Listen(_, _) | HostFault::Control(_) => Fault::Device.status(),
         }
     }
 }
@@ -42,6 +44,19 @@ fn advice(kind: ErrorKind) -> &'static str {
     }
 }
 
+/// What is wrong with the path of a socket, and what to do.
+fn advice_on_path(kind: ErrorKind) -> &'static str {
+    match kind {
+        ErrorKind::AddrInUse => {
+            "another program listens there, or the path is that of a file: end that program, or name another path"
+        }
+        ErrorKind::NotFound => "its folder isn't there: make it",
+        ErrorKind::PermissionDenied => "the program may not write there: name a folder of its own",
+        ErrorKind::InvalidInput => "a socket's path has at most 107 octets: name a shorter one",
+        _ => "the system refused: look at the path and its folder",
+    }
+}
+
 impl fmt::Display for HostFault {
     fn fmt<W: fmt::Write>(&self, f: &mut fmt::Formatter<W>) -> fmt::Result {
         match self {
@@ -49,6 +64,14 @@ impl fmt::Display for HostFault {
             HostFault::Listen(address, kind) => {
                 let advice = advice(*kind);
                 write!(f, "{}: cannot listen on {address}: {advice}", Fault::Device)
+            }
+            HostFault::Control(kind) => {
+                let advice = advice_on_path(*kind);
+                write!(
+                    f,
+                    "{}: cannot make the socket of --control: {advice}",
+                    Fault::Device
+                )
             }
         }
     }

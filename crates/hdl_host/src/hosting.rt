@@ -4,10 +4,11 @@ ghost use Rattle.std.specs.Prelude.{◌≡◌};
 ghost use Rattle.hdl_rows.specs.Table.{no_rows};
 ghost use Rattle.hdl_workers.specs.Ends.{AreDistinct};
 
-use crate::bounds::Told;
+use crate::bounds::Notices;
 use crate::clock::{MachineClock, Part};
 use crate::fault::HostFault;
 use crate::listening::{Limits, Place, Setting, had, places_of};
+use crate::supervision::{Supervised, supervise};
 use crate::waking::{Patience, Sleep};
 use crate::workers::{join_all, start};
 use hdl_boundedrows::BoundedRows;
@@ -15,6 +16,8 @@ use hdl_core::{Rows, Service, Tenants};
 use hdl_replay::{Fault, put_all, tenants_of};
 use hdl_serve::{Clock as Pauses, Far, LaneEnds, lanes_of, serve};
 use std::alloc::Global;
+use std::fs;
+use std::fs::Files;
 use std::io::Write;
 use std::net::{Net, TcpListener, TcpStream};
 use std::random::RandomSource;
@@ -25,7 +28,7 @@ use std::thread::Threads;
 const RING: usize = 16;
 
 /// What is there before anything is served: every lane, every socket, the lines that tell where they are, the sleep of the thread that
-/// serves, and how many turns each worker and the service have.
+/// serves, how many turns each worker and the service have, and the sockets at which the server is watched.
 #[derive(Drop)]
 struct Ready {
     ends: Vec<LaneEnds>,
@@ -34,11 +37,12 @@ struct Ready {
     lines: String,
     sleep: Sleep,
     turns: u64,
+    supervised: Supervised,
     ghost distinct: { AreDistinct ends.items },
 }
 
 /// Makes the lanes of the tenants and listens for each publisher.
-fn ready_for<R: Net<Listener = TcpListener, Stream = TcpStream> + Clock>(
+fn ready_for<R: Net<Listener = TcpListener, Stream = TcpStream> + Clock + Files>(
     rt: &R,
     alloc: Global,
     tenants: &Tenants,
@@ -48,6 +52,7 @@ fn ready_for<R: Net<Listener = TcpListener, Stream = TcpStream> + Clock>(
     let (ends, far) = lanes_of(alloc, tenants.lanes(), RING)?;
     let (places, lines) = places_of(rt, alloc, tenants, setting)?;
     let sleep = had(Sleep::new(rt, alloc, Patience::of(turns).events))?;
+    let supervised = supervise(rt, alloc, &setting.supervision, places.as_slice())?;
     Ok(Ready {
         ends,
         far,
@@ -55,6 +60,7 @@ fn ready_for<R: Net<Listener = TcpListener, Stream = TcpStream> + Clock>(
         lines,
         sleep,
         turns,
+        supervised,
     })
 }
 
@@ -86,30 +92,30 @@ impl<T: Rows + Drop> Serving for Service<T> {
 }
 
 /// Starts the workers, serves on this thread, joins them, and gives back what served.
-fn served<R: Threads + Clock + RandomSource + Copy + Send + Drop + 'static, S: Serving + Drop>(
-    rt: &R,
-    alloc: Global,
-    service: S,
-    ready: Ready,
-) -> Result<S, Fault> {
+fn served<
+    R: Threads + Clock + RandomSource + Eprint + Copy + Send + Drop + 'static,
+    S: Serving + Drop,
+>(rt: &R, alloc: Global, service: S, ready: Ready) -> Result<S, Fault> {
     let Ready {
         ends,
         far,
         places,
         sleep,
         turns,
+        supervised,
         ..
     } = ready;
+    let ending = supervised.start(rt, alloc)?;
     let workers = start(rt, alloc, places, far, &sleep, turns)?;
     let mut clock = MachineClock::new(*rt, Part::Serves(sleep));
     let service = service.serve_lanes(alloc, ends, &mut clock, turns);
-    join_all(rt, workers)?;
+    join_all(rt, workers, &ending)?;
     Ok(service)
 }
 
 /// Tells where it listens, serves, and gives back what served.
 fn tell_and_serve<
-    R: Threads + Clock + RandomSource + Copy + Send + Drop + 'static,
+    R: Threads + Clock + RandomSource + Eprint + Copy + Send + Drop + 'static,
     S: Serving + Drop,
     W: Write,
 >(rt: &R, alloc: Global, service: S, ready: Ready, output: &mut W) -> Result<S, Fault> {
@@ -119,7 +125,7 @@ fn tell_and_serve<
 
 /// Opens the service of the tenants over an empty table, tells where it listens, and serves.
 fn open_and_serve<
-    R: Threads + Clock + RandomSource + Copy + Send + Drop + 'static,
+    R: Threads + Clock + RandomSource + Eprint + Copy + Send + Drop + 'static,
     T: Rows + Drop,
     W: Write,
 >(
@@ -139,7 +145,7 @@ fn open_and_serve<
 
 /// Resumes the service of the tenants over a table that is there already, tells where it listens, serves, and gives the table back.
 fn resume_and_serve<
-    R: Threads + Clock + RandomSource + Copy + Send + Drop + 'static,
+    R: Threads + Clock + RandomSource + Eprint + Copy + Send + Drop + 'static,
     T: Rows + Drop,
     W: Write,
 >(
@@ -155,6 +161,14 @@ fn resume_and_serve<
     Ok(service.into_rows())
 }
 
+/// Takes the socket away at which the word to end was taken.
+fn leave_control<R: Files>(rt: &R, path: &Option<String>) {
+    if let Some(path) = path {
+        // a socket that stays is taken away by the next start
+        let _ = fs::remove_file(rt, path.as_str());
+    }
+}
+
 /// Serves the tenants over an empty table within the bounds of the setting, until each worker ended or the turns are spent. The lines that
 /// tell where are written once all sockets listen, and before a worker starts.
 ///
@@ -165,6 +179,7 @@ pub fn hosted<
         + Threads
         + Clock
         + RandomSource
+        + Files
         + Eprint
         + Copy
         + Send
@@ -183,11 +198,12 @@ pub fn hosted<
     requires empty { T.content rows ≡ no_rows }
 {
     let ready = ready_for(rt, alloc, &tenants, &setting)?;
-    let Ok(rows) = BoundedRows::new(alloc, rows, setting.bounds, Told::new(*rt)) else {
+    let Ok(rows) = BoundedRows::new(alloc, rows, setting.bounds, Notices::new(*rt)) else {
         return Err(HostFault::from(Fault::StoreRefused));
     };
-    open_and_serve(rt, alloc, rows, tenants, ready, output)?;
-    Ok(())
+    let served = open_and_serve(rt, alloc, rows, tenants, ready, output);
+    leave_control(rt, &setting.supervision.control);
+    Ok(served?)
 }
 
 /// Serves the tenants over a table that is there already, as [`hosted`] does, and gives the table back. The table is dropped with a refusal.
@@ -196,6 +212,7 @@ pub fn hosted_on<
         + Threads
         + Clock
         + RandomSource
+        + Files
         + Eprint
         + Copy
         + Send
@@ -212,10 +229,12 @@ pub fn hosted_on<
     output: &mut W,
 ) -> Result<T, HostFault> {
     let ready = ready_for(rt, alloc, &tenants, &setting)?;
-    let Ok(rows) = BoundedRows::new(alloc, rows, setting.bounds, Told::new(*rt)) else {
+    let Ok(rows) = BoundedRows::new(alloc, rows, setting.bounds, Notices::new(*rt)) else {
         return Err(HostFault::from(Fault::StoreRefused));
     };
-    Ok(resume_and_serve(rt, alloc, rows, tenants, ready, output)?.into_rows())
+    let served = resume_and_serve(rt, alloc, rows, tenants, ready, output);
+    leave_control(rt, &setting.supervision.control);
+    Ok(served?.into_rows())
 }
 
 /// Serves the tenants of the text over TCP and UDP, over an empty table, as [`hosted`] does.
@@ -224,6 +243,7 @@ fn hosted_text<
         + Threads
         + Clock
         + RandomSource
+        + Files
         + Eprint
         + Copy
         + Send
@@ -254,6 +274,7 @@ pub fn host<
         + Threads
         + Clock
         + RandomSource
+        + Files
         + AllocGlobal
         + Eprint
         + Copy

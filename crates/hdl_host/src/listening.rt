@@ -1,9 +1,12 @@
 //! Listening: the sockets of each publisher, and the lines that tell where they are.
 
 use crate::crowd::Crowd;
+use crate::ending::Ending;
 use crate::fault::HostFault;
+use crate::recorder::Record;
 use crate::silence::{Seat, Waits, seats_at};
 use crate::sockets::{PacketSocket, Sockets};
+use crate::supervision::Supervision;
 use crate::waking::Patience;
 use hdl_boundedrows::Bound;
 use hdl_core::Tenants;
@@ -12,6 +15,7 @@ use std::alloc::{AllocError, Global};
 use std::io;
 use std::net::{IpAddr, Ipv4Addr, Net, SocketAddr, TcpListener, TcpStream, UdpSocket};
 use std::rt::Clock;
+use std::sync::Arc;
 
 /// How long a server serves, and how long it waits for its clients.
 #[derive(Clone, Copy, Debug, PartialEq, Eq)]
@@ -49,18 +53,19 @@ impl Limits {
     }
 }
 
-/// Where a server listens, its limits, and the bounds of its publishers.
-#[derive(Debug, Drop)]
+/// Where a server listens, its limits, the bounds of its publishers, and what is told of it.
+#[derive(Drop)]
 pub struct Setting {
     /// The addresses at which each publisher's port is opened, by TCP and UDP.
     pub addresses: Vec<IpAddr>,
     pub limits: Limits,
     /// How much of the table publishers may take; who has none may take all.
     pub bounds: Vec<Bound>,
+    pub supervision: Supervision,
 }
 
 impl Setting {
-    /// 127.0.0.1 alone, with these limits and no bounds.
+    /// 127.0.0.1 alone, with these limits, no bounds, and nothing told.
     pub fn on_loopback(alloc: Global, limits: Limits) -> Result<Setting, AllocError> {
         let mut addresses = Vec::new(alloc);
         addresses.push(IpAddr::V4(Ipv4Addr::LOCALHOST))?;
@@ -68,6 +73,7 @@ impl Setting {
             addresses,
             limits,
             bounds: Vec::new(alloc),
+            supervision: Supervision::none(alloc)?,
         })
     }
 }
@@ -75,12 +81,14 @@ impl Setting {
 /// So many lanes a publisher has at least that has an overflow lane: two for a connection each, this one, and that of its datagrams.
 const LANES_WITH_CROWD: u16 = 4;
 
-/// A publisher's datagram sockets, the seats of its lanes for a connection each, and its overflow lane, if it has one.
+/// A publisher's datagram sockets, the seats of its lanes for a connection each, its overflow lane, if it has one, and what is recorded of them all.
 #[derive(Drop)]
 pub struct Place {
     pub seats: Vec<Seat>,
     pub crowd: Option<Crowd>,
     pub sockets: Sockets<PacketSocket>,
+    pub record: Option<Record>,
+    pub ending: Arc<Ending>,
 }
 
 /// What is opened at the addresses of a publisher.
@@ -157,21 +165,26 @@ fn place_of<R: Net + Clock>(
     rt: &R,
     alloc: Global,
     opened: Opened,
-    lanes: u16,
-    limits: Limits,
+    publisher: (&str, u16),
+    setting: &Setting,
 ) -> io::Result<Place> {
     let Opened { listeners, sockets } = opened;
+    let (name, lanes) = publisher;
+    let limits = setting.limits;
     let waits = Waits {
         door: Patience::of(limits.turns).door,
         idle: limits.idle,
+        ending: Arc::try_clone(&setting.supervision.ending)?,
     };
     let streams = lanes.saturating_sub(1);
-    let mut seats = seats_at(rt, alloc, listeners.as_slice(), streams, waits)?;
+    let mut seats = seats_at(rt, alloc, listeners.as_slice(), streams, &waits)?;
     let crowd = crowd_at(rt, alloc, lanes, &mut seats, limits)?;
     Ok(Place {
         seats,
         crowd,
         sockets: Sockets::new(rt, alloc, sockets, waits.door)?,
+        record: setting.supervision.record_of(alloc, name, lanes)?,
+        ending: waits.ending,
     })
 }
 
@@ -189,7 +202,7 @@ pub fn places_of<R: Net<Listener = TcpListener, Stream = TcpStream> + Clock>(
             unreachable!()
         };
         let opened = open(rt, alloc, setting, (name, port), &mut lines)?;
-        places.push(had(place_of(rt, alloc, opened, lanes, setting.limits))?)?;
+        places.push(had(place_of(rt, alloc, opened, (name, lanes), setting))?)?;
     }
     Ok((places, lines))
 }

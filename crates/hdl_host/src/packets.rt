@@ -1,13 +1,16 @@
 //! The machine's datagram sockets as doors. They tell nothing.
 
+use crate::ending::Ending;
 use crate::instead::too_long;
 use crate::proven::Proven;
+use crate::recorder::Recorder;
 use crate::sockets::{PacketSocket, Sockets, nothing_came};
 use hdl_frame::{ENVELOPE_LEN, Envelope};
 use hdl_serve::{DoorFault, Packets};
 use hdl_trail::Peers;
 use std::alloc::Global;
 use std::net::SocketAddr;
+use std::sync::Arc;
 
 /// How many datagrams that are no frame one call passes over.
 const PASSED: u32 = 64;
@@ -38,9 +41,29 @@ struct Post<R> {
     peers: Peers<Origin>,
     proven: Proven<R, Origin>,
     course: Course,
+    ending: Arc<Ending>,
+    recorder: Option<Recorder<R>>,
 }
 
-impl<R: std::rt::Clock> Post<R> {
+impl<R: std::rt::Clock + Eprint + Drop> Post<R> {
+    /// A frame came from the peer with this number.
+    fn came(&mut self, peer: u16, frame: &[u8]) {
+        self.course = Course::Begins;
+        if let Some(recorder) = &mut self.recorder {
+            recorder.asked_alone(peer, frame);
+        }
+    }
+
+    /// The next datagram of a reply is recorded.
+    fn record(&mut self, peer: u16, datagram: &[u8]) {
+        if let Some(recorder) = &mut self.recorder {
+            if let Some(entry) = recorder.answered(peer, datagram) {
+                let from = self.peers.address(peer);
+                recorder.put(from.map(|origin| origin.address), &entry);
+            }
+        }
+    }
+
     /// Sends octets back to where they are asked from. Whether they went.
     fn send_back(&self, to: Origin, octets: &[u8]) -> bool {
         match self.sockets.get(to.place) {
@@ -98,6 +121,7 @@ impl<R: std::rt::Clock> Post<R> {
 
     /// The next datagram of a reply is due to a peer. Whether what is sent of it went.
     fn send(&mut self, peer: u16, octets: &[u8]) -> bool {
+        self.record(peer, octets);
         self.peers.answered(octets);
         match self.peers.address(peer) {
             Some(to) => self.send_next(to, octets),
@@ -106,27 +130,35 @@ impl<R: std::rt::Clock> Post<R> {
     }
 }
 
-/// A publisher's post as a door.
+/// A publisher's post as a door. Of a server that is to end it fails.
 #[derive(Drop)]
 pub struct SocketPackets<R> {
     post: Post<R>,
     faults: u64,
 }
 
-impl<R: std::rt::Clock> SocketPackets<R> {
-    pub fn new(rt: R, alloc: Global, sockets: Sockets<PacketSocket>) -> SocketPackets<R> {
+impl<R: std::rt::Clock + Eprint + Drop> SocketPackets<R> {
+    pub fn new(
+        rt: R,
+        alloc: Global,
+        sockets: Sockets<PacketSocket>,
+        ending: Arc<Ending>,
+        recorder: Option<Recorder<R>>,
+    ) -> SocketPackets<R> {
         let post = Post {
             alloc,
             sockets,
             peers: Peers::new(alloc),
             proven: Proven::new(rt, alloc),
             course: Course::Begins,
+            ending,
+            recorder,
         };
         SocketPackets { post, faults: 0 }
     }
 }
 
-impl<R: std::rt::Clock> Packets for SocketPackets<R> {
+impl<R: std::rt::Clock + Eprint + Drop> Packets for SocketPackets<R> {
     ghost use Rattle.std.specs.Prelude.{false, []};
 
     ghost tells = { false };
@@ -138,13 +170,17 @@ impl<R: std::rt::Clock> Packets for SocketPackets<R> {
     ghost fault_count = { λ p. p.faults };
 
     fn receive(&mut self, buffer: &mut [u8]) -> Result<Option<(u16, usize)>, DoorFault> {
+        if self.post.ending.is_asked() {
+            self.faults = self.faults.saturating_add(1);
+            return Err(DoorFault);
+        }
         for _ in 0..PASSED {
             match self.post.sockets.take(buffer) {
                 Ok((place, (length, address))) => {
                     let length = length.min(buffer.len());
                     let from = Origin { place, address };
                     if let Ok(Some(peer)) = self.post.peers.came(from, &buffer[..length]) {
-                        self.post.course = Course::Begins;
+                        self.post.came(peer, &buffer[..length]);
                         return Ok(Some((peer, length)));
                     }
                 }

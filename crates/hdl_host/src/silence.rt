@@ -1,5 +1,6 @@
 //! Since when the connections of a publisher are silent, and whether a client waits for one of its lanes.
 
+use crate::ending::Ending;
 use crate::sockets::Sockets;
 use mio::unix::SourceFd;
 use mio::{Interest, Poll, Token};
@@ -69,6 +70,7 @@ pub struct Seat {
     idle: u64,
     /// Since when the connection is silent.
     since: u64,
+    ending: Arc<Ending>,
 }
 
 impl Seat {
@@ -97,6 +99,11 @@ impl Seat {
     pub fn set_silent(&mut self, moment: u64) {
         self.since = moment;
         self.silences.put(self.place, moment);
+    }
+
+    /// Whether the server is asked to end.
+    pub fn is_ending(&self) -> bool {
+        self.ending.is_asked()
     }
 
     /// Whether another lane of the publisher is free.
@@ -156,11 +163,13 @@ fn shared(alloc: Global, listeners: &[TcpListener]) -> io::Result<Vec<TcpListene
     Ok(owned)
 }
 
-/// How long a publisher's workers wait for a connection, and for how many seconds a connection may be silent while another client waits.
-#[derive(Clone, Copy)]
+/// How long a publisher's workers wait for a connection, for how many seconds a connection may be silent while another client waits, and whether
+/// the server is to end.
+#[derive(Drop)]
 pub struct Waits {
     pub door: Duration,
     pub idle: u32,
+    pub ending: Arc<Ending>,
 }
 
 /// A seat for each of so many lanes at these listeners.
@@ -169,7 +178,7 @@ pub fn seats_at<R: Net + std::rt::Clock>(
     alloc: Global,
     listeners: &[TcpListener],
     lanes: u16,
-    waits: Waits,
+    waits: &Waits,
 ) -> io::Result<Vec<Seat>> {
     let lanes = usize::from(lanes);
     let silences = Arc::new(alloc, Silences::new(alloc, lanes)?)?;
@@ -183,6 +192,7 @@ pub fn seats_at<R: Net + std::rt::Clock>(
             start,
             idle: u64::from(waits.idle).saturating_mul(1000),
             since: 1,
+            ending: Arc::try_clone(&waits.ending)?,
         })?;
     }
     Ok(seats)

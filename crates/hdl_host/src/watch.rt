@@ -1,6 +1,7 @@
 //! The time limits of a connection.
 
 use crate::progress::Progress;
+use crate::recorder::StreamRecorder;
 use crate::silence::Seat;
 use crate::sockets::nothing_came;
 use std::io::{self, ErrorKind, Read, Write};
@@ -28,21 +29,26 @@ pub struct Watch<R> {
     progress: Progress,
     /// For how many milliseconds the rest of the frame under way was waited for. What an answer before it takes doesn't count.
     waited: u64,
+    recorder: Option<StreamRecorder<R>>,
 }
 
-impl<R: std::rt::Clock> Watch<R> {
+impl<R: std::rt::Clock + Eprint + Drop> Watch<R> {
     /// Of a lane without a connection.
-    pub fn new(rt: R, seat: Seat) -> Watch<R> {
+    pub fn new(rt: R, seat: Seat, recorder: Option<StreamRecorder<R>>) -> Watch<R> {
         Watch {
             rt,
             seat,
+            recorder,
             progress: Progress::new(),
             waited: 0,
         }
     }
 
-    /// A connection for the lane. It may wait for one for a while.
+    /// A connection for the lane. It may wait for one for a while. A server that is to end takes none.
     pub fn accept(&mut self) -> io::Result<TcpStream> {
+        if self.seat.is_ending() {
+            return Err(io::Error::from(ErrorKind::NotConnected));
+        }
         self.seat.accept()
     }
 
@@ -54,11 +60,17 @@ impl<R: std::rt::Clock> Watch<R> {
         self.progress = Progress::new();
         self.waited = 0;
         self.seat.set_busy();
+        if let Some(recorder) = &mut self.recorder {
+            recorder.begin(stream.peer_addr().ok());
+        }
     }
 
     /// The connection has ended.
     pub fn end(&mut self) {
         self.seat.set_free();
+        if let Some(recorder) = &mut self.recorder {
+            recorder.end();
+        }
     }
 
     /// The machine has no room for the client that waits: a little later it may have.
@@ -73,6 +85,9 @@ impl<R: std::rt::Clock> Watch<R> {
 
     /// Octets came after so many milliseconds. Whether the frame that goes on with them isn't late.
     fn hears(&mut self, octets: &[u8], waited: u64) -> bool {
+        if let Some(recorder) = &mut self.recorder {
+            recorder.heard(octets);
+        }
         let was_begun = self.progress.is_begun();
         let is_whole = self.progress.follow(octets);
         self.waited = if was_begun && !is_whole {
@@ -90,11 +105,15 @@ impl<R: std::rt::Clock> Watch<R> {
         (self.progress.is_begun() && waited > FRAME) || self.seat.makes_room(now)
     }
 
-    /// Reads some octets, and answers how many. 0: the peer closed the connection, or is too slow, or has to make room for another.
+    /// Reads some octets, and answers how many. 0: the peer closed the connection, or is too slow, or has to make room for another, or the server
+    /// is to end.
     pub fn read(&mut self, stream: &mut TcpStream, buffer: &mut [u8]) -> io::Result<usize> {
         let since = self.seat.moment(&self.rt);
         self.seat.set_silent(since);
         for _ in 0..u64::MAX {
+            if self.seat.is_ending() {
+                break;
+            }
             match stream.read(buffer) {
                 Ok(count) => {
                     let count = count.min(buffer.len());
@@ -122,7 +141,14 @@ impl<R: std::rt::Clock> Watch<R> {
         for _ in 0..ANSWER {
             match stream.write(octets) {
                 Err(e) if nothing_came(e.kind()) => {}
-                answer => return answer,
+                Ok(count) => {
+                    let count = count.min(octets.len());
+                    if let Some(recorder) = &mut self.recorder {
+                        recorder.said(&octets[..count]);
+                    }
+                    return Ok(count);
+                }
+                Err(e) => return Err(e),
             }
         }
         Err(io::Error::from(ErrorKind::TimedOut))

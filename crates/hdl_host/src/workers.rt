@@ -6,9 +6,11 @@ ghost use Rattle.hdl_lanes.specs.Lane.{put_into, taken_from};
 use crate::clock::{MachineClock, Part};
 use crate::crowd::{Crowd, SocketCrowd};
 use crate::door::SocketDoor;
+use crate::ending::Ending;
 use crate::listening::{Place, had};
 use crate::nonces::MachineNonces;
 use crate::packets::SocketPackets;
+use crate::recorder::{Record, Recorder, StreamRecorder};
 use crate::silence::Seat;
 use crate::sockets::{PacketSocket, Sockets};
 use crate::waking::{Bell, Sleep};
@@ -32,11 +34,25 @@ struct Side {
     turns: u64,
 }
 
+/// What reads along with the lane at this place, if anything is recorded.
+fn recorder_of<R: Clock + Eprint + Copy + Drop>(
+    rt: &R,
+    alloc: Global,
+    record: &Option<Record>,
+    lane: usize,
+) -> Result<Option<Recorder<R>>, Fault> {
+    match record {
+        Some(record) => Ok(Some(had(Recorder::new(*rt, alloc, record, lane))?)),
+        None => Ok(None),
+    }
+}
+
 /// Starts the worker of a stream lane.
-fn start_stream<R: Threads + Clock + RandomSource + Copy + Send + Drop + 'static>(
+fn start_stream<R: Threads + Clock + RandomSource + Eprint + Copy + Send + Drop + 'static>(
     rt: &R,
     alloc: Global,
     seat: Seat,
+    recorder: Option<Recorder<R>>,
     side: Side,
 ) -> Result<JoinHandle<WorkerEnd>, Fault> {
     let Side { far, bell, turns } = side;
@@ -48,7 +64,8 @@ fn start_stream<R: Threads + Clock + RandomSource + Copy + Send + Drop + 'static
         move ||
             requires { (put_into inlet ≡ []) × (taken_from outcomes ≡ []) }
         {
-            let mut door = SocketDoor::new(Watch::new(theirs, seat));
+            let recorder = recorder.map(StreamRecorder::new);
+            let mut door = SocketDoor::new(Watch::new(theirs, seat, recorder));
             let mut clock = MachineClock::new(theirs, Part::Works(bell));
             let mut nonces = MachineNonces::new(rng);
             stream_worker(
@@ -69,10 +86,11 @@ fn start_stream<R: Threads + Clock + RandomSource + Copy + Send + Drop + 'static
 }
 
 /// Starts the worker of an overflow lane.
-fn start_crowd<R: Threads + Clock + RandomSource + Copy + Send + Drop + 'static>(
+fn start_crowd<R: Threads + Clock + RandomSource + Eprint + Copy + Send + Drop + 'static>(
     rt: &R,
     alloc: Global,
     crowd: Crowd,
+    recorder: Option<Recorder<R>>,
     side: Side,
 ) -> Result<JoinHandle<WorkerEnd>, Fault> {
     let Side { far, bell, turns } = side;
@@ -84,7 +102,7 @@ fn start_crowd<R: Threads + Clock + RandomSource + Copy + Send + Drop + 'static>
         move ||
             requires { (put_into inlet ≡ []) × (taken_from outcomes ≡ []) }
         {
-            let mut crowd = SocketCrowd::new(theirs, crowd);
+            let mut crowd = SocketCrowd::new(theirs, crowd, recorder);
             let mut clock = MachineClock::new(theirs, Part::Works(bell));
             let mut nonces = MachineNonces::new(rng);
             packet_worker(
@@ -104,11 +122,19 @@ fn start_crowd<R: Threads + Clock + RandomSource + Copy + Send + Drop + 'static>
     }
 }
 
+/// A lane of datagrams: its sockets, and whether the server is to end.
+#[derive(Drop)]
+struct PacketLane {
+    sockets: Sockets<PacketSocket>,
+    ending: Arc<Ending>,
+}
+
 /// Starts the worker of a datagram lane.
-fn start_packets<R: Threads + Clock + RandomSource + Copy + Send + Drop + 'static>(
+fn start_packets<R: Threads + Clock + RandomSource + Eprint + Copy + Send + Drop + 'static>(
     rt: &R,
     alloc: Global,
-    sockets: Sockets<PacketSocket>,
+    lane: PacketLane,
+    recorder: Option<Recorder<R>>,
     side: Side,
 ) -> Result<JoinHandle<WorkerEnd>, Fault> {
     let Side { far, bell, turns } = side;
@@ -120,7 +146,8 @@ fn start_packets<R: Threads + Clock + RandomSource + Copy + Send + Drop + 'stati
         move ||
             requires { (put_into inlet ≡ []) × (taken_from outcomes ≡ []) }
         {
-            let mut packets = SocketPackets::new(theirs, alloc, sockets);
+            let PacketLane { sockets, ending } = lane;
+            let mut packets = SocketPackets::new(theirs, alloc, sockets, ending, recorder);
             let mut clock = MachineClock::new(theirs, Part::Works(bell));
             let mut nonces = MachineNonces::new(rng);
             packet_worker(
@@ -141,7 +168,7 @@ fn start_packets<R: Threads + Clock + RandomSource + Copy + Send + Drop + 'stati
 }
 
 /// Starts the workers of a publisher's lanes: the last is that of its datagrams, and that before it the overflow lane, if it has one.
-fn start_place<R: Threads + Clock + RandomSource + Copy + Send + Drop + 'static>(
+fn start_place<R: Threads + Clock + RandomSource + Eprint + Copy + Send + Drop + 'static>(
     rt: &R,
     alloc: Global,
     place: Place,
@@ -152,25 +179,34 @@ fn start_place<R: Threads + Clock + RandomSource + Copy + Send + Drop + 'static>
         seats,
         crowd,
         sockets,
+        record,
+        ending,
     } = place;
+    let mut lane = 0usize;
     for seat in seats {
         if let Some(side) = sides.next() {
-            workers.push(start_stream(rt, alloc, seat, side)?)?;
+            let recorder = recorder_of(rt, alloc, &record, lane)?;
+            workers.push(start_stream(rt, alloc, seat, recorder, side)?)?;
         }
+        lane = lane.saturating_add(1);
     }
     if let Some(crowd) = crowd {
         if let Some(side) = sides.next() {
-            workers.push(start_crowd(rt, alloc, crowd, side)?)?;
+            let recorder = recorder_of(rt, alloc, &record, lane)?;
+            workers.push(start_crowd(rt, alloc, crowd, recorder, side)?)?;
         }
+        lane = lane.saturating_add(1);
     }
     if let Some(side) = sides.next() {
-        workers.push(start_packets(rt, alloc, sockets, side)?)?;
+        let recorder = recorder_of(rt, alloc, &record, lane)?;
+        let packets = PacketLane { sockets, ending };
+        workers.push(start_packets(rt, alloc, packets, recorder, side)?)?;
     }
     Ok(())
 }
 
 /// Starts a worker for each lane.
-pub fn start<R: Threads + Clock + RandomSource + Copy + Send + Drop + 'static>(
+pub fn start<R: Threads + Clock + RandomSource + Eprint + Copy + Send + Drop + 'static>(
     rt: &R,
     alloc: Global,
     places: Vec<Place>,
@@ -191,11 +227,15 @@ pub fn start<R: Threads + Clock + RandomSource + Copy + Send + Drop + 'static>(
     Ok(workers)
 }
 
-/// Joins each worker. A device fault where a device ended one.
-pub fn join_all<R: Threads>(rt: &R, workers: Vec<JoinHandle<WorkerEnd>>) -> Result<(), Fault> {
+/// Joins each worker. A device fault where a device ended one, unless the server was asked to end.
+pub fn join_all<R: Threads>(
+    rt: &R,
+    workers: Vec<JoinHandle<WorkerEnd>>,
+    ending: &Ending,
+) -> Result<(), Fault> {
     let mut ended = Ok(());
     for worker in workers {
-        if worker.join(rt).why == Why::Device {
+        if worker.join(rt).why == Why::Device && !ending.is_asked() {
             ended = Err(Fault::Device);
         }
     }

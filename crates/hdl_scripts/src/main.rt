@@ -23,17 +23,18 @@ ghost use Rattle.hdl_rows.specs.Table.{no_rows};
 mod lanes;
 mod play;
 mod row;
+mod table;
 
 use hdl_replay::replay;
-use hdl_rows::{PlainRows, Rows};
-use hdl_sqlrows::SqlRows;
+use hdl_rows::Rows;
 use lanes::{print_rings, print_text};
-use play::{Ending, Table, each_call, play};
+use play::{Ending, each_call, play};
 use row::row_of;
 use std::alloc::Global;
 use std::io::Read;
 use std::process::ExitCode;
 use std::{fs, io};
+use table::{Table, empty_rows};
 
 /// The most octets of standard input, which take no memory.
 const ROOM: usize = 4096;
@@ -83,16 +84,25 @@ fn first_difference(told: &[u8], expected: &[u8]) -> Option<usize>
     Some(before.count().saturating_add(1))
 }
 
+/// The number of the first line that a script tells otherwise over such a table.
+fn difference_over(
+    rt: &HostRuntime,
+    table: Table,
+    script: &[u8],
+    expected: &[u8],
+) -> io::Result<Option<usize>> {
+    match empty_rows(rt.alloc(), table, 0) {
+        Some(rows) => Ok(first_difference(&told(rt.alloc(), rows, script)?, expected)),
+        None => Err(io::Error::from(io::ErrorKind::OutOfMemory)),
+    }
+}
+
 /// Runs one script over a table in memory and over one in SQL, and prints whether both told what was expected.
 fn compared(rt: &HostRuntime, name: &str) -> io::Result<bool> {
     let script = fs::read(rt, format!(in rt.alloc(); "{name}.script")?)?;
     let expected = fs::read(rt, format!(in rt.alloc(); "{name}.expected")?)?;
-    let Ok(rows) = SqlRows::new(rt.alloc()) else {
-        return Err(io::Error::from(io::ErrorKind::OutOfMemory));
-    };
-    let in_sql = first_difference(&told(rt.alloc(), rows, &script)?, &expected);
-    let rows = PlainRows::new(rt.alloc());
-    let in_memory = first_difference(&told(rt.alloc(), rows, &script)?, &expected);
+    let in_sql = difference_over(rt, Table::Sql, &script, &expected)?;
+    let in_memory = difference_over(rt, Table::Memory, &script, &expected)?;
     match (in_memory, in_sql) {
         (None, None) => println!(rt; "{name}: as expected")?,
         (Some(line), _) => println!(rt; "{name}: in memory line {line} is another one")?,

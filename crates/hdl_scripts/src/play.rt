@@ -5,20 +5,12 @@ ghost use Rattle.hdl_laws.specs.Runs.{is_busy};
 ghost use Rattle.hdl_rows.specs.Table.{no_rows};
 
 use crate::row::{Row, TRIES};
+use crate::table::{Table, empty_rows};
 use hdl_core::{Early, Event, Outcome, Rows, Service, Tenants};
 use hdl_replay::{events_of, line_of, parts_of};
-use hdl_rows::{Fuse, PlainRows};
-use hdl_sqlrows::SqlRows;
 
 /// More than the calls of the table that any row makes.
 const MOST_CALLS: u64 = 1000;
-
-/// What keeps the table.
-#[derive(Clone, Copy)]
-pub(crate) enum Table {
-    Memory,
-    Sql,
-}
 
 /// What came of playing a row.
 #[derive(Clone, Copy)]
@@ -141,12 +133,9 @@ fn play_over<R: Rows + Drop>(rt: &HostRuntime, row: &Row, rows: R) -> Ending
 /// Plays a row over an empty table whose nth call is refused, none with 0. What can't be opened is tried once more.
 pub(crate) fn play(rt: &HostRuntime, row: &Row, table: Table, nth: u64) -> Ending {
     for _ in 0..TRIES {
-        let ending = match table {
-            Table::Memory => play_over(rt, row, Fuse::new(PlainRows::new(rt.alloc()), nth, nth)),
-            Table::Sql => match SqlRows::new(rt.alloc()) {
-                Ok(rows) => play_over(rt, row, Fuse::new(rows, nth, nth)),
-                Err(_) => Ending::Unopened,
-            },
+        let ending = match empty_rows(rt.alloc(), table, nth) {
+            Some(rows) => play_over(rt, row, rows),
+            None => Ending::Unopened,
         };
         if !matches!(ending, Ending::Unopened) {
             return ending;

@@ -4,10 +4,10 @@ ghost use Rattle.hdl_workers.specs.Ends.{AreDistinct};
 
 use crate::lanes::server::Serving;
 use crate::lanes::words::{bad, event_of, had, number, short, tell_outcome};
+use crate::table::{Table, empty_rows};
 use hdl_core::{Event, Outcome};
 use hdl_lanes::{Inlet, Outlet};
 use hdl_replay::{events_of, parts_of, replay};
-use hdl_rows::PlainRows;
 use hdl_serve::{Far, Item, LaneEnds, lanes_of};
 use std::alloc::{AllocError, Global};
 use std::io::{self, Write};
@@ -182,7 +182,10 @@ fn over_lanes<S: Serving>(
 fn replayed(alloc: Global, text: &str, told: &mut Vec<u8>) -> io::Result<()> {
     let mut input = text.as_bytes();
     let mut fault = Vec::new(alloc);
-    let status = replay(alloc, PlainRows::new(alloc), &mut input, told, &mut fault);
+    let Some(rows) = empty_rows(alloc, Table::Memory, 0) else {
+        return Err(bad());
+    };
+    let status = replay(alloc, rows, &mut input, told, &mut fault);
     writeln!(told, "status {status}")
 }
 

@@ -6,8 +6,8 @@ ghost use Rattle.hdl_workers.specs.Ends.{AreDistinct};
 ghost use Rattle.hdl_scripts.specs.Same.{IsEach};
 
 use crate::lanes::words::bad;
+use crate::table::{Table, TableRows, empty_rows};
 use hdl_core::{Service, Tenants};
-use hdl_rows::PlainRows;
 use hdl_serve::{Clock, LaneEnds, Served, serve};
 use std::alloc::Global;
 use std::{io, mem};
@@ -52,16 +52,16 @@ impl Clock for Pauses {
 #[derive(Drop)]
 pub struct Held {
     pub alloc: Global,
-    pub service: Option<Service<PlainRows>>,
+    pub service: Option<Service<TableRows>>,
 }
 
 /// Serves lanes, which stay the same, and counts the pauses.
 fn served(
     alloc: Global,
-    service: Service<PlainRows>,
+    service: Service<TableRows>,
     lanes: Vec<LaneEnds>,
     turns: u64,
-) -> (Served<PlainRows>, u64)
+) -> (Served<TableRows>, u64)
     requires { AreDistinct lanes.items }
     ensures distinct { AreDistinct result.0.lanes.items }
     ensures same { (firsts : List LaneEnds) → All (IsEach firsts) lanes.items → All (IsEach firsts) result.0.lanes.items }
@@ -76,7 +76,10 @@ impl Serving for Held {
         let Ok(tenants) = Tenants::read(self.alloc, tenants) else {
             return Err(bad());
         };
-        self.service = Service::open(self.alloc, tenants, PlainRows::new(self.alloc)).ok();
+        let Some(rows) = empty_rows(self.alloc, Table::Memory, 0) else {
+            return Err(bad());
+        };
+        self.service = Service::open(self.alloc, tenants, rows).ok();
         Ok(())
     }
 

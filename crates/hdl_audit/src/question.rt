@@ -1,0 +1,119 @@
+//! What a frame from a client asks.
+
+use crate::answer::changes;
+use crate::entry::Key;
+use hdl_frame::{ENVELOPE_LEN, Envelope};
+use hdl_msg::OpCode;
+use hdl_value::{string_at, u32_at};
+use std::alloc::{AllocError, Global};
+
+/// How many octets the header of a message has.
+const HEADER_LEN: usize = 24;
+
+/// What a whole frame asks, as far as an entry speaks of it.
+#[derive(Drop)]
+pub enum Matter {
+    /// A change of the handle, as it was sent.
+    Change {
+        operation: u32,
+        handle: Vec<u8>,
+    },
+    /// The response to the challenge with this SessionId, by this key.
+    Response {
+        challenge: u32,
+        key: Key,
+    },
+    /// A piece of a message, of which nothing is known.
+    Piece,
+    /// Anything else.
+    Other,
+}
+
+/// A frame that came, and isn't answered.
+#[derive(Drop)]
+pub struct Question {
+    pub peer: u16,
+    pub request: u32,
+    pub matter: Matter,
+}
+
+/// A copy on the heap.
+pub fn owned(alloc: Global, octets: &[u8]) -> Result<Vec<u8>, AllocError> {
+    let mut all = Vec::new(alloc);
+    all.extend_from_slice(octets)?;
+    Ok(all)
+}
+
+/// The handle that a change's body names first.
+fn change_of(alloc: Global, operation: u32, body: &[u8]) -> Result<Matter, AllocError> {
+    match string_at(body) {
+        Some((handle, _)) => Ok(Matter::Change {
+            operation,
+            handle: owned(alloc, handle)?,
+        }),
+        None => Ok(Matter::Other),
+    }
+}
+
+/// The key that a response's body names, behind the type of authentication.
+fn key_at(body: &[u8]) -> Option<(&[u8], u32)> {
+    let (_, rest) = string_at(body)?;
+    let (handle, rest) = string_at(rest)?;
+    let (index, _) = u32_at(rest)?;
+    Some((handle, index))
+}
+
+fn response_of(alloc: Global, challenge: u32, body: &[u8]) -> Result<Matter, AllocError> {
+    match key_at(body) {
+        Some((handle, index)) => Ok(Matter::Response {
+            challenge,
+            key: Key {
+                index,
+                handle: owned(alloc, handle)?,
+            },
+        }),
+        None => Ok(Matter::Other),
+    }
+}
+
+/// What a whole message asks.
+fn matter_of(alloc: Global, session: u32, message: &[u8]) -> Result<Matter, AllocError> {
+    let Some((operation, _)) = u32_at(message) else {
+        return Ok(Matter::Other);
+    };
+    let Some((_, body)) = message.split_at_checked(HEADER_LEN) else {
+        return Ok(Matter::Other);
+    };
+    if changes(operation) {
+        change_of(alloc, operation, body)
+    } else if operation == OpCode::ChallengeResponse as u32 {
+        response_of(alloc, session, body)
+    } else {
+        Ok(Matter::Other)
+    }
+}
+
+impl Question {
+    /// Whether it is a piece of a message.
+    pub fn is_piece(&self) -> bool {
+        matches!(self.matter, Matter::Piece)
+    }
+
+    /// What a frame asks, which a peer sent. None: it has no envelope.
+    pub fn of(alloc: Global, peer: u16, frame: &[u8]) -> Result<Option<Question>, AllocError> {
+        let Some((head, message)) = frame.split_at_checked(ENVELOPE_LEN) else {
+            return Ok(None);
+        };
+        let envelope = Envelope::read(head);
+        let matter = if envelope.is_truncated() {
+            Matter::Piece
+        } else {
+            matter_of(alloc, envelope.session, message)?
+        };
+        Ok(Some(Question {
+            peer,
+            request: envelope.request,
+            matter,
+        }))
+    }
+}

@@ -1,0 +1,98 @@
+//! The table.
+
+ghost use Rattle.std.specs.Prelude.{◌≡◌};
+ghost use Rattle.hdl_eitherrows.specs.Either.{said_of};
+
+use hdl_name::Name;
+use hdl_rows::{Refused, Rows};
+use hdl_value::{Octets, Reference, Value};
+
+/// A table of one of two kinds.
+#[derive(Drop)]
+pub enum EitherRows<A, B> {
+    First(A),
+    Second(B),
+}
+
+impl<A: Rows, B: Rows> Rows for EitherRows<A, B> {
+    ghost content = { λ s. said_of A.content B.content s };
+
+    ghost refused = { λ s. said_of A.refused B.refused s };
+
+    fn exists(&mut self, name: &Name) -> Result<bool, Refused> {
+        match self {
+            EitherRows::First(rows) => rows.exists(name),
+            EitherRows::Second(rows) => rows.exists(name),
+        }
+    }
+
+    fn at(&mut self, reference: &Reference) -> Result<Option<Value>, Refused> {
+        match self {
+            EitherRows::First(rows) => rows.at(reference),
+            EitherRows::Second(rows) => rows.at(reference),
+        }
+    }
+
+    fn values(&mut self, name: &Name) -> Result<Vec<Value>, Refused> {
+        match self {
+            EitherRows::First(rows) => rows.values(name),
+            EitherRows::Second(rows) => rows.values(name),
+        }
+    }
+
+    fn look(&mut self, name: &Name) -> Result<Option<Vec<Value>>, Refused> {
+        match self {
+            EitherRows::First(rows) => rows.look(name),
+            EitherRows::Second(rows) => rows.look(name),
+        }
+    }
+
+    fn names(&mut self, authority: &[u8]) -> Result<Vec<Octets>, Refused> {
+        match self {
+            EitherRows::First(rows) => rows.names(authority),
+            EitherRows::Second(rows) => rows.names(authority),
+        }
+    }
+
+    fn create(&mut self, name: &Name, values: &[Value]) -> Result<(), Refused> {
+        match self {
+            EitherRows::First(rows) => rows.create(name, values),
+            EitherRows::Second(rows) => rows.create(name, values),
+        }
+    }
+
+    fn add(&mut self, name: &Name, values: &[Value]) -> Result<(), Refused> {
+        match self {
+            EitherRows::First(rows) => rows.add(name, values),
+            EitherRows::Second(rows) => rows.add(name, values),
+        }
+    }
+
+    fn modify(&mut self, name: &Name, values: &[Value]) -> Result<(), Refused> {
+        match self {
+            EitherRows::First(rows) => rows.modify(name, values),
+            EitherRows::Second(rows) => rows.modify(name, values),
+        }
+    }
+
+    fn remove(&mut self, name: &Name, indexes: &[u32]) -> Result<(), Refused> {
+        match self {
+            EitherRows::First(rows) => rows.remove(name, indexes),
+            EitherRows::Second(rows) => rows.remove(name, indexes),
+        }
+    }
+
+    fn delete(&mut self, name: &Name) -> Result<(), Refused> {
+        match self {
+            EitherRows::First(rows) => rows.delete(name),
+            EitherRows::Second(rows) => rows.delete(name),
+        }
+    }
+
+    fn refusals(&self) -> u64 {
+        match self {
+            EitherRows::First(rows) => rows.refusals(),
+            EitherRows::Second(rows) => rows.refusals(),
+        }
+    }
+}

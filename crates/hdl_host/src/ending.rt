@@ -1,0 +1,29 @@
+//! The end of a server in order.
+
+use std::sync::atomic::AtomicBool;
+use std::sync::atomic::Ordering::SeqCst;
+
+/// Whether the server is asked to end: then no lane takes a connection or a frame more, and each ends once what it took is answered.
+#[derive(Drop)]
+pub struct Ending {
+    is_asked: AtomicBool,
+}
+
+impl Ending {
+    /// Nobody asked.
+    pub fn new() -> Ending {
+        Ending {
+            is_asked: AtomicBool::new(false),
+        }
+    }
+
+    /// Asks the server to end.
+    pub fn ask(&self) {
+        self.is_asked.store(true, SeqCst);
+    }
+
+    /// Whether somebody asked.
+    pub fn is_asked(&self) -> bool {
+        self.is_asked.load(SeqCst)
+    }
+}

@@ -1,0 +1,193 @@
+//! Reading along with a lane: its replies are counted, and each change gets a line.
+
+use crate::counts::Counts;
+use crate::log::Log;
+use hdl_audit::{Answer, Entry, Follower, Moment};
+use hdl_frame::Cutter;
+use std::alloc::{AllocError, Global};
+use std::io;
+use std::net::SocketAddr;
+use std::rt::Clock;
+use std::sync::Arc;
+use std::time::SystemTime;
+
+/// What is recorded of a publisher's lanes.
+#[derive(Drop)]
+pub struct Record {
+    pub counts: Arc<Counts>,
+    pub log: Option<Log>,
+}
+
+/// Reads along with the frames of one lane, and the replies to them.
+#[derive(Drop)]
+pub struct Recorder<R> {
+    rt: R,
+    alloc: Global,
+    counts: Arc<Counts>,
+    /// The lane's place among those of its publisher.
+    lane: usize,
+    log: Option<Log>,
+    follower: Follower,
+}
+
+impl<R: Clock + Eprint + Drop> Recorder<R> {
+    /// Of the lane at this place.
+    pub fn new(rt: R, alloc: Global, record: &Record, lane: usize) -> io::Result<Recorder<R>> {
+        let log = match &record.log {
+            Some(log) => Some(log.try_clone()?),
+            None => None,
+        };
+        Ok(Recorder {
+            rt,
+            alloc,
+            counts: Arc::try_clone(&record.counts)?,
+            lane,
+            log,
+            follower: Follower::new(alloc),
+        })
+    }
+
+    /// The lane has so many connections.
+    pub fn set_connections(&self, count: usize) {
+        self.counts.set_connections(self.lane, count);
+    }
+
+    /// A connection begins, or nothing of the lane is certain any more.
+    fn begin(&mut self) {
+        self.follower = Follower::new(self.alloc);
+    }
+
+    /// A frame came.
+    fn asked(&mut self, peer: u16, frame: &[u8]) {
+        if self.log.is_some() {
+            self.follower.asked(peer, frame);
+        }
+    }
+
+    /// A frame came on a lane that has one at a time.
+    pub fn asked_alone(&mut self, peer: u16, frame: &[u8]) {
+        self.follower.forget_unanswered();
+        self.asked(peer, frame);
+    }
+
+    /// The moment, in milliseconds since the beginning of 1970; 0 where the clock fails.
+    fn moment(&self) -> u64 {
+        let Ok(now) = SystemTime::now(&self.rt) else {
+            return 0;
+        };
+        match now.duration_since(SystemTime::UNIX_EPOCH) {
+            Ok(since) => u64::try_from(since.as_millis()).unwrap_or(0),
+            Err(_) => 0,
+        }
+    }
+
+    /// A frame of a reply goes. The entry of the change that it ends, where there is a log.
+    pub fn answered(&mut self, peer: u16, frame: &[u8]) -> Option<Entry> {
+        let answer = Answer::of(frame)?;
+        self.counts.count(answer);
+        if answer.accepts_change() {
+            self.counts.set_changed(self.moment());
+        }
+        if self.log.is_none() {
+            return None;
+        }
+        self.follower.answered(peer, frame)
+    }
+
+    /// The line of an entry: moment, publisher, lane, address, and what the entry says.
+    fn line_of(&self, from: Option<SocketAddr>, entry: &Entry) -> Result<String, AllocError> {
+        let moment = Moment(self.moment());
+        let publisher = self.counts.publisher.as_str();
+        let lane = self.lane;
+        match from {
+            Some(from) => format!(in self.alloc; "{moment} {publisher} {lane} {from} {entry}\n"),
+            None => format!(in self.alloc; "{moment} {publisher} {lane} - {entry}\n"),
+        }
+    }
+
+    /// Writes the line of an entry. Where memory for it is refused it is lost.
+    pub fn put(&mut self, from: Option<SocketAddr>, entry: &Entry) {
+        let Ok(line) = self.line_of(from, entry) else {
+            return;
+        };
+        if let Some(log) = &mut self.log {
+            log.put(&self.rt, line.as_str());
+        }
+    }
+}
+
+/// Reads along with the connections of a stream lane, one at a time.
+#[derive(Drop)]
+pub struct StreamRecorder<R> {
+    recorder: Recorder<R>,
+    from: Option<SocketAddr>,
+    /// What cuts the octets of each way into frames; none where memory for them was refused.
+    heard: Option<Cutter>,
+    said: Option<Cutter>,
+}
+
+impl<R: Clock + Eprint + Drop> StreamRecorder<R> {
+    /// Of a lane without a connection.
+    pub fn new(recorder: Recorder<R>) -> StreamRecorder<R> {
+        StreamRecorder {
+            recorder,
+            from: None,
+            heard: None,
+            said: None,
+        }
+    }
+
+    /// A connection begins, which comes from this address.
+    pub fn begin(&mut self, from: Option<SocketAddr>) {
+        let alloc = self.recorder.alloc;
+        self.recorder.begin();
+        self.recorder.set_connections(1);
+        self.from = from;
+        self.heard = Some(Cutter::new(alloc));
+        self.said = Some(Cutter::new(alloc));
+    }
+
+    /// The connection has ended.
+    pub fn end(&mut self) {
+        self.recorder.set_connections(0);
+    }
+
+    /// Octets came. Where they can't be cut nothing is known of what comes behind them.
+    pub fn heard(&mut self, octets: &[u8]) {
+        let Some(cutter) = &mut self.heard else {
+            return;
+        };
+        if cutter.feed(octets).is_err() {
+            self.heard = None;
+            return;
+        }
+        // each frame ends with one of these octets or behind it
+        for _ in 0..octets.len() {
+            match cutter.next_frame() {
+                Ok(Some(frame)) => self.recorder.asked(0, frame.bytes),
+                _ => break,
+            }
+        }
+    }
+
+    /// Octets went.
+    pub fn said(&mut self, octets: &[u8]) {
+        let Some(cutter) = &mut self.said else {
+            return;
+        };
+        if cutter.feed(octets).is_err() {
+            self.said = None;
+            return;
+        }
+        for _ in 0..octets.len() {
+            match cutter.next_frame() {
+                Ok(Some(frame)) => {
+                    if let Some(entry) = self.recorder.answered(0, frame.bytes) {
+                        self.recorder.put(self.from, &entry);
+                    }
+                }
+                _ => break,
+            }
+        }
+    }
+}

@@ -1,0 +1,322 @@
+"""watches.py: tries what a server tells of itself, over the program crates/handled/out/handled: the log of changes, the status page, and its end in order.
+
+Servers over a file get changes from clients by streams, datagrams and an overflow lane; each line of the log is compared with what was asked and answered, and no secret, data or
+nonce is in it. What the status page counts is compared with what was asked. `handled stop` must end a server within five seconds, with its table closed. Its last line is
+'N passed, M failed', a case counting one."""
+
+import contextlib
+import os
+import re
+import resource
+import signal
+import socket
+import subprocess
+import sys
+import tempfile
+import time
+import urllib.error
+import urllib.request
+
+# nothing is left beside the tools
+sys.dont_write_bytecode = True
+import servers
+import wire
+
+KEY, DATA = b"a-secret-of-these-trials", b"https://data.example/"
+ADMIN, KEPT, ANYBODY = 0x0E, 0x0C, 0x0F
+MOMENT = re.compile(r"^[0-9]{4}-[0-9]{2}-[0-9]{2}T[0-9]{2}:[0-9]{2}:[0-9]{2}(\.[0-9]+)?Z ")
+# Seconds in which a server ends that was asked to.
+END = 5
+REFERENCE = "300:0.NA/10"
+
+
+def tenants(*ports):
+    """A publisher with a lane for a connection and one for datagrams, and one with an overflow lane; both have 10."""
+    lines = ["publisher acme 2 %d" % ports[0], "publisher bolt 4 %d" % ports[1], "prefix 10 acme", "prefix 10 bolt"]
+    values = [wire.value(100, b"HS_ADMIN", wire.administrator(b"0.NA/10", 300), ADMIN, 86400), wire.value(300, b"HS_SECKEY", KEY, KEPT, 86400)]
+    return wire.text(lines + [wire.value_line(b"0.NA/10", one) for one in values] + [wire.value_line(b"10/open", url(1, ANYBODY))])
+
+
+def url(index, permission=ADMIN):
+    return wire.value(index, b"URL", DATA, permission, 86400)
+
+
+def create(handle):
+    administrator = wire.value(100, b"HS_ADMIN", wire.administrator(b"0.NA/10", 300), ADMIN, 86400)
+    return wire.message(wire.CREATE, wire.string(handle) + wire.listed([administrator, url(1)]))
+
+
+def modify(handle, permission=ADMIN):
+    return wire.message(wire.MODIFY, wire.string(handle) + wire.listed([url(1, permission)]))
+
+
+def delete(handle):
+    return wire.message(wire.DELETE, wire.string(handle))
+
+
+def code_of(reply):
+    return int.from_bytes(reply[4:8], "big")
+
+
+class Stream:
+    """A client by a stream."""
+
+    def __init__(self, port):
+        self.socket = socket.create_connection(("127.0.0.1", port), 30)
+        self.address = "%s:%d" % self.socket.getsockname()
+        self.request = 0
+
+    def receive(self, count):
+        octets = b""
+        while len(octets) < count:
+            more = self.socket.recv(count - len(octets))
+            if not more:
+                raise ConnectionError
+            octets += more
+        return octets
+
+    def send(self, message, session=0):
+        self.request += 1
+        self.socket.sendall(wire.frame(message, session, self.request))
+
+    def reply(self):
+        head = self.receive(20)
+        return int.from_bytes(head[4:8], "big"), self.receive(int.from_bytes(head[16:20], "big"))
+
+    def ask(self, message, key=KEY):
+        """The code that a change comes to, by this key where it is challenged."""
+        self.send(message)
+        session, reply = self.reply()
+        if code_of(reply) == wire.AUTHENTICATION_NEEDED:
+            self.send(wire.response(message, key, b"0.NA/10", 300, nonce=reply[-20:-4]), session)
+            _, reply = self.reply()
+        return code_of(reply)
+
+
+class Datagrams(Stream):
+    """A client by datagrams, whose replies are one each."""
+
+    def __init__(self, port):
+        self.socket = socket.socket(socket.AF_INET, socket.SOCK_DGRAM)
+        self.socket.settimeout(30)
+        self.socket.connect(("127.0.0.1", port))
+        self.address = "%s:%d" % self.socket.getsockname()
+        self.request = 0
+
+    def reply(self):
+        octets = self.socket.recv(65536)
+        return int.from_bytes(octets[4:8], "big"), octets[20:]
+
+
+def changes(client, name):
+    """Asks for changes of these names, and answers how each line of the log goes on behind the publisher and the lane, with the codes that came."""
+    handle = b"10/" + name
+    asked = [(create(handle), KEY, "create", True), (create(handle), KEY, "create", False), (modify(handle), b"wrong", "modify", True), (modify(b"10/open", ANYBODY), KEY, "modify", False),
+             (delete(handle), KEY, "delete", True), (delete(handle), KEY, "delete", False)]
+    lines, codes = [], []
+    for message, key, word, is_challenged in asked:
+        codes.append(client.ask(message, key))
+        named = "10/open" if word == "modify" and not is_challenged else handle.decode().replace("%", "%25").replace(" ", "%20")
+        lines.append("%s %s %s %s %d" % (client.address, word, named, REFERENCE if is_challenged else "-", codes[-1]))
+    return lines, codes == [1, 101, 403, 1, 1, 100]
+
+
+def in_flight(client):
+    """Changes that are asked one behind the other before a reply is read; two of them with one RequestId."""
+    frames = [wire.frame(create(b"10/one"), 0, 7), wire.frame(wire.resolution(b"10/open"), 0, 7), wire.frame(delete(b"10/none"), 0, 7), wire.frame(modify(b"10/open", ANYBODY), 0, 8)]
+    client.socket.sendall(b"".join(frames))
+    codes = [code_of(client.reply()[1]) for _ in frames]
+    lines = ["%s delete 10/none - 100" % client.address, "%s modify 10/open - 1" % client.address]
+    return lines, codes == [402, 1, 100, 1]
+
+
+def in_pieces(client):
+    """A change in pieces, whose handle isn't certain."""
+    message = wire.message(wire.MODIFY, wire.string(b"10/open") + wire.listed([wire.value(1, b"URL", b"x" * 600, ANYBODY, 86400)]))
+    for number in range((len(message) + 491) // 492):
+        head = b"\2\1\x20\0" + wire.number(0) + wire.number(99) + wire.number(number) + wire.number(len(message))
+        client.socket.sendall(head + message[492 * number:492 * number + 492])
+    _, reply = client.reply()
+    return ["%s modify - - 1" % client.address], code_of(reply) == 1
+
+
+def page(port, path):
+    """The status, the kind and the body of a page."""
+    try:
+        with urllib.request.urlopen("http://127.0.0.1:%d%s" % (port, path), timeout=10) as reply:
+            return reply.status, reply.headers["Content-Type"], reply.read().decode()
+    except urllib.error.HTTPError as fault:
+        return fault.code, fault.headers["Content-Type"], fault.read().decode()
+
+
+def logged(file):
+    """The lines of a log without their moments; None where one has none."""
+    with open(file) as log:
+        lines = log.read().splitlines()
+    return [MOMENT.sub("", line) for line in lines] if all(MOMENT.match(line) for line in lines) else None
+
+
+def stop(control):
+    began = time.monotonic()
+    done = subprocess.run([servers.HANDLED, "stop", "--control", control], stdout=subprocess.PIPE, stderr=subprocess.PIPE)
+    return done, time.monotonic() - began
+
+
+def watched(folder):
+    """A server that tells all, and ends when it is asked to."""
+    file, log, control = (os.path.join(folder, name) for name in ("table.db", "changes.log", "control"))
+    status, = servers.free_ports(1)
+    options = ("--table", file, "--log", log, "--control", control, "--status", "127.0.0.1:%d" % status)
+    process, (acme, bolt) = servers.serve(tenants, 2, options=options, stderr=subprocess.PIPE)
+    yield "healthy", page(status, "/health") == (200, "text/plain; charset=utf-8", "ok\n")
+    stream, datagrams = Stream(acme), Datagrams(acme)
+    others = [Stream(bolt) for _ in range(2)]
+    expected = []
+    for place, client, work in ((("acme", 0), stream, lambda one: changes(one, b"a stream, 100%")), (("acme", 0), stream, in_flight), (("acme", 0), stream, in_pieces),
+                                (("acme", 1), datagrams, lambda one: changes(one, b"datagrams"))):
+        lines, holds = work(client)
+        expected += ["%s %d %s" % (*place, line) for line in lines]
+        yield "codes on lane %d of %s" % (place[1], place[0]), holds
+    # both lanes of bolt for one connection are taken once each has answered
+    for lane, other in enumerate(others):
+        yield "a lane answers", other.ask(delete(b"10/gone")) == wire.ABSENT
+    crowded = Stream(bolt)
+    lines, holds = changes(crowded, b"crowd")
+    yield "codes on the overflow lane", holds
+    found = logged(log)
+    own = [line for line in found or [] if line.startswith("acme")]
+    yield "the log of two lanes", own == expected
+    theirs = [line for line in found or [] if line.startswith("bolt") and "10/gone" not in line]
+    yield "the log of the overflow lane", theirs == ["bolt 2 %s" % line for line in lines]
+    gone = sorted(line for line in found or [] if "10/gone" in line)
+    yield "the log of lanes with one connection", gone in ([sorted("bolt %d %s delete 10/gone - 100" % (lane, other.address) for lane, other in order) for order in (enumerate(others), enumerate(others[::-1]))])
+    with open(log, "rb") as octets:
+        text = octets.read()
+    yield "no secret and no data in the log", not any(word in text for word in (KEY, KEY.hex().encode(), DATA, b"wrong", b"example"))
+    yield "the log is its user's alone", os.stat(log).st_mode & 0o777 == 0o600 and os.stat(control).st_mode & 0o177 == 0
+    yield from counted(status)
+    yield from ended(process, control, file, [stream, *others, crowded])
+
+
+def counted(status):
+    """What the status page counts of what was asked."""
+    code, kind, body = page(status, "/metrics")
+    lines = body.splitlines()
+    yield "the kind of the counts", (code, kind) == (200, "text/plain; version=0.0.4; charset=utf-8")
+    # of acme: twice the six changes, of which three were challenged, and those in flight and in pieces
+    wanted = {("create", 1): 2, ("create", 101): 2, ("create", 402): 3, ("modify", 1): 4, ("modify", 402): 2, ("modify", 403): 2, ("delete", 1): 2, ("delete", 402): 2, ("delete", 100): 3, ("resolve", 1): 1}
+    found = {(word, int(number)): int(count) for word, number, count in re.findall(r'^handled_replies_total\{publisher="acme",operation="([a-z]+)",code="([0-9]+)"\} ([0-9]+)$', body, re.M)}
+    yield "the counts of replies", found == wanted
+    yield "the counts of connections", [line for line in lines if line.startswith("handled_connections{")] == ['handled_connections{publisher="acme"} 1', 'handled_connections{publisher="bolt"} 3']
+    yield "the table isn't shut", "handled_table_shut 0" in lines
+    seconds = [float(line.split()[1]) for line in lines if line.startswith('handled_last_change_timestamp_seconds{publisher="acme"}')]
+    yield "when a change was accepted", len(seconds) == 1 and abs(time.time() - seconds[0]) < 60
+    yield "each line is one of the format", all(re.match(r'^(# (HELP|TYPE) handled_[a-z_]+ .+|handled_[a-z_]+(\{[a-z]+="[^"]*"(,[a-z]+="[^"]*")*\})? [0-9.]+)$', line) for line in lines)
+    yield "no such page", page(status, "/")[0] == 404
+    with socket.create_connection(("127.0.0.1", status), 10) as one:
+        one.sendall(b"POST /metrics HTTP/1.1\r\nHost: a\r\n\r\n")
+        yield "another method", one.recv(4096).startswith(b"HTTP/1.1 405 ")
+
+
+def ended(process, control, file, clients):
+    """The server ends in order, though its clients stay connected."""
+    last = Stream.ask(clients[0], create(b"10/last"))
+    done, seconds = stop(control)
+    yield "the end was asked for", (last, done.returncode, done.stdout, done.stderr) == (wire.SUCCESS, 0, b"", b"") and seconds < END
+    yield "the server ended", process.wait(END) == 0
+    said = process.stderr.read().decode().splitlines()
+    yield "the end is said", said[-1:] == ["handled: ends: it was asked to"]
+    for client in clients:
+        with contextlib.suppress(OSError):
+            yield "a client is left", client.socket.recv(1) == b""
+    yield "the log was copied into the file", os.path.exists(file) and not os.path.exists(control) and (not os.path.exists(file + "-wal") or os.path.getsize(file + "-wal") == 0)
+    again, _ = stop(control)
+    yield "nobody to stop", (again.returncode, again.stderr.split(b":")[0]) == (1, b"stop")
+    process, (port, _) = servers.serve(tenants, 2, options=("--table", file, "--control", control))
+    client = Stream(port)
+    yield "what was answered is there", client.ask(create(b"10/last")) == 101
+    process.kill()
+    process.wait()
+    process.stdout.close()
+    yield "a socket that nobody listens at stays", os.path.exists(control)
+    process, _ = servers.serve(tenants, 2, options=("--table", file, "--control", control))
+    other = subprocess.run([servers.HANDLED, "serve", "--control", control], input=tenants(*servers.free_ports(2)), stdout=subprocess.PIPE, stderr=subprocess.PIPE)
+    yield "a path that another server has", (other.returncode, b"cannot make the socket of --control" in other.stderr) == (1, True)
+    done, _ = stop(control)
+    yield "it ends too", done.returncode == 0 and process.wait(END) == 0
+    process.stdout.close()
+
+
+def busy_end(folder):
+    """A server ends while clients ask without a pause: what was asked before is answered."""
+    control = os.path.join(folder, "busy")
+    process, (acme, _) = servers.serve(tenants, 2, options=("--control", control))
+    client = Stream(acme)
+    asked = [wire.frame(wire.resolution(b"10/open"), 0, request) for request in range(1, 200)]
+    client.socket.sendall(b"".join(asked))
+    replies = [code_of(client.reply()[1]) for _ in asked]
+    client.socket.sendall(b"".join(asked))
+    done, seconds = stop(control)
+    got = b""
+    with contextlib.suppress(OSError):
+        while more := client.socket.recv(65536):
+            got += more
+    whole = [head for head in wire.heads(got)]
+    yield "answers before the end", set(replies) == {1} and done.returncode == 0 and seconds < END
+    yield "whole answers up to the end", [request for request, _ in whole] == list(range(1, len(whole) + 1))
+    process.wait()
+    process.stdout.close()
+
+
+def failing(folder):
+    """A log that can't be written, and a table that is shut."""
+    process, (acme, _) = servers.serve(tenants, 2, options=("--log", "/dev/full"), stderr=subprocess.PIPE)
+    client = Stream(acme)
+    yield "changes without a log", changes(client, b"full")[1]
+    servers.end(process)
+    said = [line for line in process.stderr.read().decode().splitlines() if line.startswith("log: ")]
+    yield "a full disk is said once", len(said) == 1 and "can't be written" in said[0]
+    done = subprocess.run([servers.HANDLED, "serve", "--log", os.path.join(folder, "none", "log")], input=tenants(*servers.free_ports(2)), stdout=subprocess.PIPE, stderr=subprocess.PIPE)
+    yield "no folder of a log", (done.returncode, done.stderr[:16]) == (1, b"log: cannot open")
+    done = subprocess.run([servers.HANDLED, "serve", "--status", "127.0.0.1"], input=b"", stdout=subprocess.PIPE, stderr=subprocess.PIPE)
+    yield "no port of a status page", (done.returncode, b"no IPv4 or IPv6 address with a port" in done.stderr) == (2, True)
+    process, (acme, _) = servers.serve(tenants, 2, options=("--log", "-"), stderr=subprocess.PIPE)
+    Stream(acme).ask(delete(b"10/gone"))
+    servers.end(process)
+    yield "a log on standard error", any("acme 0 127.0.0.1:" in line and line.endswith(" delete 10/gone - 100") for line in process.stderr.read().decode().splitlines())
+
+
+def limited():
+    """No file grows beyond 200,000 octets, and who tries gets an error."""
+    signal.signal(signal.SIGXFSZ, signal.SIG_IGN)
+    resource.setrlimit(resource.RLIMIT_FSIZE, (200000, 200000))
+
+
+def shut(folder):
+    """A table whose file can't grow is shut, and the status page says so."""
+    status, = servers.free_ports(1)
+    options = ("--table", os.path.join(folder, "small.db"), "--status", "127.0.0.1:%d" % status)
+    process, (acme, _) = servers.serve(tenants, 2, options=options, stderr=subprocess.PIPE, preexec_fn=limited)
+    client = Stream(acme)
+    codes = [client.ask(create(b"10/%d" % number)) for number in range(200)]
+    yield "a file that can't grow", codes[0] == 1 and codes[-1] == 3
+    yield "the page says that the table is shut", page(status, "/health")[0] == 503 and "handled_table_shut 1" in page(status, "/metrics")[2].splitlines()
+    yield "reads go on", client.ask(wire.resolution(b"10/open")) == 1
+    servers.end(process)
+    process.stderr.close()
+
+
+def main():
+    passed, failed = 0, 0
+    with tempfile.TemporaryDirectory() as folder:
+        for part in (watched, busy_end, failing, shut):
+            for case, holds in part(folder):
+                passed += holds
+                failed += not holds
+                if not holds:
+                    print("%s: not as it should be" % case)
+    print("%d passed, %d failed" % (passed, failed))
+    sys.exit(1 if failed else 0)
+
+
+main()
