@@ -219,6 +219,9 @@ def keys(port):
         yield name, good and (status, err) == (1, REFUSED if count == 1000 else "")
 
 
+LONG_LIST = "hdl: 2 error: more handles than one reply of 65,536 octets says; who runs the server writes all of them by `handled export`\n"
+
+
 def large_file():
     rows = ["10/m%06d,URL,https://example.org/%d,86400" % (number, number) for number in range(MANY)]
     return "\n".join(["handle,type,data,ttl", *rows]).encode() + b"\n"
@@ -237,6 +240,8 @@ def killed(port):
     found = re.fullmatch(r"(\d+) created, (\d+) there already, 0 failed\n", out)
     yield "an import that was killed", bool(found) and status == 0 and int(found[1]) + int(found[2]) == MANY and int(found[1]) > 0 and int(found[2]) > 0
     yield "progress", bool(re.fullmatch(r"1\d{4} of %d lines\n" % (MANY + 1), err))
+    listed = subprocess.run([PROGRAM, "list", "10", "--key", KEY, "--server", "127.0.0.1:%d" % port], capture_output=True, check=False, text=True, env={**os.environ, "HDL_SECRET": SECRET})
+    yield "more handles than a list says", (listed.returncode, listed.stdout, listed.stderr) == (1, ";; reply to list 2, session 1: 2 error\n", LONG_LIST)
     looked = range(0, MANY, 97)
     yield "all are there", are_there(port, {b"10/m%06d" % number: [url(1, b"https://example.org/%d" % number), administrator()] for number in looked})
 
