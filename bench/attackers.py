@@ -8,6 +8,7 @@ import sys
 import time
 
 sys.path.insert(0, os.path.join(os.path.dirname(os.path.abspath(__file__)), "..", "tools"))
+import servers
 import wire
 
 # How many references the lists hold to which an administrator leads, and how many of them fit into one.
@@ -34,16 +35,6 @@ def connect(port, patience=30):
     stream = socket.create_connection(("127.0.0.1", port), timeout=patience)
     stream.setsockopt(socket.IPPROTO_TCP, socket.TCP_NODELAY, 1)
     return stream
-
-
-def read_all(stream, octets):
-    got = b""
-    while len(got) < octets:
-        more = stream.recv(octets - len(got))
-        if not more:
-            break
-        got += more
-    return got
 
 
 def ports(port, counts):
@@ -87,8 +78,8 @@ def amplified(port, counts):
 
 
 def frame_of(stream):
-    head = read_all(stream, 20)
-    return head + read_all(stream, struct.unpack(">I", head[16:20])[0]) if len(head) == 20 else b""
+    head = servers.received(stream, 20)
+    return head + servers.received(stream, struct.unpack(">I", head[16:20])[0]) if len(head) == 20 else b""
 
 
 def made_up(port, counts):
@@ -110,7 +101,7 @@ def crowd(port, counts, count, question, answer, end):
     while time.monotonic() < end:
         for stream in streams:
             stream.sendall(question)
-            got = read_all(stream, len(answer))
+            got = servers.received(stream, len(answer))
             if got == answer:
                 counts.add("answers to the crowd")
             else:

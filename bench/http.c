@@ -1,7 +1,8 @@
-// A load generator for bench/proxy: one thread, real sockets on loopback, each client with one request under way on a connection that
-// it keeps.
+// A load generator for bench/proxy and bench/changes: one thread, real sockets on loopback, each client with one request under way on a
+// connection that it keeps.
 //
-//     http HOST PORT PATH CLIENTS SECONDS STATUS
+//     http HOST PORT PATH CLIENTS SECONDS STATUS           asks for PATH again and again
+//     http HOST PORT FILE CLIENTS SECONDS STATUS COUNT     sends COUNT requests, which stand in FILE with equal lengths, once each
 //
 // Prints on one line: answers of STATUS a second, the 50th and 99th percentile of the time to answer in microseconds, the processor share
 // of this program in percent, and how many faults there were: other answers, and connections that ended. It reads an answer by its
@@ -31,8 +32,9 @@ struct client {
 };
 
 static struct sockaddr_in address;
-static char request[4096];
-static size_t request_len;
+/* A request that is sent again and again, or all of a file, and how many of those were sent. */
+static char *requests;
+static size_t request_len, total, sent;
 static float *times;
 static size_t count;
 static long faults;
@@ -50,9 +52,29 @@ static void fail(const char *what) {
 }
 
 static void ask(struct client *c) {
+    if (total && sent == total) return;
+    const char *request = requests + (total ? sent * request_len : 0);
+    sent++;
     c->have = 0;
     c->began = now();
     if (write(c->socket, request, request_len) != (ssize_t)request_len) faults++;
+}
+
+static void read_requests(const char *path, size_t many) {
+    FILE *file = fopen(path, "rb");
+    if (!file || fseek(file, 0, SEEK_END) < 0) fail(path);
+    total = many;
+    request_len = (size_t)ftell(file) / total;
+    requests = malloc(total * request_len);
+    rewind(file);
+    if (!requests || fread(requests, request_len, total, file) != total) fail(path);
+    fclose(file);
+}
+
+static void make_request(char **argv) {
+    requests = malloc(4096);
+    if (!requests) fail("start");
+    request_len = (size_t)snprintf(requests, 4096, "GET %s HTTP/1.1\r\nHost: %s:%s\r\nUser-Agent: load\r\nAccept: */*\r\n\r\n", argv[3], argv[1], argv[2]);
 }
 
 static void connect_client(int poll, struct client *c) {
@@ -99,8 +121,8 @@ static int by_time(const void *a, const void *b) {
 }
 
 int main(int argc, char **argv) {
-    if (argc != 7) {
-        fprintf(stderr, "usage: http HOST PORT PATH CLIENTS SECONDS STATUS\n");
+    if (argc != 7 && argc != 8) {
+        fprintf(stderr, "usage: http HOST PORT PATH CLIENTS SECONDS STATUS, or FILE and at the end COUNT\n");
         return 2;
     }
     int clients = atoi(argv[4]);
@@ -109,7 +131,8 @@ int main(int argc, char **argv) {
     address.sin_family = AF_INET;
     address.sin_port = htons((uint16_t)atoi(argv[2]));
     if (inet_pton(AF_INET, argv[1], &address.sin_addr) != 1) fail("inet_pton");
-    request_len = (size_t)snprintf(request, sizeof request, "GET %s HTTP/1.1\r\nHost: %s:%s\r\nUser-Agent: load\r\nAccept: */*\r\n\r\n", argv[3], argv[1], argv[2]);
+    if (argc == 8) read_requests(argv[3], strtoul(argv[7], NULL, 10));
+    else make_request(argv);
     times = malloc(MOST_TIMES * sizeof *times);
     struct client *all = calloc((size_t)clients, sizeof *all);
     int poll = epoll_create1(0);
@@ -117,7 +140,7 @@ int main(int argc, char **argv) {
     for (int i = 0; i < clients; i++) connect_client(poll, &all[i]);
     double start = now();
     struct epoll_event events[64];
-    while (now() - start < seconds) {
+    while (now() - start < seconds && (!total || count + (size_t)faults < total)) {
         int n = epoll_wait(poll, events, 64, 100);
         for (int i = 0; i < n; i++) take(poll, events[i].data.ptr);
     }

@@ -51,7 +51,7 @@ def tenants(lanes, port, values):
 def needs_program(name, program=PROGRAM):
     """Ends with a word where the proved program isn't there."""
     if not os.path.exists(program):
-        sys.exit("bench/%s: build the program first: ./run < examples/absent.script" % name)
+        sys.exit("bench/%s: build the program first: ./handled < examples/absent.script" % name)
 
 
 def stat(folder):

@@ -95,6 +95,13 @@ ANSWERS = (
     ("control characters in handles", LIST_ANSWER, ["list", "10", "--short"], "10/a\\u{a}10/b\n10/\\u{1b}[2J\\u{9b}\n"),
 )
 
+# Of what one reply doesn't say: what is asked, the operation, and what is said on standard error.
+TOO_LONG = (
+    (["list", "10"], wire.LIST, "hdl: 2 error: more handles than one reply of 65,536 octets says; who runs the server writes all of them by `handled export`\n"),
+    (["resolve", "10/a"], wire.RESOLVE, "hdl: 2 error: more values than one reply of 65,536 octets says; ask for some of them by --index or --type\n"),
+    (["delete", "10/a"], wire.DELETE, "hdl: 2 error\n"),
+)
+
 # A batch that writes a key, and one whose handle would drive a terminal.
 KEY_BATCH = "CREATE 10/k\n%s\n" % KEY_LINE
 KEY_ASKED = wire.frame(wire.message(wire.CREATE, wire.string(b"10/k") + wire.listed([KEY])), 0, 1)
@@ -320,6 +327,10 @@ def exchanges():
     came = []
     done = asked(lambda listener: served(listener, [KEY_DONE], came), ["batch"], KEY_BATCH)
     yield "a key by a batch", done.returncode == 0 and came == [KEY_ASKED] and SECRET not in done.stdout + done.stderr
+    for words, operation, said in TOO_LONG:
+        sent = wire.frame(reply(operation, 2, wire.number(0)), 0, 1)
+        done = asked(lambda listener: served(listener, [sent], []), words)
+        yield "%s that is too long" % words[0], (done.returncode, done.stderr) == (1, said)
     done = asked(lambda listener: served(listener, [absent(1)], []), ["batch"], CONTROL_BATCH)
     yield "control characters in a batch", done.returncode == 1 and done.stdout.splitlines() == CONTROL_SAID
     came = []

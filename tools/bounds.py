@@ -49,30 +49,20 @@ OPENED = octets(b"0.na/10", (b"HS_ADMIN", wire.administrator(b"0.NA/10", 300)), 
 ONE = octets(b"10/a", (b"HS_ADMIN", wire.administrator(b"0.NA/10", 300)), (b"URL", b"0123456789"))
 
 
-class Publisher(lasting.Client):
+class Publisher(servers.Client):
     """A client of one publisher, whose key answers its challenges."""
 
     def __init__(self, port, prefix):
-        super().__init__(port)
-        self.root = b"0.NA/" + prefix
-
-    def asked(self, message):
-        session, reply = self.send(message)
-        if reply[4:8] == wire.number(wire.AUTHENTICATION_NEEDED):
-            _, reply = self.send(wire.response(message, lasting.KEY, self.root, 300, nonce=reply[-20:-4]), session)
-        return int.from_bytes(reply[4:8], "big"), reply[24:-4]
+        super().__init__(port, b"0.NA/" + prefix)
 
     def write(self, operation, handle, *values):
-        return self.asked(wire.message(operation, wire.string(handle) + wire.listed(values)))[0]
+        return self.code(wire.message(operation, wire.string(handle) + wire.listed(values)))
 
     def create(self, handle, data=b"0123456789"):
-        return self.write(wire.CREATE, handle, administrator(self.root), lasting.url(data))
+        return super().create(handle, [administrator(self.handle), lasting.url(data)])
 
     def remove(self, handle, index):
-        return self.write(wire.REMOVE, handle, wire.number(index))
-
-    def delete(self, handle):
-        return self.asked(wire.message(wire.DELETE, wire.string(handle)))[0]
+        return super().remove(handle, [index])
 
     def resolved(self, handle):
         return self.asked(wire.resolution(handle))

@@ -1,4 +1,4 @@
-"""build.py PROGRAM: builds this proved program for ./run or ./hdl, and says how far it is: which crate, how much of it, and about how many
+"""build.py PROGRAM: builds this proved program for ./handled, ./run or ./hdl, and says how far it is: which crate, how much of it, and about how many
 minutes are left.
 
 The libraries below it are proved side by side (`lanes.py`, where it knows the kit), and then `rt run` proves and builds the program itself, and what

@@ -60,15 +60,10 @@ def answer(request, large=False):
 
 
 def received(stream, count):
-    """So many octets, or those up to the end."""
-    octets = b""
+    """So many octets, or those up to the end; none where the stream fails."""
     with contextlib.suppress(OSError):
-        while len(octets) < count:
-            more = stream.recv(count - len(octets))
-            if not more:
-                break
-            octets += more
-    return octets
+        return servers.received(stream, count)
+    return b""
 
 
 def asked(stream, octets, count):

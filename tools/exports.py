@@ -6,7 +6,6 @@ gives its rows alone, with which it answers the same. Then what no text says, an
 
 import contextlib
 import os
-import socket
 import struct
 import subprocess
 import sys
@@ -53,49 +52,13 @@ def text(names, ports, rows):
     return wire.text(heads(names, ports) + [wire.value_line(*row) for row in rows])
 
 
-class Client:
-    """A client whose challenges are answered by the key of an administrative handle."""
-
-    def __init__(self, port, handle):
-        self.stream = socket.create_connection(("127.0.0.1", port), 60)
-        self.handle, self.request = handle, 0
-
-    def receive(self, count):
-        octets = b""
-        while len(octets) < count:
-            more = self.stream.recv(count - len(octets))
-            if not more:
-                raise ConnectionError
-            octets += more
-        return octets
-
-    def send(self, message, session=0):
-        self.request += 1
-        self.stream.sendall(wire.frame(message, session, self.request))
-        session, length = struct.unpack(">4xI8xI", self.receive(20))
-        return session, self.receive(length)
-
-    def code(self, message):
-        session, reply = self.send(message)
-        if reply[4:8] == wire.number(wire.AUTHENTICATION_NEEDED):
-            _, reply = self.send(wire.response(message, KEY, self.handle, 300, nonce=reply[-20:-4]), session)
-        return struct.unpack(">I", reply[4:8])[0]
-
-    def create(self, handle, values):
-        return self.code(wire.message(wire.CREATE, wire.string(handle) + wire.listed(values)))
-
-    def remove(self, handle, indexes):
-        return self.code(wire.message(wire.REMOVE, wire.string(handle) + wire.listed(map(wire.number, indexes))))
-
-
 def write(ports, written):
     """Creates these handles, each by its publisher's administrator; whether all were."""
     codes = []
     for handle, values in written:
         prefix = handle.split(b"/")[0]
-        client = Client(ports["bolt" if prefix == b"20" else "acme"], b"0.NA/" + prefix)
-        codes.append(client.create(handle, values))
-        client.stream.close()
+        with servers.Client(ports["bolt" if prefix == b"20" else "acme"], b"0.NA/" + prefix) as client:
+            codes.append(client.create(handle, values))
     return set(codes) == {wire.SUCCESS}
 
 
@@ -109,11 +72,10 @@ def answers(ports, names):
     """The message of the reply to each, of each of these publishers. A challenge is told by its code alone, since its nonce is random."""
     found = []
     for name in names:
-        client = Client(ports[name], b"")
-        for message in asked_for():
-            _, reply = client.send(message)
-            found.append((name, reply[:8] if reply[4:8] == wire.number(wire.AUTHENTICATION_NEEDED) else reply))
-        client.stream.close()
+        with servers.Client(ports[name]) as client:
+            for message in asked_for():
+                _, reply = client.send(message)
+                found.append((name, reply[:8] if reply[4:8] == wire.number(wire.AUTHENTICATION_NEEDED) else reply))
     return found
 
 
@@ -191,9 +153,8 @@ def left_out(folder, file, sayable):
     both = ("acme", "bolt")
     with serving(both, lambda ports: text(both, ports, OPENING), "--table", file) as ports:
         yield "handles that no text says", write(ports, UNSAYABLE + [(b"10/empty", [url(1, b"gone"), administrator(b"0.NA/10")])])
-        client = Client(ports["acme"], b"0.NA/10")
-        yield "a handle loses its values", client.remove(b"10/empty", (1, 100)) == wire.SUCCESS
-        client.stream.close()
+        with servers.Client(ports["acme"]) as client:
+            yield "a handle loses its values", client.remove(b"10/empty", (1, 100)) == wire.SUCCESS
     done = export(text(both, ports, OPENING), "--table", file)
     same = [line for line in done.stdout.splitlines() if line.startswith(b"value ")] == [line for line in sayable.splitlines() if line.startswith(b"value ")]
     said = b"export: left out, since no tenants text says them: 1 handles without a value, 2 with a space or a line feed in the name\n"

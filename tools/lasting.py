@@ -11,7 +11,6 @@ import hashlib
 import os
 import random
 import signal
-import socket
 import sqlite3
 import stat
 import struct
@@ -46,45 +45,14 @@ def tenants(*ports, more=()):
     return wire.text(lines + [wire.value_line(*row) for row in rows])
 
 
-class Client:
-    """A client whose challenges are answered by the key."""
-
-    def __init__(self, port):
-        self.stream = socket.create_connection(("127.0.0.1", port), 60)
-        self.request = 0
-
-    def receive(self, count):
-        octets = b""
-        while len(octets) < count:
-            more = self.stream.recv(count - len(octets))
-            if not more:
-                raise ConnectionError
-            octets += more
-        return octets
-
-    def send(self, message, session=0):
-        """The SessionId and the message of the reply to one request."""
-        self.request += 1
-        self.stream.sendall(wire.frame(message, session, self.request))
-        session, length = struct.unpack(">4xI8xI", self.receive(20))
-        return session, self.receive(length)
-
-    def asked(self, message):
-        """The code of a request that a key is asked for, and the body of its reply."""
-        session, reply = self.send(message)
-        if reply[4:8] == wire.number(wire.AUTHENTICATION_NEEDED):
-            proof = wire.response(message, KEY, KEY_HANDLE, KEY_INDEX, nonce=reply[-20:-4])
-            _, reply = self.send(proof, session)
-        return struct.unpack(">I", reply[4:8])[0], reply[24:-4]
+class Client(servers.Client):
+    """A client whose handles have an administrator and one URL."""
 
     def create(self, handle, data):
-        return self.asked(wire.message(wire.CREATE, wire.string(handle) + wire.listed([ADMINISTRATOR, url(data)])))[0]
+        return super().create(handle, [ADMINISTRATOR, url(data)])
 
     def modify(self, handle, data):
-        return self.asked(wire.message(wire.MODIFY, wire.string(handle) + wire.listed([url(data)])))[0]
-
-    def delete(self, handle):
-        return self.asked(wire.message(wire.DELETE, wire.string(handle)))[0]
+        return super().modify(handle, [url(data)])
 
     def data_of(self, handle):
         """The URL's data of a handle that has just these two values, None where it is absent; else what came."""

@@ -42,11 +42,14 @@ OPENING = (
     *administered(b"10/kept"),
     (b"10/kept", wire.value(1, b"URL", b"https://example.org/", READABLE, 86400)),
     (b"10/kept", wire.value(2, b"NOTE", b"kept", KEPT, 600)),
+    # more handles than one reply says
+    *administered(b"0.NA/30"),
+    *((b"30/%d-%s" % (number, b"x" * 100), wire.value(1, b"NOTE", b"x", READABLE, 600)) for number in range(700)),
 )
 
 
 def tenants(port):
-    return wire.text(["publisher acme 8 %d" % port, "prefix 10 acme", *(wire.value_line(handle, octets) for handle, octets in OPENING)])
+    return wire.text(["publisher acme 8 %d" % port, "prefix 10 acme", "prefix 30 acme", *(wire.value_line(handle, octets) for handle, octets in OPENING)])
 
 
 def basic(user=ADMIN, secret=SECRET):
@@ -108,6 +111,7 @@ LACKS = "The key lacks a permission for this."
 WRONG = "The secret isn't that of the key."
 NO_VALUES = "The server refuses the values: a record has an HS_ADMIN value, and at most 1024 values."
 SILENT = "No answer of a server came. Whether this was done isn't known."
+LONG_LIST = "The prefix has more handles than one answer of the server says. Who runs it writes all of them by `handled export`."
 RECORD = "The record can't be read: %s."
 
 # Requests one after the other: method, path, body, key, and the status and body of the answer.
@@ -234,6 +238,7 @@ def listed(port):
     yield "a list without a key", ask(port, "GET", "/api/handles?prefix=10", key=None)[::2] == (401, refused("0.NA/10", NO_KEY, 402))
     yield "a list without a permission", ask(port, "GET", "/api/handles?prefix=10", key=basic("301:0.NA/10", "weak"))[::2] == (403, refused("0.NA/10", LACKS, 401))
     yield "a list of no prefix", ask(port, "GET", "/api/handles")[0] == 400
+    yield "a list that is too long", ask(port, "GET", "/api/handles?prefix=30&page=0&pageSize=10")[::2] == (502, refused("0.NA/30", LONG_LIST, 2))
     yield "a page that is no number", ask(port, "GET", "/api/handles?prefix=10&page=x")[0] == 400
 
 

@@ -1,12 +1,14 @@
-"""servers.py: starts `handled serve` and other programs for those of tools/ and bench/, at ports that are free, and ends them."""
+"""servers.py: starts `handled serve` and other programs for those of tools/ and bench/, at ports that are free, and ends them; and a client of such a server."""
 
 import contextlib
 import os
 import socket
+import struct
 import subprocess
 import sys
 
 import repository
+import wire
 
 HANDLED = os.environ.get("HANDLED", repository.program("handled"))
 # How often a server is started anew, since another process may take a port that was free.
@@ -101,3 +103,64 @@ def example(first, second):
     """The text of examples/serve.tenants with these ports in place of its own."""
     text = repository.text_of("examples", "serve.tenants")
     return text.replace(" 2641\n", " %d\n" % first).replace(" 2642\n", " %d\n" % second).encode()
+
+
+def received(stream, count):
+    """So many octets, or those up to the end."""
+    octets = b""
+    while len(octets) < count:
+        more = stream.recv(count - len(octets))
+        if not more:
+            break
+        octets += more
+    return octets
+
+
+class Client:
+    """A client whose challenges are answered by a key."""
+
+    def __init__(self, port, handle=b"0.NA/10", index=300, secret=b"example-secret"):
+        self.stream = socket.create_connection(("127.0.0.1", port), 60)
+        self.handle, self.index, self.secret, self.request = handle, index, secret, 0
+
+    def __enter__(self):
+        return self
+
+    def __exit__(self, *_):
+        self.stream.close()
+
+    def receive(self, count):
+        octets = received(self.stream, count)
+        if len(octets) < count:
+            raise ConnectionError
+        return octets
+
+    def send(self, message, session=0):
+        """The SessionId and the message of the reply to one request."""
+        self.request += 1
+        self.stream.sendall(wire.frame(message, session, self.request))
+        session, length = struct.unpack(">4xI8xI", self.receive(20))
+        return session, self.receive(length)
+
+    def asked(self, message):
+        """The code of a request that a key is asked for, and the body of its reply."""
+        session, reply = self.send(message)
+        if reply[4:8] == wire.number(wire.AUTHENTICATION_NEEDED):
+            proof = wire.response(message, self.secret, self.handle, self.index, nonce=reply[-20:-4])
+            _, reply = self.send(proof, session)
+        return struct.unpack(">I", reply[4:8])[0], reply[24:-4]
+
+    def code(self, message):
+        return self.asked(message)[0]
+
+    def create(self, handle, values):
+        return self.code(wire.message(wire.CREATE, wire.string(handle) + wire.listed(values)))
+
+    def modify(self, handle, values):
+        return self.code(wire.message(wire.MODIFY, wire.string(handle) + wire.listed(values)))
+
+    def remove(self, handle, indexes):
+        return self.code(wire.message(wire.REMOVE, wire.string(handle) + wire.listed(map(wire.number, indexes))))
+
+    def delete(self, handle):
+        return self.code(wire.message(wire.DELETE, wire.string(handle)))

@@ -44,20 +44,9 @@ def client(port):
     return stream
 
 
-def received(stream, count):
-    """So many octets, or those up to the end."""
-    octets = b""
-    while len(octets) < count:
-        more = stream.recv(count - len(octets))
-        if not more:
-            break
-        octets += more
-    return octets
-
-
 def is_answered(stream, request=1):
     stream.sendall(asked(request))
-    return received(stream, len(absent(request))) == absent(request)
+    return servers.received(stream, len(absent(request))) == absent(request)
 
 
 def count_to_end(stream):

@@ -3,6 +3,7 @@
 //! ```text
 //! hdl resolve HANDLE [--index N].. [--type TYPE]..    list, create, delete, add, remove, modify likewise: one request of a server
 //! hdl batch < BATCH                                   many requests of a server, over one connection
+//! hdl import --csv FILE --key INDEX:HANDLE            a handle for the rows of each, over one connection
 //! hdl explain [--keys] < LINES                        each line of a script, of what handled prints, or of octets alone, in words
 //! hdl script < WORDS, hdl tenants < WORDS             words to the lines that handled takes
 //! hdl init PREFIX.., hdl key                          a tenants text in words for new publishers; a fresh secret
@@ -15,7 +16,7 @@
 mod words;
 
 use hdl_commands::{
-    BatchFault, Page, ask, explain, fresh_secret, run_batch_text, write_fresh_tenants,
+    BatchFault, Page, ask, explain, fresh_secret, import_file, run_batch_text, write_fresh_tenants,
     write_script, write_tenants,
 };
 use std::io::{self, Read};
@@ -107,6 +108,7 @@ fn run(rt: &HostRuntime) -> io::Result<u8> {
         }
         Asked::Ask(question) => Ok(ask(rt, &question)),
         Asked::Batch { server } => batch_all(rt, &server),
+        Asked::Import(import) => Ok(import_file(rt, &import)),
         Asked::Script => script_all(rt),
         Asked::Tenants => tenants_all(rt),
         Asked::Init { prefixes } => init(rt, &prefixes),

@@ -1,7 +1,7 @@
 //! The words of the command line.
 
 use clap::{Arg, ArgAction, ArgMatches, Command, Error};
-use hdl_commands::{Question, operation_in};
+use hdl_commands::{Import, Question, operation_in};
 use hdl_msg::OpCode;
 use hdl_status::{VERSION, status_of_words, words_of};
 use std::alloc::{AllocError, Global};
@@ -18,6 +18,8 @@ pub enum Asked {
     Ask(Question),
     /// The batch on standard input.
     Batch { server: String },
+    /// The handles of a CSV file.
+    Import(Import),
     /// The script of the words on standard input.
     Script,
     /// The tenants text of the words on standard input.
@@ -56,6 +58,15 @@ fn server(alloc: Global) -> Arg<'static> {
     )
 }
 
+fn key(alloc: Global) -> Arg<'static> {
+    option(
+        alloc,
+        "key",
+        "INDEX:HANDLE",
+        "Proves this key; its secret is in HDL_SECRET, or the first line of standard input",
+    )
+}
+
 /// A command that asks about a handle.
 fn question<'a>(alloc: Global, name: &'a str, about: &'a str) -> Result<Command<'a>, AllocError> {
     Command::new(alloc, name)
@@ -67,12 +78,7 @@ fn question<'a>(alloc: Global, name: &'a str, about: &'a str) -> Result<Command<
                 .action(ArgAction::Set),
         )?
         .arg(server(alloc))?
-        .arg(option(
-            alloc,
-            "key",
-            "INDEX:HANDLE",
-            "Proves this key; its secret is in HDL_SECRET, or the first line of standard input",
-        ))?
+        .arg(key(alloc))?
         .arg(flag(
             alloc,
             "short",
@@ -126,6 +132,22 @@ fn explain<'a>(alloc: Global) -> Result<Command<'a>, AllocError> {
 fn batch<'a>(alloc: Global) -> Result<Command<'a>, AllocError> {
     Command::new(alloc, "batch")
         .about("Asks all that stands on standard input, as the batch files of the Handle.Net tools")
+        .arg(server(alloc))
+}
+
+fn import<'a>(alloc: Global) -> Result<Command<'a>, AllocError> {
+    Command::new(alloc, "import")
+        .about(
+            "Creates the handles of a CSV file; a handle that is there with its values counts as done",
+        )
+        .arg(option(
+            alloc,
+            "csv",
+            "FILE",
+            "Its first line names the columns handle, type, data and ttl, and index and permissions if they are given; a row is a value",
+        )
+        .required(true))?
+        .arg(key(alloc).required(true))?
         .arg(server(alloc))
 }
 
@@ -208,6 +230,7 @@ fn command<'a>(alloc: Global) -> Result<Command<'a>, AllocError> {
         .subcommand_required(true);
     questions(command, alloc)?
         .subcommand(batch(alloc)?)?
+        .subcommand(import(alloc)?)?
         .subcommand(explain(alloc)?)?
         .subcommand(Command::new(alloc, "script").about(
             "Makes the script for handled of a tenants text with values in words, a line `run`, and a batch, on standard input",
@@ -235,6 +258,11 @@ fn words(alloc: Global, matches: &ArgMatches<'_>, id: &str) -> Result<Vec<String
     Ok(words)
 }
 
+/// The word of an option, empty where it isn't there.
+fn word(alloc: Global, matches: &ArgMatches<'_>, id: &str) -> Result<String, AllocError> {
+    String::from_str(alloc, matches.get_str(id).unwrap_or(""))
+}
+
 fn server_of(alloc: Global, matches: &ArgMatches<'_>) -> Result<String, AllocError> {
     String::from_str(alloc, matches.get_str("server").unwrap_or(SERVER))
 }
@@ -247,7 +275,7 @@ fn question_of(
     let is_resolution = operation == OpCode::Resolution;
     Ok(Question {
         operation,
-        handle: String::from_str(alloc, matches.get_str("handle").unwrap_or(""))?,
+        handle: word(alloc, matches, "handle")?,
         words: words(
             alloc,
             matches,
@@ -272,6 +300,11 @@ fn asked_of(alloc: Global, name: &str, matches: &ArgMatches<'_>) -> Result<Asked
         "batch" => Ok(Asked::Batch {
             server: server_of(alloc, matches)?,
         }),
+        "import" => Ok(Asked::Import(Import {
+            file: word(alloc, matches, "csv")?,
+            server: server_of(alloc, matches)?,
+            key: word(alloc, matches, "key")?,
+        })),
         "script" => Ok(Asked::Script),
         "tenants" => Ok(Asked::Tenants),
         "init" => Ok(Asked::Init {

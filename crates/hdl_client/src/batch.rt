@@ -38,8 +38,8 @@ pub struct Batch {
 
 /// Who is told what came of each request, as it comes.
 pub trait Outcomes {
-    /// The reply to this task has this code.
-    fn done(&mut self, task: &Task, code: u32);
+    /// The reply to this task came, with this code.
+    fn done(&mut self, task: &Task, code: u32, reply: &ReplyView<'_>);
 }
 
 /// A request that waits for its reply: its task, the RequestId of what was sent last for it, and whether that answers a challenge.
@@ -182,7 +182,7 @@ impl<S: Read + Write> Session<S> {
         };
         match land_reply(self.alloc, &batch.keys, &flight, &reply)? {
             Landing::Done(code) => {
-                outcomes.done(flight.task, code);
+                outcomes.done(flight.task, code, &reply);
                 Ok(())
             }
             Landing::Challenge(answer) => {

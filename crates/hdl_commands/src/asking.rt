@@ -118,6 +118,22 @@ fn print_reply(
     Ok(())
 }
 
+/// What to do where one reply can't say all that was asked for.
+fn way_on(operation: OpCode, code: u32) -> &'static str {
+    if code != ResponseCode::Error.number() {
+        return "";
+    }
+    match operation {
+        OpCode::ListHandles => {
+            ": more handles than one reply of 65,536 octets says; who runs the server writes all of them by `handled export`"
+        }
+        OpCode::Resolution => {
+            ": more values than one reply of 65,536 octets says; ask for some of them by --index or --type"
+        }
+        _ => "",
+    }
+}
+
 /// Prints the reply that a frame carries; answers 0 where its code is 1, and else 1 with the code's name on standard error.
 fn show(rt: &HostRuntime, question: &Question, octets: &[u8]) -> Result<u8, AskFault> {
     let Ok(frame) = one_datagram(octets) else {
@@ -131,7 +147,8 @@ fn show(rt: &HostRuntime, question: &Question, octets: &[u8]) -> Result<u8, AskF
     if code == ResponseCode::Success.number() {
         return Ok(0);
     }
-    let _ = eprintln!(rt; "hdl: {code} {}", code_name(code));
+    let more = way_on(question.operation, code);
+    let _ = eprintln!(rt; "hdl: {code} {}{more}", code_name(code));
     Ok(1)
 }
 

@@ -39,12 +39,12 @@ struct Reader {
 }
 
 /// Whether a value may change who else is an administrator: a key, or a list of keys.
-fn is_relied_on(value: &Value) -> bool {
+pub(crate) fn is_relied_on(value: &Value) -> bool {
     value.is_secret_key() || value.is_list()
 }
 
 /// Whether a request may change what requests on other handles need, whatever its values are.
-fn may_disturb(operation: OpCode, name: &Name) -> bool {
+pub(crate) fn may_disturb(operation: OpCode, name: &Name) -> bool {
     !matches!(
         operation,
         OpCode::CreateHandle | OpCode::AddValue | OpCode::Resolution

@@ -4,7 +4,7 @@ use crate::batch_text::read_batch;
 use crate::words::code_name;
 use hdl_client::{Batch, ClientFault, Outcomes, Task, connect};
 use hdl_lines::printed;
-use hdl_msg::ResponseCode;
+use hdl_msg::{ReplyView, ResponseCode};
 use std::io::IsTerminal;
 
 /// Prints what comes, and counts it.
@@ -30,7 +30,7 @@ impl Tally<'_> {
 }
 
 impl Outcomes for Tally<'_> {
-    fn done(&mut self, task: &Task, code: u32) {
+    fn done(&mut self, task: &Task, code: u32, _reply: &ReplyView<'_>) {
         self.done = self.done.saturating_add(1);
         if code != ResponseCode::Success.number() {
             // without memory for it the line is missing from the last one
@@ -45,7 +45,7 @@ impl Outcomes for Tally<'_> {
 }
 
 /// Whether progress is shown: where standard error is a terminal, and the outcomes go elsewhere.
-fn is_watched(rt: &HostRuntime) -> bool {
+pub(crate) fn is_watched(rt: &HostRuntime) -> bool {
     rt.stderr().is_terminal() && !rt.stdout().is_terminal()
 }
 

@@ -1,7 +1,7 @@
 //! What is wrong with words.
 
 use hdl_client::ClientFault;
-use hdl_limits::MESSAGE_MAX;
+use hdl_limits::{MESSAGE_MAX, WRITTEN_MAX};
 use hdl_lines::LineFault;
 use hdl_name::NameFault;
 use std::alloc::{AllocError, AllocFailed};
@@ -30,6 +30,20 @@ pub enum WordFault {
     NoSecret,
     #[error("the request has more than {MESSAGE_MAX} octets")]
     TooLong,
+    #[error("a quote isn't closed: a field with a quote in it stands in quotes, with each of its own written twice")]
+    Quote,
+    #[error("more or fewer fields than the header names: a field with a comma in it stands in quotes")]
+    Fields,
+    #[error("the header lacks a column: its line is handle,type,data,ttl, in any order, with index and permissions if they are given")]
+    Column,
+    #[error("the header names a column twice")]
+    ColumnTwice,
+    #[error("a key can't stand in the file: write it by `hdl batch`")]
+    KeyInFile,
+    #[error("an index stands twice among the handle's rows")]
+    IndexTwice,
+    #[error("the handle has more than {WRITTEN_MAX} values: create it with some of them, and add the others by `hdl batch`")]
+    TooMany,
     #[error("no memory")]
     Memory,
 }

@@ -5,12 +5,14 @@
 //! octets -> explain -> the request, reply or value that they are, in words ([`words`])
 //! text of a batch -> read_batch -> Batch -> run_batch, or write_script -> the script that `handled` takes
 //! lines with values in words -> write_tenants -> lines of a tenants text
+//! rows of a CSV file -> import_file -> the requests that create its handles ([`imports`])
 //! prefixes, random octets -> write_fresh_tenants -> a tenants text in words, with fresh secrets
 //! ```
 //!
 //! Requests are read from words and written by `hdl_msg`'s `write_request`, so what is sent is in the grammar; a value's words are
-//! those of `hdl_lines`. Promised is that everything here is total, that a line of a [`Page`] has no control character, and that the
-//! line of a hidden key is a function of its index and the length of its data; what else is printed is tested.
+//! those of `hdl_lines`. Promised is that everything here is total, that a line of a [`Page`] has no control character, that the
+//! line of a hidden key is a function of its index and the length of its data, and that a handle is imported with just the values that
+//! its rows say (`specs/Rows.antt`); what else is printed is tested.
 #![tactic(auto)]
 
 mod asking;
@@ -18,6 +20,7 @@ mod batch_text;
 mod batches;
 mod fault;
 mod fresh;
+mod imports;
 mod key;
 mod request;
 mod scripts;
@@ -29,6 +32,7 @@ pub use batch_text::{BatchFault, read_batch};
 pub use batches::run_batch_text;
 pub use fault::WordFault;
 pub use fresh::{FreshFault, fresh_secret, write_fresh_tenants};
+pub use imports::{Import, import_file};
 pub use key::SECRET_VARIABLE;
 pub use scripts::write_script;
 pub use tenants::write_tenants;

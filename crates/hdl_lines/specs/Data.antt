@@ -10,6 +10,7 @@ use Rattle.hdl_value.specs.declared.references.RawRef.{RawRef}
 use Rattle.hdl_value.specs.declared.value.Value.{Value}
 use Rattle.hdl_value.specs.Spelling.{reference, references}
 use Rattle.hdl_value.specs.Reading.{◌>>=◌}
+use Rattle.hdl_value.specs.Data.{admin_kind, list_kind}
 use Rattle.hdl_value.specs.Refs.{admin_read, list_read}
 use Rattle.hdl_lines.specs.declared.data.Format.{Format}
 use Rattle.hdl_lines.specs.declared.data.Format.TheVariants as format
@@ -27,6 +28,10 @@ format_named word =
     else if bytes_eq word (codes "HEX") then Some format.Hex
     else if bytes_eq word (codes "HIDDEN") then Some format.Hidden
     else None
+
+-- that of a type's data, where none is named
+abbrev pub format_of : List ℕ → Format
+format_of kind = if bytes_eq kind admin_kind then format.Admin else if bytes_eq kind list_kind then format.List else format.Utf8
 
 -- text as it is
 abbrev pub text_in : List ℕ → Option (List ℕ)

@@ -15,7 +15,7 @@ use Rattle.hdl_lines.specs.declared.data.Format.TheVariants as format
 use Rattle.hdl_lines.specs.declared.fault.LineFault.{LineFault}
 use Rattle.hdl_lines.specs.declared.fault.LineFault.TheVariants as fault
 use Rattle.hdl_lines.specs.Fields.{space, is_word, cut_at, number_in, permission_digits, number_at, word_at, permissions_at}
-use Rattle.hdl_lines.specs.Data.{format_named, format_and_data, data_by, hex_in, data_text}
+use Rattle.hdl_lines.specs.Data.{format_named, format_of, format_and_data, data_by, hex_in, data_text}
 
 -- what follows a step, or the fault of the step
 infixl 10 ◌>>=◌
@@ -55,6 +55,20 @@ value_in_digits digits = ok_or (hex_in digits) fault.Octets >>= value_in_octets
 abbrev pub ttl_fault : List ℕ → LineFault
 ttl_fault text = if bytes_eq (format_and_data text).0 (codes "HIDDEN") then fault.Hidden else fault.Ttl
 
+-- the value of these parts
+abbrev pub value_of : ℕ → List ℕ → ℕ → ℕ → List ℕ → Value
+value_of index kind ttl perm bytes = record { index = index; kind = kind; bytes = bytes; ttl = 0 ∷ to_be_bytes w32 ttl; perm = perm; stamp = 0; refs = [] }
+
+-- the data of a type that is a word, in words
+abbrev pub data_of : List ℕ → List ℕ → Result (List ℕ) LineFault
+data_of kind text = if is_word kind then ok_or (data_by (format_of kind) text) (data_fault (format_of kind)) else Err fault.Type
+
+-- the value of these parts, its data in words by the format of its type
+unfoldable pub value_by_type : ℕ → List ℕ → ℕ → ℕ → List ℕ → Result Value LineFault
+value_by_type index kind ttl perm text = do
+  bytes ← data_of kind text
+  Ok (value_of index kind ttl perm bytes)
+
 -- TYPE TTL PERMISSIONS FORMAT DATA
 unfoldable pub value_in_fields : ℕ → List ℕ → Result Value LineFault
 value_in_fields index text = do
@@ -62,7 +76,7 @@ value_in_fields index text = do
   ttl ← ok_or (number_at kind.1) (ttl_fault kind.1)
   perm ← ok_or (permissions_at ttl.1) fault.Permissions
   bytes ← data_in perm.1
-  Ok (record { index = index; kind = kind.0; bytes = bytes; ttl = 0 ∷ to_be_bytes w32 ttl.0; perm = perm.0; stamp = 0; refs = [] })
+  Ok (value_of index kind.0 ttl.0 perm.0 bytes)
 
 -- the value that a line says, sound or not, or the first field that is wrong
 unfoldable pub value_in : List ℕ → Result Value LineFault

@@ -1,21 +1,21 @@
 //! The data of a value, by its format.
 
-ghost use Rattle.std.specs.Prelude.{◌≡◌, ◌⊎◌, ◌<◌, ◌^◌, ◌==◌, length, map, IfOk, IfErr, IfSome, option_map};
+ghost use Rattle.std.specs.Prelude.{◌≡◌, ◌⊎◌, ◌<◌, ◌^◌, ◌==◌, length, map, ok_or, IfOk, IfErr, IfSome, option_map};
 ghost use Rattle.std.specs.List.{AllByRecursion, slice_split};
 ghost use Rattle.hdl_value.specs.Reading.{Reads};
 ghost use Rattle.hdl_lines.specs.Fields.{space};
-ghost use Rattle.hdl_lines.specs.Lines.{data_in};
-ghost use Rattle.hdl_lines.specs.Data.{format_named, admin_parts, admin_in, reference_in, references_in, list_in, text_in, hex_in};
+ghost use Rattle.hdl_lines.specs.Lines.{data_fault, data_in};
+ghost use Rattle.hdl_lines.specs.Data.{format_named, format_of, admin_parts, admin_in, reference_in, references_in, list_in, text_in, hex_in, data_by};
 
 use crate::fault::LineFault;
 use crate::fields::{cut_at, is_handle_word, is_text, mask_in, number_in};
-use hdl_value::{Octets, RawRef, put_references, put_string, put_u16, put_u32};
+use hdl_value::{HS_ADMIN, HS_VLIST, Octets, RawRef, put_references, put_string, put_u16, put_u32};
 use hex::FromHexError;
 use std::alloc::{AllocError, Global};
 
 /// How the data of a value is written.
 #[derive(Clone, Copy, Debug, PartialEq, Eq)]
-enum Format {
+pub(crate) enum Format {
     Utf8,
     Admin,
     List,
@@ -40,6 +40,19 @@ impl Format {
             Some(Format::Hidden)
         } else {
             None
+        }
+    }
+
+    /// The format of a type's data where none is named.
+    pub(crate) fn of(kind: &[u8]) -> Format
+        ensures { result ≡ format_of kind.now }
+    {
+        if kind == HS_ADMIN {
+            Format::Admin
+        } else if kind == HS_VLIST {
+            Format::List
+        } else {
+            Format::Utf8
         }
     }
 }
@@ -147,6 +160,20 @@ fn text_in(alloc: Global, text: &[u8]) -> Result<Option<Vec<u8>>, AllocError>
     Ok(Some(Vec::from_slice(alloc, text)?))
 }
 
+/// The data that a text says by a format.
+pub(crate) fn data_by(alloc: Global, format: Format, text: &[u8]) -> Result<Vec<u8>, LineFault>
+    ensures value { IfOk result (λ v. ok_or (data_by format text.now) (data_fault format) ≡ Ok v.items) }
+    ensures fault { IfErr result (λ e. (e ≡ LineFault.Memory) ⊎ (ok_or (data_by format text.now) (data_fault format) ≡ Err e)) }
+{
+    match format {
+        Format::Utf8 => text_in(alloc, text)?.ok_or(LineFault::Text),
+        Format::Admin => admin_in(alloc, text)?.ok_or(LineFault::Admin),
+        Format::List => list_in(alloc, text)?.ok_or(LineFault::List),
+        Format::Hex => octets_in(alloc, text)?.ok_or(LineFault::Hex),
+        Format::Hidden => Err(LineFault::Hidden),
+    }
+}
+
 /// The data that a format and what stands behind it say.
 #[tactic(auto, unfolding(crate::specs::Lines::data_in))]
 pub(crate) fn data_in(alloc: Global, text: &[u8]) -> Result<Vec<u8>, LineFault>
@@ -154,14 +181,8 @@ pub(crate) fn data_in(alloc: Global, text: &[u8]) -> Result<Vec<u8>, LineFault>
     ensures fault { IfErr result (λ e. (e ≡ LineFault.Memory) ⊎ (data_in text.now ≡ Err e)) }
 {
     let (format, text) = cut_at(text, b' ').unwrap_or((text, b""));
-    let Some(format) = Format::named(format) else {
-        return Err(LineFault::Format);
-    };
-    match format {
-        Format::Utf8 => text_in(alloc, text)?.ok_or(LineFault::Text),
-        Format::Admin => admin_in(alloc, text)?.ok_or(LineFault::Admin),
-        Format::List => list_in(alloc, text)?.ok_or(LineFault::List),
-        Format::Hex => octets_in(alloc, text)?.ok_or(LineFault::Hex),
-        Format::Hidden => Err(LineFault::Hidden),
+    match Format::named(format) {
+        Some(format) => data_by(alloc, format, text),
+        None => Err(LineFault::Format),
     }
 }

@@ -16,7 +16,8 @@
 //! was read has timestamp 0. [`shown_line`] and [`shown_data`] write what of a value is shown: where the data of keys isn't asked for
 //! that of a key is a function of its index, its type and the length of its data. [`printed`] escapes control characters, so that no
 //! octets of a stranger drive a terminal. A reference to a key stands in words as [`read_reference`] reads it. The fields that other
-//! forms of a value share ([`number_in`], [`mask_in`], [`permissions_in`]) stand by themselves.
+//! forms of a value share ([`number_in`], [`mask_in`], [`permissions_in`]) stand by themselves, and [`value_by_type`] makes a value whose
+//! fields stand apart, as those of a table do.
 //!
 //! What it promises: `specs/Lines.antt` defines the line of each value (`line_of`), and for each list of octets the value that it
 //! says or the first field that is wrong (`value_in`). The two functions do just that, want of memory aside, and reading refuses a
@@ -42,5 +43,5 @@ pub use hiding::{is_hidden, shown_data, shown_line};
 pub use keys::{index_in, read_reference};
 pub use laws::{hidden_is_refused, printed_is_line, written_is_printed, written_is_read};
 pub use printing::printed;
-pub use read::read_value_line;
+pub use read::{read_value_line, value_by_type};
 pub use write::value_line;

@@ -3,11 +3,11 @@
 ghost use Rattle.std.specs.Prelude.{◌≡◌, [], IfOk, IfErr, OnOk};
 ghost use Rattle.hdl_value.specs.Spelling.{CanBeSpelt};
 ghost use Rattle.hdl_value.specs.Fault.{IsSound};
-ghost use Rattle.hdl_lines.specs.Lines.{value_in, value_in_digits, value_in_fields, value_in_octets, ttl_fault, IsFaultIn};
+ghost use Rattle.hdl_lines.specs.Lines.{value_of, value_by_type, value_in, value_in_digits, value_in_fields, value_in_octets, ttl_fault, IsFaultIn};
 
-use crate::data::{data_in, octets_in};
+use crate::data::{Format, data_by, data_in, octets_in};
 use crate::fault::LineFault;
-use crate::fields::{cut_at, number_at, number_in, permissions_at, word_at};
+use crate::fields::{cut_at, is_word, number_at, number_in, permissions_at, word_at};
 use hdl_limits::{DATA_MAX, TYPE_MAX};
 use hdl_value::{Octets, RawRefs, Value, ValueFault, cut_value, value_fits, write_value};
 use std::alloc::Global;
@@ -73,6 +73,58 @@ fn check(alloc: Global, value: &Value) -> Result<(), LineFault>
     }
 }
 
+/// The value of these parts, if it is sound.
+fn sound_value(
+    alloc: Global,
+    index: u32,
+    kind: &[u8],
+    ttl: u32,
+    perm: u8,
+    bytes: Vec<u8>,
+) -> Result<Value, LineFault>
+    ensures value { IfOk result (λ v. v ≡ value_of index kind.now ttl perm bytes.items) }
+    ensures sound { IfOk result (λ v. IsSound v) }
+    ensures fault { IfErr result (λ e. IsFaultIn (Ok (value_of index kind.now ttl perm bytes.items)) e) }
+    ensures can_be_spelt { IfOk result (λ v. CanBeSpelt v) }
+{
+    let [a, b, c, d] = ttl.to_be_bytes();
+    let value = Value {
+        index,
+        kind: Octets::new(Vec::from_slice(alloc, kind)?),
+        bytes: Octets::new(bytes),
+        ttl: [0, a, b, c, d],
+        perm,
+        stamp: 0,
+        refs: RawRefs::new(Vec::new(alloc)),
+    };
+    check(alloc, &value)?;
+    Ok(value)
+}
+
+/// The value of these parts, with timestamp 0. Its data stands in words: as in the formats `ADMIN` and `LIST` of HS_ADMIN and of
+/// HS_VLIST, and any other as text on one line. Refuses a type that is no word, then data that isn't so told, then what is wrong with
+/// the value itself.
+#[tactic(auto, unfolding(crate::specs::Lines::value_by_type))]
+pub fn value_by_type(
+    alloc: Global,
+    index: u32,
+    kind: &[u8],
+    ttl: u32,
+    perm: u8,
+    text: &[u8],
+) -> Result<Value, LineFault>
+    ensures value { IfOk result (λ v. value_by_type index kind.now ttl perm text.now ≡ Ok v) }
+    ensures sound { IfOk result (λ v. IsSound v) }
+    ensures fault { IfErr result (λ e. IsFaultIn (value_by_type index kind.now ttl perm text.now) e) }
+    ensures can_be_spelt { IfOk result (λ v. CanBeSpelt v) }
+{
+    if !is_word(kind) {
+        return Err(LineFault::Type);
+    }
+    let bytes = data_by(alloc, Format::of(kind), text)?;
+    sound_value(alloc, index, kind, ttl, perm, bytes)
+}
+
 /// What is wrong where a TTL should stand: the data is hidden, or it is no number.
 fn ttl_fault(text: &[u8]) -> LineFault
     ensures { result ≡ ttl_fault text.now }
@@ -103,18 +155,7 @@ fn value_in_fields(alloc: Global, index: u32, fields: &[u8]) -> Result<Value, Li
         return Err(LineFault::Permissions);
     };
     let bytes = data_in(alloc, rest)?;
-    let [a, b, c, d] = ttl.to_be_bytes();
-    let value = Value {
-        index,
-        kind: Octets::new(Vec::from_slice(alloc, kind)?),
-        bytes: Octets::new(bytes),
-        ttl: [0, a, b, c, d],
-        perm,
-        stamp: 0,
-        refs: RawRefs::new(Vec::new(alloc)),
-    };
-    check(alloc, &value)?;
-    Ok(value)
+    sound_value(alloc, index, kind, ttl, perm, bytes)
 }
 
 /// Reads the line of a value, which has no line end.

@@ -3,6 +3,7 @@
 use crate::carry::{Stop, reply_to, stopped};
 use crate::order::{Order, Window};
 use crate::service::Service;
+use crate::told::{failure, status_of_change};
 use hdl_msg::{ContentView, RequestBody, ResponseCode, Strings, read_reply};
 use hdl_name::Octets;
 use hdl_proxy::{Answer, Status, json_answer, put_text};
@@ -79,6 +80,10 @@ fn page_answer(
     json_answer(alloc, Status::Success, &Json::from(object))
 }
 
+/// What is said of more handles than one reply of a server says.
+const LONG_LIST: &str =
+    "The prefix has more handles than one answer of the server says. Who runs it writes all of them by `handled export`.";
+
 fn list_told(
     alloc: Global,
     handle: &[u8],
@@ -89,8 +94,11 @@ fn list_told(
         return stopped(alloc, handle, Stop::Silent, &[]);
     };
     let ContentView::Handles { handles } = reply.content else {
-        let stop = Stop::Code(reply.header.response_code);
-        return stopped(alloc, handle, stop, &[]);
+        let code = reply.header.response_code;
+        if code == ResponseCode::Error.number() {
+            return failure(alloc, handle, status_of_change(code), code, LONG_LIST, &[]);
+        }
+        return stopped(alloc, handle, Stop::Code(code), &[]);
     };
     let page = page_of(alloc, handles, window)?;
     let told = told_window(window, page.count);

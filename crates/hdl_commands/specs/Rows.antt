@@ -1,0 +1,69 @@
+-- A row of a CSV file: the value that it says, and the request that creates a handle of its rows.
+use Rattle.std.specs.Prelude.{◌≡◌, ◌≢◌, ℕ, if◌then◌else◌, List, [], ◌∷◌, ◌++◌, All, codes, Option, Some, None, IfSome, option_map, option_and_then, Result, Ok, Err, ok_or}
+use Rattle.std.specs.Bool.{MatchBool}
+use Rattle.std.specs.Int.{w16, to_be_bytes}
+use Rattle.std.specs.List.{list_any}
+use Rattle.csv.specs.Machine.{next_record}
+use Rattle.csv.specs.Reading.{default_config, strip_bom}
+use Rattle.csv.specs.Records.{field_at}
+use Rattle.csv.specs.declared.parser.State.TheVariants.{StartRecord}
+use Rattle.hdl_value.specs.declared.references.RawRef.{RawRef}
+use Rattle.hdl_value.specs.declared.value.Value.{Value}
+use Rattle.hdl_value.specs.Data.{admin_kind}
+use Rattle.hdl_value.specs.Refs.{is_admin}
+use Rattle.hdl_value.specs.Spelling.{reference}
+use Rattle.hdl_msg.specs.declared.request_body.RequestBody.TheVariants.{Create}
+use Rattle.hdl_msg.specs.RequestBody.{request_message}
+use Rattle.hdl_client.specs.Challenge.{plain_header}
+use Rattle.hdl_lines.specs.declared.fault.LineFault.{LineFault}
+use Rattle.hdl_lines.specs.declared.fault.LineFault.TheVariants as fault
+use Rattle.hdl_lines.specs.Fields.{number_in, permissions_in}
+use Rattle.hdl_lines.specs.Lines.{◌>>=◌, value_of, value_by_type}
+use Rattle.hdl_commands.specs.declared.imports.columns.Columns.{Columns}
+
+-- the fields of a line of CSV (RFC 4180), a byte order mark aside
+abbrev pub fields_in : List ℕ → Option (List (List ℕ))
+fields_in line = option_map (λ read. read.0) (next_record default_config StartRecord [] [] (strip_bom line))
+
+-- The columns stand where the header names them.
+pub record AreNamed (names : List (List ℕ)) (columns : Columns) : Type 0 where
+  pub handle : field_at names columns.handle ≡ Some (codes "handle")
+  pub kind : field_at names columns.kind ≡ Some (codes "type")
+  pub bytes : field_at names columns.bytes ≡ Some (codes "data")
+  pub ttl : field_at names columns.ttl ≡ Some (codes "ttl")
+  pub index : IfSome columns.index (λ place. field_at names place ≡ Some (codes "index"))
+  pub permissions : IfSome columns.permissions (λ place. field_at names place ≡ Some (codes "permissions"))
+
+-- the index of a row: that of its column, or without one how manieth row of its handle it is
+abbrev pub index_in : Option ℕ → ℕ → List (List ℕ) → Option ℕ
+index_in None place fields = Some place
+index_in (Some column) place fields = option_and_then number_in (field_at fields column)
+
+-- its permissions: those of their column, or without one 1110
+abbrev pub permissions_of : Option ℕ → List (List ℕ) → Option ℕ
+permissions_of None fields = Some 14
+permissions_of (Some column) fields = option_and_then permissions_in (field_at fields column)
+
+-- the value of a row, or the first of its fields that is wrong
+unfoldable pub value_in_row : Columns → ℕ → List (List ℕ) → Result Value LineFault
+value_in_row columns place fields = do
+  index ← ok_or (index_in columns.index place fields) fault.Index
+  kind ← ok_or (field_at fields columns.kind) fault.Type
+  ttl ← ok_or (option_and_then number_in (field_at fields columns.ttl)) fault.Ttl
+  perm ← ok_or (permissions_of columns.permissions fields) fault.Permissions
+  text ← ok_or (field_at fields columns.bytes) fault.Text
+  value_by_type index kind ttl perm text
+
+-- an administrator who may do everything, by the key at this place
+abbrev pub administrator : RawRef → ℕ → Value
+administrator key index = value_of index admin_kind 86400 14 (to_be_bytes w16 4095 ++ reference key)
+
+-- these rows' values, and, where none of them is an administrator, one at an index that none of them has
+abbrev pub AreAdministered : RawRef → List Value → List Value → Type 0
+AreAdministered key rows values = MatchBool (list_any is_admin rows) (values ≡ rows) ((index : ℕ) × All (λ v. v.index ≢ index) rows × (values ≡ rows ++ administrator key index ∷ []))
+
+-- The message creates the handle with just such values.
+pub record Creates (key : RawRef) (handle : List ℕ) (rows : List Value) (message : List ℕ) : Type 0 where
+  pub values : List Value
+  pub administered : AreAdministered key rows values
+  pub spelt : message ≡ request_message plain_header (Create handle values)

@@ -1,0 +1,89 @@
+//! Lines of a CSV file, and what its header names.
+
+ghost use Rattle.std.specs.Prelude.{◌≡◌, Some, ◌↔◌, IsTrue, ◌%◌, ◌==◌, count_by, IfOk, IfSome, option_map};
+ghost use Rattle.csv.specs.Records.{field_at, fields_of};
+ghost use Rattle.hdl_commands.specs.Rows.{fields_in, AreNamed};
+
+use crate::fault::WordFault;
+use csv::{ByteRecord, ReaderBuilder};
+use std::alloc::{AllocError, Global};
+
+/// Where the columns of a file stand, from 0.
+#[derive(Clone, Copy, Debug, PartialEq, Eq)]
+pub struct Columns {
+    pub handle: usize,
+    pub kind: usize,
+    pub bytes: usize,
+    pub ttl: usize,
+    pub index: Option<usize>,
+    pub permissions: Option<usize>,
+}
+
+/// The fields of a line; None of a line that is empty.
+pub(crate) fn fields_in(alloc: Global, line: &[u8]) -> Result<Option<ByteRecord>, AllocError>
+    ensures { IfOk result (λ row. option_map fields_of row ≡ fields_in line.now) }
+{
+    let mut reader = ReaderBuilder::new()
+        .has_headers(false)
+        .from_reader(alloc, line);
+    let mut row = ByteRecord::new(alloc);
+    match reader.read_byte_record(&mut row) {
+        Ok(true) => Ok(Some(row)),
+        Ok(false) => Ok(None),
+        Err(_) => Err(AllocError),
+    }
+}
+
+/// Whether each quote of a line is closed in it.
+pub(crate) fn is_closed(line: &[u8]) -> bool
+    ensures { IsTrue result ↔ (count_by (λ octet. octet == 34) line.now % 2 ≡ 0) }
+{
+    line.iter().filter(|octet| **octet == b'"').count() % 2 == 0
+}
+
+/// The first column of this name, of those from `start` on.
+fn column_from(names: &ByteRecord, name: &[u8], start: usize) -> Option<usize>
+    ensures { IfSome result (λ place. field_at (fields_of names.now) place ≡ Some name.now) }
+{
+    for place in start..names.len() {
+        if let Some(field) = names.get(place) {
+            if field == name {
+                return Some(place);
+            }
+        }
+    }
+    None
+}
+
+/// The column of this name, if there is one.
+fn column(names: &ByteRecord, name: &[u8]) -> Result<Option<usize>, WordFault>
+    ensures { IfOk result (λ found. IfSome found (λ place. field_at (fields_of names.now) place ≡ Some name.now)) }
+{
+    let Some(place) = column_from(names, name, 0) else {
+        return Ok(None);
+    };
+    if column_from(names, name, place.saturating_add(1)).is_some() {
+        return Err(WordFault::ColumnTwice);
+    }
+    Ok(Some(place))
+}
+
+fn needed(names: &ByteRecord, name: &[u8]) -> Result<usize, WordFault>
+    ensures { IfOk result (λ place. field_at (fields_of names.now) place ≡ Some name.now) }
+{
+    column(names, name)?.ok_or(WordFault::Column)
+}
+
+/// The columns that a header names; the columns of other names are passed over.
+pub(crate) fn columns_of(names: &ByteRecord) -> Result<Columns, WordFault>
+    ensures { IfOk result (AreNamed (fields_of names.now)) }
+{
+    Ok(Columns {
+        handle: needed(names, b"handle")?,
+        kind: needed(names, b"type")?,
+        bytes: needed(names, b"data")?,
+        ttl: needed(names, b"ttl")?,
+        index: column(names, b"index")?,
+        permissions: column(names, b"permissions")?,
+    })
+}

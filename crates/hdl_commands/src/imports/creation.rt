@@ -1,0 +1,144 @@
+//! The request that creates a handle of its rows.
+
+ghost use Rattle.std.specs.Prelude.{◌≡◌, ◌≢◌, ◌≤◌, ◌++◌, ◌∷◌, [], All, false, IfOk, IfSome};
+ghost use Rattle.std.specs.List.{list_any};
+ghost use Rattle.hdl_value.specs.Refs.{is_admin};
+ghost use Rattle.hdl_commands.specs.Rows as rows;
+ghost use Rattle.hdl_commands.specs.Rows.{AreAdministered, Creates};
+
+use crate::batch_text::{is_relied_on, may_disturb};
+use crate::fault::WordFault;
+use crate::imports::row::OPEN;
+use hdl_client::{Task, request_message};
+use hdl_limits::{NAME_MAX, WRITTEN_MAX};
+use hdl_lines::printed;
+use hdl_msg::{OpCode, RequestBody};
+use hdl_name::Name;
+use hdl_value::{HS_ADMIN, Listed, Octets, RawRef, RawRefs, Value, put_string, put_u16, put_u32};
+use std::alloc::Global;
+
+/// The TTL of an administrator who is added: a day.
+const DAY: u32 = 86_400;
+
+/// All that an administrator may do.
+const EVERYTHING: u16 = 0x0FFF;
+
+/// Where an administrator is added: at this index, or the first one behind it that is free.
+const PLACE: u32 = 100;
+
+/// The data of an administrator who may do everything, by this key.
+fn administrator(alloc: Global, key: &RawRef, index: u32) -> Result<Value, WordFault>
+    ensures { IfOk result (λ v. v ≡ rows.administrator key.now index) }
+{
+    if key.handle.as_slice().len() > NAME_MAX {
+        return Err(WordFault::Key);
+    }
+    let mut data = Vec::new(alloc);
+    put_u16(&mut data, EVERYTHING)?;
+    put_string(&mut data, key.handle.as_slice())?;
+    put_u32(&mut data, key.index)?;
+    let [a, b, c, d] = DAY.to_be_bytes();
+    Ok(Value {
+        index,
+        kind: Octets::new(Vec::from_slice(alloc, HS_ADMIN)?),
+        bytes: Octets::new(data),
+        ttl: [0, a, b, c, d],
+        perm: OPEN,
+        stamp: 0,
+        refs: RawRefs::new(Vec::new(alloc)),
+    })
+}
+
+fn has_index(values: &[Value], index: u32) -> bool
+    ensures { result ≡ false → All (λ v. v.index ≢ index) values.now }
+{
+    values.iter().any(|value| value.index == index)
+}
+
+/// The first index from 100 on that none of these values has; None where there is none before `WRITTEN_MAX` more.
+fn free_index(values: &[Value]) -> Option<u32>
+    ensures { IfSome result (λ index. All (λ v. v.index ≢ index) values.now) }
+{
+    for index in PLACE..PLACE + WRITTEN_MAX as u32 {
+        if !has_index(values, index) {
+            return Some(index);
+        }
+    }
+    None
+}
+
+fn has_twins(values: &[Value]) -> bool {
+    for (place, value) in values.iter().enumerate() {
+        if has_index(&values[..place], value.index) {
+            return true;
+        }
+    }
+    false
+}
+
+fn is_administered(values: &[Value]) -> bool
+    ensures { result ≡ list_any is_admin values.now }
+{
+    values.iter().any(|value| value.is_admin())
+}
+
+/// The values of a handle's rows, and an administrator where none of them is one.
+fn administered(alloc: Global, key: &RawRef, rows: Vec<Value>) -> Result<Vec<Value>, WordFault>
+    ensures { IfOk result (λ values. AreAdministered key.now rows.items values.items) }
+{
+    let mut values = rows;
+    if is_administered(&values) {
+        return Ok(values);
+    }
+    let Some(index) = free_index(&values) else {
+        return Err(WordFault::TooMany);
+    };
+    values.push(administrator(alloc, key, index)?)?;
+    Ok(values)
+}
+
+/// The message that creates a handle of its rows' values. A request that the service wouldn't take is refused with its reason.
+fn creation(
+    alloc: Global,
+    key: &RawRef,
+    handle: &[u8],
+    rows: Vec<Value>,
+) -> Result<Vec<u8>, WordFault>
+    ensures { IfOk result (λ message. Creates key.now handle.now rows.items message.items) }
+{
+    let values = administered(alloc, key, rows)?;
+    if values.len() > WRITTEN_MAX {
+        return Err(WordFault::TooMany);
+    }
+    if has_twins(&values) {
+        return Err(WordFault::IndexTwice);
+    }
+    let body = RequestBody::Create {
+        handle: Octets::new(Vec::from_slice(alloc, handle)?),
+        values: Listed::new(values),
+    };
+    Ok(request_message(alloc, &body)?)
+}
+
+/// The task that creates a handle of its rows' values; `line` is that of the first row.
+pub(crate) fn creation_task(
+    alloc: Global,
+    key: &RawRef,
+    line: usize,
+    handle: &[u8],
+    rows: Vec<Value>,
+) -> Result<Task, WordFault>
+    ensures { IfOk result (λ task. Creates key.now handle.now rows.items task.message.items) }
+{
+    let name = Name::read(alloc, handle)?;
+    let is_alone = may_disturb(OpCode::CreateHandle, &name) || rows.iter().any(is_relied_on);
+    let message = creation(alloc, key, handle, rows)?;
+    Ok(Task {
+        line,
+        title: printed(alloc, handle)?,
+        message,
+        key: Some(0),
+        handle: Vec::from_slice(alloc, name.canon())?,
+        is_alone,
+    })
+}

@@ -1,0 +1,69 @@
+//! The value that a row says.
+
+ghost use Rattle.std.specs.Prelude.{◌≡◌, IfOk, IfErr, option_and_then};
+ghost use Rattle.csv.specs.Records.{field_at, fields_of};
+ghost use Rattle.hdl_lines.specs.Fields as line;
+ghost use Rattle.hdl_lines.specs.Lines.{IsFaultIn};
+ghost use Rattle.hdl_commands.specs.Rows as rows;
+
+use crate::imports::columns::Columns;
+use csv::ByteRecord;
+use hdl_lines::{LineFault, number_in, permissions_in, value_by_type};
+use hdl_value::Value;
+use std::alloc::Global;
+
+/// The permissions 1110: administrators read and write, anybody reads.
+pub(crate) const OPEN: u8 = 14;
+
+fn number_at(fields: &ByteRecord, column: usize) -> Option<u32>
+    ensures { result ≡ option_and_then line.number_in (field_at (fields_of fields.now) column) }
+{
+    number_in(fields.get(column)?)
+}
+
+fn index_in(column: Option<usize>, place: u32, fields: &ByteRecord) -> Option<u32>
+    ensures { result ≡ rows.index_in column place (fields_of fields.now) }
+{
+    match column {
+        None => Some(place),
+        Some(column) => number_at(fields, column),
+    }
+}
+
+fn permissions_of(column: Option<usize>, fields: &ByteRecord) -> Option<u8>
+    ensures { result ≡ rows.permissions_of column (fields_of fields.now) }
+{
+    match column {
+        None => Some(OPEN),
+        Some(column) => permissions_in(fields.get(column)?),
+    }
+}
+
+/// The value of a row that stands at this place among the rows of its handle, from 1, or its first field that is wrong.
+#[tactic(auto, unfolding(crate::specs::Rows::value_in_row))]
+pub(crate) fn value_in_row(
+    alloc: Global,
+    columns: &Columns,
+    place: u32,
+    fields: &ByteRecord,
+) -> Result<Value, LineFault>
+    ensures value { IfOk result (λ v. rows.value_in_row columns.now place (fields_of fields.now) ≡ Ok v) }
+    ensures fault { IfErr result (IsFaultIn (rows.value_in_row columns.now place (fields_of fields.now))) }
+{
+    let Some(index) = index_in(columns.index, place, fields) else {
+        return Err(LineFault::Index);
+    };
+    let Some(kind) = fields.get(columns.kind) else {
+        return Err(LineFault::Type);
+    };
+    let Some(ttl) = number_at(fields, columns.ttl) else {
+        return Err(LineFault::Ttl);
+    };
+    let Some(perm) = permissions_of(columns.permissions, fields) else {
+        return Err(LineFault::Permissions);
+    };
+    let Some(text) = fields.get(columns.bytes) else {
+        return Err(LineFault::Text);
+    };
+    value_by_type(alloc, index, kind, ttl, perm, text)
+}

@@ -1,0 +1,215 @@
+//! The rows of a CSV file, cut into handles.
+
+ghost use Rattle.std.specs.Prelude.{◌≡◌, ◌∷◌, ◌++◌, [], Ok, OnOk};
+ghost use Rattle.csv.specs.Records.{fields_of};
+ghost use Rattle.hdl_value.specs.declared.value.Value.{Value};
+ghost use Rattle.hdl_commands.specs.Rows as said;
+
+use crate::fault::WordFault;
+use crate::imports::columns::{Columns, columns_of, fields_in, is_closed};
+use crate::imports::creation::creation_task;
+use crate::imports::row::value_in_row;
+use csv::ByteRecord;
+use hdl_client::Task;
+use hdl_lines::cut_at;
+use hdl_value::{RawRef, Value};
+use std::alloc::{AllocError, Global};
+
+/// How many handles are asked for at a time.
+const PART: usize = 1000;
+
+/// Who is told what of a file isn't imported.
+pub(crate) trait Faults {
+    /// This line, a row of this handle, is at fault.
+    fn told(&mut self, line: usize, handle: &[u8], fault: WordFault);
+
+    /// One more handle isn't created.
+    fn left_out(&mut self);
+}
+
+/// A handle, and the values of its rows so far.
+#[derive(Drop)]
+struct Entry {
+    line: usize,
+    handle: Vec<u8>,
+    values: Vec<Value>,
+    rows: u32,
+    is_faulty: bool,
+}
+
+impl Entry {
+    /// Adds the value of one more row.
+    fn push_row(
+        &mut self,
+        alloc: Global,
+        columns: &Columns,
+        fields: &ByteRecord,
+    ) -> Result<(), WordFault>
+        ensures { OnOk result ((v : Value) × (self.new.values.items ≡ self.old.values.items ++ v ∷ []) × (said.value_in_row columns.now self.new.rows (fields_of fields.now) ≡ Ok v)) }
+    {
+        self.rows = self.rows.saturating_add(1);
+        let value = value_in_row(alloc, columns, self.rows, fields)?;
+        if value.is_secret_key() {
+            return Err(WordFault::KeyInFile);
+        }
+        self.values.push(value)?;
+        Ok(())
+    }
+}
+
+/// The rows that are left of a file.
+#[derive(Drop)]
+pub(crate) struct Rows<'t> {
+    alloc: Global,
+    /// The key of the administrator whom a handle without one gets.
+    key: RawRef,
+    columns: Columns,
+    /// How many fields a row has.
+    width: usize,
+    rest: &'t [u8],
+    /// How many lines were taken.
+    pub lines: usize,
+    entry: Option<Entry>,
+}
+
+/// The first line without its end, and what follows.
+fn line_of(text: &[u8]) -> (&[u8], &[u8]) {
+    let (line, rest) = cut_at(text, b'\n').unwrap_or((text, b""));
+    match line {
+        [front @ .., b'\r'] => (front, rest),
+        _ => (line, rest),
+    }
+}
+
+impl<'t> Rows<'t> {
+    /// The rows behind the header of this text.
+    pub fn new(alloc: Global, key: RawRef, text: &'t [u8]) -> Result<Rows<'t>, WordFault> {
+        let (header, rest) = line_of(text);
+        let Some(names) = fields_in(alloc, header)? else {
+            return Err(WordFault::Column);
+        };
+        Ok(Rows {
+            alloc,
+            key,
+            columns: columns_of(&names)?,
+            width: names.len(),
+            rest,
+            lines: 1,
+            entry: None,
+        })
+    }
+
+    fn next_line(&mut self) -> Option<&'t [u8]> {
+        if self.rest.is_empty() {
+            return None;
+        }
+        let (line, rest) = line_of(self.rest);
+        self.rest = rest;
+        self.lines = self.lines.saturating_add(1);
+        Some(line)
+    }
+
+    /// Ends the handle that was begun: its task is the next one.
+    fn finish<F: Faults>(&mut self, tasks: &mut Vec<Task>, faults: &mut F) {
+        let Some(entry) = self.entry.take() else {
+            return;
+        };
+        let Entry {
+            line,
+            handle,
+            values,
+            is_faulty,
+            ..
+        } = entry;
+        if is_faulty {
+            return faults.left_out();
+        }
+        let fault = match creation_task(self.alloc, &self.key, line, &handle, values) {
+            Ok(task) => match tasks.push(task) {
+                Ok(()) => return,
+                Err(_) => WordFault::Memory,
+            },
+            Err(fault) => fault,
+        };
+        faults.told(line, &handle, fault);
+        faults.left_out();
+    }
+
+    fn is_begun(&self, handle: &[u8]) -> bool {
+        match &self.entry {
+            Some(entry) => entry.handle.as_slice() == handle,
+            None => false,
+        }
+    }
+
+    fn begin(&mut self, handle: &[u8]) -> Result<(), AllocError> {
+        self.entry = Some(Entry {
+            line: self.lines,
+            handle: Vec::from_slice(self.alloc, handle)?,
+            values: Vec::new(self.alloc),
+            rows: 0,
+            is_faulty: false,
+        });
+        Ok(())
+    }
+
+    fn push(&mut self, line: &[u8], fields: &ByteRecord) -> Result<(), WordFault> {
+        if !is_closed(line) {
+            return Err(WordFault::Quote);
+        }
+        if fields.len() != self.width {
+            return Err(WordFault::Fields);
+        }
+        match &mut self.entry {
+            Some(entry) => entry.push_row(self.alloc, &self.columns, fields),
+            None => Ok(()),
+        }
+    }
+
+    fn take<F: Faults>(
+        &mut self,
+        line: &[u8],
+        tasks: &mut Vec<Task>,
+        faults: &mut F,
+    ) -> Result<(), WordFault> {
+        let Some(fields) = fields_in(self.alloc, line)? else {
+            return Ok(());
+        };
+        let handle = fields.get(self.columns.handle).unwrap_or(b"");
+        if !self.is_begun(handle) {
+            self.finish(tasks, faults);
+            self.begin(handle)?;
+        }
+        self.push(line, &fields)
+    }
+
+    /// Tells what is wrong with the last line, and marks the handle that was begun, if one was: it isn't created.
+    fn spoil<F: Faults>(&mut self, faults: &mut F, fault: WordFault) {
+        match &mut self.entry {
+            Some(entry) => {
+                entry.is_faulty = true;
+                faults.told(self.lines, &entry.handle, fault);
+            }
+            None => {
+                faults.told(self.lines, b"", fault);
+                faults.left_out();
+            }
+        }
+    }
+
+    /// Adds the tasks of the next thousand handles, or of those that are left: none where no row is.
+    pub fn fill<F: Faults>(&mut self, tasks: &mut Vec<Task>, faults: &mut F) {
+        for _ in 0..u64::MAX {
+            if tasks.len() >= PART {
+                return;
+            }
+            let Some(line) = self.next_line() else {
+                break;
+            };
+            if let Err(fault) = self.take(line, tasks, faults) {
+                self.spoil(faults, fault);
+            }
+        }
+        self.finish(tasks, faults);
+    }
+}

@@ -1,0 +1,279 @@
+"""imports.py: imports CSV files by the proved program crates/hdl/out/hdl (`hdl import`) into the program crates/handled/out/handled, and compares what it says, its exit status, and the octets of
+what is resolved afterwards: whole files, each fault of a row told with its line while the others go on, files that are imported again or whose import was killed on the way, keys that are refused, and
+a server that goes away. Its last line is 'N passed, M failed', a case counting one."""
+
+import contextlib
+import os
+import re
+import socket
+import subprocess
+import sys
+import tempfile
+import threading
+import time
+
+# nothing is left beside the tools
+sys.dont_write_bytecode = True
+import repository
+import servers
+import wire
+
+PROGRAM = os.environ.get("HDL", repository.program("hdl"))
+SECRET = "never-shown"
+KEY = "300:0.NA/10"
+OPEN, KEPT = 0x0E, 0x0C
+# How many handles the large file has: several parts of a thousand, and a line of progress.
+MANY = 11_000
+
+
+def administrator(index=100, mask=b"\x0f\xff"):
+    return wire.value(index, b"HS_ADMIN", wire.administrator(b"0.NA/10", 300, mask), OPEN, 86400)
+
+
+def url(index, data, ttl=86400, permission=OPEN):
+    return wire.value(index, b"URL", data, permission, ttl)
+
+
+def tenants(port):
+    rows = [(b"0.NA/10", administrator()), (b"0.NA/10", wire.value(300, b"HS_SECKEY", SECRET.encode(), KEPT, 86400))]
+    return wire.text(["publisher acme 8 %d" % port, "prefix 10 acme", *(wire.value_line(*row) for row in rows)])
+
+
+def run(port, octets, key=KEY, secret=SECRET):
+    """The exit status and both outputs of an import of these octets."""
+    with tempfile.NamedTemporaryFile(suffix=".csv") as file:
+        file.write(octets)
+        file.flush()
+        words = [PROGRAM, "import", "--csv", file.name, "--key", key, "--server", "127.0.0.1:%d" % port]
+        done = subprocess.run(words, stdin=subprocess.DEVNULL, env={**os.environ, "HDL_SECRET": secret}, capture_output=True, check=False, timeout=60)
+    assert SECRET.encode() not in done.stdout + done.stderr
+    return done.returncode, done.stdout.decode(), done.stderr.decode()
+
+
+def values_of(client, handle):
+    """The values of a handle as a list of octets, without their moments; None where it is absent."""
+    code, body = client.asked(wire.resolution(handle))
+    if code != wire.SUCCESS:
+        return None
+    count, at, found = int.from_bytes(body[4 + len(handle):8 + len(handle)], "big"), 8 + len(handle), []
+    for _ in range(count):
+        end = at + 4
+        for _ in range(2):
+            end += 4 + int.from_bytes(body[end:end + 4], "big")
+        found.append(body[at:end + 6] + bytes(12))
+        at = end + 18
+    return found
+
+
+def client_of(port):
+    return servers.Client(port, secret=SECRET.encode())
+
+
+def are_there(port, wanted):
+    """Whether each of these handles has just these values."""
+    with client_of(port) as client:
+        for handle, values in wanted.items():
+            found = values_of(client, handle)
+            if found != values:
+                print("%s has %s and not %s" % (handle, found, values))
+                return False
+    return True
+
+
+# Columns in another order and one more, a byte order mark, lines that end with CR LF, an empty line, fields in quotes, and a last line without an end.
+WHOLE = (
+    "\ufefftype,handle,note,ttl,data\r\n"
+    "URL,10/a,,86400,https://example.org/a\r\n"
+    "EMAIL,10/a,,600,archive@example.org\r\n"
+    "\r\n"
+    'TITLE,10/b,"x, y",0,"Of ""quotes"", and commas"\r\n'
+    "URL,10/\u00fc,,86400,https://example.org/\u00fc\r\n"
+    "HS_ADMIN,10/own,,86400,300:110000000000:0.NA/10\r\n"
+    "HS_VLIST,10/own,,86400,300:0.NA/10 301:0.NA/10"
+).encode()
+WHOLE_VALUES = {
+    b"10/a": [url(1, b"https://example.org/a"), wire.value(2, b"EMAIL", b"archive@example.org", OPEN, 600), administrator()],
+    b"10/b": [wire.value(1, b"TITLE", b'Of "quotes", and commas', OPEN, 0), administrator()],
+    "10/\u00fc".encode(): [url(1, "https://example.org/\u00fc".encode()), administrator()],
+    b"10/own": [administrator(1, b"\x00\x03"), wire.value(2, b"HS_VLIST", wire.listed([wire.reference(b"0.NA/10", 300), wire.reference(b"0.NA/10", 301)]), OPEN, 86400)],
+}
+
+# Indexes and permissions by their columns: an administrator is added at the first index from 100 on that is free.
+PLACED = b"""handle,index,type,data,ttl,permissions
+10/placed,100,URL,https://example.org/,86400,1110
+10/placed,101,NOTE,kept,4294967295,1100
+10/placed,7,URL,https://example.org/7,0,1111
+"""
+PLACED_VALUES = {b"10/placed": [url(7, b"https://example.org/7", 0, 0x0F), url(100, b"https://example.org/"), wire.value(101, b"NOTE", b"kept", KEPT, 4294967295), administrator(102)]}
+
+
+def whole(port):
+    """What files say is there, and nothing else is said."""
+    yield "a file", run(port, WHOLE) == (0, "4 created, 0 there already, 0 failed\n", "") and are_there(port, WHOLE_VALUES)
+    yield "indexes and permissions", run(port, PLACED) == (0, "1 created, 0 there already, 0 failed\n", "") and are_there(port, PLACED_VALUES)
+    yield "the header alone", run(port, b"handle,type,data,ttl\n") == (0, "0 created, 0 there already, 0 failed\n", "")
+
+
+def again(port):
+    """What is there with its values counts as done, and what is there with others doesn't."""
+    yield "the same file", run(port, WHOLE) == (0, "0 created, 4 there already, 0 failed\n", "") and are_there(port, WHOLE_VALUES)
+    yield "values that aren't for everybody", run(port, PLACED) == (0, "0 created, 1 there already, 0 failed\n", "")
+    changed = WHOLE.replace(b"archive@", b"other@") + b"\r\nURL,10/later,,86400,https://example.org/later\r\nURL,10/b,,0,https://example.org/b\r\n"
+    said = ("line 2: 10/a: 101 handle already exists, with other values\n"
+            "line 10: 10/b: 101 handle already exists, with other values\n1 created, 3 there already, 2 failed\n")
+    later = {b"10/later": [url(1, b"https://example.org/later"), administrator()]}
+    yield "a file that was changed", run(port, changed) == (1, said, "") and are_there(port, {**WHOLE_VALUES, **later})
+
+
+HEAD = "handle,index,type,data,ttl,permissions"
+GOOD = "10/good%d,1,URL,https://example.org/,86400,1110"
+QUOTE = "a quote isn't closed: a field with a quote in it stands in quotes, with each of its own written twice"
+FIELDS = "more or fewer fields than the header names: a field with a comma in it stands in quotes"
+TEXT = "the data isn't text on one line"
+MANY_VALUES = "the handle has more than 256 values: create it with some of them, and add the others by `hdl batch`"
+# Of a faulty handle: its rows, and which of them is told with which words.
+FAULTS = (
+    (["10/f1,1,URL,https://example.org/,x,1110"], 0, "the TTL isn't a number"),
+    (["10/f2,0,URL,https://example.org/,1,1110"], 0, "the value's index is 0"),
+    (["10/f3,one,URL,https://example.org/,1,1110"], 0, "the index isn't a number"),
+    (["10/f4,1,two words,https://example.org/,1,1110"], 0, "the type isn't a word"),
+    (["10/f5,1,,https://example.org/,1,1110"], 0, "the type isn't a word"),
+    (["10/f6,1,URL,https://example.org/,1,111"], 0, "the permissions aren't four digits 0 or 1"),
+    (["10/f7,1,URL,,1,1110"], 0, TEXT),
+    (["10/f8,1,URL, https://example.org/,1,1110"], 0, TEXT),
+    (["10/f9,1,URL,a\x1b[2J,1,1110"], 0, TEXT),
+    (["10/f10,1,URL," + "x" * 32769 + ",1,1110"], 0, "the value's data is too long"),
+    (["10/f11,1,URL,https://example.org/a,b,1,1110"], 0, FIELDS),
+    (["10/f12,1,URL"], 0, FIELDS),
+    (['10/f13,1,URL,"https://example.org/,1,1110'], 0, QUOTE),
+    (["10/f14,1,HS_ADMIN,300:0.NA/10,1,1110"], 0, "the data isn't INDEX:MASK:HANDLE"),
+    (["10/f15,1,HS_VLIST,300,1,1110"], 0, "the data isn't INDEX:HANDLE and more of them"),
+    (["10/f16,1,HS_SECKEY,a secret,1,1100"], 0, "a key can't stand in the file: write it by `hdl batch`"),
+    (["10,1,URL,https://example.org/,1,1110"], 0, "the name has no slash"),
+    ([",1,URL,https://example.org/,1,1110"], 0, "the name has no slash"),
+    (["10/\x1b[2J,1,URL,https://example.org/,x,1110"], 0, "the TTL isn't a number"),
+    # the rows of one handle: none of them is imported
+    (["10/f20,1,URL,https://example.org/,1,1110", "10/f20,2,URL,https://example.org/,x,1110"], 1, "the TTL isn't a number"),
+    (["10/f21,1,URL,https://example.org/,1,1110", "10/f21,1,URL,https://example.org/,1,1110"], 0, "an index stands twice among the handle's rows"),
+    (["10/f22,%d,URL,a,1,1110" % index for index in range(1, 257)], 0, MANY_VALUES),
+    (["10/f23,%d,URL,%s,1,1110" % (index, "x" * 30000) for index in (1, 2, 3)], 0, "the request has more than 65536 octets"),
+    # what the service says
+    (["20/f,1,URL,https://example.org/,1,1110"], 0, "302 service referral"),
+    (["0.NA/10.5,1,URL,https://example.org/,1,1110"], 0, "5 operation denied"),
+)
+
+
+def handle_of(row):
+    return row.split(",")[0].replace("\x1b", "\\u{1b}")
+
+
+def faults(port):
+    """Each fault is told with its line and its handle, nothing of that handle is there, and all other handles are."""
+    lines, said, good = [HEAD], [], {}
+    for number, (rows, at, words) in enumerate(FAULTS):
+        said.append("line %d: %s: %s" % (len(lines) + 1 + at, handle_of(rows[at]), words))
+        lines += rows + [GOOD % number]
+        good[b"10/good%d" % number] = [url(1, b"https://example.org/"), administrator()]
+    status, out, err = run(port, "\n".join(lines).encode() + b"\n")
+    told = out.splitlines()
+    yield "faults", (status, err, sorted(told[:-1]), told[-1]) == (1, "", sorted(said), "%d created, 0 there already, %d failed" % (len(good), len(FAULTS)))
+    for missing in sorted(set(said) - set(told)):
+        print("not said: %s" % missing)
+    for other in sorted(set(told[:-1]) - set(said)):
+        print("said: %s" % other)
+    yield "what is good beside faults", are_there(port, good)
+    with client_of(port) as client:
+        yield "nothing of what is faulty", all(values_of(client, rows[0].split(",")[0].encode()) is None for rows, _, _ in FAULTS)
+    octets = b"handle,type,data,ttl\n10/\xff,URL,a,1\n10/latin,TITLE,\xfc,1\n"
+    yield "octets that are no UTF-8", run(port, octets) == (1, "line 2: 31302fff: the name is not UTF-8\nline 3: 10/latin: %s\n0 created, 0 there already, 2 failed\n" % TEXT, "")
+
+
+COLUMN = "hdl: line 1: the header lacks a column: its line is handle,type,data,ttl, in any order, with index and permissions if they are given\n"
+
+
+def unsent(port):
+    """Nothing is sent where the file or the key can't be read: nobody listens here."""
+    yield "an empty file", run(port, b"") == (2, "", COLUMN)
+    yield "a header without a column", run(port, b"handle,type,data\n10/a,URL,a\n") == (2, "", COLUMN)
+    yield "semicolons", run(port, b"handle;type;data;ttl\n") == (2, "", COLUMN)
+    yield "a column twice", run(port, b"handle,type,data,ttl,data\n") == (2, "", "hdl: line 1: the header names a column twice\n")
+    yield "a key that is none", run(port, WHOLE, key="10/a") == (2, "", "hdl: a key isn't INDEX:HANDLE\n")
+    yield "no secret", run(port, WHOLE, secret="") == (2, "", "hdl: the secret is missing\n")
+    done = subprocess.run([PROGRAM, "import", "--csv", "/none/file.csv", "--key", KEY], capture_output=True, check=False, text=True, env={**os.environ, "HDL_SECRET": SECRET})
+    yield "no file", (done.returncode, done.stdout, done.stderr) == (2, "", "hdl: the file can't be read: No such file or directory (os error 2)\n")
+    status, out, err = run(port, WHOLE)
+    yield "no server", (status, out, err.startswith("hdl: the connection failed; start again with the same file")) == (3, "0 created, 0 there already, 0 failed\n", True)
+
+
+REFUSED = "hdl: the service refuses the key: look at --key and its secret; what stands behind wasn't tried\n"
+
+
+def keys(port):
+    """A key that the service doesn't take ends the import behind its first part."""
+    lines = ["handle,type,data,ttl"] + ["10/key%d,URL,a,1" % number for number in range(1500)]
+    for name, words, code in (("a wrong secret", {"secret": "wrong"}, "403 authentication failed"), ("no such key", {"key": "7:0.NA/10"}, "400 not authorized")):
+        status, out, err = run(port, "\n".join(lines).encode(), **words)
+        told = out.splitlines()
+        count = 1000 if code.startswith("403") else 1500
+        good = told[0] == "line 2: 10/key0: " + code and told[-1] == "0 created, 0 there already, %d failed" % count and len(told) == count + 1
+        yield name, good and (status, err) == (1, REFUSED if count == 1000 else "")
+
+
+LONG_LIST = "hdl: 2 error: more handles than one reply of 65,536 octets says; who runs the server writes all of them by `handled export`\n"
+
+
+def large_file():
+    rows = ["10/m%06d,URL,https://example.org/%d,86400" % (number, number) for number in range(MANY)]
+    return "\n".join(["handle,type,data,ttl", *rows]).encode() + b"\n"
+
+
+def killed(port):
+    """An import that is killed on the way goes on where it stopped, once it is started again."""
+    with tempfile.NamedTemporaryFile(suffix=".csv") as file:
+        file.write(large_file())
+        file.flush()
+        words = [PROGRAM, "import", "--csv", file.name, "--key", KEY, "--server", "127.0.0.1:%d" % port]
+        with subprocess.Popen(words, stdin=subprocess.DEVNULL, stdout=subprocess.DEVNULL, stderr=subprocess.DEVNULL, env={**os.environ, "HDL_SECRET": SECRET}) as process:
+            time.sleep(0.3)
+            process.kill()
+    status, out, err = run(port, large_file())
+    found = re.fullmatch(r"(\d+) created, (\d+) there already, 0 failed\n", out)
+    yield "an import that was killed", bool(found) and status == 0 and int(found[1]) + int(found[2]) == MANY and int(found[1]) > 0 and int(found[2]) > 0
+    yield "progress", bool(re.fullmatch(r"1\d{4} of %d lines\n" % (MANY + 1), err))
+    listed = subprocess.run([PROGRAM, "list", "10", "--key", KEY, "--server", "127.0.0.1:%d" % port], capture_output=True, check=False, text=True, env={**os.environ, "HDL_SECRET": SECRET})
+    yield "more handles than a list says", (listed.returncode, listed.stdout, listed.stderr) == (1, ";; reply to list 2, session 1: 2 error\n", LONG_LIST)
+    looked = range(0, MANY, 97)
+    yield "all are there", are_there(port, {b"10/m%06d" % number: [url(1, b"https://example.org/%d" % number), administrator()] for number in looked})
+
+
+def closed():
+    """A server that closes on the way."""
+    with socket.create_server(("127.0.0.1", 0)) as listener:
+        def serve():
+            with listener.accept()[0] as stream:
+                stream.recv(20)
+        thread = threading.Thread(target=serve, daemon=True)
+        thread.start()
+        status, out, err = run(listener.getsockname()[1], WHOLE)
+        thread.join(10)
+    end = "; start again with the same file: a handle that is there with its values counts as done\n"
+    yield "a server that goes away", (status, out) == (3, "0 created, 0 there already, 0 failed\n") and err.startswith("hdl: the connection ") and err.endswith(end)
+
+
+def main():
+    passed, failed = 0, 0
+    with contextlib.ExitStack() as stack:
+        (port,) = stack.enter_context(servers.serving(tenants, 1))
+        (nobody,) = servers.free_ports(1)
+        for part in (whole(port), again(port), faults(port), unsent(nobody), keys(port), killed(port), closed()):
+            for case, holds in part:
+                passed += holds
+                failed += not holds
+                if not holds:
+                    print("%s: not as it should be" % case)
+    print("%d passed, %d failed" % (passed, failed))
+    return 1 if failed else 0
+
+
+if __name__ == "__main__":
+    sys.exit(main())
