@@ -128,6 +128,7 @@ fn copy_file(
 }
 
 /// The paths of a file and of the log beside it.
+#[derive(Clone, Copy)]
 struct Paths<'a> {
     file: &'a str,
     log: &'a str,

@@ -4,7 +4,7 @@ ghost use Rattle.std.specs.Prelude.{◌≡◌, IfSome};
 ghost use Rattle.hdl_rows.specs.Table.{no_rows};
 
 use hdl_eitherrows::EitherRows;
-use hdl_rows::{Fuse, PlainRows};
+use hdl_rows::{Fuse, PlainRows, Rows};
 use hdl_sqlrows::SqlRows;
 use std::alloc::Global;
 
