@@ -28,6 +28,7 @@ PARTS = (
     [sys.executable, "tools/proxies.py"],
     [sys.executable, "tools/rests.py"],
     [sys.executable, "tools/imports.py"],
+    [sys.executable, "tools/routes.py"],
     [sys.executable, "tools/readme.py"],
     [sys.executable, "tools/lasting.py"],
     [sys.executable, "tools/exports.py"],

@@ -9,16 +9,28 @@ use std::time::{Duration, Instant};
 /// How many seconds a connection, the sending of a request, and its whole answer may take each.
 const PATIENCE: u64 = 10;
 
-/// A connection that gives each request ten seconds to be sent, and as much again for its whole answer, however it comes in parts. In a
-/// batch an answer's time begins with the last request that was sent.
+/// A connection that gives each request a time to be sent, and as much again for its whole answer, however it comes in parts. In a
+/// batch an answer's time begins with the last request that was sent. Or it gives both together one time ([`connect_within`]).
 #[derive(Drop)]
 pub struct Connection {
     rt: HostRuntime,
     stream: TcpStream,
+    limit: Duration,
+    /// Whether an answer has a time of its own.
+    is_patient: bool,
     /// Since when it is sent, or waited.
     since: Instant,
     /// Whether something came since a request was sent.
     has_read: bool,
+}
+
+/// What is left of a time that began then.
+fn left(rt: &HostRuntime, since: Instant, limit: Duration) -> io::Result<Duration> {
+    let left = limit.saturating_sub(since.elapsed(rt)?);
+    if left.is_zero() {
+        return Err(io::ErrorKind::TimedOut.into());
+    }
+    Ok(left)
 }
 
 impl Connection {
@@ -27,6 +39,8 @@ impl Connection {
         Ok(Connection {
             rt,
             stream,
+            limit: Duration::from_secs(PATIENCE),
+            is_patient: true,
             since: Instant::now(&rt)?,
             has_read: false,
         })
@@ -34,11 +48,7 @@ impl Connection {
 
     /// The time that is left.
     fn left(&self) -> io::Result<Duration> {
-        let left = Duration::from_secs(PATIENCE).saturating_sub(self.since.elapsed(&self.rt)?);
-        if left.is_zero() {
-            return Err(io::ErrorKind::TimedOut.into());
-        }
-        Ok(left)
+        left(&self.rt, self.since, self.limit)
     }
 
     fn begin(&mut self) -> io::Result<()> {
@@ -67,7 +77,10 @@ impl Write for Connection {
 
     fn flush(&mut self) -> io::Result<()> {
         self.stream.flush()?;
-        self.begin()
+        if self.is_patient {
+            self.begin()?;
+        }
+        Ok(())
     }
 }
 
@@ -77,6 +90,27 @@ pub fn connect(rt: &HostRuntime, server: &str) -> Result<Session<Connection>, Cl
     for address in server.to_socket_addrs(rt)? {
         if let Ok(stream) = TcpStream::connect_timeout(rt, &address, patience) {
             let connection = Connection::new(*rt, stream)?;
+            return Ok(Session::new(rt.alloc(), connection));
+        }
+    }
+    Err(ClientFault::Connection)
+}
+
+/// Connects to `HOST:PORT` within a time that began then, which is that of the first request too: it has to be answered whole before the time is over. Each
+/// request behind it has so much time, for being sent and for its whole answer together.
+pub fn connect_within(
+    rt: &HostRuntime,
+    server: &str,
+    since: Instant,
+    limit: Duration,
+) -> Result<Session<Connection>, ClientFault> {
+    for address in server.to_socket_addrs(rt)? {
+        let time = left(rt, since, limit)?;
+        if let Ok(stream) = TcpStream::connect_timeout(rt, &address, time) {
+            let mut connection = Connection::new(*rt, stream)?;
+            connection.limit = limit;
+            connection.is_patient = false;
+            connection.since = since;
             return Ok(Session::new(rt.alloc(), connection));
         }
     }

@@ -19,7 +19,7 @@ mod session;
 
 pub use batch::{Batch, Outcomes, Task};
 pub use challenge::{Key, challenge_answer, challenge_response, request_message, signed_part};
-pub use connecting::{Connection, connect};
+pub use connecting::{Connection, connect, connect_within};
 pub use exchange::{framed, receive, send};
 pub use fault::ClientFault;
 pub use session::Session;

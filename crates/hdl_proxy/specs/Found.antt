@@ -7,11 +7,13 @@ use Rattle.hdl_value.specs.Fault.{IsSound}
 use Rattle.hdl_msg.specs.ReplyView.{ReplyParts, SpellsReply}
 use Rattle.hdl_msg.specs.declared.replies.ReplyContent.{ReplyContent}
 use Rattle.hdl_msg.specs.declared.replies.ReplyContent.TheVariants as content
+use Rattle.hdl_msg.specs.Codes.{response_number}
+use Rattle.hdl_msg.specs.declared.codes.ResponseCode.TheVariants.{ServiceReferral, ServerBusy}
 use Rattle.hdl_proxy.specs.Choice.{is_shown}
 use Rattle.hdl_proxy.specs.declared.found.Found.{Found}
 use Rattle.hdl_proxy.specs.declared.found.Found.TheVariants.{Values, Refused, Nothing}
 use Rattle.hdl_proxy.specs.declared.resolver.NoAnswer.{NoAnswer}
-use Rattle.hdl_proxy.specs.declared.resolver.NoAnswer.TheVariants.{Unreachable, Memory}
+use Rattle.hdl_proxy.specs.declared.resolver.NoAnswer.TheVariants.{Unreachable, Elsewhere, Crowded, Memory}
 
 -- sound values of this handle
 abbrev pub AreValuesOf : List ℕ → ReplyContent → List Value → Type 0
@@ -45,8 +47,10 @@ IsFoundIn handle message found =
     ((reply : ReplyParts) × (SpellsReply message reply × IsSaidBy handle reply.header.response_code reply.content found))
     ⊎ (((reply : ReplyParts) → ¬ (SpellsReply message reply)) × (found ≡ Nothing))
 
--- what is found in what a resolver gave: nothing where nobody answered
+-- what is found in what a resolver gave: nothing where nobody answered, and the codes of a referral and of a busy server where that is all
 abbrev pub IsFoundOf : List ℕ → Result (Bor (List ℕ)) NoAnswer → Found → Type 0
 IsFoundOf handle (Ok message) found = IsFoundIn handle message.now found
 IsFoundOf handle (Err Unreachable) found = found ≡ Nothing
+IsFoundOf handle (Err Elsewhere) found = found ≡ Refused (response_number ServiceReferral)
+IsFoundOf handle (Err Crowded) found = found ≡ Refused (response_number ServerBusy)
 IsFoundOf handle (Err Memory) found = ⊥

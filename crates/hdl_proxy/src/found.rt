@@ -8,7 +8,7 @@ ghost use Rattle.hdl_proxy.specs.Found.{IsFoundIn, IsFoundOf, IsSaidBy, AreShown
 
 use crate::choice::is_shown;
 use crate::resolver::NoAnswer;
-use hdl_msg::{ContentView, Values, read_reply};
+use hdl_msg::{ContentView, ResponseCode, Values, read_reply};
 use hdl_value::{Value, ValueFault};
 use std::alloc::{AllocError, Global};
 
@@ -85,5 +85,7 @@ pub(crate) fn read_answer(
         Ok(message) => found_in(alloc, handle, message),
         Err(NoAnswer::Memory) => Err(AllocError),
         Err(NoAnswer::Unreachable) => Ok(Found::Nothing),
+        Err(NoAnswer::Elsewhere) => Ok(Found::Refused(ResponseCode::ServiceReferral.number())),
+        Err(NoAnswer::Crowded) => Ok(Found::Refused(ResponseCode::ServerBusy.number())),
     }
 }

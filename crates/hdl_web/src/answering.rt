@@ -3,9 +3,9 @@
 ghost use Rattle.std.specs.Prelude.{◌≡◌, ◌⊎◌, None, IfSome, IsSomeAnd};
 ghost use Rattle.futures.specs.Channel.{completed_source};
 
+use crate::asks::Made;
 use crate::gathering::{Gathered, Gathering, Turn};
 use crate::response::response_of;
-use crate::worker::Made;
 use bytes::Bytes;
 use futures::channel::oneshot;
 use futures::task::{Context, Poll};
@@ -14,6 +14,7 @@ use http_body_util::Full;
 use hyper::Response;
 use std::alloc::{AllocError, Global};
 use std::sync::Wait;
+use std::time::Clock;
 
 /// The response to a request: one that is there, that a thread makes, or that waits for the request's body.
 #[derive(Drop)]
@@ -24,7 +25,7 @@ pub struct Answering<R, B> {
     coming: Option<oneshot::Receiver<Made>>,
 }
 
-impl<R: Wait + Drop, B: Drop> Answering<R, B> {
+impl<R: Wait + Clock + Drop, B: Drop> Answering<R, B> {
     /// An answer that is there, or that comes from a thread.
     pub(crate) fn next(alloc: Global, turn: Turn) -> Answering<R, B>
         ensures { result.gathering ≡ None }
@@ -71,7 +72,7 @@ fn response(alloc: Global, answer: Made) -> Result<Response<Full<Bytes>>, AllocE
     response_of(alloc, &answer?)
 }
 
-impl<R: Wait + Drop, B: Future<Output = Gathered>> Future for Answering<R, B> {
+impl<R: Wait + Clock + Drop, B: Future<Output = Gathered>> Future for Answering<R, B> {
     type Output = Result<Response<Full<Bytes>>, AllocError>;
 
     ghost can_poll = { λ answering. IfSome answering.gathering (λ g. B.can_poll g.body) };

@@ -1,8 +1,8 @@
 //! Where requests come in.
 
 use crate::answering::Answering;
+use crate::board::Board;
 use crate::gathering::{BODY_MOST, BODY_SECONDS, Counter, Gathering, Turn};
-use crate::worker::{Ask, Ways};
 use bytes::Bytes;
 use futures::channel::oneshot;
 use hdl_proxy::{Next, Question, begin};
@@ -14,7 +14,7 @@ use hyper::body::Incoming;
 use hyper::service::Service;
 use hyper::{Request, Response};
 use std::alloc::{AllocError, Global};
-use std::sync::Wait;
+use std::sync::{Arc, Wait};
 use std::time::{Clock, Duration};
 use tokio::time::{Handle, Timeout};
 
@@ -24,7 +24,7 @@ pub struct Desk<R> {
     rt: R,
     alloc: Global,
     timers: Handle,
-    ways: Ways,
+    board: Arc<Board<R>>,
 }
 
 /// What a request is.
@@ -36,23 +36,20 @@ enum Start<R> {
 }
 
 impl<R: Wait + Clock + Copy + Drop> Desk<R> {
-    pub(crate) fn new(rt: R, alloc: Global, timers: Handle, ways: Ways) -> Desk<R> {
+    pub(crate) fn new(rt: R, alloc: Global, timers: Handle, board: Arc<Board<R>>) -> Desk<R> {
         Desk {
             rt,
             alloc,
             timers,
-            ways,
+            board,
         }
     }
 
-    /// Hands a question to the resolvers' threads.
+    /// Hands a question to who asks servers.
     fn hand_on(&self, question: Question) -> Result<Turn, AllocError> {
         let (answer, from) = oneshot::channel(self.alloc)?;
-        let ask = Ask { question, answer };
-        match self.ways.asks.send(&self.rt, ask) {
-            Ok(()) => Ok(Turn::Coming(from)),
-            Err(_) => Err(AllocError),
-        }
+        self.board.take(question, answer)?;
+        Ok(Turn::Coming(from))
     }
 
     /// What becomes of a request that comes without a key.
@@ -64,17 +61,16 @@ impl<R: Wait + Clock + Copy + Drop> Desk<R> {
     }
 
     fn begun(&self, sent: Sent<'_>) -> Result<Start<R>, AllocError> {
-        let Some(errands) = &self.ways.errands else {
+        if !self.board.writes {
             return Ok(Start::Turn(self.take(sent)?));
-        };
+        }
         match begin_with_key(self.alloc, sent)? {
             Begun::Answer(answer) => Ok(Start::Turn(Turn::Made(Ok(answer)))),
             Begun::Other => Ok(Start::Turn(self.take(sent)?)),
             Begun::Order(order) => {
                 let counter = Counter {
-                    rt: self.rt,
                     alloc: self.alloc,
-                    errands: errands.clone()?,
+                    board: Arc::try_clone(&self.board)?,
                 };
                 Ok(Start::Order(order, counter))
             }

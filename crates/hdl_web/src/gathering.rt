@@ -2,15 +2,17 @@
 
 ghost use Rattle.std.specs.Prelude.{◌≡◌};
 
-use crate::worker::{Errand, Made};
-use crossbeam_channel::Sender;
+use crate::asks::Made;
+use crate::board::{Board, WAITING_MOST};
+use crate::worker::Errand;
 use futures::channel::oneshot;
 use hdl_msg::ResponseCode;
 use hdl_proxy::{Status, refusal};
 use hdl_writes::Order;
 use http_body_util::{Collected, LimitedError};
 use std::alloc::{AllocError, Global};
-use std::sync::Wait;
+use std::sync::{Arc, Wait};
+use std::time::Clock;
 use tokio::time::error::Elapsed;
 
 /// The most octets of a body.
@@ -32,20 +34,40 @@ pub(crate) enum Turn {
 /// The way to who carries out orders.
 #[derive(Drop)]
 pub(crate) struct Counter<R> {
-    pub(crate) rt: R,
     pub(crate) alloc: Global,
-    pub(crate) errands: Sender<Errand>,
+    pub(crate) board: Arc<Board<R>>,
 }
 
-impl<R: Wait> Counter<R> {
+const ELSEWHERE: &str = "No server that was asked has handles of this prefix. Nothing was done.";
+
+const CROWDED: &str = "Too many changes wait for the server. Nothing was done. Please try again.";
+
+impl<R: Wait + Clock> Counter<R> {
     fn hand_on(&self, order: Order, body: bytes::Bytes) -> Result<Turn, AllocError> {
+        let Some((errands, turn)) = self.board.clerk(order.name.prefix())? else {
+            return Ok(self.refused(
+                &order,
+                Status::NotFound,
+                ResponseCode::ServiceReferral,
+                ELSEWHERE,
+            ));
+        };
+        if errands.len() >= WAITING_MOST {
+            return Ok(self.refused(
+                &order,
+                Status::Unavailable,
+                ResponseCode::ServerBusy,
+                CROWDED,
+            ));
+        }
         let (answer, from) = oneshot::channel(self.alloc)?;
         let errand = Errand {
             order,
+            turn,
             body,
             answer,
         };
-        match self.errands.send(&self.rt, errand) {
+        match errands.send(&self.board.rt, errand) {
             Ok(()) => Ok(Turn::Coming(from)),
             Err(_) => Err(AllocError),
         }
@@ -59,9 +81,9 @@ impl<R: Wait> Counter<R> {
         }
     }
 
-    fn refused(&self, order: &Order, status: Status, why: &str) -> Turn {
-        let code = ResponseCode::Error.number();
-        Turn::Made(refusal(self.alloc, status, order.name.sent(), code, why))
+    fn refused(&self, order: &Order, status: Status, code: ResponseCode, why: &str) -> Turn {
+        let handle = order.name.sent();
+        Turn::Made(refusal(self.alloc, status, handle, code.number(), why))
     }
 
     /// Hands an order on with its body, where that came whole and in time.
@@ -73,12 +95,12 @@ impl<R: Wait> Counter<R> {
             },
             Ok(Err(LimitedError::LengthLimit)) => {
                 let why = "The body has more than 1048576 octets. Nothing was done.";
-                self.refused(&order, Status::ContentTooLarge, why)
+                self.refused(&order, Status::ContentTooLarge, ResponseCode::Error, why)
             }
             Ok(Err(_)) => Turn::Made(Err(AllocError)),
             Err(_) => {
                 let why = "The body didn't come within 10 seconds. Nothing was done.";
-                self.refused(&order, Status::RequestTimeout, why)
+                self.refused(&order, Status::RequestTimeout, ResponseCode::Error, why)
             }
         }
     }
@@ -92,7 +114,7 @@ pub(crate) struct Gathering<R, B> {
     pub(crate) body: B,
 }
 
-impl<R: Wait + Drop, B: Drop> Gathering<R, B> {
+impl<R: Wait + Clock + Drop, B: Drop> Gathering<R, B> {
     /// What is next, now that this came of the body.
     pub(crate) fn end(self, gathered: Gathered) -> Turn {
         let Gathering {

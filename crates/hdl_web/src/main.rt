@@ -12,30 +12,56 @@
 #![tactic(auto)]
 
 mod answering;
+mod asks;
+mod board;
 mod desk;
 mod gathering;
+mod holders;
 mod patient;
 mod response;
 mod servers;
 mod serving;
+mod staff;
 mod visitors;
 mod words;
 mod worker;
 
-use servers::Servers;
-use serving::{Staff, serve_http};
+use hdl_routes::{Route, read_route};
+use servers::{Server, Writer};
+use serving::serve_http;
+use staff::{Crew, Staff};
 use std::alloc::AllocError;
 use std::io;
 use std::net::SocketAddr;
 use std::process::ExitCode;
+use std::time::Duration;
 use words::{Asked, ProxyWords, read_words};
 
-/// Who asks: as many as questions are asked at once.
-fn askers(rt: &HostRuntime, words: &ProxyWords) -> Result<Vec<Servers>, AllocError> {
+/// The servers that the words name. None where a word names none, which is told, or memory was refused.
+fn routes(rt: &HostRuntime, words: &ProxyWords) -> Option<Vec<Route>> {
+    let mut routes = Vec::new(rt.alloc());
+    for (place, word) in words.servers.iter().enumerate() {
+        match read_route(rt.alloc(), place, word) {
+            Ok(route) => routes.push(route).ok()?,
+            Err(fault) => {
+                let _ = eprintln!(rt; "error: --server {word}: {fault}");
+                return None;
+            }
+        }
+    }
+    Some(routes)
+}
+
+/// Who asks this server once at a time.
+fn asker(rt: &HostRuntime, words: &ProxyWords, route: &Route) -> Result<Server, AllocError> {
+    Server::new(*rt, &route.address, Duration::from_secs(words.timeout))
+}
+
+/// Who asks this server: as many as questions are asked of it at once.
+fn askers(rt: &HostRuntime, words: &ProxyWords, route: &Route) -> Result<Vec<Server>, AllocError> {
     let mut askers = Vec::new(rt.alloc());
     for _ in 0..words.askers {
-        let servers = Servers::new(*rt, &words.servers)?;
-        match askers.push(servers) {
+        match askers.push(asker(rt, words, route)?) {
             Ok(()) => {}
             Err(_) => return Err(AllocError),
         }
@@ -43,22 +69,55 @@ fn askers(rt: &HostRuntime, words: &ProxyWords) -> Result<Vec<Servers>, AllocErr
     Ok(askers)
 }
 
-/// Who carries out orders, where any are taken: one, so that changes go one after the other.
-fn writer(rt: &HostRuntime, words: &ProxyWords) -> Result<Option<Servers>, AllocError> {
+/// Who carries out orders, where any are taken.
+fn writer(
+    rt: &HostRuntime,
+    words: &ProxyWords,
+    routes: &[Route],
+) -> Result<Option<Writer>, AllocError> {
     if !words.writes {
         return Ok(None);
     }
-    Ok(Some(Servers::new(*rt, &words.servers)?))
+    let mut servers = Vec::new(rt.alloc());
+    for route in routes {
+        match servers.push(asker(rt, words, route)?) {
+            Ok(()) => {}
+            Err(_) => return Err(AllocError),
+        }
+    }
+    Ok(Some(Writer::new(servers, Vec::new(rt.alloc()))))
+}
+
+/// The servers, and who asks each.
+fn hired(
+    rt: &HostRuntime,
+    words: &ProxyWords,
+    routes: Vec<Route>,
+) -> io::Result<Staff<Server, Writer>> {
+    let mut crews = Vec::new(rt.alloc());
+    for route in &routes {
+        let askers = askers(rt, words, route)?;
+        let clerk = writer(rt, words, &routes)?;
+        crews.push(Crew { askers, clerk })?;
+    }
+    Ok(Staff {
+        routes,
+        crews,
+        limit: words.timeout.saturating_mul(1000),
+        writes: words.writes,
+    })
 }
 
 /// What is served: where, and who asks.
-fn opened(rt: &HostRuntime, words: &ProxyWords) -> io::Result<(SocketAddr, Staff<Servers>)> {
+fn opened(
+    rt: &HostRuntime,
+    words: &ProxyWords,
+    routes: Vec<Route>,
+) -> io::Result<(SocketAddr, Staff<Server, Writer>)> {
     let Ok(listen) = words.listen.parse::<SocketAddr>() else {
         return Err(io::Error::other("--listen wants an IP address and a port"));
     };
-    let resolvers = askers(rt, words)?;
-    let writer = writer(rt, words)?;
-    Ok((listen, Staff { resolvers, writer }))
+    Ok((listen, hired(rt, words, routes)?))
 }
 
 fn main(rt: HostRuntime) -> ExitCode {
@@ -66,7 +125,10 @@ fn main(rt: HostRuntime) -> ExitCode {
         Asked::Proxy(words) => words,
         Asked::Ended(status) => return ExitCode::from(status),
     };
-    let served = match opened(&rt, &words) {
+    let Some(routes) = routes(&rt, &words) else {
+        return ExitCode::from(2);
+    };
+    let served = match opened(&rt, &words, routes) {
         Ok((listen, staff)) => serve_http(&rt, listen, staff, &mut rt.stdout()),
         Err(fault) => Err(fault),
     };

@@ -1,33 +1,35 @@
-//! Servers that are asked one after another.
+//! Servers, and the connections to them.
 
-use hdl_client::{ClientFault, Connection, Key, Session, connect};
+use hdl_client::{ClientFault, Connection, Key, Session, connect_within};
 use hdl_frame::one_datagram;
 use hdl_msg::{RequestBody, ResponseCode, read_reply};
 use hdl_proxy::{NoAnswer, Resolver};
 use hdl_writes::Service;
 use std::alloc::AllocError;
+use std::time::{Duration, Instant};
 
-/// A server, and the connection to it where it was asked before.
+/// A server that is asked one question at a time, and the connection to it where it was asked before.
 #[derive(Drop)]
-struct Server {
+pub struct Server {
+    rt: HostRuntime,
     /// `HOST:PORT`
-    name: String,
+    address: String,
+    /// How long an answer may take, with all that it needs.
+    limit: Duration,
     session: Option<Session<Connection>>,
 }
 
-/// Servers that are asked one question at a time, one after the other. Connections are kept.
-#[derive(Drop)]
-pub struct Servers {
-    rt: HostRuntime,
-    servers: Vec<Server>,
+/// The code of a reply, if the message is one.
+pub(crate) fn code_of(message: &[u8]) -> Option<u32> {
+    match read_reply(message) {
+        Ok(reply) => Some(reply.header.response_code),
+        Err(_) => None,
+    }
 }
 
 /// Whether the message is a reply that refers to another service.
-fn refers(message: &[u8]) -> bool {
-    match read_reply(message) {
-        Ok(reply) => reply.header.response_code == ResponseCode::ServiceReferral.number(),
-        Err(_) => false,
-    }
+pub(crate) fn refers(message: &[u8]) -> bool {
+    code_of(message) == Some(ResponseCode::ServiceReferral.number())
 }
 
 /// Whether a connection that was kept may have failed just because it was old: then a new one may do.
@@ -39,41 +41,54 @@ fn may_be_old(fault: ClientFault) -> bool {
 }
 
 impl Server {
+    /// The server at this address. No connection is made.
+    pub fn new(rt: HostRuntime, address: &str, limit: Duration) -> Result<Server, AllocError> {
+        Ok(Server {
+            rt,
+            address: String::from_str(rt.alloc(), address)?,
+            limit,
+            session: None,
+        })
+    }
+
     /// Asks on a new connection, which is kept if it answers.
-    fn ask_anew(&mut self, rt: &HostRuntime, message: &[u8]) -> Result<Vec<u8>, ClientFault> {
-        let mut session = connect(rt, &self.name)?;
+    fn ask_anew(&mut self, since: Instant, message: &[u8]) -> Result<Vec<u8>, ClientFault> {
+        let mut session = connect_within(&self.rt, &self.address, since, self.limit)?;
         let reply = session.exchange(message)?;
         self.session = Some(session);
         Ok(reply)
     }
 
     /// Asks on the connection that was kept, or where that has failed on a new one.
-    fn ask(&mut self, rt: &HostRuntime, message: &[u8]) -> Result<Vec<u8>, ClientFault> {
+    fn reply_to(&mut self, message: &[u8]) -> Result<Vec<u8>, ClientFault> {
+        let since = Instant::now(&self.rt)?;
         let Some(mut session) = self.session.take() else {
-            return self.ask_anew(rt, message);
+            return self.ask_anew(since, message);
         };
         match session.exchange(message) {
             Ok(reply) => {
                 self.session = Some(session);
                 Ok(reply)
             }
-            Err(fault) if may_be_old(fault) => self.ask_anew(rt, message),
+            Err(fault) if may_be_old(fault) => self.ask_anew(since, message),
             Err(fault) => Err(fault),
         }
     }
 
     /// The connection that was kept, or a new one.
-    fn opened(&mut self, rt: &HostRuntime) -> Result<Session<Connection>, ClientFault> {
+    fn opened(&mut self) -> Result<Session<Connection>, ClientFault> {
         match self.session.take() {
             Some(session) => Ok(session),
-            None => connect(rt, &self.name),
+            None => {
+                let since = Instant::now(&self.rt)?;
+                connect_within(&self.rt, &self.address, since, self.limit)
+            }
         }
     }
 
     /// Asks with a key on this connection, which is kept if it answers. Nothing is sent twice.
     fn ask_with(
         &mut self,
-        rt: &HostRuntime,
         mut session: Session<Connection>,
         body: &RequestBody,
         key: &Key,
@@ -83,57 +98,52 @@ impl Server {
         let Ok(frame) = one_datagram(&octets) else {
             return Err(ClientFault::NoReply);
         };
-        Ok(Vec::from_slice(rt.alloc(), frame.payload())?)
+        Ok(Vec::from_slice(self.rt.alloc(), frame.payload())?)
     }
 }
 
-impl Servers {
-    /// The servers of these names, `HOST:PORT` each, in this order. No connection is made.
-    pub fn new(rt: HostRuntime, names: &[String]) -> Result<Servers, AllocError> {
-        let mut servers = Vec::new(rt.alloc());
-        for name in names {
-            let server = Server {
-                name: String::from_str(rt.alloc(), name)?,
-                session: None,
-            };
-            match servers.push(server) {
-                Ok(()) => {}
-                Err(_) => return Err(AllocError),
-            }
-        }
-        Ok(Servers { rt, servers })
+/// What a client's fault is to who asks.
+fn no_answer(fault: ClientFault) -> NoAnswer {
+    match fault {
+        ClientFault::Memory => NoAnswer::Memory,
+        _ => NoAnswer::Unreachable,
     }
+}
 
-    /// Sends the message of a request to one server after another, until one gives a reply that is no referral (code 302), and gives
-    /// this reply's message. Else the fault of a server that didn't answer, or the last referral.
-    fn reply_to(&mut self, message: &[u8]) -> Result<Vec<u8>, ClientFault> {
-        let rt = self.rt;
-        let mut last = Err(ClientFault::Connection);
-        let mut failed = None;
-        for server in &mut self.servers {
-            match server.ask(&rt, message) {
-                Ok(reply) if refers(&reply) => last = Ok(reply),
-                Err(ClientFault::Memory) => return Err(ClientFault::Memory),
-                Err(fault) => failed = Some(fault),
-                Ok(reply) => return Ok(reply),
-            }
-        }
-        match failed {
-            Some(fault) => Err(fault),
-            None => last,
+impl Resolver for Server {
+    fn ask(&mut self, message: &[u8]) -> Result<Vec<u8>, NoAnswer> {
+        match self.reply_to(message) {
+            Ok(reply) => Ok(reply),
+            Err(fault) => Err(no_answer(fault)),
         }
     }
+}
 
-    /// The same with a key. A server that can't be reached is passed over; where one that was asked doesn't answer, no other is asked,
-    /// since it may have done what was asked for.
+/// Who carries out orders: all servers, of which those of an order's prefix are asked in turn.
+#[derive(Drop)]
+pub struct Writer {
+    servers: Vec<Server>,
+    turn: Vec<usize>,
+}
+
+impl Writer {
+    /// Who asks these servers, in their places.
+    pub fn new(servers: Vec<Server>, turn: Vec<usize>) -> Writer {
+        Writer { servers, turn }
+    }
+
+    /// The reply of the first server in turn that gives one which is no referral. A server that can't be reached is passed over; where one that was
+    /// asked doesn't answer, no other is asked, since it may have done what was asked for.
     fn reply_with(&mut self, body: &RequestBody, key: &Key) -> Result<Vec<u8>, ClientFault> {
-        let rt = self.rt;
         let mut last = Err(ClientFault::Connection);
         let mut failed = None;
-        for server in &mut self.servers {
-            match server.opened(&rt) {
+        for place in &self.turn {
+            let Some(server) = self.servers.get_mut(*place) else {
+                continue;
+            };
+            match server.opened() {
                 Ok(session) => {
-                    let reply = server.ask_with(&rt, session, body, key)?;
+                    let reply = server.ask_with(session, body, key)?;
                     if !refers(&reply) {
                         return Ok(reply);
                     }
@@ -149,7 +159,19 @@ impl Servers {
     }
 }
 
-impl Service for Servers {
+/// A service of which the next order's requests go to servers in turn.
+pub trait Clerk: Service {
+    /// The next requests go to the servers at these places.
+    fn turn_to(&mut self, turn: Vec<usize>);
+}
+
+impl Clerk for Writer {
+    fn turn_to(&mut self, turn: Vec<usize>) {
+        self.turn = turn;
+    }
+}
+
+impl Service for Writer {
     fn renew(&mut self) {
         for server in &mut self.servers {
             server.session = None;
@@ -159,18 +181,7 @@ impl Service for Servers {
     fn ask(&mut self, body: &RequestBody, key: &Key) -> Result<Vec<u8>, NoAnswer> {
         match self.reply_with(body, key) {
             Ok(reply) => Ok(reply),
-            Err(ClientFault::Memory) => Err(NoAnswer::Memory),
-            Err(_) => Err(NoAnswer::Unreachable),
-        }
-    }
-}
-
-impl Resolver for Servers {
-    fn ask(&mut self, message: &[u8]) -> Result<Vec<u8>, NoAnswer> {
-        match self.reply_to(message) {
-            Ok(reply) => Ok(reply),
-            Err(ClientFault::Memory) => Err(NoAnswer::Memory),
-            Err(_) => Err(NoAnswer::Unreachable),
+            Err(fault) => Err(no_answer(fault)),
         }
     }
 }

@@ -10,8 +10,11 @@ const NAME: &str = "hdl proxy";
 /// Where the proxy listens, where no other address is named.
 const LISTEN: &str = "127.0.0.1:8080";
 
-/// How many questions are asked at once, where no other number is named.
+/// How many questions a server is asked at once, where no other number is named.
 const ASKERS: u64 = 2;
+
+/// How many seconds a server's answer may take, where no other number is named.
+const TIMEOUT: u64 = 5;
 
 /// What `hdl proxy` is told.
 #[derive(Drop)]
@@ -20,8 +23,10 @@ pub struct ProxyWords {
     pub listen: String,
     /// Whom it asks, in this order.
     pub servers: Vec<String>,
-    /// How many questions it asks at once: 1 to 64.
+    /// How many questions it asks each at once: 1 to 64.
     pub askers: u64,
+    /// How many seconds an answer may take: 1 to 60.
+    pub timeout: u64,
     /// Whether handles are changed, by who has a key.
     pub writes: bool,
 }
@@ -50,9 +55,9 @@ fn command<'a>(alloc: Global) -> Result<Command<'a>, AllocError> {
         .arg(
             Arg::new(alloc, "server")
                 .long("server")
-                .value_name("HOST:PORT")
+                .value_name("HOST:PORT[=PREFIX,..]")
                 .help(
-                    "A handle server to ask, repeated for more; the next is asked after a referral",
+                    "A handle server to ask, repeated for more: for these prefixes, or for all that no server is named with",
                 )
                 .required(true)
                 .action(ArgAction::Append),
@@ -62,10 +67,18 @@ fn command<'a>(alloc: Global) -> Result<Command<'a>, AllocError> {
                 .long("askers")
                 .value_name("N")
                 .help(
-                    "How many questions are asked at once, 2 without it; each may hold a lane of each server",
+                    "How many questions each server is asked at once, 2 without it; each may hold a lane",
                 )
                 .action(ArgAction::Set)
                 .value_parser(value_parser!(u64).range(1..65)),
+        )?
+        .arg(
+            Arg::new(alloc, "timeout")
+                .long("timeout")
+                .value_name("SECONDS")
+                .help("How long a server's whole answer may take, 5 without it")
+                .action(ArgAction::Set)
+                .value_parser(value_parser!(u64).range(1..61)),
         )?
         .arg(
             Arg::new(alloc, "writes")
@@ -87,6 +100,7 @@ fn proxy_words(alloc: Global, found: &ArgMatches<'_>) -> Result<ProxyWords, Allo
         listen: String::from_str(alloc, found.get_str("listen").unwrap_or(LISTEN))?,
         servers,
         askers: found.get_one::<u64>("askers").unwrap_or(ASKERS),
+        timeout: found.get_one::<u64>("timeout").unwrap_or(TIMEOUT),
         writes: found.get_flag("writes"),
     })
 }

@@ -39,6 +39,8 @@ impl From<NoAnswer> for Stop {
         match none {
             NoAnswer::Memory => Stop::Memory,
             NoAnswer::Unreachable => Stop::Silent,
+            NoAnswer::Elsewhere => Stop::Code(ResponseCode::ServiceReferral.number()),
+            NoAnswer::Crowded => Stop::Code(ResponseCode::ServerBusy.number()),
         }
     }
 }

@@ -1,0 +1,4 @@
+pub mod Route
+pub mod Order
+pub mod Miss
+pub mod Standing

@@ -1,0 +1,27 @@
+//! What answers that aren't good come to.
+
+ghost use Rattle.std.specs.Prelude.{◌≡◌, ◌≤◌};
+ghost use Rattle.hdl_routes.specs.Miss.{worst};
+
+/// Why a server gave no good answer. What stands later counts more.
+#[derive(Clone, Copy, Debug, PartialEq, Eq)]
+pub enum Miss {
+    /// It has no handles of the prefix.
+    Elsewhere,
+    /// It failed, or was left out since it had failed.
+    Unreachable,
+    /// Too many questions wait for it, so it wasn't asked: it may be soon.
+    Crowded,
+}
+
+/// What the misses of two servers come to: that nobody has the prefix is said only where no server failed, and that servers failed only where none
+/// may be asked soon.
+pub fn worst(one: Miss, other: Miss) -> Miss
+    ensures { result ≡ worst one other }
+{
+    match (one, other) {
+        (Miss::Crowded, _) | (_, Miss::Crowded) => Miss::Crowded,
+        (Miss::Unreachable, _) | (_, Miss::Unreachable) => Miss::Unreachable,
+        (Miss::Elsewhere, Miss::Elsewhere) => Miss::Elsewhere,
+    }
+}

@@ -1,0 +1,117 @@
+//! Whom to ask for a handle.
+
+ghost use Rattle.std.specs.Prelude.{◌≡◌, IfOk, filter, not};
+ghost use Rattle.hdl_routes.specs.Order.{has, is_open, is_named, is_asked, is_known, places_for, known_first};
+
+use crate::route::Route;
+use std::alloc::{AllocError, Global};
+
+/// Whether the server was named with this prefix.
+fn has(route: &Route, prefix: &[u8]) -> bool
+    ensures { result ≡ has prefix.now route.now }
+{
+    route.prefixes.iter().any(|own| own.as_slice() == prefix)
+}
+
+/// Whether it was named without prefixes.
+fn is_open(route: &Route) -> bool
+    ensures { result ≡ is_open route.now }
+{
+    route.prefixes.is_empty()
+}
+
+/// Whether a server was named with this prefix.
+fn is_named(routes: &[Route], prefix: &[u8]) -> bool
+    ensures { result ≡ is_named prefix.now routes.now }
+{
+    routes.iter().any(|route| has(route, prefix))
+}
+
+/// Whether this server is asked for handles of the prefix, by whether one was named with it.
+fn is_asked(route: &Route, prefix: &[u8], is_named: bool) -> bool
+    ensures { result ≡ is_asked prefix.now is_named route.now }
+{
+    if is_named {
+        has(route, prefix)
+    } else {
+        is_open(route)
+    }
+}
+
+/// Whether this is the place that is known to have the prefix, if one is.
+fn is_known(known: Option<usize>, place: usize) -> bool
+    ensures { result ≡ is_known known place }
+{
+    known == Some(place)
+}
+
+/// The place that is known to have the prefix, if it is among these.
+fn known_among(
+    alloc: Global,
+    places: &[usize],
+    known: Option<usize>,
+) -> Result<Vec<usize>, AllocError>
+    ensures { IfOk result (λ chosen. chosen.items ≡ filter (is_known known) places.now) }
+{
+    places
+        .iter()
+        .copied()
+        .filter(|place| is_known(known, *place))
+        .collect(alloc)
+}
+
+/// Those that aren't known to have the prefix.
+fn others_among(
+    alloc: Global,
+    places: &[usize],
+    known: Option<usize>,
+) -> Result<Vec<usize>, AllocError>
+    ensures { IfOk result (λ others. others.items ≡ filter (λ place. not (is_known known place)) places.now) }
+{
+    places
+        .iter()
+        .copied()
+        .filter(|place| !is_known(known, *place))
+        .collect(alloc)
+}
+
+/// The same places, the one that is known to have the prefix before the others.
+fn known_first(
+    alloc: Global,
+    places: &[usize],
+    known: Option<usize>,
+) -> Result<Vec<usize>, AllocError>
+    ensures { IfOk result (λ turn. turn.items ≡ known_first known places.now) }
+{
+    let mut turn = known_among(alloc, places, known)?;
+    let others = others_among(alloc, places, known)?;
+    turn.extend_from_slice(&others)?;
+    Ok(turn)
+}
+
+/// The places of the servers that are asked for handles of this prefix, in the order of the command line.
+fn places_of(alloc: Global, routes: &[Route], prefix: &[u8]) -> Result<Vec<usize>, AllocError>
+    ensures { IfOk result (λ places. places.items ≡ places_for prefix.now routes.now) }
+{
+    let named = is_named(routes, prefix);
+    let places = routes
+        .iter()
+        .filter(|route| is_asked(route, prefix, named))
+        .map(|route| route.place)
+        .collect(alloc)?;
+    Ok(places)
+}
+
+/// The places of the servers that are asked for handles of this prefix, in turn: of those that were named with it, or where none was of those that were
+/// named without prefixes, in the order of the command line, but for the one that is known to have the prefix, which comes first.
+pub fn places_for(
+    alloc: Global,
+    routes: &[Route],
+    prefix: &[u8],
+    known: Option<usize>,
+) -> Result<Vec<usize>, AllocError>
+    ensures { IfOk result (λ turn. turn.items ≡ known_first known (places_for prefix.now routes.now)) }
+{
+    let places = places_of(alloc, routes, prefix)?;
+    known_first(alloc, &places, known)
+}

@@ -1,0 +1,60 @@
+//! A question on its way from server to server.
+
+use futures::channel::oneshot;
+use hdl_proxy::{Answer, NoAnswer, Question, finish};
+use hdl_routes::{Miss, worst};
+use std::alloc::{AllocError, Global};
+use std::vec::IntoIter;
+
+/// An answer, or that there was no memory for it.
+pub(crate) type Made = Result<Answer, AllocError>;
+
+/// A question, which servers are still to be asked, what those came to that were, and where the answer goes.
+#[derive(Drop)]
+pub(crate) struct Ask {
+    pub(crate) alloc: Global,
+    pub(crate) question: Question,
+    pub(crate) message: Vec<u8>,
+    pub(crate) turn: IntoIter<usize>,
+    pub(crate) missed: Miss,
+    /// Since when it waits for the server that is next.
+    pub(crate) since: u64,
+    pub(crate) answer: oneshot::Sender<Made>,
+}
+
+/// What a browser is told where no server gave a good answer.
+fn no_answer(missed: Miss) -> NoAnswer {
+    match missed {
+        Miss::Elsewhere => NoAnswer::Elsewhere,
+        Miss::Unreachable => NoAnswer::Unreachable,
+        Miss::Crowded => NoAnswer::Crowded,
+    }
+}
+
+impl Ask {
+    /// A server gave no good answer.
+    pub(crate) fn miss(&mut self, miss: Miss) {
+        self.missed = worst(self.missed, miss);
+    }
+
+    /// Answers with this reply.
+    pub(crate) fn reply(self, message: &[u8]) {
+        let made = finish(self.alloc, &self.question, Ok(message));
+        self.give(made);
+    }
+
+    /// Answers that there was no memory.
+    pub(crate) fn refuse(self) {
+        self.give(Err(AllocError));
+    }
+
+    /// Answers with what all servers came to.
+    pub(crate) fn end(self) {
+        let made = finish(self.alloc, &self.question, Err(no_answer(self.missed)));
+        self.give(made);
+    }
+
+    fn give(self, made: Made) {
+        let _ = self.answer.send(made);
+    }
+}

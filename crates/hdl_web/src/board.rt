@@ -1,0 +1,204 @@
+//! What all share: the servers, who waits for each, and how each stands.
+
+use crate::asks::{Ask, Made};
+use crate::holders::Holders;
+use crate::servers::code_of;
+use crate::worker::Errand;
+use crossbeam_channel::Sender;
+use futures::channel::oneshot;
+use hdl_msg::ResponseCode;
+use hdl_proxy::{NoAnswer, Question, Resolver, finish};
+use hdl_routes::{Miss, Route, Standing, places_for, worst};
+use std::alloc::{AllocError, Global};
+use std::sync::{Mutex, Wait};
+use std::time::{Clock, Instant};
+
+/// How many questions, or changes, wait for a server at most.
+pub(crate) const WAITING_MOST: usize = 256;
+
+/// What all know of a server.
+#[derive(Drop)]
+pub(crate) struct Post {
+    pub(crate) asks: Sender<Ask>,
+    pub(crate) errands: Option<Sender<Errand>>,
+    pub(crate) standing: Mutex<Standing>,
+}
+
+/// The servers, and what is known of them.
+#[derive(Drop)]
+pub struct Board<R> {
+    pub(crate) rt: R,
+    pub(crate) alloc: Global,
+    pub(crate) routes: Vec<Route>,
+    pub(crate) posts: Vec<Post>,
+    pub(crate) holders: Mutex<Holders>,
+    pub(crate) began: Instant,
+    /// How many milliseconds an answer of a server may take.
+    pub(crate) limit: u64,
+    /// Whether handles are changed.
+    pub(crate) writes: bool,
+}
+
+/// Whether a reply with this code shows that its server has the prefix.
+fn is_holder(code: Option<u32>) -> bool {
+    let Some(code) = code else {
+        return false;
+    };
+    code == ResponseCode::Success.number()
+        || code == ResponseCode::HandleNotFound.number()
+        || code == ResponseCode::ValueNotFound.number()
+}
+
+impl<R: Wait + Clock> Board<R> {
+    /// The moment, in milliseconds. Where the clock fails it is the last one, at which no server is left out.
+    fn now(&self) -> u64 {
+        match self.began.elapsed(&self.rt) {
+            Ok(time) => u64::try_from(time.as_millis()).unwrap_or(u64::MAX),
+            Err(_) => u64::MAX,
+        }
+    }
+
+    /// Whom to ask for handles of this prefix, in turn.
+    pub(crate) fn turn(&self, prefix: &[u8]) -> Result<Vec<usize>, AllocError> {
+        let known = if self.routes.len() > 1 {
+            self.holders.lock(&self.rt).of(prefix, self.now())
+        } else {
+            None
+        };
+        places_for(self.alloc, &self.routes, prefix, known)
+    }
+
+    /// Takes a question, whose answer goes there.
+    pub(crate) fn take(
+        &self,
+        question: Question,
+        answer: oneshot::Sender<Made>,
+    ) -> Result<(), AllocError> {
+        // a question has no message where it is longer than a message may be, which no head of 8 KiB comes to
+        let Some(message) = question.message(self.alloc)? else {
+            let made = finish(self.alloc, &question, Err(NoAnswer::Unreachable));
+            let _ = answer.send(made);
+            return Ok(());
+        };
+        let turn = self.turn(question.name.prefix())?.into_iter();
+        self.forward(Ask {
+            alloc: self.alloc,
+            question,
+            message,
+            turn,
+            missed: Miss::Elsewhere,
+            since: 0,
+            answer,
+        });
+        Ok(())
+    }
+
+    /// Why the server at this place isn't to be asked, if it isn't.
+    fn obstacle(&self, post: &Post, now: u64) -> Option<Miss> {
+        if post.standing.lock(&self.rt).is_left_out(now) {
+            Some(Miss::Unreachable)
+        } else if post.asks.len() >= WAITING_MOST {
+            Some(Miss::Crowded)
+        } else {
+            None
+        }
+    }
+
+    /// The next server that is to be asked, if there is one; why those before it aren't is noted.
+    fn next_post(&self, ask: &mut Ask) -> Option<&Post> {
+        let Ask { turn, missed, .. } = ask;
+        for place in turn {
+            let Some(post) = self.posts.get(place) else {
+                continue;
+            };
+            match self.obstacle(post, ask.since) {
+                Some(miss) => *missed = worst(*missed, miss),
+                None => return Some(post),
+            }
+        }
+        None
+    }
+
+    /// Hands a question to the next server that is to be asked, or ends it where there is none.
+    pub(crate) fn forward(&self, mut ask: Ask) {
+        ask.since = self.now();
+        match self.next_post(&mut ask) {
+            Some(post) => {
+                let _ = post.asks.send(&self.rt, ask);
+            }
+            None => ask.end(),
+        }
+    }
+
+    /// Whether a question that waited may be asked now at the server of this post; why not is noted.
+    fn admits(&self, post: &Post, ask: &mut Ask) -> bool {
+        let now = self.now();
+        if now.saturating_sub(ask.since) > self.limit {
+            ask.miss(Miss::Crowded);
+            return false;
+        }
+        let admitted = post.standing.lock(&self.rt).admits(now, self.limit);
+        if !admitted {
+            ask.miss(Miss::Unreachable);
+        }
+        admitted
+    }
+
+    /// Answers with the reply of the server at this place, unless that refers elsewhere.
+    fn heard(&self, place: usize, mut ask: Ask, reply: &[u8]) {
+        let code = code_of(reply);
+        if code == Some(ResponseCode::ServiceReferral.number()) {
+            ask.miss(Miss::Elsewhere);
+            return self.forward(ask);
+        }
+        if self.routes.len() > 1 && is_holder(code) {
+            let prefix = ask.question.name.prefix();
+            self.holders.lock(&self.rt).note(prefix, place, self.now());
+        }
+        ask.reply(reply);
+    }
+
+    /// Asks the server at this place, and answers, or hands the question on.
+    pub(crate) fn serve<S: Resolver>(&self, place: usize, server: &mut S, mut ask: Ask) {
+        let Some(post) = self.posts.get(place) else {
+            return ask.end();
+        };
+        if !self.admits(post, &mut ask) {
+            return self.forward(ask);
+        }
+        match server.ask(&ask.message) {
+            Ok(reply) => {
+                post.standing.lock(&self.rt).answered();
+                self.heard(place, ask, &reply);
+            }
+            Err(NoAnswer::Memory) => ask.refuse(),
+            Err(_) => {
+                let now = self.now();
+                post.standing.lock(&self.rt).failed(now);
+                ask.miss(Miss::Unreachable);
+                self.forward(ask);
+            }
+        }
+    }
+
+    /// Who carries out the changes of handles of this prefix, and which servers are asked for that, in turn. None where no server has the prefix, or no
+    /// changes are made.
+    pub(crate) fn clerk(
+        &self,
+        prefix: &[u8],
+    ) -> Result<Option<(&Sender<Errand>, Vec<usize>)>, AllocError> {
+        let turn = places_for(self.alloc, &self.routes, prefix, None)?;
+        let Some(first) = turn.first() else {
+            return Ok(None);
+        };
+        match self.posts.get(*first) {
+            Some(
+                Post {
+                    errands: Some(errands),
+                    ..
+                },
+            ) => Ok(Some((errands, turn))),
+            _ => Ok(None),
+        }
+    }
+}

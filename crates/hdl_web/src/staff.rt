@@ -1,0 +1,125 @@
+//! Who asks each server.
+
+use crate::asks::Ask;
+use crate::board::{Board, Post};
+use crate::holders::Holders;
+use crate::servers::Clerk;
+use crate::worker::{Errand, work, work_on_orders};
+use crossbeam_channel::{Receiver, unbounded};
+use hdl_proxy::Resolver;
+use hdl_routes::{Route, Standing};
+use std::alloc::{AllocGlobal, Global};
+use std::hash::RandomState;
+use std::io;
+use std::random::RandomSource;
+use std::sync::{Arc, Mutex, Wait};
+use std::thread::{self, Threads};
+use std::time::{Clock, Instant};
+
+/// Who asks a server: as many as questions are asked of it at once, and who carries out orders that go to it first, if any are taken.
+#[derive(Drop)]
+pub struct Crew<S, C> {
+    pub askers: Vec<S>,
+    pub clerk: Option<C>,
+}
+
+/// The servers, who asks each, and how many milliseconds an answer of a server may take.
+#[derive(Drop)]
+pub struct Staff<S, C> {
+    pub routes: Vec<Route>,
+    pub crews: Vec<Crew<S, C>>,
+    pub limit: u64,
+    pub writes: bool,
+}
+
+/// A crew, and where its questions and orders come from.
+#[derive(Drop)]
+struct Waiting<S, C> {
+    crew: Crew<S, C>,
+    asks: Receiver<Ask>,
+    errands: Receiver<Errand>,
+}
+
+/// The post of a crew, and the crew there.
+fn posted<S: Drop, C: Drop>(
+    alloc: Global,
+    crew: Crew<S, C>,
+    writes: bool,
+) -> io::Result<(Post, Waiting<S, C>)> {
+    let (asks, asked) = unbounded(alloc)?;
+    let (errands, given) = unbounded(alloc)?;
+    let post = Post {
+        asks,
+        errands: if writes { Some(errands) } else { None },
+        standing: Mutex::new(Standing::Fit),
+    };
+    let waiting = Waiting {
+        crew,
+        asks: asked,
+        errands: given,
+    };
+    Ok((post, waiting))
+}
+
+/// Starts the threads of a crew.
+fn start_crew<R, S, C>(
+    rt: &R,
+    board: &Arc<Board<R>>,
+    place: usize,
+    waiting: Waiting<S, C>,
+) -> io::Result<()>
+where
+    R: Wait + Threads + Clock + AllocGlobal + Copy + Send + Sync + Drop + 'static,
+    S: Resolver + Send + 'static,
+    C: Clerk + Send + 'static,
+{
+    let Waiting {
+        crew,
+        asks,
+        errands,
+    } = waiting;
+    let Crew { askers, clerk } = crew;
+    for asker in askers {
+        let theirs = Arc::try_clone(board)?;
+        let asks = asks.clone()?;
+        drop(thread::spawn(rt, move || work(&theirs, place, asker, asks))?);
+    }
+    if let Some(clerk) = clerk {
+        let theirs = *rt;
+        let alloc = rt.alloc();
+        drop(thread::spawn(rt, move || work_on_orders(&theirs, alloc, clerk, errands))?);
+    }
+    Ok(())
+}
+
+/// Starts a thread for each who asks, and gives where questions and orders go.
+pub(crate) fn start_asking<R, S, C>(rt: &R, staff: Staff<S, C>) -> io::Result<Arc<Board<R>>>
+where
+    R: Wait + Threads + Clock + RandomSource + AllocGlobal + Copy + Send + Sync + Drop + 'static,
+    S: Resolver + Send + 'static,
+    C: Clerk + Send + 'static,
+{
+    let alloc = rt.alloc();
+    let mut posts = Vec::new(alloc);
+    let mut crews = Vec::new(alloc);
+    for crew in staff.crews {
+        let (post, waiting) = posted(alloc, crew, staff.writes)?;
+        posts.push(post)?;
+        crews.push(waiting)?;
+    }
+    let board = Board {
+        rt: *rt,
+        alloc,
+        routes: staff.routes,
+        posts,
+        holders: Mutex::new(Holders::new(alloc, RandomState::new(rt)?)?),
+        began: Instant::now(rt)?,
+        limit: staff.limit,
+        writes: staff.writes,
+    };
+    let board = Arc::new(alloc, board)?;
+    for (place, waiting) in crews.into_iter().enumerate() {
+        start_crew(rt, &board, place, waiting)?;
+    }
+    Ok(board)
+}
