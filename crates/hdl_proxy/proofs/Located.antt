@@ -14,7 +14,7 @@ use Rattle.hdl_proxy.specs.declared.answer.Status.TheVariants as status
 use Rattle.hdl_proxy.specs.declared.found.Found.{Found}
 use Rattle.hdl_proxy.specs.declared.found.Found.TheVariants.{Values, Refused, Nothing}
 use Rattle.hdl_proxy.specs.declared.question.Form.{Form}
-use Rattle.hdl_proxy.specs.declared.question.Form.TheVariants.{Follow, Page, Json}
+use Rattle.hdl_proxy.specs.declared.question.Form.TheVariants.{Follow, Page, Json, Pretty}
 use Rattle.hdl_proxy.proofs.Addresses.{graphic, location_covers, path_covers, slash_graphic}
 
 -- ---- links are graphic ASCII
@@ -66,12 +66,13 @@ way_located handle to (Some v) a w h = leads_located handle to a (subst (All IsG
 
 goes_located : (handle : List ℕ) (values : List Value) (way : Option (List ℕ)) (a : Answer) → IsWayOf values way → Goes handle values way a → IsLocated a
 goes_located handle values None a w h = tells_located status.Success _ a (λ e. cc) h.told
-goes_located handle values (Some to) a w h = way_located handle to w.0 a w.1.1 h
+goes_located handle values (Some to) a w h = way_located handle to w.0 a w.1.1 h.leads
 
 values_located : (form : Form) (handle : List ℕ) (values : List Value) (a : Answer) → ShowsValues form handle values a → IsLocated a
 values_located Follow handle values a h = goes_located handle values h.0 a h.1.0 h.1.1
 values_located Page handle values a h = tells_located status.Success _ a (λ e. cc) h.told
 values_located Json handle values a h = tells_located status.Success _ a (λ e. cc) h.told
+values_located Pretty handle values a h = tells_located status.Success _ a (λ e. cc) h.told
 
 pub found_located : (form : Form) (handle : List ℕ) (found : Found) (a : Answer) → ShowsFound form handle found a → IsLocated a
 found_located form handle (Values values) a h = values_located form handle values.items a h

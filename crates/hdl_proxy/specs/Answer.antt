@@ -1,16 +1,19 @@
 -- What is answered.
-use Rattle.std.specs.Prelude.{◌≡◌, ◌≢◌, ℕ, List, All, Option, Some, None, MatchOption, Result, codes, option_map, string_bytes}
+use Rattle.std.specs.Prelude.{◌≡◌, ◌≢◌, ℕ, Bool, true, false, List, All, Option, Some, None, MatchOption, Result, codes, option_map, string_bytes}
 use Rattle.std.specs.Borrow.{Bor}
 use Rattle.hdl_value.specs.declared.value.Value.{Value}
 use Rattle.serde_json.specs.Written.{compact_text}
 use Rattle.hdl_proxy.specs.Choice.{IsFirstUrl}
 use Rattle.hdl_proxy.specs.Found.{IsFoundOf}
-use Rattle.hdl_proxy.specs.Json.{refusal_json, IsJsonOf}
+use Rattle.hdl_proxy.specs.Json.{refusal_json, IsJsonOf, IsPrettyOf}
+use Rattle.hdl_proxy.specs.Keeping.{IsKeepingOf}
 use Rattle.hdl_proxy.specs.Link.{IsWayTo}
 use Rattle.hdl_proxy.specs.Pages.{refusal_page, redirect_page, IsPageOf}
 use Rattle.hdl_proxy.specs.Status.{status_of_code, refused_words}
 use Rattle.hdl_proxy.specs.Url.{IsGraphic}
 use Rattle.hdl_proxy.specs.declared.answer.Answer.{Answer}
+use Rattle.hdl_proxy.specs.declared.answer.Keeping.{Keeping}
+use Rattle.hdl_proxy.specs.declared.answer.Keeping.TheVariants.{Never}
 use Rattle.hdl_proxy.specs.declared.answer.Media.{Media}
 use Rattle.hdl_proxy.specs.declared.answer.Media.TheVariants as media
 use Rattle.hdl_proxy.specs.declared.answer.Status.{Status}
@@ -18,14 +21,14 @@ use Rattle.hdl_proxy.specs.declared.answer.Status.TheVariants as status
 use Rattle.hdl_proxy.specs.declared.found.Found.{Found}
 use Rattle.hdl_proxy.specs.declared.found.Found.TheVariants.{Values, Refused, Nothing}
 use Rattle.hdl_proxy.specs.declared.question.Form.{Form}
-use Rattle.hdl_proxy.specs.declared.question.Form.TheVariants.{Follow, Page, Json}
+use Rattle.hdl_proxy.specs.declared.question.Form.TheVariants.{Follow, Page, Json, Pretty}
 use Rattle.hdl_proxy.specs.declared.question.Question.{Question}
 use Rattle.hdl_proxy.specs.declared.resolver.NoAnswer.{NoAnswer}
 
 -- It leads there: a page under this title, with a link there, status Found and this Location.
 pub record LeadsTo (title to : List ℕ) (answer : Answer) : Type 0 where
   pub status : answer.status ≡ status.Found
-  pub media : answer.media ≡ media.Page
+  pub media : answer.media ≡ media.Way
   pub location : option_map string_bytes answer.location ≡ Some to
   pub body : answer.body.items ≡ redirect_page title to
 
@@ -59,36 +62,59 @@ abbrev pub media_of : Form → Media
 media_of Follow = media.Page
 media_of Page = media.Page
 media_of Json = media.Json
+media_of Pretty = media.Json
 
--- a page, or JSON, of this handle and these values, and of nothing else
+abbrev pub is_json : Form → Bool
+is_json Follow = false
+is_json Page = false
+is_json Json = true
+is_json Pretty = true
+
+-- A page, or JSON without a space or over many lines, of this handle and these values, and of nothing else. Others may keep it as long as
+-- each of these values.
 pub record IsPage (handle : List ℕ) (values : List Value) (answer : Answer) : Type 0 where
   pub told : Tells status.Success media.Page answer
+  pub kept : IsKeepingOf values answer.keeping
   pub body : IsPageOf handle values answer.body.items
 
 pub record IsJson (handle : List ℕ) (values : List Value) (answer : Answer) : Type 0 where
   pub told : Tells status.Success media.Json answer
+  pub kept : IsKeepingOf values answer.keeping
   pub body : IsJsonOf handle values answer.body.items
+
+pub record IsPretty (handle : List ℕ) (values : List Value) (answer : Answer) : Type 0 where
+  pub told : Tells status.Success media.Json answer
+  pub kept : IsKeepingOf values answer.keeping
+  pub body : IsPrettyOf handle values answer.body.items
+
+-- It leads there, and others may keep that as long as each of these values.
+pub record LeadsBy (handle : List ℕ) (values : List Value) (to : List ℕ) (answer : Answer) : Type 0 where
+  pub leads : LeadsTo handle to answer
+  pub kept : IsKeepingOf values answer.keeping
 
 -- it goes this way, and where there is none it is a page of the values
 abbrev pub Goes : List ℕ → List Value → Option (List ℕ) → Answer → Type 0
 Goes handle values None answer = IsPage handle values answer
-Goes handle values (Some to) answer = LeadsTo handle to answer
+Goes handle values (Some to) answer = LeadsBy handle values to answer
 
 -- in this form these values: the way to their URL where they are to be followed and there is one, and else all of them
 abbrev pub ShowsValues : Form → List ℕ → List Value → Answer → Type 0
 ShowsValues Follow handle values answer = (way : Option (List ℕ)) × (IsWayOf values way × Goes handle values way answer)
 ShowsValues Page handle values answer = IsPage handle values answer
 ShowsValues Json handle values answer = IsJson handle values answer
+ShowsValues Pretty handle values answer = IsPretty handle values answer
 
 -- the page, or the JSON, that says why there are no values
 abbrev pub refusal_body : Form → List ℕ → ℕ → List ℕ → List ℕ
-refusal_body Follow handle code why = refusal_page handle why
-refusal_body Page handle code why = refusal_page handle why
+refusal_body Follow handle code why = refusal_page handle code why
+refusal_body Page handle code why = refusal_page handle code why
 refusal_body Json handle code why = compact_text (refusal_json handle code why)
+refusal_body Pretty handle code why = compact_text (refusal_json handle code why)
 
--- in this form, with this status, that there are no values, by code and reason
+-- in this form, with this status, that there are no values, by code and reason; nobody may keep that
 pub record Refuses (given : Status) (form : Form) (handle : List ℕ) (code : ℕ) (why : List ℕ) (answer : Answer) : Type 0 where
   pub told : Tells given (media_of form) answer
+  pub kept : answer.keeping ≡ Never
   pub body : answer.body.items ≡ refusal_body form handle code why
 
 -- in this form what was found: values, or the status of a code, or that no server answered

@@ -12,6 +12,7 @@ use Rattle.hdl_proxy.specs.declared.words.KeptFor.{KeptFor}
 use Rattle.hdl_proxy.specs.declared.words.KeptFor.TheVariants.{Seconds, Until}
 use Rattle.hdl_proxy.specs.Escape.{escaped}
 use Rattle.hdl_proxy.specs.Link.{address_of}
+use Rattle.hdl_proxy.specs.Status.{advice}
 use Rattle.hdl_proxy.specs.Url.{IsFollowed}
 use Rattle.hdl_proxy.specs.Words.{permission_digits, IsKeptFor, IsWritten}
 
@@ -117,9 +118,10 @@ IsPageOf handle values body = (part : List ℕ) × IsValuesPart values part × (
 
 -- ---- a refusal
 
--- the page that says why there are no values
-unfoldable pub refusal_page : List ℕ → List ℕ → List ℕ
-refusal_page asked why = top asked ++ (codes "<p>" ++ (escaped why ++ (codes "</p>\n" ++ (ANOTHER.now ++ bottom))))
+-- the page that says why there are no values, and what to do
+unfoldable pub refusal_page : List ℕ → ℕ → List ℕ → List ℕ
+refusal_page asked code why =
+    top asked ++ (element (codes "<p>") why (codes "</p>\n") ++ (element (codes "<p>") (advice code asked) (codes "</p>\n") ++ (ANOTHER.now ++ bottom)))
 
 -- ---- a way
 

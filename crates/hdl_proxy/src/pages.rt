@@ -5,8 +5,11 @@ ghost use Rattle.std.specs.List.{list_all};
 ghost use Rattle.hdl_value.specs.Refs.{raw, raws};
 ghost use Rattle.hdl_proxy.specs.Pages.{bottom, heading, is_plain, is_plain_octet, kept_part, link_part, octets_part, digits_part, admin_part, reference_part, written_part, refusal_page, redirect_page, IsDataPart, IsOctetsPart, IsTimesPart, IsSection, IsSections, IsValuesPart, IsPageOf};
 ghost use Rattle.hdl_proxy.specs.Answer.{IsLocated, LeadsTo, Tells};
+ghost use Rattle.hdl_proxy.specs.Keeping.{IsKeepingOf};
+ghost use Rattle.hdl_proxy.specs.Status.{advice, ends_with_slash, look_again};
 
-use crate::answer::{Answer, Media, Status};
+use crate::answer::{Answer, Keeping, Media, Status};
+use crate::keeping::keeping_of;
 use crate::link::Link;
 use crate::page::Page;
 use crate::words::{KeptFor, kept_for, permission_digits, written_words};
@@ -17,36 +20,63 @@ const NO_VALUES: &str = "<p>This handle is there, and has no value that anybody 
 
 const ANOTHER: &str = "<p><a href=\"/\">Another handle</a></p>\n";
 
-fn page_answer(status: Status, mut page: Page) -> Result<Answer, AllocError>
+fn page_answer(status: Status, keeping: Keeping, mut page: Page) -> Result<Answer, AllocError>
     ensures told { IfOk result (Tells status Media.Page) }
+    ensures kept { IfOk result (λ a. a.keeping ≡ keeping) }
     ensures body { IfOk result (λ a. a.body.items ≡ page.octets.items ++ bottom) }
 {
     page.markup("</body>\n</html>\n")?;
-    Ok(Answer {
-        status,
-        location: None,
-        media: Media::Page,
-        body: page.into_octets(),
-    })
+    Ok(Answer::new(status, Media::Page, keeping, page.into_octets()))
 }
 
-/// A page that says why there are no values: what was asked, and why not.
+/// Whether a name ends with a slash, as one does that was typed like a folder.
+fn ends_with_slash(asked: &[u8]) -> bool
+    ensures { result ≡ ends_with_slash asked.now }
+{
+    asked.ends_with(b"/")
+}
+
+fn look_again(asked: &[u8]) -> &'static str
+    ensures { result.now ≡ look_again asked.now }
+{
+    if ends_with_slash(asked) {
+        "Please look for a mistake in the name, such as the slash at its end. If there is none, ask who gave it to you."
+    } else {
+        "Please look for a mistake in the name. If there is none, ask who gave it to you."
+    }
+}
+
+/// What a reader may do who asked for this, by the code of the refusal.
+fn advice(code: u32, asked: &[u8]) -> &'static str
+    ensures { result.now ≡ advice code asked.now }
+{
+    match code {
+        100 | 302 => look_again(asked),
+        102 => "A handle is a prefix, a slash and a local name, such as 10/a.",
+        200 => "Without the words behind its question mark, the address shows all that anybody may read.",
+        5 => "Follow a link to a handle, or type its address.",
+        _ => "Please come back in a few minutes.",
+    }
+}
+
+/// A page that says why there are no values: what was asked, why not, and what to do.
 #[tactic(auto, unfolding(crate::specs::Pages::refusal_page))]
 pub(crate) fn refusal(
     alloc: Global,
     status: Status,
     asked: &[u8],
+    code: u32,
     why: &str,
 ) -> Result<Answer, AllocError>
     ensures told { IfOk result (Tells status Media.Page) }
-    ensures body { IfOk result (λ a. a.body.items ≡ refusal_page asked.now why.now) }
+    ensures kept { IfOk result (λ a. a.keeping ≡ Keeping.Never) }
+    ensures body { IfOk result (λ a. a.body.items ≡ refusal_page asked.now code why.now) }
 {
     let mut page = Page::new(alloc, asked)?;
-    page.markup("<p>")?;
-    page.text(why.as_bytes())?;
-    page.markup("</p>\n")?;
+    page.element("<p>", why.as_bytes(), "</p>\n")?;
+    page.element("<p>", advice(code, asked).as_bytes(), "</p>\n")?;
     page.markup(ANOTHER)?;
-    page_answer(status, page)
+    page_answer(status, Keeping::Never, page)
 }
 
 /// What this is, and a form.
@@ -63,7 +93,7 @@ pub(crate) fn front(alloc: Global) -> Result<Answer, AllocError>
 <p>With <code>?noredirect</code> behind a handle its values are shown. <code>/api/handles/</code> and a handle gives them as JSON.</p>
 ",
     )?;
-    page_answer(Status::Success, page)
+    page_answer(Status::Success, Keeping::Seconds(0), page)
 }
 
 #[tactic(auto, unfolding(crate::specs::Pages::redirect_page))]
@@ -80,8 +110,14 @@ fn put_way(page: &mut Page, title: &[u8], to: &Link) -> Result<(), AllocError>
 }
 
 /// The way that a link leads, which a browser goes by itself.
-pub(crate) fn redirect(alloc: Global, title: &[u8], to: Link) -> Result<Answer, AllocError>
+pub(crate) fn redirect(
+    alloc: Global,
+    title: &[u8],
+    to: Link,
+    keeping: Keeping,
+) -> Result<Answer, AllocError>
     ensures leads { IfOk result (LeadsTo title.now to) }
+    ensures kept { IfOk result (λ a. a.keeping ≡ keeping) }
     ensures located { IfOk result IsLocated }
 {
     let mut page = Page::empty(alloc);
@@ -89,7 +125,9 @@ pub(crate) fn redirect(alloc: Global, title: &[u8], to: Link) -> Result<Answer, 
     Ok(Answer {
         status: Status::Found,
         location: Some(to.into_text()),
-        media: Media::Page,
+        media: Media::Way,
+        keeping,
+        tag: None,
         body: page.into_octets(),
     })
 }
@@ -283,10 +321,11 @@ pub(crate) fn values_page(
     values: &[Value],
 ) -> Result<Answer, AllocError>
     ensures told { IfOk result (Tells Status.Success Media.Page) }
+    ensures kept { IfOk result (λ a. IsKeepingOf values.now a.keeping) }
     ensures body { IfOk result (λ a. IsPageOf handle.now values.now a.body.items) }
 {
     let mut page = Page::new(alloc, handle)?;
     put_values(&mut page, values)?;
     page.markup(ANOTHER)?;
-    page_answer(Status::Success, page)
+    page_answer(Status::Success, keeping_of(values), page)
 }

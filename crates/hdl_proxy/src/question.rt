@@ -19,8 +19,10 @@ pub enum Form {
     Follow,
     /// A page of its values.
     Page,
-    /// JSON of its values.
+    /// JSON of its values, without a space.
     Json,
+    /// The same JSON over many lines.
+    Pretty,
 }
 
 /// A resolution: of which handle, in which form, and which of its values (all of them where both lists are empty).

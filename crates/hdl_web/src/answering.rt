@@ -10,15 +10,26 @@ use bytes::Bytes;
 use futures::channel::oneshot;
 use futures::task::{Context, Poll};
 use futures::{Future, ready};
+use hdl_proxy::tagged;
 use http_body_util::Full;
 use hyper::Response;
 use std::alloc::{AllocError, Global};
 use std::sync::Wait;
 
+/// What a response needs of its request besides the answer.
+#[derive(Drop)]
+pub(crate) struct Seen {
+    /// The field `If-None-Match`: the tags of what the client has.
+    pub(crate) known: Option<String>,
+    /// Whether handles are changed here.
+    pub(crate) changes: bool,
+}
+
 /// The response to a request: one that is there, that a thread makes, or that waits for the request's body.
 #[derive(Drop)]
 pub struct Answering<R, B> {
     alloc: Global,
+    seen: Seen,
     gathering: Option<Gathering<R, B>>,
     made: Option<Made>,
     coming: Option<oneshot::Receiver<Made>>,
@@ -26,7 +37,7 @@ pub struct Answering<R, B> {
 
 impl<R: Wait + Drop, B: Drop> Answering<R, B> {
     /// An answer that is there, or that comes from a thread.
-    pub(crate) fn next(alloc: Global, turn: Turn) -> Answering<R, B>
+    pub(crate) fn next(alloc: Global, seen: Seen, turn: Turn) -> Answering<R, B>
         ensures { result.gathering ≡ None }
     {
         let (made, coming) = match turn {
@@ -35,6 +46,7 @@ impl<R: Wait + Drop, B: Drop> Answering<R, B> {
         };
         Answering {
             alloc,
+            seen,
             gathering: None,
             made,
             coming,
@@ -42,11 +54,16 @@ impl<R: Wait + Drop, B: Drop> Answering<R, B> {
     }
 
     /// An answer that waits for the body of its request.
-    pub(crate) fn gathering(alloc: Global, gathering: Gathering<R, B>) -> Answering<R, B>
+    pub(crate) fn gathering(
+        alloc: Global,
+        seen: Seen,
+        gathering: Gathering<R, B>,
+    ) -> Answering<R, B>
         ensures { result.gathering ≡ Some gathering }
     {
         Answering {
             alloc,
+            seen,
             gathering: Some(gathering),
             made: None,
             coming: None,
@@ -67,8 +84,13 @@ impl<R: Wait + Drop, B: Drop> Answering<R, B> {
     }
 }
 
-fn response(alloc: Global, answer: Made) -> Result<Response<Full<Bytes>>, AllocError> {
-    response_of(alloc, &answer?)
+fn response(alloc: Global, seen: &Seen, answer: Made) -> Result<Response<Full<Bytes>>, AllocError> {
+    let known = match &seen.known {
+        Some(field) => Some(field.as_str()),
+        None => None,
+    };
+    let answer = tagged(alloc, answer?, known)?;
+    response_of(alloc, &answer, seen.changes)
 }
 
 impl<R: Wait + Drop, B: Future<Output = Gathered>> Future for Answering<R, B> {
@@ -85,13 +107,13 @@ impl<R: Wait + Drop, B: Future<Output = Gathered>> Future for Answering<R, B> {
             self.gathered(gathered);
         }
         if let Some(answer) = self.made.take() {
-            return Poll::Ready(response(self.alloc, answer));
+            return Poll::Ready(response(self.alloc, &self.seen, answer));
         }
         let Some(from) = &mut self.coming else {
             return Poll::Ready(Err(AllocError));
         };
         match ready!(from.poll(cx)) {
-            Ok(answer) => Poll::Ready(response(self.alloc, answer)),
+            Ok(answer) => Poll::Ready(response(self.alloc, &self.seen, answer)),
             Err(_) => Poll::Ready(Err(AllocError)),
         }
     }
