@@ -75,6 +75,7 @@ is_json Pretty = true
 pub record IsPage (handle : List ℕ) (values : List Value) (answer : Answer) : Type 0 where
   pub told : Tells status.Success media.Page answer
   pub kept : IsKeepingOf values answer.keeping
+  pub title : answer.title.items ≡ handle
   pub body : IsPageOf handle values answer.body.items
 
 pub record IsJson (handle : List ℕ) (values : List Value) (answer : Answer) : Type 0 where

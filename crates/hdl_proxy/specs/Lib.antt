@@ -10,6 +10,7 @@ pub mod Pages
 pub mod Pasted
 pub mod Query
 pub mod Question
+pub mod Site
 pub mod Status
 pub mod Tag
 pub mod Url

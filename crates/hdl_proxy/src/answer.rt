@@ -4,6 +4,8 @@ ghost use Rattle.std.specs.Prelude.{◌≡◌};
 ghost use Rattle.hdl_proxy.specs.Answer.{Tells};
 ghost use Rattle.hdl_proxy.specs.Status.{status_number, status_of_code};
 
+use std::alloc::Global;
+
 /// The statuses of HTTP that the proxy answers.
 #[derive(Clone, Copy, Debug, PartialEq, Eq)]
 pub enum Status {
@@ -80,12 +82,21 @@ pub struct Answer {
     pub keeping: Keeping,
     /// Its entity tag, which [`tagged`](crate::tagged) gives it.
     pub tag: Option<String>,
+    /// What a page is called. Nothing else has a title.
+    pub title: Vec<u8>,
+    /// Of a page its main part, which [`Site::dressed`](crate::Site::dressed) puts between head and foot.
     pub body: Vec<u8>,
 }
 
 impl Answer {
-    /// An answer that leads nowhere and has no tag yet.
-    pub fn new(status: Status, media: Media, keeping: Keeping, body: Vec<u8>) -> Answer
+    /// An answer that leads nowhere, and has no title and no tag yet.
+    pub fn new(
+        alloc: Global,
+        status: Status,
+        media: Media,
+        keeping: Keeping,
+        body: Vec<u8>,
+    ) -> Answer
         ensures told { Tells status media result }
         ensures keeping { result.keeping ≡ keeping }
         ensures body { result.body ≡ body }
@@ -96,6 +107,7 @@ impl Answer {
             media,
             keeping,
             tag: None,
+            title: Vec::new(alloc),
             body,
         }
     }

@@ -20,7 +20,7 @@ fn file(alloc: Global, media: Media, text: &str) -> Result<Answer, AllocError>
     ensures { IfOk result (Tells Status.Success media) }
 {
     let body = Vec::from_slice(alloc, text.as_bytes())?;
-    Ok(Answer::new(Status::Success, media, Keeping::Seconds(DAY), body))
+    Ok(Answer::new(alloc, Status::Success, media, Keeping::Seconds(DAY), body))
 }
 
 /// `robots.txt` (RFC 9309).

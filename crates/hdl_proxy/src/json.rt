@@ -37,7 +37,7 @@ fn kept_answer(
     ensures body { IfOk result (λ a. has_float (view json.now) ≡ false → a.body.items ≡ compact_text (view json.now)) }
 {
     let text = json.to_string(alloc)?;
-    Ok(Answer::new(status, Media::Json, keeping, text.into_bytes()))
+    Ok(Answer::new(alloc, status, Media::Json, keeping, text.into_bytes()))
 }
 
 /// An answer in JSON, which nobody may keep.
@@ -308,5 +308,5 @@ pub(crate) fn pretty_answer(
 {
     let json = answer_json(alloc, handle, values)?;
     let body = pretty_octets(alloc, &json)?;
-    Ok(Answer::new(Status::Success, Media::Json, keeping, body))
+    Ok(Answer::new(alloc, Status::Success, Media::Json, keeping, body))
 }

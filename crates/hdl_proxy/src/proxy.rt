@@ -233,7 +233,7 @@ fn begin_other(alloc: Global, method: &str, path: &str) -> Result<Answer, AllocE
 pub fn options(alloc: Global) -> Answer
     ensures { Tells Status.NoContent Media.Json result }
 {
-    Answer::new(Status::NoContent, Media::Json, Keeping::Never, Vec::new(alloc))
+    Answer::new(alloc, Status::NoContent, Media::Json, Keeping::Never, Vec::new(alloc))
 }
 
 /// What is to be done for a request with this method, path and query, each as it was sent; the query without its `?`.

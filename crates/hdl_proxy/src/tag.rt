@@ -53,6 +53,7 @@ fn unchanged(alloc: Global, answer: Answer, tag: String) -> Answer
         media: answer.media,
         keeping: answer.keeping,
         tag: Some(tag),
+        title: answer.title,
         body: Vec::new(alloc),
     }
 }
@@ -66,6 +67,7 @@ fn carrying(answer: Answer, tag: String) -> Answer
         media: answer.media,
         keeping: answer.keeping,
         tag: Some(tag),
+        title: answer.title,
         body: answer.body,
     }
 }

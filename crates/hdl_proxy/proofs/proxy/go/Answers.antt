@@ -2,7 +2,7 @@ use Rattle.std.proofs.Common.{sym, subst}
 use Rattle.std.specs.Prelude.{IfOk}
 use Rattle.hdl_proxy.specs.Answer.{Goes, IsPage, LeadsBy}
 use Rattle.hdl_proxy.specs.Keeping.{IsKeepingOf}
-use Rattle.hdl_proxy.proofs.Made.{made, made_of}
+use Rattle.hdl_proxy.proofs.Made.{made, made_so}
 use Rattle.hdl_proxy.proofs.proxy.go.Goals as goal
 
 pub returns-in-Some : goal.returns-in-Some
@@ -19,5 +19,5 @@ returns-in-None c =
     let handle = c.args.handle.now in
     let values = c.args.values.now in
     let said = c.values_page.ensures in
-    let page : IfOk c.values_page.result (IsPage handle values) = made_of c.values_page.result _ _ _ _ (λ a told kept body. record { told = told; kept = kept; body = body }) said.told said.kept said.body in
+    let page : IfOk c.values_page.result (IsPage handle values) = made_so c.values_page.result _ _ _ _ _ (λ a told kept title body. record { told = told; kept = kept; title = title; body = body }) said.told said.kept said.title said.body in
     subst (λ way. IfOk c.values_page.result (Goes handle values way)) (sym c.in-None.is) page
