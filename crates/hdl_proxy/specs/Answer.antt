@@ -12,7 +12,6 @@ use Rattle.hdl_proxy.specs.Pages.{refusal_page, redirect_page, IsPageOf}
 use Rattle.hdl_proxy.specs.Status.{status_of_code, refused_words}
 use Rattle.hdl_proxy.specs.Url.{IsGraphic}
 use Rattle.hdl_proxy.specs.declared.answer.Answer.{Answer}
-use Rattle.hdl_proxy.specs.declared.answer.Keeping.{Keeping}
 use Rattle.hdl_proxy.specs.declared.answer.Keeping.TheVariants.{Never}
 use Rattle.hdl_proxy.specs.declared.answer.Media.{Media}
 use Rattle.hdl_proxy.specs.declared.answer.Media.TheVariants as media

@@ -1,5 +1,5 @@
 -- The statuses of HTTP (RFC 9110, section 15), and the status and the words of each response code.
-use Rattle.std.specs.Prelude.{ℕ, ◌==◌, ◌||◌, ◌∷◌, [], Bool, List, codes, eqb, if◌then◌else◌}
+use Rattle.std.specs.Prelude.{ℕ, ◌==◌, ◌||◌, Bool, List, codes, eqb, if◌then◌else◌}
 use Rattle.std.specs.List.{ends_with}
 use Rattle.hdl_proxy.specs.declared.answer.Status.{Status}
 use Rattle.hdl_proxy.specs.declared.answer.Status.TheVariants.{Success, Created, NoContent, Found, NotModified, BadRequest, Unauthorized, Forbidden, NotFound, MethodNotAllowed, RequestTimeout, Conflict, ContentTooLarge, BadGateway, Unavailable}

@@ -13,7 +13,8 @@ Disallow: /api/
 ";
 
 /// The picture of a browser's tab.
-const ICON: &str = "<svg xmlns=\"http://www.w3.org/2000/svg\" viewBox=\"0 0 16 16\"><rect width=\"16\" height=\"16\" rx=\"3\" fill=\"#1d6b57\"/><path d=\"M5 3.5v9M11 3.5v9M5 8h6\" stroke=\"#fff\" stroke-width=\"2\"/></svg>
+const ICON: &str =
+    "<svg xmlns=\"http://www.w3.org/2000/svg\" viewBox=\"0 0 16 16\"><rect width=\"16\" height=\"16\" rx=\"3\" fill=\"#1d6b57\"/><path d=\"M5 3.5v9M11 3.5v9M5 8h6\" stroke=\"#fff\" stroke-width=\"2\"/></svg>
 ";
 
 fn file(alloc: Global, media: Media, text: &str) -> Result<Answer, AllocError>

@@ -31,12 +31,7 @@ const END: &str = "</tbody>
 ";
 
 /// A page with this title.
-fn page_answer(
-    status: Status,
-    keeping: Keeping,
-    title: Vec<u8>,
-    page: Page,
-) -> Answer
+fn page_answer(status: Status, keeping: Keeping, title: Vec<u8>, page: Page) -> Answer
     ensures told { Tells status Media.Page result }
     ensures kept { result.keeping ≡ keeping }
     ensures title { result.title ≡ title }
@@ -77,7 +72,8 @@ fn advice(code: u32, asked: &[u8]) -> &'static str
     match code {
         100 | 302 => look_again(asked),
         102 => "A handle is a prefix, a slash and a local name, such as 10/a.",
-        200 => "Without the words behind its question mark, the address shows all that anybody may read.",
+        200 =>
+            "Without the words behind its question mark, the address shows all that anybody may read.",
         5 => "Follow a link to a handle, or type its address.",
         _ => "Please come back in a few minutes.",
     }
@@ -223,10 +219,30 @@ fn put_permission(
 fn put_handle_permissions(page: &mut Page, mask: AdminMask) -> Result<(), AllocError>
     ensures { OnOk result (page.new.octets.items ≡ page.old.octets.items ++ handle_permissions mask.0) }
 {
-    put_permission(page, mask, AdminPermission::AddHandle, "<li>create handles</li>")?;
-    put_permission(page, mask, AdminPermission::DeleteHandle, "<li>delete them</li>")?;
-    put_permission(page, mask, AdminPermission::ListHandle, "<li>list them</li>")?;
-    put_permission(page, mask, AdminPermission::AuthorizedRead, "<li>read what isn't public</li>")
+    put_permission(
+        page,
+        mask,
+        AdminPermission::AddHandle,
+        "<li>create handles</li>",
+    )?;
+    put_permission(
+        page,
+        mask,
+        AdminPermission::DeleteHandle,
+        "<li>delete them</li>",
+    )?;
+    put_permission(
+        page,
+        mask,
+        AdminPermission::ListHandle,
+        "<li>list them</li>",
+    )?;
+    put_permission(
+        page,
+        mask,
+        AdminPermission::AuthorizedRead,
+        "<li>read what isn't public</li>",
+    )
 }
 
 #[tactic(auto, unfolding(crate::specs::Pages::value_permissions))]
@@ -234,17 +250,42 @@ fn put_value_permissions(page: &mut Page, mask: AdminMask) -> Result<(), AllocEr
     ensures { OnOk result (page.new.octets.items ≡ page.old.octets.items ++ value_permissions mask.0) }
 {
     put_permission(page, mask, AdminPermission::AddValue, "<li>add values</li>")?;
-    put_permission(page, mask, AdminPermission::ModifyValue, "<li>change values</li>")?;
-    put_permission(page, mask, AdminPermission::DeleteValue, "<li>remove values</li>")
+    put_permission(
+        page,
+        mask,
+        AdminPermission::ModifyValue,
+        "<li>change values</li>",
+    )?;
+    put_permission(
+        page,
+        mask,
+        AdminPermission::DeleteValue,
+        "<li>remove values</li>",
+    )
 }
 
 #[tactic(auto, unfolding(crate::specs::Pages::admin_permissions))]
 fn put_admin_permissions(page: &mut Page, mask: AdminMask) -> Result<(), AllocError>
     ensures { OnOk result (page.new.octets.items ≡ page.old.octets.items ++ admin_permissions mask.0) }
 {
-    put_permission(page, mask, AdminPermission::AddAdmin, "<li>add administrators</li>")?;
-    put_permission(page, mask, AdminPermission::ModifyAdmin, "<li>change administrators</li>")?;
-    put_permission(page, mask, AdminPermission::RemoveAdmin, "<li>remove administrators</li>")
+    put_permission(
+        page,
+        mask,
+        AdminPermission::AddAdmin,
+        "<li>add administrators</li>",
+    )?;
+    put_permission(
+        page,
+        mask,
+        AdminPermission::ModifyAdmin,
+        "<li>change administrators</li>",
+    )?;
+    put_permission(
+        page,
+        mask,
+        AdminPermission::RemoveAdmin,
+        "<li>remove administrators</li>",
+    )
 }
 
 /// What an administrator may do, but for what nothing asks for.

@@ -188,9 +188,15 @@ fn begin_interface(alloc: Global, path: &str) -> Result<Next, AllocError>
 {
     let code = ResponseCode::OperationDenied.number();
     let (status, why) = if path == LIST_PATH {
-        (Status::Forbidden, "This proxy takes no keys, and so lists no handles.")
+        (
+            Status::Forbidden,
+            "This proxy takes no keys, and so lists no handles.",
+        )
     } else {
-        (Status::NotFound, "Nothing is at this address. Handles are at /api/handles/ and the handle.")
+        (
+            Status::NotFound,
+            "Nothing is at this address. Handles are at /api/handles/ and the handle.",
+        )
     };
     Ok(Next::Answer(json::refusal(alloc, status, path.as_bytes(), code, why)?))
 }
@@ -209,7 +215,13 @@ fn begin_address(alloc: Global, path: &str, query: &str) -> Result<Next, AllocEr
         return begin_interface(alloc, path);
     }
     let sent = without_slash(path);
-    begin_handle(alloc, sent, written(sent.as_bytes()), page_form(&pairs), &pairs)
+    begin_handle(
+        alloc,
+        sent,
+        written(sent.as_bytes()),
+        page_form(&pairs),
+        &pairs,
+    )
 }
 
 /// What is answered to a request that doesn't read.
@@ -233,7 +245,13 @@ fn begin_other(alloc: Global, method: &str, path: &str) -> Result<Answer, AllocE
 pub fn options(alloc: Global) -> Answer
     ensures { Tells Status.NoContent Media.Json result }
 {
-    Answer::new(alloc, Status::NoContent, Media::Json, Keeping::Never, Vec::new(alloc))
+    Answer::new(
+        alloc,
+        Status::NoContent,
+        Media::Json,
+        Keeping::Never,
+        Vec::new(alloc),
+    )
 }
 
 /// What is to be done for a request with this method, path and query, each as it was sent; the query without its `?`.

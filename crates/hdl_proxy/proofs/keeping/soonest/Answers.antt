@@ -15,10 +15,10 @@ loop-value-preserved c =
     let grown : take (i + 1) values ≡ take i values ++ v ∷ [] = more values i v c.loop-value-test.true c.value-item.is in
     subst (λ (vs : List Value). IsSoonest vs (option_copied c.if-comes_sooner.chosen)) (sym grown)
     (elim c.if-comes_sooner.branch [
-      then-comes_sooner w ↦
-        let sooner : comes_sooner v before ≡ true = sym c.comes_sooner.ensures ∙ w.if-comes_sooner.true in
-        subst (λ (o : Option (Bor Value)). IsSoonest (take i values ++ v ∷ []) (option_copied o)) (sym w.chosen-is) (chosen_push (take i values) v before sooner c.loop-value.invariant)
-    | else-comes_sooner w ↦
-        let later : comes_sooner v before ≡ false = sym c.comes_sooner.ensures ∙ w.if-comes_sooner.false in
-        subst (λ (o : Option (Bor Value)). IsSoonest (take i values ++ v ∷ []) (option_copied o)) (sym w.chosen-is) (kept_push (take i values) v before later c.loop-value.invariant)
+      | then-comes_sooner w ↦
+          let sooner : comes_sooner v before ≡ true = sym c.comes_sooner.ensures ∙ w.if-comes_sooner.true in
+          subst (λ (o : Option (Bor Value)). IsSoonest (take i values ++ v ∷ []) (option_copied o)) (sym w.chosen-is) (chosen_push (take i values) v before sooner c.loop-value.invariant)
+      | else-comes_sooner w ↦
+          let later : comes_sooner v before ≡ false = sym c.comes_sooner.ensures ∙ w.if-comes_sooner.false in
+          subst (λ (o : Option (Bor Value)). IsSoonest (take i values ++ v ∷ []) (option_copied o)) (sym w.chosen-is) (kept_push (take i values) v before later c.loop-value.invariant)
     ])

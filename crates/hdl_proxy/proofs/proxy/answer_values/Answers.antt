@@ -19,7 +19,7 @@ returns-in-Json c =
     let values = c.args.values.now in
     let said = c.values_answer.ensures in
     let json : IfOk c.values_answer.result (IsJson handle values) =
-      made_of c.values_answer.result _ _ _ _ (λ a told kept body. record { told = told; kept = subst (IsKeepingOf values) (sym kept) c.keeping_of.ensures; body = body }) said.told said.kept said.body in
+    made_of c.values_answer.result _ _ _ _ (λ a told kept body. record { told = told; kept = subst (IsKeepingOf values) (sym kept) c.keeping_of.ensures; body = body }) said.told said.kept said.body in
     subst (λ form. IfOk c.values_answer.result (ShowsValues form handle values)) (sym c.in-Json.is) json
 
 pub returns-in-Pretty : goal.returns-in-Pretty
@@ -28,5 +28,5 @@ returns-in-Pretty c =
     let values = c.args.values.now in
     let said = c.pretty_answer.ensures in
     let pretty : IfOk c.pretty_answer.result (IsPretty handle values) =
-      made_of c.pretty_answer.result _ _ _ _ (λ a told kept body. record { told = told; kept = subst (IsKeepingOf values) (sym kept) c.keeping_of-in-Pretty.ensures; body = body }) said.told said.kept said.body in
+    made_of c.pretty_answer.result _ _ _ _ (λ a told kept body. record { told = told; kept = subst (IsKeepingOf values) (sym kept) c.keeping_of-in-Pretty.ensures; body = body }) said.told said.kept said.body in
     subst (λ form. IfOk c.pretty_answer.result (ShowsValues form handle values)) (sym c.in-Pretty.is) pretty

@@ -11,7 +11,7 @@ returns-in-Some c =
     let values = c.args.values.now in
     let to = c.in-Some.link in
     let leads : IfOk c.redirect.result (LeadsBy handle values to) =
-      made c.redirect.result _ _ _ (λ a leads kept. record { leads = leads; kept = subst (IsKeepingOf values) (sym kept) c.keeping_of.ensures }) c.redirect.ensures.leads c.redirect.ensures.kept in
+    made c.redirect.result _ _ _ (λ a leads kept. record { leads = leads; kept = subst (IsKeepingOf values) (sym kept) c.keeping_of.ensures }) c.redirect.ensures.leads c.redirect.ensures.kept in
     subst (λ way. IfOk c.redirect.result (Goes handle values way)) (sym c.in-Some.is) leads
 
 pub returns-in-None : goal.returns-in-None
