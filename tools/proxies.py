@@ -55,20 +55,30 @@ OPTIONS = [("access-control-allow-headers", "*, Authorization"), ("access-contro
 # How long others may keep an answer, where they may: the least TTL of the values, a day at most.
 KEPT = "max-age=%d"
 NEVER = "no-store"
-ANOTHER = '<p><a href="/">Another handle</a></p>\n</body>\n</html>\n'
-DAY = "<p><small>may be kept for 86400 seconds</small></p>\n"
+SITE, CONTACT = "Tom & Jerry's <handles>", "help@example.org"
+SITE_TEXT = "Tom &amp; Jerry&#39;s &lt;handles&gt;"
+HEADER = '<header><a href="/">%s</a></header>\n<main>\n' % SITE_TEXT
+FOOTER = '<footer>Questions? <a href="mailto:help@example.org">help@example.org</a></footer>\n</body>\n</html>\n'
+ANOTHER = '<p><a href="/">Find another handle</a></p>\n</main>\n' + FOOTER
+COLUMNS = ('<table>\n<thead><tr><th scope="col">Type, index</th><th scope="col">Value</th><th scope="col">May be kept for</th></tr></thead>\n'
+           "<tbody>\n%s</tbody>\n</table>\n")
 
 
-def refusal(title, why, advice):
-    return "<h1>%s</h1>\n<p>%s</p>\n<p>%s</p>\n%s" % (title, why, advice, ANOTHER)
+def refusal(asked, why, advice, word="Not found"):
+    return "%s: %s - %s" % (word, asked, SITE_TEXT), "%s<h1>%s</h1>\n<p>%s</p>\n<p>%s</p>\n%s" % (HEADER, asked, why, advice, ANOTHER)
 
 
-def values(title, *parts):
-    return "<h1>%s</h1>\n%s%s" % (title, "".join(parts), ANOTHER)
+def values(handle, *parts):
+    return "%s - %s" % (handle, SITE_TEXT), "%s<h1>%s</h1>\n%s%s" % (HEADER, handle, COLUMNS % "".join(parts), ANOTHER)
 
 
-def value(kind, index, data, times=DAY):
-    return "<h2>%s <small>index %d</small></h2>\n%s%s" % (kind, index, data, times)
+def empty(handle):
+    none = "<p>This handle is there, and has no value that anybody may read.</p>\n"
+    return "%s - %s" % (handle, SITE_TEXT), "%s<h1>%s</h1>\n%s%s" % (HEADER, handle, none, ANOTHER)
+
+
+def value(kind, index, data, times="a day"):
+    return '<tr><th scope="row">%s <small>%d</small></th>\n<td>%s</td>\n<td>%s</td></tr>\n' % (kind, index, data, times)
 
 
 def text(shown):
@@ -80,7 +90,7 @@ def link(to, shown):
 
 
 def way(title, to):
-    return '<!DOCTYPE html>\n<meta charset="utf-8">\n<title>%s</title>\n<a href="%s">%s</a>\n' % (title, to, to)
+    return title, '<!DOCTYPE html>\n<meta charset="utf-8">\n<title>%s</title>\n<a href="%s">%s</a>\n' % (title, to, to)
 
 
 def json_value(index, kind, data, ttl=86400):
@@ -101,10 +111,13 @@ def json_refusal(handle, why, code):
 
 ONE = "https://example.org/one?q=1&amp;r=%22%C3%BC%22"
 A_PAGE = values("10/a", value("URL", 1, link(ONE, "https://example.org/one?q=1&amp;r=&quot;\u00fc&quot;")),
-                value("TEXT", 2, text("&lt;b&gt;Tom &amp; &quot;Jerry&quot;&lt;/b&gt;"), DAY.replace("86400", "3600")),
+                value("TEXT", 2, text("&lt;b&gt;Tom &amp; &quot;Jerry&quot;&lt;/b&gt;"), "an hour"),
                 value("URL", 3, link("https://example.org/three", "https://example.org/three")))
 SCRIPT_PAGE = values("10/script", value("URL", 1, text("javascript:alert(1)")), value("URL", 2, link("https://example.org/", "https://example.org/")))
-ADMIN_PAGE = values("10/admin", value("HS_ADMIN", 100, text("administrator 300:0.NA/10, permissions 111111111111")),
+ADMINISTRATOR = '<p>Whoever has the key <span class="data">300:0.NA/10</span> may</p>\n<ul class="may">%s</ul>\n'
+ALL = "".join("<li>%s</li>" % may for may in ("create handles", "delete them", "list them", "read what isn't public", "add values", "change values", "remove values",
+                                             "add administrators", "change administrators", "remove administrators"))
+ADMIN_PAGE = values("10/admin", value("HS_ADMIN", 100, ADMINISTRATOR % ALL),
                     value("HS_VLIST", 101, text("200:10/x") + text("201:10/y")), value("OCTETS", 102, "<p>3 octets</p>\n" + text("00ff41")), value("HS_SITE", 103, text("site")))
 A_ONE = json_value(1, "URL", json_text('https://example.org/one?q=1&r=\\"\u00fc\\"'))
 A_TWO = json_value(2, "TEXT", json_text('<b>Tom & \\"Jerry\\"</b>'), 3600)
@@ -154,12 +167,12 @@ PAGES = (
     ("GET /10/%3Cscript%3E", 404, NEVER, None, refusal("10/&lt;script&gt;", ABSENT, LOOK)),
     ("GET /30/a", 404, NEVER, None, refusal("30/a", ELSEWHERE, LOOK)),
     ("GET /%61pi/handles/10/a", 404, NEVER, None, refusal("api/handles/10/a", ELSEWHERE, LOOK)),
-    ("GET /favicon", 400, NEVER, None, refusal("favicon", "This is no handle: the name has no slash.", FORM)),
-    ("GET /10/%FF", 400, NEVER, None, refusal("10/%FF", "This is no handle: the name is not UTF-8.", FORM)),
-    ("GET /?handle=//evil.example", 400, NEVER, None, refusal("//evil.example", "This is no handle: the name has a bad segment.", FORM)),
-    ("GET /10/a?index=x", 400, NEVER, None, refusal("10/a", INDEX, FORM)),
-    ("POST /10/a", 405, NEVER, None, refusal("/10/a", READING, FOLLOW)),
-    ("OPTIONS /10/a", 405, NEVER, None, refusal("/10/a", READING, FOLLOW)),
+    ("GET /favicon", 400, NEVER, None, refusal("favicon", "This is no handle: the name has no slash.", FORM, "No handle")),
+    ("GET /10/%FF", 400, NEVER, None, refusal("10/%FF", "This is no handle: the name is not UTF-8.", FORM, "No handle")),
+    ("GET /?handle=//evil.example", 400, NEVER, None, refusal("//evil.example", "This is no handle: the name has a bad segment.", FORM, "No handle")),
+    ("GET /10/a?index=x", 400, NEVER, None, refusal("10/a", INDEX, FORM, "No handle")),
+    ("POST /10/a", 405, NEVER, None, refusal("/10/a", READING, FOLLOW, "Not done")),
+    ("OPTIONS /10/a", 405, NEVER, None, refusal("/10/a", READING, FOLLOW, "Not done")),
 )
 PRETTY = """{
   "handle": "10/a",
@@ -228,17 +241,16 @@ def short(code):
 # What a server in this program answers to the first question of a connection, and how the proxy answers then.
 REPLIES = (
     ("values in any order", lambda n: wire.frame(GOOD, 0, n), 302, KEPT % 86400, way("10/a", "HTTPS://example.org/first")),
-    ("hidden values and a key", lambda n: wire.frame(LEAKING, 0, n), 200, KEPT % 60, values("10/a", value("TEXT", 3, text("open"), DAY.replace("86400", "60")))),
-    ("values that nobody may read", lambda n: wire.frame(HIDDEN_ALONE, 0, n), 200, NEVER,
-     values("10/a", "<p>This handle is there, and has no value that anybody may read.</p>\n")),
+    ("hidden values and a key", lambda n: wire.frame(LEAKING, 0, n), 200, KEPT % 60, values("10/a", value("TEXT", 3, text("open"), "a minute"))),
+    ("values that nobody may read", lambda n: wire.frame(HIDDEN_ALONE, 0, n), 200, NEVER, empty("10/a")),
     ("a moment as a TTL, and one beyond a day", lambda n: wire.frame(UNTIL, 0, n), 302, KEPT % 0, way("10/a", "https://example.org/until")),
     ("a TTL beyond a day", lambda n: wire.frame(LONG, 0, n), 302, KEPT % 86400, way("10/a", "https://example.org/long")),
-    ("it is busy", short(3), 503, NEVER, refusal("10/a", "The server is busy.", LATER)),
-    ("another code", short(2), 502, NEVER, refusal("10/a", "The server couldn&#39;t answer.", LATER)),
-    ("another handle", lambda n: wire.frame(wire.values_reply(b"10/b"), 0, n), 502, NEVER, refusal("10/a", UNANSWERED, LATER)),
-    ("another request", lambda n: wire.frame(GOOD, 0, n + 7), 502, NEVER, refusal("10/a", UNANSWERED, LATER)),
-    ("no frame", lambda n: b"HTTP/1.1 400 Bad Request\r\n\r\n", 502, NEVER, refusal("10/a", UNANSWERED, LATER)),
-    ("it closes at once", lambda n: b"", 502, NEVER, refusal("10/a", UNANSWERED, LATER)),
+    ("it is busy", short(3), 503, NEVER, refusal("10/a", "The server is busy.", LATER, "No answer")),
+    ("another code", short(2), 502, NEVER, refusal("10/a", "The server couldn&#39;t answer.", LATER, "No answer")),
+    ("another handle", lambda n: wire.frame(wire.values_reply(b"10/b"), 0, n), 502, NEVER, refusal("10/a", UNANSWERED, LATER, "No answer")),
+    ("another request", lambda n: wire.frame(GOOD, 0, n + 7), 502, NEVER, refusal("10/a", UNANSWERED, LATER, "No answer")),
+    ("no frame", lambda n: b"HTTP/1.1 400 Bad Request\r\n\r\n", 502, NEVER, refusal("10/a", UNANSWERED, LATER, "No answer")),
+    ("it closes at once", lambda n: b"", 502, NEVER, refusal("10/a", UNANSWERED, LATER, "No answer")),
 )
 LOCATIONS = {"values in any order": "HTTPS://example.org/first", "a moment as a TTL, and one beyond a day": "https://example.org/until",
              "a TTL beyond a day": "https://example.org/long"}
@@ -253,7 +265,7 @@ def more_files():
 def proxy(behind):
     """A proxy before the servers at these ports: its own port."""
     (port,) = servers.free_ports(1)
-    words = [PROGRAM, "--listen", "127.0.0.1:%d" % port]
+    words = [PROGRAM, "--listen", "127.0.0.1:%d" % port, "--site", SITE, "--contact", CONTACT]
     for server in behind:
         words += ["--server", "127.0.0.1:%d" % server]
     with servers.running(words, 1):
@@ -288,10 +300,14 @@ def parts(answer):
     return int(lines[0].split(" ")[1]) if " " in lines[0] else 0, fields, body.decode("utf-8", "replace")
 
 
-def heading(body):
-    """A page from its heading on; what has none is as it is."""
-    found = body.find("<h1>")
-    return body[found:] if found >= 0 else body
+def seen(body):
+    """A page's title, and the page from its head on; one without a head is whole."""
+    found = body.find("<header>")
+    return html_title(body), body[found:] if found >= 0 else body
+
+
+def html_title(body):
+    return body.partition("<title>")[2].partition("</title>")[0]
 
 
 def tag(body):
@@ -309,7 +325,7 @@ def is_page(answer, status, kept, location, body):
     found, fields, whole = parts(answer)
     wanted = (WAY + [("location", location)] if location else PAGE) + more(status, kept, whole)
     wanted += [("allow", "GET, HEAD")] if status == 405 else []
-    return found == status and fields == sorted(wanted) and heading(whole) == body and SECRET not in answer
+    return found == status and fields == sorted(wanted) and seen(whole) == body and SECRET not in answer
 
 
 def is_json(answer, status, kept, body):
@@ -329,7 +345,7 @@ def pages(port):
     for line, status, kept, body in JSONS:
         yield line, is_json(said(port, request(asked(line, "/api/handles"))), status, kept, body)
     front = parts(said(port, request("GET /")))
-    yield "the front page", front[0] == 200 and '<form action="/" method="get">' in front[2] and "<script" not in front[2]
+    yield "the front page", front[0] == 200 and '<form action="/" method="get">' in front[2] and "<script" not in front[2] and "<title>Find a handle - %s</title>" % SITE_TEXT in front[2]
     both = said(port, request("GET /10/none", False) + request("GET /20/archive"))
     yield "two requests on a connection", both.count(b"HTTP/1.1 ") == 2 and both.index(b" 404 ") < both.index(b" 302 ")
     status, fields, body = parts(said(port, request("HEAD /10/a")))
@@ -452,7 +468,7 @@ def main():
             cases += part(port)
     cases += replies()
     with proxy(servers.free_ports(2)) as port:
-        cases.append(("nobody listens", is_page(said(port, request("GET /10/a")), 502, NEVER, None, refusal("10/a", UNANSWERED, LATER))))
+        cases.append(("nobody listens", is_page(said(port, request("GET /10/a")), 502, NEVER, None, refusal("10/a", UNANSWERED, LATER, "No answer"))))
         cases.append(("nobody listens: JSON", is_json(said(port, request("GET /api/handles/10/a")), 502, NEVER, json_refusal("10/a", UNANSWERED, 2))))
     for name, good in cases:
         if not good:

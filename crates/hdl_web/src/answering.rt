@@ -10,26 +10,39 @@ use bytes::Bytes;
 use futures::channel::oneshot;
 use futures::task::{Context, Poll};
 use futures::{Future, ready};
-use hdl_proxy::tagged;
+use hdl_proxy::{Site, tagged};
 use http_body_util::Full;
 use hyper::Response;
 use std::alloc::{AllocError, Global};
-use std::sync::Wait;
+use std::sync::{Arc, Wait};
 
-/// What a response needs of its request besides the answer.
+/// What a response needs besides its answer.
 #[derive(Drop)]
 pub(crate) struct Seen {
-    /// The field `If-None-Match`: the tags of what the client has.
+    pub(crate) site: Arc<Site>,
+    /// The field `If-None-Match` of the request: the tags of what the client has.
     pub(crate) known: Option<String>,
     /// Whether handles are changed here.
     pub(crate) changes: bool,
+}
+
+impl Seen {
+    /// The response of an answer: a page as the site gives it, or that the client has it already.
+    fn response(&self, alloc: Global, answer: Made) -> Result<Response<Full<Bytes>>, AllocError> {
+        let known = match &self.known {
+            Some(field) => Some(field.as_str()),
+            None => None,
+        };
+        let answer = self.site.dressed(alloc, answer?)?;
+        response_of(alloc, &tagged(alloc, answer, known)?, self.changes)
+    }
 }
 
 /// The response to a request: one that is there, that a thread makes, or that waits for the request's body.
 #[derive(Drop)]
 pub struct Answering<R, B> {
     alloc: Global,
-    seen: Seen,
+    seen: Result<Seen, AllocError>,
     gathering: Option<Gathering<R, B>>,
     made: Option<Made>,
     coming: Option<oneshot::Receiver<Made>>,
@@ -37,7 +50,11 @@ pub struct Answering<R, B> {
 
 impl<R: Wait + Drop, B: Drop> Answering<R, B> {
     /// An answer that is there, or that comes from a thread.
-    pub(crate) fn next(alloc: Global, seen: Seen, turn: Turn) -> Answering<R, B>
+    pub(crate) fn next(
+        alloc: Global,
+        seen: Result<Seen, AllocError>,
+        turn: Turn,
+    ) -> Answering<R, B>
         ensures { result.gathering ≡ None }
     {
         let (made, coming) = match turn {
@@ -56,7 +73,7 @@ impl<R: Wait + Drop, B: Drop> Answering<R, B> {
     /// An answer that waits for the body of its request.
     pub(crate) fn gathering(
         alloc: Global,
-        seen: Seen,
+        seen: Result<Seen, AllocError>,
         gathering: Gathering<R, B>,
     ) -> Answering<R, B>
         ensures { result.gathering ≡ Some gathering }
@@ -84,13 +101,15 @@ impl<R: Wait + Drop, B: Drop> Answering<R, B> {
     }
 }
 
-fn response(alloc: Global, seen: &Seen, answer: Made) -> Result<Response<Full<Bytes>>, AllocError> {
-    let known = match &seen.known {
-        Some(field) => Some(field.as_str()),
-        None => None,
-    };
-    let answer = tagged(alloc, answer?, known)?;
-    response_of(alloc, &answer, seen.changes)
+fn response(
+    alloc: Global,
+    seen: &Result<Seen, AllocError>,
+    answer: Made,
+) -> Result<Response<Full<Bytes>>, AllocError> {
+    match seen {
+        Ok(seen) => seen.response(alloc, answer),
+        Err(_) => Err(AllocError),
+    }
 }
 
 impl<R: Wait + Drop, B: Future<Output = Gathered>> Future for Answering<R, B> {

@@ -14,7 +14,7 @@ use hyper::body::Incoming;
 use hyper::service::Service;
 use hyper::{Request, Response};
 use std::alloc::{AllocError, Global};
-use std::sync::Wait;
+use std::sync::{Arc, Wait};
 use std::time::{Clock, Duration};
 use tokio::time::{Handle, Timeout};
 
@@ -83,7 +83,7 @@ impl<R: Wait + Clock + Copy + Drop> Desk<R> {
 
     /// What the response needs of a request. A field that is no text names no tag of ours, nor does one for which there is no memory: then
     /// the whole answer is sent.
-    fn seen<B>(&self, req: &Request<B>) -> Seen {
+    fn seen<B>(&self, req: &Request<B>) -> Result<Seen, AllocError> {
         let known = match req.headers().get(IF_NONE_MATCH) {
             Some(value) => match value.to_str() {
                 Ok(text) => String::from_str(self.alloc, text).ok(),
@@ -91,10 +91,11 @@ impl<R: Wait + Clock + Copy + Drop> Desk<R> {
             },
             None => None,
         };
-        Seen {
+        Ok(Seen {
+            site: Arc::try_clone(&self.ways.site)?,
             known,
             changes: self.ways.errands.is_some(),
-        }
+        })
     }
 
     /// What a request is, by its head.

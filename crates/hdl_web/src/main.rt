@@ -22,6 +22,7 @@ mod visitors;
 mod words;
 mod worker;
 
+use hdl_proxy::Site;
 use servers::Servers;
 use serving::{Staff, serve_http};
 use std::alloc::AllocError;
@@ -51,14 +52,26 @@ fn writer(rt: &HostRuntime, words: &ProxyWords) -> Result<Option<Servers>, Alloc
     Ok(Some(Servers::new(*rt, &words.servers)?))
 }
 
+/// The site of all pages.
+fn site(rt: &HostRuntime, words: &ProxyWords) -> Result<Site, AllocError> {
+    let contact = match &words.contact {
+        Some(contact) => Some(contact.as_str()),
+        None => None,
+    };
+    Site::new(rt.alloc(), &words.site, contact)
+}
+
 /// What is served: where, and who asks.
 fn opened(rt: &HostRuntime, words: &ProxyWords) -> io::Result<(SocketAddr, Staff<Servers>)> {
     let Ok(listen) = words.listen.parse::<SocketAddr>() else {
         return Err(io::Error::other("--listen wants an IP address and a port"));
     };
-    let resolvers = askers(rt, words)?;
-    let writer = writer(rt, words)?;
-    Ok((listen, Staff { resolvers, writer }))
+    let staff = Staff {
+        site: site(rt, words)?,
+        resolvers: askers(rt, words)?,
+        writer: writer(rt, words)?,
+    };
+    Ok((listen, staff))
 }
 
 fn main(rt: HostRuntime) -> ExitCode {

@@ -6,17 +6,17 @@ use crate::visitors::{Host, Quiet, Visitors};
 use crate::worker::{Ask, Errand, Ways, work, work_on_orders};
 use bytes::Bytes;
 use crossbeam_channel::{Receiver, Sender, unbounded};
-use hdl_proxy::Resolver;
+use hdl_proxy::{Resolver, Site};
 use hdl_writes::Service;
 use http_body_util::Full;
 use hyper::rt::{Timer, TokioTimer};
 use hyper::server::conn::http1::{Builder, Connection};
-use std::alloc::{AllocGlobal, Global};
+use std::alloc::{AllocError, AllocGlobal, Global};
 use std::hash::RandomState;
 use std::io::Write;
 use std::net::{Net, SocketAddr};
 use std::random::RandomSource;
-use std::sync::Wait;
+use std::sync::{Arc, Wait};
 use std::thread::{JoinHandle, Threads};
 use std::time::{Clock, Duration};
 use std::{io, thread};
@@ -151,9 +151,10 @@ where
     Ok((runtime, listener))
 }
 
-/// Who asks: as many as questions are asked at once, and who carries out orders, where any are taken.
+/// Who asks: as many as questions are asked at once, and who carries out orders, where any are taken; and the site of all pages.
 #[derive(Drop)]
 pub struct Staff<S> {
+    pub site: Site,
     pub resolvers: Vec<S>,
     pub writer: Option<S>,
 }
@@ -164,7 +165,14 @@ where
     R: Wait + Threads + AllocGlobal + Copy + Send + Drop + 'static,
     S: Resolver + Service + Send + 'static,
 {
-    let Staff { resolvers, writer } = staff;
+    let Staff {
+        site,
+        resolvers,
+        writer,
+    } = staff;
+    let Ok(site) = Arc::new(rt.alloc(), site) else {
+        return Err(AllocError.into());
+    };
     let (asks, taken) = unbounded(rt.alloc())?;
     let mut workers = start_workers(rt, rt.alloc(), resolvers, &taken)?;
     let errands = match writer {
@@ -175,7 +183,12 @@ where
         }
         None => None,
     };
-    Ok((Ways { asks, errands }, workers))
+    let ways = Ways {
+        site,
+        asks,
+        errands,
+    };
+    Ok((ways, workers))
 }
 
 fn say_address(output: &mut impl Write, listen: SocketAddr) -> io::Result<()> {

@@ -3,10 +3,10 @@
 use bytes::Bytes;
 use crossbeam_channel::{Receiver, Sender};
 use futures::channel::oneshot;
-use hdl_proxy::{Answer, NoAnswer, Question, Resolver, finish};
+use hdl_proxy::{Answer, NoAnswer, Question, Resolver, Site, finish};
 use hdl_writes::{Order, Service, carry_out};
 use std::alloc::{AllocError, Global};
-use std::sync::Wait;
+use std::sync::{Arc, Wait};
 
 /// An answer, or that there was no memory for it.
 pub(crate) type Made = Result<Answer, AllocError>;
@@ -26,9 +26,10 @@ pub struct Errand {
     pub(crate) answer: oneshot::Sender<Made>,
 }
 
-/// Where questions go, and where orders do if any are taken.
+/// Where questions go, and where orders do if any are taken; and the site of all pages.
 #[derive(Drop)]
 pub(crate) struct Ways {
+    pub(crate) site: Arc<Site>,
     pub(crate) asks: Sender<Ask>,
     pub(crate) errands: Option<Sender<Errand>>,
 }
@@ -36,12 +37,17 @@ pub(crate) struct Ways {
 impl Ways {
     /// The same ways once more. None where memory was refused.
     pub(crate) fn copy(&self) -> Option<Ways> {
+        let site = Arc::try_clone(&self.site).ok()?;
         let asks = self.asks.clone().ok()?;
         let errands = match &self.errands {
             Some(errands) => Some(errands.clone().ok()?),
             None => None,
         };
-        Some(Ways { asks, errands })
+        Some(Ways {
+            site,
+            asks,
+            errands,
+        })
     }
 }
 
