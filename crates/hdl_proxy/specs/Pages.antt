@@ -102,7 +102,7 @@ IsDataPart v part =
 -- ---- the times of a value
 
 abbrev pub kept_part : KeptFor → List ℕ
-kept_part (Seconds n) = escaped (span_words n)
+kept_part (Seconds n) = codes "for " ++ escaped (span_words n)
 kept_part (Until words) = codes "until " ++ escaped (string_bytes words)
 
 -- a timestamp of 0 says nothing

@@ -22,7 +22,7 @@ const ANOTHER: &str = "<p><a href=\"/\">Find another handle</a></p>\n";
 
 /// The head of a table of values.
 const COLUMNS: &str = "<table>
-<thead><tr><th scope=\"col\">Type, index</th><th scope=\"col\">Value</th><th scope=\"col\">May be kept for</th></tr></thead>
+<thead><tr><th scope=\"col\">Type, index</th><th scope=\"col\">Value</th><th scope=\"col\">May be kept</th></tr></thead>
 <tbody>
 ";
 
@@ -131,7 +131,7 @@ pub(crate) fn front(alloc: Global) -> Result<Answer, AllocError>
     page.markup(
         "<form action=\"/\" method=\"get\">
 <p><label for=\"handle\">A handle, as you found it:</label></p>
-<p><input id=\"handle\" name=\"handle\" placeholder=\"10/a\" autocapitalize=\"off\" autocomplete=\"off\" spellcheck=\"false\" required> <button>Go to it</button></p>
+<p class=\"find\"><input id=\"handle\" name=\"handle\" placeholder=\"10/a\" autocapitalize=\"off\" autocomplete=\"off\" spellcheck=\"false\" required> <button>Go to it</button></p>
 </form>
 <p>A handle such as <code>10/a</code> is a lasting name of a text, a picture or data, which may move. Its address here leads to where that is now.</p>
 <p><small>With <code>?noredirect</code> behind a handle its values are shown. <code>/api/handles/</code> and a handle gives them as JSON.</small></p>
@@ -385,6 +385,7 @@ fn put_kept(page: &mut Page, kept: KeptFor) -> Result<(), AllocError>
     match kept {
         KeptFor::Seconds(seconds) => {
             let words = span_words(page.alloc, seconds)?;
+            page.markup("for ")?;
             page.text(words.as_bytes())
         }
         KeptFor::Until(moment) => {

@@ -29,26 +29,30 @@ footer { color: var(--soft); font-size: .9rem }
 a { color: var(--jade) }
 :focus-visible { outline: 3px solid var(--jade); outline-offset: 2px }
 h1 { font-size: 1.5rem; line-height: 1.25; margin: .75rem 0 1rem; overflow-wrap: anywhere }
-p { margin: 0 0 .75rem }
+p { max-width: 44rem; margin: 0 0 .75rem }
 small { font-size: .875rem; font-weight: normal; color: var(--soft) }
 table { width: 100%; margin: 0 0 1.5rem; border-collapse: collapse; border-top: 1px solid var(--line) }
 th, td { padding: .55rem 1rem .55rem 0; border-bottom: 1px solid var(--line); text-align: left; vertical-align: top; overflow-wrap: anywhere }
 thead th { font-size: .875rem; font-weight: normal; color: var(--soft) }
 th:first-child { width: 10rem }
 td:last-child, thead th:last-child { width: 13rem; padding-right: 0; font-size: .875rem; color: var(--soft) }
-td p, td ul { margin: 0 }
+td p, td ul { max-width: none; margin: 0 }
 .data { font-family: ui-monospace, monospace; font-size: .95em; white-space: pre-wrap; overflow-wrap: anywhere }
 .may { padding: 0; list-style: none; font-size: .875rem; color: var(--soft) }
 .may li { display: inline }
 .may li + li::before { content: \", \" }
+.find { display: flex; flex-wrap: wrap; gap: .5rem }
 input, button { font: inherit; padding: .5rem .75rem; border: 1px solid var(--soft); border-radius: .3rem; color: inherit; background: var(--paper) }
-input { width: 100%; max-width: 26rem }
+input { flex: 1 1 16rem }
+::placeholder { color: var(--soft); opacity: 1 }
 button { border-color: var(--jade); color: var(--paper); background: var(--jade) }
 @media (max-width: 40rem) {
-thead { position: absolute; left: -100vw }
-tbody tr { display: grid; grid-template-columns: 7rem 1fr; padding: .5rem 0; border-bottom: 1px solid var(--line) }
-tbody th, tbody td { width: auto; padding: 0 .5rem 0 0; border: 0 }
-tbody td:last-child { grid-column: 2; width: auto }
+thead { position: absolute; width: 1px; height: 1px; overflow: hidden; clip-path: inset(50%) }
+tbody tr { display: grid; grid-template-columns: 1fr auto; padding: .6rem 0; border-bottom: 1px solid var(--line) }
+tbody th:first-child, tbody td, tbody td:last-child { width: auto; padding: 0; border: 0 }
+tbody td { grid-column: 1 / 3; grid-row: 2 }
+tbody td:last-child { grid-column: 2; grid-row: 1; text-align: right }
+td:last-child::before { content: \"kept \" }
 }
 </style>
 </head>
