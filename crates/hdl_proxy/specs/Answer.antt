@@ -10,7 +10,7 @@ use Rattle.hdl_proxy.specs.Keeping.{IsKeepingOf}
 use Rattle.hdl_proxy.specs.Link.{IsWayTo}
 use Rattle.hdl_proxy.specs.Pages.{refusal_page, redirect_page, IsPageOf}
 use Rattle.hdl_proxy.specs.Status.{status_of_code, refused_words}
-use Rattle.hdl_proxy.specs.Url.{IsGraphic}
+use Rattle.hdl_proxy.specs.Url.{IsGraphic, extended}
 use Rattle.hdl_proxy.specs.declared.answer.Answer.{Answer}
 use Rattle.hdl_proxy.specs.declared.answer.Keeping.TheVariants.{Never}
 use Rattle.hdl_proxy.specs.declared.answer.Media.{Media}
@@ -45,14 +45,19 @@ IsLocated answer =
 
 -- ---- where values lead
 
--- the way to the URL of this value, where there is one
-abbrev pub IsWayOfValue : Option Value → Option (List ℕ) → Type 0
-IsWayOfValue None way = way ≡ None
-IsWayOfValue (Some value) way = IsWayTo value.bytes way
+-- the way to the URL that is meant, where one is
+abbrev pub IsWayToMeant : Option (List ℕ) → Option (List ℕ) → Type 0
+IsWayToMeant None way = way ≡ None
+IsWayToMeant (Some url) way = IsWayTo url way
 
--- the way to the first URL of these values: its address where it is one to be followed, and none otherwise
-abbrev pub IsWayOf : List Value → Option (List ℕ) → Type 0
-IsWayOf values way = (first : Option Value) × (IsFirstUrl values first × IsWayOfValue first way)
+-- the way to the URL of this value with this behind it, where there is one
+abbrev pub IsWayOfValue : Option Value → List ℕ → Option (List ℕ) → Type 0
+IsWayOfValue None append way = way ≡ None
+IsWayOfValue (Some value) append way = IsWayToMeant (extended value.bytes append) way
+
+-- the way to the first URL of these values with this behind it: its address where it is one to be followed, and none otherwise
+abbrev pub IsWayOf : List Value → List ℕ → Option (List ℕ) → Type 0
+IsWayOf values append way = (first : Option Value) × (IsFirstUrl values first × IsWayOfValue first append way)
 
 -- ---- what is answered to a question
 
@@ -97,12 +102,12 @@ abbrev pub Goes : List ℕ → List Value → Option (List ℕ) → Answer → T
 Goes handle values None answer = IsPage handle values answer
 Goes handle values (Some to) answer = LeadsBy handle values to answer
 
--- in this form these values: the way to their URL where they are to be followed and there is one, and else all of them
-abbrev pub ShowsValues : Form → List ℕ → List Value → Answer → Type 0
-ShowsValues Follow handle values answer = (way : Option (List ℕ)) × (IsWayOf values way × Goes handle values way answer)
-ShowsValues Page handle values answer = IsPage handle values answer
-ShowsValues Json handle values answer = IsJson handle values answer
-ShowsValues Pretty handle values answer = IsPretty handle values answer
+-- in this form these values: the way to their URL, with this behind it, where they are to be followed and there is one, and else all of them
+abbrev pub ShowsValues : Form → List ℕ → List ℕ → List Value → Answer → Type 0
+ShowsValues Follow handle append values answer = (way : Option (List ℕ)) × (IsWayOf values append way × Goes handle values way answer)
+ShowsValues Page handle append values answer = IsPage handle values answer
+ShowsValues Json handle append values answer = IsJson handle values answer
+ShowsValues Pretty handle append values answer = IsPretty handle values answer
 
 -- the page, or the JSON, that says why there are no values
 abbrev pub refusal_body : Form → List ℕ → ℕ → List ℕ → List ℕ
@@ -118,11 +123,12 @@ pub record Refuses (given : Status) (form : Form) (handle : List ℕ) (code : �
   pub body : answer.body.items ≡ refusal_body form handle code why
 
 -- in this form what was found: values, or the status of a code, or that no server answered
-abbrev pub ShowsFound : Form → List ℕ → Found → Answer → Type 0
-ShowsFound form handle (Values values) answer = ShowsValues form handle values.items answer
-ShowsFound form handle (Refused code) answer = Refuses (status_of_code code) form handle code (refused_words code) answer
-ShowsFound form handle Nothing answer = Refuses status.BadGateway form handle 2 (codes "No server answered.") answer
+abbrev pub ShowsFound : Form → List ℕ → List ℕ → Found → Answer → Type 0
+ShowsFound form handle append (Values values) answer = ShowsValues form handle append values.items answer
+ShowsFound form handle append (Refused code) answer = Refuses (status_of_code code) form handle code (refused_words code) answer
+ShowsFound form handle append Nothing answer = Refuses status.BadGateway form handle 2 (codes "No server answered.") answer
 
 -- it answers the question by what was found of its handle in what a resolver gave, and by nothing else
 abbrev pub Answers : Question → Result (Bor (List ℕ)) NoAnswer → Answer → Type 0
-Answers question answered answer = (found : Found) × (IsFoundOf question.name answered found × ShowsFound question.form question.name found answer)
+Answers question answered answer =
+    (found : Found) × (IsFoundOf question.name answered found × ShowsFound question.form question.name question.append.items found answer)

@@ -6,7 +6,7 @@ use Rattle.hdl_name.specs.Name.{IsHandle}
 use Rattle.hdl_proxy.specs.Answer.{LeadsTo, Tells, IsLocated, is_json, media_of}
 use Rattle.hdl_proxy.specs.Link.{path_to}
 use Rattle.hdl_proxy.specs.Pasted.{IsPasted, IsWritten}
-use Rattle.hdl_proxy.specs.Query.{IsIndex, IsLast, has_pair, index_of, values_named}
+use Rattle.hdl_proxy.specs.Query.{IsAppended, IsIndex, IsLast, has_pair, index_of, values_named}
 use Rattle.hdl_proxy.specs.declared.answer.Answer.{Answer as Reply}
 use Rattle.hdl_proxy.specs.declared.answer.Media.TheVariants as media
 use Rattle.hdl_proxy.specs.declared.answer.Status.TheVariants as status
@@ -131,13 +131,14 @@ IsAddress path pairs form text =
     ((form ≡ json_form pairs) × (path ≡ json_path ++ text))
     ⊎ ((form ≡ page_form pairs) × ¬ (IsUnder api_path path) × IsWritten (without_slash path) text)
 
--- what is asked of this name: the indexes and types of all pairs `index` and `type`
+-- what is asked of this name: the indexes and types of all pairs `index` and `type`, and what is appended
 pub record IsAsked (asked : List ℕ) (wanted : Form) (pairs : List (List ℕ × List ℕ)) (question : Question) : Type 0 where
   pub name : question.name ≡ asked
   pub form : question.form ≡ wanted
   pub good : All IsIndex (values_named (codes "index") pairs)
   pub indexes : question.indexes.items ≡ map index_of (values_named (codes "index") pairs)
   pub types : question.types.items ≡ values_named (codes "type") pairs
+  pub append : IsAppended pairs question.append.items
   pub no_call : is_called_back wanted pairs ≡ false
 
 -- it is asked for; where the name or an index is none, or a call is asked for, the request is refused

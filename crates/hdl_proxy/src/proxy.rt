@@ -2,10 +2,11 @@
 
 ghost use Rattle.std.specs.Prelude.{◌≡◌, ◌≢◌, IfOk, codes};
 ghost use Rattle.percent_encoding.specs.Percent.{percent_decode};
-ghost use Rattle.hdl_proxy.specs.Answer.{Answers, Goes, IsLocated, IsWayOf, Refuses, ShowsFound, ShowsValues, Tells, is_json, media_of};
+ghost use Rattle.hdl_proxy.specs.Answer.{Answers, Goes, IsLocated, IsWayOf, IsWayToMeant, Refuses, ShowsFound, ShowsValues, Tells, is_json, media_of};
 ghost use Rattle.hdl_proxy.specs.Begin.{AsksAddress, AsksFor, IsAnswered, IsFile, IsFront, IsLocatedIfAnswered, IsNoHandle, IsOfFile, IsOfHandle, IsOwn, IsReading, LeadsFromPasted, LeadsToName, RefusesMethod, is_called_back, json_form, page_form, without_slash};
 ghost use Rattle.hdl_proxy.specs.Query.{pairs_of, texts_of};
 ghost use Rattle.hdl_proxy.specs.Status.{refused_words};
+ghost use Rattle.hdl_proxy.specs.Url.{extended};
 
 use crate::answer::{Answer, Keeping, Media, Status};
 use crate::choice::first_url;
@@ -14,9 +15,10 @@ use crate::keeping::keeping_of;
 use crate::link::Link;
 use crate::names::{decoded, read_name};
 use crate::pasted::{pasted, written};
-use crate::query::{Pair, has_pair, indexes_of, last_named, read_pairs, types_of};
+use crate::query::{Pair, appended, has_pair, indexes_of, last_named, read_pairs, types_of};
 use crate::question::{Form, Question};
 use crate::resolver::NoAnswer;
+use crate::url::extended;
 use crate::{files, json, pages};
 use hdl_msg::ResponseCode;
 use hdl_name::NameFault;
@@ -137,12 +139,14 @@ fn begin_handle(
         return Ok(Next::Answer(bad_request(alloc, asked, form, why)?));
     };
     let types = types_of(alloc, pairs)?;
+    let append = appended(alloc, pairs)?;
     match read_name(alloc, &octets)? {
         Ok(name) => Ok(Next::Ask(Question {
             name,
             form,
             indexes,
             types,
+            append,
         })),
         Err(fault) => {
             let asked = asked_text(&octets, sent);
@@ -290,12 +294,22 @@ fn refused_words(code: u32) -> &'static str
     }
 }
 
-/// Where a handle's own address leads: to the first URL of its values, where that is one to be followed.
-fn way_of(alloc: Global, values: &[Value]) -> Result<Option<Link>, AllocError>
-    ensures { IfOk result (IsWayOf values.now) }
+/// The way to a URL with this behind it.
+fn way_beyond(alloc: Global, url: &[u8], append: &[u8]) -> Result<Option<Link>, AllocError>
+    ensures { IfOk result (IsWayToMeant (extended url.now append.now)) }
+{
+    match extended(alloc, url, append)? {
+        Some(whole) => Link::followed(alloc, &whole),
+        None => Ok(None),
+    }
+}
+
+/// Where a handle's own address leads: to the first URL of its values with this behind it, where that is one to be followed.
+fn way_of(alloc: Global, values: &[Value], append: &[u8]) -> Result<Option<Link>, AllocError>
+    ensures { IfOk result (IsWayOf values.now append.now) }
 {
     match first_url(values) {
-        Some(value) => Link::followed(alloc, value.bytes.as_slice()),
+        Some(value) => way_beyond(alloc, value.bytes.as_slice(), append),
         None => Ok(None),
     }
 }
@@ -319,13 +333,14 @@ fn answer_values(
     alloc: Global,
     handle: &[u8],
     form: Form,
+    append: &[u8],
     values: &[Value],
 ) -> Result<Answer, AllocError>
-    ensures { IfOk result (ShowsValues form handle.now values.now) }
+    ensures { IfOk result (ShowsValues form handle.now append.now values.now) }
 {
     match form {
         Form::Follow => {
-            let way = way_of(alloc, values)?;
+            let way = way_of(alloc, values, append)?;
             go(alloc, handle, way, values)
         }
         Form::Page => pages::values_page(alloc, handle, values),
@@ -352,10 +367,13 @@ fn answer_refusal(
 
 /// What is answered where this was found.
 fn answer_found(alloc: Global, question: &Question, found: &Found) -> Result<Answer, AllocError>
-    ensures { IfOk result (ShowsFound question.now.form question.now.name found.now) }
+    ensures { IfOk result (ShowsFound question.now.form question.now.name question.now.append.items found.now) }
 {
     match found {
-        Found::Values(values) => answer_values(alloc, question.name.sent(), question.form, values),
+        Found::Values(values) => {
+            let handle = question.name.sent();
+            answer_values(alloc, handle, question.form, &question.append, values)
+        }
         Found::Refused(code) => {
             let status = Status::of_code(*code);
             answer_refusal(alloc, question, status, *code, refused_words(*code))
