@@ -44,6 +44,7 @@ value 10/admin 102 OCTETS 86400 1110 HEX 00ff41
 value 10/admin 103 HS_SITE 86400 1110 UTF8 site
 value 10/admin 300 HS_SECKEY 86400 1100 UTF8 never-shown
 value 20/archive 1 URL 86400 1110 UTF8 https://example.org/archive
+value 20/host 1 URL 60 1110 UTF8 https://example.org
 """
 
 POLICY = "default-src 'none'; style-src 'unsafe-inline'; img-src 'self'; base-uri 'none'; frame-ancestors 'none'"
@@ -60,7 +61,7 @@ SITE_TEXT = "Tom &amp; Jerry&#39;s &lt;handles&gt;"
 HEADER = '<header><a href="/">%s</a></header>\n<main>\n' % SITE_TEXT
 FOOTER = '<footer>Questions? <a href="mailto:help@example.org">help@example.org</a></footer>\n</body>\n</html>\n'
 ANOTHER = '<p><a href="/">Find another handle</a></p>\n</main>\n' + FOOTER
-COLUMNS = ('<table>\n<thead><tr><th scope="col">Type, index</th><th scope="col">Value</th><th scope="col">May be kept for</th></tr></thead>\n'
+COLUMNS = ('<table>\n<thead><tr><th scope="col">Type, index</th><th scope="col">Value</th><th scope="col">May be kept</th></tr></thead>\n'
            "<tbody>\n%s</tbody>\n</table>\n")
 
 
@@ -77,7 +78,7 @@ def empty(handle):
     return "%s - %s" % (handle, SITE_TEXT), "%s<h1>%s</h1>\n%s%s" % (HEADER, handle, none, ANOTHER)
 
 
-def value(kind, index, data, times="a day"):
+def value(kind, index, data, times="for a day"):
     return '<tr><th scope="row">%s <small>%d</small></th>\n<td>%s</td>\n<td>%s</td></tr>\n' % (kind, index, data, times)
 
 
@@ -111,7 +112,7 @@ def json_refusal(handle, why, code):
 
 ONE = "https://example.org/one?q=1&amp;r=%22%C3%BC%22"
 A_PAGE = values("10/a", value("URL", 1, link(ONE, "https://example.org/one?q=1&amp;r=&quot;\u00fc&quot;")),
-                value("TEXT", 2, text("&lt;b&gt;Tom &amp; &quot;Jerry&quot;&lt;/b&gt;"), "an hour"),
+                value("TEXT", 2, text("&lt;b&gt;Tom &amp; &quot;Jerry&quot;&lt;/b&gt;"), "for an hour"),
                 value("URL", 3, link("https://example.org/three", "https://example.org/three")))
 SCRIPT_PAGE = values("10/script", value("URL", 1, text("javascript:alert(1)")), value("URL", 2, link("https://example.org/", "https://example.org/")))
 ADMINISTRATOR = '<p>Whoever has the key <span class="data">300:0.NA/10</span> may</p>\n<ul class="may">%s</ul>\n'
@@ -146,6 +147,12 @@ ARCHIVE_WAY = (302, KEPT % 86400, "https://example.org/archive", way("20/archive
 PAGES = (
     ("GET /10/a", *A_WAY),
     ("GET /20/archive", *ARCHIVE_WAY),
+    ("GET /20/archive?urlappend=", *ARCHIVE_WAY),
+    ("GET /20/archive?urlappend=x&urlappend=/1%3Fa=%C3%BC", 302, KEPT % 86400, "https://example.org/archive/1?a=%C3%BC",
+     way("20/archive", "https://example.org/archive/1?a=%C3%BC")),
+    ("GET /20/archive?urlappend=%0d%0ax:y", 200, KEPT % 86400, None, values("20/archive", value("URL", 1, link("https://example.org/archive", "https://example.org/archive")))),
+    ("GET /20/host", 302, KEPT % 60, "https://example.org", way("20/host", "https://example.org")),
+    ("GET /20/host?urlappend=.evil.example/", 200, KEPT % 60, None, values("20/host", value("URL", 1, link("https://example.org", "https://example.org"), "for a minute"))),
     ("GET /hdl:10/a", *A_WAY),
     ("GET /DOI:20/archive", *ARCHIVE_WAY),
     ("GET /https://hdl.handle.net/20/archive", *ARCHIVE_WAY),
@@ -241,7 +248,7 @@ def short(code):
 # What a server in this program answers to the first question of a connection, and how the proxy answers then.
 REPLIES = (
     ("values in any order", lambda n: wire.frame(GOOD, 0, n), 302, KEPT % 86400, way("10/a", "HTTPS://example.org/first")),
-    ("hidden values and a key", lambda n: wire.frame(LEAKING, 0, n), 200, KEPT % 60, values("10/a", value("TEXT", 3, text("open"), "a minute"))),
+    ("hidden values and a key", lambda n: wire.frame(LEAKING, 0, n), 200, KEPT % 60, values("10/a", value("TEXT", 3, text("open"), "for a minute"))),
     ("values that nobody may read", lambda n: wire.frame(HIDDEN_ALONE, 0, n), 200, NEVER, empty("10/a")),
     ("a moment as a TTL, and one beyond a day", lambda n: wire.frame(UNTIL, 0, n), 302, KEPT % 0, way("10/a", "https://example.org/until")),
     ("a TTL beyond a day", lambda n: wire.frame(LONG, 0, n), 302, KEPT % 86400, way("10/a", "https://example.org/long")),
