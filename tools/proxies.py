@@ -5,6 +5,7 @@ slow, and a thousand that are idle.
 It takes some 12 seconds, of which most is waiting. Its last line is 'N passed, M failed', a case counting one."""
 
 import contextlib
+import hashlib
 import os
 import resource
 import socket
@@ -40,27 +41,45 @@ value 10/script 2 URL 86400 1110 UTF8 https://example.org/
 value 10/admin 100 HS_ADMIN 86400 1110 ADMIN 300:111111111111:0.NA/10
 value 10/admin 101 HS_VLIST 86400 1110 LIST 200:10/x 201:10/y
 value 10/admin 102 OCTETS 86400 1110 HEX 00ff41
+value 10/admin 103 HS_SITE 86400 1110 UTF8 site
 value 10/admin 300 HS_SECKEY 86400 1100 UTF8 never-shown
 value 20/archive 1 URL 86400 1110 UTF8 https://example.org/archive
+value 20/host 1 URL 60 1110 UTF8 https://example.org
 """
 
-PAGE = [("content-security-policy", "default-src 'none'; style-src 'unsafe-inline'; base-uri 'none'; frame-ancestors 'none'"),
-        ("content-type", "text/html; charset=utf-8"), ("referrer-policy", "no-referrer"), ("x-content-type-options", "nosniff")]
+POLICY = "default-src 'none'; style-src 'unsafe-inline'; img-src 'self'; base-uri 'none'; frame-ancestors 'none'"
+WAY = [("content-security-policy", POLICY), ("content-type", "text/html; charset=utf-8"), ("x-content-type-options", "nosniff")]
+PAGE = WAY + [("referrer-policy", "no-referrer")]
 JSON = [("access-control-allow-origin", "*"), ("content-type", "application/json"), ("x-content-type-options", "nosniff")]
-ANOTHER = '<p><a href="/">Another handle</a></p>\n</body>\n</html>\n'
-DAY = "<p><small>may be kept for 86400 seconds</small></p>\n"
+OPTIONS = [("access-control-allow-headers", "*, Authorization"), ("access-control-allow-methods", "GET, HEAD, OPTIONS"), ("access-control-max-age", "86400"),
+           ("allow", "GET, HEAD, OPTIONS")]
+# How long others may keep an answer, where they may: the least TTL of the values, a day at most.
+KEPT = "max-age=%d"
+NEVER = "no-store"
+SITE, CONTACT = "Tom & Jerry's <handles>", "help@example.org"
+SITE_TEXT = "Tom &amp; Jerry&#39;s &lt;handles&gt;"
+HEADER = '<header><a href="/">%s</a></header>\n<main>\n' % SITE_TEXT
+FOOTER = '<footer>Questions? <a href="mailto:help@example.org">help@example.org</a></footer>\n</body>\n</html>\n'
+ANOTHER = '<p><a href="/">Find another handle</a></p>\n</main>\n' + FOOTER
+COLUMNS = ('<table>\n<thead><tr><th scope="col">Type, index</th><th scope="col">Value</th><th scope="col">May be kept</th></tr></thead>\n'
+           "<tbody>\n%s</tbody>\n</table>\n")
 
 
-def refusal(title, why):
-    return "<h1>%s</h1>\n<p>%s</p>\n%s" % (title, why, ANOTHER)
+def refusal(asked, why, advice, word="Not found"):
+    return "%s: %s - %s" % (word, asked, SITE_TEXT), "%s<h1>%s</h1>\n<p>%s</p>\n<p>%s</p>\n%s" % (HEADER, asked, why, advice, ANOTHER)
 
 
-def values(title, *parts):
-    return "<h1>%s</h1>\n%s%s" % (title, "".join(parts), ANOTHER)
+def values(handle, *parts):
+    return "%s - %s" % (handle, SITE_TEXT), "%s<h1>%s</h1>\n%s%s" % (HEADER, handle, COLUMNS % "".join(parts), ANOTHER)
 
 
-def value(kind, index, data, times=DAY):
-    return "<h2>%s <small>index %d</small></h2>\n%s%s" % (kind, index, data, times)
+def empty(handle):
+    none = "<p>This handle is there, and has no value that anybody may read.</p>\n"
+    return "%s - %s" % (handle, SITE_TEXT), "%s<h1>%s</h1>\n%s%s" % (HEADER, handle, none, ANOTHER)
+
+
+def value(kind, index, data, times="for a day"):
+    return '<tr><th scope="row">%s <small>%d</small></th>\n<td>%s</td>\n<td>%s</td></tr>\n' % (kind, index, data, times)
 
 
 def text(shown):
@@ -72,11 +91,11 @@ def link(to, shown):
 
 
 def way(title, to):
-    return '<!DOCTYPE html>\n<meta charset="utf-8">\n<title>%s</title>\n<a href="%s">%s</a>\n' % (title, to, to)
+    return title, '<!DOCTYPE html>\n<meta charset="utf-8">\n<title>%s</title>\n<a href="%s">%s</a>\n' % (title, to, to)
 
 
 def json_value(index, kind, data, ttl=86400):
-    return '{"data":%s,"index":%d,"timestamp":"1970-01-01T00:00:00Z","ttl":%d,"type":"%s"}' % (data, index, ttl, kind)
+    return '{"data":%s,"index":%d,"ttl":%d,"type":"%s"}' % (data, index, ttl, kind)
 
 
 def json_text(shown):
@@ -93,51 +112,108 @@ def json_refusal(handle, why, code):
 
 ONE = "https://example.org/one?q=1&amp;r=%22%C3%BC%22"
 A_PAGE = values("10/a", value("URL", 1, link(ONE, "https://example.org/one?q=1&amp;r=&quot;\u00fc&quot;")),
-                value("TEXT", 2, text("&lt;b&gt;Tom &amp; &quot;Jerry&quot;&lt;/b&gt;"), DAY.replace("86400", "3600")),
+                value("TEXT", 2, text("&lt;b&gt;Tom &amp; &quot;Jerry&quot;&lt;/b&gt;"), "for an hour"),
                 value("URL", 3, link("https://example.org/three", "https://example.org/three")))
 SCRIPT_PAGE = values("10/script", value("URL", 1, text("javascript:alert(1)")), value("URL", 2, link("https://example.org/", "https://example.org/")))
-ADMIN_PAGE = values("10/admin", value("HS_ADMIN", 100, text("administrator 300:0.NA/10, permissions 111111111111")),
-                    value("HS_VLIST", 101, text("200:10/x") + text("201:10/y")), value("OCTETS", 102, "<p>3 octets</p>\n" + text("00ff41")))
+ADMINISTRATOR = '<p>Whoever has the key <span class="data">300:0.NA/10</span> may</p>\n<ul class="may">%s</ul>\n'
+ALL = "".join("<li>%s</li>" % may for may in ("create handles", "delete them", "list them", "read what isn't public", "add values", "change values", "remove values",
+                                             "add administrators", "change administrators", "remove administrators"))
+ADMIN_PAGE = values("10/admin", value("HS_ADMIN", 100, ADMINISTRATOR % ALL),
+                    value("HS_VLIST", 101, text("200:10/x") + text("201:10/y")), value("OCTETS", 102, "<p>3 octets</p>\n" + text("00ff41")), value("HS_SITE", 103, text("site")))
 A_ONE = json_value(1, "URL", json_text('https://example.org/one?q=1&r=\\"\u00fc\\"'))
 A_TWO = json_value(2, "TEXT", json_text('<b>Tom & \\"Jerry\\"</b>'), 3600)
 A_THREE = json_value(3, "URL", json_text("https://example.org/three"))
 ADMIN = json_values("10/admin", json_value(100, "HS_ADMIN", '{"format":"admin","value":{"handle":"0.NA/10","index":300,"permissions":"111111111111"}}'),
                     json_value(101, "HS_VLIST", '{"format":"vlist","value":[{"handle":"10/x","index":200},{"handle":"10/y","index":201}]}'),
-                    json_value(102, "OCTETS", '{"format":"base64","value":"AP9B"}'))
+                    json_value(102, "OCTETS", '{"format":"base64","value":"AP9B"}'),
+                    json_value(103, "HS_SITE", '{"format":"base64","value":"c2l0ZQ=="}'))
 ABSENT = "This handle isn&#39;t there."
 ELSEWHERE = "No server that was asked has handles of this prefix."
 UNANSWERED = "No server answered."
 HIDDEN = "This handle is there, and has no such value that anybody may read."
+READING = "A handle is asked for by GET or HEAD."
+INDEX = "An index is a number below 4294967296."
+CALLBACK = "The word callback isn&#39;t taken: pages of any site may read this JSON."
+LOOK = "Please look for a mistake in the name. If there is none, ask who gave it to you."
+SLASH = "Please look for a mistake in the name, such as the slash at its end. If there is none, ask who gave it to you."
+FORM = "A handle is a prefix, a slash and a local name, such as 10/a."
+FOLLOW = "Follow a link to a handle, or type its address."
+LATER = "Please come back in a few minutes."
 
-# What real servers' values are answered by: what is asked, the status, the Location if there is one, and the body from its heading on.
+# What real servers' values are answered by: what is asked, the status, how long others may keep it, the Location if there is one, and the body from its
+# heading on.
+A_WAY = (302, KEPT % 3600, ONE.replace("&amp;", "&"), way("10/a", ONE))
+ARCHIVE_WAY = (302, KEPT % 86400, "https://example.org/archive", way("20/archive", "https://example.org/archive"))
 PAGES = (
-    ("GET /10/a", 302, ONE.replace("&amp;", "&"), way("10/a", ONE)),
-    ("GET /20/archive", 302, "https://example.org/archive", way("20/archive", "https://example.org/archive")),
-    ("GET /?handle=+10%2Fa%20b%3F+", 302, "/10/a%20b%3F", way("10/a b?", "/10/a%20b%3F")),
-    ("GET /?handle=10/%0d%0ax:y", 302, "/10/%0D%0Ax%3Ay", way("10/\r\nx:y", "/10/%0D%0Ax%3Ay")),
-    ("GET /10/%61?noredirect", 200, None, A_PAGE),
-    ("GET /10/script", 200, None, SCRIPT_PAGE),
-    ("GET /10/admin", 200, None, ADMIN_PAGE),
-    ("GET /10/%2561", 404, None, refusal("10/%61", ABSENT)),
-    ("GET /10/%3Cscript%3E", 404, None, refusal("10/&lt;script&gt;", ABSENT)),
-    ("GET /30/a", 404, None, refusal("30/a", ELSEWHERE)),
-    ("GET /favicon.ico", 400, None, refusal("favicon.ico", "This is no handle: the name has no slash.")),
-    ("GET /10/%FF", 400, None, refusal("10/%FF", "This is no handle: the name is not UTF-8.")),
-    ("GET /?handle=//evil.example", 400, None, refusal("//evil.example", "This is no handle: the name has a bad segment.")),
-    ("GET /10/a?index=x", 400, None, refusal("10/a", "An index is a number below 4294967296.")),
-    ("POST /10/a", 405, None, refusal("/10/a", "A handle is asked for by GET or HEAD.")),
+    ("GET /10/a", *A_WAY),
+    ("GET /20/archive", *ARCHIVE_WAY),
+    ("GET /20/archive?urlappend=", *ARCHIVE_WAY),
+    ("GET /20/archive?urlappend=x&urlappend=/1%3Fa=%C3%BC", 302, KEPT % 86400, "https://example.org/archive/1?a=%C3%BC",
+     way("20/archive", "https://example.org/archive/1?a=%C3%BC")),
+    ("GET /20/archive?urlappend=%0d%0ax:y", 200, KEPT % 86400, None, values("20/archive", value("URL", 1, link("https://example.org/archive", "https://example.org/archive")))),
+    ("GET /20/host", 302, KEPT % 60, "https://example.org", way("20/host", "https://example.org")),
+    ("GET /20/host?urlappend=.evil.example/", 200, KEPT % 60, None, values("20/host", value("URL", 1, link("https://example.org", "https://example.org"), "for a minute"))),
+    ("GET /hdl:10/a", *A_WAY),
+    ("GET /DOI:20/archive", *ARCHIVE_WAY),
+    ("GET /https://hdl.handle.net/20/archive", *ARCHIVE_WAY),
+    ("GET /HTTP://dx.doi.org/20/archive", *ARCHIVE_WAY),
+    ("GET /hdl%3A10/a", 404, NEVER, None, refusal("hdl:10/a", ELSEWHERE, LOOK)),
+    ("GET /hdl:hdl:10/a", 404, NEVER, None, refusal("hdl:10/a", ELSEWHERE, LOOK)),
+    ("GET /?handle=+10%2Fa%20b%3F+", 302, NEVER, "/10/a%20b%3F", way("10/a b?", "/10/a%20b%3F")),
+    ("GET /?handle=10/%0d%0ax:y", 302, NEVER, "/10/%0D%0Ax%3Ay", way("10/\r\nx:y", "/10/%0D%0Ax%3Ay")),
+    ("GET /?handle=hdl:10/a", 302, NEVER, "/10/a", way("10/a", "/10/a")),
+    ("GET /?handle=+doi%3A10/a", 302, NEVER, "/10/a", way("10/a", "/10/a")),
+    ("GET /?handle=https%3A%2F%2Fhdl.handle.net%2F10%2Fa%2520b", 302, NEVER, "/10/a%20b", way("10/a b", "/10/a%20b")),
+    ("GET /?handle=http%3A%2F%2Fdoi.org%2F10%2Fa", 302, NEVER, "/10/a", way("10/a", "/10/a")),
+    ("GET /?handle=hdl:hdl:10/a", 302, NEVER, "/hdl%3A10/a", way("hdl:10/a", "/hdl%3A10/a")),
+    ("GET /10/%61?noredirect", 200, KEPT % 3600, None, A_PAGE),
+    ("GET /10/script", 200, KEPT % 86400, None, SCRIPT_PAGE),
+    ("GET /10/admin", 200, KEPT % 86400, None, ADMIN_PAGE),
+    ("GET /10/%2561", 404, NEVER, None, refusal("10/%61", ABSENT, LOOK)),
+    ("GET /10/a/", 404, NEVER, None, refusal("10/a/", ABSENT, SLASH)),
+    ("GET /10/%3Cscript%3E", 404, NEVER, None, refusal("10/&lt;script&gt;", ABSENT, LOOK)),
+    ("GET /30/a", 404, NEVER, None, refusal("30/a", ELSEWHERE, LOOK)),
+    ("GET /%61pi/handles/10/a", 404, NEVER, None, refusal("api/handles/10/a", ELSEWHERE, LOOK)),
+    ("GET /favicon", 400, NEVER, None, refusal("favicon", "This is no handle: the name has no slash.", FORM, "No handle")),
+    ("GET /10/%FF", 400, NEVER, None, refusal("10/%FF", "This is no handle: the name is not UTF-8.", FORM, "No handle")),
+    ("GET /?handle=//evil.example", 400, NEVER, None, refusal("//evil.example", "This is no handle: the name has a bad segment.", FORM, "No handle")),
+    ("GET /10/a?index=x", 400, NEVER, None, refusal("10/a", INDEX, FORM, "No handle")),
+    ("POST /10/a", 405, NEVER, None, refusal("/10/a", READING, FOLLOW, "Not done")),
+    ("OPTIONS /10/a", 405, NEVER, None, refusal("/10/a", READING, FOLLOW, "Not done")),
 )
+PRETTY = """{
+  "handle": "10/a",
+  "responseCode": 1,
+  "values": [
+    {
+      "data": {
+        "format": "string",
+        "value": "https://example.org/three"
+      },
+      "index": 3,
+      "ttl": 86400,
+      "type": "URL"
+    }
+  ]
+}"""
 JSONS = (
-    ("/10/a", 200, json_values("10/a", A_ONE, A_TWO, A_THREE)),
-    ("/10/a?type=TEXT&type=NONE", 200, json_values("10/a", A_TWO)),
-    ("/10/a?index=3&index=9", 200, json_values("10/a", A_THREE)),
-    ("/10/a?index=4", 200, json_refusal("10/a", HIDDEN, 200)),
-    ("/10/admin?type=HS_SECKEY", 200, json_refusal("10/admin", HIDDEN, 200)),
-    ("/10/admin", 200, ADMIN),
-    ("/10/none", 404, json_refusal("10/none", "This handle isn't there.", 100)),
-    ("/30/a", 404, json_refusal("30/a", ELSEWHERE, 302)),
-    ("/10/a?index=x", 400, json_refusal("10/a", "An index is a number below 4294967296.", 102)),
-    ("/ten", 400, json_refusal("ten", "This is no handle: the name has no slash.", 102)),
+    ("GET /10/a", 200, KEPT % 3600, json_values("10/a", A_ONE, A_TWO, A_THREE)),
+    ("GET /10/a?type=TEXT&type=NONE", 200, KEPT % 3600, json_values("10/a", A_TWO)),
+    ("GET /10/a?index=3&index=9", 200, KEPT % 86400, json_values("10/a", A_THREE)),
+    ("GET /10/a?index=3&pretty", 200, KEPT % 86400, PRETTY),
+    ("GET /10/a?index=4", 200, NEVER, json_refusal("10/a", HIDDEN, 200)),
+    ("GET /10/admin?type=HS_SECKEY", 200, NEVER, json_refusal("10/admin", HIDDEN, 200)),
+    ("GET /10/admin", 200, KEPT % 86400, ADMIN),
+    ("GET /10/none", 404, NEVER, json_refusal("10/none", "This handle isn't there.", 100)),
+    ("GET /hdl:10/a", 404, NEVER, json_refusal("hdl:10/a", ELSEWHERE, 302)),
+    ("GET /30/a", 404, NEVER, json_refusal("30/a", ELSEWHERE, 302)),
+    ("GET /10/a?index=x", 400, NEVER, json_refusal("10/a", INDEX, 102)),
+    ("GET /10/a?callback=f", 400, NEVER, json_refusal("10/a", CALLBACK.replace("&#39;", "'"), 102)),
+    ("GET /ten", 400, NEVER, json_refusal("ten", "This is no handle: the name has no slash.", 102)),
+    ("GET ?prefix=10", 403, NEVER, json_refusal("/api/handles", "This proxy takes no keys, and so lists no handles.", 5)),
+    ("GET /../sites", 404, NEVER, json_refusal("/api/sites", "Nothing is at this address. Handles are at /api/handles/ and the handle.", 5)),
+    ("POST /10/a", 405, NEVER, json_refusal("/api/handles/10/a", READING, 5)),
+    ("DELETE ", 405, NEVER, json_refusal("/api/handles", READING, 5)),
 )
 
 
@@ -149,10 +225,18 @@ def url(index, data):
     return wire.value(index, b"URL", data, READABLE, 86400)
 
 
+def until(index, data):
+    """A URL value that may be kept until a moment."""
+    return (wire.number(index) + wire.string(b"URL") + wire.string(data) + b"\1" + wire.number(4294967295) + bytes([READABLE]) + bytes(8) + wire.number(0))
+
+
 READABLE = wire.ADMIN_READ | wire.ADMIN_WRITE | wire.PUBLIC_READ
 ASKED = wire.resolution(b"10/a", flags=wire.PUBLIC_ONLY)
-LEAKING = shown(wire.value(1, b"NOTE", SECRET, wire.ADMIN_READ | wire.ADMIN_WRITE, 86400), wire.value(2, b"HS_SECKEY", SECRET, READABLE, 86400),
-                wire.value(3, b"TEXT", b"open", READABLE, 86400))
+HIDDEN_VALUES = (wire.value(1, b"NOTE", SECRET, wire.ADMIN_READ | wire.ADMIN_WRITE, 5), wire.value(2, b"HS_SECKEY", SECRET, READABLE, 5))
+HIDDEN_ALONE = shown(*HIDDEN_VALUES)
+LEAKING = shown(*HIDDEN_VALUES, wire.value(3, b"TEXT", b"open", READABLE, 60))
+UNTIL = shown(until(1, b"https://example.org/until"), wire.value(2, b"TEXT", b"open", READABLE, 86400))
+LONG = shown(wire.value(1, b"URL", b"https://example.org/long", READABLE, 4294967295))
 GOOD = shown(url(2, b"https://example.org/second"), url(1, b"HTTPS://example.org/first"))
 
 
@@ -163,15 +247,20 @@ def short(code):
 
 # What a server in this program answers to the first question of a connection, and how the proxy answers then.
 REPLIES = (
-    ("values in any order", lambda n: wire.frame(GOOD, 0, n), 302, way("10/a", "HTTPS://example.org/first")),
-    ("hidden values and a key", lambda n: wire.frame(LEAKING, 0, n), 200, values("10/a", value("TEXT", 3, text("open")))),
-    ("it is busy", short(3), 503, refusal("10/a", "The server is busy. Please try again.")),
-    ("another code", short(2), 502, refusal("10/a", "The server couldn&#39;t answer.")),
-    ("another handle", lambda n: wire.frame(wire.values_reply(b"10/b"), 0, n), 502, refusal("10/a", UNANSWERED)),
-    ("another request", lambda n: wire.frame(GOOD, 0, n + 7), 502, refusal("10/a", UNANSWERED)),
-    ("no frame", lambda n: b"HTTP/1.1 400 Bad Request\r\n\r\n", 502, refusal("10/a", UNANSWERED)),
-    ("it closes at once", lambda n: b"", 502, refusal("10/a", UNANSWERED)),
+    ("values in any order", lambda n: wire.frame(GOOD, 0, n), 302, KEPT % 86400, way("10/a", "HTTPS://example.org/first")),
+    ("hidden values and a key", lambda n: wire.frame(LEAKING, 0, n), 200, KEPT % 60, values("10/a", value("TEXT", 3, text("open"), "for a minute"))),
+    ("values that nobody may read", lambda n: wire.frame(HIDDEN_ALONE, 0, n), 200, NEVER, empty("10/a")),
+    ("a moment as a TTL, and one beyond a day", lambda n: wire.frame(UNTIL, 0, n), 302, KEPT % 0, way("10/a", "https://example.org/until")),
+    ("a TTL beyond a day", lambda n: wire.frame(LONG, 0, n), 302, KEPT % 86400, way("10/a", "https://example.org/long")),
+    ("it is busy", short(3), 503, NEVER, refusal("10/a", "The server is busy.", LATER, "No answer")),
+    ("another code", short(2), 502, NEVER, refusal("10/a", "The server couldn&#39;t answer.", LATER, "No answer")),
+    ("another handle", lambda n: wire.frame(wire.values_reply(b"10/b"), 0, n), 502, NEVER, refusal("10/a", UNANSWERED, LATER, "No answer")),
+    ("another request", lambda n: wire.frame(GOOD, 0, n + 7), 502, NEVER, refusal("10/a", UNANSWERED, LATER, "No answer")),
+    ("no frame", lambda n: b"HTTP/1.1 400 Bad Request\r\n\r\n", 502, NEVER, refusal("10/a", UNANSWERED, LATER, "No answer")),
+    ("it closes at once", lambda n: b"", 502, NEVER, refusal("10/a", UNANSWERED, LATER, "No answer")),
 )
+LOCATIONS = {"values in any order": "HTTPS://example.org/first", "a moment as a TTL, and one beyond a day": "https://example.org/until",
+             "a TTL beyond a day": "https://example.org/long"}
 
 
 def more_files():
@@ -183,7 +272,7 @@ def more_files():
 def proxy(behind):
     """A proxy before the servers at these ports: its own port."""
     (port,) = servers.free_ports(1)
-    words = [PROGRAM, "--listen", "127.0.0.1:%d" % port]
+    words = [PROGRAM, "--listen", "127.0.0.1:%d" % port, "--site", SITE, "--contact", CONTACT]
     for server in behind:
         words += ["--server", "127.0.0.1:%d" % server]
     with servers.running(words, 1):
@@ -206,8 +295,8 @@ def said(port, octets):
         return heard(stream)
 
 
-def request(line, close=True):
-    return ("%s HTTP/1.1\r\nhost: h\r\n%s\r\n" % (line, "connection: close\r\n" if close else "")).encode()
+def request(line, close=True, more=""):
+    return ("%s HTTP/1.1\r\nhost: h\r\n%s%s\r\n" % (line, more, "connection: close\r\n" if close else "")).encode()
 
 
 def parts(answer):
@@ -218,38 +307,80 @@ def parts(answer):
     return int(lines[0].split(" ")[1]) if " " in lines[0] else 0, fields, body.decode("utf-8", "replace")
 
 
-def heading(body):
-    """A page from its heading on; what has none is as it is."""
-    found = body.find("<h1>")
-    return body[found:] if found >= 0 else body
+def seen(body):
+    """A page's title, and the page from its head on; one without a head is whole."""
+    found = body.find("<header>")
+    return html_title(body), body[found:] if found >= 0 else body
 
 
-def is_page(answer, status, location, body):
+def html_title(body):
+    return body.partition("<title>")[2].partition("</title>")[0]
+
+
+def tag(body):
+    return '"%s"' % hashlib.sha256(body.encode()).hexdigest()
+
+
+def more(status, kept, body):
+    """The fields of an answer that say whether it may be kept and when to come again."""
+    fields = [("cache-control", kept), ("content-length", str(len(body.encode())))]
+    fields += [("etag", tag(body))] if status == 200 and kept != NEVER else []
+    return fields + ([("retry-after", "30")] if status in (502, 503) else [])
+
+
+def is_page(answer, status, kept, location, body):
     found, fields, whole = parts(answer)
-    wanted = PAGE + [("content-length", str(len(whole.encode())))]
-    wanted += [("location", location)] if location else []
+    wanted = (WAY + [("location", location)] if location else PAGE) + more(status, kept, whole)
     wanted += [("allow", "GET, HEAD")] if status == 405 else []
-    return found == status and fields == sorted(wanted) and heading(whole) == body and SECRET not in answer
+    return found == status and fields == sorted(wanted) and seen(whole) == body and SECRET not in answer
 
 
-def is_json(answer, status, body):
-    wanted = JSON + [("content-length", str(len(body.encode())))]
+def is_json(answer, status, kept, body):
+    wanted = JSON + more(status, kept, body) + ([("allow", "GET, HEAD, OPTIONS")] if status == 405 else [])
     return parts(answer) == (status, sorted(wanted), body)
 
 
+def asked(line, path):
+    """A line with its path under /api/handles, in which `..` stands for /api."""
+    method, rest = line.split(" ", 1)
+    return "%s %s" % (method, (path + rest).replace("/handles/..", ""))
+
+
 def pages(port):
-    for line, status, location, body in PAGES:
-        yield line, is_page(said(port, request(line)), status, location, body)
-    for path, status, body in JSONS:
-        yield path, is_json(said(port, request("GET /api/handles" + path)), status, body)
+    for line, status, kept, location, body in PAGES:
+        yield line, is_page(said(port, request(line)), status, kept, location, body)
+    for line, status, kept, body in JSONS:
+        yield line, is_json(said(port, request(asked(line, "/api/handles"))), status, kept, body)
     front = parts(said(port, request("GET /")))
-    yield "the front page", front[0] == 200 and '<form action="/" method="get">' in front[2] and "<script" not in front[2]
+    yield "the front page", front[0] == 200 and '<form action="/" method="get">' in front[2] and "<script" not in front[2] and "<title>Find a handle - %s</title>" % SITE_TEXT in front[2]
     both = said(port, request("GET /10/none", False) + request("GET /20/archive"))
     yield "two requests on a connection", both.count(b"HTTP/1.1 ") == 2 and both.index(b" 404 ") < both.index(b" 302 ")
     status, fields, body = parts(said(port, request("HEAD /10/a")))
-    yield "HEAD", (status, body) == (302, "") and ("location", PAGES[0][2]) in fields
+    yield "HEAD", (status, body) == (302, "") and ("location", A_WAY[2]) in fields
     status, _, _ = parts(said(port, b"GET /10/a HTTP/1.1\r\n\r\n"))
     yield "no host", status == 400
+
+
+def files(port):
+    status, fields, body = parts(said(port, request("GET /robots.txt")))
+    yield "robots.txt", (status, body) == (200, "User-agent: *\nDisallow: /api/\n") and ("content-type", "text/plain; charset=utf-8") in fields
+    status, fields, body = parts(said(port, request("GET /favicon.ico")))
+    yield "the icon", status == 200 and body.startswith("<svg ") and ("content-type", "image/svg+xml") in fields and "script" not in body
+    status, fields, body = parts(said(port, request("OPTIONS /api/handles/10/a")))
+    yield "OPTIONS", (status, body) == (204, "") and set(OPTIONS + JSON[:1]) <= set(fields)
+
+
+def again(port):
+    """Each answer that may be kept is asked for once more, by a client that has it, and by one that has another one."""
+    for line in ("GET /10/a?noredirect", "GET /10/script", "GET /api/handles/10/a", "GET /api/handles/10/a?pretty", "GET /", "GET /robots.txt"):
+        whole = parts(said(port, request(line)))
+        for known, status in ((tag(whole[2]), 304), ('"x", W/' + tag(whole[2]), 304), ("*", 304), (tag(whole[2] + " "), 200)):
+            answer = parts(said(port, request(line, more="if-none-match: %s\r\n" % known)))
+            kept = [field for field in whole[1] if field[0] in ("etag", "cache-control")]
+            yield "%s with %s" % (line, known), answer == whole if status == 200 else answer[0] == 304 and answer[2] == "" and set(kept) <= set(answer[1])
+    for line, status in (("GET /10/a", 302), ("GET /10/none", 404), ("GET /api/handles/10/none", 404)):
+        answer = parts(said(port, request(line, more="if-none-match: *\r\n")))
+        yield line + " has no tag", answer[0] == status and not any(name == "etag" for name, _ in answer[1])
 
 
 def too_long(port):
@@ -321,15 +452,14 @@ def serve_badly(listener, reply, came):
 
 def replies():
     """Servers in this program. Behind the first questions each is asked over connections that it has closed."""
-    for name, reply, status, body in REPLIES:
+    for name, reply, status, kept, body in REPLIES:
         came = []
         with socket.create_server(("127.0.0.1", 0)) as listener:
             threading.Thread(target=serve_badly, args=(listener, reply, came), daemon=True).start()
             with proxy([listener.getsockname()[1]]) as port:
                 for _ in range(4):
                     answer = said(port, request("GET /10/a"))
-                    location = "HTTPS://example.org/first" if status == 302 else None
-                    yield name, is_page(answer, status, location, body)
+                    yield name, is_page(answer, status, kept, LOCATIONS.get(name), body)
             yield name + ": what is asked", {asked[20:] for asked in came} == {ASKED}
 
 
@@ -341,12 +471,12 @@ def main():
     more_files()
     cases = []
     with servers.serving(tenants, 2) as behind, proxy(behind) as port:
-        for part in (pages, too_long, idle):
+        for part in (pages, files, again, too_long, idle):
             cases += part(port)
     cases += replies()
     with proxy(servers.free_ports(2)) as port:
-        cases.append(("nobody listens", is_page(said(port, request("GET /10/a")), 502, None, refusal("10/a", UNANSWERED))))
-        cases.append(("nobody listens: JSON", is_json(said(port, request("GET /api/handles/10/a")), 502, json_refusal("10/a", UNANSWERED, 2))))
+        cases.append(("nobody listens", is_page(said(port, request("GET /10/a")), 502, NEVER, None, refusal("10/a", UNANSWERED, LATER, "No answer"))))
+        cases.append(("nobody listens: JSON", is_json(said(port, request("GET /api/handles/10/a")), 502, NEVER, json_refusal("10/a", UNANSWERED, 2))))
     for name, good in cases:
         if not good:
             print("%s: another answer than the one that should be" % name)

@@ -1,6 +1,7 @@
 -- What is put on a page, one after the other.
 use Rattle.std.proofs.Common.{◌≡◌, ℕ, List, ◌++◌, ap, ◌∙◌, append_assoc}
 use Rattle.hdl_proxy.specs.Escape.{escaped}
+use Rattle.hdl_proxy.specs.Pages.{element}
 
 pub two : (x y z a b : List ℕ) → y ≡ x ++ a → z ≡ y ++ b → z ≡ x ++ (a ++ b)
 two x y z a b e f = f ∙ ap (λ (t : List ℕ). t ++ b) e ∙ append_assoc x a b
@@ -28,3 +29,7 @@ seven x y1 y2 y3 y4 y5 y6 y7 a1 a2 a3 a4 a5 a6 a7 e1 e2 e3 e4 e5 e6 e7 =
 -- the text that was put is this one
 pub said : (x y t s : List ℕ) → y ≡ x ++ escaped t → t ≡ s → y ≡ x ++ escaped s
 said x y t s e same = e ∙ ap (λ (u : List ℕ). x ++ escaped u) same
+
+-- the element that was put has this text
+pub put_as : (x y front t s back : List ℕ) → y ≡ x ++ element front t back → t ≡ s → y ≡ x ++ element front s back
+put_as x y front t s back e same = e ∙ ap (λ (u : List ℕ). x ++ element front u back) same

@@ -1,4 +1,5 @@
 pub mod Addresses
+pub mod Behind
 pub mod Inert
 pub mod Joined
 pub mod Located
@@ -8,5 +9,6 @@ pub mod NoName
 pub mod Pairs
 pub mod Paths
 pub mod Sections
+pub mod Soonest
 pub mod Texts
 pub mod Unsound

@@ -3,10 +3,10 @@ use Rattle.std.proofs.Common.{◌≡◌, ◌≢◌, ℕ, Bool, true, false, cond
 use Rattle.std.specs.Global.{Global}
 use Rattle.std.proofs.lemmas.List.Elements.{All-cons}
 use Rattle.hdl_value.specs.declared.value.Value.{Value}
-use Rattle.hdl_proxy.specs.Answer.{LeadsTo, Tells, IsLocated, IsWayOf, IsWayOfValue, Goes, ShowsValues, ShowsFound}
+use Rattle.hdl_proxy.specs.Answer.{LeadsTo, Tells, IsLocated, IsWayOf, IsWayOfValue, IsWayToMeant, Goes, ShowsValues, ShowsFound}
 use Rattle.hdl_proxy.specs.Link.{IsLink, address_of, path_to}
 use Rattle.hdl_proxy.specs.Status.{status_of_code}
-use Rattle.hdl_proxy.specs.Url.{IsGraphic}
+use Rattle.hdl_proxy.specs.Url.{IsGraphic, extended}
 use Rattle.hdl_proxy.specs.declared.answer.Answer.{Answer}
 use Rattle.hdl_proxy.specs.declared.answer.Media.{Media}
 use Rattle.hdl_proxy.specs.declared.answer.Status.{Status}
@@ -14,7 +14,7 @@ use Rattle.hdl_proxy.specs.declared.answer.Status.TheVariants as status
 use Rattle.hdl_proxy.specs.declared.found.Found.{Found}
 use Rattle.hdl_proxy.specs.declared.found.Found.TheVariants.{Values, Refused, Nothing}
 use Rattle.hdl_proxy.specs.declared.question.Form.{Form}
-use Rattle.hdl_proxy.specs.declared.question.Form.TheVariants.{Follow, Page, Json}
+use Rattle.hdl_proxy.specs.declared.question.Form.TheVariants.{Follow, Page, Json, Pretty}
 use Rattle.hdl_proxy.proofs.Addresses.{graphic, location_covers, path_covers, slash_graphic}
 
 -- ---- links are graphic ASCII
@@ -60,20 +60,25 @@ no_code_follows code =
     (either _ status.BadRequest _ (λ e. cc)
     (either _ status.Unavailable status.BadGateway (λ e. cc) (λ e. cc))))
 
-way_located : (handle to : List ℕ) (first : Option Value) (a : Answer) → IsWayOfValue first (Some to) → LeadsTo handle to a → IsLocated a
-way_located handle to None a w h = absurd cc
-way_located handle to (Some v) a w h = leads_located handle to a (subst (All IsGraphic) (sym w.1) (address_graphic v.bytes)) h
+meant_graphic : (url : Option (List ℕ)) (to : List ℕ) → IsWayToMeant url (Some to) → All IsGraphic to
+meant_graphic None to w = absurd cc
+meant_graphic (Some url) to w = subst (All IsGraphic) (sym w.1) (address_graphic url)
 
-goes_located : (handle : List ℕ) (values : List Value) (way : Option (List ℕ)) (a : Answer) → IsWayOf values way → Goes handle values way a → IsLocated a
-goes_located handle values None a w h = tells_located status.Success _ a (λ e. cc) h.told
-goes_located handle values (Some to) a w h = way_located handle to w.0 a w.1.1 h
+way_graphic : (append to : List ℕ) (first : Option Value) → IsWayOfValue first append (Some to) → All IsGraphic to
+way_graphic append to None w = absurd cc
+way_graphic append to (Some v) w = meant_graphic (extended v.bytes append) to w
 
-values_located : (form : Form) (handle : List ℕ) (values : List Value) (a : Answer) → ShowsValues form handle values a → IsLocated a
-values_located Follow handle values a h = goes_located handle values h.0 a h.1.0 h.1.1
-values_located Page handle values a h = tells_located status.Success _ a (λ e. cc) h.told
-values_located Json handle values a h = tells_located status.Success _ a (λ e. cc) h.told
+goes_located : (handle append : List ℕ) (values : List Value) (way : Option (List ℕ)) (a : Answer) → IsWayOf values append way → Goes handle values way a → IsLocated a
+goes_located handle append values None a w h = tells_located status.Success _ a (λ e. cc) h.told
+goes_located handle append values (Some to) a w h = leads_located handle to a (way_graphic append to w.0 w.1.1) h.leads
 
-pub found_located : (form : Form) (handle : List ℕ) (found : Found) (a : Answer) → ShowsFound form handle found a → IsLocated a
-found_located form handle (Values values) a h = values_located form handle values.items a h
-found_located form handle (Refused code) a h = tells_located (status_of_code code) _ a (no_code_follows code) h.told
-found_located form handle Nothing a h = tells_located status.BadGateway _ a (λ e. cc) h.told
+values_located : (form : Form) (handle append : List ℕ) (values : List Value) (a : Answer) → ShowsValues form handle append values a → IsLocated a
+values_located Follow handle append values a h = goes_located handle append values h.0 a h.1.0 h.1.1
+values_located Page handle append values a h = tells_located status.Success _ a (λ e. cc) h.told
+values_located Json handle append values a h = tells_located status.Success _ a (λ e. cc) h.told
+values_located Pretty handle append values a h = tells_located status.Success _ a (λ e. cc) h.told
+
+pub found_located : (form : Form) (handle append : List ℕ) (found : Found) (a : Answer) → ShowsFound form handle append found a → IsLocated a
+found_located form handle append (Values values) a h = values_located form handle append values.items a h
+found_located form handle append (Refused code) a h = tells_located (status_of_code code) _ a (no_code_follows code) h.told
+found_located form handle append Nothing a h = tells_located status.BadGateway _ a (λ e. cc) h.told

@@ -17,7 +17,7 @@ use Rattle.hdl_value.specs.Refs.{admin_read, list_read}
 use Rattle.hdl_proxy.specs.declared.words.KeptFor.{KeptFor}
 use Rattle.hdl_proxy.specs.declared.words.KeptFor.TheVariants.{Seconds, Until}
 use Rattle.hdl_proxy.specs.Words.{text_of, permission_digits, value_digits, usual_permissions}
-use Rattle.hdl_proxy.specs.Json.{put_text, formatted, reference_members, reference_json, admin_json, list_json, octets_json, data_json, kept_json, written_json, put_permissions, value_json, answer_json, refusal_json, IsValueJson}
+use Rattle.hdl_proxy.specs.Json.{put_text, formatted, reference_members, reference_json, admin_json, list_json, is_text, base64_json, text_json, octets_json, data_json, kept_json, put_written, written_json, put_permissions, value_json, answer_json, refusal_json, IsValueJson}
 
 by_ordering : (o : Ordering) (a b c : Members) → members_have_float a ≡ false → members_have_float b ≡ false → members_have_float c ≡ false → members_have_float (match_ordering o a b c) ≡ false
 by_ordering Less a b c ha hb hc = ha
@@ -59,13 +59,17 @@ references_none (r ∷ rs) =
 list_none : (rs : List RawRef) → has_float (list_json rs) ≡ false
 list_none rs = formatted_none (codes "vlist") (array (items_of (map reference_json rs))) (references_none rs)
 
-octets_none : (octets : List ℕ) → has_float (octets_json octets) ≡ false
-unfolding octets_json
-octets_none octets =
-    let text = string octets in
-    let digits = string (encode_of standard octets) in
-    cond_both (is_utf8 octets) (formatted (codes "string") text) (formatted (codes "base64") digits) (λ d. has_float d ≡ false)
-    (λ _. formatted_none (codes "string") text refl) (λ _. formatted_none (codes "base64") digits refl)
+base64_none : (octets : List ℕ) → has_float (base64_json octets) ≡ false
+base64_none octets = formatted_none (codes "base64") (string (encode_of standard octets)) refl
+
+text_none : (octets : List ℕ) → has_float (text_json octets) ≡ false
+unfolding text_json
+text_none octets =
+    cond_both (is_utf8 octets) (formatted (codes "string") (string octets)) (base64_json octets) (λ d. has_float d ≡ false)
+    (λ _. formatted_none (codes "string") (string octets) refl) (λ _. base64_none octets)
+
+octets_none : (kind octets : List ℕ) → has_float (octets_json kind octets) ≡ false
+octets_none kind octets = cond_both (is_text kind) (text_json octets) (base64_json octets) (λ d. has_float d ≡ false) (λ _. text_none octets) (λ _. base64_none octets)
 
 data_none_of : (a : Option (ℕ × RawRef)) (l : Option (List RawRef)) (d : Data) → has_float d ≡ false → has_float (unwrap_or (option_map admin_json a) (unwrap_or (option_map list_json l) d)) ≡ false
 data_none_of (Some x) l d h = admin_none x
@@ -74,7 +78,7 @@ data_none_of None None d h = h
 
 data_none : (v : Value) → has_float (data_json v) ≡ false
 unfolding data_json
-data_none v = data_none_of (admin_read v) (list_read v) (octets_json v.bytes) (octets_none v.bytes)
+data_none v = data_none_of (admin_read v) (list_read v) (octets_json v.kind v.bytes) (octets_none v.kind v.bytes)
 
 kept_none : (kept : KeptFor) → has_float (kept_json kept) ≡ false
 kept_none (Seconds n) = refl
@@ -83,6 +87,11 @@ kept_none (Until words) = refl
 written_none : (written : Option (List ℕ)) → has_float (written_json written) ≡ false
 written_none None = refl
 written_none (Some words) = refl
+
+written_put_none : (stamp : ℕ) (written : Option (List ℕ)) (ms : Members) → members_have_float ms ≡ false → members_have_float (put_written stamp written ms) ≡ false
+written_put_none stamp written ms h =
+    cond_both (stamp == 0) ms (put (codes "timestamp") (written_json written) ms) (λ m. members_have_float m ≡ false)
+    (λ _. h) (λ _. put_none (codes "timestamp") (written_json written) ms (written_none written) h)
 
 permissions_none : (v : Value) (ms : Members) → members_have_float ms ≡ false → members_have_float (put_permissions v ms) ≡ false
 permissions_none v ms h =
@@ -97,8 +106,8 @@ value_none v kept written =
     let kind = put_text (codes "type") v.kind index in
     let told = put (codes "data") (data_json v) kind in
     let ttl = put (codes "ttl") (kept_json kept) told in
-    permissions_none v (put (codes "timestamp") (written_json written) ttl)
-    (put_none (codes "timestamp") (written_json written) ttl (written_none written)
+    permissions_none v (put_written v.stamp written ttl)
+    (written_put_none v.stamp written ttl
     (put_none (codes "ttl") (kept_json kept) told (kept_none kept)
     (put_none (codes "data") (data_json v) kind (data_none v)
     (put_none (codes "type") (string (text_of v.kind)) index refl

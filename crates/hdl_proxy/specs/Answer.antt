@@ -1,16 +1,18 @@
 -- What is answered.
-use Rattle.std.specs.Prelude.{◌≡◌, ◌≢◌, ℕ, List, All, Option, Some, None, MatchOption, Result, codes, option_map, string_bytes}
+use Rattle.std.specs.Prelude.{◌≡◌, ◌≢◌, ℕ, Bool, true, false, List, All, Option, Some, None, MatchOption, Result, codes, option_map, string_bytes}
 use Rattle.std.specs.Borrow.{Bor}
 use Rattle.hdl_value.specs.declared.value.Value.{Value}
 use Rattle.serde_json.specs.Written.{compact_text}
 use Rattle.hdl_proxy.specs.Choice.{IsFirstUrl}
 use Rattle.hdl_proxy.specs.Found.{IsFoundOf}
-use Rattle.hdl_proxy.specs.Json.{refusal_json, IsJsonOf}
+use Rattle.hdl_proxy.specs.Json.{refusal_json, IsJsonOf, IsPrettyOf}
+use Rattle.hdl_proxy.specs.Keeping.{IsKeepingOf}
 use Rattle.hdl_proxy.specs.Link.{IsWayTo}
 use Rattle.hdl_proxy.specs.Pages.{refusal_page, redirect_page, IsPageOf}
 use Rattle.hdl_proxy.specs.Status.{status_of_code, refused_words}
-use Rattle.hdl_proxy.specs.Url.{IsGraphic}
+use Rattle.hdl_proxy.specs.Url.{IsGraphic, extended}
 use Rattle.hdl_proxy.specs.declared.answer.Answer.{Answer}
+use Rattle.hdl_proxy.specs.declared.answer.Keeping.TheVariants.{Never}
 use Rattle.hdl_proxy.specs.declared.answer.Media.{Media}
 use Rattle.hdl_proxy.specs.declared.answer.Media.TheVariants as media
 use Rattle.hdl_proxy.specs.declared.answer.Status.{Status}
@@ -18,14 +20,14 @@ use Rattle.hdl_proxy.specs.declared.answer.Status.TheVariants as status
 use Rattle.hdl_proxy.specs.declared.found.Found.{Found}
 use Rattle.hdl_proxy.specs.declared.found.Found.TheVariants.{Values, Refused, Nothing}
 use Rattle.hdl_proxy.specs.declared.question.Form.{Form}
-use Rattle.hdl_proxy.specs.declared.question.Form.TheVariants.{Follow, Page, Json}
+use Rattle.hdl_proxy.specs.declared.question.Form.TheVariants.{Follow, Page, Json, Pretty}
 use Rattle.hdl_proxy.specs.declared.question.Question.{Question}
 use Rattle.hdl_proxy.specs.declared.resolver.NoAnswer.{NoAnswer}
 
 -- It leads there: a page under this title, with a link there, status Found and this Location.
 pub record LeadsTo (title to : List ℕ) (answer : Answer) : Type 0 where
   pub status : answer.status ≡ status.Found
-  pub media : answer.media ≡ media.Page
+  pub media : answer.media ≡ media.Way
   pub location : option_map string_bytes answer.location ≡ Some to
   pub body : answer.body.items ≡ redirect_page title to
 
@@ -43,14 +45,19 @@ IsLocated answer =
 
 -- ---- where values lead
 
--- the way to the URL of this value, where there is one
-abbrev pub IsWayOfValue : Option Value → Option (List ℕ) → Type 0
-IsWayOfValue None way = way ≡ None
-IsWayOfValue (Some value) way = IsWayTo value.bytes way
+-- the way to the URL that is meant, where one is
+abbrev pub IsWayToMeant : Option (List ℕ) → Option (List ℕ) → Type 0
+IsWayToMeant None way = way ≡ None
+IsWayToMeant (Some url) way = IsWayTo url way
 
--- the way to the first URL of these values: its address where it is one to be followed, and none otherwise
-abbrev pub IsWayOf : List Value → Option (List ℕ) → Type 0
-IsWayOf values way = (first : Option Value) × (IsFirstUrl values first × IsWayOfValue first way)
+-- the way to the URL of this value with this behind it, where there is one
+abbrev pub IsWayOfValue : Option Value → List ℕ → Option (List ℕ) → Type 0
+IsWayOfValue None append way = way ≡ None
+IsWayOfValue (Some value) append way = IsWayToMeant (extended value.bytes append) way
+
+-- the way to the first URL of these values with this behind it: its address where it is one to be followed, and none otherwise
+abbrev pub IsWayOf : List Value → List ℕ → Option (List ℕ) → Type 0
+IsWayOf values append way = (first : Option Value) × (IsFirstUrl values first × IsWayOfValue first append way)
 
 -- ---- what is answered to a question
 
@@ -59,44 +66,69 @@ abbrev pub media_of : Form → Media
 media_of Follow = media.Page
 media_of Page = media.Page
 media_of Json = media.Json
+media_of Pretty = media.Json
 
--- a page, or JSON, of this handle and these values, and of nothing else
+abbrev pub is_json : Form → Bool
+is_json Follow = false
+is_json Page = false
+is_json Json = true
+is_json Pretty = true
+
+-- A page, or JSON without a space or over many lines, of this handle and these values, and of nothing else. Others may keep it as long as
+-- each of these values.
 pub record IsPage (handle : List ℕ) (values : List Value) (answer : Answer) : Type 0 where
   pub told : Tells status.Success media.Page answer
+  pub kept : IsKeepingOf values answer.keeping
+  pub title : answer.title.items ≡ handle
   pub body : IsPageOf handle values answer.body.items
 
 pub record IsJson (handle : List ℕ) (values : List Value) (answer : Answer) : Type 0 where
   pub told : Tells status.Success media.Json answer
+  pub kept : IsKeepingOf values answer.keeping
   pub body : IsJsonOf handle values answer.body.items
+
+pub record IsPretty (handle : List ℕ) (values : List Value) (answer : Answer) : Type 0 where
+  pub told : Tells status.Success media.Json answer
+  pub kept : IsKeepingOf values answer.keeping
+  pub body : IsPrettyOf handle values answer.body.items
+
+-- It leads there, and others may keep that as long as each of these values.
+pub record LeadsBy (handle : List ℕ) (values : List Value) (to : List ℕ) (answer : Answer) : Type 0 where
+  pub leads : LeadsTo handle to answer
+  pub kept : IsKeepingOf values answer.keeping
 
 -- it goes this way, and where there is none it is a page of the values
 abbrev pub Goes : List ℕ → List Value → Option (List ℕ) → Answer → Type 0
 Goes handle values None answer = IsPage handle values answer
-Goes handle values (Some to) answer = LeadsTo handle to answer
+Goes handle values (Some to) answer = LeadsBy handle values to answer
 
--- in this form these values: the way to their URL where they are to be followed and there is one, and else all of them
-abbrev pub ShowsValues : Form → List ℕ → List Value → Answer → Type 0
-ShowsValues Follow handle values answer = (way : Option (List ℕ)) × (IsWayOf values way × Goes handle values way answer)
-ShowsValues Page handle values answer = IsPage handle values answer
-ShowsValues Json handle values answer = IsJson handle values answer
+-- in this form these values: the way to their URL, with this behind it, where they are to be followed and there is one, and else all of them
+abbrev pub ShowsValues : Form → List ℕ → List ℕ → List Value → Answer → Type 0
+ShowsValues Follow handle append values answer = (way : Option (List ℕ)) × (IsWayOf values append way × Goes handle values way answer)
+ShowsValues Page handle append values answer = IsPage handle values answer
+ShowsValues Json handle append values answer = IsJson handle values answer
+ShowsValues Pretty handle append values answer = IsPretty handle values answer
 
 -- the page, or the JSON, that says why there are no values
 abbrev pub refusal_body : Form → List ℕ → ℕ → List ℕ → List ℕ
-refusal_body Follow handle code why = refusal_page handle why
-refusal_body Page handle code why = refusal_page handle why
+refusal_body Follow handle code why = refusal_page handle code why
+refusal_body Page handle code why = refusal_page handle code why
 refusal_body Json handle code why = compact_text (refusal_json handle code why)
+refusal_body Pretty handle code why = compact_text (refusal_json handle code why)
 
--- in this form, with this status, that there are no values, by code and reason
+-- in this form, with this status, that there are no values, by code and reason; nobody may keep that
 pub record Refuses (given : Status) (form : Form) (handle : List ℕ) (code : ℕ) (why : List ℕ) (answer : Answer) : Type 0 where
   pub told : Tells given (media_of form) answer
+  pub kept : answer.keeping ≡ Never
   pub body : answer.body.items ≡ refusal_body form handle code why
 
 -- in this form what was found: values, or the status of a code, or that no server answered
-abbrev pub ShowsFound : Form → List ℕ → Found → Answer → Type 0
-ShowsFound form handle (Values values) answer = ShowsValues form handle values.items answer
-ShowsFound form handle (Refused code) answer = Refuses (status_of_code code) form handle code (refused_words code) answer
-ShowsFound form handle Nothing answer = Refuses status.BadGateway form handle 2 (codes "No server answered.") answer
+abbrev pub ShowsFound : Form → List ℕ → List ℕ → Found → Answer → Type 0
+ShowsFound form handle append (Values values) answer = ShowsValues form handle append values.items answer
+ShowsFound form handle append (Refused code) answer = Refuses (status_of_code code) form handle code (refused_words code) answer
+ShowsFound form handle append Nothing answer = Refuses status.BadGateway form handle 2 (codes "No server answered.") answer
 
 -- it answers the question by what was found of its handle in what a resolver gave, and by nothing else
 abbrev pub Answers : Question → Result (Bor (List ℕ)) NoAnswer → Answer → Type 0
-Answers question answered answer = (found : Found) × (IsFoundOf question.name answered found × ShowsFound question.form question.name found answer)
+Answers question answered answer =
+    (found : Found) × (IsFoundOf question.name answered found × ShowsFound question.form question.name question.append.items found answer)

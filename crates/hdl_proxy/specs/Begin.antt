@@ -1,18 +1,19 @@
 -- What is done for a request.
-use Rattle.std.specs.Prelude.{◌≡◌, ◌≢◌, ◌⊎◌, ⊤, ◌==◌, ℕ, Bool, true, false, List, [], ◌∷◌, ◌++◌, All, Option, Some, None, codes, map, if◌then◌else◌}
+use Rattle.std.specs.Prelude.{◌≡◌, ◌≢◌, ◌⊎◌, ⊤, ◌==◌, ◌&&◌, ℕ, Bool, false, List, [], ◌∷◌, ◌++◌, All, Option, Some, None, codes, map, if◌then◌else◌}
 use Rattle.std.specs.Str.{trim}
 use Rattle.percent_encoding.specs.Percent.{percent_decode}
 use Rattle.hdl_name.specs.Name.{IsHandle}
-use Rattle.hdl_proxy.specs.Answer.{LeadsTo, Tells, IsLocated, media_of}
+use Rattle.hdl_proxy.specs.Answer.{LeadsTo, Tells, IsLocated, is_json, media_of}
 use Rattle.hdl_proxy.specs.Link.{path_to}
-use Rattle.hdl_proxy.specs.Query.{IsIndex, IsLast, has_pair, index_of, values_named}
+use Rattle.hdl_proxy.specs.Pasted.{IsPasted, IsWritten}
+use Rattle.hdl_proxy.specs.Query.{IsAppended, IsIndex, IsLast, has_pair, index_of, values_named}
 use Rattle.hdl_proxy.specs.declared.answer.Answer.{Answer as Reply}
 use Rattle.hdl_proxy.specs.declared.answer.Media.TheVariants as media
 use Rattle.hdl_proxy.specs.declared.answer.Status.TheVariants as status
 use Rattle.hdl_proxy.specs.declared.proxy.Next.{Next}
 use Rattle.hdl_proxy.specs.declared.proxy.Next.TheVariants.{Answer, Ask}
 use Rattle.hdl_proxy.specs.declared.question.Form.{Form}
-use Rattle.hdl_proxy.specs.declared.question.Form.TheVariants.{Follow, Page, Json}
+use Rattle.hdl_proxy.specs.declared.question.Form.TheVariants.{Follow, Page, Json, Pretty}
 use Rattle.hdl_proxy.specs.declared.question.Question.{Question}
 
 -- it is answered at once, so
@@ -37,15 +38,73 @@ LeadsToName name answer =
     (IsHandle name × LeadsTo name (path_to name) answer)
     ⊎ (¬ (IsHandle name) × Tells status.BadRequest media.Page answer)
 
--- without a handle a page, and with one, in which spaces at its ends don't count, the way to it
+-- the way to the name that was pasted, in which spaces at its ends don't count
+abbrev pub LeadsFromPasted : List ℕ → Reply → Type 0
+LeadsFromPasted sent answer = (name : List ℕ) × (IsPasted (trim sent) name × LeadsToName name answer)
+
+-- without a handle a page, and with one the way to it
 abbrev pub LeadsFrom : Option (List ℕ) → Reply → Type 0
 LeadsFrom None answer = Tells status.Success media.Page answer
-LeadsFrom (Some sent) answer = LeadsToName (trim sent) answer
+LeadsFrom (Some sent) answer = LeadsFromPasted sent answer
 
 -- the handle is that of the last pair `handle`
 abbrev pub IsFront : List (List ℕ × List ℕ) → Next → Type 0
 IsFront pairs next =
     (last : Option (List ℕ)) × (IsLast (values_named (codes "handle") pairs) last × IsAnswered (LeadsFrom last) next)
+
+-- ---- which addresses there are
+
+-- the path stands under this one
+abbrev pub IsUnder : List ℕ → List ℕ → Type 0
+IsUnder front path = (rest : List ℕ) × (path ≡ front ++ rest)
+
+-- where all is told in JSON, where handles are listed, and the front of a path that asks for the values of a handle
+abbrev pub api_path : List ℕ
+api_path = codes "/api/"
+
+abbrev pub list_path : List ℕ
+list_path = codes "/api/handles"
+
+abbrev pub json_path : List ℕ
+json_path = codes "/api/handles/"
+
+abbrev pub robots_path : List ℕ
+robots_path = codes "/robots.txt"
+
+abbrev pub icon_path : List ℕ
+icon_path = codes "/favicon.ico"
+
+abbrev pub IsFile : List ℕ → Type 0
+IsFile path = (path ≡ robots_path) ⊎ (path ≡ icon_path)
+
+-- neither the front page nor a file
+abbrev pub IsOwn : List ℕ → Type 0
+IsOwn path = (path ≢ codes "/") × (path ≢ robots_path) × (path ≢ icon_path)
+
+-- an address of a handle: it asks for its values as JSON, or isn't under `/api/` at all
+abbrev pub IsOfHandle : List ℕ → Type 0
+IsOfHandle path = IsUnder json_path path ⊎ ¬ (IsUnder api_path path)
+
+-- ---- what is answered at once
+
+-- the text for crawlers, or the icon
+abbrev pub IsOfFile : List ℕ → Reply → Type 0
+IsOfFile path answer =
+    ((path ≡ robots_path) × Tells status.Success media.Text answer)
+    ⊎ ((path ≡ icon_path) × Tells status.Success media.Icon answer)
+
+-- no list is given, and nothing else is there, in JSON
+abbrev pub IsNoHandle : List ℕ → Reply → Type 0
+IsNoHandle path answer =
+    ((path ≡ list_path) × Tells status.Forbidden media.Json answer)
+    ⊎ ((path ≢ list_path) × Tells status.NotFound media.Json answer)
+
+-- another method is refused, by a page or under `/api/` in JSON; OPTIONS is answered there
+abbrev pub RefusesMethod : List ℕ → List ℕ → Reply → Type 0
+RefusesMethod method path answer =
+    (¬ (IsUnder api_path path) × Tells status.MethodNotAllowed media.Page answer)
+    ⊎ (IsUnder api_path path × (method ≡ codes "OPTIONS") × Tells status.NoContent media.Json answer)
+    ⊎ (IsUnder api_path path × (method ≢ codes "OPTIONS") × Tells status.MethodNotAllowed media.Json answer)
 
 -- ---- the address of a handle
 
@@ -54,37 +113,42 @@ abbrev pub without_slash : List ℕ → List ℕ
 without_slash [] = []
 without_slash (octet ∷ rest) = if octet == 47 then rest else octet ∷ rest
 
--- the front of a path that asks for JSON
-abbrev pub json_path : List ℕ
-json_path = codes "/api/handles/"
-
 -- a page where the query has `noredirect`, and else the way
-abbrev pub page_form : Bool → Form
-page_form true = Page
-page_form false = Follow
+abbrev pub page_form : List (List ℕ × List ℕ) → Form
+page_form pairs = if has_pair (codes "noredirect") pairs then Page else Follow
 
--- the form that an address asks for, and the text of the name in it: JSON where its path begins so, and else the whole path
-abbrev pub IsAddress : List ℕ → Bool → Form → List ℕ → Type 0
-IsAddress path stays form text =
-    ((form ≡ Json) × (path ≡ json_path ++ text))
-    ⊎ ((form ≡ page_form stays) × ((rest : List ℕ) → path ≢ json_path ++ rest) × (text ≡ without_slash path))
+-- JSON over many lines where the query has `pretty`, and else without a space
+abbrev pub json_form : List (List ℕ × List ℕ) → Form
+json_form pairs = if has_pair (codes "pretty") pairs then Pretty else Json
 
--- what is asked of this name: the indexes and types of all pairs `index` and `type`
+-- JSON is asked for as a call of a function
+abbrev pub is_called_back : Form → List (List ℕ × List ℕ) → Bool
+is_called_back form pairs = is_json form && has_pair (codes "callback") pairs
+
+-- the form that an address asks for, and the text of the name in it: JSON where its path begins so, and else the name that the path has
+abbrev pub IsAddress : List ℕ → List (List ℕ × List ℕ) → Form → List ℕ → Type 0
+IsAddress path pairs form text =
+    ((form ≡ json_form pairs) × (path ≡ json_path ++ text))
+    ⊎ ((form ≡ page_form pairs) × ¬ (IsUnder api_path path) × IsWritten (without_slash path) text)
+
+-- what is asked of this name: the indexes and types of all pairs `index` and `type`, and what is appended
 pub record IsAsked (asked : List ℕ) (wanted : Form) (pairs : List (List ℕ × List ℕ)) (question : Question) : Type 0 where
   pub name : question.name ≡ asked
   pub form : question.form ≡ wanted
   pub good : All IsIndex (values_named (codes "index") pairs)
   pub indexes : question.indexes.items ≡ map index_of (values_named (codes "index") pairs)
   pub types : question.types.items ≡ values_named (codes "type") pairs
+  pub append : IsAppended pairs question.append.items
+  pub no_call : is_called_back wanted pairs ≡ false
 
--- it is asked for, and where the name or an index is none the request is refused
+-- it is asked for; where the name or an index is none, or a call is asked for, the request is refused
 abbrev pub AsksFor : List ℕ → Form → List (List ℕ × List ℕ) → Next → Type 0
 AsksFor name form pairs (Ask question) = IsAsked name form pairs question
 AsksFor name form pairs (Answer answer) =
-    ¬ (IsHandle name × All IsIndex (values_named (codes "index") pairs)) × Tells status.BadRequest (media_of form) answer
+    ¬ (IsHandle name × All IsIndex (values_named (codes "index") pairs) × (is_called_back form pairs ≡ false)) × Tells status.BadRequest (media_of form) answer
 
 -- the name is what the text of the address stands for, its escapes read once
 abbrev pub AsksAddress : List ℕ → List (List ℕ × List ℕ) → Next → Type 0
 AsksAddress path pairs next =
     (form : Form) × (text : List ℕ)
-    × (IsAddress path (has_pair (codes "noredirect") pairs) form text × AsksFor (percent_decode text) form pairs next)
+    × (IsAddress path pairs form text × AsksFor (percent_decode text) form pairs next)

@@ -1,14 +1,15 @@
 -- Values as JSON: the handle and what these values say, and nothing else.
-use Rattle.std.specs.Prelude.{◌≡◌, ◌==◌, ℕ, List, map, codes, if◌then◌else◌, Option, Some, None, option_map, unwrap_or, string_bytes}
+use Rattle.std.specs.Prelude.{◌≡◌, ◌==◌, ℕ, Bool, not, ◌&&◌, List, map, codes, bytes_eq, if◌then◌else◌, Option, Some, None, option_map, unwrap_or, string_bytes}
 use Rattle.std.specs.List.{AllZip}
 use Rattle.std.specs.Str.{is_utf8}
 use Rattle.base64.specs.Engines.{standard}
 use Rattle.base64.specs.GeneralPurpose.{encode_of}
 use Rattle.serde_json.specs.Data.{Data, null, number, unsigned, string, array, object, Members, no_members, put}
 use Rattle.serde_json.specs.View.{items_of}
-use Rattle.serde_json.specs.Written.{compact_text}
+use Rattle.serde_json.specs.Written.{compact_text, IsInOrder}
 use Rattle.hdl_value.specs.declared.references.RawRef.{RawRef}
 use Rattle.hdl_value.specs.declared.value.Value.{Value}
+use Rattle.hdl_value.specs.Data.{admin_kind, list_kind}
 use Rattle.hdl_value.specs.Refs.{admin_read, list_read}
 use Rattle.hdl_proxy.specs.declared.words.KeptFor.{KeptFor}
 use Rattle.hdl_proxy.specs.declared.words.KeptFor.TheVariants.{Seconds, Until}
@@ -38,15 +39,25 @@ admin_json x = formatted (codes "admin") (object (put (codes "permissions") (str
 abbrev pub list_json : List RawRef → Data
 list_json rs = formatted (codes "vlist") (array (items_of (map reference_json rs)))
 
--- octets: as they are where they are text
-unfoldable pub octets_json : List ℕ → Data
-octets_json octets =
-    if is_utf8 octets then formatted (codes "string") (string octets)
-    else formatted (codes "base64") (string (encode_of standard octets))
+-- data of a type is text, unless the type's octets have a layout (RFC 3651, section 3.2)
+abbrev pub is_text : List ℕ → Bool
+is_text kind =
+    not (bytes_eq kind admin_kind) && (not (bytes_eq kind list_kind) && (not (bytes_eq kind (codes "HS_SITE")) && not (bytes_eq kind (codes "HS_PUBKEY"))))
+
+abbrev pub base64_json : List ℕ → Data
+base64_json octets = formatted (codes "base64") (string (encode_of standard octets))
+
+-- octets that may be text: as they are where they are
+unfoldable pub text_json : List ℕ → Data
+text_json octets = if is_utf8 octets then formatted (codes "string") (string octets) else base64_json octets
+
+-- octets of this type
+abbrev pub octets_json : List ℕ → List ℕ → Data
+octets_json kind octets = if is_text kind then text_json octets else base64_json octets
 
 -- what the data is: an administrator, a list of references, or octets
 unfoldable pub data_json : Value → Data
-data_json v = unwrap_or (option_map admin_json (admin_read v)) (unwrap_or (option_map list_json (list_read v)) (octets_json v.bytes))
+data_json v = unwrap_or (option_map admin_json (admin_read v)) (unwrap_or (option_map list_json (list_read v)) (octets_json v.kind v.bytes))
 
 -- ---- a value
 
@@ -58,13 +69,17 @@ abbrev pub written_json : Option (List ℕ) → Data
 written_json None = null
 written_json (Some words) = string words
 
+-- when it was written; a timestamp of 0 says nothing
+abbrev pub put_written : ℕ → Option (List ℕ) → Members → Members
+put_written stamp written members = if stamp == 0 then members else put (codes "timestamp") (written_json written) members
+
 -- the permissions, where they aren't the usual ones of the type
 abbrev pub put_permissions : Value → Members → Members
 put_permissions v members = if v.perm == usual_permissions v.kind then members else put (codes "permissions") (string (value_digits v.perm)) members
 
 unfoldable pub value_json : Value → KeptFor → Option (List ℕ) → Data
 value_json v kept written =
-    object (put_permissions v (put (codes "timestamp") (written_json written)
+    object (put_permissions v (put_written v.stamp written
     (put (codes "ttl") (kept_json kept)
     (put (codes "data") (data_json v)
     (put_text (codes "type") v.kind
@@ -85,6 +100,11 @@ answer_json handle ds =
 -- the body is the JSON of these values of this handle
 abbrev pub IsJsonOf : List ℕ → List Value → List ℕ → Type 0
 IsJsonOf handle values body = (ds : List Data) × AllZip IsValueJson values ds × (body ≡ compact_text (answer_json handle ds))
+
+-- the body has just the members, items and texts of this JSON, in their order, and its numbers in decimal
+abbrev pub IsPrettyOf : List ℕ → List Value → List ℕ → Type 0
+IsPrettyOf handle values body =
+    (ds : List Data) × AllZip IsValueJson values ds × IsInOrder body (answer_json handle ds)
 
 -- why there are no values
 unfoldable pub refusal_json : List ℕ → ℕ → List ℕ → Data

@@ -4,10 +4,14 @@ pub mod Choice
 pub mod Escape
 pub mod Found
 pub mod Json
+pub mod Keeping
 pub mod Link
 pub mod Pages
+pub mod Pasted
 pub mod Query
 pub mod Question
+pub mod Site
 pub mod Status
+pub mod Tag
 pub mod Url
 pub mod Words

@@ -6,14 +6,17 @@ use Rattle.hex.specs.Hex.{encode_lower}
 use Rattle.hdl_value.specs.declared.references.RawRef.{RawRef}
 use Rattle.hdl_value.specs.declared.value.Value.{Value}
 use Rattle.hdl_value.specs.Refs.{admin_read, list_read}
-use Rattle.hdl_proxy.specs.declared.page.TheConstants.{HEAD, STYLE}
-use Rattle.hdl_proxy.specs.declared.pages.TheConstants.{NO_VALUES, ANOTHER}
+use Rattle.hdl_value.specs.Permission.{mask_permits}
+use Rattle.hdl_value.specs.declared.permission.AdminPermission.{AdminPermission}
+use Rattle.hdl_value.specs.declared.permission.AdminPermission.TheVariants as may
+use Rattle.hdl_proxy.specs.declared.pages.TheConstants.{ANOTHER, COLUMNS, END, NO_VALUES}
 use Rattle.hdl_proxy.specs.declared.words.KeptFor.{KeptFor}
 use Rattle.hdl_proxy.specs.declared.words.KeptFor.TheVariants.{Seconds, Until}
 use Rattle.hdl_proxy.specs.Escape.{escaped}
 use Rattle.hdl_proxy.specs.Link.{address_of}
+use Rattle.hdl_proxy.specs.Status.{advice}
 use Rattle.hdl_proxy.specs.Url.{IsFollowed}
-use Rattle.hdl_proxy.specs.Words.{permission_digits, IsKeptFor, IsWritten}
+use Rattle.hdl_proxy.specs.Words.{span_words, IsKeptFor, IsWritten}
 
 -- ---- pieces of a page
 
@@ -21,21 +24,41 @@ use Rattle.hdl_proxy.specs.Words.{permission_digits, IsKeptFor, IsWritten}
 abbrev pub element : List ℕ → List ℕ → List ℕ → List ℕ
 element front text back = front ++ (escaped text ++ back)
 
--- the top of a page: its title, which is its heading too
+-- the top of a page's main part: its heading
 unfoldable pub top : List ℕ → List ℕ
-top title = HEAD.now ++ (escaped title ++ (STYLE.now ++ (escaped title ++ codes "</h1>\n")))
-
--- its end
-abbrev pub bottom : List ℕ
-bottom = codes "</body>\n</html>\n"
+top heading = element (codes "<h1>") heading (codes "</h1>\n")
 
 -- ---- the data of a value
 
--- an administrator: its key and its permissions
+-- a permission, where the mask has it
+abbrev pub permission_part : ℕ → AdminPermission → List ℕ → List ℕ
+permission_part mask permission item = if mask_permits mask permission then item else []
+
+-- what may be done with handles, values and administrators
+unfoldable pub handle_permissions : ℕ → List ℕ
+handle_permissions mask =
+    permission_part mask may.AddHandle (codes "<li>create handles</li>") ++ (permission_part mask may.DeleteHandle (codes "<li>delete them</li>")
+    ++ (permission_part mask may.ListHandle (codes "<li>list them</li>") ++ permission_part mask may.AuthorizedRead (codes "<li>read what isn't public</li>")))
+
+unfoldable pub value_permissions : ℕ → List ℕ
+value_permissions mask =
+    permission_part mask may.AddValue (codes "<li>add values</li>") ++ (permission_part mask may.ModifyValue (codes "<li>change values</li>")
+    ++ permission_part mask may.DeleteValue (codes "<li>remove values</li>"))
+
+unfoldable pub admin_permissions : ℕ → List ℕ
+admin_permissions mask =
+    permission_part mask may.AddAdmin (codes "<li>add administrators</li>") ++ (permission_part mask may.ModifyAdmin (codes "<li>change administrators</li>")
+    ++ permission_part mask may.RemoveAdmin (codes "<li>remove administrators</li>"))
+
+unfoldable pub permissions_part : ℕ → List ℕ
+permissions_part mask =
+    codes "<ul class=\"may\">" ++ (handle_permissions mask ++ (value_permissions mask ++ (admin_permissions mask ++ codes "</ul>\n")))
+
+-- an administrator: its key, and what it may do
 unfoldable pub admin_part : ℕ × RawRef → List ℕ
 admin_part x =
-    codes "<p class=\"data\">administrator " ++ (escaped (decimal x.1.index) ++ (codes ":" ++ (escaped x.1.handle
-    ++ (codes ", permissions " ++ (escaped (permission_digits x.0) ++ codes "</p>\n")))))
+    codes "<p>Whoever has the key <span class=\"data\">" ++ (escaped (decimal x.1.index) ++ (codes ":" ++ (escaped x.1.handle
+    ++ (codes "</span> may</p>\n" ++ permissions_part x.0))))
 
 -- a reference of a list
 unfoldable pub reference_part : RawRef → List ℕ
@@ -79,16 +102,16 @@ IsDataPart v part =
 -- ---- the times of a value
 
 abbrev pub kept_part : KeptFor → List ℕ
-kept_part (Seconds n) = codes "may be kept for " ++ (escaped (decimal n) ++ codes " seconds")
-kept_part (Until words) = codes "may be kept until " ++ escaped (string_bytes words)
+kept_part (Seconds n) = codes "for " ++ escaped (span_words n)
+kept_part (Until words) = codes "until " ++ escaped (string_bytes words)
 
 -- a timestamp of 0 says nothing
 abbrev pub written_part : ℕ → Option (List ℕ) → List ℕ
 written_part stamp None = []
-written_part stamp (Some words) = if stamp == 0 then [] else codes ", written " ++ escaped words
+written_part stamp (Some words) = if stamp == 0 then [] else codes "<br>written " ++ escaped words
 
 abbrev pub times_part : ℕ → KeptFor → Option (List ℕ) → List ℕ
-times_part stamp kept written = codes "<p><small>" ++ (kept_part kept ++ (written_part stamp written ++ codes "</small></p>\n"))
+times_part stamp kept written = codes "</td>\n<td>" ++ (kept_part kept ++ (written_part stamp written ++ codes "</td></tr>\n"))
 
 abbrev pub IsTimesPart : Value → List ℕ → Type 0
 IsTimesPart v part =
@@ -97,7 +120,7 @@ IsTimesPart v part =
 -- ---- a value, and all of them
 
 unfoldable pub heading : Value → List ℕ
-heading v = codes "<h2>" ++ (escaped v.kind ++ (codes " <small>index " ++ (escaped (decimal v.index) ++ codes "</small></h2>\n")))
+heading v = codes "<tr><th scope=\"row\">" ++ (escaped v.kind ++ (codes " <small>" ++ (escaped (decimal v.index) ++ codes "</small></th>\n<td>")))
 
 -- what a page says of a value
 abbrev pub IsSection : Value → List ℕ → Type 0
@@ -108,18 +131,35 @@ IsSection v section =
 abbrev pub IsSections : List Value → List ℕ → Type 0
 IsSections values part = (sections : List (List ℕ)) × AllZip IsSection values sections × (part ≡ concat sections)
 
+-- a table of them
+abbrev pub IsTable : List Value → List ℕ → Type 0
+IsTable values part = (rows : List ℕ) × IsSections values rows × (part ≡ COLUMNS.now ++ (rows ++ END.now))
+
 abbrev pub IsValuesPart : List Value → List ℕ → Type 0
-IsValuesPart values part = ((values ≡ []) × (part ≡ NO_VALUES.now)) ⊎ ((0 < length values) × IsSections values part)
+IsValuesPart values part = ((values ≡ []) × (part ≡ NO_VALUES.now)) ⊎ ((0 < length values) × IsTable values part)
 
 -- the page of these values of this handle
 abbrev pub IsPageOf : List ℕ → List Value → List ℕ → Type 0
-IsPageOf handle values body = (part : List ℕ) × IsValuesPart values part × (body ≡ top handle ++ (part ++ (ANOTHER.now ++ bottom)))
+IsPageOf handle values body = (part : List ℕ) × IsValuesPart values part × (body ≡ top handle ++ (part ++ ANOTHER.now))
 
 -- ---- a refusal
 
--- the page that says why there are no values
-unfoldable pub refusal_page : List ℕ → List ℕ → List ℕ
-refusal_page asked why = top asked ++ (codes "<p>" ++ (escaped why ++ (codes "</p>\n" ++ (ANOTHER.now ++ bottom))))
+-- its title, by the code
+abbrev pub lead_word : ℕ → List ℕ
+lead_word code =
+    if (code == 100) || (code == 302) then codes "Not found: "
+    else if code == 102 then codes "No handle: "
+    else if code == 200 then codes "Not public: "
+    else if code == 5 then codes "Not done: "
+    else codes "No answer: "
+
+abbrev pub refusal_title : ℕ → List ℕ → List ℕ
+refusal_title code asked = lead_word code ++ asked
+
+-- the page that says why there are no values, and what to do
+unfoldable pub refusal_page : List ℕ → ℕ → List ℕ → List ℕ
+refusal_page asked code why =
+    top asked ++ (element (codes "<p>") why (codes "</p>\n") ++ (element (codes "<p>") (advice code asked) (codes "</p>\n") ++ ANOTHER.now))
 
 -- ---- a way
 

@@ -1,5 +1,5 @@
 -- What the query of an address says, after the URL Standard, section 5.1.
-use Rattle.std.specs.Prelude.{◌≡◌, ◌<◌, ◌^◌, ℕ, Bool, List, [], ◌∷◌, ◌++◌, All, Option, Some, None, String, map, filter_map, bytes_eq, string_bytes, if◌then◌else◌}
+use Rattle.std.specs.Prelude.{◌≡◌, ◌<◌, ◌^◌, ℕ, Bool, List, [], ◌∷◌, ◌++◌, All, Option, Some, None, String, map, filter_map, bytes_eq, codes, unwrap_or, string_bytes, if◌then◌else◌}
 use Rattle.std.specs.Global.{Global, Vec}
 use Rattle.std.specs.List.{list_any}
 use Rattle.std.specs.Str.Lossy.{utf8_lossy}
@@ -39,6 +39,12 @@ values_named name pairs = filter_map (value_if name) pairs
 abbrev pub IsLast : List (List ℕ) → Option (List ℕ) → Type 0
 IsLast values None = values ≡ []
 IsLast values (Some last) = (front : List (List ℕ)) × (values ≡ front ++ last ∷ [])
+
+-- ---- what is appended
+
+-- what the last pair `urlappend` says, and nothing where there is none
+abbrev pub IsAppended : List (List ℕ × List ℕ) → List ℕ → Type 0
+IsAppended pairs append = (last : Option (List ℕ)) × (IsLast (values_named (codes "urlappend") pairs) last × (append ≡ unwrap_or last []))
 
 -- ---- indexes
 

@@ -1,13 +1,15 @@
 -- The statuses of HTTP (RFC 9110, section 15), and the status and the words of each response code.
-use Rattle.std.specs.Prelude.{ℕ, ◌==◌, ◌||◌, List, codes, if◌then◌else◌}
+use Rattle.std.specs.Prelude.{ℕ, ◌==◌, ◌||◌, Bool, List, codes, eqb, if◌then◌else◌}
+use Rattle.std.specs.List.{ends_with}
 use Rattle.hdl_proxy.specs.declared.answer.Status.{Status}
-use Rattle.hdl_proxy.specs.declared.answer.Status.TheVariants.{Success, Created, NoContent, Found, BadRequest, Unauthorized, Forbidden, NotFound, MethodNotAllowed, RequestTimeout, Conflict, ContentTooLarge, BadGateway, Unavailable}
+use Rattle.hdl_proxy.specs.declared.answer.Status.TheVariants.{Success, Created, NoContent, Found, NotModified, BadRequest, Unauthorized, Forbidden, NotFound, MethodNotAllowed, RequestTimeout, Conflict, ContentTooLarge, BadGateway, Unavailable}
 
 abbrev pub status_number : Status → ℕ
 status_number Success = 200
 status_number Created = 201
 status_number NoContent = 204
 status_number Found = 302
+status_number NotModified = 304
 status_number BadRequest = 400
 status_number Unauthorized = 401
 status_number Forbidden = 403
@@ -35,5 +37,22 @@ refused_words code =
     else if code == 102 then codes "The server says that this is no handle."
     else if code == 200 then codes "This handle is there, and has no such value that anybody may read."
     else if code == 302 then codes "No server that was asked has handles of this prefix."
-    else if code == 3 then codes "The server is busy. Please try again."
+    else if code == 3 then codes "The server is busy."
     else codes "The server couldn't answer."
+
+-- a page's advice to who asked for this name, by the code
+abbrev pub ends_with_slash : List ℕ → Bool
+ends_with_slash asked = ends_with eqb asked (codes "/")
+
+abbrev pub look_again : List ℕ → List ℕ
+look_again asked =
+    if ends_with_slash asked then codes "Please look for a mistake in the name, such as the slash at its end. If there is none, ask who gave it to you."
+    else codes "Please look for a mistake in the name. If there is none, ask who gave it to you."
+
+abbrev pub advice : ℕ → List ℕ → List ℕ
+advice code asked =
+    if (code == 100) || (code == 302) then look_again asked
+    else if code == 102 then codes "A handle is a prefix, a slash and a local name, such as 10/a."
+    else if code == 200 then codes "Without the words behind its question mark, the address shows all that anybody may read."
+    else if code == 5 then codes "Follow a link to a handle, or type its address."
+    else codes "Please come back in a few minutes."

@@ -1,5 +1,6 @@
 -- Which URLs are followed, and how they stand in a Location.
-use Rattle.std.specs.Prelude.{◌≡◌, ◌≤◌, ◌≢◌, ◌⊎◌, ℕ, List, All, codes, length, take, map}
+use Rattle.std.specs.Prelude.{◌≡◌, ◌≤◌, ◌≢◌, ◌⊎◌, ◌==◌, ◌&&◌, ◌++◌, ℕ, Bool, not, List, [], All, Option, Some, None, bytes_eq, codes, drop, length, take, map, if◌then◌else◌}
+use Rattle.std.specs.List.{list_any}
 use Rattle.std.specs.Char.{to_ascii_lowercase}
 
 -- the URL begins with these octets, in any case of letters
@@ -22,6 +23,14 @@ IsNoControl octet = (32 ≤ octet) × (octet ≢ 127)
 -- a browser may be sent to it
 abbrev pub IsFollowed : List ℕ → Type 0
 IsFollowed url = HasFollowedScheme url × All IsNoControl url
+
+-- a path has begun: a slash stands behind the eight octets that a scheme with its colon and slashes takes at most
+abbrev pub has_path : List ℕ → Bool
+has_path url = list_any (λ octet. octet == 47) (drop 8 url)
+
+-- the URL with this behind it, unless that could change its host
+abbrev pub extended : List ℕ → List ℕ → Option (List ℕ)
+extended url append = if not (bytes_eq append []) && not (has_path url) then None else Some (url ++ append)
 
 -- graphic ASCII: no control octet, no space, no line end
 abbrev pub IsGraphic : ℕ → Type 0

@@ -1,5 +1,5 @@
 -- The numbers of a value in words, and octets as text.
-use Rattle.std.specs.Prelude.{◌≡◌, ◌≢◌, ℕ, zero, suc, ◌+◌, ◌*◌, ◌/◌, ◌%◌, ℤ, pos, List, [], ◌∷◌, ◌++◌, drop, slice_index, if◌then◌else◌, Option, Some, None, string_bytes}
+use Rattle.std.specs.Prelude.{◌≡◌, ◌≢◌, ◌==◌, codes, decimal, ℕ, ◌+◌, ◌*◌, ◌/◌, ◌%◌, ℤ, pos, List, [], ◌∷◌, ◌++◌, drop, slice_index, if◌then◌else◌, Option, Some, None, string_bytes}
 use Rattle.std.specs.Int.{w32, from_be_bytes}
 use Rattle.std.specs.Str.{is_utf8}
 use Rattle.hex.specs.Hex.{encode_lower}
@@ -60,3 +60,17 @@ ttl_seconds v = from_be_bytes w32 (drop 1 v.ttl)
 abbrev pub IsKeptFor : Value → KeptFor → Type 0
 IsKeptFor v (Seconds n) = (ttl_kind v ≢ 1) × (n ≡ ttl_seconds v)
 IsKeptFor v (Until words) = (ttl_kind v ≡ 1) × IsMomentText (pos (ttl_seconds v * 1_000_000_000)) (string_bytes words)
+
+-- ---- spans
+
+-- so many of a unit
+abbrev pub counted : ℕ → List ℕ → List ℕ → List ℕ
+counted n one many = if n == 1 then one else decimal n ++ many
+
+-- so many seconds, by the largest unit of which they are some
+abbrev pub span_words : ℕ → List ℕ
+span_words n =
+    if n % 86_400 == 0 then counted (n / 86_400) (codes "a day") (codes " days")
+    else if n % 3_600 == 0 then counted (n / 3_600) (codes "an hour") (codes " hours")
+    else if n % 60 == 0 then counted (n / 60) (codes "a minute") (codes " minutes")
+    else counted n (codes "a second") (codes " seconds")

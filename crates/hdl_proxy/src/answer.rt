@@ -1,7 +1,10 @@
 //! What is answered over HTTP.
 
 ghost use Rattle.std.specs.Prelude.{◌≡◌};
+ghost use Rattle.hdl_proxy.specs.Answer.{Tells};
 ghost use Rattle.hdl_proxy.specs.Status.{status_number, status_of_code};
+
+use std::alloc::Global;
 
 /// The statuses of HTTP that the proxy answers.
 #[derive(Clone, Copy, Debug, PartialEq, Eq)]
@@ -10,6 +13,7 @@ pub enum Status {
     Created = 201,
     NoContent = 204,
     Found = 302,
+    NotModified = 304,
     BadRequest = 400,
     Unauthorized = 401,
     Forbidden = 403,
@@ -50,8 +54,22 @@ impl Status {
 pub enum Media {
     /// `text/html; charset=utf-8`
     Page,
+    /// The same, of a page that a browser leaves at once.
+    Way,
     /// `application/json`, which any page may read
     Json,
+    /// `text/plain; charset=utf-8`
+    Text,
+    /// `image/svg+xml`
+    Icon,
+}
+
+/// How long others may keep an answer (RFC 9111, section 5.2.2).
+#[derive(Clone, Copy, Debug, PartialEq, Eq)]
+pub enum Keeping {
+    /// Not at all.
+    Never,
+    Seconds(u32),
 }
 
 /// An answer over HTTP.
@@ -61,5 +79,36 @@ pub struct Answer {
     /// Where to go: graphic ASCII alone.
     pub location: Option<String>,
     pub media: Media,
+    pub keeping: Keeping,
+    /// Its entity tag, which [`tagged`](crate::tagged) gives it.
+    pub tag: Option<String>,
+    /// What a page is called. Nothing else has a title.
+    pub title: Vec<u8>,
+    /// Of a page its main part, which [`Site::dressed`](crate::Site::dressed) puts between head and foot.
     pub body: Vec<u8>,
+}
+
+impl Answer {
+    /// An answer that leads nowhere, and has no title and no tag yet.
+    pub fn new(
+        alloc: Global,
+        status: Status,
+        media: Media,
+        keeping: Keeping,
+        body: Vec<u8>,
+    ) -> Answer
+        ensures told { Tells status media result }
+        ensures keeping { result.keeping ≡ keeping }
+        ensures body { result.body ≡ body }
+    {
+        Answer {
+            status,
+            location: None,
+            media,
+            keeping,
+            tag: None,
+            title: Vec::new(alloc),
+            body,
+        }
+    }
 }

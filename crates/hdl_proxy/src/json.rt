@@ -4,33 +4,49 @@ ghost use Rattle.std.specs.Prelude.{◌≡◌, false, List, IfOk, OnOk, option_m
 ghost use Rattle.std.specs.List.{AllZip};
 ghost use Rattle.serde_json.specs.Data.{Data, array, object, no_members};
 ghost use Rattle.serde_json.specs.View.{view, items_of, members_view};
-ghost use Rattle.serde_json.specs.Written.{compact_text, has_float};
+ghost use Rattle.serde_json.specs.Written.{IsInOrder, compact_text, has_float};
 ghost use Rattle.hdl_value.specs.Refs.{raw, raws};
-ghost use Rattle.hdl_proxy.specs.Json.{put_text as with_text, formatted, reference_members, reference_json, admin_json, list_json, octets_json, data_json, kept_json, written_json, put_permissions, value_json, answer_json, refusal_json, IsValueJson, IsJsonOf};
+ghost use Rattle.hdl_proxy.specs.Json.{put_text as with_text, formatted, reference_members, reference_json, admin_json, list_json, base64_json, text_json, octets_json, data_json, is_text, kept_json, put_written, written_json, put_permissions, value_json, answer_json, refusal_json, IsValueJson, IsJsonOf, IsPrettyOf};
 ghost use Rattle.hdl_proxy.specs.Answer.{Tells};
 
-use crate::answer::{Answer, Media, Status};
+use crate::answer::{Answer, Keeping, Media, Status};
 use crate::names::text_of;
 use crate::words::{
     KeptFor, kept_for, permission_digits, usual_permissions, value_digits, written_words,
 };
 use base64::engine::general_purpose::STANDARD;
-use hdl_value::{AdminMask, Reference, Value, admin_of, vlist_of};
+use hdl_value::{AdminMask, HS_ADMIN, HS_VLIST, Reference, Value, admin_of, vlist_of};
 use serde_json::{Map, Value as Json, put};
 use std::alloc::{AllocError, Global};
 
-/// An answer in JSON.
-pub fn json_answer(alloc: Global, status: Status, json: &Json) -> Result<Answer, AllocError>
+/// The type of a value that says where a service is.
+const HS_SITE: &[u8] = b"HS_SITE";
+
+/// The type of a public key.
+const HS_PUBKEY: &[u8] = b"HS_PUBKEY";
+
+/// An answer in JSON, without a space, which others may keep so.
+fn kept_answer(
+    alloc: Global,
+    status: Status,
+    keeping: Keeping,
+    json: &Json,
+) -> Result<Answer, AllocError>
     ensures told { IfOk result (Tells status Media.Json) }
+    ensures kept { IfOk result (λ a. a.keeping ≡ keeping) }
     ensures body { IfOk result (λ a. has_float (view json.now) ≡ false → a.body.items ≡ compact_text (view json.now)) }
 {
     let text = json.to_string(alloc)?;
-    Ok(Answer {
-        status,
-        location: None,
-        media: Media::Json,
-        body: text.into_bytes(),
-    })
+    Ok(Answer::new(alloc, status, Media::Json, keeping, text.into_bytes()))
+}
+
+/// An answer in JSON, which nobody may keep.
+pub fn json_answer(alloc: Global, status: Status, json: &Json) -> Result<Answer, AllocError>
+    ensures told { IfOk result (Tells status Media.Json) }
+    ensures kept { IfOk result (λ a. a.keeping ≡ Keeping.Never) }
+    ensures body { IfOk result (λ a. has_float (view json.now) ≡ false → a.body.items ≡ compact_text (view json.now)) }
+{
+    kept_answer(alloc, status, Keeping::Never, json)
 }
 
 /// Puts a member that is text; octets that are none by their hexadecimal digits.
@@ -66,6 +82,7 @@ pub fn refusal(
     why: &str,
 ) -> Result<Answer, AllocError>
     ensures told { IfOk result (Tells status Media.Json) }
+    ensures kept { IfOk result (λ a. a.keeping ≡ Keeping.Never) }
     ensures body { IfOk result (λ a. a.body.items ≡ compact_text (refusal_json asked.now code why.now)) }
 {
     let json = refusal_json(alloc, asked, code, why)?;
@@ -124,13 +141,37 @@ fn list_json(alloc: Global, references: &[Reference]) -> Result<Json, AllocError
     formatted(alloc, "vlist", Json::from(list))
 }
 
-#[tactic(auto, unfolding(crate::specs::Json::octets_json))]
-fn octets_json(alloc: Global, octets: &[u8]) -> Result<Json, AllocError>
-    ensures { IfOk result (λ json. view json ≡ octets_json octets.now) }
+/// Whether data of this type is text: all but those whose octets have a layout (RFC 3651, section 3.2).
+fn is_text(kind: &[u8]) -> bool
+    ensures { result ≡ is_text kind.now }
+{
+    kind != HS_ADMIN && kind != HS_VLIST && kind != HS_SITE && kind != HS_PUBKEY
+}
+
+fn base64_json(alloc: Global, octets: &[u8]) -> Result<Json, AllocError>
+    ensures { IfOk result (λ json. view json ≡ base64_json octets.now) }
+{
+    formatted(alloc, "base64", Json::from(STANDARD.encode(alloc, octets)?))
+}
+
+/// Octets that may be text.
+#[tactic(auto, unfolding(crate::specs::Json::text_json))]
+fn text_json(alloc: Global, octets: &[u8]) -> Result<Json, AllocError>
+    ensures { IfOk result (λ json. view json ≡ text_json octets.now) }
 {
     match str::from_utf8(octets) {
         Ok(text) => formatted(alloc, "string", Json::from(String::from_str(alloc, text)?)),
-        Err(_) => formatted(alloc, "base64", Json::from(STANDARD.encode(alloc, octets)?)),
+        Err(_) => base64_json(alloc, octets),
+    }
+}
+
+fn octets_json(alloc: Global, kind: &[u8], octets: &[u8]) -> Result<Json, AllocError>
+    ensures { IfOk result (λ json. view json ≡ octets_json kind.now octets.now) }
+{
+    if is_text(kind) {
+        text_json(alloc, octets)
+    } else {
+        base64_json(alloc, octets)
     }
 }
 
@@ -143,7 +184,7 @@ fn data_json(alloc: Global, value: &Value) -> Result<Json, AllocError>
     }
     match vlist_of(alloc, value)? {
         Some(references) => list_json(alloc, &references),
-        None => octets_json(alloc, value.bytes.as_slice()),
+        None => octets_json(alloc, value.kind.as_slice(), value.bytes.as_slice()),
     }
 }
 
@@ -163,6 +204,21 @@ fn written_json(written: Option<String>) -> Json
         Some(moment) => Json::from(moment),
         None => Json::Null,
     }
+}
+
+/// Puts when a value was written. A timestamp of 0 says nothing.
+fn put_written(
+    alloc: Global,
+    object: &mut Map<String, Json>,
+    stamp: u64,
+    written: Option<String>,
+) -> Result<(), AllocError>
+    ensures { OnOk result (members_view object.new.entries ≡ put_written stamp (option_map string_bytes written) (members_view object.old.entries)) }
+{
+    if stamp == 0 {
+        return Ok(());
+    }
+    put(object, alloc, "timestamp", written_json(written))
 }
 
 /// Puts the permissions of a value where they aren't the usual ones of its type.
@@ -191,7 +247,7 @@ fn value_json(alloc: Global, value: &Value) -> Result<Json, AllocError>
     put_text(alloc, &mut object, "type", value.kind.as_slice())?;
     put(&mut object, alloc, "data", data_json(alloc, value)?)?;
     put(&mut object, alloc, "ttl", kept_json(kept))?;
-    put(&mut object, alloc, "timestamp", written_json(written))?;
+    put_written(alloc, &mut object, value.stamp, written)?;
     put_permissions(alloc, &mut object, value)?;
     Ok(Json::from(object))
 }
@@ -217,11 +273,40 @@ fn answer_json(alloc: Global, handle: &[u8], values: &[Value]) -> Result<Json, A
     Ok(Json::from(object))
 }
 
-/// The values of a handle.
-pub fn values_answer(alloc: Global, handle: &[u8], values: &[Value]) -> Result<Answer, AllocError>
+/// The values of a handle, without a space.
+pub fn values_answer(
+    alloc: Global,
+    handle: &[u8],
+    values: &[Value],
+    keeping: Keeping,
+) -> Result<Answer, AllocError>
     ensures told { IfOk result (Tells Status.Success Media.Json) }
+    ensures kept { IfOk result (λ a. a.keeping ≡ keeping) }
     ensures body { IfOk result (λ a. IsJsonOf handle.now values.now a.body.items) }
 {
     let json = answer_json(alloc, handle, values)?;
-    json_answer(alloc, Status::Success, &json)
+    kept_answer(alloc, Status::Success, keeping, &json)
+}
+
+/// This JSON over many lines.
+fn pretty_octets(alloc: Global, json: &Json) -> Result<Vec<u8>, AllocError>
+    ensures { IfOk result (λ octets. IsInOrder octets.items (view json.now)) }
+{
+    json.to_vec_pretty(alloc)
+}
+
+/// The values of a handle, over many lines.
+pub(crate) fn pretty_answer(
+    alloc: Global,
+    handle: &[u8],
+    values: &[Value],
+    keeping: Keeping,
+) -> Result<Answer, AllocError>
+    ensures told { IfOk result (Tells Status.Success Media.Json) }
+    ensures kept { IfOk result (λ a. a.keeping ≡ keeping) }
+    ensures body { IfOk result (λ a. IsPrettyOf handle.now values.now a.body.items) }
+{
+    let json = answer_json(alloc, handle, values)?;
+    let body = pretty_octets(alloc, &json)?;
+    Ok(Answer::new(alloc, Status::Success, Media::Json, keeping, body))
 }

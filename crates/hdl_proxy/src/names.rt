@@ -20,13 +20,20 @@ pub fn read_name(alloc: Global, octets: &[u8]) -> Result<Result<Name, NameFault>
     }
 }
 
+/// The octets that these stand for: their escapes are read once.
+pub(crate) fn decoded(alloc: Global, text: &[u8]) -> Result<Vec<u8>, AllocError>
+    ensures { IfOk result (λ octets. octets.items ≡ percent_decode text.now) }
+{
+    let mut octets = Vec::new(alloc);
+    percent_decode(text).append_to(&mut octets)?;
+    Ok(octets)
+}
+
 /// The octets that a part of a path stands for: its escapes are read once.
 pub fn unescaped(alloc: Global, text: &str) -> Result<Vec<u8>, AllocError>
     ensures { IfOk result (λ octets. octets.items ≡ percent_decode text.now) }
 {
-    let mut octets = Vec::new(alloc);
-    percent_decode(text.as_bytes()).append_to(&mut octets)?;
-    Ok(octets)
+    decoded(alloc, text.as_bytes())
 }
 
 /// Octets as text: as they are where they are text, and else their hexadecimal digits.

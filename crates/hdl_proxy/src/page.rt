@@ -1,4 +1,4 @@
-//! Pages of HTML that grow.
+//! Pages of HTML that grow, between the head and the foot of their site.
 
 ghost use Rattle.std.specs.Prelude.{◌≡◌, ◌++◌, [], IfOk, OnOk, decimal};
 ghost use Rattle.hdl_proxy.specs.Escape.{escaped};
@@ -6,28 +6,6 @@ ghost use Rattle.hdl_proxy.specs.Pages.{element, top};
 
 use crate::escape::put_escaped;
 use std::alloc::{AllocError, Global};
-
-const HEAD: &str = "<!DOCTYPE html>
-<html lang=\"en\">
-<head>
-<meta charset=\"utf-8\">
-<meta name=\"viewport\" content=\"width=device-width, initial-scale=1\">
-<title>";
-
-const STYLE: &str = "</title>
-<style>
-:root { color-scheme: light dark }
-body { font: 1rem/1.5 system-ui, sans-serif; max-width: 44rem; margin: 0 auto; padding: 1rem }
-h1 { font-size: 1.4rem; overflow-wrap: anywhere }
-h2 { font-size: 1rem; margin: 1.5rem 0 0 }
-p { margin: .2rem 0 }
-small { font-weight: normal; opacity: .7 }
-.data { font-family: ui-monospace, monospace; white-space: pre-wrap; overflow-wrap: anywhere }
-input, button { font: inherit; padding: .4rem .6rem; max-width: 100% }
-</style>
-</head>
-<body>
-<h1>";
 
 /// A page of HTML. Markup comes from this crate, all else is text.
 #[derive(Drop)]
@@ -37,17 +15,13 @@ pub(crate) struct Page {
 }
 
 impl Page {
-    /// A page with this title, which is its heading too.
+    /// The main part of a page, with this heading.
     #[tactic(auto, unfolding(crate::specs::Pages::top))]
-    pub(crate) fn new(alloc: Global, title: &[u8]) -> Result<Page, AllocError>
-        ensures { IfOk result (λ page. page.octets.items ≡ top title.now) }
+    pub(crate) fn new(alloc: Global, heading: &[u8]) -> Result<Page, AllocError>
+        ensures { IfOk result (λ page. page.octets.items ≡ top heading.now) }
     {
         let mut page = Page::empty(alloc);
-        page.markup(HEAD)?;
-        page.text(title)?;
-        page.markup(STYLE)?;
-        page.text(title)?;
-        page.markup("</h1>\n")?;
+        page.element("<h1>", heading, "</h1>\n")?;
         Ok(page)
     }
 
@@ -66,6 +40,13 @@ impl Page {
         ensures { OnOk result (self.new.octets.items ≡ self.old.octets.items ++ markup.now) }
     {
         self.octets.extend_from_slice(markup.as_bytes())
+    }
+
+    /// Adds a part of a page, which was made as one.
+    pub(crate) fn part(&mut self, part: &Vec<u8>) -> Result<(), AllocError>
+        ensures { OnOk result (self.new.octets.items ≡ self.old.octets.items ++ part.now.items) }
+    {
+        self.octets.extend_from_slice(part)
     }
 
     /// Adds text, escaped.

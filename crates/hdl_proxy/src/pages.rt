@@ -3,67 +3,141 @@
 ghost use Rattle.std.specs.Prelude.{◌≡◌, ◌++◌, List, ℕ, IfOk, OnOk, flat_map, option_map, string_bytes};
 ghost use Rattle.std.specs.List.{list_all};
 ghost use Rattle.hdl_value.specs.Refs.{raw, raws};
-ghost use Rattle.hdl_proxy.specs.Pages.{bottom, heading, is_plain, is_plain_octet, kept_part, link_part, octets_part, digits_part, admin_part, reference_part, written_part, refusal_page, redirect_page, IsDataPart, IsOctetsPart, IsTimesPart, IsSection, IsSections, IsValuesPart, IsPageOf};
+ghost use Rattle.hdl_proxy.specs.Pages.{heading, permission_part, handle_permissions, value_permissions, admin_permissions, permissions_part, refusal_title, lead_word, IsTable, is_plain, is_plain_octet, kept_part, link_part, octets_part, digits_part, admin_part, reference_part, written_part, refusal_page, redirect_page, IsDataPart, IsOctetsPart, IsTimesPart, IsSection, IsSections, IsValuesPart, IsPageOf};
 ghost use Rattle.hdl_proxy.specs.Answer.{IsLocated, LeadsTo, Tells};
+ghost use Rattle.hdl_proxy.specs.Keeping.{IsKeepingOf};
+ghost use Rattle.hdl_proxy.specs.Status.{advice, ends_with_slash, look_again};
 
-use crate::answer::{Answer, Media, Status};
+use crate::answer::{Answer, Keeping, Media, Status};
+use crate::keeping::keeping_of;
 use crate::link::Link;
 use crate::page::Page;
-use crate::words::{KeptFor, kept_for, permission_digits, written_words};
-use hdl_value::{AdminMask, Reference, Value, admin_of, vlist_of};
+use crate::words::{KeptFor, kept_for, span_words, written_words};
+use hdl_value::{AdminMask, AdminPermission, Reference, Value, admin_of, vlist_of};
 use std::alloc::{AllocError, Global};
 
 const NO_VALUES: &str = "<p>This handle is there, and has no value that anybody may read.</p>\n";
 
-const ANOTHER: &str = "<p><a href=\"/\">Another handle</a></p>\n";
+const ANOTHER: &str = "<p><a href=\"/\">Find another handle</a></p>\n";
 
-fn page_answer(status: Status, mut page: Page) -> Result<Answer, AllocError>
-    ensures told { IfOk result (Tells status Media.Page) }
-    ensures body { IfOk result (λ a. a.body.items ≡ page.octets.items ++ bottom) }
+/// The head of a table of values.
+const COLUMNS: &str = "<table>
+<thead><tr><th scope=\"col\">Type, index</th><th scope=\"col\">Value</th><th scope=\"col\">May be kept</th></tr></thead>
+<tbody>
+";
+
+const END: &str = "</tbody>
+</table>
+";
+
+/// A page with this title.
+fn page_answer(status: Status, keeping: Keeping, title: Vec<u8>, page: Page) -> Answer
+    ensures told { Tells status Media.Page result }
+    ensures kept { result.keeping ≡ keeping }
+    ensures title { result.title ≡ title }
+    ensures body { result.body ≡ page.octets }
 {
-    page.markup("</body>\n</html>\n")?;
-    Ok(Answer {
+    Answer {
         status,
         location: None,
         media: Media::Page,
+        keeping,
+        tag: None,
+        title,
         body: page.into_octets(),
-    })
+    }
 }
 
-/// A page that says why there are no values: what was asked, and why not.
+/// Whether a name ends with a slash, as one does that was typed like a folder.
+fn ends_with_slash(asked: &[u8]) -> bool
+    ensures { result ≡ ends_with_slash asked.now }
+{
+    asked.ends_with(b"/")
+}
+
+fn look_again(asked: &[u8]) -> &'static str
+    ensures { result.now ≡ look_again asked.now }
+{
+    if ends_with_slash(asked) {
+        "Please look for a mistake in the name, such as the slash at its end. If there is none, ask who gave it to you."
+    } else {
+        "Please look for a mistake in the name. If there is none, ask who gave it to you."
+    }
+}
+
+/// What a reader may do who asked for this, by the code of the refusal.
+fn advice(code: u32, asked: &[u8]) -> &'static str
+    ensures { result.now ≡ advice code asked.now }
+{
+    match code {
+        100 | 302 => look_again(asked),
+        102 => "A handle is a prefix, a slash and a local name, such as 10/a.",
+        200 =>
+            "Without the words behind its question mark, the address shows all that anybody may read.",
+        5 => "Follow a link to a handle, or type its address.",
+        _ => "Please come back in a few minutes.",
+    }
+}
+
+/// How the title of a refusal begins, by its code.
+fn lead_word(code: u32) -> &'static str
+    ensures { result.now ≡ lead_word code }
+{
+    match code {
+        100 | 302 => "Not found: ",
+        102 => "No handle: ",
+        200 => "Not public: ",
+        5 => "Not done: ",
+        _ => "No answer: ",
+    }
+}
+
+fn refusal_title(alloc: Global, asked: &[u8], code: u32) -> Result<Vec<u8>, AllocError>
+    ensures { IfOk result (λ title. title.items ≡ refusal_title code asked.now) }
+{
+    let mut title = Vec::from_slice(alloc, lead_word(code).as_bytes())?;
+    title.extend_from_slice(asked)?;
+    Ok(title)
+}
+
+/// A page that says why there are no values: what was asked, why not, and what to do.
 #[tactic(auto, unfolding(crate::specs::Pages::refusal_page))]
 pub(crate) fn refusal(
     alloc: Global,
     status: Status,
     asked: &[u8],
+    code: u32,
     why: &str,
 ) -> Result<Answer, AllocError>
     ensures told { IfOk result (Tells status Media.Page) }
-    ensures body { IfOk result (λ a. a.body.items ≡ refusal_page asked.now why.now) }
+    ensures kept { IfOk result (λ a. a.keeping ≡ Keeping.Never) }
+    ensures title { IfOk result (λ a. a.title.items ≡ refusal_title code asked.now) }
+    ensures body { IfOk result (λ a. a.body.items ≡ refusal_page asked.now code why.now) }
 {
+    let title = refusal_title(alloc, asked, code)?;
     let mut page = Page::new(alloc, asked)?;
-    page.markup("<p>")?;
-    page.text(why.as_bytes())?;
-    page.markup("</p>\n")?;
+    page.element("<p>", why.as_bytes(), "</p>\n")?;
+    page.element("<p>", advice(code, asked).as_bytes(), "</p>\n")?;
     page.markup(ANOTHER)?;
-    page_answer(status, page)
+    Ok(page_answer(status, Keeping::Never, title, page))
 }
 
 /// What this is, and a form.
 pub(crate) fn front(alloc: Global) -> Result<Answer, AllocError>
     ensures { IfOk result (Tells Status.Success Media.Page) }
 {
-    let mut page = Page::new(alloc, b"Handles")?;
+    let title = Vec::from_slice(alloc, b"Find a handle")?;
+    let mut page = Page::new(alloc, b"Find a handle")?;
     page.markup(
-        "<p>A handle is a name that stays, such as <code>10/a</code>. This address and a handle lead to what it names.</p>
-<form action=\"/\" method=\"get\">
-<p><label for=\"handle\">Handle</label></p>
-<p><input id=\"handle\" name=\"handle\" autocapitalize=\"off\" autocomplete=\"off\" spellcheck=\"false\" required> <button>Follow</button></p>
+        "<form action=\"/\" method=\"get\">
+<p><label for=\"handle\">A handle, as you found it:</label></p>
+<p class=\"find\"><input id=\"handle\" name=\"handle\" placeholder=\"10/a\" autocapitalize=\"off\" autocomplete=\"off\" spellcheck=\"false\" required> <button>Go to it</button></p>
 </form>
-<p>With <code>?noredirect</code> behind a handle its values are shown. <code>/api/handles/</code> and a handle gives them as JSON.</p>
+<p>A handle such as <code>10/a</code> is a lasting name of a text, a picture or data, which may move. Its address here leads to where that is now.</p>
+<p><small>With <code>?noredirect</code> behind a handle its values are shown. <code>/api/handles/</code> and a handle gives them as JSON.</small></p>
 ",
     )?;
-    page_answer(Status::Success, page)
+    Ok(page_answer(Status::Success, Keeping::Seconds(0), title, page))
 }
 
 #[tactic(auto, unfolding(crate::specs::Pages::redirect_page))]
@@ -80,8 +154,14 @@ fn put_way(page: &mut Page, title: &[u8], to: &Link) -> Result<(), AllocError>
 }
 
 /// The way that a link leads, which a browser goes by itself.
-pub(crate) fn redirect(alloc: Global, title: &[u8], to: Link) -> Result<Answer, AllocError>
+pub(crate) fn redirect(
+    alloc: Global,
+    title: &[u8],
+    to: Link,
+    keeping: Keeping,
+) -> Result<Answer, AllocError>
     ensures leads { IfOk result (LeadsTo title.now to) }
+    ensures kept { IfOk result (λ a. a.keeping ≡ keeping) }
     ensures located { IfOk result IsLocated }
 {
     let mut page = Page::empty(alloc);
@@ -89,7 +169,10 @@ pub(crate) fn redirect(alloc: Global, title: &[u8], to: Link) -> Result<Answer, 
     Ok(Answer {
         status: Status::Found,
         location: Some(to.into_text()),
-        media: Media::Page,
+        media: Media::Way,
+        keeping,
+        tag: None,
+        title: Vec::new(alloc),
         body: page.into_octets(),
     })
 }
@@ -117,18 +200,116 @@ fn is_plain(octets: &[u8]) -> bool
     are_plain(text.as_bytes())
 }
 
+/// An item of a list, where the mask has this permission.
+fn put_permission(
+    page: &mut Page,
+    mask: AdminMask,
+    permission: AdminPermission,
+    item: &'static str,
+) -> Result<(), AllocError>
+    ensures { OnOk result (page.new.octets.items ≡ page.old.octets.items ++ permission_part mask.0 permission item.now) }
+{
+    if mask.permits(permission) {
+        return page.markup(item);
+    }
+    Ok(())
+}
+
+#[tactic(auto, unfolding(crate::specs::Pages::handle_permissions))]
+fn put_handle_permissions(page: &mut Page, mask: AdminMask) -> Result<(), AllocError>
+    ensures { OnOk result (page.new.octets.items ≡ page.old.octets.items ++ handle_permissions mask.0) }
+{
+    put_permission(
+        page,
+        mask,
+        AdminPermission::AddHandle,
+        "<li>create handles</li>",
+    )?;
+    put_permission(
+        page,
+        mask,
+        AdminPermission::DeleteHandle,
+        "<li>delete them</li>",
+    )?;
+    put_permission(
+        page,
+        mask,
+        AdminPermission::ListHandle,
+        "<li>list them</li>",
+    )?;
+    put_permission(
+        page,
+        mask,
+        AdminPermission::AuthorizedRead,
+        "<li>read what isn't public</li>",
+    )
+}
+
+#[tactic(auto, unfolding(crate::specs::Pages::value_permissions))]
+fn put_value_permissions(page: &mut Page, mask: AdminMask) -> Result<(), AllocError>
+    ensures { OnOk result (page.new.octets.items ≡ page.old.octets.items ++ value_permissions mask.0) }
+{
+    put_permission(page, mask, AdminPermission::AddValue, "<li>add values</li>")?;
+    put_permission(
+        page,
+        mask,
+        AdminPermission::ModifyValue,
+        "<li>change values</li>",
+    )?;
+    put_permission(
+        page,
+        mask,
+        AdminPermission::DeleteValue,
+        "<li>remove values</li>",
+    )
+}
+
+#[tactic(auto, unfolding(crate::specs::Pages::admin_permissions))]
+fn put_admin_permissions(page: &mut Page, mask: AdminMask) -> Result<(), AllocError>
+    ensures { OnOk result (page.new.octets.items ≡ page.old.octets.items ++ admin_permissions mask.0) }
+{
+    put_permission(
+        page,
+        mask,
+        AdminPermission::AddAdmin,
+        "<li>add administrators</li>",
+    )?;
+    put_permission(
+        page,
+        mask,
+        AdminPermission::ModifyAdmin,
+        "<li>change administrators</li>",
+    )?;
+    put_permission(
+        page,
+        mask,
+        AdminPermission::RemoveAdmin,
+        "<li>remove administrators</li>",
+    )
+}
+
+/// What an administrator may do, but for what nothing asks for.
+#[tactic(auto, unfolding(crate::specs::Pages::permissions_part))]
+fn put_permissions(page: &mut Page, mask: AdminMask) -> Result<(), AllocError>
+    ensures { OnOk result (page.new.octets.items ≡ page.old.octets.items ++ permissions_part mask.0) }
+{
+    page.markup("<ul class=\"may\">")?;
+    put_handle_permissions(page, mask)?;
+    put_value_permissions(page, mask)?;
+    put_admin_permissions(page, mask)?;
+    page.markup("</ul>\n")
+}
+
 #[tactic(auto, unfolding(crate::specs::Pages::admin_part))]
 fn put_admin(page: &mut Page, mask: AdminMask, key: &Reference) -> Result<(), AllocError>
     ensures { OnOk result (page.new.octets.items ≡ page.old.octets.items ++ admin_part (mask.0, raw key.now)) }
 {
-    let digits = permission_digits(page.alloc, mask)?;
-    page.markup("<p class=\"data\">administrator ")?;
+    page.markup("<p>Whoever has the key <span class=\"data\">")?;
     page.number(key.index)?;
     page.markup(":")?;
     page.text(key.name.sent())?;
-    page.markup(", permissions ")?;
-    page.text(digits.as_bytes())?;
-    page.markup("</p>\n")
+    page.markup("</span> may</p>\n")?;
+    put_permissions(page, mask)
 }
 
 #[tactic(auto, unfolding(crate::specs::Pages::reference_part))]
@@ -203,12 +384,12 @@ fn put_kept(page: &mut Page, kept: KeptFor) -> Result<(), AllocError>
 {
     match kept {
         KeptFor::Seconds(seconds) => {
-            page.markup("may be kept for ")?;
-            page.number(seconds)?;
-            page.markup(" seconds")
+            let words = span_words(page.alloc, seconds)?;
+            page.markup("for ")?;
+            page.text(words.as_bytes())
         }
         KeptFor::Until(moment) => {
-            page.markup("may be kept until ")?;
+            page.markup("until ")?;
             page.text(moment.as_bytes())
         }
     }
@@ -224,7 +405,7 @@ fn put_written(page: &mut Page, stamp: u64, written: Option<String>) -> Result<(
     if stamp == 0 {
         return Ok(());
     }
-    page.markup(", written ")?;
+    page.markup("<br>written ")?;
     page.text(moment.as_bytes())
 }
 
@@ -233,21 +414,21 @@ fn put_times(page: &mut Page, value: &Value) -> Result<(), AllocError>
 {
     let kept = kept_for(page.alloc, value)?;
     let written = written_words(page.alloc, value)?;
-    page.markup("<p><small>")?;
+    page.markup("</td>\n<td>")?;
     put_kept(page, kept)?;
     put_written(page, value.stamp, written)?;
-    page.markup("</small></p>\n")
+    page.markup("</td></tr>\n")
 }
 
 #[tactic(auto, unfolding(crate::specs::Pages::heading))]
 fn put_heading(page: &mut Page, value: &Value) -> Result<(), AllocError>
     ensures { OnOk result (page.new.octets.items ≡ page.old.octets.items ++ heading value.now) }
 {
-    page.markup("<h2>")?;
+    page.markup("<tr><th scope=\"row\">")?;
     page.text(value.kind.as_slice())?;
-    page.markup(" <small>index ")?;
+    page.markup(" <small>")?;
     page.number(value.index)?;
-    page.markup("</small></h2>\n")
+    page.markup("</small></th>\n<td>")
 }
 
 fn put_value(page: &mut Page, value: &Value) -> Result<(), AllocError>
@@ -267,13 +448,21 @@ fn put_sections(page: &mut Page, values: &[Value]) -> Result<(), AllocError>
     Ok(())
 }
 
+fn put_table(page: &mut Page, values: &[Value]) -> Result<(), AllocError>
+    ensures { OnOk result ((part : List ℕ) × IsTable values.now part × (page.new.octets.items ≡ page.old.octets.items ++ part)) }
+{
+    page.markup(COLUMNS)?;
+    put_sections(page, values)?;
+    page.markup(END)
+}
+
 fn put_values(page: &mut Page, values: &[Value]) -> Result<(), AllocError>
     ensures { OnOk result ((part : List ℕ) × IsValuesPart values.now part × (page.new.octets.items ≡ page.old.octets.items ++ part)) }
 {
     if values.is_empty() {
         return page.markup(NO_VALUES);
     }
-    put_sections(page, values)
+    put_table(page, values)
 }
 
 /// The values of a handle.
@@ -283,10 +472,13 @@ pub(crate) fn values_page(
     values: &[Value],
 ) -> Result<Answer, AllocError>
     ensures told { IfOk result (Tells Status.Success Media.Page) }
+    ensures kept { IfOk result (λ a. IsKeepingOf values.now a.keeping) }
+    ensures title { IfOk result (λ a. a.title.items ≡ handle.now) }
     ensures body { IfOk result (λ a. IsPageOf handle.now values.now a.body.items) }
 {
+    let title = Vec::from_slice(alloc, handle)?;
     let mut page = Page::new(alloc, handle)?;
     put_values(&mut page, values)?;
     page.markup(ANOTHER)?;
-    page_answer(Status::Success, page)
+    Ok(page_answer(Status::Success, keeping_of(values), title, page))
 }

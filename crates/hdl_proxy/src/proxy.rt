@@ -2,26 +2,36 @@
 
 ghost use Rattle.std.specs.Prelude.{◌≡◌, ◌≢◌, IfOk, codes};
 ghost use Rattle.percent_encoding.specs.Percent.{percent_decode};
-ghost use Rattle.hdl_proxy.specs.Answer.{Answers, Goes, IsLocated, IsWayOf, Refuses, ShowsFound, ShowsValues, Tells, media_of};
-ghost use Rattle.hdl_proxy.specs.Begin.{AsksAddress, AsksFor, IsAddress, IsAnswered, IsFront, IsLocatedIfAnswered, IsReading, LeadsToName, page_form, without_slash};
+ghost use Rattle.hdl_proxy.specs.Answer.{Answers, Goes, IsLocated, IsWayOf, IsWayToMeant, Refuses, ShowsFound, ShowsValues, Tells, is_json, media_of};
+ghost use Rattle.hdl_proxy.specs.Begin.{AsksAddress, AsksFor, IsAnswered, IsFile, IsFront, IsLocatedIfAnswered, IsNoHandle, IsOfFile, IsOfHandle, IsOwn, IsReading, LeadsFromPasted, LeadsToName, RefusesMethod, is_called_back, json_form, page_form, without_slash};
 ghost use Rattle.hdl_proxy.specs.Query.{pairs_of, texts_of};
 ghost use Rattle.hdl_proxy.specs.Status.{refused_words};
+ghost use Rattle.hdl_proxy.specs.Url.{extended};
 
-use crate::answer::{Answer, Media, Status};
+use crate::answer::{Answer, Keeping, Media, Status};
 use crate::choice::first_url;
 use crate::found::{Found, read_answer};
+use crate::keeping::keeping_of;
 use crate::link::Link;
-use crate::names::{read_name, unescaped};
-use crate::query::{Pair, has_pair, indexes_of, last_named, read_pairs, types_of};
+use crate::names::{decoded, read_name};
+use crate::pasted::{pasted, written};
+use crate::query::{Pair, appended, has_pair, indexes_of, last_named, read_pairs, types_of};
 use crate::question::{Form, Question};
 use crate::resolver::NoAnswer;
-use crate::{json, pages};
+use crate::url::extended;
+use crate::{files, json, pages};
 use hdl_msg::ResponseCode;
 use hdl_name::NameFault;
 use hdl_value::Value;
 use std::alloc::{AllocError, Global};
 
-/// Where JSON is asked for.
+/// Under which all is told in JSON.
+const API_PATH: &str = "/api/";
+
+/// Where handles are listed.
+const LIST_PATH: &str = "/api/handles";
+
+/// Where the values of a handle are asked for as JSON.
 const JSON_PATH: &str = "/api/handles/";
 
 /// What is to be done for a request.
@@ -39,9 +49,18 @@ fn begin_front(alloc: Global, pairs: &[Pair]) -> Result<Next, AllocError>
     ensures located { IfOk result IsLocatedIfAnswered }
 {
     match last_named(alloc, pairs, "handle")? {
-        Some(sent) => Ok(Next::Answer(lead(alloc, sent.trim().as_bytes())?)),
+        Some(sent) => Ok(Next::Answer(lead_from(alloc, sent)?)),
         None => Ok(Next::Answer(pages::front(alloc)?)),
     }
+}
+
+/// The way from what was pasted.
+fn lead_from(alloc: Global, sent: &str) -> Result<Answer, AllocError>
+    ensures leads { IfOk result (LeadsFromPasted sent.now) }
+    ensures located { IfOk result IsLocated }
+{
+    let name = pasted(alloc, sent.trim().as_bytes())?;
+    lead(alloc, &name)
 }
 
 /// The way to a handle's own address.
@@ -52,7 +71,7 @@ fn lead(alloc: Global, sent: &[u8]) -> Result<Answer, AllocError>
     match read_name(alloc, sent)? {
         Ok(name) => {
             let to = Link::of_name(alloc, &name)?;
-            pages::redirect(alloc, name.sent(), to)
+            pages::redirect(alloc, name.sent(), to, Keeping::Never)
         }
         Err(fault) => bad_name(alloc, sent, Form::Page, fault),
     }
@@ -68,12 +87,10 @@ fn bad_name(alloc: Global, asked: &[u8], form: Form, fault: NameFault) -> Result
 fn bad_request(alloc: Global, asked: &[u8], form: Form, why: &str) -> Result<Answer, AllocError>
     ensures { IfOk result (Tells Status.BadRequest (media_of form)) }
 {
+    let code = ResponseCode::InvalidHandle.number();
     match form {
-        Form::Json => {
-            let code = ResponseCode::InvalidHandle.number();
-            json::refusal(alloc, Status::BadRequest, asked, code, why)
-        }
-        Form::Follow | Form::Page => pages::refusal(alloc, Status::BadRequest, asked, why),
+        Form::Json | Form::Pretty => json::refusal(alloc, Status::BadRequest, asked, code, why),
+        Form::Follow | Form::Page => pages::refusal(alloc, Status::BadRequest, asked, code, why),
     }
 }
 
@@ -85,36 +102,78 @@ fn asked_text<'a>(octets: &'a [u8], sent: &'a str) -> &'a [u8] {
     }
 }
 
-/// The question of an address, by the part of its path that is a name with escapes.
-fn begin_handle(alloc: Global, text: &str, form: Form, pairs: &[Pair]) -> Result<Next, AllocError>
+/// Whether the form is JSON.
+fn is_json(form: Form) -> bool
+    ensures { result ≡ is_json form }
+{
+    matches!(form, Form::Json | Form::Pretty)
+}
+
+/// Whether JSON is asked for as a call of a function, as a page's script had to before `Access-Control-Allow-Origin`.
+fn is_called_back(form: Form, pairs: &[Pair]) -> bool
+    ensures { result ≡ is_called_back form (texts_of pairs.now) }
+{
+    is_json(form) && has_pair(pairs, "callback")
+}
+
+/// The question of an address: `sent` is the part of its path that names a handle, `text` the name in it with its escapes.
+fn begin_handle(
+    alloc: Global,
+    sent: &str,
+    text: &[u8],
+    form: Form,
+    pairs: &[Pair],
+) -> Result<Next, AllocError>
     ensures asks { IfOk result (AsksFor (percent_decode text.now) form (texts_of pairs.now)) }
     ensures located { IfOk result IsLocatedIfAnswered }
 {
-    let octets = unescaped(alloc, text)?;
+    let octets = decoded(alloc, text)?;
+    if is_called_back(form, pairs) {
+        let why = "The word callback isn't taken: pages of any site may read this JSON.";
+        let asked = asked_text(&octets, sent);
+        return Ok(Next::Answer(bad_request(alloc, asked, form, why)?));
+    }
     let Some(indexes) = indexes_of(alloc, pairs)? else {
         let why = "An index is a number below 4294967296.";
-        let asked = asked_text(&octets, text);
+        let asked = asked_text(&octets, sent);
         return Ok(Next::Answer(bad_request(alloc, asked, form, why)?));
     };
     let types = types_of(alloc, pairs)?;
+    let append = appended(alloc, pairs)?;
     match read_name(alloc, &octets)? {
         Ok(name) => Ok(Next::Ask(Question {
             name,
             form,
             indexes,
             types,
+            append,
         })),
         Err(fault) => {
-            let asked = asked_text(&octets, text);
+            let asked = asked_text(&octets, sent);
             Ok(Next::Answer(bad_name(alloc, asked, form, fault)?))
         }
     }
 }
 
-fn page_form(stays: bool) -> Form
-    ensures { result ≡ page_form stays }
+/// The form of an address for browsers: a page of its values, or the way.
+fn page_form(pairs: &[Pair]) -> Form
+    ensures { result ≡ page_form (texts_of pairs.now) }
 {
-    if stays { Form::Page } else { Form::Follow }
+    if has_pair(pairs, "noredirect") {
+        Form::Page
+    } else {
+        Form::Follow
+    }
+}
+
+fn json_form(pairs: &[Pair]) -> Form
+    ensures { result ≡ json_form (texts_of pairs.now) }
+{
+    if has_pair(pairs, "pretty") {
+        Form::Pretty
+    } else {
+        Form::Json
+    }
 }
 
 fn without_slash(path: &str) -> &str
@@ -126,38 +185,100 @@ fn without_slash(path: &str) -> &str
     }
 }
 
-/// The form that a path asks for, and the part of it that is a name with escapes.
-fn read_path(path: &str, stays: bool) -> (Form, &str)
-    ensures { IsAddress path.now stays result.0 result.1.now }
+/// An address under `/api/` that is none of a handle.
+fn begin_interface(alloc: Global, path: &str) -> Result<Next, AllocError>
+    ensures none { IfOk result (IsAnswered (IsNoHandle path.now)) }
+    ensures located { IfOk result IsLocatedIfAnswered }
 {
-    match path.strip_prefix(JSON_PATH) {
-        Some(text) => (Form::Json, text),
-        None => (page_form(stays), without_slash(path)),
+    let code = ResponseCode::OperationDenied.number();
+    let (status, why) = if path == LIST_PATH {
+        (
+            Status::Forbidden,
+            "This proxy takes no keys, and so lists no handles.",
+        )
+    } else {
+        (
+            Status::NotFound,
+            "Nothing is at this address. Handles are at /api/handles/ and the handle.",
+        )
+    };
+    Ok(Next::Answer(json::refusal(alloc, status, path.as_bytes(), code, why)?))
+}
+
+/// The question of an address that is neither the front page nor a file.
+fn begin_address(alloc: Global, path: &str, query: &str) -> Result<Next, AllocError>
+    ensures asks { IsOfHandle path.now → IfOk result (AsksAddress path.now (pairs_of query.now)) }
+    ensures none { ¬ (IsOfHandle path.now) → IfOk result (IsAnswered (IsNoHandle path.now)) }
+    ensures located { IfOk result IsLocatedIfAnswered }
+{
+    let pairs = read_pairs(alloc, query)?;
+    if let Some(text) = path.strip_prefix(JSON_PATH) {
+        return begin_handle(alloc, text, text.as_bytes(), json_form(&pairs), &pairs);
     }
+    if path.starts_with(API_PATH) {
+        return begin_interface(alloc, path);
+    }
+    let sent = without_slash(path);
+    begin_handle(
+        alloc,
+        sent,
+        written(sent.as_bytes()),
+        page_form(&pairs),
+        &pairs,
+    )
+}
+
+/// What is answered to a request that doesn't read.
+fn begin_other(alloc: Global, method: &str, path: &str) -> Result<Answer, AllocError>
+    ensures refuses { IfOk result (RefusesMethod method.now path.now) }
+    ensures located { IfOk result IsLocated }
+{
+    let why = "A handle is asked for by GET or HEAD.";
+    let code = ResponseCode::OperationDenied.number();
+    let asked = path.as_bytes();
+    if !path.starts_with(API_PATH) {
+        return pages::refusal(alloc, Status::MethodNotAllowed, asked, code, why);
+    }
+    if method == "OPTIONS" {
+        return Ok(options(alloc));
+    }
+    json::refusal(alloc, Status::MethodNotAllowed, asked, code, why)
+}
+
+/// What browsers are told that ask whether another page may send such a request: nothing but the fields of the answer.
+pub fn options(alloc: Global) -> Answer
+    ensures { Tells Status.NoContent Media.Json result }
+{
+    Answer::new(
+        alloc,
+        Status::NoContent,
+        Media::Json,
+        Keeping::Never,
+        Vec::new(alloc),
+    )
 }
 
 /// What is to be done for a request with this method, path and query, each as it was sent; the query without its `?`.
 pub fn begin(alloc: Global, method: &str, path: &str, query: &str) -> Result<Next, AllocError>
-    ensures refuses { ¬ (IsReading method.now) → IfOk result (IsAnswered (Tells Status.MethodNotAllowed Media.Page)) }
+    ensures refuses { ¬ (IsReading method.now) → IfOk result (IsAnswered (RefusesMethod method.now path.now)) }
     ensures front { IsReading method.now → path.now ≡ codes "/" → IfOk result (IsFront (pairs_of query.now)) }
-    ensures asks { IsReading method.now → path.now ≢ codes "/" → IfOk result (AsksAddress path.now (pairs_of query.now)) }
+    ensures files { IsReading method.now → IsFile path.now → IfOk result (IsAnswered (IsOfFile path.now)) }
+    ensures asks { IsReading method.now → IsOwn path.now → IsOfHandle path.now → IfOk result (AsksAddress path.now (pairs_of query.now)) }
+    ensures none { IsReading method.now → IsOwn path.now → ¬ (IsOfHandle path.now) → IfOk result (IsAnswered (IsNoHandle path.now)) }
     ensures located { IfOk result IsLocatedIfAnswered }
 {
     if method != "GET" && method != "HEAD" {
-        let why = "A handle is asked for by GET or HEAD.";
-        return Ok(Next::Answer(pages::refusal(
-            alloc,
-            Status::MethodNotAllowed,
-            path.as_bytes(),
-            why,
-        )?));
+        return Ok(Next::Answer(begin_other(alloc, method, path)?));
     }
-    let pairs = read_pairs(alloc, query)?;
-    if path == "/" {
-        return begin_front(alloc, &pairs);
+    match path {
+        "/" => {
+            let pairs = read_pairs(alloc, query)?;
+            begin_front(alloc, &pairs)
+        }
+        "/robots.txt" => Ok(Next::Answer(files::robots(alloc)?)),
+        "/favicon.ico" => Ok(Next::Answer(files::icon(alloc)?)),
+        _ => begin_address(alloc, path, query),
     }
-    let (form, text) = read_path(path, has_pair(&pairs, "noredirect"));
-    begin_handle(alloc, text, form, &pairs)
 }
 
 fn refused_words(code: u32) -> &'static str
@@ -168,17 +289,27 @@ fn refused_words(code: u32) -> &'static str
         102 => "The server says that this is no handle.",
         200 => "This handle is there, and has no such value that anybody may read.",
         302 => "No server that was asked has handles of this prefix.",
-        3 => "The server is busy. Please try again.",
+        3 => "The server is busy.",
         _ => "The server couldn't answer.",
     }
 }
 
-/// Where a handle's own address leads: to the first URL of its values, where that is one to be followed.
-fn way_of(alloc: Global, values: &[Value]) -> Result<Option<Link>, AllocError>
-    ensures { IfOk result (IsWayOf values.now) }
+/// The way to a URL with this behind it.
+fn way_beyond(alloc: Global, url: &[u8], append: &[u8]) -> Result<Option<Link>, AllocError>
+    ensures { IfOk result (IsWayToMeant (extended url.now append.now)) }
+{
+    match extended(alloc, url, append)? {
+        Some(whole) => Link::followed(alloc, &whole),
+        None => Ok(None),
+    }
+}
+
+/// Where a handle's own address leads: to the first URL of its values with this behind it, where that is one to be followed.
+fn way_of(alloc: Global, values: &[Value], append: &[u8]) -> Result<Option<Link>, AllocError>
+    ensures { IfOk result (IsWayOf values.now append.now) }
 {
     match first_url(values) {
-        Some(value) => Link::followed(alloc, value.bytes.as_slice()),
+        Some(value) => way_beyond(alloc, value.bytes.as_slice(), append),
         None => Ok(None),
     }
 }
@@ -193,7 +324,7 @@ fn go(
     ensures { IfOk result (Goes handle.now values.now way) }
 {
     match way {
-        Some(link) => pages::redirect(alloc, handle, link),
+        Some(link) => pages::redirect(alloc, handle, link, keeping_of(values)),
         None => pages::values_page(alloc, handle, values),
     }
 }
@@ -202,17 +333,19 @@ fn answer_values(
     alloc: Global,
     handle: &[u8],
     form: Form,
+    append: &[u8],
     values: &[Value],
 ) -> Result<Answer, AllocError>
-    ensures { IfOk result (ShowsValues form handle.now values.now) }
+    ensures { IfOk result (ShowsValues form handle.now append.now values.now) }
 {
     match form {
         Form::Follow => {
-            let way = way_of(alloc, values)?;
+            let way = way_of(alloc, values, append)?;
             go(alloc, handle, way, values)
         }
         Form::Page => pages::values_page(alloc, handle, values),
-        Form::Json => json::values_answer(alloc, handle, values),
+        Form::Json => json::values_answer(alloc, handle, values, keeping_of(values)),
+        Form::Pretty => json::pretty_answer(alloc, handle, values, keeping_of(values)),
     }
 }
 
@@ -227,17 +360,20 @@ fn answer_refusal(
 {
     let handle = question.name.sent();
     match question.form {
-        Form::Json => json::refusal(alloc, status, handle, code, why),
-        Form::Follow | Form::Page => pages::refusal(alloc, status, handle, why),
+        Form::Json | Form::Pretty => json::refusal(alloc, status, handle, code, why),
+        Form::Follow | Form::Page => pages::refusal(alloc, status, handle, code, why),
     }
 }
 
 /// What is answered where this was found.
 fn answer_found(alloc: Global, question: &Question, found: &Found) -> Result<Answer, AllocError>
-    ensures { IfOk result (ShowsFound question.now.form question.now.name found.now) }
+    ensures { IfOk result (ShowsFound question.now.form question.now.name question.now.append.items found.now) }
 {
     match found {
-        Found::Values(values) => answer_values(alloc, question.name.sent(), question.form, values),
+        Found::Values(values) => {
+            let handle = question.name.sent();
+            answer_values(alloc, handle, question.form, &question.append, values)
+        }
         Found::Refused(code) => {
             let status = Status::of_code(*code);
             answer_refusal(alloc, question, status, *code, refused_words(*code))

@@ -1,7 +1,7 @@
 //! What the query of an address says.
 
 ghost use Rattle.std.specs.Prelude.{◌≡◌, IfOk, codes, map, option_map, option_copied};
-ghost use Rattle.hdl_proxy.specs.Query.{AreIndexes, IsLast, has_pair, pairs_of, texts_of, values_named};
+ghost use Rattle.hdl_proxy.specs.Query.{AreIndexes, IsAppended, IsLast, has_pair, pairs_of, texts_of, values_named};
 
 use hdl_name::Octets;
 use std::alloc::{AllocError, Global};
@@ -59,6 +59,16 @@ pub fn last_named<'a>(
 {
     let mut values = values_named(alloc, pairs, name)?;
     Ok(values.pop())
+}
+
+/// What is to be put behind the URL that is followed: nothing where the query doesn't say.
+pub(crate) fn appended(alloc: Global, pairs: &[Pair]) -> Result<Vec<u8>, AllocError>
+    ensures { IfOk result (λ append. IsAppended (texts_of pairs.now) append.items) }
+{
+    match last_named(alloc, pairs, "urlappend")? {
+        Some(text) => Vec::from_slice(alloc, text.as_bytes()),
+        None => Ok(Vec::new(alloc)),
+    }
 }
 
 /// The types that are asked for.

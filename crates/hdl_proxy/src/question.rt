@@ -19,17 +19,21 @@ pub enum Form {
     Follow,
     /// A page of its values.
     Page,
-    /// JSON of its values.
+    /// JSON of its values, without a space.
     Json,
+    /// The same JSON over many lines.
+    Pretty,
 }
 
-/// A resolution: of which handle, in which form, and which of its values (all of them where both lists are empty).
+/// A resolution: of which handle, in which form, which of its values (all of them where both lists are empty), and what becomes of its URL.
 #[derive(Drop)]
 pub struct Question {
     pub name: Name,
     pub form: Form,
     pub indexes: Vec<u32>,
     pub types: Vec<Octets>,
+    /// What is put behind the URL that is followed.
+    pub append: Vec<u8>,
 }
 
 fn copies(alloc: Global, types: &[Octets]) -> Result<Vec<Octets>, AllocError>

@@ -1,9 +1,9 @@
 //! Which URLs a browser is sent to, and how they stand in a Location.
 
-ghost use Rattle.std.specs.Prelude.{◌≡◌, ◌↔◌, ◌∷◌, IsTrue, IfOk, All};
+ghost use Rattle.std.specs.Prelude.{◌≡◌, ◌↔◌, ◌∷◌, IsTrue, IfOk, All, option_map};
 ghost use Rattle.std.specs.String.{string_bytes};
 ghost use Rattle.percent_encoding.specs.Percent.{percent_encode};
-ghost use Rattle.hdl_proxy.specs.Url.{Begins, HasFollowedScheme, IsFollowed, IsGraphic};
+ghost use Rattle.hdl_proxy.specs.Url.{Begins, HasFollowedScheme, IsFollowed, IsGraphic, extended, has_path};
 
 use percent_encoding::{AsciiSet, CONTROLS, NON_ALPHANUMERIC, ascii_set, percent_encode};
 use std::alloc::{AllocError, Global};
@@ -55,6 +55,36 @@ pub fn is_followed(url: &[u8]) -> bool
     ensures { IsTrue result ↔ IsFollowed url.now }
 {
     has_followed_scheme(url) && url.iter().all(|octet| *octet >= 32 && *octet != 127)
+}
+
+/// How many octets a scheme that is followed takes at most, with the colon and the slashes behind it.
+const SCHEME_MOST: usize = 8;
+
+/// Whether a path has begun in the URL, so that the host stays what it is whatever is put behind: a slash stands behind all that a scheme
+/// takes.
+fn has_path(url: &[u8]) -> bool
+    ensures { result ≡ has_path url.now }
+{
+    match url.split_at_checked(SCHEME_MOST) {
+        Some((_, rest)) => rest.contains(&b'/'),
+        None => false,
+    }
+}
+
+/// The URL with this behind it. None where that could change its host.
+pub(crate) fn extended(
+    alloc: Global,
+    url: &[u8],
+    append: &[u8],
+) -> Result<Option<Vec<u8>>, AllocError>
+    ensures { IfOk result (λ o. option_map (λ v. v.items) o ≡ extended url.now append.now) }
+{
+    if !append.is_empty() && !has_path(url) {
+        return Ok(None);
+    }
+    let mut whole = Vec::from_slice(alloc, url)?;
+    whole.extend_from_slice(append)?;
+    Ok(Some(whole))
 }
 
 /// The URL as it stands in a Location: what isn't graphic ASCII is escaped.

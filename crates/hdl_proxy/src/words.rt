@@ -2,7 +2,7 @@
 
 ghost use Rattle.std.specs.Prelude.{◌≡◌, ◌+◌, ◌<◌, ◌++◌, IfOk, OnOk, option_map, string_bytes};
 ghost use Rattle.hdl_value.specs.Permission.{bits};
-ghost use Rattle.hdl_proxy.specs.Words.{permission_digits, value_digits, usual_permissions, IsMomentText, IsKeptFor, IsWritten};
+ghost use Rattle.hdl_proxy.specs.Words.{counted, span_words, permission_digits, value_digits, usual_permissions, IsMomentText, IsKeptFor, IsWritten};
 
 use hdl_value::{AdminMask, HS_SECKEY, Value};
 use jiff_core::Timestamp;
@@ -106,4 +106,32 @@ pub(crate) fn kept_for(alloc: Global, value: &Value) -> Result<KeptFor, AllocErr
         unreachable!()
     };
     Ok(KeptFor::Until(moment_words(alloc, moment)?))
+}
+
+/// So many of a unit.
+fn counted(alloc: Global, number: u32, one: &str, many: &str) -> Result<String, AllocError>
+    ensures { IfOk result (λ words. string_bytes words ≡ counted number one.now many.now) }
+{
+    if number == 1 {
+        return String::from_str(alloc, one);
+    }
+    let mut words = format!(in alloc; "{number}")?;
+    words.push_str(many)?;
+    Ok(words)
+}
+
+/// So many seconds, by the largest unit of which they are some.
+pub(crate) fn span_words(alloc: Global, seconds: u32) -> Result<String, AllocError>
+    ensures { IfOk result (λ words. string_bytes words ≡ span_words seconds) }
+{
+    if seconds % 86_400 == 0 {
+        return counted(alloc, seconds / 86_400, "a day", " days");
+    }
+    if seconds % 3_600 == 0 {
+        return counted(alloc, seconds / 3_600, "an hour", " hours");
+    }
+    if seconds % 60 == 0 {
+        return counted(alloc, seconds / 60, "a minute", " minutes");
+    }
+    counted(alloc, seconds, "a second", " seconds")
 }

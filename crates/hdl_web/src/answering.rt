@@ -10,16 +10,40 @@ use bytes::Bytes;
 use futures::channel::oneshot;
 use futures::task::{Context, Poll};
 use futures::{Future, ready};
+use hdl_proxy::{Site, tagged};
 use http_body_util::Full;
 use hyper::Response;
 use std::alloc::{AllocError, Global};
-use std::sync::Wait;
+use std::sync::{Arc, Wait};
 use std::time::Clock;
+
+/// What a response needs besides its answer.
+#[derive(Drop)]
+pub(crate) struct Seen {
+    pub(crate) site: Arc<Site>,
+    /// The field `If-None-Match` of the request: the tags of what the client has.
+    pub(crate) known: Option<String>,
+    /// Whether handles are changed here.
+    pub(crate) changes: bool,
+}
+
+impl Seen {
+    /// The response of an answer: a page as the site gives it, or that the client has it already.
+    fn response(&self, alloc: Global, answer: Made) -> Result<Response<Full<Bytes>>, AllocError> {
+        let known = match &self.known {
+            Some(field) => Some(field.as_str()),
+            None => None,
+        };
+        let answer = self.site.dressed(alloc, answer?)?;
+        response_of(alloc, &tagged(alloc, answer, known)?, self.changes)
+    }
+}
 
 /// The response to a request: one that is there, that a thread makes, or that waits for the request's body.
 #[derive(Drop)]
 pub struct Answering<R, B> {
     alloc: Global,
+    seen: Result<Seen, AllocError>,
     gathering: Option<Gathering<R, B>>,
     made: Option<Made>,
     coming: Option<oneshot::Receiver<Made>>,
@@ -27,7 +51,11 @@ pub struct Answering<R, B> {
 
 impl<R: Wait + Clock + Drop, B: Drop> Answering<R, B> {
     /// An answer that is there, or that comes from a thread.
-    pub(crate) fn next(alloc: Global, turn: Turn) -> Answering<R, B>
+    pub(crate) fn next(
+        alloc: Global,
+        seen: Result<Seen, AllocError>,
+        turn: Turn,
+    ) -> Answering<R, B>
         ensures { result.gathering ≡ None }
     {
         let (made, coming) = match turn {
@@ -36,6 +64,7 @@ impl<R: Wait + Clock + Drop, B: Drop> Answering<R, B> {
         };
         Answering {
             alloc,
+            seen,
             gathering: None,
             made,
             coming,
@@ -43,11 +72,16 @@ impl<R: Wait + Clock + Drop, B: Drop> Answering<R, B> {
     }
 
     /// An answer that waits for the body of its request.
-    pub(crate) fn gathering(alloc: Global, gathering: Gathering<R, B>) -> Answering<R, B>
+    pub(crate) fn gathering(
+        alloc: Global,
+        seen: Result<Seen, AllocError>,
+        gathering: Gathering<R, B>,
+    ) -> Answering<R, B>
         ensures { result.gathering ≡ Some gathering }
     {
         Answering {
             alloc,
+            seen,
             gathering: Some(gathering),
             made: None,
             coming: None,
@@ -68,8 +102,15 @@ impl<R: Wait + Clock + Drop, B: Drop> Answering<R, B> {
     }
 }
 
-fn response(alloc: Global, answer: Made) -> Result<Response<Full<Bytes>>, AllocError> {
-    response_of(alloc, &answer?)
+fn response(
+    alloc: Global,
+    seen: &Result<Seen, AllocError>,
+    answer: Made,
+) -> Result<Response<Full<Bytes>>, AllocError> {
+    match seen {
+        Ok(seen) => seen.response(alloc, answer),
+        Err(_) => Err(AllocError),
+    }
 }
 
 impl<R: Wait + Clock + Drop, B: Future<Output = Gathered>> Future for Answering<R, B> {
@@ -86,13 +127,13 @@ impl<R: Wait + Clock + Drop, B: Future<Output = Gathered>> Future for Answering<
             self.gathered(gathered);
         }
         if let Some(answer) = self.made.take() {
-            return Poll::Ready(response(self.alloc, answer));
+            return Poll::Ready(response(self.alloc, &self.seen, answer));
         }
         let Some(from) = &mut self.coming else {
             return Poll::Ready(Err(AllocError));
         };
         match ready!(from.poll(cx)) {
-            Ok(answer) => Poll::Ready(response(self.alloc, answer)),
+            Ok(answer) => Poll::Ready(response(self.alloc, &self.seen, answer)),
             Err(_) => Poll::Ready(Err(AllocError)),
         }
     }

@@ -7,10 +7,10 @@ use crate::worker::Errand;
 use crossbeam_channel::Sender;
 use futures::channel::oneshot;
 use hdl_msg::ResponseCode;
-use hdl_proxy::{NoAnswer, Question, Resolver, finish};
+use hdl_proxy::{NoAnswer, Question, Resolver, Site, finish};
 use hdl_routes::{Miss, Route, Standing, places_for, worst};
 use std::alloc::{AllocError, Global};
-use std::sync::{Mutex, Wait};
+use std::sync::{Arc, Mutex, Wait};
 use std::time::{Clock, Instant};
 
 /// How many questions, or changes, wait for a server at most.
@@ -29,6 +29,8 @@ pub(crate) struct Post {
 pub struct Board<R> {
     pub(crate) rt: R,
     pub(crate) alloc: Global,
+    /// The site of all pages.
+    pub(crate) site: Arc<Site>,
     pub(crate) routes: Vec<Route>,
     pub(crate) posts: Vec<Post>,
     pub(crate) holders: Mutex<Holders>,

@@ -1,13 +1,13 @@
 //! Where requests come in.
 
-use crate::answering::Answering;
+use crate::answering::{Answering, Seen};
 use crate::board::Board;
 use crate::gathering::{BODY_MOST, BODY_SECONDS, Counter, Gathering, Turn};
 use bytes::Bytes;
 use futures::channel::oneshot;
 use hdl_proxy::{Next, Question, begin};
 use hdl_writes::{Begun, Order, Sent, begin_with_key};
-use http::header::AUTHORIZATION;
+use http::header::{AUTHORIZATION, IF_NONE_MATCH};
 use http_body_util::combinators::Collect;
 use http_body_util::{BodyExt, Full, Limited};
 use hyper::body::Incoming;
@@ -77,6 +77,23 @@ impl<R: Wait + Clock + Copy + Drop> Desk<R> {
         }
     }
 
+    /// What the response needs of a request. A field that is no text names no tag of ours, nor does one for which there is no memory: then
+    /// the whole answer is sent.
+    fn seen<B>(&self, req: &Request<B>) -> Result<Seen, AllocError> {
+        let known = match req.headers().get(IF_NONE_MATCH) {
+            Some(value) => match value.to_str() {
+                Ok(text) => String::from_str(self.alloc, text).ok(),
+                Err(_) => None,
+            },
+            None => None,
+        };
+        Ok(Seen {
+            site: Arc::try_clone(&self.board.site)?,
+            known,
+            changes: self.board.writes,
+        })
+    }
+
     /// What a request is, by its head.
     fn start<B>(&self, req: &Request<B>) -> Result<Start<R>, AllocError> {
         let authorization = match req.headers().get(AUTHORIZATION) {
@@ -103,26 +120,28 @@ impl<R: Wait + Clock + Copy + Drop, I: Drop> Service<Request<Incoming<I>>> for D
     type Future = Answering<R, Limits<I>>;
 
     fn call(&self, req: Request<Incoming<I>>) -> Answering<R, Limits<I>> {
+        let seen = self.seen(&req);
         let (order, counter) = match self.start(&req) {
             Ok(Start::Order(order, counter)) => (order, counter),
-            Ok(Start::Turn(turn)) => return Answering::next(self.alloc, turn),
-            Err(refused) => return Answering::next(self.alloc, Turn::Made(Err(refused))),
+            Ok(Start::Turn(turn)) => return Answering::next(self.alloc, seen, turn),
+            Err(refused) => return Answering::next(self.alloc, seen, Turn::Made(Err(refused))),
         };
         if !order.takes_body() {
-            return Answering::next(self.alloc, counter.take(order, Bytes::new()));
+            return Answering::next(self.alloc, seen, counter.take(order, Bytes::new()));
         }
         let body = Limited::new(req.into_body(), BODY_MOST).collect(self.alloc);
         let limit = Duration::from_secs(BODY_SECONDS);
         match self.timers.timeout(&self.rt, limit, body) {
             Ok(body) => Answering::gathering(
                 self.alloc,
+                seen,
                 Gathering {
                     counter,
                     order,
                     body,
                 },
             ),
-            Err(_) => Answering::next(self.alloc, Turn::Made(Err(AllocError))),
+            Err(_) => Answering::next(self.alloc, seen, Turn::Made(Err(AllocError))),
         }
     }
 }

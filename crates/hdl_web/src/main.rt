@@ -26,6 +26,7 @@ mod visitors;
 mod words;
 mod worker;
 
+use hdl_proxy::Site;
 use hdl_routes::{Route, read_route};
 use servers::{Server, Writer};
 use serving::serve_http;
@@ -101,11 +102,21 @@ fn hired(
         crews.push(Crew { askers, clerk })?;
     }
     Ok(Staff {
+        site: site(rt, words)?,
         routes,
         crews,
         limit: words.timeout.saturating_mul(1000),
         writes: words.writes,
     })
+}
+
+/// The site of all pages.
+fn site(rt: &HostRuntime, words: &ProxyWords) -> Result<Site, AllocError> {
+    let contact = match &words.contact {
+        Some(contact) => Some(contact.as_str()),
+        None => None,
+    };
+    Site::new(rt.alloc(), &words.site, contact)
 }
 
 /// What is served: where, and who asks.

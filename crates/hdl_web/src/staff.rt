@@ -6,7 +6,7 @@ use crate::holders::Holders;
 use crate::servers::Clerk;
 use crate::worker::{Errand, work, work_on_orders};
 use crossbeam_channel::{Receiver, unbounded};
-use hdl_proxy::Resolver;
+use hdl_proxy::{Resolver, Site};
 use hdl_routes::{Route, Standing};
 use std::alloc::{AllocGlobal, Global};
 use std::hash::RandomState;
@@ -23,9 +23,10 @@ pub struct Crew<S, C> {
     pub clerk: Option<C>,
 }
 
-/// The servers, who asks each, and how many milliseconds an answer of a server may take.
+/// The servers, who asks each, how many milliseconds an answer of a server may take, and the site of all pages.
 #[derive(Drop)]
 pub struct Staff<S, C> {
+    pub site: Site,
     pub routes: Vec<Route>,
     pub crews: Vec<Crew<S, C>>,
     pub limit: u64,
@@ -110,6 +111,7 @@ where
     let board = Board {
         rt: *rt,
         alloc,
+        site: Arc::new(alloc, staff.site)?,
         routes: staff.routes,
         posts,
         holders: Mutex::new(Holders::new(alloc, RandomState::new(rt)?)?),

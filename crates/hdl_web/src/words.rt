@@ -10,6 +10,9 @@ const NAME: &str = "hdl proxy";
 /// Where the proxy listens, where no other address is named.
 const LISTEN: &str = "127.0.0.1:8080";
 
+/// What the site of the pages is called, where it has no other name.
+const SITE: &str = "Handles";
+
 /// How many questions a server is asked at once, where no other number is named.
 const ASKERS: u64 = 2;
 
@@ -27,6 +30,10 @@ pub struct ProxyWords {
     pub askers: u64,
     /// How many seconds an answer may take: 1 to 60.
     pub timeout: u64,
+    /// What the site of its pages is called.
+    pub site: String,
+    /// Whom readers ask.
+    pub contact: Option<String>,
     /// Whether handles are changed, by who has a key.
     pub writes: bool,
 }
@@ -81,6 +88,20 @@ fn command<'a>(alloc: Global) -> Result<Command<'a>, AllocError> {
                 .value_parser(value_parser!(u64).range(1..61)),
         )?
         .arg(
+            Arg::new(alloc, "site")
+                .long("site")
+                .value_name("NAME")
+                .help("What the site is called, at the head of its pages; without it Handles")
+                .action(ArgAction::Set),
+        )?
+        .arg(
+            Arg::new(alloc, "contact")
+                .long("contact")
+                .value_name("ADDRESS")
+                .help("Whom readers ask, at the foot of its pages: an address of mail, or a URL")
+                .action(ArgAction::Set),
+        )?
+        .arg(
             Arg::new(alloc, "writes")
                 .long("writes")
                 .help(
@@ -96,11 +117,17 @@ fn proxy_words(alloc: Global, found: &ArgMatches<'_>) -> Result<ProxyWords, Allo
     for server in found.get_strs("server").unwrap_or(&[]) {
         servers.push(String::from_str(alloc, server)?)?;
     }
+    let contact = match found.get_str("contact") {
+        Some(contact) => Some(String::from_str(alloc, contact)?),
+        None => None,
+    };
     Ok(ProxyWords {
         listen: String::from_str(alloc, found.get_str("listen").unwrap_or(LISTEN))?,
         servers,
         askers: found.get_one::<u64>("askers").unwrap_or(ASKERS),
         timeout: found.get_one::<u64>("timeout").unwrap_or(TIMEOUT),
+        site: String::from_str(alloc, found.get_str("site").unwrap_or(SITE))?,
+        contact,
         writes: found.get_flag("writes"),
     })
 }

@@ -32,7 +32,7 @@ use Rattle.hdl_lines.specs.Lines.{unstamped}
 use Rattle.hdl_lines.proofs.Readings.{either, mask_again, permissions_again}
 use Rattle.hdl_lines.proofs.RoundTrip.{if_some, ttl_again, ttl_number}
 use Rattle.hdl_proxy.specs.declared.words.KeptFor.TheVariants.{Seconds}
-use Rattle.hdl_proxy.specs.Json.{put_text, formatted, reference_members, reference_json, admin_json, list_json, octets_json, data_json, written_json, put_permissions, value_json}
+use Rattle.hdl_proxy.specs.Json.{put_text, formatted, reference_members, reference_json, admin_json, list_json, is_text, base64_json, text_json, octets_json, data_json, put_written, written_json, put_permissions, value_json}
 use Rattle.hdl_proxy.specs.Words.{text_of, value_digits, usual_permissions, ttl_seconds}
 use Rattle.hdl_writes.specs.declared.data.Format.TheVariants as format
 use Rattle.hdl_writes.specs.declared.fault.EntryFault.TheVariants as fault
@@ -89,18 +89,22 @@ base64_again octets fits =
     formatted_again (codes "base64") (string (encode_of standard octets))
     ∙ rw (decode_of-encode_of standard octets (search rules) fits) refl
 
-octets_again : (octets : List ℕ) → AreOctets octets → data_in (octets_json octets) ≡ Ok octets
-unfolding octets_json
-octets_again octets fits =
-    cond_both (is_utf8 octets) (formatted (codes "string") (string octets)) (formatted (codes "base64") (string (encode_of standard octets))) (λ d. data_in d ≡ Ok octets)
+text_again : (octets : List ℕ) → AreOctets octets → data_in (text_json octets) ≡ Ok octets
+unfolding text_json
+text_again octets fits =
+    cond_both (is_utf8 octets) (formatted (codes "string") (string octets)) (base64_json octets) (λ d. data_in d ≡ Ok octets)
     (λ _. formatted_again (codes "string") (string octets)) (λ _. base64_again octets fits)
 
-list_told : (v : Value) → Fits v → (o : Option (List RawRef)) → list_read v ≡ o → data_in (unwrap_or (option_map list_json o) (octets_json v.bytes)) ≡ Ok v.bytes
-list_told v fits None e = octets_again v.bytes fits.bytes.each
+octets_again : (kind octets : List ℕ) → AreOctets octets → data_in (octets_json kind octets) ≡ Ok octets
+octets_again kind octets fits =
+    cond_both (is_text kind) (text_json octets) (base64_json octets) (λ d. data_in d ≡ Ok octets) (λ _. text_again octets fits) (λ _. base64_again octets fits)
+
+list_told : (v : Value) → Fits v → (o : Option (List RawRef)) → list_read v ≡ o → data_in (unwrap_or (option_map list_json o) (octets_json v.kind v.bytes)) ≡ Ok v.bytes
+list_told v fits None e = octets_again v.kind v.bytes fits.bytes.each
 list_told v fits (Some rs) e = list_again rs v.bytes (list_in_is v.bytes rs fits.bytes.each (if_some (is_list v) (list_in v.bytes) rs e))
 
 admin_told : (v : Value) → Fits v → (o : Option (ℕ × RawRef)) → admin_read v ≡ o → IfSome o (λ x. x.0 < 2 ^ 12)
-    → data_in (unwrap_or (option_map admin_json o) (unwrap_or (option_map list_json (list_read v)) (octets_json v.bytes))) ≡ Ok v.bytes
+    → data_in (unwrap_or (option_map admin_json o) (unwrap_or (option_map list_json (list_read v)) (octets_json v.kind v.bytes))) ≡ Ok v.bytes
 admin_told v fits None e small = list_told v fits (list_read v) refl
 admin_told v fits (Some x) e small = admin_again x.0 x.1 v.bytes (admin_in_is v.bytes x.0 x.1 fits.bytes.each (if_some (is_admin v) (admin_in v.bytes) x e)) small
 
@@ -113,8 +117,17 @@ data_again v h = admin_told v h.fits (admin_read v) refl h.mask
 abbrev named : Value → Members
 named v = put_text (codes "type") v.kind (put (codes "index") (number (unsigned v.index)) no_members)
 
+abbrev lasting : Value → Members
+lasting v = put (codes "ttl") (number (unsigned (ttl_seconds v))) (put (codes "data") (data_json v) (named v))
+
 abbrev timed : Value → Option (List ℕ) → Members
-timed v written = put (codes "timestamp") (written_json written) (put (codes "ttl") (number (unsigned (ttl_seconds v))) (put (codes "data") (data_json v) (named v)))
+timed v written = put_written v.stamp written (lasting v)
+
+past_written : (q : List ℕ) (v : Value) (written : Option (List ℕ)) → (q ≡ codes "timestamp" → ⊥) → get_member q (timed v written) ≡ get_member q (lasting v)
+past_written q v written other =
+    let told = put (codes "timestamp") (written_json written) (lasting v) in
+    cond_both (v.stamp == 0) (lasting v) told (λ m. get_member q m ≡ get_member q (lasting v))
+    (λ _. refl) (λ _. get_member-put_other q (codes "timestamp") (written_json written) (lasting v) other)
 
 past : (q : List ℕ) (v : Value) (ms : Members) → (q ≡ codes "permissions" → ⊥) → get_member q (put_permissions v ms) ≡ get_member q ms
 past q v ms other =
@@ -127,20 +140,20 @@ permissions_kept : (v : Value) (written : Option (List ℕ)) → v.perm < 2 ^ 4
 permissions_kept v written small =
     let digits = string (value_digits v.perm) in
     cond_both (v.perm == usual_permissions v.kind) (timed v written) (put (codes "permissions") digits (timed v written)) (λ m. permissions_told v.kind (get_member (codes "permissions") m) ≡ Some v.perm)
-    (λ e. ap Some (sym (eqb-true v.perm (usual_permissions v.kind) e)))
+    (λ e. ap (permissions_told v.kind) (past_written (codes "permissions") v written (λ q. absurd cc)) ∙ ap Some (sym (eqb-true v.perm (usual_permissions v.kind) e)))
     (λ _. ap (permissions_told v.kind) (get_member-put (codes "permissions") digits (timed v written)) ∙ digits_same v.perm small)
 
 index_kept : (v : Value) (written : Option (List ℕ)) → get_member (codes "index") (put_permissions v (timed v written)) ≡ Some (number (unsigned v.index))
-index_kept v written = past (codes "index") v (timed v written) (λ e. absurd cc)
+index_kept v written = past (codes "index") v (timed v written) (λ e. absurd cc) ∙ past_written (codes "index") v written (λ e. absurd cc)
 
 type_kept : (v : Value) (written : Option (List ℕ)) → get_member (codes "type") (put_permissions v (timed v written)) ≡ Some (string (text_of v.kind))
-type_kept v written = past (codes "type") v (timed v written) (λ e. absurd cc)
+type_kept v written = past (codes "type") v (timed v written) (λ e. absurd cc) ∙ past_written (codes "type") v written (λ e. absurd cc)
 
 data_kept : (v : Value) (written : Option (List ℕ)) → get_member (codes "data") (put_permissions v (timed v written)) ≡ Some (data_json v)
-data_kept v written = past (codes "data") v (timed v written) (λ e. absurd cc)
+data_kept v written = past (codes "data") v (timed v written) (λ e. absurd cc) ∙ past_written (codes "data") v written (λ e. absurd cc)
 
 ttl_kept : (v : Value) (written : Option (List ℕ)) → get_member (codes "ttl") (put_permissions v (timed v written)) ≡ Some (number (unsigned (ttl_seconds v)))
-ttl_kept v written = past (codes "ttl") v (timed v written) (λ e. absurd cc)
+ttl_kept v written = past (codes "ttl") v (timed v written) (λ e. absurd cc) ∙ past_written (codes "ttl") v written (λ e. absurd cc)
 
 -- ---- the value
 

@@ -10,7 +10,7 @@ use crate::told::{change_words, failure, status_of_change, success};
 use hdl_limits::{MESSAGE_MAX, WRITTEN_MAX};
 use hdl_msg::{ContentView, RequestBody, ResponseCode, Values, read_reply, request_len};
 use hdl_name::{Listed, Octets};
-use hdl_proxy::{Answer, NoAnswer, Status, refusal, values_answer};
+use hdl_proxy::{Answer, Keeping, NoAnswer, Status, refusal, values_answer};
 use hdl_value::{Value, ValueFault};
 use std::alloc::{AllocError, Global};
 
@@ -405,7 +405,7 @@ fn read_told(alloc: Global, handle: &[u8], message: &[u8]) -> Result<Answer, All
             handle: answered,
             values,
         } if answered == handle => match whole_values(alloc, values)? {
-            Some(all) => values_answer(alloc, handle, &all),
+            Some(all) => values_answer(alloc, handle, &all, Keeping::Never),
             None => stopped(alloc, handle, Stop::Silent, &[]),
         },
         ContentView::Values { .. } => stopped(alloc, handle, Stop::Silent, &[]),

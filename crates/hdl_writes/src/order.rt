@@ -5,7 +5,7 @@ use hdl_client::Key;
 use hdl_msg::ResponseCode;
 use hdl_name::{Name, Octets};
 use hdl_proxy::{
-    Answer, Media, Pair, Status, has_pair, indexes_of, last_named, read_name, read_pairs, refusal,
+    Answer, Pair, Status, has_pair, indexes_of, last_named, options, read_name, read_pairs, refusal,
     types_of, unescaped, values_named,
 };
 use std::alloc::{AllocError, Global};
@@ -265,16 +265,6 @@ fn begin_handle(
     let octets = unescaped(alloc, text)?;
     let act = act_of(alloc, sent.method, pairs);
     ordered(alloc, &octets, act, sent.authorization)
-}
-
-/// What browsers are told that ask whether another page may send such requests: nothing but the fields of the answer.
-fn options(alloc: Global) -> Answer {
-    Answer {
-        status: Status::NoContent,
-        location: None,
-        media: Media::Json,
-        body: Vec::new(alloc),
-    }
 }
 
 fn other_method(alloc: Global, path: &str) -> Result<Begun, AllocError> {

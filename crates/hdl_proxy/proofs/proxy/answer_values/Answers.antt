@@ -1,19 +1,32 @@
 use Rattle.std.proofs.Common.{sym, subst}
 use Rattle.std.specs.Prelude.{IfOk}
-use Rattle.hdl_proxy.specs.Answer.{IsPage, IsJson, ShowsValues}
-use Rattle.hdl_proxy.proofs.Made.{made}
+use Rattle.hdl_proxy.specs.Answer.{IsPage, IsJson, IsPretty, ShowsValues}
+use Rattle.hdl_proxy.specs.Keeping.{IsKeepingOf}
+use Rattle.hdl_proxy.proofs.Made.{made_of, made_so}
 use Rattle.hdl_proxy.proofs.proxy.answer_values.Goals as goal
 
 pub returns-in-Page : goal.returns-in-Page
 returns-in-Page c =
     let handle = c.args.handle.now in
     let values = c.args.values.now in
-    let page : IfOk c.values_page.result (IsPage handle values) = made c.values_page.result _ _ _ (λ a told body. record { told = told; body = body }) c.values_page.ensures.told c.values_page.ensures.body in
-    subst (λ form. IfOk c.values_page.result (ShowsValues form handle values)) (sym c.in-Page.is) page
+    let said = c.values_page.ensures in
+    let page : IfOk c.values_page.result (IsPage handle values) = made_so c.values_page.result _ _ _ _ _ (λ a told kept title body. record { told = told; kept = kept; title = title; body = body }) said.told said.kept said.title said.body in
+    subst (λ form. IfOk c.values_page.result (ShowsValues form handle c.args.append.now values)) (sym c.in-Page.is) page
 
 pub returns-in-Json : goal.returns-in-Json
 returns-in-Json c =
     let handle = c.args.handle.now in
     let values = c.args.values.now in
-    let json : IfOk c.values_answer.result (IsJson handle values) = made c.values_answer.result _ _ _ (λ a told body. record { told = told; body = body }) c.values_answer.ensures.told c.values_answer.ensures.body in
-    subst (λ form. IfOk c.values_answer.result (ShowsValues form handle values)) (sym c.in-Json.is) json
+    let said = c.values_answer.ensures in
+    let json : IfOk c.values_answer.result (IsJson handle values) =
+    made_of c.values_answer.result _ _ _ _ (λ a told kept body. record { told = told; kept = subst (IsKeepingOf values) (sym kept) c.keeping_of.ensures; body = body }) said.told said.kept said.body in
+    subst (λ form. IfOk c.values_answer.result (ShowsValues form handle c.args.append.now values)) (sym c.in-Json.is) json
+
+pub returns-in-Pretty : goal.returns-in-Pretty
+returns-in-Pretty c =
+    let handle = c.args.handle.now in
+    let values = c.args.values.now in
+    let said = c.pretty_answer.ensures in
+    let pretty : IfOk c.pretty_answer.result (IsPretty handle values) =
+    made_of c.pretty_answer.result _ _ _ _ (λ a told kept body. record { told = told; kept = subst (IsKeepingOf values) (sym kept) c.keeping_of-in-Pretty.ensures; body = body }) said.told said.kept said.body in
+    subst (λ form. IfOk c.pretty_answer.result (ShowsValues form handle c.args.append.now values)) (sym c.in-Pretty.is) pretty

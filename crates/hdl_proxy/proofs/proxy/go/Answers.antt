@@ -1,12 +1,23 @@
 use Rattle.std.proofs.Common.{sym, subst}
 use Rattle.std.specs.Prelude.{IfOk}
-use Rattle.hdl_proxy.specs.Answer.{Goes, IsPage}
-use Rattle.hdl_proxy.proofs.Made.{made}
+use Rattle.hdl_proxy.specs.Answer.{Goes, IsPage, LeadsBy}
+use Rattle.hdl_proxy.specs.Keeping.{IsKeepingOf}
+use Rattle.hdl_proxy.proofs.Made.{made, made_so}
 use Rattle.hdl_proxy.proofs.proxy.go.Goals as goal
+
+pub returns-in-Some : goal.returns-in-Some
+returns-in-Some c =
+    let handle = c.args.handle.now in
+    let values = c.args.values.now in
+    let to = c.in-Some.link in
+    let leads : IfOk c.redirect.result (LeadsBy handle values to) =
+    made c.redirect.result _ _ _ (λ a leads kept. record { leads = leads; kept = subst (IsKeepingOf values) (sym kept) c.keeping_of.ensures }) c.redirect.ensures.leads c.redirect.ensures.kept in
+    subst (λ way. IfOk c.redirect.result (Goes handle values way)) (sym c.in-Some.is) leads
 
 pub returns-in-None : goal.returns-in-None
 returns-in-None c =
     let handle = c.args.handle.now in
     let values = c.args.values.now in
-    let page : IfOk c.values_page.result (IsPage handle values) = made c.values_page.result _ _ _ (λ a told body. record { told = told; body = body }) c.values_page.ensures.told c.values_page.ensures.body in
+    let said = c.values_page.ensures in
+    let page : IfOk c.values_page.result (IsPage handle values) = made_so c.values_page.result _ _ _ _ _ (λ a told kept title body. record { told = told; kept = kept; title = title; body = body }) said.told said.kept said.title said.body in
     subst (λ way. IfOk c.values_page.result (Goes handle values way)) (sym c.in-None.is) page

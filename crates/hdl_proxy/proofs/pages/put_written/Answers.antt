@@ -1,0 +1,23 @@
+use Rattle.std.proofs.Common.{◌≡◌, ◌==◌, ◌++◌, ℕ, List, [], Option, Some, String, option_map, string_bytes, sym, ap, ◌∙◌}
+use Rattle.std.specs.Global.{Global}
+use Rattle.std.specs.Prelude.{codes}
+use Rattle.std.proofs.lemmas.Bool.{cond-false, eqb-true, false_from_ne_true}
+use Rattle.std.proofs.lemmas.Result.{on_ok_weaker}
+use Rattle.hdl_proxy.specs.Escape.{escaped}
+use Rattle.hdl_proxy.specs.Pages.{written_part}
+use Rattle.hdl_proxy.proofs.Joined.{two, said}
+use Rattle.hdl_proxy.proofs.pages.put_written.Goals as goal
+
+pub returns : goal.returns
+returns c =
+    let before = c.args.page.now.octets.items in
+    let stamp = c.args.stamp in
+    let text : List ℕ = string_bytes c.in-Some.moment in
+    let told : written_part stamp (Some text) ≡ codes "<br>written " ++ escaped text = cond-false (stamp == 0) [] (codes "<br>written " ++ escaped text) (false_from_ne_true (stamp == 0) (λ t. c.if-stamp-eq0.false (eqb-true stamp 0 t))) in
+    let same : written_part stamp (option_map string_bytes c.args.written) ≡ written_part stamp (Some text) = ap (λ (o : Option (String Global)). written_part stamp (option_map string_bytes o)) c.in-Some.is in
+    on_ok_weaker c.text.result (λ put.
+    two before _ _ (codes "<br>written ") (escaped text)
+    c.in_ok-markup.ensures
+    (said c.markup.new.self.octets.items _ c.as_bytes.result.now text put c.as_bytes.ensures.value)
+    ∙ ap (λ (t : List ℕ). before ++ t) (sym (same ∙ told)))
+    c.text.ensures

@@ -1,0 +1,43 @@
+-- Names as people paste them: with a scheme, or with the address of a proxy in front.
+use Rattle.std.specs.Prelude.{◌≡◌, ◌⊎◌, ℕ, List, codes, length, drop}
+use Rattle.percent_encoding.specs.Percent.{percent_decode}
+use Rattle.hdl_proxy.specs.Url.{Begins}
+
+-- the text begins with this front, in any case of letters, and the rest stands behind it
+abbrev pub IsBehind : List ℕ → List ℕ → List ℕ → Type 0
+IsBehind front text rest = Begins text front × (rest ≡ drop (length front) text)
+
+abbrev pub IsBehindEither : List ℕ → List ℕ → List ℕ → List ℕ → Type 0
+IsBehindEither first second text rest = IsBehind first text rest ⊎ IsBehind second text rest
+
+-- behind the scheme of a handle
+abbrev pub IsBehindScheme : List ℕ → List ℕ → Type 0
+IsBehindScheme text rest = IsBehindEither (codes "hdl:") (codes "doi:") text rest
+
+-- behind the address of a proxy: for DOIs, or for all handles
+abbrev pub IsBehindDoi : List ℕ → List ℕ → Type 0
+IsBehindDoi text rest =
+    IsBehindEither (codes "https://doi.org/") (codes "http://doi.org/") text rest
+    ⊎ IsBehindEither (codes "https://dx.doi.org/") (codes "http://dx.doi.org/") text rest
+
+abbrev pub IsBehindAddress : List ℕ → List ℕ → Type 0
+IsBehindAddress text rest = IsBehindEither (codes "https://hdl.handle.net/") (codes "http://hdl.handle.net/") text rest ⊎ IsBehindDoi text rest
+
+-- nothing is so
+abbrev pub Lacks : (List ℕ → Type 0) → Type 0
+Lacks so = (rest : List ℕ) → ¬ (so rest)
+
+-- no scheme and no address stands in front, so it is the whole text
+abbrev pub IsWhole : List ℕ → List ℕ → Type 0
+IsWhole text rest = Lacks (IsBehindScheme text) × Lacks (IsBehindAddress text) × (rest ≡ text)
+
+-- the name in a part of a path, with its escapes
+abbrev pub IsWritten : List ℕ → List ℕ → Type 0
+IsWritten text rest = IsBehindScheme text rest ⊎ IsBehindAddress text rest ⊎ IsWhole text rest
+
+-- the name in a text that was pasted; an address has escapes
+abbrev pub IsPasted : List ℕ → List ℕ → Type 0
+IsPasted text name =
+    IsBehindScheme text name
+    ⊎ ((rest : List ℕ) × (IsBehindAddress text rest × (name ≡ percent_decode rest)))
+    ⊎ IsWhole text name

@@ -1,0 +1,83 @@
+//! Names as people paste them: with a scheme, or with the address of a proxy in front.
+
+ghost use Rattle.std.specs.Prelude.{IfOk, MatchOption};
+ghost use Rattle.hdl_proxy.specs.Pasted.{IsBehind, IsBehindAddress, IsBehindDoi, IsBehindEither, IsBehindScheme, IsPasted, IsWritten, Lacks};
+
+use crate::names::decoded;
+use std::alloc::{AllocError, Global};
+
+/// What stands behind this front, in any case of letters.
+fn behind<'a>(text: &'a [u8], front: &[u8]) -> Option<&'a [u8]>
+    ensures { MatchOption result (Lacks (IsBehind front.now text.now)) (λ rest. IsBehind front.now text.now rest.now) }
+{
+    let (found, rest) = text.split_at_checked(front.len())?;
+    if found.eq_ignore_ascii_case(front) {
+        Some(rest)
+    } else {
+        None
+    }
+}
+
+fn behind_either<'a>(text: &'a [u8], first: &[u8], second: &[u8]) -> Option<&'a [u8]>
+    ensures { MatchOption result (Lacks (IsBehindEither first.now second.now text.now)) (λ rest. IsBehindEither first.now second.now text.now rest.now) }
+{
+    match behind(text, first) {
+        Some(rest) => Some(rest),
+        None => behind(text, second),
+    }
+}
+
+/// What stands behind the scheme of a handle.
+fn behind_scheme(text: &[u8]) -> Option<&[u8]>
+    ensures { MatchOption result (Lacks (IsBehindScheme text.now)) (λ rest. IsBehindScheme text.now rest.now) }
+{
+    behind_either(text, b"hdl:", b"doi:")
+}
+
+/// What stands behind the address of a DOI.
+fn behind_doi(text: &[u8]) -> Option<&[u8]>
+    ensures { MatchOption result (Lacks (IsBehindDoi text.now)) (λ rest. IsBehindDoi text.now rest.now) }
+{
+    match behind_either(text, b"https://doi.org/", b"http://doi.org/") {
+        Some(rest) => Some(rest),
+        None => behind_either(text, b"https://dx.doi.org/", b"http://dx.doi.org/"),
+    }
+}
+
+/// What stands behind the address of a proxy that the world knows.
+fn behind_address(text: &[u8]) -> Option<&[u8]>
+    ensures { MatchOption result (Lacks (IsBehindAddress text.now)) (λ rest. IsBehindAddress text.now rest.now) }
+{
+    match behind_either(text, b"https://hdl.handle.net/", b"http://hdl.handle.net/") {
+        Some(rest) => Some(rest),
+        None => behind_doi(text),
+    }
+}
+
+/// The name in a part of a path, with its escapes: what stands behind a scheme or a proxy's address, or where it has none all of it. A name
+/// that itself begins so has its colon escaped, as every path that this crate writes has.
+pub(crate) fn written(text: &[u8]) -> &[u8]
+    ensures { IsWritten text.now result.now }
+{
+    if let Some(rest) = behind_scheme(text) {
+        return rest;
+    }
+    match behind_address(text) {
+        Some(rest) => rest,
+        None => text,
+    }
+}
+
+/// The name in a text that was pasted: what stands behind a scheme; of a proxy's address the rest, its escapes read once; or where it has
+/// neither all of it.
+pub(crate) fn pasted(alloc: Global, text: &[u8]) -> Result<Vec<u8>, AllocError>
+    ensures { IfOk result (λ name. IsPasted text.now name.items) }
+{
+    if let Some(rest) = behind_scheme(text) {
+        return Vec::from_slice(alloc, rest);
+    }
+    match behind_address(text) {
+        Some(rest) => decoded(alloc, rest),
+        None => Vec::from_slice(alloc, text),
+    }
+}

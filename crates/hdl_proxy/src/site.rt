@@ -1,0 +1,173 @@
+//! What all pages of a site have: its name, its style, and whom to ask.
+
+ghost use Rattle.std.specs.Prelude.{◌≡◌, ◌++◌, IfOk, OnOk};
+ghost use Rattle.hdl_proxy.specs.Site.{Dresses, IsDressed, contact_part, foot, front_part, page_of};
+
+use crate::answer::{Answer, Media};
+use crate::link::Link;
+use crate::page::Page;
+use std::alloc::{AllocError, Global};
+
+const HEAD: &str = "<!DOCTYPE html>
+<html lang=\"en\">
+<head>
+<meta charset=\"utf-8\">
+<meta name=\"viewport\" content=\"width=device-width, initial-scale=1\">
+<link rel=\"icon\" href=\"/favicon.ico\" type=\"image/svg+xml\">
+<title>";
+
+const STYLE: &str = "</title>
+<style>
+:root { color-scheme: light dark; --ink: #1b2421; --soft: #50605a; --line: #d3dedb; --paper: #fff; --jade: #1d6b57 }
+@media (prefers-color-scheme: dark) { :root { --ink: #e3ebe8; --soft: #a5b6b0; --line: #35433e; --paper: #131917; --jade: #7fd1b9 } }
+* { box-sizing: border-box }
+body { margin: 0; border-top: .3rem solid var(--jade); font: 1rem/1.5 system-ui, sans-serif; color: var(--ink); background: var(--paper) }
+header, main, footer { max-width: 60rem; margin: 0 auto; padding: 1rem 1.25rem }
+header { padding-bottom: 0; font-weight: 600 }
+header a { color: inherit; text-decoration: none }
+footer { color: var(--soft); font-size: .9rem }
+a { color: var(--jade) }
+:focus-visible { outline: 3px solid var(--jade); outline-offset: 2px }
+h1 { font-size: 1.5rem; line-height: 1.25; margin: .75rem 0 1rem; overflow-wrap: anywhere }
+p { max-width: 44rem; margin: 0 0 .75rem }
+small { font-size: .875rem; font-weight: normal; color: var(--soft) }
+table { width: 100%; margin: 0 0 1.5rem; border-collapse: collapse; border-top: 1px solid var(--line) }
+th, td { padding: .55rem 1rem .55rem 0; border-bottom: 1px solid var(--line); text-align: left; vertical-align: top; overflow-wrap: anywhere }
+thead th { font-size: .875rem; font-weight: normal; color: var(--soft) }
+th:first-child { width: 10rem }
+td:last-child, thead th:last-child { width: 13rem; padding-right: 0; font-size: .875rem; color: var(--soft) }
+td p, td ul { max-width: none; margin: 0 }
+.data { font-family: ui-monospace, monospace; font-size: .95em; white-space: pre-wrap; overflow-wrap: anywhere }
+.may { padding: 0; list-style: none; font-size: .875rem; color: var(--soft) }
+.may li { display: inline }
+.may li + li::before { content: \", \" }
+.find { display: flex; flex-wrap: wrap; gap: .5rem }
+input, button { font: inherit; padding: .5rem .75rem; border: 1px solid var(--soft); border-radius: .3rem; color: inherit; background: var(--paper) }
+input { flex: 1 1 16rem }
+::placeholder { color: var(--soft); opacity: 1 }
+button { border-color: var(--jade); color: var(--paper); background: var(--jade) }
+@media (max-width: 40rem) {
+thead { position: absolute; width: 1px; height: 1px; overflow: hidden; clip-path: inset(50%) }
+tbody tr { display: grid; grid-template-columns: 1fr auto; padding: .6rem 0; border-bottom: 1px solid var(--line) }
+tbody th:first-child, tbody td, tbody td:last-child { width: auto; padding: 0; border: 0 }
+tbody td { grid-column: 1 / 3; grid-row: 2 }
+tbody td:last-child { grid-column: 2; grid-row: 1; text-align: right }
+td:last-child::before { content: \"kept \" }
+}
+</style>
+</head>
+<body>
+<header><a href=\"/\">";
+
+const MAIN: &str = "</a></header>
+<main>
+";
+
+/// A way to ask somebody, and how it is told.
+#[derive(Drop)]
+struct Contact {
+    to: Link,
+    text: String,
+}
+
+/// A site of pages: its name, and whom to ask.
+#[derive(Drop)]
+pub struct Site {
+    name: String,
+    contact: Option<Contact>,
+}
+
+/// The way to a contact: to a URL that is followed, and else by mail. None where it has a control octet.
+fn way_to(alloc: Global, contact: &str) -> Result<Option<Link>, AllocError> {
+    if let Some(link) = Link::followed(alloc, contact.as_bytes())? {
+        return Ok(Some(link));
+    }
+    let mail = format!(in alloc; "mailto:{contact}")?;
+    Link::followed(alloc, mail.as_bytes())
+}
+
+fn contact_of(alloc: Global, contact: &str) -> Result<Option<Contact>, AllocError> {
+    match way_to(alloc, contact)? {
+        Some(to) => Ok(Some(Contact {
+            to,
+            text: String::from_str(alloc, contact)?,
+        })),
+        None => Ok(None),
+    }
+}
+
+#[tactic(auto, unfolding(crate::specs::Site::front_part))]
+fn put_front(page: &mut Page, title: &[u8], name: &[u8]) -> Result<(), AllocError>
+    ensures { OnOk result (page.new.octets.items ≡ page.old.octets.items ++ front_part title.now name.now) }
+{
+    page.markup(HEAD)?;
+    page.text(title)?;
+    page.element(" - ", name, STYLE)?;
+    page.text(name)?;
+    page.markup(MAIN)
+}
+
+#[tactic(auto, unfolding(crate::specs::Site::contact_part))]
+fn put_contact(page: &mut Page, contact: &Contact) -> Result<(), AllocError>
+    ensures { OnOk result (page.new.octets.items ≡ page.old.octets.items ++ contact_part contact.now) }
+{
+    page.markup("<footer>Questions? <a href=\"")?;
+    page.text(contact.to.octets())?;
+    page.element("\">", contact.text.as_bytes(), "</a></footer>\n")
+}
+
+fn put_foot(page: &mut Page, contact: &Option<Contact>) -> Result<(), AllocError>
+    ensures { OnOk result (page.new.octets.items ≡ page.old.octets.items ++ foot contact.now) }
+{
+    match contact {
+        Some(contact) => put_contact(page, contact),
+        None => Ok(()),
+    }
+}
+
+impl Site {
+    /// A site with this name, and a contact where there is one: a URL that is followed, or an address of mail. One with a control octet is
+    /// none.
+    pub fn new(alloc: Global, name: &str, contact: Option<&str>) -> Result<Site, AllocError> {
+        let contact = match contact {
+            Some(contact) => contact_of(alloc, contact)?,
+            None => None,
+        };
+        Ok(Site {
+            name: String::from_str(alloc, name)?,
+            contact,
+        })
+    }
+
+    /// The whole page of this main part.
+    fn page(&self, alloc: Global, title: &[u8], main: &Vec<u8>) -> Result<Vec<u8>, AllocError>
+        ensures { IfOk result (λ octets. octets.items ≡ page_of self.now title.now main.now.items) }
+    {
+        let mut page = Page::empty(alloc);
+        put_front(&mut page, title, self.name.as_bytes())?;
+        page.part(main)?;
+        page.markup("</main>\n")?;
+        put_foot(&mut page, &self.contact)?;
+        page.markup("</body>\n</html>\n")?;
+        Ok(page.into_octets())
+    }
+
+    /// The answer as this site gives it: a page between the head and the foot of the site, and all else as it is.
+    pub fn dressed(&self, alloc: Global, answer: Answer) -> Result<Answer, AllocError>
+        ensures { IfOk result (IsDressed self.now answer) }
+    {
+        if answer.media != Media::Page {
+            return Ok(answer);
+        }
+        let body = self.page(alloc, &answer.title, &answer.body)?;
+        Ok(Answer {
+            status: answer.status,
+            location: answer.location,
+            media: Media::Page,
+            keeping: answer.keeping,
+            tag: answer.tag,
+            title: answer.title,
+            body,
+        })
+    }
+}
