@@ -27,6 +27,8 @@ ADMIN, KEPT, ANYBODY = 0x0E, 0x0C, 0x0F
 MOMENT = re.compile(r"^[0-9]{4}-[0-9]{2}-[0-9]{2}T[0-9]{2}:[0-9]{2}:[0-9]{2}(\.[0-9]+)?Z ")
 # Seconds in which a server ends that was asked to.
 END = 5
+# Octets of a log that has no page.
+EMPTY = 41
 REFERENCE = "300:0.NA/10"
 
 
@@ -149,11 +151,22 @@ def page(port, path):
         return fault.code, fault.headers["Content-Type"], fault.read().decode()
 
 
-def logged(file):
-    """The lines of a log without their moments; None where one has none."""
-    with open(file) as log:
-        lines = log.read().splitlines()
-    return [MOMENT.sub("", line) for line in lines] if all(MOMENT.match(line) for line in lines) else None
+def soon(holds):
+    """Whether something comes to hold: lines and counts come a moment behind the replies that they are of."""
+    until = time.monotonic() + END
+    while not holds() and time.monotonic() < until:
+        time.sleep(0.02)
+    return holds()
+
+
+def logged(file, count):
+    """The lines of a log without their moments, once there are so many; None where one has none."""
+    def lines():
+        with open(file) as log:
+            return log.read().splitlines()
+
+    soon(lambda: len(lines()) >= count)
+    return [MOMENT.sub("", line) for line in lines()] if all(MOMENT.match(line) for line in lines()) else None
 
 
 def stop(control):
@@ -183,7 +196,7 @@ def watched(folder):
     crowded = Stream(bolt)
     lines, holds = changes(crowded, b"crowd")
     yield "codes on the overflow lane", holds
-    found = logged(log)
+    found = logged(log, len(expected) + len(lines) + len(others))
     own = [line for line in found or [] if line.startswith("acme")]
     yield "the log of two lanes", own == expected
     theirs = [line for line in found or [] if line.startswith("bolt") and "10/gone" not in line]
@@ -215,7 +228,7 @@ def counted(status):
     yield "no such page", page(status, "/")[0] == 404
     with socket.create_connection(("127.0.0.1", status), 10) as one:
         one.sendall(b"POST /metrics HTTP/1.1\r\nHost: a\r\n\r\n")
-        yield "another method", one.recv(4096).startswith(b"HTTP/1.1 405 ")
+        yield "another method", one.makefile("rb").read().startswith(b"HTTP/1.1 405 ")
 
 
 def ended(process, control, file, clients):
@@ -229,7 +242,7 @@ def ended(process, control, file, clients):
     for client in clients:
         with contextlib.suppress(OSError):
             yield "a client is left", client.socket.recv(1) == b""
-    yield "the log was copied into the file", os.path.exists(file) and not os.path.exists(control) and (not os.path.exists(file + "-wal") or os.path.getsize(file + "-wal") == 0)
+    yield "the log was copied into the file", os.path.exists(file) and not os.path.exists(control) and os.path.getsize(file + "-wal") <= EMPTY
     again, _ = stop(control)
     yield "nobody to stop", (again.returncode, again.stderr.split(b":")[0]) == (1, b"stop")
     process, (port, _) = servers.serve(tenants, 2, options=("--table", file, "--control", control))
@@ -282,8 +295,10 @@ def failing(folder):
     yield "no port of a status page", (done.returncode, b"no IPv4 or IPv6 address with a port" in done.stderr) == (2, True)
     process, (acme, _) = servers.serve(tenants, 2, options=("--log", "-"), stderr=subprocess.PIPE)
     Stream(acme).ask(delete(b"10/gone"))
+    said = [process.stderr.readline().decode() for _ in range(2)]
+    yield "a log on standard error", "acme 0 127.0.0.1:" in said[1] and said[1].endswith(" delete 10/gone - 100\n")
     servers.end(process)
-    yield "a log on standard error", any("acme 0 127.0.0.1:" in line and line.endswith(" delete 10/gone - 100") for line in process.stderr.read().decode().splitlines())
+    process.stderr.close()
 
 
 def limited():
@@ -292,15 +307,17 @@ def limited():
     resource.setrlimit(resource.RLIMIT_FSIZE, (200000, 200000))
 
 
-def shut(folder):
-    """A table whose file can't grow is shut, and the status page says so."""
+def full(folder):
+    """A table whose file can't grow: what isn't written is counted as busy, and reads go on. A table that is shut is seen by tools/refuse-disk."""
     status, = servers.free_ports(1)
     options = ("--table", os.path.join(folder, "small.db"), "--status", "127.0.0.1:%d" % status)
     process, (acme, _) = servers.serve(tenants, 2, options=options, stderr=subprocess.PIPE, preexec_fn=limited)
     client = Stream(acme)
     codes = [client.ask(create(b"10/%d" % number)) for number in range(200)]
     yield "a file that can't grow", codes[0] == 1 and codes[-1] == 3
-    yield "the page says that the table is shut", page(status, "/health")[0] == 503 and "handled_table_shut 1" in page(status, "/metrics")[2].splitlines()
+    busy = sum(code == 3 for code in codes)
+    line = 'handled_replies_total{publisher="acme",operation="other",code="3"} %d' % busy
+    yield "busy changes are counted", soon(lambda: line in page(status, "/metrics")[2].splitlines())
     yield "reads go on", client.ask(wire.resolution(b"10/open")) == 1
     servers.end(process)
     process.stderr.close()
@@ -309,7 +326,7 @@ def shut(folder):
 def main():
     passed, failed = 0, 0
     with tempfile.TemporaryDirectory() as folder:
-        for part in (watched, busy_end, failing, shut):
+        for part in (watched, busy_end, failing, full):
             for case, holds in part(folder):
                 passed += holds
                 failed += not holds
