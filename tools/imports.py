@@ -129,6 +129,7 @@ HEAD = "handle,index,type,data,ttl,permissions"
 GOOD = "10/good%d,1,URL,https://example.org/,86400,1110"
 QUOTE = "a quote isn't closed: a field with a quote in it stands in quotes, with each of its own written twice"
 FIELDS = "more or fewer fields than the header names: a field with a comma in it stands in quotes"
+RETURN = "a CR stands in the line: lines end with LF, or with CR LF"
 TEXT = "the data isn't text on one line"
 MANY_VALUES = "the handle has more than 256 values: create it with some of them, and add the others by `hdl batch`"
 # Of a faulty handle: its rows, and which of them is told with which words.
@@ -146,6 +147,7 @@ FAULTS = (
     (["10/f11,1,URL,https://example.org/a,b,1,1110"], 0, FIELDS),
     (["10/f12,1,URL"], 0, FIELDS),
     (['10/f13,1,URL,"https://example.org/,1,1110'], 0, QUOTE),
+    (["10/f17,1,URL,https://example.org/,1,1110\r10/f18,1,URL,https://example.org/,1,1110"], 0, RETURN),
     (["10/f14,1,HS_ADMIN,300:0.NA/10,1,1110"], 0, "the data isn't INDEX:MASK:HANDLE"),
     (["10/f15,1,HS_VLIST,300,1,1110"], 0, "the data isn't INDEX:HANDLE and more of them"),
     (["10/f16,1,HS_SECKEY,a secret,1,1100"], 0, "a key can't stand in the file: write it by `hdl batch`"),
@@ -196,6 +198,7 @@ def unsent(port):
     yield "an empty file", run(port, b"") == (2, "", COLUMN)
     yield "a header without a column", run(port, b"handle,type,data\n10/a,URL,a\n") == (2, "", COLUMN)
     yield "semicolons", run(port, b"handle;type;data;ttl\n") == (2, "", COLUMN)
+    yield "lines that end with CR", run(port, b"handle,type,data,ttl\r10/a,URL,a,1\r") == (2, "", "hdl: line 1: %s\n" % RETURN)
     yield "a column twice", run(port, b"handle,type,data,ttl,data\n") == (2, "", "hdl: line 1: the header names a column twice\n")
     yield "a key that is none", run(port, WHOLE, key="10/a") == (2, "", "hdl: a key isn't INDEX:HANDLE\n")
     yield "no secret", run(port, WHOLE, secret="") == (2, "", "hdl: the secret is missing\n")

@@ -32,6 +32,8 @@ pub enum WordFault {
     TooLong,
     #[error("a quote isn't closed: a field with a quote in it stands in quotes, with each of its own written twice")]
     Quote,
+    #[error("a CR stands in the line: lines end with LF, or with CR LF")]
+    Return,
     #[error("more or fewer fields than the header names: a field with a comma in it stands in quotes")]
     Fields,
     #[error("the header lacks a column: its line is handle,type,data,ttl, in any order, with index and permissions if they are given")]

@@ -81,10 +81,18 @@ fn line_of(text: &[u8]) -> (&[u8], &[u8]) {
     }
 }
 
+/// Whether a CR stands in a line, behind which there would be a record more.
+fn has_return(line: &[u8]) -> bool {
+    line.contains(&b'\r')
+}
+
 impl<'t> Rows<'t> {
     /// The rows behind the header of this text.
     pub fn new(alloc: Global, key: RawRef, text: &'t [u8]) -> Result<Rows<'t>, WordFault> {
         let (header, rest) = line_of(text);
+        if has_return(header) {
+            return Err(WordFault::Return);
+        }
         let Some(names) = fields_in(alloc, header)? else {
             return Err(WordFault::Column);
         };
@@ -154,6 +162,9 @@ impl<'t> Rows<'t> {
     }
 
     fn push(&mut self, line: &[u8], fields: &ByteRecord) -> Result<(), WordFault> {
+        if has_return(line) {
+            return Err(WordFault::Return);
+        }
         if !is_closed(line) {
             return Err(WordFault::Quote);
         }
