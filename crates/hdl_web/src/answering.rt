@@ -5,7 +5,9 @@ ghost use Rattle.futures.specs.Channel.{completed_source};
 
 use crate::asks::Made;
 use crate::gathering::{Gathered, Gathering, Turn};
+use crate::log::Open;
 use crate::response::response_of;
+use crate::text::text_response;
 use bytes::Bytes;
 use futures::channel::oneshot;
 use futures::task::{Context, Poll};
@@ -20,36 +22,47 @@ use std::time::Clock;
 #[derive(Drop)]
 pub struct Answering<R, B> {
     alloc: Global,
+    visit: Option<Open<R>>,
     gathering: Option<Gathering<R, B>>,
     made: Option<Made>,
+    told: Option<(u16, String)>,
     coming: Option<oneshot::Receiver<Made>>,
 }
 
 impl<R: Wait + Clock + Drop, B: Drop> Answering<R, B> {
     /// An answer that is there, or that comes from a thread.
-    pub(crate) fn next(alloc: Global, turn: Turn) -> Answering<R, B>
+    pub(crate) fn next(alloc: Global, visit: Option<Open<R>>, turn: Turn) -> Answering<R, B>
         ensures { result.gathering ≡ None }
     {
-        let (made, coming) = match turn {
-            Turn::Made(answer) => (Some(answer), None),
-            Turn::Coming(from) => (None, Some(from)),
+        let (made, told, coming) = match turn {
+            Turn::Made(answer) => (Some(answer), None, None),
+            Turn::Told(status, text) => (None, Some((status, text)), None),
+            Turn::Coming(from) => (None, None, Some(from)),
         };
         Answering {
             alloc,
+            visit,
             gathering: None,
             made,
+            told,
             coming,
         }
     }
 
     /// An answer that waits for the body of its request.
-    pub(crate) fn gathering(alloc: Global, gathering: Gathering<R, B>) -> Answering<R, B>
+    pub(crate) fn gathering(
+        alloc: Global,
+        visit: Option<Open<R>>,
+        gathering: Gathering<R, B>,
+    ) -> Answering<R, B>
         ensures { result.gathering ≡ Some gathering }
     {
         Answering {
             alloc,
+            visit,
             gathering: Some(gathering),
             made: None,
+            told: None,
             coming: None,
         }
     }
@@ -63,13 +76,36 @@ impl<R: Wait + Clock + Drop, B: Drop> Answering<R, B> {
         };
         match gathering.end(gathered) {
             Turn::Made(answer) => self.made = Some(answer),
+            Turn::Told(status, text) => self.told = Some((status, text)),
             Turn::Coming(from) => self.coming = Some(from),
         }
     }
 }
 
-fn response(alloc: Global, answer: Made) -> Result<Response<Full<Bytes>>, AllocError> {
-    response_of(alloc, &answer?)
+/// The response of an answer, with which the visit is over.
+fn response<R: Wait + Clock>(
+    alloc: Global,
+    visit: &mut Option<Open<R>>,
+    answer: Made,
+) -> Result<Response<Full<Bytes>>, AllocError> {
+    let answer = answer?;
+    if let Some(visit) = visit {
+        visit.end(&answer);
+    }
+    response_of(alloc, &answer)
+}
+
+/// The response of a text, with which the visit is over.
+fn response_of_text<R: Wait + Clock>(
+    alloc: Global,
+    visit: &mut Option<Open<R>>,
+    status: u16,
+    text: &str,
+) -> Result<Response<Full<Bytes>>, AllocError> {
+    if let Some(visit) = visit {
+        visit.told(status, text.len());
+    }
+    text_response(alloc, status, text)
 }
 
 impl<R: Wait + Clock + Drop, B: Future<Output = Gathered>> Future for Answering<R, B> {
@@ -86,13 +122,17 @@ impl<R: Wait + Clock + Drop, B: Future<Output = Gathered>> Future for Answering<
             self.gathered(gathered);
         }
         if let Some(answer) = self.made.take() {
-            return Poll::Ready(response(self.alloc, answer));
+            return Poll::Ready(response(self.alloc, &mut self.visit, answer));
+        }
+        if let Some((status, text)) = self.told.take() {
+            let response = response_of_text(self.alloc, &mut self.visit, status, &text);
+            return Poll::Ready(response);
         }
         let Some(from) = &mut self.coming else {
             return Poll::Ready(Err(AllocError));
         };
         match ready!(from.poll(cx)) {
-            Ok(answer) => Poll::Ready(response(self.alloc, answer)),
+            Ok(answer) => Poll::Ready(response(self.alloc, &mut self.visit, answer)),
             Err(_) => Poll::Ready(Err(AllocError)),
         }
     }

@@ -27,6 +27,10 @@ pub struct ProxyWords {
     pub askers: u64,
     /// How many seconds an answer may take: 1 to 60.
     pub timeout: u64,
+    /// For how many seconds an answer is kept at most; 0 keeps none.
+    pub cache: u64,
+    /// Where a line of each visit is written, if anywhere: a file's path, or `-`.
+    pub log: Option<String>,
     /// Whether handles are changed, by who has a key.
     pub writes: bool,
 }
@@ -81,6 +85,25 @@ fn command<'a>(alloc: Global) -> Result<Command<'a>, AllocError> {
                 .value_parser(value_parser!(u64).range(1..61)),
         )?
         .arg(
+            Arg::new(alloc, "cache")
+                .long("cache")
+                .value_name("SECONDS")
+                .help(
+                    "How long an answer is kept at most, as far as its TTL lets it; none is without it",
+                )
+                .action(ArgAction::Set)
+                .value_parser(value_parser!(u64).range(1..86401)),
+        )?
+        .arg(
+            Arg::new(alloc, "log")
+                .long("log")
+                .value_name("FILE")
+                .help(
+                    "Where a line of each visit is written, - is standard output; nowhere without it",
+                )
+                .action(ArgAction::Set),
+        )?
+        .arg(
             Arg::new(alloc, "writes")
                 .long("writes")
                 .help(
@@ -96,11 +119,17 @@ fn proxy_words(alloc: Global, found: &ArgMatches<'_>) -> Result<ProxyWords, Allo
     for server in found.get_strs("server").unwrap_or(&[]) {
         servers.push(String::from_str(alloc, server)?)?;
     }
+    let log = match found.get_str("log") {
+        Some(path) => Some(String::from_str(alloc, path)?),
+        None => None,
+    };
     Ok(ProxyWords {
         listen: String::from_str(alloc, found.get_str("listen").unwrap_or(LISTEN))?,
         servers,
         askers: found.get_one::<u64>("askers").unwrap_or(ASKERS),
         timeout: found.get_one::<u64>("timeout").unwrap_or(TIMEOUT),
+        cache: found.get_one::<u64>("cache").unwrap_or(0),
+        log,
         writes: found.get_flag("writes"),
     })
 }
