@@ -1,14 +1,17 @@
 """routes.py: sees that a server's trouble is its own: asks the proved program crates/hdl_web/out/hdl_web (`hdl proxy`) before servers in this program
-that have other prefixes, refer, are silent, slow, closed or crowded, and counts what each of them is asked.
+that have other prefixes, refer, are silent, slow, closed or crowded, and counts what each of them is asked; then what the proxy keeps, counts and logs.
 
-It takes some nine seconds, of which most is waiting. Its last line is 'N passed, M failed', a case counting one."""
+It takes some nine seconds, of which most is waiting, in several parts at a time. Its last line is 'N passed, M failed', a case counting one."""
 
+import concurrent.futures
 import contextlib
 import os
+import re
 import socket
 import struct
 import subprocess
 import sys
+import tempfile
 import threading
 import time
 
@@ -20,7 +23,7 @@ import wire
 
 PROGRAM = os.environ.get("PROXY", repository.program("hdl_web"))
 READABLE = wire.ADMIN_READ | wire.ADMIN_WRITE | wire.PUBLIC_READ
-SUCCESS, REFERRAL = 1, 302
+SUCCESS, BUSY, ABSENT, REFERRAL = 1, 3, 100, 302
 # The seconds that an answer may take here, those for which a server that failed is left out, and how soon an answer is there that waits for nobody.
 TIMEOUT, LEFT_OUT, SOON = 1, 3, 0.7
 # How many questions wait for a server at most, and how many it is asked at once.
@@ -204,6 +207,100 @@ def changes():
             stream.close()
 
 
+def body_of(port, path):
+    """The status and the body of what is answered."""
+    with socket.create_connection(("127.0.0.1", port)) as stream:
+        stream.settimeout(30)
+        stream.sendall(("GET %s HTTP/1.1\r\nhost: h\r\nconnection: close\r\n\r\n" % path).encode())
+        octets = b""
+        while piece := stream.recv(65536):
+            octets += piece
+    return int(octets[9:12] or 0), octets.partition(b"\r\n\r\n")[2].decode()
+
+
+def short(code):
+    return lambda _: wire.message(wire.RESOLVE, wire.number(0), code)
+
+
+def kept():
+    """What is answered out of what is kept: for its TTL, and `--cache` at most; not found, and no other refusal."""
+    server = Server(lambda handle: wire.values_reply(handle, wire.value(1, b"URL", b"https://example.org/", READABLE, 1 if handle == b"10/short" else 86400)))
+    with proxy((server, ""), options=["--cache", "2"]) as port:
+        statuses = [ask(port, handle)[0] for handle in ("10/a", "10/a", "10/a?noredirect", "api/handles/10/a", "10/A", "10/short", "10/short")]
+        yield "a handle is asked for once", statuses == [302, 302, 200, 200, 302, 302, 302] and server.asked == [b"10/a", b"10/A", b"10/short"]
+        server.answer = short(ABSENT)
+        yield "not found is kept", [ask(port, "10/none")[0] for _ in range(3)] == [404] * 3 and len(server.asked) == 4
+        server.answer = short(BUSY)
+        yield "no other refusal is", [ask(port, "10/busy")[0] for _ in range(3)] == [503] * 3 and len(server.asked) == 7
+        time.sleep(1.2)
+        yield "for its TTL", ask(port, "10/short")[0] == 503 and ask(port, "10/a")[0] == 302
+        time.sleep(1)
+        yield "for as long as is said", ask(port, "10/a")[0] == 503 and ask(port, "10/none")[0] == 503
+
+
+LINE = re.compile(r"\d{4}-\d\d-\d\dT\d\d:\d\d:\d\d(\.\d+)?Z (\S+) (\S+) (\d+) (\d+) \d+")
+SECRET = "Basic MzAwJTNBMC5OQS8xMDpz"
+
+
+def lines_of(path, count):
+    """The lines of a file, once it has so many; they are written behind the answers."""
+    text = ""
+    for _ in range(100):
+        with open(path, encoding="ascii") as lines:
+            text = lines.read()
+        if text.count("\n") >= count:
+            break
+        time.sleep(0.02)
+    return text
+
+
+def told():
+    """What is counted, whether it is well, and the lines of visits."""
+    silent, other = Server(lambda _: None), Server()
+    with tempfile.TemporaryDirectory() as folder:
+        path = os.path.join(folder, "visits")
+        with proxy((silent, "10"), (other, ""), options=["--log", path, "--writes"]) as port:
+            yield "it is well", body_of(port, "/health") == (200, "ok\n")
+            for asked in ("20/a", "20/%22%20x", "10/a", "20/a?secret"):
+                ask(port, asked)
+            status, text = body_of(port, "/metrics")
+            wanted = ['hdl_proxy_answers_total{kind="redirect",code="302"} 3', 'hdl_proxy_answers_total{kind="page",code="502"} 1',
+                      'hdl_proxy_server_asked_total{server="127.0.0.1:%d"} 1' % silent.port, 'hdl_proxy_server_failed_total{server="127.0.0.1:%d"} 1' % silent.port,
+                      'hdl_proxy_server_left_out{server="127.0.0.1:%d"} 1' % silent.port, 'hdl_proxy_server_asked_total{server="127.0.0.1:%d"} 3' % other.port]
+            yield "what is counted", status == 200 and not set(wanted) - set(text.splitlines())
+            with socket.create_connection(("127.0.0.1", port)) as stream:
+                stream.sendall(("PUT /api/handles/20/b HTTP/1.1\r\nhost: h\r\nconnection: close\r\nauthorization: %s\r\ncontent-length: 8\r\n\r\n\"hidden\"" % SECRET).encode())
+                stream.recv(65536)
+            text = lines_of(path, 7)
+        found = [LINE.fullmatch(line) for line in text.splitlines()]
+        yield "a line a visit", all(found) and [one.group(2, 3, 4) for one in found] == [
+            ("GET", "/health", "200"), ("GET", "/20/a", "302"), ("GET", "/20/%22%20x", "302"), ("GET", "/10/a", "502"), ("GET", "/20/a", "302"),
+            ("GET", "/metrics", "200"), ("PUT", "/api/handles/20/b", "400")]
+        yield "no secret, no body", not {"hidden", "secret", SECRET.split()[1]} & set(re.split(r"[\s\"?]", text))
+    gone = Server(lambda _: None)
+    with proxy((gone, ""), options=["--log", "-"]) as port:
+        ask(port, "10/a")
+        yield "it isn't well", body_of(port, "/health") == (503, "no server answers\n")
+
+
+def full():
+    """A disk that is full stops no answer, and is said once."""
+    server = Server()
+    (port,) = servers.free_ports(1)
+    words = [PROGRAM, "--listen", "[::1]:%d" % port, "--server", "127.0.0.1:%d" % server.port, "--log", "/dev/full"]
+    process = subprocess.Popen(words, stdin=subprocess.DEVNULL, stdout=subprocess.PIPE, stderr=subprocess.PIPE, text=True)
+    process.stdout.readline()
+    answers = []
+    for _ in range(3):
+        with socket.create_connection(("::1", port)) as stream:
+            stream.sendall(b"GET /10/a HTTP/1.1\r\nhost: h\r\nconnection: close\r\n\r\n")
+            answers.append(stream.recv(12))
+    time.sleep(0.2)
+    process.terminate()
+    said = process.communicate()[1]
+    yield "a full disk, by IPv6", answers == [b"HTTP/1.1 302"] * 3 and said.count("\n") == 1 and "log" in said
+
+
 def faults():
     for named, words in FAULTS:
         given = [word for name in named for word in ("--server", name)]
@@ -212,9 +309,9 @@ def faults():
 
 
 def main():
-    cases = []
-    for part in (prefixes, referrals, silence, slowness, crowds, changes, faults):
-        cases += part()
+    parts = (prefixes, referrals, silence, slowness, crowds, changes, kept, told, full, faults)
+    with concurrent.futures.ThreadPoolExecutor(len(parts)) as pool:
+        cases = [case for found in pool.map(lambda part: list(part()), parts) for case in found]
     for name, good in cases:
         if not good:
             print("%s: otherwise than it should be" % name)

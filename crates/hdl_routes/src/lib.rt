@@ -1,24 +1,28 @@
-//! Which of several servers is asked for a handle, when one is left out, and what their answers come to.
+//! Which of several servers is asked for a handle, when one is left out, what their answers come to, and which replies are kept.
 //!
 //! ```text
 //! HOST:PORT=PREFIX,..  -> read_route -> Route
 //! a prefix, the routes -> places_for -> the servers that are asked, in turn
 //! a server's standing  -> Standing::admits -> whether it is asked now
 //! no good answer       -> worst -> what a browser is told
+//! a request, its reply -> Kept::keep, find -> the reply, while it is fresh
 //! ```
 //!
 //! This crate has no sockets, no threads and no clock: moments are milliseconds that the caller gives. It promises that a prefix is
 //! asked for at just the servers that were named with it, or where none was at those without prefixes; that what is remembered of
-//! prefixes changes only the order; and that a server that failed is tried by one question at a time.
+//! prefixes changes only the order; that a server that failed is tried by one question at a time; and that a kept reply is found by its own
+//! request alone, while it is fresh.
 #![tactic(auto)]
 
 mod fault;
+mod kept;
 mod miss;
 mod order;
 mod route;
 mod standing;
 
 pub use fault::RouteFault;
+pub use kept::{Kept, REPLIES_MOST, REPLY_MOST};
 pub use miss::{Miss, worst};
 pub use order::places_for;
 pub use route::{Route, read_route};

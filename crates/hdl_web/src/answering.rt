@@ -5,12 +5,14 @@ ghost use Rattle.futures.specs.Channel.{completed_source};
 
 use crate::asks::Made;
 use crate::gathering::{Gathered, Gathering, Turn};
+use crate::log::Open;
 use crate::response::response_of;
+use crate::text::text_response;
 use bytes::Bytes;
 use futures::channel::oneshot;
 use futures::task::{Context, Poll};
 use futures::{Future, ready};
-use hdl_proxy::{Site, tagged};
+use hdl_proxy::{Answer, Site, tagged};
 use http_body_util::Full;
 use hyper::Response;
 use std::alloc::{AllocError, Global};
@@ -28,45 +30,51 @@ pub(crate) struct Seen {
 }
 
 impl Seen {
-    /// The response of an answer: a page as the site gives it, or that the client has it already.
-    fn response(&self, alloc: Global, answer: Made) -> Result<Response<Full<Bytes>>, AllocError> {
+    /// An answer as the client gets it: a page as the site gives it, or that the client has it already.
+    fn answer(&self, alloc: Global, answer: Answer) -> Result<Answer, AllocError> {
         let known = match &self.known {
             Some(field) => Some(field.as_str()),
             None => None,
         };
-        let answer = self.site.dressed(alloc, answer?)?;
-        response_of(alloc, &tagged(alloc, answer, known)?, self.changes)
+        let answer = self.site.dressed(alloc, answer)?;
+        tagged(alloc, answer, known)
     }
+}
+
+/// Who asks: what the response needs of that, and the visit, where it can be counted.
+#[derive(Drop)]
+pub(crate) struct Guest<R> {
+    pub(crate) seen: Result<Seen, AllocError>,
+    pub(crate) visit: Option<Open<R>>,
 }
 
 /// The response to a request: one that is there, that a thread makes, or that waits for the request's body.
 #[derive(Drop)]
 pub struct Answering<R, B> {
     alloc: Global,
-    seen: Result<Seen, AllocError>,
+    guest: Guest<R>,
     gathering: Option<Gathering<R, B>>,
     made: Option<Made>,
+    told: Option<(u16, String)>,
     coming: Option<oneshot::Receiver<Made>>,
 }
 
 impl<R: Wait + Clock + Drop, B: Drop> Answering<R, B> {
     /// An answer that is there, or that comes from a thread.
-    pub(crate) fn next(
-        alloc: Global,
-        seen: Result<Seen, AllocError>,
-        turn: Turn,
-    ) -> Answering<R, B>
+    pub(crate) fn next(alloc: Global, guest: Guest<R>, turn: Turn) -> Answering<R, B>
         ensures { result.gathering ≡ None }
     {
-        let (made, coming) = match turn {
-            Turn::Made(answer) => (Some(answer), None),
-            Turn::Coming(from) => (None, Some(from)),
+        let (made, told, coming) = match turn {
+            Turn::Made(answer) => (Some(answer), None, None),
+            Turn::Told(status, text) => (None, Some((status, text)), None),
+            Turn::Coming(from) => (None, None, Some(from)),
         };
         Answering {
             alloc,
-            seen,
+            guest,
             gathering: None,
             made,
+            told,
             coming,
         }
     }
@@ -74,16 +82,17 @@ impl<R: Wait + Clock + Drop, B: Drop> Answering<R, B> {
     /// An answer that waits for the body of its request.
     pub(crate) fn gathering(
         alloc: Global,
-        seen: Result<Seen, AllocError>,
+        guest: Guest<R>,
         gathering: Gathering<R, B>,
     ) -> Answering<R, B>
         ensures { result.gathering ≡ Some gathering }
     {
         Answering {
             alloc,
-            seen,
+            guest,
             gathering: Some(gathering),
             made: None,
+            told: None,
             coming: None,
         }
     }
@@ -97,20 +106,39 @@ impl<R: Wait + Clock + Drop, B: Drop> Answering<R, B> {
         };
         match gathering.end(gathered) {
             Turn::Made(answer) => self.made = Some(answer),
+            Turn::Told(status, text) => self.told = Some((status, text)),
             Turn::Coming(from) => self.coming = Some(from),
         }
     }
 }
 
-fn response(
+/// The response of an answer, with which the visit is over.
+fn response<R: Wait + Clock>(
     alloc: Global,
-    seen: &Result<Seen, AllocError>,
+    guest: &mut Guest<R>,
     answer: Made,
 ) -> Result<Response<Full<Bytes>>, AllocError> {
-    match seen {
-        Ok(seen) => seen.response(alloc, answer),
-        Err(_) => Err(AllocError),
+    let Ok(seen) = &guest.seen else {
+        return Err(AllocError);
+    };
+    let answer = seen.answer(alloc, answer?)?;
+    if let Some(visit) = &mut guest.visit {
+        visit.end(&answer);
     }
+    response_of(alloc, &answer, seen.changes)
+}
+
+/// The response of a text, with which the visit is over.
+fn response_of_text<R: Wait + Clock>(
+    alloc: Global,
+    guest: &mut Guest<R>,
+    status: u16,
+    text: &str,
+) -> Result<Response<Full<Bytes>>, AllocError> {
+    if let Some(visit) = &mut guest.visit {
+        visit.told(status, text.len());
+    }
+    text_response(alloc, status, text)
 }
 
 impl<R: Wait + Clock + Drop, B: Future<Output = Gathered>> Future for Answering<R, B> {
@@ -127,13 +155,17 @@ impl<R: Wait + Clock + Drop, B: Future<Output = Gathered>> Future for Answering<
             self.gathered(gathered);
         }
         if let Some(answer) = self.made.take() {
-            return Poll::Ready(response(self.alloc, &self.seen, answer));
+            return Poll::Ready(response(self.alloc, &mut self.guest, answer));
+        }
+        if let Some((status, text)) = self.told.take() {
+            let response = response_of_text(self.alloc, &mut self.guest, status, &text);
+            return Poll::Ready(response);
         }
         let Some(from) = &mut self.coming else {
             return Poll::Ready(Err(AllocError));
         };
         match ready!(from.poll(cx)) {
-            Ok(answer) => Poll::Ready(response(self.alloc, &self.seen, answer)),
+            Ok(answer) => Poll::Ready(response(self.alloc, &mut self.guest, answer)),
             Err(_) => Poll::Ready(Err(AllocError)),
         }
     }

@@ -1,15 +1,20 @@
 //! What all share: the servers, who waits for each, and how each stands.
 
-use crate::asks::{Ask, Made};
+use crate::asks::Ask;
+use crate::gathering::Turn;
 use crate::holders::Holders;
+use crate::lifetime::lifetime;
+use crate::log::Visit;
+use crate::metrics::Counts;
 use crate::servers::code_of;
 use crate::worker::Errand;
 use crossbeam_channel::Sender;
 use futures::channel::oneshot;
 use hdl_msg::ResponseCode;
 use hdl_proxy::{NoAnswer, Question, Resolver, Site, finish};
-use hdl_routes::{Miss, Route, Standing, places_for, worst};
+use hdl_routes::{Kept, Miss, Route, Standing, places_for, worst};
 use std::alloc::{AllocError, Global};
+use std::sync::atomic::{AtomicU64, Ordering};
 use std::sync::{Arc, Mutex, Wait};
 use std::time::{Clock, Instant};
 
@@ -22,6 +27,9 @@ pub(crate) struct Post {
     pub(crate) asks: Sender<Ask>,
     pub(crate) errands: Option<Sender<Errand>>,
     pub(crate) standing: Mutex<Standing>,
+    /// How many questions it was asked, and how many of these it failed to answer.
+    pub(crate) asked: AtomicU64,
+    pub(crate) failed: AtomicU64,
 }
 
 /// The servers, and what is known of them.
@@ -39,6 +47,12 @@ pub struct Board<R> {
     pub(crate) limit: u64,
     /// Whether handles are changed.
     pub(crate) writes: bool,
+    /// Replies that are kept, and for how many milliseconds at most, where any are.
+    pub(crate) kept: Option<Mutex<Kept>>,
+    pub(crate) keeps: u64,
+    pub(crate) counts: Counts,
+    /// Where lines of visits go, where any are written.
+    pub(crate) visits: Option<Sender<Visit>>,
 }
 
 /// Whether a reply with this code shows that its server has the prefix.
@@ -53,7 +67,7 @@ fn is_holder(code: Option<u32>) -> bool {
 
 impl<R: Wait + Clock> Board<R> {
     /// The moment, in milliseconds. Where the clock fails it is the last one, at which no server is left out.
-    fn now(&self) -> u64 {
+    pub(crate) fn now(&self) -> u64 {
         match self.began.elapsed(&self.rt) {
             Ok(time) => u64::try_from(time.as_millis()).unwrap_or(u64::MAX),
             Err(_) => u64::MAX,
@@ -70,18 +84,43 @@ impl<R: Wait + Clock> Board<R> {
         places_for(self.alloc, &self.routes, prefix, known)
     }
 
-    /// Takes a question, whose answer goes there.
-    pub(crate) fn take(
-        &self,
-        question: Question,
-        answer: oneshot::Sender<Made>,
-    ) -> Result<(), AllocError> {
+    /// The reply to this message that is kept, if one is.
+    fn kept_reply(&self, message: &[u8]) -> Option<Vec<u8>> {
+        let kept = self.kept.as_ref()?;
+        let now = self.now();
+        kept.lock(&self.rt).find(message, now)
+    }
+
+    /// Keeps a reply, for as long as it may be kept.
+    fn keep(&self, message: &[u8], reply: &[u8]) {
+        let Some(kept) = &self.kept else {
+            return;
+        };
+        let Some(seconds) = lifetime(self.alloc, reply) else {
+            return;
+        };
+        let now = self.now();
+        let time = seconds.saturating_mul(1000).min(self.keeps);
+        kept.lock(&self.rt).keep(message, reply, now, time);
+    }
+
+    /// Takes a question: it is answered by what is kept, or its answer comes.
+    pub(crate) fn take(&self, question: Question) -> Result<Turn, AllocError> {
         // a question has no message where it is longer than a message may be, which no head of 8 KiB comes to
         let Some(message) = question.message(self.alloc)? else {
             let made = finish(self.alloc, &question, Err(NoAnswer::Unreachable));
-            let _ = answer.send(made);
-            return Ok(());
+            return Ok(Turn::Made(made));
         };
+        if let Some(reply) = self.kept_reply(&message) {
+            self.counts.kept.fetch_add(1, Ordering::Relaxed);
+            return Ok(Turn::Made(finish(self.alloc, &question, Ok(&reply))));
+        }
+        self.send(question, message)
+    }
+
+    /// Sends a question on its way.
+    fn send(&self, question: Question, message: Vec<u8>) -> Result<Turn, AllocError> {
+        let (answer, from) = oneshot::channel(self.alloc)?;
         let turn = self.turn(question.name.prefix())?.into_iter();
         self.forward(Ask {
             alloc: self.alloc,
@@ -92,7 +131,7 @@ impl<R: Wait + Clock> Board<R> {
             since: 0,
             answer,
         });
-        Ok(())
+        Ok(Turn::Coming(from))
     }
 
     /// Why the server at this place isn't to be asked, if it isn't.
@@ -157,6 +196,7 @@ impl<R: Wait + Clock> Board<R> {
             let prefix = ask.question.name.prefix();
             self.holders.lock(&self.rt).note(prefix, place, self.now());
         }
+        self.keep(&ask.message, reply);
         ask.reply(reply);
     }
 
@@ -168,6 +208,7 @@ impl<R: Wait + Clock> Board<R> {
         if !self.admits(post, &mut ask) {
             return self.forward(ask);
         }
+        post.asked.fetch_add(1, Ordering::Relaxed);
         match server.ask(&ask.message) {
             Ok(reply) => {
                 post.standing.lock(&self.rt).answered();
@@ -176,6 +217,7 @@ impl<R: Wait + Clock> Board<R> {
             Err(NoAnswer::Memory) => ask.refuse(),
             Err(_) => {
                 let now = self.now();
+                post.failed.fetch_add(1, Ordering::Relaxed);
                 post.standing.lock(&self.rt).failed(now);
                 ask.miss(Miss::Unreachable);
                 self.forward(ask);

@@ -1,11 +1,11 @@
 //! Where requests come in.
 
-use crate::answering::{Answering, Seen};
+use crate::answering::{Answering, Guest, Seen};
 use crate::board::Board;
 use crate::gathering::{BODY_MOST, BODY_SECONDS, Counter, Gathering, Turn};
+use crate::log::Open;
 use bytes::Bytes;
-use futures::channel::oneshot;
-use hdl_proxy::{Next, Question, begin};
+use hdl_proxy::{Next, begin};
 use hdl_writes::{Begun, Order, Sent, begin_with_key};
 use http::header::{AUTHORIZATION, IF_NONE_MATCH};
 use http_body_util::combinators::Collect;
@@ -45,18 +45,17 @@ impl<R: Wait + Clock + Copy + Drop> Desk<R> {
         }
     }
 
-    /// Hands a question to who asks servers.
-    fn hand_on(&self, question: Question) -> Result<Turn, AllocError> {
-        let (answer, from) = oneshot::channel(self.alloc)?;
-        self.board.take(question, answer)?;
-        Ok(Turn::Coming(from))
+    /// A visit begins. None where it can't be counted.
+    fn visit<B>(&self, req: &Request<B>) -> Option<Open<R>> {
+        let board = Arc::try_clone(&self.board).ok()?;
+        Some(Open::new(board, req.method().as_str(), req.uri().path()))
     }
 
     /// What becomes of a request that comes without a key.
     fn take(&self, sent: Sent<'_>) -> Result<Turn, AllocError> {
         match begin(self.alloc, sent.method, sent.path, sent.query)? {
             Next::Answer(answer) => Ok(Turn::Made(Ok(answer))),
-            Next::Ask(question) => self.hand_on(question),
+            Next::Ask(question) => self.board.take(question),
         }
     }
 
@@ -94,8 +93,34 @@ impl<R: Wait + Clock + Copy + Drop> Desk<R> {
         })
     }
 
+    /// Who asks.
+    fn guest<B>(&self, req: &Request<B>) -> Guest<R> {
+        Guest {
+            seen: self.seen(req),
+            visit: self.visit(req),
+        }
+    }
+
+    /// What is told of the proxy itself, where that is asked for.
+    fn told(&self, path: &str) -> Result<Option<Turn>, AllocError> {
+        match path {
+            "/metrics" => Ok(Some(Turn::Told(200, self.board.metrics()?))),
+            "/health" if self.board.is_fit() => {
+                Ok(Some(Turn::Told(200, String::from_str(self.alloc, "ok\n")?)))
+            }
+            "/health" => {
+                let text = String::from_str(self.alloc, "no server answers\n")?;
+                Ok(Some(Turn::Told(503, text)))
+            }
+            _ => Ok(None),
+        }
+    }
+
     /// What a request is, by its head.
     fn start<B>(&self, req: &Request<B>) -> Result<Start<R>, AllocError> {
+        if let Some(told) = self.told(req.uri().path())? {
+            return Ok(Start::Turn(told));
+        }
         let authorization = match req.headers().get(AUTHORIZATION) {
             Some(value) => Some(value.as_bytes()),
             None => None,
@@ -120,28 +145,28 @@ impl<R: Wait + Clock + Copy + Drop, I: Drop> Service<Request<Incoming<I>>> for D
     type Future = Answering<R, Limits<I>>;
 
     fn call(&self, req: Request<Incoming<I>>) -> Answering<R, Limits<I>> {
-        let seen = self.seen(&req);
+        let guest = self.guest(&req);
         let (order, counter) = match self.start(&req) {
             Ok(Start::Order(order, counter)) => (order, counter),
-            Ok(Start::Turn(turn)) => return Answering::next(self.alloc, seen, turn),
-            Err(refused) => return Answering::next(self.alloc, seen, Turn::Made(Err(refused))),
+            Ok(Start::Turn(turn)) => return Answering::next(self.alloc, guest, turn),
+            Err(refused) => return Answering::next(self.alloc, guest, Turn::Made(Err(refused))),
         };
         if !order.takes_body() {
-            return Answering::next(self.alloc, seen, counter.take(order, Bytes::new()));
+            return Answering::next(self.alloc, guest, counter.take(order, Bytes::new()));
         }
         let body = Limited::new(req.into_body(), BODY_MOST).collect(self.alloc);
         let limit = Duration::from_secs(BODY_SECONDS);
         match self.timers.timeout(&self.rt, limit, body) {
             Ok(body) => Answering::gathering(
                 self.alloc,
-                seen,
+                guest,
                 Gathering {
                     counter,
                     order,
                     body,
                 },
             ),
-            Err(_) => Answering::next(self.alloc, seen, Turn::Made(Err(AllocError))),
+            Err(_) => Answering::next(self.alloc, guest, Turn::Made(Err(AllocError))),
         }
     }
 }

@@ -29,6 +29,8 @@ pub(crate) type Gathered = Result<Result<Collected, LimitedError<hyper::Error>>,
 pub(crate) enum Turn {
     Made(Made),
     Coming(oneshot::Receiver<Made>),
+    /// A text with this status.
+    Told(u16, String),
 }
 
 /// The way to who carries out orders.

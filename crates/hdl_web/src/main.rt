@@ -17,21 +17,27 @@ mod board;
 mod desk;
 mod gathering;
 mod holders;
+mod lifetime;
+mod log;
+mod metrics;
 mod patient;
 mod response;
 mod servers;
 mod serving;
 mod staff;
+mod text;
 mod visitors;
 mod words;
 mod worker;
 
 use hdl_proxy::Site;
 use hdl_routes::{Route, read_route};
+use log::Log;
 use servers::{Server, Writer};
 use serving::serve_http;
 use staff::{Crew, Staff};
 use std::alloc::AllocError;
+use std::fs::OpenOptions;
 use std::io;
 use std::net::SocketAddr;
 use std::process::ExitCode;
@@ -107,6 +113,7 @@ fn hired(
         crews,
         limit: words.timeout.saturating_mul(1000),
         writes: words.writes,
+        keeps: words.cache.saturating_mul(1000),
     })
 }
 
@@ -117,6 +124,19 @@ fn site(rt: &HostRuntime, words: &ProxyWords) -> Result<Site, AllocError> {
         None => None,
     };
     Site::new(rt.alloc(), &words.site, contact)
+}
+
+/// Where a line of each visit is written, if anywhere.
+fn lines_to(rt: &HostRuntime, words: &ProxyWords) -> io::Result<Option<Log>> {
+    let Some(path) = &words.log else {
+        return Ok(None);
+    };
+    if path.as_str() == "-" {
+        return Ok(Some(Log::Output(rt.stdout())));
+    }
+    let mut how = OpenOptions::new();
+    how.append(true).create(true);
+    Ok(Some(Log::File(how.open(rt, path.as_str())?)))
 }
 
 /// What is served: where, and who asks.
@@ -139,8 +159,15 @@ fn main(rt: HostRuntime) -> ExitCode {
     let Some(routes) = routes(&rt, &words) else {
         return ExitCode::from(2);
     };
+    let log = match lines_to(&rt, &words) {
+        Ok(log) => log,
+        Err(fault) => {
+            let _ = eprintln!(rt; "hdl: --log: {fault}");
+            return ExitCode::from(1);
+        }
+    };
     let served = match opened(&rt, &words, routes) {
-        Ok((listen, staff)) => serve_http(&rt, listen, staff, &mut rt.stdout()),
+        Ok((listen, staff)) => serve_http(&rt, listen, staff, log, &mut rt.stdout()),
         Err(fault) => Err(fault),
     };
     if let Err(fault) = served {

@@ -2,22 +2,24 @@
 
 use crate::board::Board;
 use crate::desk::Desk;
+use crate::log::{Visit, write_lines};
 use crate::patient::Patient;
 use crate::servers::Clerk;
 use crate::staff::{Staff, start_asking};
 use crate::visitors::{Host, Quiet, Visitors};
 use bytes::Bytes;
+use crossbeam_channel::{Sender, unbounded};
 use hdl_proxy::Resolver;
 use http_body_util::Full;
 use hyper::rt::{Timer, TokioTimer};
 use hyper::server::conn::http1::{Builder, Connection};
 use std::alloc::{AllocGlobal, Global};
 use std::hash::RandomState;
-use std::io::{self, Write};
+use std::io::{self, Eprint, Write};
 use std::net::{Net, SocketAddr};
 use std::random::RandomSource;
 use std::sync::{Arc, Wait};
-use std::thread::Threads;
+use std::thread::{self, Threads};
 use std::time::{Clock, Duration};
 use tokio::net::{TcpListener, TcpStream};
 use tokio::runtime::LocalRuntime;
@@ -122,40 +124,45 @@ fn say_address(output: &mut impl Write, listen: SocketAddr) -> io::Result<()> {
     output.flush()
 }
 
+/// Starts the thread that writes the lines of visits, where they are written.
+fn start_log<R, L>(rt: &R, log: Option<L>) -> io::Result<Option<Sender<Visit>>>
+where
+    R: Wait + Threads + Eprint + AllocGlobal + Copy + Send + Drop + 'static,
+    L: Write + Send + Drop + 'static,
+{
+    let Some(out) = log else {
+        return Ok(None);
+    };
+    let alloc = rt.alloc();
+    let (visits, come) = unbounded(alloc)?;
+    let theirs = *rt;
+    drop(thread::spawn(rt, move || write_lines(&theirs, alloc, out, come))?);
+    Ok(Some(visits))
+}
+
 /// Serves the connections of a listener, whose address is told once servers can be asked.
-fn serve_with<R, S, C>(
+fn serve_with<R>(
     rt: &R,
     runtime: &mut LocalRuntime,
     listener: TcpListener,
     listen: SocketAddr,
-    staff: Staff<S, C>,
+    board: Arc<Board<R>>,
     output: &mut impl Write,
 ) -> io::Result<()>
 where
-    R: Net
-        + Wait
-        + Threads
-        + Clock
-        + RandomSource
-        + AllocGlobal
-        + Copy
-        + Send
-        + Sync
-        + Drop
-        + 'static,
-    S: Resolver + Send + 'static,
-    C: Clerk + Send + 'static,
+    R: Wait + Clock + RandomSource + AllocGlobal + Copy + Drop,
 {
-    let board = start_asking(rt, staff)?;
     say_address(output, listen)?;
     serve_listener(rt, runtime, listener, board)
 }
 
-/// Serves HTTP at this address until the process ends. Each asker has a thread of its own, so as many questions are asked at once.
-pub fn serve_http<R, S, C>(
+/// Serves HTTP at this address until the process ends. Each asker has a thread of its own, so as many questions are asked at once. A line of each visit is
+/// written to the log, if there is one.
+pub fn serve_http<R, S, C, L>(
     rt: &R,
     listen: SocketAddr,
     staff: Staff<S, C>,
+    log: Option<L>,
     output: &mut impl Write,
 ) -> io::Result<()>
 where
@@ -164,6 +171,7 @@ where
         + Threads
         + Clock
         + RandomSource
+        + Eprint
         + AllocGlobal
         + Copy
         + Send
@@ -172,7 +180,10 @@ where
         + 'static,
     S: Resolver + Send + 'static,
     C: Clerk + Send + 'static,
+    L: Write + Send + Drop + 'static,
 {
     let (mut runtime, listener) = listening(rt, listen)?;
-    serve_with(rt, &mut runtime, listener, listen, staff, output)
+    let visits = start_log(rt, log)?;
+    let board = start_asking(rt, staff, visits)?;
+    serve_with(rt, &mut runtime, listener, listen, board, output)
 }

@@ -3,15 +3,18 @@
 use crate::asks::Ask;
 use crate::board::{Board, Post};
 use crate::holders::Holders;
+use crate::log::Visit;
+use crate::metrics::Counts;
 use crate::servers::Clerk;
 use crate::worker::{Errand, work, work_on_orders};
-use crossbeam_channel::{Receiver, unbounded};
+use crossbeam_channel::{Receiver, Sender, unbounded};
 use hdl_proxy::{Resolver, Site};
-use hdl_routes::{Route, Standing};
+use hdl_routes::{Kept, Route, Standing};
 use std::alloc::{AllocGlobal, Global};
 use std::hash::RandomState;
 use std::io;
 use std::random::RandomSource;
+use std::sync::atomic::AtomicU64;
 use std::sync::{Arc, Mutex, Wait};
 use std::thread::{self, Threads};
 use std::time::{Clock, Instant};
@@ -31,6 +34,8 @@ pub struct Staff<S, C> {
     pub crews: Vec<Crew<S, C>>,
     pub limit: u64,
     pub writes: bool,
+    /// For how many milliseconds replies are kept at most; 0 keeps none.
+    pub keeps: u64,
 }
 
 /// A crew, and where its questions and orders come from.
@@ -53,6 +58,8 @@ fn posted<S: Drop, C: Drop>(
         asks,
         errands: if writes { Some(errands) } else { None },
         standing: Mutex::new(Standing::Fit),
+        asked: AtomicU64::new(0),
+        failed: AtomicU64::new(0),
     };
     let waiting = Waiting {
         crew,
@@ -93,8 +100,21 @@ where
     Ok(())
 }
 
-/// Starts a thread for each who asks, and gives where questions and orders go.
-pub(crate) fn start_asking<R, S, C>(rt: &R, staff: Staff<S, C>) -> io::Result<Arc<Board<R>>>
+/// What replies are kept in, if any are.
+fn keeping<R: RandomSource + AllocGlobal>(rt: &R, keeps: u64) -> io::Result<Option<Mutex<Kept>>> {
+    if keeps == 0 {
+        return Ok(None);
+    }
+    let kept = Kept::new(rt.alloc(), RandomState::new(rt)?)?;
+    Ok(Some(Mutex::new(kept)))
+}
+
+/// Starts a thread for each who asks, and gives where questions and orders go; lines of visits go to `visits`.
+pub(crate) fn start_asking<R, S, C>(
+    rt: &R,
+    staff: Staff<S, C>,
+    visits: Option<Sender<Visit>>,
+) -> io::Result<Arc<Board<R>>>
 where
     R: Wait + Threads + Clock + RandomSource + AllocGlobal + Copy + Send + Sync + Drop + 'static,
     S: Resolver + Send + 'static,
@@ -118,6 +138,10 @@ where
         began: Instant::now(rt)?,
         limit: staff.limit,
         writes: staff.writes,
+        kept: keeping(rt, staff.keeps)?,
+        keeps: staff.keeps,
+        counts: Counts::new(alloc),
+        visits,
     };
     let board = Arc::new(alloc, board)?;
     for (place, waiting) in crews.into_iter().enumerate() {

@@ -34,6 +34,10 @@ pub struct ProxyWords {
     pub site: String,
     /// Whom readers ask.
     pub contact: Option<String>,
+    /// For how many seconds an answer is kept at most; 0 keeps none.
+    pub cache: u64,
+    /// Where a line of each visit is written, if anywhere: a file's path, or `-`.
+    pub log: Option<String>,
     /// Whether handles are changed, by who has a key.
     pub writes: bool,
 }
@@ -102,6 +106,25 @@ fn command<'a>(alloc: Global) -> Result<Command<'a>, AllocError> {
                 .action(ArgAction::Set),
         )?
         .arg(
+            Arg::new(alloc, "cache")
+                .long("cache")
+                .value_name("SECONDS")
+                .help(
+                    "How long an answer is kept at most, as far as its TTL lets it; none is without it",
+                )
+                .action(ArgAction::Set)
+                .value_parser(value_parser!(u64).range(1..86401)),
+        )?
+        .arg(
+            Arg::new(alloc, "log")
+                .long("log")
+                .value_name("FILE")
+                .help(
+                    "Where a line of each visit is written, - is standard output; nowhere without it",
+                )
+                .action(ArgAction::Set),
+        )?
+        .arg(
             Arg::new(alloc, "writes")
                 .long("writes")
                 .help(
@@ -121,6 +144,10 @@ fn proxy_words(alloc: Global, found: &ArgMatches<'_>) -> Result<ProxyWords, Allo
         Some(contact) => Some(String::from_str(alloc, contact)?),
         None => None,
     };
+    let log = match found.get_str("log") {
+        Some(path) => Some(String::from_str(alloc, path)?),
+        None => None,
+    };
     Ok(ProxyWords {
         listen: String::from_str(alloc, found.get_str("listen").unwrap_or(LISTEN))?,
         servers,
@@ -128,6 +155,8 @@ fn proxy_words(alloc: Global, found: &ArgMatches<'_>) -> Result<ProxyWords, Allo
         timeout: found.get_one::<u64>("timeout").unwrap_or(TIMEOUT),
         site: String::from_str(alloc, found.get_str("site").unwrap_or(SITE))?,
         contact,
+        cache: found.get_one::<u64>("cache").unwrap_or(0),
+        log,
         writes: found.get_flag("writes"),
     })
 }

@@ -1,0 +1,30 @@
+-- What is kept of replies.
+use Rattle.std.specs.Prelude.{◌≡◌, ◌<◌, ◌⊎◌, ℕ, Bool, Vec, List, Some}
+use Rattle.std.specs.Str.{bytes_eq}
+use Rattle.std.specs.Map.{lookup}
+use Rattle.std.specs.declared.alloc.Global.{Global}
+use Rattle.lru.specs.LruCache.{LruCache, lru_cache, put_entries}
+use Rattle.hdl_routes.specs.declared.kept.Fresh.{Fresh}
+use Rattle.hdl_routes.specs.Standing.{later}
+
+-- replies by their requests
+abbrev pub Replies : Type 0
+Replies = LruCache (Vec ℕ Global) Fresh
+
+abbrev pub is_request : List ℕ → Vec ℕ Global → Bool
+is_request request key = bytes_eq request key.items
+
+abbrev pub same_request : Vec ℕ Global → Vec ℕ Global → Bool
+same_request one other = bytes_eq one.items other.items
+
+-- the reply is kept under this request, and is fresh at this moment
+abbrev pub IsKept : Replies → List ℕ → ℕ → List ℕ → Type 0
+IsKept replies request now reply =
+    (fresh : Fresh) × (lookup (is_request request) replies.entries ≡ Some fresh) × (fresh.reply.items ≡ reply) × (now < fresh.until)
+
+-- this reply is kept under this request for so long from this moment on, or nothing changes
+abbrev pub Keeps : Replies → Replies → List ℕ → List ℕ → ℕ → ℕ → Type 0
+Keeps old new request reply now time =
+    (new ≡ old)
+    ⊎ ((key : Vec ℕ Global) × (fresh : Fresh) × (key.items ≡ request) × (fresh.reply.items ≡ reply) × (fresh.until ≡ later now time)
+    × (new ≡ lru_cache (put_entries same_request old key fresh) old.cap))

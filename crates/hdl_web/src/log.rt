@@ -1,0 +1,184 @@
+//! A line for each visit.
+
+use crate::board::Board;
+use crate::metrics::kind_of;
+use crossbeam_channel::Receiver;
+use hdl_proxy::Answer;
+use jiff_core::Timestamp;
+use jiff_fmt::temporal::DateTimePrinter;
+use percent_encoding::{AsciiSet, CONTROLS, ascii_set, percent_encode};
+use std::alloc::{AllocError, Global};
+use std::fs::File;
+use std::io::{self, Eprint, Stdout, Write};
+use std::sync::atomic::Ordering;
+use std::sync::{Arc, Wait};
+use std::time::{Clock, Instant, SystemTime};
+
+/// The most lines that wait to be written.
+const LINES_MOST: usize = 10_000;
+
+/// What is escaped in a line: what isn't graphic ASCII, and quotes.
+const IN_LINE: AsciiSet = ascii_set!(CONTROLS.add(b' ').add(b'"').add(b'\\'));
+
+/// Where lines are written.
+#[derive(Drop)]
+pub enum Log {
+    File(File),
+    Output(Stdout),
+}
+
+impl Write for Log {
+    fn write(&mut self, octets: &[u8]) -> io::Result<usize> {
+        match self {
+            Log::File(file) => file.write(octets),
+            Log::Output(output) => output.write(octets),
+        }
+    }
+
+    fn flush(&mut self) -> io::Result<()> {
+        match self {
+            Log::File(file) => file.flush(),
+            Log::Output(output) => output.flush(),
+        }
+    }
+}
+
+/// A visit that is over: what was asked for, and what was answered.
+#[derive(Drop)]
+pub(crate) struct Visit {
+    /// When it came, in milliseconds since 1970.
+    moment: u64,
+    method: String,
+    path: String,
+    status: u16,
+    octets: usize,
+    microseconds: u128,
+}
+
+/// A visit that isn't over yet.
+#[derive(Drop)]
+pub(crate) struct Open<R> {
+    pub(crate) board: Arc<Board<R>>,
+    asked: Option<Asked>,
+}
+
+/// What a visit asked for, where its line is written.
+#[derive(Drop)]
+struct Asked {
+    began: Instant,
+    moment: u64,
+    method: String,
+    path: String,
+}
+
+/// The milliseconds since 1970, or 0 where the clock fails.
+fn moment<R: Clock>(rt: &R) -> u64 {
+    let Ok(now) = SystemTime::now(rt) else {
+        return 0;
+    };
+    match now.duration_since(SystemTime::UNIX_EPOCH) {
+        Ok(since) => u64::try_from(since.as_millis()).unwrap_or(0),
+        Err(_) => 0,
+    }
+}
+
+fn begun<R: Clock>(rt: &R, alloc: Global, method: &str, path: &str) -> Option<Asked> {
+    Some(Asked {
+        began: Instant::now(rt).ok()?,
+        moment: moment(rt),
+        method: String::from_str(alloc, method).ok()?,
+        path: String::from_str(alloc, path).ok()?,
+    })
+}
+
+impl<R: Wait + Clock> Open<R> {
+    /// A visit begins. Without memory it has no line.
+    pub(crate) fn new(board: Arc<Board<R>>, method: &str, path: &str) -> Open<R> {
+        let asked = match &board.visits {
+            Some(_) => begun(&board.rt, board.alloc, method, path),
+            None => None,
+        };
+        Open { board, asked }
+    }
+
+    /// It is over, with this answer: it is counted, and its line written.
+    pub(crate) fn end(&mut self, answer: &Answer) {
+        let status = answer.status.number();
+        self.board
+            .counts
+            .answered(&self.board.rt, kind_of(answer), status);
+        self.told(status, answer.body.len());
+    }
+
+    /// Its line is written, where any are.
+    pub(crate) fn told(&mut self, status: u16, octets: usize) {
+        let (Some(visits), Some(asked)) = (&self.board.visits, self.asked.take()) else {
+            return;
+        };
+        let octets = if asked.method.as_str() == "HEAD" {
+            0
+        } else {
+            octets
+        };
+        let microseconds = match asked.began.elapsed(&self.board.rt) {
+            Ok(time) => time.as_micros(),
+            Err(_) => 0,
+        };
+        let visit = Visit {
+            moment: asked.moment,
+            method: asked.method,
+            path: asked.path,
+            status,
+            octets,
+            microseconds,
+        };
+        if visits.len() >= LINES_MOST || visits.send(&self.board.rt, visit).is_err() {
+            self.board.counts.lost.fetch_add(1, Ordering::Relaxed);
+        }
+    }
+}
+
+/// The line of a visit: moment, method, path, status, octets, microseconds.
+fn line(alloc: Global, visit: &Visit) -> Result<String, AllocError> {
+    let nanoseconds = i128::from(visit.moment) * 1_000_000;
+    let mut line = String::new(alloc);
+    if let Ok(moment) = Timestamp::from_nanosecond(nanoseconds) {
+        line.push_str(DateTimePrinter::new().timestamp_text(moment).as_str())?;
+    }
+    line.push(' ')?;
+    percent_encode(visit.method.as_bytes(), IN_LINE).append_to(&mut line)?;
+    line.push(' ')?;
+    percent_encode(visit.path.as_bytes(), IN_LINE).append_to(&mut line)?;
+    let rest = format!(in alloc;
+        " {} {} {}\n",
+        visit.status, visit.octets, visit.microseconds
+    )?;
+    line.push_str(&rest)?;
+    Ok(line)
+}
+
+/// Writes the line of a visit.
+fn write_line<W: Write>(alloc: Global, out: &mut W, visit: &Visit) -> bool {
+    let Ok(line) = line(alloc, visit) else {
+        return false;
+    };
+    out.write_all(line.as_bytes()).is_ok() && out.flush().is_ok()
+}
+
+/// Writes the lines of visits, until nobody is left who could send one. That a line couldn't be written is said once.
+pub(crate) fn write_lines<R: Wait + Eprint, W: Write + Drop>(
+    rt: &R,
+    alloc: Global,
+    mut out: W,
+    visits: Receiver<Visit>,
+) {
+    let mut is_said = false;
+    for visit in visits.iter(rt) {
+        if !write_line(alloc, &mut out, &visit) && !is_said {
+            is_said = true;
+            let _ = eprintln!(rt;
+                "hdl: a line of the log couldn't be written, as others may be behind it"
+            );
+        }
+    }
+}
