@@ -53,6 +53,6 @@ abbrev pub advice : ℕ → List ℕ → List ℕ
 advice code asked =
     if (code == 100) || (code == 302) then look_again asked
     else if code == 102 then codes "A handle is a prefix, a slash and a local name, such as 10/a."
-    else if code == 200 then codes "Without the words behind its question mark, the address shows all that anybody may read."
+    else if code == 200 then codes "Its values aren't public, or the words behind the question mark of its address ask for others."
     else if code == 5 then codes "Follow a link to a handle, or type its address."
     else codes "Please come back in a few minutes."

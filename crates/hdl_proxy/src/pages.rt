@@ -73,7 +73,7 @@ fn advice(code: u32, asked: &[u8]) -> &'static str
         100 | 302 => look_again(asked),
         102 => "A handle is a prefix, a slash and a local name, such as 10/a.",
         200 =>
-            "Without the words behind its question mark, the address shows all that anybody may read.",
+            "Its values aren't public, or the words behind the question mark of its address ask for others.",
         5 => "Follow a link to a handle, or type its address.",
         _ => "Please come back in a few minutes.",
     }

@@ -87,8 +87,18 @@ fn put_options(
     changes: bool,
 ) -> Result<(), AllocError> {
     put(alloc, headers, ALLOW, methods(changes))?;
-    put(alloc, headers, ACCESS_CONTROL_ALLOW_METHODS, methods(changes))?;
-    put(alloc, headers, ACCESS_CONTROL_ALLOW_HEADERS, "*, Authorization")?;
+    put(
+        alloc,
+        headers,
+        ACCESS_CONTROL_ALLOW_METHODS,
+        methods(changes),
+    )?;
+    put(
+        alloc,
+        headers,
+        ACCESS_CONTROL_ALLOW_HEADERS,
+        "*, Authorization",
+    )?;
     put(alloc, headers, ACCESS_CONTROL_MAX_AGE, "86400")
 }
 

@@ -5,8 +5,8 @@ use hdl_client::Key;
 use hdl_msg::ResponseCode;
 use hdl_name::{Name, Octets};
 use hdl_proxy::{
-    Answer, Pair, Status, has_pair, indexes_of, last_named, options, read_name, read_pairs, refusal,
-    types_of, unescaped, values_named,
+    Answer, Pair, Status, has_pair, indexes_of, last_named, options, read_name, read_pairs,
+    refusal, types_of, unescaped, values_named,
 };
 use std::alloc::{AllocError, Global};
 
