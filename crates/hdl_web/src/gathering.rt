@@ -5,6 +5,7 @@ ghost use Rattle.std.specs.Prelude.{◌≡◌};
 use crate::asks::Made;
 use crate::board::{Board, WAITING_MOST};
 use crate::worker::Errand;
+use crossbeam_channel::Sender;
 use futures::channel::oneshot;
 use hdl_msg::ResponseCode;
 use hdl_proxy::{Status, refusal};
@@ -45,23 +46,14 @@ const ELSEWHERE: &str = "No server that was asked has handles of this prefix. No
 const CROWDED: &str = "Too many changes wait for the server. Nothing was done. Please try again.";
 
 impl<R: Wait + Clock> Counter<R> {
-    fn hand_on(&self, order: Order, body: bytes::Bytes) -> Result<Turn, AllocError> {
-        let Some((errands, turn)) = self.board.clerk(order.name.prefix())? else {
-            return Ok(self.refused(
-                &order,
-                Status::NotFound,
-                ResponseCode::ServiceReferral,
-                ELSEWHERE,
-            ));
-        };
-        if errands.len() >= WAITING_MOST {
-            return Ok(self.refused(
-                &order,
-                Status::Unavailable,
-                ResponseCode::ServerBusy,
-                CROWDED,
-            ));
-        }
+    /// Sends an order to who carries it out.
+    fn send(
+        &self,
+        errands: &Sender<Errand>,
+        turn: Vec<usize>,
+        order: Order,
+        body: bytes::Bytes,
+    ) -> Result<Turn, AllocError> {
         let (answer, from) = oneshot::channel(self.alloc)?;
         let errand = Errand {
             order,
@@ -73,6 +65,18 @@ impl<R: Wait + Clock> Counter<R> {
             Ok(()) => Ok(Turn::Coming(from)),
             Err(_) => Err(AllocError),
         }
+    }
+
+    fn hand_on(&self, order: Order, body: bytes::Bytes) -> Result<Turn, AllocError> {
+        let Some((errands, turn)) = self.board.clerk(order.name.prefix())? else {
+            let code = ResponseCode::ServiceReferral;
+            return Ok(self.refused(&order, Status::NotFound, code, ELSEWHERE));
+        };
+        if errands.len() >= WAITING_MOST {
+            let code = ResponseCode::ServerBusy;
+            return Ok(self.refused(&order, Status::Unavailable, code, CROWDED));
+        }
+        self.send(errands, turn, order, body)
     }
 
     /// Hands an order on with the body of its request.

@@ -35,7 +35,7 @@ use hdl_routes::{Route, read_route};
 use log::Log;
 use servers::{Server, Writer};
 use serving::serve_http;
-use staff::{Crew, Staff};
+use staff::{Crew, Plan, Staff};
 use std::alloc::AllocError;
 use std::fs::OpenOptions;
 use std::io;
@@ -107,14 +107,14 @@ fn hired(
         let clerk = writer(rt, words, &routes)?;
         crews.push(Crew { askers, clerk })?;
     }
-    Ok(Staff {
+    let plan = Plan {
         site: site(rt, words)?,
         routes,
-        crews,
         limit: words.timeout.saturating_mul(1000),
         writes: words.writes,
         keeps: words.cache.saturating_mul(1000),
-    })
+    };
+    Ok(Staff { plan, crews })
 }
 
 /// The site of all pages.

@@ -26,16 +26,22 @@ pub struct Crew<S, C> {
     pub clerk: Option<C>,
 }
 
-/// The servers, who asks each, how many milliseconds an answer of a server may take, and the site of all pages.
+/// The servers, how many milliseconds an answer of each may take, what is kept, and the site of all pages.
 #[derive(Drop)]
-pub struct Staff<S, C> {
+pub struct Plan {
     pub site: Site,
     pub routes: Vec<Route>,
-    pub crews: Vec<Crew<S, C>>,
     pub limit: u64,
     pub writes: bool,
     /// For how many milliseconds replies are kept at most; 0 keeps none.
     pub keeps: u64,
+}
+
+/// What is asked, and who asks each server.
+#[derive(Drop)]
+pub struct Staff<S, C> {
+    pub plan: Plan,
+    pub crews: Vec<Crew<S, C>>,
 }
 
 /// A crew, and where its questions and orders come from.
@@ -67,6 +73,22 @@ fn posted<S: Drop, C: Drop>(
         errands: given,
     };
     Ok((post, waiting))
+}
+
+/// The posts of crews, and the crews there, in their places.
+fn all_posted<S: Drop, C: Drop>(
+    alloc: Global,
+    crews: Vec<Crew<S, C>>,
+    writes: bool,
+) -> io::Result<(Vec<Post>, Vec<Waiting<S, C>>)> {
+    let mut posts = Vec::new(alloc);
+    let mut all = Vec::new(alloc);
+    for crew in crews {
+        let (post, waiting) = posted(alloc, crew, writes)?;
+        posts.push(post)?;
+        all.push(waiting)?;
+    }
+    Ok((posts, all))
 }
 
 /// Starts the threads of a crew.
@@ -109,6 +131,49 @@ fn keeping<R: RandomSource + AllocGlobal>(rt: &R, keeps: u64) -> io::Result<Opti
     Ok(Some(Mutex::new(kept)))
 }
 
+/// The board with these posts; lines of visits go to `visits`.
+fn board_of<R>(
+    rt: &R,
+    plan: Plan,
+    posts: Vec<Post>,
+    visits: Option<Sender<Visit>>,
+) -> io::Result<Arc<Board<R>>>
+where
+    R: Clock + RandomSource + AllocGlobal + Copy + Drop,
+{
+    let alloc = rt.alloc();
+    let board = Board {
+        rt: *rt,
+        alloc,
+        routes: plan.routes,
+        posts,
+        holders: Mutex::new(Holders::new(alloc, RandomState::new(rt)?)?),
+        began: Instant::now(rt)?,
+        limit: plan.limit,
+        writes: plan.writes,
+        kept: keeping(rt, plan.keeps)?,
+        keeps: plan.keeps,
+        counts: Counts::new(alloc),
+        site: Arc::new(alloc, plan.site)?,
+        visits,
+    };
+    let board = Arc::new(alloc, board)?;
+    Ok(board)
+}
+
+/// Starts the threads of all crews.
+fn start_crews<R, S, C>(rt: &R, board: &Arc<Board<R>>, crews: Vec<Waiting<S, C>>) -> io::Result<()>
+where
+    R: Wait + Threads + Clock + AllocGlobal + Copy + Send + Sync + Drop + 'static,
+    S: Resolver + Send + 'static,
+    C: Clerk + Send + 'static,
+{
+    for (place, waiting) in crews.into_iter().enumerate() {
+        start_crew(rt, board, place, waiting)?;
+    }
+    Ok(())
+}
+
 /// Starts a thread for each who asks, and gives where questions and orders go; lines of visits go to `visits`.
 pub(crate) fn start_asking<R, S, C>(
     rt: &R,
@@ -120,32 +185,9 @@ where
     S: Resolver + Send + 'static,
     C: Clerk + Send + 'static,
 {
-    let alloc = rt.alloc();
-    let mut posts = Vec::new(alloc);
-    let mut crews = Vec::new(alloc);
-    for crew in staff.crews {
-        let (post, waiting) = posted(alloc, crew, staff.writes)?;
-        posts.push(post)?;
-        crews.push(waiting)?;
-    }
-    let board = Board {
-        rt: *rt,
-        alloc,
-        site: Arc::new(alloc, staff.site)?,
-        routes: staff.routes,
-        posts,
-        holders: Mutex::new(Holders::new(alloc, RandomState::new(rt)?)?),
-        began: Instant::now(rt)?,
-        limit: staff.limit,
-        writes: staff.writes,
-        kept: keeping(rt, staff.keeps)?,
-        keeps: staff.keeps,
-        counts: Counts::new(alloc),
-        visits,
-    };
-    let board = Arc::new(alloc, board)?;
-    for (place, waiting) in crews.into_iter().enumerate() {
-        start_crew(rt, &board, place, waiting)?;
-    }
+    let Staff { plan, crews } = staff;
+    let (posts, crews) = all_posted(rt.alloc(), crews, plan.writes)?;
+    let board = board_of(rt, plan, posts, visits)?;
+    start_crews(rt, &board, crews)?;
     Ok(board)
 }
