@@ -70,7 +70,10 @@ impl Follower {
 
     /// The place of the frame that a reply with this RequestId answers, where that is certain: the first whole one, or a piece before it.
     fn place_of(&self, request: u32) -> Option<usize> {
-        let whole = self.unanswered.iter().position(|question| !question.is_piece());
+        let whole = self
+            .unanswered
+            .iter()
+            .position(|question| !question.is_piece());
         let pieces = whole.unwrap_or(self.unanswered.len());
         let mut pieces = self.unanswered.iter().take(pieces);
         let piece = pieces.position(|question| question.request == request);

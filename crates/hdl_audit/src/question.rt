@@ -14,15 +14,9 @@ const HEADER_LEN: usize = 24;
 #[derive(Drop)]
 pub enum Matter {
     /// A change of the handle, as it was sent.
-    Change {
-        operation: u32,
-        handle: Vec<u8>,
-    },
+    Change { operation: u32, handle: Vec<u8> },
     /// The response to the challenge with this SessionId, by this key.
-    Response {
-        challenge: u32,
-        key: Key,
-    },
+    Response { challenge: u32, key: Key },
     /// A piece of a message, of which nothing is known.
     Piece,
     /// Anything else.
