@@ -1,5 +1,5 @@
 -- What the front of a reply says (docs/PROTOCOL.md, "Envelope" and "Message").
-use Rattle.std.specs.Prelude.{ℕ, Bool, true, not, ◌==◌, ◌&&◌, nat_le, if◌then◌else◌, List, length, Option, Some, None, option_map, IsTrue, IsSome, IfSome}
+use Rattle.std.specs.Prelude.{ℕ, Bool, not, ◌==◌, ◌&&◌, nat_le, if◌then◌else◌, List, length, Option, Some, None}
 use Rattle.hdl_frame.specs.Envelope.{envelope_at, u32_at}
 use Rattle.hdl_audit.specs.declared.answer.Answer.{Answer}
 
