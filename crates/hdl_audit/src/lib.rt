@@ -7,7 +7,7 @@
 //! ```
 //!
 //! A [`Follower`] reads along, between the socket and the service, and decides nothing: the service answers as it would without it. Promised is
-//! that each reply to a change gives an entry, unless it is a challenge, and that the entry's code is that of the reply (`specs/Answer.antt`). Which handle and key it names is found
+//! that each reply which names a change's operation gives an entry, unless it is a challenge, and that an entry's code is that of the reply (`specs/Answer.antt`). Which handle and key it names is found
 //! by the order of frames and replies; where that isn't certain it names none.
 //!
 //! It stands on frames and on the fields of messages, and knows no sockets and no service.
