@@ -6,3 +6,4 @@ pub mod Partials
 pub mod Challenges
 pub mod Letters
 pub mod Followed
+pub mod Coming

@@ -1,5 +1,5 @@
 -- The trail of a datagram lane has the keys of what the service keeps of the lane.
-use Rattle.std.specs.Prelude.{◌≡◌, ℕ, Bool, ◌==◌, ◌||◌, ◌<◌, ◌≤◌, ◌^◌, min, List, [], ◌∷◌, ◌++◌, length, map, drop, IsTrue, IfSome}
+use Rattle.std.specs.Prelude.{◌≡◌, ℕ, Bool, ◌==◌, ◌||◌, ◌<◌, ◌≤◌, ◌^◌, min, List, [], ◌∷◌, ◌++◌, length, map, drop, Some, IsTrue, IfSome}
 use Rattle.std.specs.List.{AllByRecursion, list_any}
 use Rattle.std.specs.Option.{option_and_then, option_map_or}
 use Rattle.hdl_limits.specs.declared.TheConstants.{CHALLENGES_MAX, PIECE_LEN}
@@ -15,7 +15,7 @@ use Rattle.hdl_trail.specs.declared.kept.Mark.{Mark}
 use Rattle.hdl_trail.specs.declared.kept.Sent.{Sent}
 use Rattle.hdl_trail.specs.declared.exchange.Exchange.{Exchange}
 use Rattle.hdl_trail.specs.Exchange.{number_at, with_reply}
-use Rattle.hdl_trail.specs.Kept.{Followed}
+use Rattle.hdl_trail.specs.Kept.{Followed, settled}
 
 -- ---- the relation
 
@@ -73,3 +73,8 @@ sent o = option_map_or datagrams_of (sent_by o) []
 abbrev pub answered_by : List (List ℕ) → Exchange → Exchange
 answered_by [] e = e
 answered_by (d ∷ ds) e = answered_by ds (with_reply d e)
+
+-- what is followed once these frames are settled in their order, each with what its reply says
+abbrev pub settled_all : Followed → List Exchange → Followed
+settled_all f [] = f
+settled_all f (e ∷ es) = settled_all (settled f (Some e)) es

@@ -1,5 +1,5 @@
 -- The laws of `src/laws.rt`.
-use Rattle.std.specs.Prelude.{◌≡◌, ◌≢◌, ℕ, List, [], Some, None, true}
+use Rattle.std.specs.Prelude.{◌≡◌, ◌≢◌, ℕ, ◌||◌, List, [], Some, None, true, IsTrue}
 use Rattle.hdl_frame.specs.Frames.{IsFrame}
 use Rattle.hdl_events.specs.declared.What.{What}
 use Rattle.hdl_events.specs.declared.Outcome.{Outcome}
@@ -7,8 +7,9 @@ use Rattle.hdl_laws.specs.Lanes.{LaneState, fresh}
 use Rattle.hdl_laws.specs.Worlds.{World, owner, lane_of}
 use Rattle.hdl_laws.specs.Runs.{Steps}
 use Rattle.hdl_trail.specs.Kept.{Followed, is_held, settled}
-use Rattle.hdl_trail.specs.Peers.{arrival}
-use Rattle.hdl_follows.specs.Follows.{Follows, IsInUse, answered_by, keeps, sent}
+use Rattle.hdl_trail.specs.declared.exchange.Exchange.{Exchange}
+use Rattle.hdl_trail.specs.Peers.{arrival, is_under_way}
+use Rattle.hdl_follows.specs.Follows.{Follows, IsInUse, answered_by, keeps, sent, settled_all}
 
 -- a new trail follows a lane that was opened
 pub record BeginsFollowed : Type 0 where
@@ -27,3 +28,8 @@ StepsFollowed =
 -- a trail that follows a lane holds the numbers under which the lane keeps something, and no others
 abbrev pub HoldsWhatIsKept : Type 0
 HoldsWhatIsKept = (f : Followed) (s : LaneState) (number : ℕ) → Follows f s → is_held f number ≡ keeps s number
+
+-- Frames are under way. Whatever is replied to them, what is followed once any of them are settled stands under numbers that were held, or under which one
+-- of them came.
+abbrev pub HoldsWhatComes : Type 0
+HoldsWhatComes = (f : Followed) (es : List Exchange) (number : ℕ) → IsTrue (is_held (settled_all f es) number) → IsTrue (is_held f number || is_under_way es number)

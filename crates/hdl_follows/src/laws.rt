@@ -1,6 +1,6 @@
 //! Laws over a lane and its trail, each the contract of a function without a body.
 
-ghost use Rattle.hdl_follows.specs.Laws.{BeginsFollowed, HoldsWhatIsKept, StepsFollowed};
+ghost use Rattle.hdl_follows.specs.Laws.{BeginsFollowed, HoldsWhatComes, HoldsWhatIsKept, StepsFollowed};
 
 /// Of a lane that was opened nothing is kept, and so says a new trail.
 pub fn begins_followed()
@@ -16,4 +16,9 @@ pub fn steps_followed()
 /// A number is held by a trail that follows a lane just where the lane keeps something under it.
 pub fn holds_what_is_kept()
     ensures { HoldsWhatIsKept }
+{}
+
+/// While frames are under way the lane keeps something only under numbers that the trail holds, or under which one of them came, whatever is replied.
+pub fn holds_what_comes()
+    ensures { HoldsWhatComes }
 {}

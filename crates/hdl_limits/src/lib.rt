@@ -28,6 +28,9 @@ pub const PARTIALS_MAX: usize = 4;
 /// The most peers of a worker; they are numbered from 1.
 pub const PEERS_MAX: usize = 1_024;
 
+/// The most frames of a datagram lane that are under way, without a whole reply.
+pub const UNDER_WAY_MAX: usize = 16;
+
 /// The most octets of a message, without its envelope.
 pub const MESSAGE_MAX: u32 = 65_536;
 
@@ -72,6 +75,7 @@ pub fn numbers()
     ensures challenge_life { CHALLENGE_LIFE ≡ 60000 }
     ensures partials { PARTIALS_MAX ≡ 4 }
     ensures peers { PEERS_MAX ≡ 1024 }
+    ensures under_way { UNDER_WAY_MAX ≡ 16 }
     ensures message { MESSAGE_MAX ≡ 65536 }
     ensures piece { PIECE_LEN ≡ 492 }
     ensures pieces { PIECES_MAX ≡ 134 }

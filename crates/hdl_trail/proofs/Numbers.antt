@@ -7,7 +7,9 @@ use Rattle.std.proofs.lemmas.List.Folds.{list_any-append}
 use Rattle.std.proofs.lemmas.Map.Views.{any-filter_same}
 use Rattle.hdl_trail.specs.declared.kept.Mark.{Mark}
 use Rattle.hdl_trail.specs.declared.kept.Sent.{Sent}
+use Rattle.hdl_trail.specs.declared.exchange.Exchange.{Exchange}
 use Rattle.hdl_trail.specs.Kept.{Followed, is_held}
+use Rattle.hdl_trail.specs.Peers.{is_under_way}
 
 abbrev others : (ℕ → Bool) → List ℕ → List ℕ
 others p xs = filter (λ x. not (p x)) xs
@@ -45,10 +47,10 @@ within (suc n) xs each =
     stays : (k : ℕ) → k < n → list_any (λ x. eqb x (k + 1)) (filter (λ x. not (eqb x (n + 1))) xs) ≡ true
     stays k below = any-filter_same (λ x. eqb x (k + 1)) (λ x. not (eqb x (n + 1))) true (λ x is. differs k x below is) xs ∙ each k (omega arith)
 
--- ---- the numbers of what is kept
+-- ---- the numbers of what is kept, and of frames under way
 
-abbrev numbers : Followed → List ℕ
-numbers f = map (λ m. m.key.number) f.partials ++ map (λ s. s.number) f.challenges
+abbrev numbers : Followed → List Exchange → List ℕ
+numbers f es = (map (λ m. m.key.number) f.partials ++ map (λ s. s.number) f.challenges) ++ map (λ e. e.key.number) es
 
 marks_any : (n : ℕ) (ms : List Mark) → list_any (λ x. eqb x n) (map (λ m. m.key.number) ms) ≡ list_any (λ m. eqb m.key.number n) ms
 marks_any n [] = refl
@@ -58,17 +60,29 @@ sent_any : (n : ℕ) (ss : List Sent) → list_any (λ x. eqb x n) (map (λ s. s
 sent_any n [] = refl
 sent_any n (s ∷ ss) = ap (λ (b : Bool). eqb s.number n || b) (sent_any n ss)
 
-held_any : (f : Followed) (n : ℕ) → list_any (λ x. eqb x n) (numbers f) ≡ is_held f n
-held_any f n =
+frames_any : (n : ℕ) (es : List Exchange) → list_any (λ x. eqb x n) (map (λ e. e.key.number) es) ≡ is_under_way es n
+frames_any n [] = refl
+frames_any n (e ∷ es) = ap (λ (b : Bool). eqb e.key.number n || b) (frames_any n es)
+
+kept_any : (f : Followed) (n : ℕ) → list_any (λ x. eqb x n) (map (λ (m : Mark). m.key.number) f.partials ++ map (λ (s : Sent). s.number) f.challenges) ≡ is_held f n
+kept_any f n =
     list_any-append (λ x. eqb x n) (map (λ (m : Mark). m.key.number) f.partials) (map (λ (s : Sent). s.number) f.challenges)
     ∙ ap (λ (b : Bool). b || list_any (λ x. eqb x n) (map (λ (s : Sent). s.number) f.challenges)) (marks_any n f.partials)
     ∙ ap (λ (b : Bool). list_any (λ (m : Mark). eqb m.key.number n) f.partials || b) (sent_any n f.challenges)
 
--- numbers from 1 on that are all held are no more than what is kept
-pub all_held : (f : Followed) (n : ℕ) → ((k : ℕ) → k < n → is_held f (k + 1) ≡ true) → n ≤ length f.partials + length f.challenges
-all_held f n each =
-    let le = within n (numbers f) (λ k lt. held_any f (k + 1) ∙ each k lt) in
+held_any : (f : Followed) (es : List Exchange) (n : ℕ) → list_any (λ x. eqb x n) (numbers f es) ≡ is_held f n || is_under_way es n
+held_any f es n =
+    list_any-append (λ x. eqb x n) (map (λ (m : Mark). m.key.number) f.partials ++ map (λ (s : Sent). s.number) f.challenges) (map (λ (e : Exchange). e.key.number) es)
+    ∙ ap (λ (b : Bool). b || list_any (λ x. eqb x n) (map (λ (e : Exchange). e.key.number) es)) (kept_any f n)
+    ∙ ap (λ (b : Bool). is_held f n || b) (frames_any n es)
+
+-- numbers from 1 on that are all held, or of frames under way, are no more than what is kept and under way
+pub all_held : (f : Followed) (es : List Exchange) (n : ℕ) → ((k : ℕ) → k < n → is_held f (k + 1) || is_under_way es (k + 1) ≡ true) → n ≤ length f.partials + length f.challenges + length es
+all_held f es n each =
+    let le = within n (numbers f es) (λ k lt. held_any f es (k + 1) ∙ each k lt) in
     let a = length-append (map (λ (m : Mark). m.key.number) f.partials) (map (λ (s : Sent). s.number) f.challenges) in
     let b = length-map f.partials (λ (m : Mark). m.key.number) in
     let c = length-map f.challenges (λ (s : Sent). s.number) in
+    let d = length-append (map (λ (m : Mark). m.key.number) f.partials ++ map (λ (s : Sent). s.number) f.challenges) (map (λ (e : Exchange). e.key.number) es) in
+    let e = length-map es (λ (e : Exchange). e.key.number) in
     omega arith

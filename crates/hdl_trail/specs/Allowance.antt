@@ -20,7 +20,7 @@ reply_octets length = octets_in (datagram_count length) length
 abbrev pub is_within : ℕ → ℕ → Exchange → Bool
 is_within times length e = datagram_count length == 1 || nat_le (reply_octets length) (times * asked_octets e)
 
--- nothing was asked, or the reply is within
+-- something was asked, and the reply is within
 abbrev pub is_within_last : ℕ → ℕ → Option Exchange → Bool
 is_within_last times length None = false
 is_within_last times length (Some e) = is_within times length e

@@ -7,7 +7,7 @@ use crate::kept::Key;
 use hdl_frame::{ENVELOPE_LEN, Envelope, Frame};
 
 /// A frame that came, and what the reply to it said so far.
-#[derive(Clone, Copy, Debug)]
+#[derive(Clone, Copy, Debug, Default)]
 pub struct Exchange {
     pub key: Key,
     /// Whether it is a piece of its message, and how many octets that has.

@@ -1,20 +1,18 @@
 //! The numbers of a datagram lane's peers.
 
-ghost use Rattle.std.specs.Prelude.{◌≡◌, ◌≤◌, ◌<◌, ◌+◌, ℕ, [], None, Ok, IsTrue, IsFalse, IfErr, IfOk, IfSome, IfNone, IsSome, MatchOption, option_map, length};
+ghost use Rattle.std.specs.Prelude.{◌≡◌, ◌≤◌, ◌<◌, ◌+◌, ◌++◌, ◌∷◌, ℕ, [], None, Ok, IsTrue, IsFalse, IfErr, IfOk, IfSome, IfNone, IsSome, MatchOption, length};
 ghost use Rattle.std.specs.List.{position};
 ghost use Rattle.hdl_frame.specs.Frames.{IsFrame};
-ghost use Rattle.hdl_limits.specs.declared.TheConstants.{CHALLENGES_MAX, PARTIALS_MAX, PEERS_MAX};
+ghost use Rattle.hdl_limits.specs.declared.TheConstants.{CHALLENGES_MAX, PARTIALS_MAX, PEERS_MAX, UNDER_WAY_MAX};
 ghost use Rattle.hdl_trail.specs.Allowance.{answers_challenge, is_within_last};
-ghost use Rattle.hdl_trail.specs.Exchange.{with_reply};
-ghost use Rattle.hdl_trail.specs.Kept.{settled};
-ghost use Rattle.hdl_trail.specs.Peers.{address_among, arrival, IsNumberOf, holds};
+ghost use Rattle.hdl_trail.specs.Peers.{address_among, arrival, IsNumberOf, holds, oldest, reply_seen, settle_oldest, with_room};
 
 use crate::trail::Trail;
 use hdl_frame::one_datagram;
 use std::alloc::{AllocError, Global};
 use std::marker::Model;
 
-/// The addresses from which frames came, by number from 1 on, and what is kept under their numbers. Contracts see a `Roll`.
+/// The addresses from which frames came, by number from 1 on, what is kept under their numbers, and the frames under way. Contracts see a `Roll`.
 #[derive(Drop)]
 pub struct Peers<A> {
     known: Vec<A>,
@@ -29,7 +27,7 @@ impl<A> Model for Peers<A> {
 
     ghost Value = { Roll A };
 
-    ghost view = { λ p. record { known = p.known.items; followed = followed p.trail; exchange = p.trail.exchange } };
+    ghost view = { λ p. record { known = p.known.items; followed = followed p.trail; under_way = p.trail.under_way.items } };
 
     ghost invariant = { λ p. length p.known.items ≤ PEERS_MAX };
 }
@@ -37,7 +35,7 @@ impl<A> Model for Peers<A> {
 impl<A: Eq + Copy> Peers<A> {
     /// No peers yet, and nothing is kept.
     pub fn new(alloc: Global) -> Peers<A>
-        ensures { result ≡ record { known = []; followed = record { partials = []; challenges = [] }; exchange = None } }
+        ensures { result ≡ record { known = []; followed = record { partials = []; challenges = [] }; under_way = [] } }
     {
         Peers {
             known: Vec::new(alloc),
@@ -45,12 +43,12 @@ impl<A: Eq + Copy> Peers<A> {
         }
     }
 
-    /// The number of an address: the one that it has, else the first under which nothing is kept, which may be a new one.
+    /// The number of an address: the one that it has, else the first under which nothing is kept or under way, which may be a new one.
     fn number(&mut self, from: A) -> Result<u16, AllocError>
         ensures own { IfOk result (λ n. (0 < n) × (n ≤ PEERS_MAX) × IsNumberOf A.eq self.new.known from n) }
         ensures kept { (n : ℕ) → IsTrue (holds self.old n) → IfSome (address_among self.old.known n) (λ a. address_among self.new.known n ≡ Some a) }
         ensures followed { self.new.followed ≡ self.old.followed }
-        ensures exchange { self.new.exchange ≡ self.old.exchange }
+        ensures under_way { self.new.under_way ≡ self.old.under_way }
     {
         if let Some(place) = self.known.iter().position(|known| *known == from) {
             return Ok(place as u16 + 1);
@@ -61,22 +59,22 @@ impl<A: Eq + Copy> Peers<A> {
         }
     }
 
-    /// The place of the first number that was given and under which nothing is kept. Where there is none few were given.
+    /// The place of the first number that was given and under which nothing is kept or under way. Where there is none few were given.
     fn free_place(&self) -> Option<usize>
         ensures free { IfSome result (λ place. (place < length self.now.known) × IsFalse (holds self.now (place + 1))) }
-        ensures few { IfNone result (length self.now.known ≤ PARTIALS_MAX + CHALLENGES_MAX) }
+        ensures few { IfNone result (length self.now.known ≤ PARTIALS_MAX + CHALLENGES_MAX + UNDER_WAY_MAX) }
     {
         self.trail.free_place(self.known.len())
     }
 
-    /// Gives the number behind this place, under which nothing is kept, to the address.
+    /// Gives the number behind this place, under which nothing is kept or under way, to the address.
     fn seat(&mut self, place: usize, from: A) -> u16
         requires place { place < length self.old.known }
         requires free { IsFalse (holds self.old (place + 1)) }
         ensures own { (0 < result) × (result ≤ PEERS_MAX) × IsNumberOf A.eq self.new.known from result }
         ensures kept { (n : ℕ) → IsTrue (holds self.old n) → IfSome (address_among self.old.known n) (λ a. address_among self.new.known n ≡ Some a) }
         ensures followed { self.new.followed ≡ self.old.followed }
-        ensures exchange { self.new.exchange ≡ self.old.exchange }
+        ensures under_way { self.new.under_way ≡ self.old.under_way }
     {
         self.known[place] = from;
         place as u16 + 1
@@ -88,53 +86,71 @@ impl<A: Eq + Copy> Peers<A> {
         ensures own { IfOk result (λ n. (0 < n) × (n ≤ PEERS_MAX) × IsNumberOf A.eq self.new.known from n) }
         ensures kept { (n : ℕ) → IsTrue (holds self.old n) → IfSome (address_among self.old.known n) (λ a. address_among self.new.known n ≡ Some a) }
         ensures followed { self.new.followed ≡ self.old.followed }
-        ensures exchange { self.new.exchange ≡ self.old.exchange }
+        ensures under_way { self.new.under_way ≡ self.old.under_way }
     {
         let place = self.known.len();
         self.known.push(from)?;
         Ok(place as u16 + 1)
     }
 
-    /// Octets came from this address, and what was sent up to now was the reply to those before: the number under which they come. None where
-    /// they are no frame; then nothing changes but what those before left. Memory that is refused changes no more.
+    /// Octets came from this address: the number under which they come, which is the address's until their reply is whole, and longer while something is kept
+    /// under it. None where they are no frame; then nothing changes. Where as many frames are under way as may be, the oldest is settled first; memory that is
+    /// refused changes no more than that.
     pub fn came(&mut self, from: A, octets: &[u8]) -> Result<Option<u16>, AllocError>
         ensures own { IfOk result (λ number. IfSome number (λ n. (0 < n) × (n ≤ PEERS_MAX) × IsNumberOf A.eq self.new.known from n)) }
-        ensures kept { (n : ℕ) → IsTrue (holds self.new n) → IfSome (address_among self.old.known n) (λ a. address_among self.new.known n ≡ Some a) }
+        ensures kept { (n : ℕ) → IsTrue (holds (with_room self.old) n) → IfSome (address_among self.old.known n) (λ a. address_among self.new.known n ≡ Some a) }
         ensures some { IsFrame octets.now → IfOk result (λ number. IsSome number) }
-        ensures no_frame { ¬ IsFrame octets.now → (result ≡ Ok None) × (self.new.known ≡ self.old.known) }
-        ensures followed { self.new.followed ≡ settled self.old.followed self.old.exchange }
-        ensures exchange { IfOk result (λ number. self.new.exchange ≡ option_map (arrival octets.now) number) }
-        ensures refused { IfErr result (λ _. self.new.exchange ≡ None) }
+        ensures no_frame { ¬ IsFrame octets.now → (result ≡ Ok None) × (self.new ≡ self.old) }
+        ensures followed { IsFrame octets.now → self.new.followed ≡ (with_room self.old).followed }
+        ensures under_way { IfOk result (λ number. IfSome number (λ n. self.new.under_way ≡ (with_room self.old).under_way ++ arrival octets.now n ∷ [])) }
+        ensures refused { IfErr result (λ _. self.new.under_way ≡ (with_room self.old).under_way) }
     {
-        self.trail.settle();
         let Ok(frame) = one_datagram(octets) else {
             return Ok(None);
         };
+        self.make_room();
         let number = self.number(from)?;
         self.trail.came(number, &frame);
         Ok(Some(number))
     }
 
-    /// A datagram of the reply to what came last is sent.
+    /// Settles the oldest frame where there is no room for one more.
+    fn make_room(&mut self)
+        ensures made { self.new ≡ with_room self.old }
+        ensures room { length self.new.under_way < UNDER_WAY_MAX }
+    {
+        if self.trail.is_full() {
+            self.trail.settle();
+        }
+    }
+
+    /// A datagram of the reply to the oldest frame is sent.
     pub fn answered(&mut self, datagram: &[u8])
         ensures known { self.new.known ≡ self.old.known }
         ensures followed { self.new.followed ≡ self.old.followed }
-        ensures exchange { self.new.exchange ≡ option_map (with_reply datagram.now) self.old.exchange }
+        ensures under_way { self.new.under_way ≡ reply_seen datagram.now self.old.under_way }
     {
         self.trail.answered(datagram);
     }
 
-    /// Whether a reply to what came last whose message has so many octets is one datagram, or has in all its datagrams at most so many times
+    /// The reply to the oldest frame is whole, or there is none.
+    pub fn replied(&mut self)
+        ensures { self.new ≡ settle_oldest self.old }
+    {
+        self.trail.settle();
+    }
+
+    /// Whether a reply to the oldest frame whose message has so many octets is one datagram, or has in all its datagrams at most so many times
     /// the octets that asked. False where nothing came.
     pub fn is_within(&self, times: u32, length: u32) -> bool
-        ensures { result ≡ is_within_last times length self.now.exchange }
+        ensures { result ≡ is_within_last times length (oldest self.now.under_way) }
     {
         self.trail.is_within(times, length)
     }
 
-    /// Whether who sent what came last answered a challenge by it: it was a challenge response, and the reply says success.
+    /// Whether who sent the oldest frame answered a challenge by it: it was a challenge response, and the reply says success.
     pub fn answers_challenge(&self) -> bool
-        ensures { result ≡ answers_challenge self.now.followed self.now.exchange }
+        ensures { result ≡ answers_challenge self.now.followed (oldest self.now.under_way) }
     {
         self.trail.answers_challenge()
     }

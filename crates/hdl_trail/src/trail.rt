@@ -1,7 +1,8 @@
 //! What the service keeps of a lane, by the frames that came and the replies that were sent.
 //!
 //! The service keeps four partial messages and eight challenges of a lane at most, each by the number of the peer that it came from.
-//! What came and what was answered shows which, since each frame is answered before the next comes:
+//! What came and what was answered shows which, since frames are answered in the order in which they come. Some may be under way: each is followed once its
+//! reply is whole.
 //!
 //! - A frame with TC that isn't answered has begun a message, or goes on with one that is kept. A fifth message displaces the oldest.
 //!   One that is answered made its message whole, and of that nothing is kept; but where the answer is busy, nothing has changed.
@@ -11,19 +12,20 @@
 //!
 //! A spent one makes room, so an older one than the last eight may be pending: it isn't enough to know the last eight.
 
-ghost use Rattle.std.specs.Prelude.{◌≡◌, ◌≤◌, ◌<◌, ◌+◌, ◌==◌, [], None, Some, IsFalse, IfNone, IfSome, find, length, option_map};
+ghost use Rattle.std.specs.Prelude.{◌≡◌, ◌≤◌, ◌<◌, ◌+◌, ◌==◌, ◌||◌, ◌++◌, ◌∷◌, [], IsFalse, IfNone, IfSome, drop, find, length, nat_lt, not};
 ghost use Rattle.std.specs.List.{list_any, position};
-ghost use Rattle.hdl_limits.specs.declared.TheConstants.{PEERS_MAX};
+ghost use Rattle.hdl_limits.specs.declared.TheConstants.{CHALLENGES_MAX, PARTIALS_MAX, PEERS_MAX, UNDER_WAY_MAX};
 ghost use Rattle.hdl_trail.specs.Allowance.{answers_challenge, is_within_last};
-ghost use Rattle.hdl_trail.specs.Exchange.{exchange_of, with_reply};
-ghost use Rattle.hdl_trail.specs.Kept.{answered, challenged, ended, is_held, is_of, operation_of, redeemed, settled, with_piece};
+ghost use Rattle.hdl_trail.specs.Exchange.{exchange_of};
+ghost use Rattle.hdl_trail.specs.Kept.{answered, challenged, ended, is_held, is_of, operation_of, redeemed, settled, settled_by, with_piece};
+ghost use Rattle.hdl_trail.specs.Peers.{is_under_way, oldest, reply_seen};
 ghost use Rattle.hdl_trail.specs.Trail.{followed};
 
 use crate::exchange::Exchange;
 use crate::kept::{Key, Mark, Sent, put};
 use arrayvec::ArrayVec;
 use hdl_frame::Frame;
-use hdl_limits::{CHALLENGES_MAX, PARTIALS_MAX};
+use hdl_limits::{CHALLENGES_MAX, PARTIALS_MAX, UNDER_WAY_MAX};
 
 /// Codes of replies: busy, out of the grammar, and a challenge.
 const BUSY: u32 = 3;
@@ -35,36 +37,44 @@ const CHALLENGE: u32 = 402;
 /// The operation of a challenge response.
 const RESPONSE: u32 = 200;
 
-/// What the service keeps of a lane, by the frames that came and the replies that were sent. Octets that come are seen by `came`, each datagram of
-/// the reply by `answered`, and `settle` says that the reply was whole.
+/// What the service keeps of a lane, by the frames that came and the replies that were sent. Frames that come are seen by `came`, each datagram of
+/// the reply to the oldest by `answered`, and `settle` says that this reply is whole.
 #[derive(Drop)]
 pub struct Trail {
     /// The partial messages, the oldest first.
     partials: ArrayVec<Mark, PARTIALS_MAX>,
     /// The challenges, the oldest first.
     challenges: ArrayVec<Sent, CHALLENGES_MAX>,
-    /// The frame that came last, unless it is settled.
-    exchange: Option<Exchange>,
+    /// The frames that aren't settled, the oldest first.
+    under_way: ArrayVec<Exchange, UNDER_WAY_MAX>,
 }
 
 impl Trail {
     /// Of a lane of which nothing is kept.
     pub fn new() -> Trail
         ensures followed { followed result ≡ record { partials = []; challenges = [] } }
-        ensures exchange { result.exchange ≡ None }
+        ensures under_way { result.under_way.items ≡ [] }
     {
         Trail {
             partials: ArrayVec::new(),
             challenges: ArrayVec::new(),
-            exchange: None,
+            under_way: ArrayVec::new(),
         }
     }
 
-    /// Whether something is kept under the number.
+    /// Whether something is kept under the number, or a frame of it is under way.
     pub fn holds(&self, number: u16) -> bool
-        ensures { result ≡ is_held (followed self.now) number }
+        ensures { result ≡ is_held (followed self.now) number || is_under_way self.now.under_way.items number }
     {
-        self.holds_pieces(number) || self.holds_challenge(number)
+        self.holds_pieces(number) || self.holds_challenge(number) || self.holds_frame(number)
+    }
+
+    /// Whether a frame of the number is under way.
+    fn holds_frame(&self, number: u16) -> bool
+        ensures { result ≡ is_under_way self.now.under_way.items number }
+    {
+        let mut frames = self.under_way.as_slice().iter();
+        frames.any(|exchange| exchange.key.number == number)
     }
 
     /// Whether pieces of a message are kept under the number.
@@ -83,11 +93,11 @@ impl Trail {
         challenges.any(|sent| sent.number == number)
     }
 
-    /// The place of the first of so many numbers, from 1 on, under which nothing is kept. Where there is none so many are kept at least.
+    /// The place of the first of so many numbers, from 1 on, under which nothing is kept or under way. Where there is none so many are, at least.
     pub fn free_place(&self, count: usize) -> Option<usize>
         requires { count ≤ PEERS_MAX }
-        ensures free { IfSome result (λ place. (place < count) × IsFalse (is_held (followed self.now) (place + 1))) }
-        ensures few { IfNone result (count ≤ PARTIALS_MAX + CHALLENGES_MAX) }
+        ensures free { IfSome result (λ place. (place < count) × IsFalse (is_held (followed self.now) (place + 1) || is_under_way self.now.under_way.items (place + 1))) }
+        ensures few { IfNone result (count ≤ PARTIALS_MAX + CHALLENGES_MAX + UNDER_WAY_MAX) }
     {
         for place in 0..count.min(self.kept() + 1) {
             if !self.holds(place as u16 + 1) {
@@ -97,51 +107,77 @@ impl Trail {
         None
     }
 
-    /// How many messages and challenges are kept.
+    /// How many messages and challenges are kept, and frames under way.
     fn kept(&self) -> usize
-        ensures count { result ≡ length self.now.partials.items + length self.now.challenges.items }
-        ensures few { result ≤ PARTIALS_MAX + CHALLENGES_MAX }
+        ensures count { result ≡ length self.now.partials.items + length self.now.challenges.items + length self.now.under_way.items }
+        ensures few { result ≤ PARTIALS_MAX + CHALLENGES_MAX + UNDER_WAY_MAX }
     {
-        self.partials.as_slice().len() + self.challenges.as_slice().len()
+        self.partials.as_slice().len()
+            + self.challenges.as_slice().len()
+            + self.under_way.as_slice().len()
     }
 
-    /// A frame came from whoever has the number. What came before is settled.
+    /// Whether there is no room for one frame more.
+    pub fn is_full(&self) -> bool
+        ensures full { result ≡ not (nat_lt (length self.now.under_way.items) UNDER_WAY_MAX) }
+        ensures few { length self.now.under_way.items ≤ UNDER_WAY_MAX }
+    {
+        self.under_way.is_full()
+    }
+
+    /// The oldest frame under way.
+    fn oldest(&self) -> Option<Exchange>
+        ensures { result ≡ oldest self.now.under_way.items }
+    {
+        self.under_way.as_slice().first().copied()
+    }
+
+    /// A frame came from whoever has the number.
     pub fn came(&mut self, number: u16, frame: &Frame<'_>)
+        requires room { length self.old.under_way.items < UNDER_WAY_MAX }
         ensures followed { followed self.new ≡ followed self.old }
-        ensures exchange { self.new.exchange ≡ Some (exchange_of number frame.now.envelope frame.now.bytes.now) }
+        ensures under_way { self.new.under_way.items ≡ self.old.under_way.items ++ exchange_of number frame.now.envelope frame.now.bytes.now ∷ [] }
     {
-        self.exchange = Some(Exchange::of(number, frame));
+        self.under_way.push(Exchange::of(number, frame));
     }
 
-    /// A datagram of the reply to what came last is sent.
+    /// A datagram of the reply to the oldest frame is sent.
     pub fn answered(&mut self, datagram: &[u8])
         ensures followed { followed self.new ≡ followed self.old }
-        ensures exchange { self.new.exchange ≡ option_map (with_reply datagram.now) self.old.exchange }
+        ensures under_way { self.new.under_way.items ≡ reply_seen datagram.now self.old.under_way.items }
     {
-        if let Some(exchange) = self.exchange {
-            self.exchange = Some(exchange.with_reply(datagram));
+        if let Some(exchange) = self.under_way.get_mut(0) {
+            *exchange = exchange.with_reply(datagram);
         }
     }
 
-    /// Whether a reply to what came last whose message has so many octets is one datagram, or has at most so many times the octets that asked.
+    /// Whether a reply to the oldest frame whose message has so many octets is one datagram, or has at most so many times the octets that asked.
     pub fn is_within(&self, times: u32, length: u32) -> bool
-        ensures { result ≡ is_within_last times length self.now.exchange }
+        ensures { result ≡ is_within_last times length (oldest self.now.under_way.items) }
     {
-        match self.exchange {
+        match self.oldest() {
             Some(exchange) => exchange.is_within(times, length),
             None => false,
         }
     }
 
-    /// The reply to what came last is whole, or there is none.
+    /// The reply to the oldest frame is whole, or there is none.
     pub fn settle(&mut self)
-        ensures followed { followed self.new ≡ settled (followed self.old) self.old.exchange }
-        ensures exchange { self.new.exchange ≡ None }
+        ensures followed { followed self.new ≡ settled (followed self.old) (oldest self.old.under_way.items) }
+        ensures under_way { self.new.under_way.items ≡ drop 1 self.old.under_way.items }
     {
-        let Some(exchange) = self.exchange else {
+        let Some(exchange) = self.oldest() else {
             return;
         };
-        self.exchange = None;
+        self.under_way.remove(0);
+        self.follow(exchange);
+    }
+
+    /// What a frame and the reply to it leave.
+    fn follow(&mut self, exchange: Exchange)
+        ensures followed { followed self.new ≡ settled_by (followed self.old) exchange exchange.reply }
+        ensures under_way { self.new.under_way.items ≡ self.old.under_way.items }
+    {
         match exchange.reply {
             None => {
                 if exchange.is_piece {
@@ -155,7 +191,7 @@ impl Trail {
 
     /// A message was answered by this code, under this SessionId.
     fn close(&mut self, exchange: Exchange, code: u32, session: u32)
-        ensures exchange { self.new.exchange ≡ self.old.exchange }
+        ensures under_way { self.new.under_way.items ≡ self.old.under_way.items }
         ensures followed { followed self.new ≡ answered (followed self.old) exchange code session }
     {
         let operation = self.operation(exchange);
@@ -164,11 +200,11 @@ impl Trail {
         self.challenge(exchange.key.number, code, session);
     }
 
-    /// Whether the frame that came last is a challenge response, or makes one whole, and the reply to it says success.
+    /// Whether the oldest frame is a challenge response, or makes one whole, and the reply to it says success.
     pub fn answers_challenge(&self) -> bool
-        ensures { result ≡ answers_challenge (followed self.now) self.now.exchange }
+        ensures { result ≡ answers_challenge (followed self.now) (oldest self.now.under_way.items) }
     {
-        let Some(exchange) = self.exchange else {
+        let Some(exchange) = self.oldest() else {
             return false;
         };
         self.operation(exchange) == Some(RESPONSE) && exchange.is_success()
@@ -205,7 +241,7 @@ impl Trail {
 
     /// A piece is kept, or is ignored since it came before or says another length.
     fn keep(&mut self, exchange: Exchange)
-        ensures exchange { self.new.exchange ≡ self.old.exchange }
+        ensures under_way { self.new.under_way.items ≡ self.old.under_way.items }
         ensures challenges { self.new.challenges.items ≡ self.old.challenges.items }
         ensures partials { self.new.partials.items ≡ with_piece exchange self.old.partials.items }
     {
@@ -220,7 +256,7 @@ impl Trail {
 
     /// A message that came in pieces is answered, so nothing of it is kept any more.
     fn end(&mut self, exchange: Exchange)
-        ensures exchange { self.new.exchange ≡ self.old.exchange }
+        ensures under_way { self.new.under_way.items ≡ self.old.under_way.items }
         ensures challenges { self.new.challenges.items ≡ self.old.challenges.items }
         ensures partials { self.new.partials.items ≡ ended exchange self.old.partials.items }
     {
@@ -231,7 +267,7 @@ impl Trail {
 
     /// A response of this key spends its challenge, if there is one.
     fn redeem(&mut self, key: Key, operation: Option<u32>, code: u32)
-        ensures exchange { self.new.exchange ≡ self.old.exchange }
+        ensures under_way { self.new.under_way.items ≡ self.old.under_way.items }
         ensures partials { self.new.partials.items ≡ self.old.partials.items }
         ensures challenges { self.new.challenges.items ≡ redeemed key operation code self.old.challenges.items }
     {
@@ -243,7 +279,7 @@ impl Trail {
 
     /// A challenge is put under its SessionId, which the service gives to no other.
     fn challenge(&mut self, number: u16, code: u32, session: u32)
-        ensures exchange { self.new.exchange ≡ self.old.exchange }
+        ensures under_way { self.new.under_way.items ≡ self.old.under_way.items }
         ensures partials { self.new.partials.items ≡ self.old.partials.items }
         ensures challenges { self.new.challenges.items ≡ challenged number code session self.old.challenges.items }
     {

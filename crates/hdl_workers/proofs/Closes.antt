@@ -1,18 +1,18 @@
 -- How a conversation begins and ends.
-use Rattle.std.proofs.Common.{◌≡◌, ◌⊎◌, inl, inr, ℕ, suc, ◌+◌, List, [], ◌∷◌, ◌++◌, length, map, refl, ap, sym, append_assoc, append-nil, length-append, ◌∙◌, arith, true, None}
+use Rattle.std.proofs.Common.{◌≡◌, inl, inr, ◌+◌, List, [], ◌∷◌, ◌++◌, length, refl, ap, sym, append_assoc, append-nil, length-append, ◌∙◌, arith, None}
 use Rattle.std.proofs.lemmas.List.{map-append}
 use Rattle.std.proofs.lemmas.List.Concat.{flat_map-append}
 use Rattle.std.specs.List.{flat_map}
 use Rattle.hdl_events.specs.declared.Outcome.{Outcome}
 use Rattle.hdl_events.specs.declared.What.TheVariants.{Open, Close}
-use Rattle.hdl_frame.specs.Frames.{IsFrame, BeginsWithFrame, fault_at}
+use Rattle.hdl_frame.specs.Frames.{BeginsWithFrame, fault_at}
 use Rattle.hdl_frame.proofs.FrameLemmas.{none_short}
 use Rattle.hdl_workers.specs.Octets.{octets_of}
 use Rattle.hdl_workers.specs.declared.item.Item.{Item}
 use Rattle.hdl_workers.specs.declared.item.Item.TheVariants.{Event}
 use Rattle.hdl_workers.specs.Door.{Connection, fresh}
-use Rattle.hdl_workers.specs.Sign.{Sign, closed, sign_of, signs_of}
-use Rattle.hdl_workers.specs.Talk.{AllFrames, SomeFrames, AnyBeginning, Ended, History, Underway, CutOff, CanClose, Waiting}
+use Rattle.hdl_workers.specs.Sign.{sign_of, signs_of}
+use Rattle.hdl_workers.specs.Talk.{SomeFrames, AnyBeginning, History, Underway, CutOff, CanClose, Waiting}
 use Rattle.hdl_workers.proofs.Talks.{history_more}
 
 -- nothing was read

@@ -1,5 +1,5 @@
 -- Which faults stand at the front of a stream.
-use Rattle.std.proofs.Common.{rules, arith, ◌≡◌, ℕ, List, [], Some, None, ◌++◌, ap, ◌∙◌, sym, refl, Bool, true, false, not, ◌||◌, ◌==◌, nat_lt, nat_le, if◌then◌else◌}
+use Rattle.std.proofs.Common.{arith, ◌≡◌, ℕ, List, Some, ap, ◌∙◌, sym}
 use Rattle.hdl_frame.specs.declared.envelope.Envelope.{Envelope}
 use Rattle.hdl_frame.specs.declared.envelope.FrameFault.{FrameFault}
 use Rattle.hdl_frame.specs.declared.envelope.FrameFault.TheVariants.{Version, Flags, TooLong, Memory}

@@ -1,6 +1,7 @@
 -- Datagrams and replies, one after the other.
-use Rattle.std.proofs.Common.{◌≡◌, ◌⊎◌, inl, inr, ℕ, ◌+◌, ◌<◌, ◌≤◌, ◌^◌, ◌-◌, suc, Bor, Bool, true, false, Option, Some, None, All, List, [], ◌∷◌, ◌++◌, length, map, refl, ap, sym, append_assoc, append-nil, length-append, ◌∙◌, arith}
-use Rattle.std.proofs.lemmas.List.{map-append}
+use Rattle.std.proofs.Common.{◌≡◌, ◌⊎◌, inl, inr, ℕ, ◌+◌, ◌<◌, ◌≤◌, ◌^◌, ◌-◌, suc, Bor, true, ◌==◌, Option, Some, All, List, [], ◌∷◌, ◌++◌, length, map, drop, zero, remove, slice_index_or, refl, ap, sym, append_assoc, append-nil, length-append, ◌∙◌, arith}
+use Rattle.std.proofs.lemmas.Bool.{eqb-true}
+use Rattle.std.proofs.lemmas.List.{map-append, drop-append-le, drop_all, length-map, length-drop}
 use Rattle.std.proofs.lemmas.List.Elements.{All-head, All-tail}
 use mathlib.Core.List.{IsPrefix}
 use Rattle.hdl_limits.specs.declared.TheConstants.{PIECE_LEN}
@@ -11,7 +12,7 @@ use Rattle.hdl_workers.specs.declared.item.Item.{Item}
 use Rattle.hdl_workers.specs.declared.item.Item.TheVariants.{Event, End}
 use Rattle.hdl_workers.specs.Octets.{octets_of}
 use Rattle.hdl_workers.specs.Sign.{Sign, opened, framed, faulty, closed, finished, sign_of, signs_of, PutOne}
-use Rattle.hdl_workers.specs.Mail.{FramesOf, MostFramesOf, to_peer, Failed, ArePieces, SendsReply, BeginsReply, Mails, Mailed, MostMailed, Traded, MostTraded, Trades, TradesOn, MostTradesOn, Sends}
+use Rattle.hdl_workers.specs.Mail.{FramesOf, to_peer, Failed, ArePieces, SendsReply, BeginsReply, Mails, Mailed, Traded, Trades, peer_of, Trading, TakesIn, MayTakeIn, Replies, MayReply, Sends}
 
 peer_in : Sign → ℕ
 peer_in (framed p b) = p
@@ -39,84 +40,136 @@ mailed_put items more [] sent n m all = all
 mailed_put [] more (o ∷ os) sent n m all = absurd all
 mailed_put (i ∷ is) more (o ∷ os) sent n m (first, later, h, k, up, e, one, rest) = (first, later, h, k, up, e, one, mailed_put is more os later k m rest)
 
--- the outcome of the last item was sent
-pub mailed_more : (items : List Item) (os : List Outcome) (sent more : List (ℕ × List ℕ)) (n m p : ℕ) (i : Item) (o : Outcome) → Mailed items os sent n m → length os ≡ length items → Mails i o more m p
-    → Mailed (items ++ i ∷ []) (os ++ o ∷ []) (sent ++ more) n p
-mailed_more [] [] sent more n m p i o (none, le) len one =
-    rw none (more, [], m, p, le, sym (append-nil more), one, (refl, omega arith))
-mailed_more (j ∷ is) [] sent more n m p i o all len one = absurd (omega arith)
-mailed_more [] (q ∷ os) sent more n m p i o all len one = absurd all
-mailed_more (j ∷ is) (q ∷ os) sent more n m p i o (first, later, h, k, up, e, this, rest) len one =
-    let len' : length os ≡ length is = omega arith in (
-      first,
-      later ++ more,
-      h,
-      k,
-      up,
-      ap (λ w. w ++ more) e ∙ append_assoc first later more,
-      this,
-      mailed_more is os later more k m p i o rest len' one,
-    )
+-- no more outcomes are sent than there are items
+mailed_long : (items : List Item) (os : List Outcome) (sent : List (ℕ × List ℕ)) (n m : ℕ) → Mailed items os sent n m → length os ≤ length items
+mailed_long items [] sent n m all = omega arith
+mailed_long [] (o ∷ os) sent n m all = absurd all
+mailed_long (i ∷ is) (o ∷ os) sent n m (first, later, h, k, up, e, one, rest) = let le = mailed_long is os later k m rest in omega arith
+
+-- the outcome of the first item without one was sent
+pub mailed_more : (items : List Item) (os : List Outcome) (sent more : List (ℕ × List ℕ)) (n m p : ℕ) (i : Item) (left : List Item) (o : Outcome)
+    → Mailed items os sent n m → drop (length os) items ≡ i ∷ left → Mails i o more m p → Mailed items (os ++ o ∷ []) (sent ++ more) n p
+mailed_more [] [] sent more n m p i left o all at one = absurd cc
+mailed_more (j ∷ is) [] sent more n m p i left o (none, le) at one =
+    let same : j ≡ i = cc in
+    let one' : Mails j o more m p = rw same one in
+    rw none (more, [], m, p, le, sym (append-nil more), one', (refl, omega arith))
+mailed_more [] (q ∷ os) sent more n m p i left o all at one = absurd all
+mailed_more (j ∷ is) (q ∷ os) sent more n m p i left o (first, later, h, k, up, e, this, rest) at one = (
+  first,
+  later ++ more,
+  h,
+  k,
+  up,
+  ap (λ w. w ++ more) e ∙ append_assoc first later more,
+  this,
+  mailed_more is os later more k m p i left o rest at one,
+)
+
+drop_next : (items : List Item) (k : ℕ) (i : Item) (left : List Item) → drop k items ≡ i ∷ left → drop (suc k) items ≡ left
+drop_next [] zero i left e = absurd cc
+drop_next (j ∷ is) zero i left e = cc
+drop_next [] (suc k) i left e = absurd cc
+drop_next (j ∷ is) (suc k) i left e = drop_next is k i left e
 
 framed_peer : (p q : ℕ) (b c : List ℕ) → framed p b ≡ framed q c → p ≡ q
 unfolding peer_in
 framed_peer p q b c e = ap peer_in e
 
--- what is sent of a frame's outcome
-pub mails_frame : (i : Item) (peer : ℕ) (bytes : List ℕ) (o : Outcome) (more : List (ℕ × List ℕ)) (n m : ℕ) → sign_of i ≡ framed peer bytes → SendsReply peer (octets_of o) more n m → Mails i o more n m
-mails_frame (Event Open) peer bytes o more n m e s = absurd cc
-mails_frame (Event (Frame q moment nonce b)) peer bytes o more n m e s = rw (framed_peer q peer b bytes e) s
-mails_frame (Event (Bad a b)) peer bytes o more n m e s = absurd cc
-mails_frame (Event Close) peer bytes o more n m e s = absurd cc
-mails_frame End peer bytes o more n m e s = absurd cc
+peer_framed : (i : Item) (peer : ℕ) (bytes : List ℕ) → sign_of i ≡ framed peer bytes → peer_of i ≡ Some peer
+peer_framed (Event Open) peer bytes e = absurd cc
+peer_framed (Event (Frame q moment nonce b)) peer bytes e = ap Some (framed_peer q peer b bytes e)
+peer_framed (Event (Bad a b)) peer bytes e = absurd cc
+peer_framed (Event Close) peer bytes e = absurd cc
+peer_framed End peer bytes e = absurd cc
 
--- nothing was put for the last datagram
-pub not_put : (d : ℕ × List ℕ) (received sent sent' : List (ℕ × List ℕ)) (m m' : ℕ) (items items' : List Item) (os os' : List Outcome)
-    → sent' ≡ sent → m' ≡ m → items' ≡ items → os' ≡ os → MostTradesOn d received sent m items os sent' m' items' os'
-not_put d received sent sent' m m' items items' os os' a b p q n earlier e (frames, shown, far, mailed, len) =
-    rw (a, b, p, q) (frames, shown, inr (earlier, d, e, far), inl mailed)
+-- what is sent of the outcome of a frame
+mails_frame : (i : Item) (peer : ℕ) (o : Outcome) (more : List (ℕ × List ℕ)) (n m : ℕ) → peer_of i ≡ Some peer → SendsReply peer (octets_of o) more n m → Mails i o more n m
+mails_frame i peer o more n m e s = rw e s
 
 -- the last datagram was dropped
-pub passed : (d : ℕ × List ℕ) (received sent sent' : List (ℕ × List ℕ)) (m m' : ℕ) (items items' : List Item) (os os' : List Outcome)
-    → (IsFrame d.1 → ⊥) → TradesOn d received sent m items os sent m items os
-passed d received sent sent' m m' items items' os os' not n earlier e (frames, shown, far, mailed, len) =
-    rw e (frames, shown, frames_passed earlier d frames far not, mailed, len)
+pub passed : (d : ℕ × List ℕ) (peers : List ℕ) (items : List Item) (os : List Outcome) → (IsFrame d.1 → ⊥) → TakesIn d peers items peers items os
+passed d peers items os not received sent n m (frames, shown, far, mailed, way) = (frames, shown, frames_passed received d frames far not, mailed, way)
 
 -- the last datagram was put
 put_signs : (frames : List Sign) (items items' : List Item) (s : Sign) → signs_of items ≡ opened ∷ frames → PutOne s items items' → signs_of items' ≡ opened ∷ (frames ++ s ∷ [])
 put_signs frames items items' s shown (item, e, is) =
     ap signs_of e ∙ map-append sign_of items (item ∷ []) ∙ ap (λ w. w ++ sign_of item ∷ []) shown ∙ ap (λ (w : Sign). (opened ∷ frames) ++ w ∷ []) is
 
-pub not_answered : (d : ℕ × List ℕ) (received sent sent' : List (ℕ × List ℕ)) (m m' : ℕ) (items items' : List Item) (os os' : List Outcome)
-    → IsFrame d.1 → PutOne (framed d.0 d.1) items items' → os' ≡ os → sent' ≡ sent → m' ≡ m → MostTradesOn d received sent m items os sent' m' items' os'
-not_answered d received sent sent' m m' items items' os os' is put q a b n earlier e (frames, shown, far, mailed, len) =
+pub taken_in : (d : ℕ × List ℕ) (peers : List ℕ) (items items' : List Item) (os : List Outcome) → IsFrame d.1 → PutOne (framed d.0 d.1) items items' → TakesIn d peers items (peers ++ d.0 ∷ []) items' os
+taken_in d peers items items' os is put received sent n m (frames, shown, far, mailed, way) =
+    let le = mailed_long items os sent n m mailed in
     let mailed' : Mailed items' os sent n m = rw put.1 (mailed_put items (put.0 ∷ []) os sent n m mailed) in
-    rw (e, q, a, b) (frames ++ framed d.0 d.1 ∷ [], put_signs frames items items' (framed d.0 d.1) shown put, inl (frames_more earlier d frames far is), inl mailed')
+    let left : drop (length os) items' ≡ drop (length os) items ++ put.0 ∷ [] = ap (drop (length os)) put.1 ∙ drop-append-le (length os) items (put.0 ∷ []) le in
+    let way' : map peer_of (drop (length os) items') ≡ map Some (peers ++ d.0 ∷ []) =
+    ap (map peer_of) left ∙ map-append peer_of (drop (length os) items) (put.0 ∷ []) ∙ ap (λ w. w ++ peer_of put.0 ∷ []) way
+    ∙ ap (λ (w : Option ℕ). map Some peers ++ w ∷ []) (peer_framed put.0 d.0 d.1 put.2) ∙ sym (map-append Some peers (d.0 ∷ [])) in
+    (frames ++ framed d.0 d.1 ∷ [], put_signs frames items items' (framed d.0 d.1) shown put, frames_more received d frames far is, mailed', way')
 
-pub answered : (d : ℕ × List ℕ) (received sent sent' : List (ℕ × List ℕ)) (m m' : ℕ) (items items' : List Item) (os os' : List Outcome) (o : Outcome)
-    → IsFrame d.1 → PutOne (framed d.0 d.1) items items' → os' ≡ os ++ o ∷ [] → Sends (SendsReply d.0 (octets_of o)) sent m sent' m' → TradesOn d received sent m items os sent' m' items' os'
-answered d received sent sent' m m' items items' os os' o is put q (more, w, sends) n earlier e (frames, shown, far, mailed, len) =
-    let one = mails_frame put.0 d.0 d.1 o more m m' put.2 sends in
-    let mailed' : Mailed items' os' sent' n m' = rw (put.1, q, w) (mailed_more items os sent more n m m' put.0 o mailed len one) in
-    let k1 : length items' ≡ length items + 1 = ap length put.1 ∙ length-append items (put.0 ∷ []) in
-    let k2 : length os' ≡ length os + 1 = ap length q ∙ length-append os (o ∷ []) in
-    let len' : length os' ≡ length items' = omega arith in
-    rw e (frames ++ framed d.0 d.1 ∷ [], put_signs frames items items' (framed d.0 d.1) shown put, frames_more earlier d frames far is, mailed', len')
+-- nothing was put for the last datagram
+pub not_taken_in : (d : ℕ × List ℕ) (peers : List ℕ) (items items' : List Item) (os : List Outcome) → items' ≡ items → MayTakeIn d peers items items' os
+not_taken_in d peers items items' os same received sent n m (frames, shown, far, mailed, way) = rw same (frames, shown, inr (received, d, refl, far), inl mailed)
 
-pub answered_part : (d : ℕ × List ℕ) (received sent sent' : List (ℕ × List ℕ)) (m m' : ℕ) (items items' : List Item) (os os' : List Outcome) (o : Outcome)
-    → IsFrame d.1 → PutOne (framed d.0 d.1) items items' → os' ≡ os ++ o ∷ [] → Sends (BeginsReply d.0 (octets_of o)) sent m sent' m' → MostTradesOn d received sent m items os sent' m' items' os'
-answered_part d received sent sent' m m' items items' os os' o is put q (more, w, (ds, are, le, (rest, x))) n earlier e (frames, shown, far, mailed, len) =
-    let whole = map (to_peer d.0) ds in
-    let one = mails_frame put.0 d.0 d.1 o whole m m' put.2 (ds, are, le, inl refl) in
-    let before : Mailed items' os sent n m = rw put.1 (mailed_put items (put.0 ∷ []) os sent n m mailed) in
-    let all : Mailed items' os' (sent ++ whole) n m' = rw (put.1, q) (mailed_more items os sent whole n m m' put.0 o mailed len one) in
+-- the first item without an outcome is that of the peer that waits longest
+first_waits : (peer : ℕ) (peers : List ℕ) (items : List Item) → map peer_of items ≡ Some peer ∷ map Some peers → (i : Item) × (left : List Item) × (items ≡ i ∷ left) × (peer_of i ≡ Some peer) × (map peer_of left ≡ map Some peers)
+first_waits peer peers [] e = absurd cc
+first_waits peer peers (i ∷ left) e = (i, left, refl, cc, cc)
+
+pub replied : (peer : ℕ) (peers : List ℕ) (items : List Item) (sent sent' : List (ℕ × List ℕ)) (m m' : ℕ) (os os' : List Outcome) (o : Outcome)
+    → os' ≡ os ++ o ∷ [] → Sends (SendsReply peer (octets_of o)) sent m sent' m' → Replies (peer ∷ peers) items sent m os peers sent' m' os'
+replied peer peers items sent sent' m m' os os' o q (more, w, sends) received n (frames, shown, far, mailed, way) =
+    let (i, left, at, of, rest) = first_waits peer peers (drop (length os) items) way in
+    let one = mails_frame i peer o more m m' of sends in
+    let mailed' : Mailed items os' sent' n m' = rw (q, w) (mailed_more items os sent more n m m' i left o mailed at one) in
+    let long = ap length q ∙ length-append os (o ∷ []) in
+    let count : length os' ≡ suc (length os) = omega arith in
+    let way' : map peer_of (drop (length os') items) ≡ map Some peers = ap (λ k. map peer_of (drop k items)) count ∙ ap (map peer_of) (drop_next items (length os) i left at) ∙ rest in
+    (frames, shown, far, mailed', way')
+
+-- no outcome came
+pub not_replied : (peers : List ℕ) (items : List Item) (sent sent' : List (ℕ × List ℕ)) (m m' : ℕ) (os os' : List Outcome) → os' ≡ os → sent' ≡ sent → m' ≡ m → MayReply peers items sent m os sent' m' os'
+not_replied peers items sent sent' m m' os os' a b q received n (frames, shown, far, mailed, way) = rw (a, b, q) (frames, shown, inl far, inl mailed)
+
+pub replied_part : (peer : ℕ) (peers : List ℕ) (items : List Item) (sent sent' : List (ℕ × List ℕ)) (m m' : ℕ) (os os' : List Outcome) (o : Outcome)
+    → os' ≡ os ++ o ∷ [] → Sends (BeginsReply peer (octets_of o)) sent m sent' m' → MayReply (peer ∷ peers) items sent m os sent' m' os'
+replied_part peer peers items sent sent' m m' os os' o q (more, w, (ds, are, le, (rest, x))) received n (frames, shown, far, mailed, way) =
+    let (i, left, at, of, others) = first_waits peer peers (drop (length os) items) way in
+    let whole = map (to_peer peer) ds in
+    let one = mails_frame i peer o whole m m' of (ds, are, le, inl refl) in
+    let all : Mailed items os' (sent ++ whole) n m' = rw q (mailed_more items os sent whole n m m' i left o mailed at one) in
     let same : sent' ++ rest ≡ sent ++ whole = ap (λ z. z ++ rest) w ∙ append_assoc sent more rest ∙ ap (λ z. sent ++ z) x in
-    rw e (
-      frames ++ framed d.0 d.1 ∷ [],
-      put_signs frames items items' (framed d.0 d.1) shown put,
-      inl (frames_more earlier d frames far is),
-      inr (os, o, sent, more, rest, m, q, w, before, rw same all),
-    )
+    (frames, shown, inl far, inr (os, o, sent, more, rest, m, q, w, mailed, rw same all))
+
+-- the peer that is taken out is the first
+pub first_out : (peers left : List ℕ) (peer : ℕ) → 0 < length peers → peer ≡ slice_index_or peers 0 peer → left ≡ remove peers 0 → peers ≡ peer ∷ left
+first_out [] left peer some is e = absurd (omega arith)
+first_out (p ∷ ps) left peer some is e = rw (is, e) refl
+
+pub none_waits : (peers : List ℕ) → length peers == 0 ≡ true → peers ≡ []
+none_waits [] e = refl
+none_waits (p ∷ ps) e = absurd (omega (arith, eqb-true (length (p ∷ ps)) 0 e))
+
+-- several replies in a row
+pub replies_both : (peers peers' peers'' : List ℕ) (items : List Item) (sent sent' sent'' : List (ℕ × List ℕ)) (m m' m'' : ℕ) (os os' os'' : List Outcome)
+    → Replies peers items sent m os peers' sent' m' os' → Replies peers' items sent' m' os' peers'' sent'' m'' os'' → Replies peers items sent m os peers'' sent'' m'' os''
+replies_both peers peers' peers'' items sent sent' sent'' m m' m'' os os' os'' a b received n t = b received n (a received n t)
+
+pub may_reply_then : (peers peers' : List ℕ) (items : List Item) (sent sent' sent'' : List (ℕ × List ℕ)) (m m' m'' : ℕ) (os os' os'' : List Outcome)
+    → Replies peers items sent m os peers' sent' m' os' → MayReply peers' items sent' m' os' sent'' m'' os'' → MayReply peers items sent m os sent'' m'' os''
+may_reply_then peers peers' items sent sent' sent'' m m' m'' os os' os'' a b received n t = b received n (a received n t)
+
+-- nothing is under way where each item has its outcome, and else it isn't so
+pub trading_of : (received sent : List (ℕ × List ℕ)) (n m : ℕ) (items : List Item) (os : List Outcome) → Traded received sent n m items os → Trading [] received sent n m items os
+trading_of received sent n m items os (frames, shown, far, mailed, len) = (frames, shown, far, mailed, ap (map peer_of) (drop_all (length os) items (omega arith)))
+
+pub traded_of : (received sent : List (ℕ × List ℕ)) (n m : ℕ) (items : List Item) (os : List Outcome) → Trading [] received sent n m items os → Traded received sent n m items os
+traded_of received sent n m items os (frames, shown, far, mailed, way) =
+    let le = mailed_long items os sent n m mailed in
+    let none : length (map peer_of (drop (length os) items)) ≡ 0 = ap length way in
+    let long = length-map (drop (length os) items) peer_of in
+    let left = length-drop (length os) items in
+    let len : length os ≡ length items = omega arith in
+    (frames, shown, far, mailed, len)
 
 -- Open, and its outcome
 pub begun : (items : List Item) (os : List Outcome) (o : Outcome) (n : ℕ) → items ≡ Event Open ∷ [] → os ≡ o ∷ [] → Traded [] [] n n items os
@@ -128,8 +181,8 @@ begun_part items os n e f = rw (e, f) (inr ([], refl, inl refl, inl (refl, omega
 pub not_begun : (items : List Item) (os : List Outcome) (n : ℕ) → items ≡ [] → os ≡ [] → Trades [] [] n n items os
 not_begun items os n e f = inl (refl, refl, e, f)
 
-pub most_of : (received sent : List (ℕ × List ℕ)) (n m : ℕ) (items : List Item) (os : List Outcome) → Traded received sent n m items os → Trades received sent n m items os
-most_of received sent n m items os (frames, shown, far, mailed, len) = inr (frames, shown, inl far, inl mailed)
+pub most_of : (peers : List ℕ) (received sent : List (ℕ × List ℕ)) (n m : ℕ) (items : List Item) (os : List Outcome) → Trading peers received sent n m items os → Trades received sent n m items os
+most_of peers received sent n m items os (frames, shown, far, mailed, way) = inr (frames, shown, inl far, inl mailed)
 
 -- receives that failed are counted too
 mailed_later : (items : List Item) (os : List Outcome) (sent : List (ℕ × List ℕ)) (n m p : ℕ) → Mailed items os sent n m → m ≤ p → Mailed items os sent n p
@@ -137,9 +190,10 @@ mailed_later items [] sent n m p (e, le) up = (e, omega arith)
 mailed_later [] (o ∷ os) sent n m p all up = absurd all
 mailed_later (i ∷ is) (o ∷ os) sent n m p (first, later, h, k, to, e, this, rest) up = (first, later, h, k, to, e, this, mailed_later is os later k m p rest up)
 
-pub traded_later : (received received' sent sent' : List (ℕ × List ℕ)) (n m p : ℕ) (items : List Item) (os : List Outcome) → Traded received sent n m items os → received' ≡ received → sent' ≡ sent → m ≤ p → Traded received' sent' n p items os
-traded_later received received' sent sent' n m p items os (frames, shown, far, mailed, len) a b up =
-    rw (a, b) (frames, shown, far, mailed_later items os sent n m p mailed up, len)
+pub trading_later : (peers : List ℕ) (received received' sent sent' : List (ℕ × List ℕ)) (n m p : ℕ) (items : List Item) (os : List Outcome) → Trading peers received sent n m items os → received' ≡ received → sent' ≡ sent → m ≤ p
+    → Trading peers received' sent' n p items os
+trading_later peers received received' sent sent' n m p items os (frames, shown, far, mailed, way) a b up =
+    rw (a, b) (frames, shown, far, mailed_later items os sent n m p mailed up, way)
 
 -- the pieces that an iterator gave, by their octets
 abbrev pub seen : List (List ℕ × Bor (List ℕ)) → List (List ℕ × List ℕ)

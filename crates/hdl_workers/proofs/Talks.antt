@@ -1,11 +1,10 @@
 -- A conversation grows by what is heard, put and written.
-use Rattle.std.proofs.Common.{◌≡◌, ◌⊎◌, inl, inr, ℕ, Option, Some, None, All, List, [], ◌∷◌, ◌++◌, length, map, refl, ap, sym, subst, append_assoc, append-nil, ◌∙◌, true}
+use Rattle.std.proofs.Common.{◌≡◌, inl, inr, ℕ, Option, List, [], ◌∷◌, ◌++◌, refl, ap, sym, subst, append_assoc, append-nil, ◌∙◌}
 use Rattle.std.proofs.lemmas.List.{map-append}
 use Rattle.std.proofs.lemmas.List.Elements.{All-push}
 use Rattle.std.proofs.lemmas.List.Folds.{concat-append}
 use Rattle.std.proofs.lemmas.List.Concat.{flat_map-append}
 use Rattle.std.specs.List.{flat_map, concat}
-use mathlib.Core.List.{IsPrefix}
 use Rattle.hdl_events.specs.declared.Outcome.{Outcome}
 use Rattle.hdl_events.specs.declared.What.TheVariants.{Bad}
 use Rattle.hdl_frame.specs.declared.envelope.FrameFault.{FrameFault}
@@ -15,8 +14,8 @@ use Rattle.hdl_workers.specs.declared.item.Item.TheVariants.{Event}
 use Rattle.hdl_workers.specs.Octets.{octets_of}
 use Rattle.hdl_workers.specs.Door.{Connection, hear}
 use Rattle.hdl_workers.specs.Line.{Relayed, RelayedPart}
-use Rattle.hdl_workers.specs.Sign.{Sign, opened, framed, faulty, closed, sign_of, signs_of, PutOne}
-use Rattle.hdl_workers.specs.Talk.{openings, fault_signs, FramesSoFar, AllFrames, SomeFrames, Ended, History, Underway, CutOff, AnyBeginning, Waiting}
+use Rattle.hdl_workers.specs.Sign.{Sign, opened, framed, faulty, sign_of, signs_of, PutOne}
+use Rattle.hdl_workers.specs.Talk.{fault_signs, FramesSoFar, AllFrames, SomeFrames, Ended, History, Underway, CutOff, Waiting}
 
 -- frames
 pub frame_next : (f rest read : List ℕ) (signs : List Sign) → FramesSoFar (f ++ rest) read signs → IsFrame f → FramesSoFar rest read (signs ++ framed 0 f ∷ [])

@@ -99,11 +99,25 @@ Trades received sent n m items os =
 abbrev pub Sends : (List (ℕ × List ℕ) → ℕ → ℕ → Type 0) → List (ℕ × List ℕ) → ℕ → List (ℕ × List ℕ) → ℕ → Type 0
 Sends P old n new m = (more : List (ℕ × List ℕ)) × (new ≡ old ++ more) × P more n m
 
--- what was traded before this datagram came is traded with it
-abbrev pub TradesOn : ℕ × List ℕ → List (ℕ × List ℕ) → List (ℕ × List ℕ) → ℕ → List Item → List Outcome → List (ℕ × List ℕ) → ℕ → List Item → List Outcome → Type 0
-TradesOn d received sent m items os sent' m' items' os' =
-    (n : ℕ) (earlier : List (ℕ × List ℕ)) → received ≡ earlier ++ d ∷ [] → Traded earlier sent n m items os → Traded received sent' n m' items' os'
+-- each datagram that is one frame was put, and each reply was sent but to these peers, the oldest first, whose frames have no outcome yet
+abbrev pub Trading : List ℕ → List (ℕ × List ℕ) → List (ℕ × List ℕ) → ℕ → ℕ → List Item → List Outcome → Type 0
+Trading peers received sent n m items os =
+    (frames : List Sign) × (signs_of items ≡ opened ∷ frames) × FramesOf received frames × Mailed items os sent n m × (map peer_of (drop (length os) items) ≡ map Some peers)
 
-abbrev pub MostTradesOn : ℕ × List ℕ → List (ℕ × List ℕ) → List (ℕ × List ℕ) → ℕ → List Item → List Outcome → List (ℕ × List ℕ) → ℕ → List Item → List Outcome → Type 0
-MostTradesOn d received sent m items os sent' m' items' os' =
-    (n : ℕ) (earlier : List (ℕ × List ℕ)) → received ≡ earlier ++ d ∷ [] → Traded earlier sent n m items os → MostTraded received sent' n m' items' os'
+-- with this datagram more is under way, or the turns cut it off
+abbrev pub TakesIn : ℕ × List ℕ → List ℕ → List Item → List ℕ → List Item → List Outcome → Type 0
+TakesIn d peers items peers' items' os =
+    (received sent : List (ℕ × List ℕ)) (n m : ℕ) → Trading peers received sent n m items os → Trading peers' (received ++ d ∷ []) sent n m items' os
+
+abbrev pub MayTakeIn : ℕ × List ℕ → List ℕ → List Item → List Item → List Outcome → Type 0
+MayTakeIn d peers items items' os =
+    (received sent : List (ℕ × List ℕ)) (n m : ℕ) → Trading peers received sent n m items os → MostTraded (received ++ d ∷ []) sent n m items' os
+
+-- with what was sent less is under way, or the turns cut it off
+abbrev pub Replies : List ℕ → List Item → List (ℕ × List ℕ) → ℕ → List Outcome → List ℕ → List (ℕ × List ℕ) → ℕ → List Outcome → Type 0
+Replies peers items sent m os peers' sent' m' os' =
+    (received : List (ℕ × List ℕ)) (n : ℕ) → Trading peers received sent n m items os → Trading peers' received sent' n m' items os'
+
+abbrev pub MayReply : List ℕ → List Item → List (ℕ × List ℕ) → ℕ → List Outcome → List (ℕ × List ℕ) → ℕ → List Outcome → Type 0
+MayReply peers items sent m os sent' m' os' =
+    (received : List (ℕ × List ℕ)) (n : ℕ) → Trading peers received sent n m items os → MostTraded received sent' n m' items os'

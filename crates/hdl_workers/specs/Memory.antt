@@ -1,5 +1,5 @@
 -- What a door in memory tells.
-use Rattle.std.specs.Prelude.{List, map, take}
+use Rattle.std.specs.Prelude.{take}
 use Rattle.hdl_workers.specs.declared.memory.MemoryConnection.{MemoryConnection}
 use Rattle.hdl_workers.specs.Door.{Connection}
 

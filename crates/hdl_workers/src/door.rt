@@ -127,6 +127,15 @@ pub trait Packets {
             (λ came. MatchOption came (received self.new ≡ received self.old) (λ d. received self.new ≡ received self.old ++ (d.0, take d.1 buffer.new) ∷ []))
             (λ _. received self.new ≡ received self.old) };
 
+    /// As [`receive`](Packets::receive), but it waits for none: one that came already.
+    fn receive_now(&mut self, buffer: &mut [u8]) -> Result<Option<(u16, usize)>, DoorFault>
+        ensures faults { Counts result (fault_count self.old) (fault_count self.new) }
+        ensures fits { IfOk result (λ came. IfSome came (λ d. (0 < d.0) × (d.0 ≤ PEERS_MAX) × (d.1 ≤ length buffer.new))) }
+        ensures sent { IsTrue tells → sent self.new ≡ sent self.old }
+        ensures received { IsTrue tells → MatchResult result
+            (λ came. MatchOption came (received self.new ≡ received self.old) (λ d. received self.new ≡ received self.old ++ (d.0, take d.1 buffer.new) ∷ []))
+            (λ _. received self.new ≡ received self.old) };
+
     /// Sends one datagram to the peer.
     fn send(&mut self, peer: u16, octets: &[u8]) -> Result<(), DoorFault>
         ensures faults { Counts result (fault_count self.old) (fault_count self.new) }
@@ -134,6 +143,15 @@ pub trait Packets {
         ensures sent { IsTrue tells → MatchResult result
             (λ _. sent self.new ≡ sent self.old ++ (peer, octets.now) ∷ [])
             (λ _. sent self.new ≡ sent self.old) };
+
+    /// What was sent is all that goes of the reply to the oldest frame without one.
+    fn replied(&mut self)
+        ensures faults { fault_count self.new ≡ fault_count self.old }
+        ensures received { IsTrue tells → received self.new ≡ received self.old }
+        ensures sent { IsTrue tells → sent self.new ≡ sent self.old };
+
+    /// How many frames may be under way, without a reply, before the next datagram is received: 1 to `UNDER_WAY_MAX`; others count as the nearest.
+    fn most_under_way(&self) -> usize;
 
     /// How many calls failed.
     fn faults(&self) -> u64

@@ -23,11 +23,17 @@ pub struct MemoryPackets {
     received: Vec<Letter>,
     sent: Vec<Letter>,
     faults: Faults,
+    under_way: usize,
 }
 
 impl MemoryPackets {
-    /// A place where these datagrams come in. The call with this number fails, from 1 on.
-    pub fn new(alloc: Global, coming: VecDeque<Letter>, fails: u64) -> MemoryPackets
+    /// A place where these datagrams come in, of which so many frames may be under way. The call with this number fails, from 1 on.
+    pub fn new(
+        alloc: Global,
+        coming: VecDeque<Letter>,
+        fails: u64,
+        under_way: usize,
+    ) -> MemoryPackets
         ensures fresh { (result.received.items ≡ []) × (result.sent.items ≡ []) }
     {
         MemoryPackets {
@@ -39,6 +45,7 @@ impl MemoryPackets {
                 until: fails,
                 count: 0,
             },
+            under_way,
         }
     }
 
@@ -62,6 +69,10 @@ impl Packets for MemoryPackets {
     ghost fault_count = { λ p. p.faults.count };
 
     fn receive(&mut self, buffer: &mut [u8]) -> Result<Option<(u16, usize)>, DoorFault> {
+        self.receive_now(buffer)
+    }
+
+    fn receive_now(&mut self, buffer: &mut [u8]) -> Result<Option<(u16, usize)>, DoorFault> {
         self.faults.call()?;
         if self.received.reserve(1).is_err() {
             return Err(self.faults.raise());
@@ -89,6 +100,12 @@ impl Packets for MemoryPackets {
             Ok(()) => Ok(()),
             Err(_) => Err(self.faults.raise()),
         }
+    }
+
+    fn replied(&mut self) {}
+
+    fn most_under_way(&self) -> usize {
+        self.under_way
     }
 
     fn faults(&self) -> u64 {

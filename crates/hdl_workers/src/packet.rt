@@ -1,7 +1,7 @@
 //! The worker of a datagram lane.
 
-ghost use Rattle.std.specs.Prelude.{◌≡◌, ◌≤◌, ◌<◌, ◌++◌, ◌∷◌, [], ◌⊎◌, ◌^◌, ◌-◌, ℕ, List, IsTrue, IsFalse, IfSome, MatchOption, MatchResult, length, take, replicate, ◌+◌};
-ghost use Rattle.hdl_frame.specs.Frames.{IsFrame};
+ghost use Rattle.std.specs.Prelude.{◌≡◌, ◌≤◌, ◌<◌, ◌++◌, ◌∷◌, [], ◌⊎◌, ◌^◌, ◌-◌, ℕ, List, IsTrue, IsFalse, IfOk, IfSome, MatchOption, MatchResult, length, take, replicate, ◌+◌};
+ghost use Rattle.hdl_limits.specs.declared.TheConstants.{UNDER_WAY_MAX};
 ghost use Rattle.hdl_workers.specs.declared.worker.Why.TheVariants.{Device};
 ghost use Rattle.hdl_workers.specs.declared.item.Item.{Item};
 ghost use Rattle.hdl_lanes.specs.Lane.{put_into, taken_from, all_put, SameOutlet};
@@ -9,17 +9,18 @@ ghost use Rattle.hdl_workers.specs.Door.{Counts, Gives};
 ghost use Rattle.hdl_workers.specs.Joined.{EndsLane};
 ghost use Rattle.hdl_workers.specs.Line.{put_by, taken_by, SameLine};
 ghost use Rattle.hdl_workers.specs.Sign.{framed, moments_of, nonces_of, MomentsUsed, NoncesUsed, PutOne, WithEnd};
-ghost use Rattle.hdl_workers.specs.Mail.{to_peer, SendsReply, BeginsReply, Sends, Traded, Trades, TradesOn, MostTradesOn};
+ghost use Rattle.hdl_workers.specs.Mail.{to_peer, SendsReply, BeginsReply, Sends, Traded, Trades, TakesIn, MayTakeIn, Replies, MayReply};
 
 use crate::line::Line;
 use crate::relay::octets_of;
 use crate::stream::copy;
 use crate::worker::{Why, WorkerEnd, open, put_end, spend};
 use crate::{Clock, DoorFault, Item, Nonces, Packets};
+use arrayvec::ArrayVec;
 use hdl_events::{Octets, Outcome, What};
 use hdl_frame::{ENVELOPE_LEN, one_datagram, pieces};
 use hdl_lanes::{Inlet, Outlet};
-use hdl_limits::{MESSAGE_MAX, PIECE_LEN};
+use hdl_limits::{MESSAGE_MAX, PIECE_LEN, UNDER_WAY_MAX};
 use std::alloc::Global;
 
 /// The most octets of a datagram that is sent.
@@ -130,10 +131,9 @@ fn await_outcome<C: Clock>(line: &mut Line, clock: &mut C, turns: &mut u64) -> O
     None
 }
 
-/// Puts the frame that came last, and sends the reply to it. Whether the turns sufficed.
-fn exchange<P: Packets, C: Clock, N: Nonces>(
+/// Puts the frame that came last. Whether the turns sufficed.
+fn submit<C: Clock, N: Nonces>(
     alloc: Global,
-    packets: &mut P,
     line: &mut Line,
     clock: &mut C,
     nonces: &mut N,
@@ -141,62 +141,160 @@ fn exchange<P: Packets, C: Clock, N: Nonces>(
     peer: u16,
     octets: &[u8],
 ) -> bool
-    requires frame { IsFrame octets.now }
     ensures turns { turns.new ≤ turns.old }
-    ensures faults { P.fault_count packets.old ≤ P.fault_count packets.new }
     ensures line { SameLine line.old line.new }
-    ensures received { IsTrue P.tells → P.received packets.new ≡ P.received packets.old }
+    ensures taken { taken_by line.new ≡ taken_by line.old }
+    ensures put { IsTrue result → PutOne (framed peer octets.now) (put_by line.old) (put_by line.new) }
+    ensures kept { IsFalse result → put_by line.new ≡ put_by line.old }
     ensures moments { IsTrue C.tells → MomentsUsed (C.answers clock.old) (put_by line.old) (C.answers clock.new) (put_by line.new) }
     ensures nonces { IsTrue N.tells → NoncesUsed (N.answers nonces.old) (put_by line.old) (N.answers nonces.new) (put_by line.new) }
-    ensures traded { IsTrue P.tells → IsTrue result → TradesOn (peer, octets.now) (P.received packets.old)
-        (P.sent packets.old) (P.fault_count packets.old) (put_by line.old) (taken_by line.old)
-        (P.sent packets.new) (P.fault_count packets.new) (put_by line.new) (taken_by line.new) }
-    ensures cut { IsTrue P.tells → IsFalse result → MostTradesOn (peer, octets.now) (P.received packets.old)
-        (P.sent packets.old) (P.fault_count packets.old) (put_by line.old) (taken_by line.old)
-        (P.sent packets.new) (P.fault_count packets.new) (put_by line.new) (taken_by line.new) }
 {
     match copy(alloc, octets, turns) {
-        Err(_) => return false,
-        Ok(bytes) => {
-            if !put_frame(line, clock, nonces, turns, peer, bytes) {
-                return false;
-            }
-        }
-    }
-    match await_outcome(line, clock, turns) {
-        None => false,
-        Some(outcome) => send_reply(packets, peer, octets_of(&outcome), turns),
+        Err(_) => false,
+        Ok(bytes) => put_frame(line, clock, nonces, turns, peer, bytes),
     }
 }
 
-/// Serves the datagram that came last. Whether the turns sufficed.
-fn serve_datagram<P: Packets, C: Clock, N: Nonces>(
+/// Puts the datagram that came last where it is a frame, whose peer then waits for a reply behind the others. Whether the turns sufficed.
+fn take_in<C: Clock, N: Nonces>(
     alloc: Global,
-    packets: &mut P,
     line: &mut Line,
+    peers: &mut ArrayVec<u16, UNDER_WAY_MAX>,
     clock: &mut C,
     nonces: &mut N,
     turns: &mut u64,
     peer: u16,
     octets: &[u8],
 ) -> bool
+    requires room { length peers.old.items < UNDER_WAY_MAX }
+    ensures turns { turns.new ≤ turns.old }
+    ensures line { SameLine line.old line.new }
+    ensures taken { taken_by line.new ≡ taken_by line.old }
+    ensures moments { IsTrue C.tells → MomentsUsed (C.answers clock.old) (put_by line.old) (C.answers clock.new) (put_by line.new) }
+    ensures nonces { IsTrue N.tells → NoncesUsed (N.answers nonces.old) (put_by line.old) (N.answers nonces.new) (put_by line.new) }
+    ensures took { IsTrue result → TakesIn (peer, octets.now) peers.old.items (put_by line.old) peers.new.items (put_by line.new) (taken_by line.new) }
+    ensures cut { IsFalse result → MayTakeIn (peer, octets.now) peers.old.items (put_by line.old) (put_by line.new) (taken_by line.new) }
+{
+    match one_datagram(octets) {
+        Err(_) => true,
+        Ok(_) => {
+            if !submit(alloc, line, clock, nonces, turns, peer, octets) {
+                return false;
+            }
+            peers.push(peer);
+            true
+        }
+    }
+}
+
+/// Takes the next outcome, and sends its reply to the peer that waits longest. Whether the turns sufficed.
+fn reply_oldest<P: Packets, C: Clock>(
+    packets: &mut P,
+    line: &mut Line,
+    peers: &mut ArrayVec<u16, UNDER_WAY_MAX>,
+    clock: &mut C,
+    turns: &mut u64,
+) -> bool
+    requires some { 0 < length peers.old.items }
+    ensures turns { turns.new ≤ turns.old }
+    ensures fewer { length peers.new.items < length peers.old.items }
+    ensures faults { P.fault_count packets.old ≤ P.fault_count packets.new }
+    ensures line { SameLine line.old line.new }
+    ensures put { put_by line.new ≡ put_by line.old }
+    ensures answers { IsTrue C.tells → C.answers clock.new ≡ C.answers clock.old }
+    ensures received { IsTrue P.tells → P.received packets.new ≡ P.received packets.old }
+    ensures replied { IsTrue P.tells → IsTrue result → Replies peers.old.items (put_by line.new)
+        (P.sent packets.old) (P.fault_count packets.old) (taken_by line.old) peers.new.items (P.sent packets.new) (P.fault_count packets.new) (taken_by line.new) }
+    ensures cut { IsTrue P.tells → IsFalse result → MayReply peers.old.items (put_by line.new)
+        (P.sent packets.old) (P.fault_count packets.old) (taken_by line.old) (P.sent packets.new) (P.fault_count packets.new) (taken_by line.new) }
+{
+    let peer = peers.remove(0);
+    match await_outcome(line, clock, turns) {
+        None => false,
+        Some(outcome) => {
+            let sufficed = send_reply(packets, peer, octets_of(&outcome), turns);
+            packets.replied();
+            sufficed
+        }
+    }
+}
+
+/// Sends the replies that are owed, each once its outcome is there. Whether the turns sufficed.
+fn reply_all<P: Packets, C: Clock>(
+    packets: &mut P,
+    line: &mut Line,
+    peers: &mut ArrayVec<u16, UNDER_WAY_MAX>,
+    clock: &mut C,
+    turns: &mut u64,
+) -> bool
     ensures turns { turns.new ≤ turns.old }
     ensures faults { P.fault_count packets.old ≤ P.fault_count packets.new }
     ensures line { SameLine line.old line.new }
+    ensures put { put_by line.new ≡ put_by line.old }
+    ensures answers { IsTrue C.tells → C.answers clock.new ≡ C.answers clock.old }
     ensures received { IsTrue P.tells → P.received packets.new ≡ P.received packets.old }
-    ensures moments { IsTrue C.tells → MomentsUsed (C.answers clock.old) (put_by line.old) (C.answers clock.new) (put_by line.new) }
-    ensures nonces { IsTrue N.tells → NoncesUsed (N.answers nonces.old) (put_by line.old) (N.answers nonces.new) (put_by line.new) }
-    ensures traded { IsTrue P.tells → IsTrue result → TradesOn (peer, octets.now) (P.received packets.old)
-        (P.sent packets.old) (P.fault_count packets.old) (put_by line.old) (taken_by line.old)
-        (P.sent packets.new) (P.fault_count packets.new) (put_by line.new) (taken_by line.new) }
-    ensures cut { IsTrue P.tells → IsFalse result → MostTradesOn (peer, octets.now) (P.received packets.old)
-        (P.sent packets.old) (P.fault_count packets.old) (put_by line.old) (taken_by line.old)
-        (P.sent packets.new) (P.fault_count packets.new) (put_by line.new) (taken_by line.new) }
+    ensures replied { IsTrue P.tells → IsTrue result → Replies peers.old.items (put_by line.new)
+        (P.sent packets.old) (P.fault_count packets.old) (taken_by line.old) [] (P.sent packets.new) (P.fault_count packets.new) (taken_by line.new) }
+    ensures cut { IsTrue P.tells → IsFalse result → MayReply peers.old.items (put_by line.new)
+        (P.sent packets.old) (P.fault_count packets.old) (taken_by line.old) (P.sent packets.new) (P.fault_count packets.new) (taken_by line.new) }
 {
-    match one_datagram(octets) {
-        Ok(_) => exchange(alloc, packets, line, clock, nonces, turns, peer, octets),
-        Err(_) => true,
+    while !peers.is_empty() {
+        if !reply_oldest(packets, line, peers, clock, turns) {
+            return false;
+        }
     }
+    true
+}
+
+/// Receives the next datagram, if one more frame may be under way. It waits for one only where no reply is owed.
+fn receive_next<P: Packets>(
+    packets: &mut P,
+    peers: &ArrayVec<u16, UNDER_WAY_MAX>,
+    buffer: &mut [u8],
+) -> Result<Option<(u16, usize)>, DoorFault>
+    ensures faults { Counts result (P.fault_count packets.old) (P.fault_count packets.new) }
+    ensures fits { IfOk result (λ came. IfSome came (λ d. d.1 ≤ length buffer.new)) }
+    ensures room { IfOk result (λ came. IfSome came (λ _. length peers.now.items < UNDER_WAY_MAX)) }
+    ensures sent { IsTrue P.tells → P.sent packets.new ≡ P.sent packets.old }
+    ensures received { IsTrue P.tells → MatchResult result
+        (λ came. MatchOption came (P.received packets.new ≡ P.received packets.old) (λ d. P.received packets.new ≡ P.received packets.old ++ (d.0, take d.1 buffer.new) ∷ []))
+        (λ _. P.received packets.new ≡ P.received packets.old) }
+{
+    let most = packets.most_under_way().max(1).min(UNDER_WAY_MAX);
+    if peers.len() >= most {
+        return Ok(None);
+    }
+    if peers.is_empty() {
+        packets.receive(buffer)
+    } else {
+        packets.receive_now(buffer)
+    }
+}
+
+/// No datagram came: sends the oldest reply that is owed, or pauses where none is. Whether the turns sufficed.
+fn go_on<P: Packets, C: Clock>(
+    packets: &mut P,
+    line: &mut Line,
+    peers: &mut ArrayVec<u16, UNDER_WAY_MAX>,
+    clock: &mut C,
+    turns: &mut u64,
+) -> bool
+    ensures turns { turns.new ≤ turns.old }
+    ensures faults { P.fault_count packets.old ≤ P.fault_count packets.new }
+    ensures line { SameLine line.old line.new }
+    ensures put { put_by line.new ≡ put_by line.old }
+    ensures answers { IsTrue C.tells → C.answers clock.new ≡ C.answers clock.old }
+    ensures received { IsTrue P.tells → P.received packets.new ≡ P.received packets.old }
+    ensures replied { IsTrue P.tells → IsTrue result → Replies peers.old.items (put_by line.new)
+        (P.sent packets.old) (P.fault_count packets.old) (taken_by line.old) peers.new.items (P.sent packets.new) (P.fault_count packets.new) (taken_by line.new) }
+    ensures cut { IsTrue P.tells → IsFalse result → MayReply peers.old.items (put_by line.new)
+        (P.sent packets.old) (P.fault_count packets.old) (taken_by line.old) (P.sent packets.new) (P.fault_count packets.new) (taken_by line.new) }
+{
+    if peers.is_empty() {
+        clock.pause();
+        return true;
+    }
+    reply_oldest(packets, line, peers, clock, turns)
 }
 
 /// Puts Open and takes its outcome. Whether the turns sufficed.
@@ -221,7 +319,7 @@ fn begin<C: Clock>(line: &mut Line, clock: &mut C, turns: &mut u64) -> bool
     }
 }
 
-/// One datagram after the other.
+/// One datagram after the other, of which some are under way.
 fn serve_packets<P: Packets, C: Clock, N: Nonces>(
     alloc: Global,
     packets: &mut P,
@@ -243,13 +341,23 @@ fn serve_packets<P: Packets, C: Clock, N: Nonces>(
         return Why::Turns;
     }
     let mut buffer = [0u8; RECEIVED_MAX];
+    let mut peers = ArrayVec::new();
     while spend(turns) {
-        match packets.receive(&mut buffer) {
-            Err(_) => return Why::Device,
-            Ok(None) => clock.pause(),
+        match receive_next(packets, &peers, &mut buffer) {
+            Err(_) => {
+                if reply_all(packets, line, &mut peers, clock, turns) {
+                    return Why::Device;
+                }
+                return Why::Turns;
+            }
+            Ok(None) => {
+                if !go_on(packets, line, &mut peers, clock, turns) {
+                    return Why::Turns;
+                }
+            }
             Ok(Some((peer, length))) => {
                 let octets = &buffer[..length];
-                if !serve_datagram(alloc, packets, line, clock, nonces, turns, peer, octets) {
+                if !take_in(alloc, line, &mut peers, clock, nonces, turns, peer, octets) {
                     return Why::Turns;
                 }
             }
@@ -258,11 +366,11 @@ fn serve_packets<P: Packets, C: Clock, N: Nonces>(
     Why::Turns
 }
 
-/// Serves one datagram after the other until the turns are spent or `receive` fails: then it puts End and ends with Device.
+/// Serves datagrams until the turns are spent or `receive` fails: then it sends the replies that are owed, puts End and ends with Device.
 ///
 /// It puts Open, and a Frame for each datagram that is one frame, in order, with the peer that sent it; other datagrams are dropped.
-/// Each outcome's octets are sent as their pieces to its event's peer before the next datagram is received; where a send fails the rest
-/// of that reply is dropped. Growths, full rings, moments and nonces are as with [`stream_worker`](crate::stream_worker).
+/// Each outcome's octets are sent as their pieces to its event's peer, in the same order. As many frames as the door says are under way at most, so that others
+/// are received, without waiting for them, while a reply is owed; where a send fails the rest of that reply is dropped. Growths, full rings, moments and nonces are as with [`stream_worker`](crate::stream_worker).
 #[tactic(auto, using(crate::proofs::Used::ended_rules))]
 pub fn packet_worker<P: Packets, C: Clock, N: Nonces>(
     alloc: Global,

@@ -1,10 +1,8 @@
-use Rattle.std.proofs.Common.{rules, ◌≡◌, ◌∙◌, ◌++◌, ◌∷◌, [], refl, ap}
+use Rattle.std.proofs.Common.{◌≡◌, ◌∙◌, ◌++◌, ◌∷◌, [], ap}
 use Rattle.hdl_events.specs.declared.What.TheVariants.{Open}
 use Rattle.hdl_workers.specs.declared.item.Item.TheVariants.{Event}
-use Rattle.hdl_workers.specs.Line.{put_by, taken_by}
-use Rattle.hdl_workers.specs.Sign.{nonce_of, nonces_of}
-use Rattle.hdl_workers.proofs.Used.{used_both, moments_still, no_moment, unused_one}
-use Rattle.hdl_workers.proofs.Mails.{begun, begun_part, not_begun}
+use Rattle.hdl_workers.specs.Line.{put_by}
+use Rattle.hdl_workers.proofs.Mails.{begun}
 use Rattle.hdl_workers.proofs.packet.begin.Goals as goal
 
 pub returns-in-Some-clause-traded : goal.returns-in-Some-clause-traded

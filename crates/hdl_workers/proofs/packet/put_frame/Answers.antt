@@ -1,4 +1,4 @@
-use Rattle.std.proofs.Common.{rules, ◌≡◌, ◌∙◌, refl, ap, ◌++◌, ◌∷◌, [], replicate}
+use Rattle.std.proofs.Common.{◌≡◌, refl, ◌++◌, ◌∷◌, [], replicate}
 use Rattle.hdl_events.specs.declared.What.TheVariants.{Frame}
 use Rattle.hdl_workers.specs.declared.item.Item.TheVariants.{Event}
 use Rattle.hdl_workers.specs.Line.{put_by}

@@ -1,4 +1,4 @@
-use Rattle.std.proofs.Common.{rules, arith, map, ◌++◌, ◌≡◌, ◌≤◌, append-nil, sym, ap, ◌∙◌, refl}
+use Rattle.std.proofs.Common.{rules, arith, map, ◌++◌, ◌≡◌, append-nil, sym, ap, ◌∙◌, refl}
 use Rattle.hdl_workers.specs.Mail.{ArePieces, to_peer}
 use Rattle.hdl_workers.proofs.Mails.{seen, seen_more, sent_more, short_at, failed_by, later_by, went_all, went_some, went_to_fault, part_of_whole}
 use Rattle.hdl_workers.proofs.packet.send_reply.Goals as goal

@@ -1,4 +1,4 @@
-use Rattle.std.proofs.Common.{◌≡◌, ◌≤◌, ◌++◌, IsTrue, List, ℕ, map}
+use Rattle.std.proofs.Common.{◌≡◌, ◌≤◌, ◌++◌, IsTrue, map}
 use Rattle.hdl_workers.specs.Mail.{to_peer}
 use Rattle.hdl_workers.proofs.Mails.{seen}
 use Rattle.hdl_workers.proofs.packet.send_reply.Given as goal

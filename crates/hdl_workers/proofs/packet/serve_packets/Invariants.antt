@@ -1,7 +1,7 @@
-use Rattle.std.proofs.Common.{◌≡◌, ◌≤◌, IsTrue}
+use Rattle.std.proofs.Common.{◌≤◌, IsTrue}
 use Rattle.hdl_workers.specs.Line.{put_by, taken_by, SameLine}
 use Rattle.hdl_workers.specs.Sign.{MomentsUsed, NoncesUsed}
-use Rattle.hdl_workers.specs.Mail.{Traded}
+use Rattle.hdl_workers.specs.Mail.{Trading}
 use Rattle.hdl_workers.proofs.packet.serve_packets.Given as goal
 
 abbrev pub invariant-loop-alloc : goal.invariant-loop-alloc
@@ -10,7 +10,7 @@ invariant-loop-alloc g l = record {
   line : SameLine l.fn.line l.line;
   moments : IsTrue g.C.Clock.tells → MomentsUsed (g.C.Clock.answers l.fn.clock) (put_by l.fn.line) (g.C.Clock.answers l.clock) (put_by l.line);
   nonces : IsTrue g.N.Nonces.tells → NoncesUsed (g.N.Nonces.answers l.fn.nonces) (put_by l.fn.line) (g.N.Nonces.answers l.nonces) (put_by l.line);
-  traded : IsTrue g.P.Packets.tells → Traded (g.P.Packets.received l.packets) (g.P.Packets.sent l.packets) (g.P.Packets.fault_count l.fn.packets) (g.P.Packets.fault_count l.packets) (put_by l.line) (taken_by l.line);
+  trading : IsTrue g.P.Packets.tells → Trading l.peers.items (g.P.Packets.received l.packets) (g.P.Packets.sent l.packets) (g.P.Packets.fault_count l.fn.packets) (g.P.Packets.fault_count l.packets) (put_by l.line) (taken_by l.line);
 }
 
 abbrev pub decreases-loop-alloc : goal.decreases-loop-alloc

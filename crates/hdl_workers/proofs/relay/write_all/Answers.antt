@@ -1,4 +1,4 @@
-use Rattle.std.proofs.Common.{rules, arith, ◌∙◌, take, drop, length, ◌-◌, refl, ap}
+use Rattle.std.proofs.Common.{rules, ◌∙◌, take, drop, length, ◌-◌, refl, ap}
 use Rattle.hdl_workers.specs.Door.{say}
 use Rattle.hdl_workers.proofs.Writes.{say_more, part_of}
 use Rattle.hdl_workers.proofs.relay.write_all.Goals as goal

@@ -1,4 +1,4 @@
-use Rattle.std.proofs.Common.{rules, ◌≡◌, ◌++◌, ap, refl}
+use Rattle.std.proofs.Common.{rules, ap, refl}
 use Rattle.hdl_workers.proofs.Used.{used_both, moments_still, nonces_still}
 use Rattle.hdl_workers.proofs.Talks.{all_cut, waiting_on, all_on, waiting_cut, all_relay_cut, waiting_all, heard_on, heard_cut}
 use Rattle.hdl_workers.proofs.stream.converse.Goals as goal

@@ -5,5 +5,5 @@ use Rattle.hdl_trail.proofs.trail.Trail.free_place.Goals as goal
 
 pub returns-clause-few : goal.returns-clause-few
 returns-clause-few c =
-    let le = all_held (followed c.args.self.now) c.loop-place.place c.loop-place.invariant in
+    let le = all_held (followed c.args.self.now) c.args.self.now.under_way.items c.loop-place.place c.loop-place.invariant in
     omega arith

@@ -1,7 +1,6 @@
 use Rattle.std.proofs.Common.{rules, arith, ◌≡◌, ◌≤◌, ◌+◌, ◌-◌, ◌++◌, ℕ, List, length, take, drop, sym, ap, ◌∙◌, length-drop}
 use Rattle.std.proofs.lemmas.List.{take_at, length-take}
 use Rattle.std.proofs.Math.Seq.{take-add}
-use Rattle.hdl_workers.specs.Door.{Connection}
 use Rattle.hdl_workers.specs.Memory.{connection_of}
 use Rattle.hdl_workers.proofs.memory.MemoryConnection.read.Goals as goal
 

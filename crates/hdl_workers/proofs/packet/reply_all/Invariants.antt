@@ -1,0 +1,19 @@
+use Rattle.std.proofs.Common.{◌≡◌, ◌≤◌, IsTrue, length}
+use Rattle.hdl_workers.specs.Line.{put_by, taken_by, SameLine}
+use Rattle.hdl_workers.specs.Mail.{Replies}
+use Rattle.hdl_workers.proofs.packet.reply_all.Given as goal
+
+abbrev pub invariant-loop-packets : goal.invariant-loop-packets
+invariant-loop-packets g l = record {
+  turns : l.turns ≤ l.initial.turns;
+  faults : g.P.Packets.fault_count l.initial.packets ≤ g.P.Packets.fault_count l.packets;
+  line : SameLine l.initial.line l.line;
+  put : put_by l.line ≡ put_by l.initial.line;
+  answers : IsTrue g.C.Clock.tells → g.C.Clock.answers l.clock ≡ g.C.Clock.answers l.initial.clock;
+  received : IsTrue g.P.Packets.tells → g.P.Packets.received l.packets ≡ g.P.Packets.received l.initial.packets;
+  replied : IsTrue g.P.Packets.tells → Replies l.initial.peers.items (put_by l.initial.line) (g.P.Packets.sent l.initial.packets) (g.P.Packets.fault_count l.initial.packets) (taken_by l.initial.line)
+      l.peers.items (g.P.Packets.sent l.packets) (g.P.Packets.fault_count l.packets) (taken_by l.line);
+}
+
+abbrev pub decreases-loop-packets : goal.decreases-loop-packets
+decreases-loop-packets g l = length l.peers.items
