@@ -51,6 +51,11 @@ impl Follower {
         self.unanswered.clear();
     }
 
+    /// A frame came that can't be followed, so it isn't certain any more which one is answered next.
+    pub fn lose(&mut self) {
+        self.is_lost = true;
+    }
+
     /// A frame came from a peer.
     pub fn asked(&mut self, peer: u16, frame: &[u8]) {
         if self.note(peer, frame).is_err() {

@@ -4,8 +4,7 @@ ghost use Rattle.std.specs.Prelude.{◌≡◌, ◌≤◌, ◌<◌, ◌+◌, ◌�
 ghost use Rattle.slab.specs.Slab.{get, slab_len, Updates, SameValues};
 ghost use Rattle.hdl_frame.specs.Frames.{IsFrame};
 ghost use Rattle.hdl_limits.specs.declared.TheConstants.{PEERS_MAX};
-ghost use Rattle.hdl_trail.specs.Exchange.{with_reply};
-ghost use Rattle.hdl_trail.specs.Peers.{address_among, holds};
+ghost use Rattle.hdl_trail.specs.Peers.{address_among, holds, reply_seen, settle_oldest, with_room};
 ghost use Rattle.hdl_crowd.specs.Book.{Goes, IsAt, IsNumberAt, Rests, SameBut};
 ghost use Rattle.hdl_crowd.specs.Joining.{said_of};
 ghost use Rattle.hdl_crowd.specs.Pace.{at_first};
@@ -124,7 +123,7 @@ impl Book {
     fn number(&mut self, member: Member, frame: &[u8]) -> Result<u16, Left>
         requires frame { IsFrame frame.now }
         ensures number { IfOk result (λ number. (0 < number) × (number ≤ PEERS_MAX) × (address_among self.new.peers.known number ≡ Some member)) }
-        ensures kept { (n : ℕ) → IsTrue (holds self.new.peers n) → IfSome (address_among self.old.peers.known n) (λ m. address_among self.new.peers.known n ≡ Some m) }
+        ensures kept { (n : ℕ) → IsTrue (holds (with_room self.old.peers) n) → IfSome (address_among self.old.peers.known n) (λ m. address_among self.new.peers.known n ≡ Some m) }
         ensures entries { self.new.entries ≡ self.old.entries }
         ensures last { self.new.last ≡ self.old.last }
     {
@@ -135,7 +134,7 @@ impl Book {
     }
 
     /// The frame that stands next on the connection at this place, copied to the front of the buffer: its number among the lane's peers, and its length. The
-    /// number is this connection's until the next frame, and longer while something is followed under it. None where no whole frame stands there; a faulty
+    /// number is this connection's until the reply is whole ([`replied`](Book::replied)), and longer while something is followed under it. None where no whole frame stands there; a faulty
     /// envelope is refused when it is met, and nothing is handed out behind it. What is an `Err` is for the caller to leave.
     pub fn next_frame(
         &mut self,
@@ -146,7 +145,7 @@ impl Book {
         ensures frame { IfOk result (λ found. IfSome found (λ f. (f.1 ≤ length buffer.new) × Goes self.old.entries self.new.entries place (hands (take f.1 buffer.new) ∷ []))) }
         ensures number { IfOk result (λ found. IfSome found (λ f. (0 < f.0) × (f.0 ≤ PEERS_MAX) × IsNumberAt self.new.peers.known self.new.entries f.0 place)) }
         ensures none { IfOk result (λ found. IfNone found (Rests self.old.entries self.new.entries place)) }
-        ensures kept { (n : ℕ) → IsTrue (holds self.new.peers n) → IfSome (address_among self.old.peers.known n) (λ m. address_among self.new.peers.known n ≡ Some m) }
+        ensures kept { (n : ℕ) → IsTrue (holds (with_room self.old.peers) n) → IfSome (address_among self.old.peers.known n) (λ m. address_among self.new.peers.known n ≡ Some m) }
         ensures others { SameBut place self.old.entries self.new.entries }
         ensures last { self.new.last ≡ self.old.last }
     {
@@ -159,19 +158,28 @@ impl Book {
         }
     }
 
-    /// A datagram of the reply to the frame that was handed out last, which had this number: it is said to the connection that has the number, whose place
+    /// A datagram of the reply to the oldest frame without a whole one, which had this number: it is said to the connection that has the number, whose place
     /// is answered. None where that is left, or memory is refused; then nothing is said.
     pub fn answered(&mut self, number: u16, datagram: &[u8]) -> Option<usize>
         ensures said { IfSome result (λ place. IsNumberAt self.old.peers.known self.old.entries number place × Goes self.old.entries self.new.entries place (says (said_of datagram.now) ∷ [])) }
         ensures unsaid { IfNone result (SameValues self.old.entries self.new.entries) }
         ensures known { self.new.peers.known ≡ self.old.peers.known }
         ensures followed { self.new.peers.followed ≡ self.old.peers.followed }
-        ensures exchange { self.new.peers.exchange ≡ option_map (with_reply datagram.now) self.old.peers.exchange }
+        ensures under_way { self.new.peers.under_way ≡ reply_seen datagram.now self.old.peers.under_way }
         ensures last { self.new.last ≡ self.old.last }
     {
         self.peers.answered(datagram);
         let member = self.peers.address(number)?;
         self.say(member, datagram)
+    }
+
+    /// The reply to the oldest frame is whole, or there is none.
+    pub fn replied(&mut self)
+        ensures peers { self.new.peers ≡ settle_oldest self.old.peers }
+        ensures entries { self.new.entries ≡ self.old.entries }
+        ensures last { self.new.last ≡ self.old.last }
+    {
+        self.peers.replied();
     }
 
     /// Says a datagram to this connection, if it is there.

@@ -429,6 +429,19 @@ impl<R: std::rt::Clock + Eprint + Drop> Packets for SocketCrowd<R> {
         }
     }
 
+    /// None: one frame is under way at a time.
+    fn receive_now(&mut self, _buffer: &mut [u8]) -> Result<Option<(u16, usize)>, DoorFault> {
+        Ok(None)
+    }
+
+    fn replied(&mut self) {
+        self.crowd.book.replied();
+    }
+
+    fn most_under_way(&self) -> usize {
+        1
+    }
+
     fn send(&mut self, peer: u16, octets: &[u8]) -> Result<(), DoorFault> {
         if let Some(recorder) = &mut self.recorder {
             if let Some(entry) = recorder.answered(peer, octets) {

@@ -18,8 +18,8 @@
 //!
 //! # Decisions
 //!
-//! - **Calls that wait for a peer wait in the kernel, a second at most**: `accept`, `recv_from` and `read` by the sockets' time to receive. So an
-//!   idle worker makes one call a second. Interrupted calls, and a peer that gave up before it was accepted, count as nothing that came; any
+//! - **Calls that wait for a peer wait in the kernel, a second at most**: `accept` and `read` by the sockets' time to receive, a datagram by a `poll` of its
+//!   sockets. So an idle worker makes one call or two a second. Interrupted calls, and a peer that gave up before it was accepted, count as nothing that came; any
 //!   other failure of `accept` or `recv_from` ends the worker, and the server with status 1 in the end.
 //! - **A connection is closed as if its peer had closed it** (`watch`): `read` answers 0, or `write` fails, and the worker does what it does then. So
 //!   no clause of a worker knows of time. A frame that is begun must be whole within ten seconds of waiting for it; what an answer before

@@ -26,6 +26,25 @@ impl Lookout {
         })
     }
 
+    /// Registers these sockets for good, of a look that has no others. A thread that alone takes from them, and takes all that came before it waits, needs no
+    /// more.
+    pub fn watch<S: AsRawFd>(&mut self, sockets: &[S]) -> io::Result<()> {
+        for socket in sockets {
+            let descriptor = socket.as_raw_fd();
+            let mut source = SourceFd(&descriptor);
+            self.poll
+                .registry()
+                .register(&mut source, READY, Interest::READABLE)?;
+        }
+        Ok(())
+    }
+
+    /// Whether something came for one of the sockets that are watched since all was taken, for which it waits so long at most.
+    pub fn waits(&mut self, most: Duration) -> bool {
+        let looked = self.poll.poll(&mut self.events, Some(most));
+        looked.is_ok() && !self.events.is_empty()
+    }
+
     /// Whether one of the sockets is ready, for which it waits so long at most. They are registered for this one look: one that was
     /// ready before is told of then, and what comes between two looks wakes nobody.
     pub fn sees<S: AsRawFd>(&mut self, sockets: &[S], most: Duration) -> bool {

@@ -1,14 +1,20 @@
 //! The machine's datagram sockets as doors. They tell nothing.
 
+ghost use Rattle.std.specs.Prelude.{◌≤◌, ◌<◌, length, IfOk, IfSome};
+ghost use Rattle.hdl_limits.specs.declared.TheConstants.{PEERS_MAX};
+ghost use Rattle.hdl_workers.specs.Door.{Counts};
+
 use crate::ending::Ending;
 use crate::instead::too_long;
 use crate::proven::Proven;
-use crate::recorder::Recorder;
+use crate::recorder::{PacketRecorder, Recorder};
 use crate::sockets::{PacketSocket, Sockets, nothing_came};
 use hdl_frame::{ENVELOPE_LEN, Envelope};
+use hdl_limits::UNDER_WAY_MAX;
 use hdl_serve::{DoorFault, Packets};
 use hdl_trail::Peers;
 use std::alloc::Global;
+use std::io;
 use std::net::SocketAddr;
 use std::sync::Arc;
 
@@ -22,7 +28,7 @@ pub struct Origin {
     address: SocketAddr,
 }
 
-/// How far the reply to the last frame is.
+/// How far the reply to the oldest frame is.
 #[derive(Clone, Copy)]
 enum Course {
     /// Nothing of it was sent.
@@ -42,15 +48,36 @@ struct Post<R> {
     proven: Proven<R, Origin>,
     course: Course,
     ending: Arc<Ending>,
-    recorder: Option<Recorder<R>>,
+    recorder: Option<PacketRecorder<R>>,
 }
 
 impl<R: std::rt::Clock + Eprint + Drop> Post<R> {
     /// A frame came from the peer with this number.
     fn came(&mut self, peer: u16, frame: &[u8]) {
+        if let Some(recorder) = &mut self.recorder {
+            recorder.came(peer, frame);
+        }
+    }
+
+    /// The reply to the oldest frame is whole, or there is none.
+    fn replied(&mut self) {
+        self.peers.replied();
         self.course = Course::Begins;
         if let Some(recorder) = &mut self.recorder {
-            recorder.asked_alone(peer, frame);
+            recorder.replied();
+        }
+    }
+
+    /// Takes a datagram that came, and waits for one if it may.
+    fn take(
+        &mut self,
+        buffer: &mut [u8],
+        may_wait: bool,
+    ) -> io::Result<(usize, (usize, SocketAddr))> {
+        if may_wait {
+            self.sockets.take(buffer)
+        } else {
+            self.sockets.take_now(buffer)
         }
     }
 
@@ -67,7 +94,7 @@ impl<R: std::rt::Clock + Eprint + Drop> Post<R> {
     /// Sends octets back to where they are asked from. Whether they went.
     fn send_back(&self, to: Origin, octets: &[u8]) -> bool {
         match self.sockets.get(to.place) {
-            Some(packets) => packets.socket.send_to(octets, to.address).is_ok(),
+            Some(packets) => packets.send(octets, to.address),
             None => false,
         }
     }
@@ -145,6 +172,10 @@ impl<R: std::rt::Clock + Eprint + Drop> SocketPackets<R> {
         ending: Arc<Ending>,
         recorder: Option<Recorder<R>>,
     ) -> SocketPackets<R> {
+        let recorder = match recorder {
+            Some(recorder) => Some(PacketRecorder::new(recorder)),
+            None => None,
+        };
         let post = Post {
             alloc,
             sockets,
@@ -158,24 +189,22 @@ impl<R: std::rt::Clock + Eprint + Drop> SocketPackets<R> {
     }
 }
 
-impl<R: std::rt::Clock + Eprint + Drop> Packets for SocketPackets<R> {
-    ghost use Rattle.std.specs.Prelude.{false, []};
-
-    ghost tells = { false };
-
-    ghost received = { λ _. [] };
-
-    ghost sent = { λ _. [] };
-
-    ghost fault_count = { λ p. p.faults };
-
-    fn receive(&mut self, buffer: &mut [u8]) -> Result<Option<(u16, usize)>, DoorFault> {
+impl<R: std::rt::Clock + Eprint + Drop> SocketPackets<R> {
+    /// The next frame: its peer's number, and its length.
+    fn next_frame(
+        &mut self,
+        buffer: &mut [u8],
+        may_wait: bool,
+    ) -> Result<Option<(u16, usize)>, DoorFault>
+        ensures faults { Counts result self.old.faults self.new.faults }
+        ensures fits { IfOk result (λ came. IfSome came (λ d. (0 < d.0) × (d.0 ≤ PEERS_MAX) × (d.1 ≤ length buffer.new))) }
+    {
         if self.post.ending.is_asked() {
             self.faults = self.faults.saturating_add(1);
             return Err(DoorFault);
         }
         for _ in 0..PASSED {
-            match self.post.sockets.take(buffer) {
+            match self.post.take(buffer, may_wait) {
                 Ok((place, (length, address))) => {
                     let length = length.min(buffer.len());
                     let from = Origin { place, address };
@@ -192,6 +221,34 @@ impl<R: std::rt::Clock + Eprint + Drop> Packets for SocketPackets<R> {
             }
         }
         Ok(None)
+    }
+}
+
+impl<R: std::rt::Clock + Eprint + Drop> Packets for SocketPackets<R> {
+    ghost use Rattle.std.specs.Prelude.{false, []};
+
+    ghost tells = { false };
+
+    ghost received = { λ _. [] };
+
+    ghost sent = { λ _. [] };
+
+    ghost fault_count = { λ p. p.faults };
+
+    fn receive(&mut self, buffer: &mut [u8]) -> Result<Option<(u16, usize)>, DoorFault> {
+        self.next_frame(buffer, true)
+    }
+
+    fn receive_now(&mut self, buffer: &mut [u8]) -> Result<Option<(u16, usize)>, DoorFault> {
+        self.next_frame(buffer, false)
+    }
+
+    fn replied(&mut self) {
+        self.post.replied();
+    }
+
+    fn most_under_way(&self) -> usize {
+        UNDER_WAY_MAX
     }
 
     fn send(&mut self, peer: u16, octets: &[u8]) -> Result<(), DoorFault> {

@@ -5,6 +5,7 @@ use crate::log::Log;
 use hdl_audit::{Answer, Entry, Follower, Moment};
 use hdl_frame::Cutter;
 use std::alloc::{AllocError, Global};
+use std::collections::VecDeque;
 use std::io;
 use std::net::SocketAddr;
 use std::rt::Clock;
@@ -113,6 +114,73 @@ impl<R: Clock + Eprint + Drop> Recorder<R> {
         if let Some(log) = &mut self.log {
             log.put(&self.rt, line.as_str());
         }
+    }
+}
+
+/// A frame of a lane of datagrams that isn't the oldest under way.
+#[derive(Drop)]
+struct Waiting {
+    peer: u16,
+    frame: Vec<u8>,
+}
+
+/// Reads along with the frames of a lane of datagrams, of which several may be under way: each is followed once it is the oldest, so that it is certain which
+/// one a reply answers.
+#[derive(Drop)]
+pub struct PacketRecorder<R> {
+    recorder: Recorder<R>,
+    /// The frames behind the oldest, where there is a log.
+    waiting: VecDeque<Waiting>,
+    /// Whether the oldest is followed.
+    is_busy: bool,
+}
+
+impl<R: Clock + Eprint + Drop> PacketRecorder<R> {
+    /// Of a lane that got no frame yet.
+    pub fn new(recorder: Recorder<R>) -> PacketRecorder<R> {
+        let alloc = recorder.alloc;
+        PacketRecorder {
+            recorder,
+            waiting: VecDeque::new(alloc),
+            is_busy: false,
+        }
+    }
+
+    /// A frame came.
+    pub fn came(&mut self, peer: u16, frame: &[u8]) {
+        if self.recorder.log.is_none() {
+            return;
+        }
+        if !self.is_busy {
+            self.is_busy = true;
+            self.recorder.asked_alone(peer, frame);
+        } else if self.wait(peer, frame).is_err() {
+            self.recorder.follower.lose();
+        }
+    }
+
+    fn wait(&mut self, peer: u16, frame: &[u8]) -> Result<(), AllocError> {
+        let frame = Vec::from_slice(self.recorder.alloc, frame)?;
+        self.waiting.push_back(Waiting { peer, frame })?;
+        Ok(())
+    }
+
+    /// The reply to the oldest frame is whole, or there is none.
+    pub fn replied(&mut self) {
+        match self.waiting.pop_front() {
+            Some(next) => self.recorder.asked_alone(next.peer, next.frame.as_slice()),
+            None => self.is_busy = false,
+        }
+    }
+
+    /// A datagram of the reply to the oldest frame goes. The entry of the change that it ends, where there is a log.
+    pub fn answered(&mut self, peer: u16, datagram: &[u8]) -> Option<Entry> {
+        self.recorder.answered(peer, datagram)
+    }
+
+    /// Writes the line of an entry. Where memory for it is refused it is lost.
+    pub fn put(&mut self, from: Option<SocketAddr>, entry: &Entry) {
+        self.recorder.put(from, entry);
     }
 }
 

@@ -73,6 +73,25 @@ impl AsRawFd for PacketSocket {
     }
 }
 
+impl PacketSocket {
+    /// Sends octets to an address. Where the kernel has no room for them it waits until there is some. Whether they went.
+    pub fn send(&self, octets: &[u8], to: SocketAddr) -> bool {
+        match self.socket.send_to(octets, to) {
+            Ok(_) => true,
+            Err(e) if e.kind() == ErrorKind::WouldBlock => self.send_late(octets, to),
+            Err(_) => false,
+        }
+    }
+
+    fn send_late(&self, octets: &[u8], to: SocketAddr) -> bool {
+        if self.socket.set_nonblocking(false).is_err() {
+            return false;
+        }
+        let sent = self.socket.send_to(octets, to).is_ok();
+        self.socket.set_nonblocking(true).is_ok() && sent
+    }
+}
+
 impl Source for PacketSocket {
     /// How many octets, and the sender.
     type Taken = (usize, SocketAddr);
@@ -96,6 +115,8 @@ pub struct Sockets<S> {
     /// The place of the one that is asked first.
     first: usize,
     lookout: Lookout,
+    /// Whether the look has all of them for good.
+    is_watched: bool,
     most: Duration,
 }
 
@@ -115,8 +136,39 @@ impl<S: Source + Drop> Sockets<S> {
             sockets,
             first: 0,
             lookout: Lookout::new(rt, alloc)?,
+            is_watched: false,
             most,
         })
+    }
+
+    /// Sockets from which one thread alone takes. Their calls don't wait; a look at them all does, for so long at most.
+    pub fn watched<R: Net>(
+        rt: &R,
+        alloc: Global,
+        sockets: Vec<S>,
+        most: Duration,
+    ) -> io::Result<Sockets<S>> {
+        for socket in &sockets {
+            socket.limit(None)?;
+        }
+        let mut lookout = Lookout::new(rt, alloc)?;
+        lookout.watch(sockets.as_slice())?;
+        Ok(Sockets {
+            sockets,
+            first: 0,
+            lookout,
+            is_watched: true,
+            most,
+        })
+    }
+
+    /// Looks for something that came, for so long at most. Whether there is something.
+    fn looks(&mut self, most: Duration) -> bool {
+        if self.is_watched {
+            self.lookout.waits(most)
+        } else {
+            self.lookout.sees(self.sockets.as_slice(), most)
+        }
     }
 
     /// All of them.
@@ -131,7 +183,7 @@ impl<S: Source + Drop> Sockets<S> {
 
     /// Whether something came for one of them, without waiting.
     pub fn has_more(&mut self) -> bool {
-        self.lookout.sees(self.sockets.as_slice(), Duration::ZERO)
+        self.looks(Duration::ZERO)
     }
 
     /// Takes what came for one of them already, with its place. Each is asked once, the one that gave something last at the end, so that none keeps another
@@ -158,8 +210,8 @@ impl<S: Source + Drop> Sockets<S> {
     /// Takes what came for one of them, with its place. It may wait for a while.
     pub fn take(&mut self, buffer: &mut [u8]) -> io::Result<(usize, S::Taken)> {
         match self.take_now(buffer) {
-            Err(e) if nothing_came(e.kind()) && self.sockets.len() > 1 => {
-                self.lookout.sees(self.sockets.as_slice(), self.most);
+            Err(e) if nothing_came(e.kind()) && (self.is_watched || self.sockets.len() > 1) => {
+                self.looks(self.most);
                 self.take_now(buffer)
             }
             answer => answer,

@@ -98,8 +98,8 @@ impl<L: Made, S: Serving> Clock for Beside<L, S> {
     fn worked(&mut self) {}
 }
 
-/// How a worker runs: its lane, the room of its rings, the most octets that a read gives, which call of its door fails, its turns, and
-/// how many turns are served once it has ended.
+/// How a worker runs: its lane, the room of its rings, the most octets that a read gives or the most frames of a datagram lane under way, which call of
+/// its door fails, its turns, and how many turns are served once it has ended.
 #[derive(Clone, Copy)]
 pub struct Plan {
     pub lane: u16,

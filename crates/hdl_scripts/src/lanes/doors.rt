@@ -143,7 +143,7 @@ fn work_packets<S: Serving + Drop>(
 ) -> io::Result<S> {
     let mut nonces = source(alloc)?;
     let pair = pair_of(alloc, plan.lane, plan.capacity)?;
-    let mut packets = MemoryPackets::new(alloc, coming, plan.fails);
+    let mut packets = MemoryPackets::new(alloc, coming, plan.fails, plan.most);
     let Some(ran) = run_packets::<Brand, S>(alloc, serving, pair, &mut packets, &mut nonces, plan)
     else {
         return Err(bad());
