@@ -323,10 +323,31 @@ def full(folder):
     process.stderr.close()
 
 
+def together(folder):
+    """Clients by datagrams that ask at the same time, all with the same RequestIds, and between their frames pieces of messages that nobody makes whole."""
+    log = os.path.join(folder, "together.log")
+    process, (acme, _) = servers.serve(tenants, 2, options=("--log", log))
+    clients, strangers = ([Datagrams(acme) for _ in range(8)] for _ in range(2))
+    handles = [b"10/together-%d" % number for number in range(len(clients))]
+    piece = b"\2\1\x20\0" + wire.number(0) + wire.number(1) + wire.number(0) + wire.number(600) + b"x" * 492
+    for client, handle, stranger in zip(clients, handles, strangers):
+        stranger.socket.send(piece)
+        client.send(create(handle))
+    asked = [client.reply() for client in clients]
+    yield "each is challenged", all(code_of(reply) == wire.AUTHENTICATION_NEEDED for _, reply in asked) and len({session for session, _ in asked}) == len(clients)
+    for client, handle, stranger, (session, reply) in zip(clients, handles, strangers, asked):
+        client.send(wire.response(create(handle), KEY, b"0.NA/10", 300, nonce=reply[-20:-4]), session)
+        stranger.socket.send(piece)
+    yield "each is done", [code_of(client.reply()[1]) for client in clients] == [wire.SUCCESS] * len(clients)
+    lines = ["acme 1 %s create %s %s 1" % (client.address, handle.decode(), REFERENCE) for client, handle in zip(clients, handles)]
+    yield "the log of datagrams that came together", sorted(logged(log, len(lines)) or []) == sorted(lines)
+    servers.end(process)
+
+
 def main():
     passed, failed = 0, 0
     with tempfile.TemporaryDirectory() as folder:
-        for part in (watched, busy_end, failing, full):
+        for part in (watched, together, busy_end, failing, full):
             for case, holds in part(folder):
                 passed += holds
                 failed += not holds
