@@ -407,7 +407,12 @@ impl<R: std::rt::Clock + Eprint + Drop> Packets for SocketCrowd<R> {
 
     ghost fault_count = { λ p. p.faults };
 
-    fn receive(&mut self, buffer: &mut [u8]) -> Result<Option<(u16, usize)>, DoorFault> {
+    /// It may wait: one frame is under way at a time.
+    fn receive(
+        &mut self,
+        buffer: &mut [u8],
+        _may_wait: bool,
+    ) -> Result<Option<(u16, usize)>, DoorFault> {
         let before = self.now();
         self.crowd.look_round(before);
         if self.crowd.entrance.seat.is_ending() {
@@ -427,11 +432,6 @@ impl<R: std::rt::Clock + Eprint + Drop> Packets for SocketCrowd<R> {
             }
             _ => Ok(None),
         }
-    }
-
-    /// None: one frame is under way at a time.
-    fn receive_now(&mut self, _buffer: &mut [u8]) -> Result<Option<(u16, usize)>, DoorFault> {
-        Ok(None)
     }
 
     fn replied(&mut self) {

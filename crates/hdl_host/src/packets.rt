@@ -1,9 +1,5 @@
 //! The machine's datagram sockets as doors. They tell nothing.
 
-ghost use Rattle.std.specs.Prelude.{◌≤◌, ◌<◌, length, IfOk, IfSome};
-ghost use Rattle.hdl_limits.specs.declared.TheConstants.{PEERS_MAX};
-ghost use Rattle.hdl_workers.specs.Door.{Counts};
-
 use crate::ending::Ending;
 use crate::instead::too_long;
 use crate::proven::Proven;
@@ -189,16 +185,22 @@ impl<R: std::rt::Clock + Eprint + Drop> SocketPackets<R> {
     }
 }
 
-impl<R: std::rt::Clock + Eprint + Drop> SocketPackets<R> {
-    /// The next frame: its peer's number, and its length.
-    fn next_frame(
+impl<R: std::rt::Clock + Eprint + Drop> Packets for SocketPackets<R> {
+    ghost use Rattle.std.specs.Prelude.{false, []};
+
+    ghost tells = { false };
+
+    ghost received = { λ _. [] };
+
+    ghost sent = { λ _. [] };
+
+    ghost fault_count = { λ p. p.faults };
+
+    fn receive(
         &mut self,
         buffer: &mut [u8],
         may_wait: bool,
-    ) -> Result<Option<(u16, usize)>, DoorFault>
-        ensures faults { Counts result self.old.faults self.new.faults }
-        ensures fits { IfOk result (λ came. IfSome came (λ d. (0 < d.0) × (d.0 ≤ PEERS_MAX) × (d.1 ≤ length buffer.new))) }
-    {
+    ) -> Result<Option<(u16, usize)>, DoorFault> {
         if self.post.ending.is_asked() {
             self.faults = self.faults.saturating_add(1);
             return Err(DoorFault);
@@ -221,26 +223,6 @@ impl<R: std::rt::Clock + Eprint + Drop> SocketPackets<R> {
             }
         }
         Ok(None)
-    }
-}
-
-impl<R: std::rt::Clock + Eprint + Drop> Packets for SocketPackets<R> {
-    ghost use Rattle.std.specs.Prelude.{false, []};
-
-    ghost tells = { false };
-
-    ghost received = { λ _. [] };
-
-    ghost sent = { λ _. [] };
-
-    ghost fault_count = { λ p. p.faults };
-
-    fn receive(&mut self, buffer: &mut [u8]) -> Result<Option<(u16, usize)>, DoorFault> {
-        self.next_frame(buffer, true)
-    }
-
-    fn receive_now(&mut self, buffer: &mut [u8]) -> Result<Option<(u16, usize)>, DoorFault> {
-        self.next_frame(buffer, false)
     }
 
     fn replied(&mut self) {

@@ -116,19 +116,14 @@ pub trait Packets {
     /// How many calls failed, up to the greatest u64.
     ghost fault_count: { Self → ℕ };
 
-    /// A datagram at the front of the buffer: its peer, from 1 to `PEERS_MAX`, and its length. None: none came for a while, or one of a peer
-    /// beyond.
+    /// A datagram at the front of the buffer: its peer, from 1 to `PEERS_MAX`, and its length. None: none came, for a while where it may wait for one, or one of a
+    /// peer beyond.
     /// A datagram longer than the buffer is cut to it.
-    fn receive(&mut self, buffer: &mut [u8]) -> Result<Option<(u16, usize)>, DoorFault>
-        ensures faults { Counts result (fault_count self.old) (fault_count self.new) }
-        ensures fits { IfOk result (λ came. IfSome came (λ d. (0 < d.0) × (d.0 ≤ PEERS_MAX) × (d.1 ≤ length buffer.new))) }
-        ensures sent { IsTrue tells → sent self.new ≡ sent self.old }
-        ensures received { IsTrue tells → MatchResult result
-            (λ came. MatchOption came (received self.new ≡ received self.old) (λ d. received self.new ≡ received self.old ++ (d.0, take d.1 buffer.new) ∷ []))
-            (λ _. received self.new ≡ received self.old) };
-
-    /// As [`receive`](Packets::receive), but it waits for none: one that came already.
-    fn receive_now(&mut self, buffer: &mut [u8]) -> Result<Option<(u16, usize)>, DoorFault>
+    fn receive(
+        &mut self,
+        buffer: &mut [u8],
+        may_wait: bool,
+    ) -> Result<Option<(u16, usize)>, DoorFault>
         ensures faults { Counts result (fault_count self.old) (fault_count self.new) }
         ensures fits { IfOk result (λ came. IfSome came (λ d. (0 < d.0) × (d.0 ≤ PEERS_MAX) × (d.1 ≤ length buffer.new))) }
         ensures sent { IsTrue tells → sent self.new ≡ sent self.old }

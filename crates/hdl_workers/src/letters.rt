@@ -68,11 +68,11 @@ impl Packets for MemoryPackets {
 
     ghost fault_count = { λ p. p.faults.count };
 
-    fn receive(&mut self, buffer: &mut [u8]) -> Result<Option<(u16, usize)>, DoorFault> {
-        self.receive_now(buffer)
-    }
-
-    fn receive_now(&mut self, buffer: &mut [u8]) -> Result<Option<(u16, usize)>, DoorFault> {
+    fn receive(
+        &mut self,
+        buffer: &mut [u8],
+        _may_wait: bool,
+    ) -> Result<Option<(u16, usize)>, DoorFault> {
         self.faults.call()?;
         if self.received.reserve(1).is_err() {
             return Err(self.faults.raise());

@@ -264,11 +264,7 @@ fn receive_next<P: Packets>(
     if peers.len() >= most {
         return Ok(None);
     }
-    if peers.is_empty() {
-        packets.receive(buffer)
-    } else {
-        packets.receive_now(buffer)
-    }
+    packets.receive(buffer, peers.is_empty())
 }
 
 /// No datagram came: sends the oldest reply that is owed, or pauses where none is. Whether the turns sufficed.
