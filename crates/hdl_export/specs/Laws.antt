@@ -4,13 +4,16 @@ use Rattle.std.specs.List.{AllByRecursion, flat_map}
 use Rattle.std.specs.Str.Lines.{lines}
 use Rattle.hdl_name.specs.Name.{IsHandle}
 use Rattle.hdl_value.specs.Fault.{IsSound}
+use Rattle.hdl_value.specs.Place.{Place}
 use Rattle.hdl_rows.specs.Table.{Table}
 use Rattle.hdl_tenants.specs.Lines.{fields_of}
 use Rattle.hdl_tenants.specs.Register.{Register, Row, IsRegister, prefixes_of}
 use Rattle.hdl_tenants.specs.Text.{opened, IsLine, IsAccepted}
 use Rattle.hdl_export.specs.Lines.{Lacks, is_sayable, value_line, text_of, is_other, IsWritable}
-use Rattle.hdl_export.specs.Prefixes.{prefix_named, AreAmong}
-use Rattle.hdl_export.specs.Rows.{rows_in}
+use Rattle.hdl_reach.specs.Laws.{IsOnward}
+use Rattle.hdl_laws.specs.Isolation.{EachCovered}
+use Rattle.hdl_export.specs.Prefixes.{prefix_named, prefix_given, AreAmong}
+use Rattle.hdl_export.specs.Rows.{rows_in, foreign_rows}
 
 -- the text of lines without a line feed has these lines
 abbrev pub LinesAreRead : Type 0
@@ -49,12 +52,12 @@ RowsAreOnly = (texts : List (List ℕ)) (r s : Register) (rows : List Row) → I
 abbrev pub prefixes_in : List (List ℕ) → List (List ℕ)
 prefixes_in texts = flat_map (λ line. prefix_named (fields_of line)) texts
 
--- The text has the lines that say no value, and those of the rows with the prefixes that they host.
-pub record IsWritten (texts : List (List ℕ)) (t : Table) (out : List ℕ) : Type 0 where
+-- The text has the lines that say no value, and those of the rows with these prefixes.
+pub record IsWritten (texts prefixes : List (List ℕ)) (t : Table) (out : List ℕ) : Type 0 where
   pub authorities : List (List ℕ)
-  pub all : AreAmong (codes "0.na" ∷ prefixes_in texts) authorities
-  pub text : out ≡ text_of (written_lines texts (rows_in (prefixes_in texts) authorities t))
-  pub rows : AllByRecursion IsWritableRow (rows_in (prefixes_in texts) authorities t)
+  pub all : AreAmong (codes "0.na" ∷ prefixes) authorities
+  pub text : out ≡ text_of (written_lines texts (rows_in prefixes authorities t))
+  pub rows : AllByRecursion IsWritableRow (rows_in prefixes authorities t)
 
 -- The text that was given says a register. The text that was written says the same publishers and prefixes, and the rows of the table with these
 -- prefixes, under all of their authorities.
@@ -64,3 +67,28 @@ pub record IsExport (texts : List (List ℕ)) (t : Table) (out : List ℕ) : Typ
   pub authorities : List (List ℕ)
   pub all : AreAmong (codes "0.na" ∷ prefixes_of register.hostings) authorities
   pub written : IsAccepted (lines out) (with_rows register (rows_in (prefixes_of register.hostings) authorities t))
+
+-- ---- what is written of one publisher
+
+-- the prefixes that the lines of a text give to the publisher of this name
+abbrev pub prefixes_for : List ℕ → List (List ℕ) → List (List ℕ)
+prefixes_for name texts = flat_map (λ line. prefix_given name (fields_of line)) texts
+
+-- what the rows refer to that a text says
+pub record HasCover (texts : List (List ℕ)) (places : List Place) : Type 0 where
+  pub register : Register
+  pub read : IsAccepted texts register
+  pub covered : EachCovered places (map (λ row. row.1) register.opening)
+
+-- The text that was given says a register. The text that was written says the same publishers and prefixes, the rows of the table with the
+-- prefixes of this publisher, and of the rows with other prefixes those at the places of a cover: all that its rows refer to, and all that the
+-- lists there refer to.
+pub record IsPublisherExport (texts : List (List ℕ)) (name : List ℕ) (t : Table) (out : List ℕ) : Type 0 where
+  pub register : Register
+  pub given : IsAccepted texts register
+  pub authorities : List (List ℕ)
+  pub all : AreAmong (codes "0.na" ∷ prefixes_for name texts) authorities
+  pub cover : List Place
+  pub rows : EachCovered cover (map (λ row. row.1) (rows_in (prefixes_for name texts) authorities t))
+  pub onward : IsOnward t cover
+  pub written : IsAccepted (lines out) (with_rows register (rows_in (prefixes_for name texts) authorities t ++ foreign_rows (prefixes_for name texts) t cover))
