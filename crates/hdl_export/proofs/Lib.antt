@@ -8,4 +8,5 @@ pub mod Feeds
 pub mod Hosted
 pub mod Covered
 pub mod ForeignRows
+pub mod Moves
 pub mod Whole

@@ -1,19 +1,23 @@
 -- What is written is read back.
-use Rattle.std.specs.Prelude.{◌≡◌, ◌++◌, ◌∷◌, ℕ, List, map, filter, codes, IsTrue}
+use Rattle.std.specs.Prelude.{◌≡◌, ◌++◌, ◌∷◌, ℕ, true, List, Some, map, filter, codes, IsTrue}
 use Rattle.std.specs.List.{AllByRecursion, flat_map}
 use Rattle.std.specs.Str.Lines.{lines}
-use Rattle.hdl_name.specs.Name.{IsHandle}
+use Rattle.hdl_name.specs.Name.{IsHandle, canonical, prefix}
+use Rattle.hdl_value.specs.declared.value.Value.{Value}
 use Rattle.hdl_value.specs.Fault.{IsSound}
 use Rattle.hdl_value.specs.Place.{Place}
-use Rattle.hdl_rows.specs.Table.{Table}
+use Rattle.hdl_rows.specs.Table.{Table, has, at, IsPlaced}
+use Rattle.hdl_rows.specs.Table as table
 use Rattle.hdl_tenants.specs.Lines.{fields_of}
 use Rattle.hdl_tenants.specs.Register.{Register, Row, IsRegister, prefixes_of}
 use Rattle.hdl_tenants.specs.Text.{opened, IsLine, IsAccepted}
 use Rattle.hdl_export.specs.Lines.{Lacks, is_sayable, value_line, text_of, is_other, IsWritable}
 use Rattle.hdl_reach.specs.Laws.{IsOnward}
-use Rattle.hdl_laws.specs.Isolation.{EachCovered}
+use Rattle.hdl_laws.specs.Worlds.{World, hosts}
+use Rattle.hdl_laws.specs.Isolation.{EachCovered, IsClosed, restrict}
+use Rattle.hdl_core.specs.Opening.{opening_table}
 use Rattle.hdl_export.specs.Prefixes.{prefix_named, prefix_given, AreAmong}
-use Rattle.hdl_export.specs.Rows.{rows_in, foreign_rows}
+use Rattle.hdl_export.specs.Rows.{is_among, rows_in, foreign_rows}
 
 -- the text of lines without a line feed has these lines
 abbrev pub LinesAreRead : Type 0
@@ -92,3 +96,30 @@ pub record IsPublisherExport (texts : List (List ℕ)) (name : List ℕ) (t : Ta
   pub rows : EachCovered cover (map (λ row. row.1) (rows_in (prefixes_for name texts) authorities t))
   pub onward : IsOnward t cover
   pub written : IsAccepted (lines out) (with_rows register (rows_in (prefixes_for name texts) authorities t ++ foreign_rows (prefixes_for name texts) t cover))
+
+-- ---- what a moved publisher has
+
+-- The table is one that the service makes: values stand at handles that are there, in canonical form, each at its own index. A text says each
+-- handle with one of these prefixes: it has a value, and a line can name it.
+pub record IsSayable (prefixes : List (List ℕ)) (t : Table) : Type 0 where
+  pub placed : IsPlaced t
+  pub canonical : (h : List ℕ) → has t h ≡ true → canonical h ≡ h
+  pub indexed : (p : Place) (v : Value) → at t p ≡ Some v → v.index ≡ p.index
+  pub named : (h : List ℕ) → has t h ≡ true → IsTrue (is_among (prefix h) prefixes) → IsTrue (is_sayable h)
+  pub valued : (h : List ℕ) → has t h ≡ true → IsTrue (is_among (prefix h) prefixes) → (i : ℕ) × (v : Value) × (at t (table.place h i) ≡ Some v)
+
+-- the world with another table
+abbrev pub with_table : World → Table → World
+with_table w t = record { site = w.site; table = t; lanes = w.lanes }
+
+-- a publisher that hosts just these prefixes
+abbrev pub HostsJust : World → ℕ → List (List ℕ) → Type 0
+HostsJust w u prefixes = (prefix : List ℕ) → hosts w.site u prefix ≡ is_among prefix prefixes
+
+-- Over a table whose rows a text says, a publisher's export has a cover for it: what the publisher has of a world with this table, and the values
+-- at the cover, are what it has of the same world with the table of the text.
+abbrev pub PublisherMoves : Type 0
+PublisherMoves =
+    (texts : List (List ℕ)) (name : List ℕ) (t : Table) (out : List ℕ) (x : IsPublisherExport texts name t out) (s : Register) → IsAccepted (lines out) s → IsSayable (prefixes_for name texts) t
+    → (w : World) (u : ℕ) → w.table ≡ t → HostsJust w u (prefixes_for name texts)
+    → IsClosed (hosts w.site u) x.cover t × (restrict w u x.cover ≡ restrict (with_table w (opening_table s.opening)) u x.cover)

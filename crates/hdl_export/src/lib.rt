@@ -38,7 +38,9 @@ mod text;
 mod writing;
 
 pub use fault::ExportFault;
-pub use laws::{lines_are_read, register_is_read, rows_are_only, value_line_is_read};
+pub use laws::{
+    lines_are_read, publisher_moves, register_is_read, rows_are_only, value_line_is_read,
+};
 pub use left::{LeftOut, left_out, left_out_of};
 pub use line::value_line;
 pub use writing::{export, export_publisher};
