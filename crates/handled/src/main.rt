@@ -108,9 +108,9 @@ fn run(rt: &HostRuntime) -> Result<Next, TabledFault> {
             let text = read_text(rt)?;
             Ok(Next::Ended(check_text(rt, text.as_str())?))
         }
-        Asked::Export { table } => {
+        Asked::Export { table, publisher } => {
             let text = read_text(rt)?;
-            Ok(Next::Ended(export_on(rt, &table, text.as_str())?))
+            Ok(Next::Ended(export_on(rt, &table, text.as_str(), publisher)?))
         }
         Asked::Replay { table: None } => Ok(Next::Ended(replayed(rt)?)),
         Asked::Replay { table: Some(file) } => {

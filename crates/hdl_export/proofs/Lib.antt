@@ -8,5 +8,6 @@ pub mod Feeds
 pub mod Hosted
 pub mod Covered
 pub mod ForeignRows
+pub mod HostedFor
 pub mod Moves
 pub mod Whole

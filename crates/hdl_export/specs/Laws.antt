@@ -10,7 +10,7 @@ use Rattle.hdl_rows.specs.Table.{Table, has, at, IsPlaced}
 use Rattle.hdl_rows.specs.Table as table
 use Rattle.hdl_tenants.specs.Lines.{fields_of}
 use Rattle.hdl_tenants.specs.Register.{Register, Row, IsRegister, prefixes_of}
-use Rattle.hdl_tenants.specs.Text.{opened, IsLine, IsAccepted}
+use Rattle.hdl_tenants.specs.Text.{opened, place_of, IsLine, IsAccepted}
 use Rattle.hdl_export.specs.Lines.{Lacks, is_sayable, value_line, text_of, is_other, IsWritable}
 use Rattle.hdl_reach.specs.Laws.{IsOnward}
 use Rattle.hdl_laws.specs.Worlds.{World, hosts}
@@ -112,14 +112,16 @@ pub record IsSayable (prefixes : List (List ℕ)) (t : Table) : Type 0 where
 abbrev pub with_table : World → Table → World
 with_table w t = record { site = w.site; table = t; lanes = w.lanes }
 
--- a publisher that hosts just these prefixes
-abbrev pub HostsJust : World → ℕ → List (List ℕ) → Type 0
-HostsJust w u prefixes = (prefix : List ℕ) → hosts w.site u prefix ≡ is_among prefix prefixes
+-- Over the table of the second text a publisher has what it had. Both texts say the same lanes and prefixes; the places are a cover for it at the
+-- start; and what it has of the world, with the values at the cover, is what it has of the world with the table that the second text opens.
+pub record IsMoved (w : World) (u : ℕ) (cover : List Place) (old new : Register) : Type 0 where
+  pub publishers : new.publishers ≡ old.publishers
+  pub hostings : new.hostings ≡ old.hostings
+  pub closed : IsClosed (hosts w.site u) cover w.table
+  pub same : restrict w u cover ≡ restrict (with_table w (opening_table new.opening)) u cover
 
--- Over a table whose rows a text says, a publisher's export has a cover for it: what the publisher has of a world with this table, and the values
--- at the cover, are what it has of the same world with the table of the text.
+-- A publisher's export moves the publisher of its name, in each world with the table that was exported and the prefixes of the text that was given.
 abbrev pub PublisherMoves : Type 0
 PublisherMoves =
     (texts : List (List ℕ)) (name : List ℕ) (t : Table) (out : List ℕ) (x : IsPublisherExport texts name t out) (s : Register) → IsAccepted (lines out) s → IsSayable (prefixes_for name texts) t
-    → (w : World) (u : ℕ) → w.table ≡ t → HostsJust w u (prefixes_for name texts)
-    → IsClosed (hosts w.site u) x.cover t × (restrict w u x.cover ≡ restrict (with_table w (opening_table s.opening)) u x.cover)
+    → (w : World) → w.table ≡ t → w.site.hostings ≡ x.register.hostings → IsMoved w (place_of name x.register.publishers) x.cover x.register s
