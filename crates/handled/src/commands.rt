@@ -182,7 +182,9 @@ fn export_command<'a>(alloc: Global) -> Result<Command<'a>, AllocError> {
             Arg::new(alloc, "publisher")
                 .long("publisher")
                 .value_name("NAME")
-                .help("Write the values of this publisher's prefixes alone, and those on which its answers rest")
+                .help(
+                    "Write the values of this publisher's prefixes alone, and those on which its answers rest",
+                )
                 .action(ArgAction::Set),
         )
 }

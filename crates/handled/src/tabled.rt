@@ -249,6 +249,11 @@ fn export_over<T: Rows + Closing + Drop>(
     Ok(status)
 }
 
+/// Whether nothing can be opened at the path of the table's file yet.
+pub fn is_new(rt: &HostRuntime, file: &TableFile) -> bool {
+    File::open(rt, file.path.as_str()).is_err()
+}
+
 /// Prints the table in the file as a tenants text, or the part of the publisher of this name, and answers the exit status. The file is opened as
 /// a server's start opens it, but none is made.
 pub fn export_on(
@@ -257,7 +262,7 @@ pub fn export_on(
     text: &str,
     publisher: Option<String>,
 ) -> Result<u8, TabledFault> {
-    if File::open(rt, file.path.as_str()).is_err() {
+    if is_new(rt, file) {
         return Err(TabledFault::Table(TableFault::CannotOpen));
     }
     let tenants = tenants_of(rt.alloc(), text)?;
