@@ -2,7 +2,8 @@
 
 A server over a file gets changes from a client; then the file is written as a tenants text. Its lines are compared with those that are made here of what was written, in the order of handles and
 indexes; a server that opens with the text answers every resolution with the same octets; what is written of that one is the same text, octet for octet; and a text that has one publisher's lines alone
-gives its rows alone, with which it answers the same. Then what no text says, and what is refused, in words. Its last line is 'N passed, M failed', a case counting one."""
+gives its rows alone, with which it answers the same. Then `--publisher`: of three publishers, of whom the first leaves a handle to a list of the second, which leads to a list of the third and back, the first one's export has its rows
+and what these lists lead to, and a server that opens with it answers it as the old one does, changes by each administrator too. Then what no text says, and what is refused, in words. Its last line is 'N passed, M failed', a case counting one."""
 
 import contextlib
 import os
@@ -18,6 +19,7 @@ import wire
 
 KEY = b"example-secret"
 ADMIN, KEPT = 0x0E, 0x0C
+NO_ADMINISTRATOR = 400
 
 
 def administrator(key):
@@ -36,12 +38,30 @@ def url(index, data, permission=ADMIN):
 HEADS = {
     "acme": ["# acme, which has two prefixes", "publisher acme 4 %d", "prefix 10 acme", "prefix 10.5 acme 3"],
     "bolt": ["publisher bolt 2 %d", "prefix 20 bolt"],
+    "cork": ["publisher cork 3 %d", "prefix 30 cork 3"],
 }
 OPENING = owner(b"0.NA/10") + owner(b"0.NA/20") + [(b"10.5/b", url(1, b"https://b/"))]
 CREATED = [(b"10/a", [url(2, b"https://a/2"), url(1, b"https://a/1"), administrator(b"0.NA/10")]), (b"10/A", [url(1, b"https://A/"), administrator(b"0.NA/10")]),
            (b"20/x", [url(7, b"kept", KEPT), administrator(b"0.NA/20")])]
 # what a text can't say
 UNSAYABLE = [(handle, [url(1, b"https://space/"), administrator(b"0.NA/10")]) for handle in (b"10/with a space", b"10/with\na line")]
+
+
+def key(handle):
+    return handle, wire.value(300, b"HS_SECKEY", KEY, KEPT, 86400)
+
+
+def listing(handle, *references):
+    """The row of a list."""
+    return handle, wire.value(1, b"HS_VLIST", wire.listed(wire.reference(*one) for one in references), ADMIN, 86400)
+
+
+# acme leaves a handle to a list of bolt's, which leads to bolt's key and to a list of cork's; that leads to cork's key, and back
+LEFT_TO = [(b"10/c", url(2, b"https://c/2", KEPT)), (b"10/c", wire.value(100, b"HS_ADMIN", wire.administrator(b"20/l", 1), ADMIN, 86400))]
+COVER = [listing(b"20/l", (b"20/k", 300), (b"30/l", 1), (b"20/none", 1)), key(b"20/k"), listing(b"30/l", (b"30/k", 300), (b"20/l", 1)), key(b"30/k")]
+# what acme's answers don't rest on
+BESIDE = owner(b"0.NA/30") + [key(b"20/other"), (b"20/l", url(2, b"https://beside/")), (b"30/x", url(1, b"https://x/"))]
+THREE = ("acme", "bolt", "cork")
 
 
 def heads(names, ports):
@@ -148,6 +168,77 @@ def exported(folder):
     yield from left_out(folder, file, done.stdout)
 
 
+def conversation(port):
+    """What is answered to each request of acme's: who may read and change a handle that is left to others' lists, and what became of it."""
+    found = []
+    with servers.Client(port) as client:
+        found += [client.send(wire.resolution(handle)) for handle in (b"10/a", b"10/c", b"10.5/b", b"0.NA/10", b"10/none", b"20/l", b"30/x")]
+    for handle in (b"0.NA/10", b"20/k", b"30/k", b"20/other"):
+        with servers.Client(port, handle) as client:
+            found.append(client.asked(wire.resolution(b"10/c", (2,))))
+    for handle in (b"20/other", b"30/k"):
+        with servers.Client(port, handle) as client:
+            found += [client.modify(b"10/c", [url(2, b"https://changed/" + handle, KEPT)]), client.create(b"10/" + handle[:2], [url(1, b"new")])]
+    with servers.Client(port) as client:
+        found += [client.create(b"10/new", [url(1, b"https://new/"), administrator(b"0.NA/10")]), client.delete(b"10/c"), client.delete(b"10/a")]
+        found.append(client.asked(wire.message(wire.LIST, wire.string(b"0.NA/10"))))
+    with servers.Client(port, b"20/k") as client:
+        found += [client.delete(b"10/c"), client.send(wire.resolution(b"10/c"))]
+    return found
+
+
+@contextlib.contextmanager
+def started(given, *options):
+    """A server with this text as it stands, whose ports are free again."""
+    process = servers.start([servers.HANDLED, "serve", *options], given, len(THREE))
+    if process is None:
+        sys.exit("exports: the ports of a server that ended are taken")
+    try:
+        yield
+    finally:
+        servers.end(process)
+
+
+def moved(folder):
+    """One publisher's part of a table: its lines, and that a server answers with it as the one that has the whole table."""
+    file = os.path.join(folder, "three.db")
+    rows = OPENING + LEFT_TO + COVER + BESIDE
+    with serving(THREE, lambda ports: text(THREE, ports, rows), "--table", file) as ports:
+        yield "what is to be moved is created", write(ports, CREATED[:2])
+    given = text(THREE, ports, [])
+    done = export(given, "--table", file, "--publisher", "acme")
+    lines = [stamped(line) for line in done.stdout.decode().splitlines()]
+    own = [row for row in OPENING + LEFT_TO if b"20" not in row[0]] + [(handle, value) for handle, values in CREATED[:2] for value in values]
+    front = heads(THREE, ports) + expected(own)
+    yield "the lines of a publisher", (done.returncode, done.stderr, lines[:len(front)]) == (0, b"", front)
+    yield "the lines of what it rests on", sorted(lines[len(front):]) == sorted(expected(COVER))
+    with started(given, "--table", file):
+        old = conversation(ports["acme"])
+    yield "administrators are found over two lists", [one[0] for one in old[7:11]] == [NO_ADMINISTRATOR, wire.SUCCESS, wire.SUCCESS, NO_ADMINISTRATOR]
+    yield "a change by one goes through", (old[11], old[13]) == (NO_ADMINISTRATOR, wire.SUCCESS)
+    with started(done.stdout):
+        yield "the same answers of a publisher that moved", conversation(ports["acme"]) == old
+    other = export(given, "--table", file, "--publisher", "bolt")
+    yield "a publisher that rests on others", (other.returncode, sorted(stamped(line) for line in other.stdout.decode().splitlines() if line.startswith("value 30"))) == (0, expected(COVER[2:]))
+    none = export(given, "--table", file, "--publisher", "none")
+    yield "no such publisher", (none.returncode, none.stdout, none.stderr.split(b"\n")[0]) == (2, b"", b"error: invalid value 'none' for '--publisher <NAME>': the text has no publisher of this name")
+    yield from unsaid(given, file, ports)
+
+
+def unsaid(given, file, ports):
+    """A publisher that rests on a handle which no line names is refused; others go on."""
+    with started(given, "--table", file):
+        yield "a list at a handle that no text says", write(ports, [(b"20/a list", [listing(b"20/a list", (b"20/k", 300))[1], administrator(b"0.NA/20")])])
+        yield "a handle that is left to it", write(ports, [(b"10/d", [wire.value(100, b"HS_ADMIN", wire.administrator(b"20/a list", 1), ADMIN, 86400), wire.value(101, b"HS_ADMIN", wire.administrator(b"0.NA/10", 300), ADMIN, 86400)])])
+    done = export(given, "--table", file, "--publisher", "acme")
+    said = b"no text says this publisher: a list or a key that its values refer to stands at a handle with a space or a line feed in its name\n"
+    yield "a publisher that no text says", (done.returncode, done.stdout, done.stderr) == (4, b"", said)
+    done = export(given, "--table", file, "--publisher", "bolt")
+    yield "what is left out of a publisher", (done.returncode, done.stderr[:17]) == (5, b"export: left out,")
+    done = export(given, "--table", file, "--publisher", "cork")
+    yield "another publisher has nothing left out", (done.returncode, done.stderr) == (0, b"")
+
+
 def left_out(folder, file, sayable):
     """What no text says is told by its number, and the rest is written."""
     both = ("acme", "bolt")
@@ -179,7 +270,7 @@ def refused(folder):
 def main():
     passed, failed = 0, 0
     with tempfile.TemporaryDirectory() as folder:
-        for part in (exported(folder), refused(folder)):
+        for part in (exported(folder), moved(folder), refused(folder)):
             for case, holds in part:
                 passed += holds
                 failed += not holds

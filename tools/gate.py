@@ -1,5 +1,5 @@
 """The gate of a submission, from nothing: the definitions quoted in docs/, the map, what pages cite and what must be believed, ./test, memory refused in turn, random scripts,
-the examples, answers that are none, the proxy for browsers, imports, what README shows, a table in a file over kills, addresses, clients that hold a lane, come in a crowd, from many ports or are strangers, what is
+the examples, answers that are none, the proxy for browsers, imports, what README shows, a table in a file over kills, addresses, clients that hold a lane, come in a crowd, from many ports or are strangers, an operator's day, what is
 installed, and a dry run of each benchmark.
 
 Before its last line it prints what each crate and each part took, in processor minutes, and names the crates that took more than docs/GATE.md
@@ -39,6 +39,7 @@ PARTS = (
     [sys.executable, "tools/ports.py"],
     [sys.executable, "tools/bounds.py"],
     [sys.executable, "tools/watches.py"],
+    [sys.executable, "tools/operates.py"],
     [sys.executable, "tools/copies.py"],
     [sys.executable, "tools/listens.py"],
     [sys.executable, "tools/amplify.py"],

@@ -4,10 +4,12 @@ what standard error has as it begins and as it ends. Clients at each address are
 It takes some three seconds. Its last line is 'N passed, M failed', a case counting one."""
 
 import contextlib
+import os
 import re
 import socket
 import subprocess
 import sys
+import tempfile
 import time
 
 # nothing is left beside the tools
@@ -131,11 +133,11 @@ def fault_of(options, ports, address, port):
 
 
 def port_is_taken():
-    """A port that another program has, at one of the addresses, is told."""
+    """A port that another program has, at one of the addresses, is told, and no file is made for the table."""
     first, second = servers.free_ports(2)
-    with socket.create_server(("127.0.0.1", second)):
-        said = fault_of([], (first, second), "127.0.0.1", second)
-    return said and b"another port" in said
+    with socket.create_server(("127.0.0.1", second)), tempfile.TemporaryDirectory() as folder:
+        said = [fault_of(options, (first, second), "127.0.0.1", second) for options in ([], ["--table", os.path.join(folder, "new.db")])]
+        return all(one and b"another port" in one for one in said) and not os.listdir(folder)
 
 
 def not_ours():

@@ -75,7 +75,7 @@ impl BoundFault {
 }
 
 /// Whether the text has a publisher of this name.
-fn has_publisher(tenants: &Tenants, name: &str) -> bool {
+pub fn has_publisher(tenants: &Tenants, name: &str) -> bool {
     for place in 0..tenants.publishers() {
         if let Some((publisher, _, _)) = tenants.publisher(place) {
             if publisher == name {

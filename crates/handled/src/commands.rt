@@ -177,6 +177,15 @@ fn export_command<'a>(alloc: Global) -> Result<Command<'a>, AllocError> {
                 .help("The SQLite file of the table, which no server has open")
                 .action(ArgAction::Set)
                 .required(true),
+        )?
+        .arg(
+            Arg::new(alloc, "publisher")
+                .long("publisher")
+                .value_name("NAME")
+                .help(
+                    "Write the values of this publisher's prefixes alone, and those on which its answers rest",
+                )
+                .action(ArgAction::Set),
         )
 }
 

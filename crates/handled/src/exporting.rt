@@ -1,7 +1,9 @@
 //! Writing a table as a tenants text.
 
+use crate::bounds::has_publisher;
 use crate::tabled::TabledFault;
-use hdl_export::{ExportFault, export, left_out};
+use hdl_core::Tenants;
+use hdl_export::{ExportFault, LeftOut, export, export_publisher, left_out, left_out_of};
 use hdl_replay::{Fault, put_all};
 use hdl_rows::Rows;
 
@@ -12,28 +14,54 @@ const INCOMPLETE: u8 = 5;
 pub fn status_of(fault: &ExportFault) -> u8 {
     match fault {
         ExportFault::Given { .. } => 3,
-        ExportFault::Row | ExportFault::Written { .. } => 4,
+        ExportFault::Row | ExportFault::Unsayable | ExportFault::Written { .. } => 4,
         ExportFault::Memory => Fault::NoMemory.status(),
         ExportFault::Store => Fault::StoreRefused.status(),
     }
 }
 
 /// Says on standard error how many handles the text doesn't say; answers the exit status.
-fn say_left_out<R: Rows>(rt: &HostRuntime, text: &str, rows: &mut R) -> Result<u8, ExportFault> {
-    let left = left_out(rt.alloc(), text, rows)?;
+fn say_left_out(rt: &HostRuntime, left: LeftOut) -> u8 {
     if left.empty == 0 && left.unsayable == 0 {
-        return Ok(0);
+        return 0;
     }
     let (empty, unsayable) = (left.empty, left.unsayable);
     let _ = eprintln!(rt;
         "export: left out, since no tenants text says them: {empty} handles without a value, {unsayable} with a space or a line feed in the name"
     );
-    Ok(INCOMPLETE)
+    INCOMPLETE
+}
+
+/// Whether the text has a publisher of the name that was given, if one was; says on standard error where it hasn't.
+pub fn has_named(rt: &HostRuntime, tenants: &Tenants, publisher: &Option<String>) -> bool {
+    let Some(name) = publisher else {
+        return true;
+    };
+    if has_publisher(tenants, name.as_str()) {
+        return true;
+    }
+    let _ = eprintln!(rt;
+        "error: invalid value '{name}' for '--publisher <NAME>': the text has no publisher of this name\n\nFor more information, try '--help'."
+    );
+    false
 }
 
 /// Prints the table as a tenants text, with the publishers and prefixes of this one. Answers the exit status.
 pub fn put_export<R: Rows>(rt: &HostRuntime, text: &str, rows: &mut R) -> Result<u8, TabledFault> {
     let out = export(rt.alloc(), text, rows)?;
     put_all(&mut rt.stdout(), out.as_bytes())?;
-    Ok(say_left_out(rt, text, rows)?)
+    Ok(say_left_out(rt, left_out(rt.alloc(), text, rows)?))
+}
+
+/// Prints the part of this publisher as a tenants text, with the publishers and prefixes of this one. Answers the exit status.
+pub fn put_publisher<R: Rows>(
+    rt: &HostRuntime,
+    text: &str,
+    publisher: &str,
+    rows: &mut R,
+) -> Result<u8, TabledFault> {
+    let out = export_publisher(rt.alloc(), text, publisher, rows)?;
+    put_all(&mut rt.stdout(), out.as_bytes())?;
+    let left = left_out_of(rt.alloc(), text, publisher, rows)?;
+    Ok(say_left_out(rt, left))
 }

@@ -12,6 +12,7 @@ mod commands;
 mod copying;
 mod exporting;
 mod notices;
+mod ports;
 mod supervising;
 mod tabled;
 mod words;
@@ -23,6 +24,7 @@ use hdl_core::Tenants;
 use hdl_host::{Ending, Setting, hosted, hosted_on};
 use hdl_replay::{Fault, read_input, tenants_of};
 use notices::{Kept, say_begins, say_ends};
+use ports::can_listen;
 use std::fs::Files;
 use std::net::{Net, TcpListener, TcpStream};
 use std::process::ExitCode;
@@ -31,7 +33,9 @@ use std::rt::Clock;
 use std::sync::Arc;
 use std::thread::Threads;
 use supervising::{log_at, stop};
-use tabled::{Desk, TabledFault, empty_table, ended, export_on, open_desk, replay_in, replay_on};
+use tabled::{
+    Desk, TabledFault, empty_table, ended, export_on, is_new, open_desk, replay_in, replay_on,
+};
 use words::{Asked, TableFile, read_words};
 
 /// What is left to do once the command line and the input were read.
@@ -95,6 +99,10 @@ fn run_serve(
             row_cache,
         }),
         Some(file) => {
+            // a start that fails at a port leaves no new file behind
+            if is_new(rt, &file) {
+                can_listen(rt, rt.alloc(), &tenants, setting.addresses.as_slice())?;
+            }
             let desk = open_desk(rt, file, tenants, &setting.supervision.health)?;
             Ok(Next::ServeOn { desk, setting })
         }
@@ -108,9 +116,9 @@ fn run(rt: &HostRuntime) -> Result<Next, TabledFault> {
             let text = read_text(rt)?;
             Ok(Next::Ended(check_text(rt, text.as_str())?))
         }
-        Asked::Export { table } => {
+        Asked::Export { table, publisher } => {
             let text = read_text(rt)?;
-            Ok(Next::Ended(export_on(rt, &table, text.as_str())?))
+            Ok(Next::Ended(export_on(rt, &table, text.as_str(), publisher)?))
         }
         Asked::Replay { table: None } => Ok(Next::Ended(replayed(rt)?)),
         Asked::Replay { table: Some(file) } => {

@@ -4,7 +4,7 @@ ghost use Rattle.std.specs.Prelude.{◌≡◌, IfOk};
 ghost use Rattle.hdl_rows.specs.Table.{no_rows};
 
 use crate::copying::CopyFault;
-use crate::exporting::{put_export, status_of};
+use crate::exporting::{has_named, put_export, put_publisher, status_of};
 use crate::words::TableFile;
 use hdl_boundedrows::BoundedRows;
 use hdl_cachedrows::CachedRows;
@@ -17,6 +17,7 @@ use hdl_replay::{Fault, events_of, parts_of, put_all, replay, tenants_of, told_o
 use hdl_rows::PlainRows;
 use hdl_sqlrows::SqlRows;
 use hdl_sqlrows::load::Progress;
+use hdl_status::status_of_words;
 use sqlite::Wary;
 use std::fmt;
 use std::fs::File;
@@ -238,20 +239,38 @@ fn export_over<T: Rows + Closing + Drop>(
     rt: &HostRuntime,
     mut table: T,
     text: &str,
+    publisher: Option<String>,
 ) -> Result<u8, TabledFault> {
-    let status = put_export(rt, text, &mut table)?;
+    let status = match publisher {
+        Some(name) => put_publisher(rt, text, name.as_str(), &mut table)?,
+        None => put_export(rt, text, &mut table)?,
+    };
     table.close()?;
     Ok(status)
 }
 
-/// Prints the table in the file as a tenants text, and answers the exit status. The file is opened as a server's start opens it, but none is made.
-pub fn export_on(rt: &HostRuntime, file: &TableFile, text: &str) -> Result<u8, TabledFault> {
-    if File::open(rt, file.path.as_str()).is_err() {
+/// Whether nothing can be opened at the path of the table's file yet.
+pub fn is_new(rt: &HostRuntime, file: &TableFile) -> bool {
+    File::open(rt, file.path.as_str()).is_err()
+}
+
+/// Prints the table in the file as a tenants text, or the part of the publisher of this name, and answers the exit status. The file is opened as
+/// a server's start opens it, but none is made.
+pub fn export_on(
+    rt: &HostRuntime,
+    file: &TableFile,
+    text: &str,
+    publisher: Option<String>,
+) -> Result<u8, TabledFault> {
+    if is_new(rt, file) {
         return Err(TabledFault::Table(TableFault::CannotOpen));
     }
     let tenants = tenants_of(rt.alloc(), text)?;
+    if !has_named(rt, &tenants, &publisher) {
+        return Ok(status_of_words(false));
+    }
     let table = opened(rt, file, &tenants, new_health(rt)?)?;
-    export_over(rt, table, text)
+    export_over(rt, table, text, publisher)
 }
 
 /// Opens a copy of a table's file, which takes in its log, and closes it.

@@ -44,9 +44,10 @@ pub enum Asked {
     Stop {
         control: String,
     },
-    /// The tenants text is on standard input; the table in the file is written as such a text.
+    /// The tenants text is on standard input; the table in the file is written as such a text, or the part of the publisher of this name.
     Export {
         table: TableFile,
+        publisher: Option<String>,
     },
     /// The tenants text is on standard input, to be checked.
     Check,
@@ -247,6 +248,10 @@ fn exported_table(alloc: Global, found: &ArgMatches) -> Result<Asked, Unclear> {
         table: TableFile {
             path: String::from_str(alloc, found.get_str("table").unwrap_or(""))?,
             has_sums: false,
+        },
+        publisher: match found.get_str("publisher") {
+            Some(name) => Some(String::from_str(alloc, name)?),
+            None => None,
         },
     })
 }

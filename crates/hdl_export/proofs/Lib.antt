@@ -6,4 +6,8 @@ pub mod Only
 pub mod Walks
 pub mod Feeds
 pub mod Hosted
+pub mod Covered
+pub mod ForeignRows
+pub mod HostedFor
+pub mod Moves
 pub mod Whole

@@ -1,6 +1,6 @@
 -- What is written of a table is the text of its rows, and reading it gives these.
-use Rattle.std.proofs.Common.{◌≡◌, ℕ, Bool, true, false, cond, List, [], ◌∷◌, ◌++◌, map, refl, sym, ap, subst, ◌∙◌}
-use Rattle.std.specs.Prelude.{filter, codes, IsTrue}
+use Rattle.std.proofs.Common.{◌≡◌, ℕ, Bool, true, false, cond, List, [], ◌∷◌, ◌++◌, map, refl, sym, ap, subst, append_assoc, ◌∙◌}
+use Rattle.std.specs.Prelude.{filter, codes, IsTrue, Result, Ok, Err, IfOk, OnOk}
 use Rattle.std.specs.List.{flat_map, AllByRecursion}
 use Rattle.std.specs.Str.Lines.{lines}
 use Rattle.std.proofs.lemmas.Bool.{and_parts}
@@ -8,18 +8,22 @@ use Rattle.std.proofs.lemmas.List.{map-append}
 use Rattle.std.proofs.lemmas.Grind.{flat_map-append}
 use Rattle.hdl_name.specs.Name.{canonical, prefix}
 use Rattle.hdl_value.specs.declared.value.Value.{Value}
+use Rattle.hdl_value.specs.Place.{Place}
 use Rattle.hdl_rows.specs.Table.{Table, names_of, values_of}
+use Rattle.hdl_reach.specs.Laws.{IsOnward}
+use Rattle.hdl_laws.specs.Isolation.{Covers, EachCovered}
 use Rattle.hdl_tenants.specs.Register.{Register, Row, prefixes_of}
 use Rattle.hdl_tenants.specs.Text.{IsAccepted}
 use Rattle.hdl_export.specs.Lines.{Lacks, is_sayable, value_line, ended, text_of, is_other, IsWritable}
 use Rattle.hdl_export.specs.Prefixes.{AreAmong}
-use Rattle.hdl_export.specs.Rows.{is_among, is_written, values_at, rows_at, rows_under, rows_in, line_text, handle_text, authority_text, AreWritable, AreWritableUnder}
-use Rattle.hdl_export.specs.Laws.{IsWritableRow, with_rows, written_lines, prefixes_in, IsWritten, IsExport}
+use Rattle.hdl_export.specs.Rows.{is_among, is_written, values_at, rows_at, rows_under, rows_in, foreign_rows, line_text, handle_text, authority_text, AreWritable, AreWritableUnder}
+use Rattle.hdl_export.specs.Laws.{IsWritableRow, with_rows, written_lines, prefixes_in, prefixes_for, IsWritten, IsExport, HasCover, IsPublisherExport}
 use Rattle.hdl_export.proofs.LinesRead.{all_read}
 use Rattle.hdl_export.proofs.ValueLines.{line_lacks_feed}
 use Rattle.hdl_export.proofs.Only.{all_only}
 use Rattle.hdl_export.proofs.Feeds.{lines_lack, all_filtered, all_joined}
 use Rattle.hdl_export.proofs.Hosted.{prefixes_are}
+use Rattle.hdl_export.proofs.Covered.{covered_by_more}
 
 abbrev rows_text : List Row → List ℕ
 rows_text rows = text_of (map value_line rows)
@@ -68,31 +72,35 @@ pub behind : (texts : List (List ℕ)) (rows : List Row) → text_of (filter is_
 behind texts rows = sym (flat_map-append ended (filter is_other texts) (map value_line rows))
 
 -- what is written, from what each part wrote
-pub written_is : (texts prefixes authorities given : List (List ℕ)) (t : Table) (front out : List ℕ) → prefixes ≡ prefixes_in texts → given ≡ authorities
-    → AreAmong (codes "0.na" ∷ prefixes) authorities → front ≡ text_of (filter is_other texts) → out ≡ front ++ flat_map (authority_text prefixes t) given
-    → AllByRecursion (AreWritableUnder prefixes t) given → IsWritten texts t out
-written_is texts prefixes authorities given t front out p q all f e h =
-    let rows = rows_in (prefixes_in texts) authorities t in
-    let own : front ++ flat_map (authority_text prefixes t) given ≡ text_of (filter is_other texts) ++ flat_map (authority_text (prefixes_in texts) t) authorities = rw (f, p, q) refl in
+pub written_is : (texts prefixes authorities given : List (List ℕ)) (t : Table) (front out : List ℕ) → given ≡ authorities → AreAmong (codes "0.na" ∷ prefixes) authorities
+    → front ≡ text_of (filter is_other texts) → out ≡ front ++ flat_map (authority_text prefixes t) given → AllByRecursion (AreWritableUnder prefixes t) given → IsWritten texts prefixes t out
+written_is texts prefixes authorities given t front out q all f e h =
+    let rows = rows_in prefixes authorities t in
+    let own : front ++ flat_map (authority_text prefixes t) given ≡ text_of (filter is_other texts) ++ flat_map (authority_text prefixes t) authorities = rw (f, q) refl in
     record {
       authorities = authorities;
-      all = subst (λ (ps : List (List ℕ)). AreAmong (codes "0.na" ∷ ps) authorities) p all;
-      text = e ∙ own ∙ ap (λ (more : List ℕ). text_of (filter is_other texts) ++ more) (rows_texts (prefixes_in texts) t authorities) ∙ behind texts rows;
-      rows = rows_writable (prefixes_in texts) t authorities
-          (subst (λ (ps : List (List ℕ)). AllByRecursion (AreWritableUnder ps t) authorities) p (subst (λ (all : List (List ℕ)). AllByRecursion (AreWritableUnder prefixes t) all) q h));
+      all = all;
+      text = e ∙ own ∙ ap (λ (more : List ℕ). text_of (filter is_other texts) ++ more) (rows_texts prefixes t authorities) ∙ behind texts rows;
+      rows = rows_writable prefixes t authorities (subst (λ (all : List (List ℕ)). AllByRecursion (AreWritableUnder prefixes t) all) q h);
     }
 
 rows_lack : (rows : List Row) → AllByRecursion IsWritableRow rows → AllByRecursion (Lacks 10) (map value_line rows)
 rows_lack [] h = tt
 rows_lack (row ∷ rows) h = (line_lacks_feed row h.0, rows_lack rows h.1)
 
-pub export_is : (text : List ℕ) (t : Table) (out : List ℕ) (r s : Register) → IsAccepted (lines text) r → IsWritten (lines text) t out → IsAccepted (lines out) s → IsExport (lines text) t out
+-- what is read of the lines that were written
+read_back : (text out : List ℕ) (r s : Register) (rows : List Row) → IsAccepted (lines text) r → AllByRecursion IsWritableRow rows → out ≡ text_of (written_lines (lines text) rows) → IsAccepted (lines out) s → s ≡ with_rows r rows
+read_back text out r s rows h w e k =
+    let texts = lines text in
+    let lack = all_joined (Lacks 10) (filter is_other texts) (map value_line rows) (all_filtered (Lacks 10) is_other texts (lines_lack text)) (rows_lack rows w) in
+    let read : lines out ≡ written_lines texts rows = ap lines e ∙ all_read (written_lines texts rows) lack in
+    all_only texts r s rows h w (subst (λ (ls : List (List ℕ)). IsAccepted ls s) read k)
+
+pub export_is : (text : List ℕ) (t : Table) (out : List ℕ) (r s : Register) → IsAccepted (lines text) r → IsWritten (lines text) (prefixes_in (lines text)) t out → IsAccepted (lines out) s → IsExport (lines text) t out
 export_is text t out r s h w k =
     let texts = lines text in
     let rows = rows_in (prefixes_in texts) w.authorities t in
-    let lack = all_joined (Lacks 10) (filter is_other texts) (map value_line rows) (all_filtered (Lacks 10) is_other texts (lines_lack text)) (rows_lack rows w.rows) in
-    let read : lines out ≡ written_lines texts rows = ap lines w.text ∙ all_read (written_lines texts rows) lack in
-    let same : s ≡ with_rows r rows = all_only texts r s rows h w.rows (subst (λ (ls : List (List ℕ)). IsAccepted ls s) read k) in
+    let same : s ≡ with_rows r rows = read_back text out r s rows h w.rows w.text k in
     let prefixes : prefixes_in texts ≡ prefixes_of r.hostings = prefixes_are r texts h in
     record {
       register = r;
@@ -100,4 +108,40 @@ export_is text t out r s h w k =
       authorities = w.authorities;
       all = subst (λ (ps : List (List ℕ)). AreAmong (codes "0.na" ∷ ps) w.authorities) prefixes w.all;
       written = subst (λ (ps : List (List ℕ)). IsAccepted (lines out) (with_rows r (rows_in ps w.authorities t))) prefixes (subst (λ (x : Register). IsAccepted (lines out) x) same k);
+    }
+
+-- what holds of octets that a text has holds of the text
+pub sound_as : {X E : Type 0} (view : X → List ℕ) (P : List ℕ → Type 0) (result : Result X E) (out : List ℕ) → IfOk result (λ text. view text ≡ out) → OnOk result ((r : Register) × IsAccepted (lines out) r)
+    → ((r : Register) → IsAccepted (lines out) r → P out) → IfOk result (λ text. P (view text))
+sound_as view P (Ok text) out same read f = subst P (sym same) (f read.0 read.1)
+sound_as view P (Err e) out same read f = tt
+
+-- ---- one publisher
+
+-- the lines of more rows, behind a text
+more_rows : (texts : List (List ℕ)) (rows more : List Row) → text_of (written_lines texts rows) ++ text_of (map value_line more) ≡ text_of (written_lines texts (rows ++ more))
+more_rows texts rows more =
+    sym (flat_map-append ended (written_lines texts rows) (map value_line more))
+    ∙ ap text_of (append_assoc (filter is_other texts) (map value_line rows) (map value_line more) ∙ ap (λ (ls : List (List ℕ)). filter is_other texts ++ ls) (sym (map-append {A = Row} {B = List ℕ} value_line rows more)))
+
+pub publisher_is : (text name own out : List ℕ) (t : Table) (first C : List Place) (r s : Register) → IsAccepted (lines text) r → IsWritten (lines text) (prefixes_for name (lines text)) t own
+    → HasCover (lines own) first → Covers C first → IsOnward t C → out ≡ own ++ text_of (map value_line (foreign_rows (prefixes_for name (lines text)) t C))
+    → AllByRecursion IsWritableRow (foreign_rows (prefixes_for name (lines text)) t C) → IsAccepted (lines out) s → IsPublisherExport (lines text) name t out
+publisher_is text name own out t first C r s h w has wider onward e more k =
+    let texts = lines text in
+    let rows = rows_in (prefixes_for name texts) w.authorities t in
+    let foreign = foreign_rows (prefixes_for name texts) t C in
+    let opened : has.register ≡ with_rows r rows = read_back text own r has.register rows h w.rows w.text has.read in
+    let covered : EachCovered first (map (λ (row : Row). row.1) rows) = subst (λ (x : Register). EachCovered first (map (λ (row : Row). row.1) x.opening)) opened has.covered in
+    let shape : out ≡ text_of (written_lines texts (rows ++ foreign)) = e ∙ ap (λ (octets : List ℕ). octets ++ text_of (map value_line foreign)) w.text ∙ more_rows texts rows foreign in
+    let same : s ≡ with_rows r (rows ++ foreign) = read_back text out r s (rows ++ foreign) h (all_joined IsWritableRow rows foreign w.rows more) shape k in
+    record {
+      register = r;
+      given = h;
+      authorities = w.authorities;
+      all = w.all;
+      cover = C;
+      rows = covered_by_more first C (map (λ (row : Row). row.1) rows) wider covered;
+      onward = onward;
+      written = subst (λ (x : Register). IsAccepted (lines out) x) same k;
     }

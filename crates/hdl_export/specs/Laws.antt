@@ -1,16 +1,23 @@
 -- What is written is read back.
-use Rattle.std.specs.Prelude.{◌≡◌, ◌++◌, ◌∷◌, ℕ, List, map, filter, codes, IsTrue}
+use Rattle.std.specs.Prelude.{◌≡◌, ◌++◌, ◌∷◌, ℕ, true, List, Some, map, filter, codes, IsTrue}
 use Rattle.std.specs.List.{AllByRecursion, flat_map}
 use Rattle.std.specs.Str.Lines.{lines}
-use Rattle.hdl_name.specs.Name.{IsHandle}
+use Rattle.hdl_name.specs.Name.{IsHandle, canonical, prefix}
+use Rattle.hdl_value.specs.declared.value.Value.{Value}
 use Rattle.hdl_value.specs.Fault.{IsSound}
-use Rattle.hdl_rows.specs.Table.{Table}
+use Rattle.hdl_value.specs.Place.{Place}
+use Rattle.hdl_rows.specs.Table.{Table, has, at, IsPlaced}
+use Rattle.hdl_rows.specs.Table as table
 use Rattle.hdl_tenants.specs.Lines.{fields_of}
 use Rattle.hdl_tenants.specs.Register.{Register, Row, IsRegister, prefixes_of}
-use Rattle.hdl_tenants.specs.Text.{opened, IsLine, IsAccepted}
+use Rattle.hdl_tenants.specs.Text.{opened, place_of, IsLine, IsAccepted}
 use Rattle.hdl_export.specs.Lines.{Lacks, is_sayable, value_line, text_of, is_other, IsWritable}
-use Rattle.hdl_export.specs.Prefixes.{prefix_named, AreAmong}
-use Rattle.hdl_export.specs.Rows.{rows_in}
+use Rattle.hdl_reach.specs.Laws.{IsOnward}
+use Rattle.hdl_laws.specs.Worlds.{World, hosts}
+use Rattle.hdl_laws.specs.Isolation.{EachCovered, IsClosed, restrict}
+use Rattle.hdl_core.specs.Opening.{opening_table}
+use Rattle.hdl_export.specs.Prefixes.{prefix_named, prefix_given, AreAmong}
+use Rattle.hdl_export.specs.Rows.{is_among, rows_in, foreign_rows}
 
 -- the text of lines without a line feed has these lines
 abbrev pub LinesAreRead : Type 0
@@ -49,12 +56,12 @@ RowsAreOnly = (texts : List (List ℕ)) (r s : Register) (rows : List Row) → I
 abbrev pub prefixes_in : List (List ℕ) → List (List ℕ)
 prefixes_in texts = flat_map (λ line. prefix_named (fields_of line)) texts
 
--- The text has the lines that say no value, and those of the rows with the prefixes that they host.
-pub record IsWritten (texts : List (List ℕ)) (t : Table) (out : List ℕ) : Type 0 where
+-- The text has the lines that say no value, and those of the rows with these prefixes.
+pub record IsWritten (texts prefixes : List (List ℕ)) (t : Table) (out : List ℕ) : Type 0 where
   pub authorities : List (List ℕ)
-  pub all : AreAmong (codes "0.na" ∷ prefixes_in texts) authorities
-  pub text : out ≡ text_of (written_lines texts (rows_in (prefixes_in texts) authorities t))
-  pub rows : AllByRecursion IsWritableRow (rows_in (prefixes_in texts) authorities t)
+  pub all : AreAmong (codes "0.na" ∷ prefixes) authorities
+  pub text : out ≡ text_of (written_lines texts (rows_in prefixes authorities t))
+  pub rows : AllByRecursion IsWritableRow (rows_in prefixes authorities t)
 
 -- The text that was given says a register. The text that was written says the same publishers and prefixes, and the rows of the table with these
 -- prefixes, under all of their authorities.
@@ -64,3 +71,57 @@ pub record IsExport (texts : List (List ℕ)) (t : Table) (out : List ℕ) : Typ
   pub authorities : List (List ℕ)
   pub all : AreAmong (codes "0.na" ∷ prefixes_of register.hostings) authorities
   pub written : IsAccepted (lines out) (with_rows register (rows_in (prefixes_of register.hostings) authorities t))
+
+-- ---- what is written of one publisher
+
+-- the prefixes that the lines of a text give to the publisher of this name
+abbrev pub prefixes_for : List ℕ → List (List ℕ) → List (List ℕ)
+prefixes_for name texts = flat_map (λ line. prefix_given name (fields_of line)) texts
+
+-- what the rows refer to that a text says
+pub record HasCover (texts : List (List ℕ)) (places : List Place) : Type 0 where
+  pub register : Register
+  pub read : IsAccepted texts register
+  pub covered : EachCovered places (map (λ row. row.1) register.opening)
+
+-- The text that was given says a register. The text that was written says the same publishers and prefixes, the rows of the table with the
+-- prefixes of this publisher, and of the rows with other prefixes those at the places of a cover: all that its rows refer to, and all that the
+-- lists there refer to.
+pub record IsPublisherExport (texts : List (List ℕ)) (name : List ℕ) (t : Table) (out : List ℕ) : Type 0 where
+  pub register : Register
+  pub given : IsAccepted texts register
+  pub authorities : List (List ℕ)
+  pub all : AreAmong (codes "0.na" ∷ prefixes_for name texts) authorities
+  pub cover : List Place
+  pub rows : EachCovered cover (map (λ row. row.1) (rows_in (prefixes_for name texts) authorities t))
+  pub onward : IsOnward t cover
+  pub written : IsAccepted (lines out) (with_rows register (rows_in (prefixes_for name texts) authorities t ++ foreign_rows (prefixes_for name texts) t cover))
+
+-- ---- what a moved publisher has
+
+-- The table is one that the service makes: values stand at handles that are there, in canonical form, each at its own index. A text says each
+-- handle with one of these prefixes: it has a value, and a line can name it.
+pub record IsSayable (prefixes : List (List ℕ)) (t : Table) : Type 0 where
+  pub placed : IsPlaced t
+  pub canonical : (h : List ℕ) → has t h ≡ true → canonical h ≡ h
+  pub indexed : (p : Place) (v : Value) → at t p ≡ Some v → v.index ≡ p.index
+  pub named : (h : List ℕ) → has t h ≡ true → IsTrue (is_among (prefix h) prefixes) → IsTrue (is_sayable h)
+  pub valued : (h : List ℕ) → has t h ≡ true → IsTrue (is_among (prefix h) prefixes) → (i : ℕ) × (v : Value) × (at t (table.place h i) ≡ Some v)
+
+-- the world with another table
+abbrev pub with_table : World → Table → World
+with_table w t = record { site = w.site; table = t; lanes = w.lanes }
+
+-- Over the table of the second text a publisher has what it had. Both texts say the same lanes and prefixes; the places are a cover for it at the
+-- start; and what it has of the world, with the values at the cover, is what it has of the world with the table that the second text opens.
+pub record IsMoved (w : World) (u : ℕ) (cover : List Place) (old new : Register) : Type 0 where
+  pub publishers : new.publishers ≡ old.publishers
+  pub hostings : new.hostings ≡ old.hostings
+  pub closed : IsClosed (hosts w.site u) cover w.table
+  pub same : restrict w u cover ≡ restrict (with_table w (opening_table new.opening)) u cover
+
+-- A publisher's export moves the publisher of its name, in each world with the table that was exported and the prefixes of the text that was given.
+abbrev pub PublisherMoves : Type 0
+PublisherMoves =
+    (texts : List (List ℕ)) (name : List ℕ) (t : Table) (out : List ℕ) (x : IsPublisherExport texts name t out) (s : Register) → IsAccepted (lines out) s → IsSayable (prefixes_for name texts) t
+    → (w : World) → w.table ≡ t → w.site.hostings ≡ x.register.hostings → IsMoved w (place_of name x.register.publishers) x.cover x.register s

@@ -1,4 +1,5 @@
 pub mod Lines
 pub mod Prefixes
 pub mod Rows
+pub mod Covers
 pub mod Laws

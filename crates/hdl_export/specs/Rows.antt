@@ -1,10 +1,11 @@
 -- Which rows of a table are written, and in which order.
-use Rattle.std.specs.Prelude.{ℕ, Bool, ◌&&◌, List, [], map, if◌then◌else◌}
+use Rattle.std.specs.Prelude.{ℕ, Bool, ◌&&◌, List, [], map, option_to_list, if◌then◌else◌}
 use Rattle.std.specs.List.{flat_map, list_any, AllByRecursion}
 use Rattle.std.specs.Str.{bytes_eq}
 use Rattle.hdl_name.specs.Name.{canonical, prefix}
 use Rattle.hdl_value.specs.declared.value.Value.{Value}
-use Rattle.hdl_rows.specs.Table.{Table, values_of, names_of}
+use Rattle.hdl_value.specs.Place.{Place}
+use Rattle.hdl_rows.specs.Table.{Table, at, values_of, names_of}
 use Rattle.hdl_tenants.specs.Register.{Row}
 use Rattle.hdl_export.specs.Lines.{is_sayable, value_line, ended, IsWritable}
 
@@ -31,6 +32,14 @@ rows_under prefixes t authority = flat_map (rows_at prefixes t) (names_of t auth
 -- the rows of the table under these authorities, one authority after another
 abbrev pub rows_in : List (List ℕ) → List (List ℕ) → Table → List Row
 rows_in prefixes authorities t = flat_map (rows_under prefixes t) authorities
+
+-- the row at a place, if a value stands there and the prefix is none of these
+abbrev pub foreign_at : List (List ℕ) → Table → Place → List Row
+foreign_at prefixes t p = if is_among (prefix p.handle) prefixes then [] else map (λ v. (p.handle, v)) (option_to_list (at t p))
+
+-- the rows at these places, whose prefix is none of these
+abbrev pub foreign_rows : List (List ℕ) → Table → List Place → List Row
+foreign_rows prefixes t places = flat_map (foreign_at prefixes t) places
 
 -- ---- the same as octets
 

@@ -16,6 +16,9 @@ pub enum ExportFault {
     /// A handle of the table is no name, or a length of a value doesn't fit its field: no write of the service makes these.
     #[error("unsound row")]
     Row,
+    /// A value on which a publisher's answers rest stands at a handle that no line can name.
+    #[error("no text says this publisher: a list or a key that its values refer to stands at a handle with a space or a line feed in its name")]
+    Unsayable,
     /// The text that was given has this first faulty line, counted from 1.
     #[error("tenants: line {line}: {fault}")]
     Given { line: usize, fault: TenantFault },

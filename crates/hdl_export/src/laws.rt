@@ -1,6 +1,6 @@
 //! Laws over what is written, each the contract of a function without a body.
 
-ghost use Rattle.hdl_export.specs.Laws.{LinesAreRead, ValueLineIsRead, RegisterIsRead, RowsAreOnly};
+ghost use Rattle.hdl_export.specs.Laws.{LinesAreRead, ValueLineIsRead, RegisterIsRead, RowsAreOnly, PublisherMoves};
 
 /// Lines without a line feed are read back as they were written.
 pub fn lines_are_read()
@@ -21,4 +21,10 @@ pub fn register_is_read()
 /// accepted.
 pub fn rows_are_only()
     ensures { RowsAreOnly }
+{}
+
+/// The service that opens with a publisher's export has of it, and at its cover, what the service has that the table was exported of; and the
+/// cover is closed there.
+pub fn publisher_moves()
+    ensures { PublisherMoves }
 {}

@@ -2,7 +2,7 @@
 
 use crate::fault::ExportFault;
 use crate::line::is_sayable;
-use crate::prefixes::{authorities_of, is_among, prefixes_of};
+use crate::prefixes::{authorities_of, is_among, prefixes_for, prefixes_of};
 use crate::rows::name_of;
 use hdl_rows::{Octets, Rows};
 use std::alloc::Global;
@@ -49,23 +49,38 @@ fn count_handles<R: Rows>(
     Ok(())
 }
 
-/// How many handles with the prefixes that the text hosts are left out of what is written.
-pub fn left_out<R: Rows>(alloc: Global, text: &str, rows: &mut R) -> Result<LeftOut, ExportFault> {
-    let prefixes = prefixes_of(alloc, text)?;
-    let authorities = authorities_of(alloc, prefixes.as_slice())?;
+/// How many handles with these prefixes are left out.
+fn left_under<R: Rows>(
+    alloc: Global,
+    prefixes: &[&str],
+    rows: &mut R,
+) -> Result<LeftOut, ExportFault> {
+    let authorities = authorities_of(alloc, prefixes)?;
     let mut left = LeftOut {
         empty: 0,
         unsayable: 0,
     };
     for authority in &authorities {
         let handles = rows.names(authority.as_bytes())?;
-        count_handles(
-            alloc,
-            rows,
-            prefixes.as_slice(),
-            handles.as_slice(),
-            &mut left,
-        )?;
+        count_handles(alloc, rows, prefixes, handles.as_slice(), &mut left)?;
     }
     Ok(left)
+}
+
+/// How many handles with the prefixes that the text hosts are left out of what is written.
+pub fn left_out<R: Rows>(alloc: Global, text: &str, rows: &mut R) -> Result<LeftOut, ExportFault> {
+    let prefixes = prefixes_of(alloc, text)?;
+    left_under(alloc, prefixes.as_slice(), rows)
+}
+
+/// How many handles with the prefixes that the text gives to the publisher of this name are left out of what
+/// [`export_publisher`](crate::export_publisher) writes.
+pub fn left_out_of<R: Rows>(
+    alloc: Global,
+    text: &str,
+    publisher: &str,
+    rows: &mut R,
+) -> Result<LeftOut, ExportFault> {
+    let prefixes = prefixes_for(alloc, text, publisher)?;
+    left_under(alloc, prefixes.as_slice(), rows)
 }

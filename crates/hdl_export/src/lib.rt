@@ -11,8 +11,11 @@
 //! just these rows, in this order. [`value_line_is_read`] is the law of one line, [`register_is_read`] that of all: whatever a tenants text can
 //! say is read back as it was written; and [`rows_are_only`] that such a text says nothing else.
 //!
-//! A text can't say a handle without a value, nor one with a space or a line feed in its name. [`left_out`] counts these, which no
-//! clause says.
+//! [`export_publisher`] writes one publisher's part in the same way, with what it rests on: the values of other publishers to which its values
+//! refer, and those to which the lists there refer (`specs/Laws.antt`, `IsPublisherExport`).
+//!
+//! A text can't say a handle without a value, nor one with a space or a line feed in its name. [`left_out`] and [`left_out_of`] count
+//! these, which no clause says.
 //!
 //! # Decisions
 //!
@@ -22,17 +25,22 @@
 //!   text that nothing opens is no backup. That it is then the text of these rows, and of no others, is proved.
 #![tactic(auto)]
 
+mod cover;
 mod fault;
+mod foreign;
 mod laws;
 mod left;
 mod line;
 mod prefixes;
+mod references;
 mod rows;
 mod text;
 mod writing;
 
 pub use fault::ExportFault;
-pub use laws::{lines_are_read, register_is_read, rows_are_only, value_line_is_read};
-pub use left::{LeftOut, left_out};
+pub use laws::{
+    lines_are_read, publisher_moves, register_is_read, rows_are_only, value_line_is_read,
+};
+pub use left::{LeftOut, left_out, left_out_of};
 pub use line::value_line;
-pub use writing::export;
+pub use writing::{export, export_publisher};

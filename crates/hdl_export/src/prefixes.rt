@@ -4,7 +4,7 @@ ghost use Rattle.std.specs.Prelude.{◌≡◌, ◌≤◌, ◌∷◌, ◌++◌, c
 ghost use Rattle.std.specs.List.{flat_map};
 ghost use Rattle.std.specs.Str.Lines.{lines};
 ghost use Rattle.hdl_tenants.specs.Lines.{fields_of};
-ghost use Rattle.hdl_export.specs.Prefixes.{prefix_named, AreAmong};
+ghost use Rattle.hdl_export.specs.Prefixes.{prefix_named, prefix_given, AreAmong};
 ghost use Rattle.hdl_export.specs.Rows as spec;
 
 use std::alloc::{AllocError, Global};
@@ -39,6 +39,38 @@ pub(crate) fn prefixes_of<'a>(alloc: Global, text: &'a str) -> Result<Vec<&'a st
     for line in text.lines() {
         let fields = fields_of(alloc, line)?;
         put_prefix(fields.as_slice(), &mut prefixes)?;
+    }
+    Ok(prefixes)
+}
+
+/// Puts the prefix that a line of these fields gives to the publisher of this name, if it gives it one.
+fn put_given<'a>(
+    publisher: &str,
+    fields: &[&'a str],
+    prefixes: &mut Vec<&'a str>,
+) -> Result<(), AllocError>
+    ensures { OnOk result (map (λ p. p.now) prefixes.new.items ≡ map (λ p. p.now) prefixes.old.items ++ prefix_given publisher.now (map (λ field. field.now) fields.now)) }
+{
+    if let [word, prefix, name, ..] = fields {
+        if *word == "prefix" && *name == publisher {
+            prefixes.push(prefix)?;
+        }
+    }
+    Ok(())
+}
+
+/// The prefixes that the lines of the text give to the publisher of this name, in its order.
+pub(crate) fn prefixes_for<'a>(
+    alloc: Global,
+    text: &'a str,
+    publisher: &str,
+) -> Result<Vec<&'a str>, AllocError>
+    ensures { IfOk result (λ all. map (λ p. p.now) all.items ≡ flat_map (λ line. prefix_given publisher.now (fields_of line)) (lines text.now)) }
+{
+    let mut prefixes = Vec::new(alloc);
+    for line in text.lines() {
+        let fields = fields_of(alloc, line)?;
+        put_given(publisher, fields.as_slice(), &mut prefixes)?;
     }
     Ok(prefixes)
 }

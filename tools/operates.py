@@ -1,0 +1,171 @@
+"""operates.py: does what docs/OPERATING.md says under "A day, from an empty folder", block by block, with the proved programs.
+
+The blocks are taken from the page, so that page and trial can't part; ports are replaced by free ones. Behind a block that starts servers it waits until they listen. What each block prints, and what the servers hold then, is
+compared with what the page leads one to expect: the secrets of three departments create, change and list, the copy that was restored has what was there, the fourth department serves, the moved one answers as before, and
+the text of the whole table has every handle. Its last line is 'N passed, M failed', a case counting one."""
+
+import os
+import re
+import shutil
+import subprocess
+import sys
+import tempfile
+
+# nothing is left beside the tools
+sys.dont_write_bytecode = True
+import repository
+import servers
+
+HDL = os.environ.get("HDL", repository.program("hdl"))
+SECTION = "## A day, from an empty folder\n"
+# the ports of the page: those of publishers, the one of the status page, and those that a text gets when a publisher moves
+PORTS = (2641, 2642, 2643, 2644, 9100)
+MOVED = (3641, 3642, 3643, 3644)
+
+# the words that the page uses: what `hdl init` writes has the ports of the trial, and a request without a server goes to the first one's
+WORDS = {
+    "handled": """\
+#!/bin/sh
+exec "$HANDLED" "$@"
+""",
+    "hdl": """\
+#!/bin/sh
+case "$1" in
+  init) "$HDL" "$@" | sed %s ;;
+  import | modify | resolve | list) exec "$HDL" "$@" --server 127.0.0.1:%d ;;
+  *) exec "$HDL" "$@" ;;
+esac
+""",
+}
+# what stands before the blocks
+FRONT = """\
+set -e
+listens() { for port in "$@"; do for try in $(seq 300); do (: < "/dev/tcp/127.0.0.1/$port") 2> /dev/null && break; sleep 0.1; done; (: < "/dev/tcp/127.0.0.1/$port"); done; }
+# what is asked of a server between blocks: the codes and data that it gives
+asked() { echo "-- $*"; "$HDL" "$@" --short 2>&1 || true; }
+trap 'kill $(jobs -p) 2> /dev/null || true' EXIT
+"""
+
+
+def blocks():
+    """The blocks of the section, each with the words in bold that begin its paragraph."""
+    page = repository.text_of("docs", "OPERATING.md")
+    section = page[page.index(SECTION) + len(SECTION):]
+    section = section[: section.index("\n## ")]
+    found = re.findall(r"^\*\*([^*\n]+)\*\*(?:[^\n]+\n)+\n((?:    [^\n]*\n)+)", section, re.MULTILINE)
+    return [(name.rstrip("."), re.sub("^    ", "", lines, flags=re.MULTILINE)) for name, lines in found]
+
+
+def replaced(text, ports):
+    """The text with other ports."""
+    return re.sub(r"\b(?:%s)\b" % "|".join(map(str, ports)), lambda found: str(ports[int(found[0])]), text)
+
+
+def script(ports):
+    """The whole day, a line '== NAME' before the words of each block."""
+    words = [FRONT]
+    first, second, third, fourth = (ports[port] for port in PORTS[:4])
+    asks = {
+        "Start": "listens %d %d %d" % (first, second, third),
+        "First handles": "asked list 10 --key 300:0.NA/10 --server 127.0.0.1:%d" % first,
+        "Restore": "listens %d\nasked resolve 10/report-7 --type URL --server 127.0.0.1:%d\nasked list 10 --key 300:0.NA/10 --server 127.0.0.1:%d" % (third, first, first),
+        "A fourth department": "listens %d\nasked resolve 0.NA/40 --type URL --server 127.0.0.1:%d\nasked resolve 10/report-8 --type URL --server 127.0.0.1:%d" % (fourth, fourth, first),
+        "A department moves": "listens %d %d\nasked resolve 10/report-7 --type URL --server 127.0.0.1:%d\nasked list 10 --key 300:0.NA/10 --server 127.0.0.1:%d\nasked resolve 20/none --server 127.0.0.1:%d"
+        % (first, second, first, first, second),
+    }
+    for name, lines in blocks():
+        words += ["echo '== %s'" % name, moved_ports(replaced(lines, ports), ports), asks.get(name, "")]
+    return "\n".join(words) + "\n"
+
+
+def moved_ports(lines, ports):
+    """The lines that give the publishers of a text that moved, or a publisher that went, other ports: by name of the port, as the free ones have no pattern."""
+    if "moved.tenants" not in lines:
+        return lines
+    changed = []
+    for line in lines.splitlines():
+        found = re.match(r"sed -i .* (\S+\.tenants)$", line)
+        if found:
+            kept = "10" if found[1] == "moved.tenants" else None
+            pairs = [pair for pair in zip(PORTS, MOVED) if (pair[0] != PORTS[0]) == (kept is not None)]
+            line = "sed -i %s %s" % (" ".join("-e 's/ %d$/ %d/'" % (ports[old], ports[new]) for old, new in pairs), found[1])
+        changed.append(line)
+    return "\n".join(changed)
+
+
+def said(output):
+    """What each block printed, by its name."""
+    parts = re.split(r"^== (.+)\n", output, flags=re.MULTILINE)
+    return dict(zip(parts[1::2], parts[2::2]))
+
+
+def day(folder):
+    ports = dict(zip(PORTS + MOVED, servers.free_ports(len(PORTS) + len(MOVED))))
+    with open(os.path.join(folder, "day"), "w", encoding="utf-8") as file:
+        file.write(script(ports))
+    work, words = os.path.join(folder, "work"), os.path.join(folder, "words")
+    os.mkdir(work)
+    os.mkdir(words)
+    for name, text in WORDS.items():
+        with open(os.path.join(words, name), "w", encoding="utf-8") as file:
+            file.write(text % (" ".join("-e 's/ %d$/ %d/'" % pair for pair in ports.items()), ports[PORTS[0]]) if "%s" in text else text)
+            os.fchmod(file.fileno(), 0o755)
+    log = os.path.join(folder, "output")
+    # a file, since servers that go on would hold a pipe open
+    with open(log, "w", encoding="utf-8") as output:
+        done = subprocess.run(["bash", os.path.join(folder, "day")], cwd=work, stdout=output, stderr=subprocess.STDOUT, env=dict(os.environ, HANDLED=servers.HANDLED, HDL=HDL, PATH=words + os.pathsep + os.environ["PATH"]), check=False, timeout=600)
+    with open(log, encoding="utf-8") as output:
+        whole = output.read()
+    yield "the day ends with status 0", done.returncode == 0
+    parts = said(whole)
+    yield "every block was reached", list(parts) == [name for name, _ in blocks()]
+    yield from compared(parts, ports, work)
+    if done.returncode:
+        print(whole)
+
+
+def has(parts, name, *texts):
+    return all(text in parts.get(name, "") for text in texts)
+
+
+def compared(parts, ports, work):
+    """What was printed, with what the page leads one to expect."""
+    lines = ["%d 127.0.0.1:%d\n" % (10 * (place + 1), ports[PORTS[place]]) for place in range(3)]
+    yield "the text is checked", has(parts, "Set up", "publisher") and "line" not in parts["Set up"]
+    yield "the servers' lines", has(parts, "Start", *lines, "begins: publishers 3")
+    yield "handles of a spreadsheet", has(parts, "First handles", "2 created, 0 there already, 0 failed\n", "10/report-7\n10/report-8\n")
+    yield "a change", has(parts, "Change", "1 success", "https://example.org/moved\n")
+    yield "what is watched", has(parts, "Watch", "ok\n", 'handled_replies_total{publisher="10",operation="modify",code="1"} 1', " modify 10/report-7 300:0.NA/10 1\n")
+    yield "the copy restored", has(parts, "Restore", "https://example.org/moved\n", "10/report-7\n10/report-8\n")
+    yield "a fourth department", has(parts, "A fourth department", "40 127.0.0.1:%d\n" % ports[PORTS[3]], "https://example.org/report-8\n", "begins: publishers 4")
+    yield "a department moved", has(parts, "A department moves", "10 127.0.0.1:%d\n" % ports[PORTS[0]], "https://example.org/moved\n", "10/report-7\n10/report-8\n", "100")
+    yield "servers end in order", has(parts, "End", "handled: ends: ")
+    yield "a damaged file", has(parts, "A file that is damaged", "table: damaged", "status 4\n")
+    with open(os.path.join(work, "whole.tenants"), encoding="utf-8") as text:
+        handles = {line.split()[1] for line in text if line.startswith("value ")}
+    yield "the whole table as a text", handles == {"0.na/10", "0.na/20", "0.na/30", "0.na/40", "10/report-7", "10/report-8"}
+    with open(os.path.join(work, "moved.tenants"), encoding="utf-8") as text:
+        handles = {line.split()[1] for line in text if line.startswith("value ")}
+    yield "the text of the department that moved", handles == {"0.na/10", "10/report-7", "10/report-8"}
+    secret = re.search("0.NA/10 300 HS_SECKEY .* (\\S+)\n", open(os.path.join(work, "publishers.words"), encoding="utf-8").read())
+    yield "no secret is printed or logged", secret and not any(secret[1] in told for told in [*parts.values(), open(os.path.join(work, "changes.log"), encoding="utf-8").read()])
+    modes = {name: os.stat(os.path.join(work, name)).st_mode & 0o777 for name in ("handles.db", "changes.log", "publishers.words", "backup.db")}
+    yield "what holds secrets is its owner's alone", set(modes.values()) == {0o600}
+
+
+def main():
+    passed, failed = 0, 0
+    folder = tempfile.mkdtemp()
+    try:
+        for case, holds in day(folder):
+            passed += bool(holds)
+            failed += not holds
+            if not holds:
+                print("%s: not as it should be" % case)
+    finally:
+        shutil.rmtree(folder)
+    print("%d passed, %d failed" % (passed, failed))
+    sys.exit(1 if failed else 0)
+
+
+main()
