@@ -1,3 +1,4 @@
+pub mod Alias
 pub mod Answer
 pub mod Begin
 pub mod Choice
@@ -12,6 +13,7 @@ pub mod Query
 pub mod Question
 pub mod Site
 pub mod Status
+pub mod Step
 pub mod Tag
 pub mod Url
 pub mod Words

@@ -13,6 +13,7 @@
 //! ([`is_followed`]); a Location holds graphic ASCII alone; and text in a page is escaped.
 #![tactic(auto)]
 
+mod alias;
 mod answer;
 mod choice;
 mod escape;
@@ -31,6 +32,7 @@ mod query;
 mod question;
 mod resolver;
 mod site;
+mod step;
 mod tag;
 mod url;
 mod words;
@@ -46,6 +48,7 @@ pub use query::{Pair, has_pair, indexes_of, last_named, read_pairs, types_of, va
 pub use question::{Form, Question};
 pub use resolver::{NoAnswer, Resolver};
 pub use site::Site;
+pub use step::{HOPS_MOST, next_step};
 pub use tag::tagged;
 pub use url::is_followed;
 pub use words::{KeptFor, usual_permissions};

@@ -3,7 +3,7 @@
 ghost use Rattle.std.specs.Prelude.{◌≡◌, ◌≢◌, IfOk, codes};
 ghost use Rattle.percent_encoding.specs.Percent.{percent_decode};
 ghost use Rattle.hdl_proxy.specs.Answer.{Answers, Goes, IsLocated, IsWayOf, IsWayToMeant, Refuses, ShowsFound, ShowsValues, Tells, is_json, media_of};
-ghost use Rattle.hdl_proxy.specs.Begin.{AsksAddress, AsksFor, IsAnswered, IsFile, IsFront, IsLocatedIfAnswered, IsNoHandle, IsOfFile, IsOfHandle, IsOwn, IsReading, LeadsFromPasted, LeadsToName, RefusesMethod, is_called_back, json_form, page_form, without_slash};
+ghost use Rattle.hdl_proxy.specs.Begin.{AsksAddress, AsksFor, IsAnswered, IsFile, IsFront, IsLocatedIfAnswered, IsNoHandle, IsOfFile, IsOfHandle, IsOwn, IsReading, LeadsFromPasted, LeadsToName, RefusesMethod, follows_aliases, is_called_back, json_form, page_form, without_slash};
 ghost use Rattle.hdl_proxy.specs.Query.{pairs_of, texts_of};
 ghost use Rattle.hdl_proxy.specs.Status.{refused_words};
 ghost use Rattle.hdl_proxy.specs.Url.{extended};
@@ -11,7 +11,7 @@ ghost use Rattle.hdl_proxy.specs.Url.{extended};
 use crate::answer::{Answer, Keeping, Media, Status};
 use crate::choice::first_url;
 use crate::found::{Found, read_answer};
-use crate::keeping::keeping_of;
+use crate::keeping::{DAY, keeping_of};
 use crate::link::Link;
 use crate::names::{decoded, read_name};
 use crate::pasted::{pasted, written};
@@ -34,12 +34,12 @@ const LIST_PATH: &str = "/api/handles";
 /// Where the values of a handle are asked for as JSON.
 const JSON_PATH: &str = "/api/handles/";
 
-/// What is to be done for a request.
+/// What is to be done next.
 #[derive(Drop)]
 pub enum Next {
     /// It is answered.
     Answer(Answer),
-    /// A server is to be asked, and then [`finish`].
+    /// A server is to be asked, and then [`next_step`](crate::next_step).
     Ask(Question),
 }
 
@@ -116,6 +116,13 @@ fn is_called_back(form: Form, pairs: &[Pair]) -> bool
     is_json(form) && has_pair(pairs, "callback")
 }
 
+/// Whether aliases are followed: where a URL is, unless the query says that they are not.
+fn follows_aliases(form: Form, pairs: &[Pair]) -> bool
+    ensures { result ≡ follows_aliases form (texts_of pairs.now) }
+{
+    matches!(form, Form::Follow) && !has_pair(pairs, "ignore_aliases")
+}
+
 /// The question of an address: `sent` is the part of its path that names a handle, `text` the name in it with its escapes.
 fn begin_handle(
     alloc: Global,
@@ -147,6 +154,9 @@ fn begin_handle(
             indexes,
             types,
             append,
+            aliases: follows_aliases(form, pairs),
+            passed: Vec::new(alloc),
+            keeping: Keeping::Seconds(DAY),
         })),
         Err(fault) => {
             let asked = asked_text(&octets, sent);
@@ -349,44 +359,48 @@ fn answer_values(
     }
 }
 
-fn answer_refusal(
+/// That there are no values of this handle, by code and reason.
+pub(crate) fn refused(
     alloc: Global,
-    question: &Question,
+    form: Form,
+    handle: &[u8],
     status: Status,
     code: u32,
     why: &str,
 ) -> Result<Answer, AllocError>
-    ensures { IfOk result (Refuses status question.now.form question.now.name code why.now) }
+    ensures { IfOk result (Refuses status form handle.now code why.now) }
 {
-    let handle = question.name.sent();
-    match question.form {
+    match form {
         Form::Json | Form::Pretty => json::refusal(alloc, status, handle, code, why),
         Form::Follow | Form::Page => pages::refusal(alloc, status, handle, code, why),
     }
 }
 
-/// What is answered where this was found.
-fn answer_found(alloc: Global, question: &Question, found: &Found) -> Result<Answer, AllocError>
+/// What is answered where this was found, and no alias is followed.
+pub(crate) fn answer_found(
+    alloc: Global,
+    question: &Question,
+    found: &Found,
+) -> Result<Answer, AllocError>
     ensures { IfOk result (ShowsFound question.now.form question.now.name question.now.append.items found.now) }
 {
+    let form = question.form;
+    let handle = question.name.sent();
     match found {
-        Found::Values(values) => {
-            let handle = question.name.sent();
-            answer_values(alloc, handle, question.form, &question.append, values)
-        }
+        Found::Values(values) => answer_values(alloc, handle, form, &question.append, values),
         Found::Refused(code) => {
             let status = Status::of_code(*code);
-            answer_refusal(alloc, question, status, *code, refused_words(*code))
+            refused(alloc, form, handle, status, *code, refused_words(*code))
         }
         Found::Nothing => {
             let why = "No server answered.";
             let code = ResponseCode::Error.number();
-            answer_refusal(alloc, question, Status::BadGateway, code, why)
+            refused(alloc, form, handle, Status::BadGateway, code, why)
         }
     }
 }
 
-/// What is answered to a question: `answered` is the message of the reply, as a [`Resolver`](crate::Resolver) gave it.
+/// What is answered to a question where no alias is followed: `answered` is the message of the reply, as a [`Resolver`](crate::Resolver) gave it.
 pub fn finish(
     alloc: Global,
     question: &Question,
