@@ -1,12 +1,12 @@
 -- What is done for a request.
-use Rattle.std.specs.Prelude.{◌≡◌, ◌≢◌, ◌⊎◌, ⊤, ◌==◌, ◌&&◌, ℕ, Bool, true, false, not, List, [], ◌∷◌, ◌++◌, All, Option, Some, None, codes, map, if◌then◌else◌}
+use Rattle.std.specs.Prelude.{◌≡◌, ◌≢◌, ◌⊎◌, ⊤, ◌==◌, ◌&&◌, ℕ, Bool, true, false, not, List, [], ◌∷◌, ◌++◌, All, Option, Some, None, codes, map, string_bytes, if◌then◌else◌}
 use Rattle.std.specs.Str.{trim}
 use Rattle.percent_encoding.specs.Percent.{percent_decode}
 use Rattle.hdl_name.specs.Name.{IsHandle}
 use Rattle.hdl_proxy.specs.Answer.{LeadsTo, Tells, IsLocated, is_json, media_of}
 use Rattle.hdl_proxy.specs.Link.{path_to}
 use Rattle.hdl_proxy.specs.Pasted.{IsPasted, IsWritten}
-use Rattle.hdl_proxy.specs.Query.{IsAppended, IsIndex, IsLast, has_pair, index_of, values_named}
+use Rattle.hdl_proxy.specs.Query.{IsAppended, IsIndex, IsLast, IsLocatt, has_pair, index_of, values_named}
 use Rattle.hdl_proxy.specs.declared.answer.Answer.{Answer as Reply}
 use Rattle.hdl_proxy.specs.declared.answer.Keeping.TheVariants.{Seconds}
 use Rattle.hdl_proxy.specs.declared.answer.Media.TheVariants as media
@@ -150,6 +150,7 @@ pub record IsAsked (asked : List ℕ) (wanted : Form) (pairs : List (List ℕ ×
   pub indexes : question.indexes.items ≡ map index_of (values_named (codes "index") pairs)
   pub types : question.types.items ≡ values_named (codes "type") pairs
   pub append : IsAppended pairs question.append.items
+  pub locatt : IsLocatt pairs (string_bytes question.locatt)
   pub aliases : question.aliases ≡ follows_aliases wanted pairs
   pub passed : question.passed.items ≡ []
   pub keeping : question.keeping ≡ Seconds 86_400

@@ -7,6 +7,7 @@ pub mod Found
 pub mod Json
 pub mod Keeping
 pub mod Link
+pub mod Locations
 pub mod Pages
 pub mod Pasted
 pub mod Query

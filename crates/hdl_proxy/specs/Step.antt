@@ -49,6 +49,7 @@ pub record IsNext (question : Question) (hop : Hop) (next : Question) : Type 0 w
   pub indexes : next.indexes.items ≡ []
   pub types : next.types.items ≡ []
   pub append : next.append ≡ question.append
+  pub locatt : next.locatt ≡ question.locatt
   pub aliases : next.aliases ≡ question.aliases
   pub passed : next.passed.items ≡ asked_for question
   pub keeping : next.keeping ≡ sooner question.keeping hop.keeping

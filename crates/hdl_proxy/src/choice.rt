@@ -8,6 +8,9 @@ use hdl_value::{Permission, Value};
 /// The type of a value that a browser is sent to.
 const URL: &[u8] = b"URL";
 
+/// The type of a value that says several locations.
+const LOCATIONS: &[u8] = b"10320/loc";
+
 /// The type of a value that names another handle, which is asked for in this one's place.
 const ALIAS: &[u8] = b"HS_ALIAS";
 
@@ -60,6 +63,13 @@ pub fn first_url(values: &[Value]) -> Option<&Value>
     ensures { IsFirstUrl values.now (option_copied result) }
 {
     first_of(URL, values)
+}
+
+/// The locations of the lowest index.
+pub(crate) fn first_place(values: &[Value]) -> Option<&Value>
+    ensures { IsFirstOf (codes "10320/loc") values.now (option_copied result) }
+{
+    first_of(LOCATIONS, values)
 }
 
 /// The alias of the lowest index.

@@ -23,6 +23,7 @@ mod json;
 mod keeping;
 mod laws;
 mod link;
+mod locations;
 mod names;
 mod page;
 mod pages;
@@ -36,6 +37,7 @@ mod step;
 mod tag;
 mod url;
 mod words;
+mod xml;
 
 pub use answer::{Answer, Keeping, Media, Status};
 pub use choice::{first_url, is_shown};

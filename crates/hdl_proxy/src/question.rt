@@ -36,6 +36,8 @@ pub struct Question {
     pub types: Vec<Octets>,
     /// What is put behind the URL that is followed.
     pub append: Vec<u8>,
+    /// Which of several locations is asked for, as `NAME:VALUE` of an attribute; nothing where none is.
+    pub locatt: String,
     /// Whether an alias of the handle is followed.
     pub aliases: bool,
     /// The handles whose aliases led here, the one that was asked for first.

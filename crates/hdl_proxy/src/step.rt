@@ -36,11 +36,11 @@ fn within(keeping: Keeping, answer: Answer) -> Answer
 }
 
 /// The answer to a question of whose handle this was found, where no alias is followed.
-fn end(alloc: Global, question: &Question, found: &Found) -> Result<Answer, AllocError>
+fn end(alloc: Global, question: &Question, found: &Found, chance: u64) -> Result<Answer, AllocError>
     ensures ends { IfOk result (Ends question.now found.now) }
     ensures located { IfOk result IsLocated }
 {
-    let answer = answer_found(alloc, question, found)?;
+    let answer = answer_found(alloc, question, found, chance)?;
     Ok(within(question.keeping, answer))
 }
 
@@ -77,6 +77,7 @@ fn follow(alloc: Global, question: Question, hop: Hop) -> Result<Next, AllocErro
         name,
         form,
         append,
+        locatt,
         aliases,
         passed,
         keeping,
@@ -99,6 +100,7 @@ fn follow(alloc: Global, question: Question, hop: Hop) -> Result<Next, AllocErro
         indexes: Vec::new(alloc),
         types: Vec::new(alloc),
         append,
+        locatt,
         aliases,
         passed: asked,
         keeping: sooner(keeping, hop.keeping),
@@ -106,11 +108,13 @@ fn follow(alloc: Global, question: Question, hop: Hop) -> Result<Next, AllocErro
 }
 
 /// What is next for a question, now that a [`Resolver`](crate::Resolver) gave this. Where aliases are followed and the handle has one, the handle that it names is
-/// asked for, unless that was asked for already or ten aliases were followed; else the answer is there. So at most ten questions come of one.
+/// asked for, unless that was asked for already or ten aliases were followed; else the answer is there. So at most ten questions come of one. `chance`
+/// is any number, by which one of several locations is chosen.
 pub fn next_step(
     alloc: Global,
     question: Question,
     answered: Result<&[u8], NoAnswer>,
+    chance: u64,
 ) -> Result<Next, AllocError>
     ensures steps { IfOk result (IsStep question answered.entry) }
     ensures located { IfOk result IsLocatedIfAnswered }
@@ -118,6 +122,6 @@ pub fn next_step(
     let found = read_answer(alloc, question.name.sent(), answered)?;
     match hop_in(alloc, &found, question.aliases)? {
         Some(hop) => follow(alloc, question, hop),
-        None => Ok(Next::Answer(end(alloc, &question, &found)?)),
+        None => Ok(Next::Answer(end(alloc, &question, &found, chance)?)),
     }
 }
