@@ -1,5 +1,6 @@
 pub mod Addresses
 pub mod Behind
+pub mod Firsts
 pub mod Inert
 pub mod Joined
 pub mod Located
@@ -12,3 +13,4 @@ pub mod Sections
 pub mod Soonest
 pub mod Texts
 pub mod Unsound
+pub mod Within

@@ -3,7 +3,7 @@ use Rattle.std.proofs.Common.{◌≡◌, ◌≢◌, ℕ, Bool, true, false, cond
 use Rattle.std.specs.Global.{Global}
 use Rattle.std.proofs.lemmas.List.Elements.{All-cons}
 use Rattle.hdl_value.specs.declared.value.Value.{Value}
-use Rattle.hdl_proxy.specs.Answer.{LeadsTo, Tells, IsLocated, IsWayOf, IsWayOfValue, IsWayToMeant, Goes, ShowsValues, ShowsFound}
+use Rattle.hdl_proxy.specs.Answer.{LeadsTo, Tells, IsLocated, IsWayBy, IsWayFrom, IsWayOf, IsWayOfValue, IsWayToMeant, Goes, ShowsValues, ShowsFound}
 use Rattle.hdl_proxy.specs.Link.{IsLink, address_of, path_to}
 use Rattle.hdl_proxy.specs.Status.{status_of_code}
 use Rattle.hdl_proxy.specs.Url.{IsGraphic, extended}
@@ -68,9 +68,13 @@ way_graphic : (append to : List ℕ) (first : Option Value) → IsWayOfValue fir
 way_graphic append to None w = absurd cc
 way_graphic append to (Some v) w = meant_graphic (extended v.bytes append) to w
 
-goes_located : (handle append : List ℕ) (values : List Value) (way : Option (List ℕ)) (a : Answer) → IsWayOf values append way → Goes handle values way a → IsLocated a
+from_graphic : (values : List Value) (append to : List ℕ) (place : Option Value) → IsWayBy place values append (Some to) → All IsGraphic to
+from_graphic values append to None w = way_graphic append to w.0 w.1.1
+from_graphic values append to (Some place) w = meant_graphic w.0 to w.1
+
+goes_located : (handle append : List ℕ) (values : List Value) (way : Option (List ℕ)) (a : Answer) → IsWayFrom values append way → Goes handle values way a → IsLocated a
 goes_located handle append values None a w h = tells_located status.Success _ a (λ e. cc) h.told
-goes_located handle append values (Some to) a w h = leads_located handle to a (way_graphic append to w.0 w.1.1) h.leads
+goes_located handle append values (Some to) a w h = leads_located handle to a (from_graphic values append to w.0 w.1.1) h.leads
 
 values_located : (form : Form) (handle append : List ℕ) (values : List Value) (a : Answer) → ShowsValues form handle append values a → IsLocated a
 values_located Follow handle append values a h = goes_located handle append values h.0 a h.1.0 h.1.1

@@ -3,7 +3,7 @@ use Rattle.std.specs.Prelude.{◌≡◌, ◌≢◌, ℕ, Bool, true, false, List
 use Rattle.std.specs.Borrow.{Bor}
 use Rattle.hdl_value.specs.declared.value.Value.{Value}
 use Rattle.serde_json.specs.Written.{compact_text}
-use Rattle.hdl_proxy.specs.Choice.{IsFirstUrl}
+use Rattle.hdl_proxy.specs.Choice.{IsFirstOf, IsFirstUrl}
 use Rattle.hdl_proxy.specs.Found.{IsFoundOf}
 use Rattle.hdl_proxy.specs.Json.{refusal_json, IsJsonOf, IsPrettyOf}
 use Rattle.hdl_proxy.specs.Keeping.{IsKeepingOf}
@@ -59,6 +59,18 @@ IsWayOfValue (Some value) append way = IsWayToMeant (extended value.bytes append
 abbrev pub IsWayOf : List Value → List ℕ → Option (List ℕ) → Type 0
 IsWayOf values append way = (first : Option Value) × (IsFirstUrl values first × IsWayOfValue first append way)
 
+-- some way: a URL's that is one to be followed, or none
+abbrev pub IsSomeWay : Option (List ℕ) → Type 0
+IsSomeWay way = (meant : Option (List ℕ)) × IsWayToMeant meant way
+
+-- where a handle's own address leads: some way where it has locations, and else to its first URL
+abbrev pub IsWayBy : Option Value → List Value → List ℕ → Option (List ℕ) → Type 0
+IsWayBy None values append way = IsWayOf values append way
+IsWayBy (Some place) values append way = IsSomeWay way
+
+abbrev pub IsWayFrom : List Value → List ℕ → Option (List ℕ) → Type 0
+IsWayFrom values append way = (place : Option Value) × (IsFirstOf (codes "10320/loc") values place × IsWayBy place values append way)
+
 -- ---- what is answered to a question
 
 -- JSON where it was asked for, and else a page
@@ -102,9 +114,9 @@ abbrev pub Goes : List ℕ → List Value → Option (List ℕ) → Answer → T
 Goes handle values None answer = IsPage handle values answer
 Goes handle values (Some to) answer = LeadsBy handle values to answer
 
--- in this form these values: the way to their URL, with this behind it, where they are to be followed and there is one, and else all of them
+-- in this form these values: the way from them, with this behind their URL, where they are to be followed and there is one, and else all of them
 abbrev pub ShowsValues : Form → List ℕ → List ℕ → List Value → Answer → Type 0
-ShowsValues Follow handle append values answer = (way : Option (List ℕ)) × (IsWayOf values append way × Goes handle values way answer)
+ShowsValues Follow handle append values answer = (way : Option (List ℕ)) × (IsWayFrom values append way × Goes handle values way answer)
 ShowsValues Page handle append values answer = IsPage handle values answer
 ShowsValues Json handle append values answer = IsJson handle values answer
 ShowsValues Pretty handle append values answer = IsPretty handle values answer

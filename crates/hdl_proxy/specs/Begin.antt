@@ -1,13 +1,14 @@
 -- What is done for a request.
-use Rattle.std.specs.Prelude.{◌≡◌, ◌≢◌, ◌⊎◌, ⊤, ◌==◌, ◌&&◌, ℕ, Bool, false, List, [], ◌∷◌, ◌++◌, All, Option, Some, None, codes, map, if◌then◌else◌}
+use Rattle.std.specs.Prelude.{◌≡◌, ◌≢◌, ◌⊎◌, ⊤, ◌==◌, ◌&&◌, ℕ, Bool, true, false, not, List, [], ◌∷◌, ◌++◌, All, Option, Some, None, codes, map, string_bytes, if◌then◌else◌}
 use Rattle.std.specs.Str.{trim}
 use Rattle.percent_encoding.specs.Percent.{percent_decode}
 use Rattle.hdl_name.specs.Name.{IsHandle}
 use Rattle.hdl_proxy.specs.Answer.{LeadsTo, Tells, IsLocated, is_json, media_of}
 use Rattle.hdl_proxy.specs.Link.{path_to}
 use Rattle.hdl_proxy.specs.Pasted.{IsPasted, IsWritten}
-use Rattle.hdl_proxy.specs.Query.{IsAppended, IsIndex, IsLast, has_pair, index_of, values_named}
+use Rattle.hdl_proxy.specs.Query.{IsAppended, IsIndex, IsLast, IsLocatt, has_pair, index_of, values_named}
 use Rattle.hdl_proxy.specs.declared.answer.Answer.{Answer as Reply}
+use Rattle.hdl_proxy.specs.declared.answer.Keeping.TheVariants.{Seconds}
 use Rattle.hdl_proxy.specs.declared.answer.Media.TheVariants as media
 use Rattle.hdl_proxy.specs.declared.answer.Status.TheVariants as status
 use Rattle.hdl_proxy.specs.declared.proxy.Next.{Next}
@@ -131,7 +132,17 @@ IsAddress path pairs form text =
     ((form ≡ json_form pairs) × (path ≡ json_path ++ text))
     ⊎ ((form ≡ page_form pairs) × ¬ (IsUnder api_path path) × IsWritten (without_slash path) text)
 
--- what is asked of this name: the indexes and types of all pairs `index` and `type`, and what is appended
+-- aliases are followed where a URL is, unless the query has `ignore_aliases`
+abbrev pub is_way : Form → Bool
+is_way Follow = true
+is_way Page = false
+is_way Json = false
+is_way Pretty = false
+
+abbrev pub follows_aliases : Form → List (List ℕ × List ℕ) → Bool
+follows_aliases form pairs = is_way form && not (has_pair (codes "ignore_aliases") pairs)
+
+-- what is asked of this name: the indexes and types of all pairs `index` and `type`, what is appended, and whether aliases are followed, of which none was yet
 pub record IsAsked (asked : List ℕ) (wanted : Form) (pairs : List (List ℕ × List ℕ)) (question : Question) : Type 0 where
   pub name : question.name ≡ asked
   pub form : question.form ≡ wanted
@@ -139,6 +150,10 @@ pub record IsAsked (asked : List ℕ) (wanted : Form) (pairs : List (List ℕ ×
   pub indexes : question.indexes.items ≡ map index_of (values_named (codes "index") pairs)
   pub types : question.types.items ≡ values_named (codes "type") pairs
   pub append : IsAppended pairs question.append.items
+  pub locatt : IsLocatt pairs (string_bytes question.locatt)
+  pub aliases : question.aliases ≡ follows_aliases wanted pairs
+  pub passed : question.passed.items ≡ []
+  pub keeping : question.keeping ≡ Seconds 86_400
   pub no_call : is_called_back wanted pairs ≡ false
 
 -- it is asked for; where the name or an index is none, or a call is asked for, the request is refused

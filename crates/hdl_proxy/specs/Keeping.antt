@@ -26,3 +26,9 @@ keeping_for (Some soonest) = Seconds (fresh_for soonest)
 -- the least of the times of these values, and not at all where there are none
 abbrev pub IsKeepingOf : List Value → Keeping → Type 0
 IsKeepingOf values kept = (soonest : Option Value) × (IsSoonest values soonest × (kept ≡ keeping_for soonest))
+
+-- of what two things are made of: the lesser of their times, and not at all where one of them may not be
+abbrev pub sooner : Keeping → Keeping → Keeping
+sooner Never other = Never
+sooner (Seconds n) Never = Never
+sooner (Seconds n) (Seconds m) = Seconds (min n m)

@@ -1,3 +1,4 @@
+pub mod Alias
 pub mod Answer
 pub mod Begin
 pub mod Choice
@@ -6,12 +7,14 @@ pub mod Found
 pub mod Json
 pub mod Keeping
 pub mod Link
+pub mod Locations
 pub mod Pages
 pub mod Pasted
 pub mod Query
 pub mod Question
 pub mod Site
 pub mod Status
+pub mod Step
 pub mod Tag
 pub mod Url
 pub mod Words

@@ -151,6 +151,7 @@ lead_word code =
     else if code == 102 then codes "No handle: "
     else if code == 200 then codes "Not public: "
     else if code == 5 then codes "Not done: "
+    else if code == 6 then codes "Leads nowhere: "
     else codes "No answer: "
 
 abbrev pub refusal_title : ℕ → List ℕ → List ℕ

@@ -46,6 +46,10 @@ IsLast values (Some last) = (front : List (List ℕ)) × (values ≡ front ++ la
 abbrev pub IsAppended : List (List ℕ × List ℕ) → List ℕ → Type 0
 IsAppended pairs append = (last : Option (List ℕ)) × (IsLast (values_named (codes "urlappend") pairs) last × (append ≡ unwrap_or last []))
 
+-- which location is asked for: what the last pair `locatt` says, and nothing where there is none
+abbrev pub IsLocatt : List (List ℕ × List ℕ) → List ℕ → Type 0
+IsLocatt pairs locatt = (last : Option (List ℕ)) × (IsLast (values_named (codes "locatt") pairs) last × (locatt ≡ unwrap_or last []))
+
 -- ---- indexes
 
 -- decimal digits of a number that an index may be; a plus may stand in front of them

@@ -55,4 +55,5 @@ advice code asked =
     else if code == 102 then codes "A handle is a prefix, a slash and a local name, such as 10/a."
     else if code == 200 then codes "Its values aren't public, or the words behind the question mark of its address ask for others."
     else if code == 5 then codes "Follow a link to a handle, or type its address."
+    else if code == 6 then codes "Please tell who gave it to you: one of these handles has to lead elsewhere."
     else codes "Please come back in a few minutes."

@@ -1,12 +1,18 @@
-//! Which values are shown, and which one is followed.
+//! Which values are shown, and which one leads on.
 
-ghost use Rattle.std.specs.Prelude.{◌≡◌, option_copied};
-ghost use Rattle.hdl_proxy.specs.Choice.{is_shown, is_url, comes_first, IsFirstUrl};
+ghost use Rattle.std.specs.Prelude.{◌≡◌, codes, option_copied};
+ghost use Rattle.hdl_proxy.specs.Choice.{is_shown, is_of, is_chosen, comes_first, IsFirstOf, IsFirstUrl};
 
 use hdl_value::{Permission, Value};
 
 /// The type of a value that a browser is sent to.
 const URL: &[u8] = b"URL";
+
+/// The type of a value that says several locations.
+const LOCATIONS: &[u8] = b"10320/loc";
+
+/// The type of a value that names another handle, which is asked for in this one's place.
+const ALIAS: &[u8] = b"HS_ALIAS";
 
 /// Whether a value is shown: anybody may read it, and it is no key.
 pub fn is_shown(value: &Value) -> bool
@@ -15,10 +21,11 @@ pub fn is_shown(value: &Value) -> bool
     value.permits(Permission::PublicRead) && !value.is_secret_key()
 }
 
-fn is_url(value: &Value) -> bool
-    ensures { result ≡ is_url value.now }
+/// Whether a value is of this type.
+fn is_of(kind: &[u8], value: &Value) -> bool
+    ensures { result ≡ is_of kind.now value.now }
 {
-    value.kind.as_slice() == URL
+    value.kind.as_slice() == kind
 }
 
 /// Whether a value comes before the one that was chosen so far, if one was.
@@ -31,15 +38,43 @@ fn comes_first(value: &Value, chosen: Option<&Value>) -> bool
     }
 }
 
-/// The URL value of the lowest index: of these, since a server may send them in any order.
-pub fn first_url(values: &[Value]) -> Option<&Value>
-    ensures { IsFirstUrl values.now (option_copied result) }
+/// Whether a value of this type is chosen in the place of the one that was so far, if one was.
+fn is_chosen(kind: &[u8], value: &Value, chosen: Option<&Value>) -> bool
+    ensures { result ≡ is_chosen kind.now value.now (option_copied chosen.entry) }
+{
+    is_of(kind, value) && comes_first(value, chosen)
+}
+
+/// The value of this type of the lowest index: of these, since a server may send them in any order.
+fn first_of<'a>(kind: &[u8], values: &'a [Value]) -> Option<&'a Value>
+    ensures { IsFirstOf kind.now values.now (option_copied result) }
 {
     let mut chosen: Option<&Value> = None;
     for value in values {
-        if is_url(value) && comes_first(value, chosen) {
+        if is_chosen(kind, value, chosen) {
             chosen = Some(value);
         }
     }
     chosen
+}
+
+/// The URL value of the lowest index.
+pub fn first_url(values: &[Value]) -> Option<&Value>
+    ensures { IsFirstUrl values.now (option_copied result) }
+{
+    first_of(URL, values)
+}
+
+/// The locations of the lowest index.
+pub(crate) fn first_place(values: &[Value]) -> Option<&Value>
+    ensures { IsFirstOf (codes "10320/loc") values.now (option_copied result) }
+{
+    first_of(LOCATIONS, values)
+}
+
+/// The alias of the lowest index.
+pub(crate) fn first_alias(values: &[Value]) -> Option<&Value>
+    ensures { IsFirstOf (codes "HS_ALIAS") values.now (option_copied result) }
+{
+    first_of(ALIAS, values)
 }

@@ -1,7 +1,7 @@
 //! How long others may keep an answer.
 
 ghost use Rattle.std.specs.Prelude.{◌≡◌, option_copied};
-ghost use Rattle.hdl_proxy.specs.Keeping.{IsKeepingOf, IsSoonest, comes_sooner, fresh_for};
+ghost use Rattle.hdl_proxy.specs.Keeping.{IsKeepingOf, IsSoonest, comes_sooner, fresh_for, sooner};
 
 use crate::answer::Keeping;
 use hdl_value::Value;
@@ -41,6 +41,16 @@ fn soonest(values: &[Value]) -> Option<&Value>
         }
     }
     chosen
+}
+
+/// How long others may keep what two things are made of.
+pub(crate) fn sooner(one: Keeping, other: Keeping) -> Keeping
+    ensures { result ≡ sooner one other }
+{
+    match (one, other) {
+        (Keeping::Seconds(one), Keeping::Seconds(other)) => Keeping::Seconds(one.min(other)),
+        _ => Keeping::Never,
+    }
 }
 
 /// How long others may keep what is made of these values: the least of their times, and not at all where there are none, since some may

@@ -13,6 +13,7 @@
 //! ([`is_followed`]); a Location holds graphic ASCII alone; and text in a page is escaped.
 #![tactic(auto)]
 
+mod alias;
 mod answer;
 mod choice;
 mod escape;
@@ -22,6 +23,7 @@ mod json;
 mod keeping;
 mod laws;
 mod link;
+mod locations;
 mod names;
 mod page;
 mod pages;
@@ -31,9 +33,11 @@ mod query;
 mod question;
 mod resolver;
 mod site;
+mod step;
 mod tag;
 mod url;
 mod words;
+mod xml;
 
 pub use answer::{Answer, Keeping, Media, Status};
 pub use choice::{first_url, is_shown};
@@ -46,6 +50,7 @@ pub use query::{Pair, has_pair, indexes_of, last_named, read_pairs, types_of, va
 pub use question::{Form, Question};
 pub use resolver::{NoAnswer, Resolver};
 pub use site::Site;
+pub use step::{HOPS_MOST, next_step};
 pub use tag::tagged;
 pub use url::is_followed;
 pub use words::{KeptFor, usual_permissions};

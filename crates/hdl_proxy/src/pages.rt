@@ -75,6 +75,7 @@ fn advice(code: u32, asked: &[u8]) -> &'static str
         200 =>
             "Its values aren't public, or the words behind the question mark of its address ask for others.",
         5 => "Follow a link to a handle, or type its address.",
+        6 => "Please tell who gave it to you: one of these handles has to lead elsewhere.",
         _ => "Please come back in a few minutes.",
     }
 }
@@ -88,6 +89,7 @@ fn lead_word(code: u32) -> &'static str
         102 => "No handle: ",
         200 => "Not public: ",
         5 => "Not done: ",
+        6 => "Leads nowhere: ",
         _ => "No answer: ",
     }
 }

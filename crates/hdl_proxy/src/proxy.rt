@@ -2,20 +2,23 @@
 
 ghost use Rattle.std.specs.Prelude.{◌≡◌, ◌≢◌, IfOk, codes};
 ghost use Rattle.percent_encoding.specs.Percent.{percent_decode};
-ghost use Rattle.hdl_proxy.specs.Answer.{Answers, Goes, IsLocated, IsWayOf, IsWayToMeant, Refuses, ShowsFound, ShowsValues, Tells, is_json, media_of};
-ghost use Rattle.hdl_proxy.specs.Begin.{AsksAddress, AsksFor, IsAnswered, IsFile, IsFront, IsLocatedIfAnswered, IsNoHandle, IsOfFile, IsOfHandle, IsOwn, IsReading, LeadsFromPasted, LeadsToName, RefusesMethod, is_called_back, json_form, page_form, without_slash};
+ghost use Rattle.hdl_proxy.specs.Answer.{Answers, Goes, IsLocated, IsSomeWay, IsWayFrom, IsWayOf, IsWayToMeant, Refuses, ShowsFound, ShowsValues, Tells, is_json, media_of};
+ghost use Rattle.hdl_proxy.specs.Begin.{AsksAddress, AsksFor, IsAnswered, IsFile, IsFront, IsLocatedIfAnswered, IsNoHandle, IsOfFile, IsOfHandle, IsOwn, IsReading, LeadsFromPasted, LeadsToName, RefusesMethod, follows_aliases, is_called_back, json_form, page_form, without_slash};
 ghost use Rattle.hdl_proxy.specs.Query.{pairs_of, texts_of};
 ghost use Rattle.hdl_proxy.specs.Status.{refused_words};
 ghost use Rattle.hdl_proxy.specs.Url.{extended};
 
 use crate::answer::{Answer, Keeping, Media, Status};
-use crate::choice::first_url;
+use crate::choice::{first_place, first_url};
 use crate::found::{Found, read_answer};
-use crate::keeping::keeping_of;
+use crate::keeping::{DAY, keeping_of};
 use crate::link::Link;
+use crate::locations::{choose, read_locations};
 use crate::names::{decoded, read_name};
 use crate::pasted::{pasted, written};
-use crate::query::{Pair, appended, has_pair, indexes_of, last_named, read_pairs, types_of};
+use crate::query::{
+    Pair, appended, has_pair, indexes_of, last_named, location_asked, read_pairs, types_of,
+};
 use crate::question::{Form, Question};
 use crate::resolver::NoAnswer;
 use crate::url::extended;
@@ -34,12 +37,12 @@ const LIST_PATH: &str = "/api/handles";
 /// Where the values of a handle are asked for as JSON.
 const JSON_PATH: &str = "/api/handles/";
 
-/// What is to be done for a request.
+/// What is to be done next.
 #[derive(Drop)]
 pub enum Next {
     /// It is answered.
     Answer(Answer),
-    /// A server is to be asked, and then [`finish`].
+    /// A server is to be asked, and then [`next_step`](crate::next_step).
     Ask(Question),
 }
 
@@ -116,6 +119,13 @@ fn is_called_back(form: Form, pairs: &[Pair]) -> bool
     is_json(form) && has_pair(pairs, "callback")
 }
 
+/// Whether aliases are followed: where a URL is, unless the query says that they are not.
+fn follows_aliases(form: Form, pairs: &[Pair]) -> bool
+    ensures { result ≡ follows_aliases form (texts_of pairs.now) }
+{
+    matches!(form, Form::Follow) && !has_pair(pairs, "ignore_aliases")
+}
+
 /// The question of an address: `sent` is the part of its path that names a handle, `text` the name in it with its escapes.
 fn begin_handle(
     alloc: Global,
@@ -140,6 +150,7 @@ fn begin_handle(
     };
     let types = types_of(alloc, pairs)?;
     let append = appended(alloc, pairs)?;
+    let locatt = location_asked(alloc, pairs)?;
     match read_name(alloc, &octets)? {
         Ok(name) => Ok(Next::Ask(Question {
             name,
@@ -147,6 +158,10 @@ fn begin_handle(
             indexes,
             types,
             append,
+            locatt,
+            aliases: follows_aliases(form, pairs),
+            passed: Vec::new(alloc),
+            keeping: Keeping::Seconds(DAY),
         })),
         Err(fault) => {
             let asked = asked_text(&octets, sent);
@@ -304,13 +319,49 @@ fn way_beyond(alloc: Global, url: &[u8], append: &[u8]) -> Result<Option<Link>, 
     }
 }
 
-/// Where a handle's own address leads: to the first URL of its values with this behind it, where that is one to be followed.
+/// What a way is chosen by: what is put behind a URL, which location is asked for, and any number, by which one of several is chosen.
+#[derive(Clone, Copy)]
+struct Wish<'a> {
+    append: &'a [u8],
+    locatt: &'a str,
+    chance: u64,
+}
+
+/// The way to the first URL of these values with this behind it, where that is one to be followed.
 fn way_of(alloc: Global, values: &[Value], append: &[u8]) -> Result<Option<Link>, AllocError>
     ensures { IfOk result (IsWayOf values.now append.now) }
 {
     match first_url(values) {
         Some(value) => way_beyond(alloc, value.bytes.as_slice(), append),
         None => Ok(None),
+    }
+}
+
+/// The way to one of the locations of this value, where it can be read; the way to a URL where none of them is chosen.
+fn way_by(
+    alloc: Global,
+    place: &Value,
+    values: &[Value],
+    wish: &Wish<'_>,
+) -> Result<Option<Link>, AllocError>
+    ensures { IfOk result IsSomeWay }
+{
+    let Some(locations) = read_locations(alloc, place.bytes.as_slice(), wish.locatt)? else {
+        return Ok(None);
+    };
+    match choose(&locations, wish.chance) {
+        Some(location) => way_beyond(alloc, location.href.as_bytes(), wish.append),
+        None => way_of(alloc, values, wish.append),
+    }
+}
+
+/// Where a handle's own address leads: to one of its locations, or where it has none to its first URL.
+fn way_from(alloc: Global, values: &[Value], wish: &Wish<'_>) -> Result<Option<Link>, AllocError>
+    ensures { IfOk result (IsWayFrom values.now wish.now.append.now) }
+{
+    match first_place(values) {
+        Some(place) => way_by(alloc, place, values, wish),
+        None => way_of(alloc, values, wish.append),
     }
 }
 
@@ -333,14 +384,14 @@ fn answer_values(
     alloc: Global,
     handle: &[u8],
     form: Form,
-    append: &[u8],
+    wish: &Wish<'_>,
     values: &[Value],
 ) -> Result<Answer, AllocError>
-    ensures { IfOk result (ShowsValues form handle.now append.now values.now) }
+    ensures { IfOk result (ShowsValues form handle.now wish.now.append.now values.now) }
 {
     match form {
         Form::Follow => {
-            let way = way_of(alloc, values, append)?;
+            let way = way_from(alloc, values, wish)?;
             go(alloc, handle, way, values)
         }
         Form::Page => pages::values_page(alloc, handle, values),
@@ -349,52 +400,66 @@ fn answer_values(
     }
 }
 
-fn answer_refusal(
+/// That there are no values of this handle, by code and reason.
+pub(crate) fn refused(
     alloc: Global,
-    question: &Question,
+    form: Form,
+    handle: &[u8],
     status: Status,
     code: u32,
     why: &str,
 ) -> Result<Answer, AllocError>
-    ensures { IfOk result (Refuses status question.now.form question.now.name code why.now) }
+    ensures { IfOk result (Refuses status form handle.now code why.now) }
 {
-    let handle = question.name.sent();
-    match question.form {
+    match form {
         Form::Json | Form::Pretty => json::refusal(alloc, status, handle, code, why),
         Form::Follow | Form::Page => pages::refusal(alloc, status, handle, code, why),
     }
 }
 
-/// What is answered where this was found.
-fn answer_found(alloc: Global, question: &Question, found: &Found) -> Result<Answer, AllocError>
+/// What is answered where this was found, and no alias is followed.
+pub(crate) fn answer_found(
+    alloc: Global,
+    question: &Question,
+    found: &Found,
+    chance: u64,
+) -> Result<Answer, AllocError>
     ensures { IfOk result (ShowsFound question.now.form question.now.name question.now.append.items found.now) }
 {
+    let form = question.form;
+    let handle = question.name.sent();
     match found {
         Found::Values(values) => {
-            let handle = question.name.sent();
-            answer_values(alloc, handle, question.form, &question.append, values)
+            let wish = Wish {
+                append: &question.append,
+                locatt: &question.locatt,
+                chance,
+            };
+            answer_values(alloc, handle, form, &wish, values)
         }
         Found::Refused(code) => {
             let status = Status::of_code(*code);
-            answer_refusal(alloc, question, status, *code, refused_words(*code))
+            refused(alloc, form, handle, status, *code, refused_words(*code))
         }
         Found::Nothing => {
             let why = "No server answered.";
             let code = ResponseCode::Error.number();
-            answer_refusal(alloc, question, Status::BadGateway, code, why)
+            refused(alloc, form, handle, Status::BadGateway, code, why)
         }
     }
 }
 
-/// What is answered to a question: `answered` is the message of the reply, as a [`Resolver`](crate::Resolver) gave it.
+/// What is answered to a question where no alias is followed: `answered` is the message of the reply, as a [`Resolver`](crate::Resolver) gave it,
+/// and `chance` any number, by which one of several locations is chosen.
 pub fn finish(
     alloc: Global,
     question: &Question,
     answered: Result<&[u8], NoAnswer>,
+    chance: u64,
 ) -> Result<Answer, AllocError>
     ensures answers { IfOk result (Answers question.now answered.entry) }
     ensures located { IfOk result IsLocated }
 {
     let found = read_answer(alloc, question.name.sent(), answered)?;
-    answer_found(alloc, question, &found)
+    answer_found(alloc, question, &found, chance)
 }

@@ -1,7 +1,7 @@
 //! What the query of an address says.
 
-ghost use Rattle.std.specs.Prelude.{◌≡◌, IfOk, codes, map, option_map, option_copied};
-ghost use Rattle.hdl_proxy.specs.Query.{AreIndexes, IsAppended, IsLast, has_pair, pairs_of, texts_of, values_named};
+ghost use Rattle.std.specs.Prelude.{◌≡◌, IfOk, codes, map, option_map, option_copied, string_bytes};
+ghost use Rattle.hdl_proxy.specs.Query.{AreIndexes, IsAppended, IsLast, IsLocatt, has_pair, pairs_of, texts_of, values_named};
 
 use hdl_name::Octets;
 use std::alloc::{AllocError, Global};
@@ -68,6 +68,16 @@ pub(crate) fn appended(alloc: Global, pairs: &[Pair]) -> Result<Vec<u8>, AllocEr
     match last_named(alloc, pairs, "urlappend")? {
         Some(text) => Vec::from_slice(alloc, text.as_bytes()),
         None => Ok(Vec::new(alloc)),
+    }
+}
+
+/// Which of several locations is asked for: nothing where the query doesn't say.
+pub(crate) fn location_asked(alloc: Global, pairs: &[Pair]) -> Result<String, AllocError>
+    ensures { IfOk result (λ locatt. IsLocatt (texts_of pairs.now) (string_bytes locatt)) }
+{
+    match last_named(alloc, pairs, "locatt")? {
+        Some(text) => String::from_str(alloc, text),
+        None => Ok(String::new(alloc)),
     }
 }
 

@@ -7,6 +7,7 @@ ghost use Rattle.hdl_msg.specs.RequestBody.{requested};
 ghost use Rattle.hdl_msg.specs.declared.codes.OpFlag.TheVariants.{PublicOnly};
 ghost use Rattle.hdl_proxy.specs.Question.{AsksInPublic, IsTooLong};
 
+use crate::answer::Keeping;
 use hdl_limits::MESSAGE_MAX;
 use hdl_msg::{Header, OpCode, OpFlag, RequestBody, request_len, write_request};
 use hdl_name::{Listed, Name, Octets};
@@ -25,7 +26,8 @@ pub enum Form {
     Pretty,
 }
 
-/// A resolution: of which handle, in which form, which of its values (all of them where both lists are empty), and what becomes of its URL.
+/// A resolution: of which handle, in which form, which of its values (all of them where both lists are empty), what becomes of its URL, and which
+/// aliases led to it.
 #[derive(Drop)]
 pub struct Question {
     pub name: Name,
@@ -34,6 +36,14 @@ pub struct Question {
     pub types: Vec<Octets>,
     /// What is put behind the URL that is followed.
     pub append: Vec<u8>,
+    /// Which of several locations is asked for, as `NAME:VALUE` of an attribute; nothing where none is.
+    pub locatt: String,
+    /// Whether an alias of the handle is followed.
+    pub aliases: bool,
+    /// The handles whose aliases led here, the one that was asked for first.
+    pub passed: Vec<Name>,
+    /// How long others may keep what those were told with.
+    pub keeping: Keeping,
 }
 
 fn copies(alloc: Global, types: &[Octets]) -> Result<Vec<Octets>, AllocError>

@@ -1,0 +1,79 @@
+-- What is next for a question that was answered.
+use Rattle.std.specs.Prelude.{◌≡◌, ◌≤◌, ◌<◌, ◌⊎◌, ℕ, true, false, List, [], ◌∷◌, ◌++◌, length, Option, Some, None, Result, codes, slice_get, unwrap_or}
+use Rattle.std.specs.Borrow.{Bor}
+use Rattle.hdl_proxy.specs.Alias.{IsHop, is_among, way_words}
+use Rattle.hdl_proxy.specs.Answer.{Refuses, ShowsFound}
+use Rattle.hdl_proxy.specs.Found.{IsFoundOf}
+use Rattle.hdl_proxy.specs.Keeping.{sooner}
+use Rattle.hdl_proxy.specs.declared.alias.Hop.{Hop}
+use Rattle.hdl_proxy.specs.declared.answer.Answer.{Answer as Reply}
+use Rattle.hdl_proxy.specs.declared.answer.Keeping.{Keeping}
+use Rattle.hdl_proxy.specs.declared.answer.Status.TheVariants as status
+use Rattle.hdl_proxy.specs.declared.found.Found.{Found}
+use Rattle.hdl_proxy.specs.declared.proxy.Next.{Next}
+use Rattle.hdl_proxy.specs.declared.proxy.Next.TheVariants.{Answer, Ask}
+use Rattle.hdl_proxy.specs.declared.question.Form.{Form}
+use Rattle.hdl_proxy.specs.declared.question.Question.{Question}
+use Rattle.hdl_proxy.specs.declared.resolver.NoAnswer.{NoAnswer}
+
+-- ---- no alias is followed
+
+-- the same answer, which others may keep no longer than this
+pub record IsWithin (most : Keeping) (before after : Reply) : Type 0 where
+  pub keeping : after.keeping ≡ sooner most before.keeping
+  pub status : after.status ≡ before.status
+  pub location : after.location ≡ before.location
+  pub media : after.media ≡ before.media
+  pub tag : after.tag ≡ before.tag
+  pub title : after.title ≡ before.title
+  pub body : after.body ≡ before.body
+
+-- it shows what was found of the question's handle, and others may keep it no longer than what the aliases that led here were told with
+abbrev pub Ends : Question → Found → Reply → Type 0
+Ends question found answer =
+    (shown : Reply) × (ShowsFound question.form question.name question.append.items found shown × IsWithin question.keeping shown answer)
+
+-- ---- an alias is followed
+
+-- the handles that were asked for, the one of this question last
+abbrev pub asked_for : Question → List (List ℕ)
+asked_for question = question.passed.items ++ question.name ∷ []
+
+abbrev pub first_of : List (List ℕ) → List ℕ
+first_of names = unwrap_or (slice_get names 0) []
+
+-- the next question asks for the handle that the alias names, all of its values, in the same form and with the same URL's end
+pub record IsNext (question : Question) (hop : Hop) (next : Question) : Type 0 where
+  pub name : next.name ≡ hop.target
+  pub form : next.form ≡ question.form
+  pub indexes : next.indexes.items ≡ []
+  pub types : next.types.items ≡ []
+  pub append : next.append ≡ question.append
+  pub locatt : next.locatt ≡ question.locatt
+  pub aliases : next.aliases ≡ question.aliases
+  pub passed : next.passed.items ≡ asked_for question
+  pub keeping : next.keeping ≡ sooner question.keeping hop.keeping
+
+-- the aliases of these handles lead nowhere, the last of them to this one: told of the first one, by all of them
+abbrev pub LeadsNowhere : Form → List ℕ → List (List ℕ) → List ℕ → Reply → Type 0
+LeadsNowhere form front asked target answer = Refuses status.NotFound form (first_of asked) 6 (way_words front asked target) answer
+
+abbrev pub Hops : Question → Hop → Next → Type 0
+Hops question hop (Ask next) = (is_among (asked_for question) hop.target ≡ false) × (length question.passed.items < 10) × IsNext question hop next
+Hops question hop (Answer answer) =
+    ((is_among (asked_for question) hop.target ≡ true)
+    × LeadsNowhere question.form (codes "Its aliases lead in a circle: ") (asked_for question) hop.target answer)
+    ⊎ ((is_among (asked_for question) hop.target ≡ false) × (10 ≤ length question.passed.items)
+    × LeadsNowhere question.form (codes "Its aliases lead on beyond ten handles: ") (asked_for question) hop.target answer)
+
+-- ---- what is next
+
+abbrev pub IsAfter : Question → Found → Option Hop → Next → Type 0
+IsAfter question found None (Answer answer) = Ends question found answer
+IsAfter question found None (Ask next) = ⊥
+IsAfter question found (Some hop) next = Hops question hop next
+
+-- by what was found of the handle in what a resolver gave: its alias is followed, where aliases are and it has one, and else it is shown
+abbrev pub IsStep : Question → Result (Bor (List ℕ)) NoAnswer → Next → Type 0
+IsStep question answered next =
+    (found : Found) × (hop : Option Hop) × (IsFoundOf question.name answered found × IsHop question.aliases found hop × IsAfter question found hop next)

@@ -1,0 +1,127 @@
+//! What is next for a question that was answered: the handle that its alias names, or the answer.
+
+ghost use Rattle.std.specs.Prelude.{◌≡◌, IfOk};
+ghost use Rattle.hdl_proxy.specs.Begin.{IsLocatedIfAnswered};
+ghost use Rattle.hdl_proxy.specs.Answer.{IsLocated};
+ghost use Rattle.hdl_proxy.specs.Step.{Ends, Hops, IsStep, IsWithin, LeadsNowhere, first_of};
+
+use crate::alias::{Hop, hop_in, is_among, way_words};
+use crate::answer::{Answer, Keeping, Status};
+use crate::found::{Found, read_answer};
+use crate::keeping::sooner;
+use crate::proxy::{Next, answer_found, refused};
+use crate::question::{Form, Question};
+use crate::resolver::NoAnswer;
+use hdl_name::Name;
+use std::alloc::{AllocError, Global};
+
+/// The most aliases that are followed one after the other.
+pub const HOPS_MOST: usize = 10;
+
+/// The code of a request that would go on too far (RFC 3652, section 2.2.2.3).
+const TOO_FAR: u32 = 6;
+
+const CIRCLE: &str = "Its aliases lead in a circle: ";
+
+const BEYOND: &str = "Its aliases lead on beyond ten handles: ";
+
+/// The same answer, which others may keep no longer than this.
+fn within(keeping: Keeping, answer: Answer) -> Answer
+    ensures { IsWithin keeping answer result }
+{
+    Answer {
+        keeping: sooner(keeping, answer.keeping),
+        ..answer
+    }
+}
+
+/// The answer to a question of whose handle this was found, where no alias is followed.
+fn end(alloc: Global, question: &Question, found: &Found, chance: u64) -> Result<Answer, AllocError>
+    ensures ends { IfOk result (Ends question.now found.now) }
+    ensures located { IfOk result IsLocated }
+{
+    let answer = answer_found(alloc, question, found, chance)?;
+    Ok(within(question.keeping, answer))
+}
+
+/// The first of these handles.
+fn first_of(names: &[Name]) -> &[u8]
+    ensures { result.now ≡ first_of names.now }
+{
+    match names.first() {
+        Some(first) => first.sent(),
+        None => b"",
+    }
+}
+
+/// That the aliases of these handles lead nowhere, the last of them to this one.
+fn nowhere(
+    alloc: Global,
+    form: Form,
+    front: &str,
+    asked: &[Name],
+    target: &Name,
+) -> Result<Answer, AllocError>
+    ensures { IfOk result (LeadsNowhere form front.now asked.now target.now) }
+{
+    let why = way_words(alloc, front, asked, target)?;
+    let handle = first_of(asked);
+    refused(alloc, form, handle, Status::NotFound, TOO_FAR, why.as_str())
+}
+
+/// What is next where this alias is followed.
+fn follow(alloc: Global, question: Question, hop: Hop) -> Result<Next, AllocError>
+    ensures { IfOk result (Hops question hop) }
+{
+    let Question {
+        name,
+        form,
+        append,
+        locatt,
+        aliases,
+        passed,
+        keeping,
+        ..
+    } = question;
+    let mut asked = passed;
+    let hops = asked.len();
+    asked.push(name)?;
+    if is_among(&asked, &hop.target) {
+        let answer = nowhere(alloc, form, CIRCLE, &asked, &hop.target)?;
+        return Ok(Next::Answer(answer));
+    }
+    if hops >= HOPS_MOST {
+        let answer = nowhere(alloc, form, BEYOND, &asked, &hop.target)?;
+        return Ok(Next::Answer(answer));
+    }
+    Ok(Next::Ask(Question {
+        name: hop.target,
+        form,
+        indexes: Vec::new(alloc),
+        types: Vec::new(alloc),
+        append,
+        locatt,
+        aliases,
+        passed: asked,
+        keeping: sooner(keeping, hop.keeping),
+    }))
+}
+
+/// What is next for a question, now that a [`Resolver`](crate::Resolver) gave this. Where aliases are followed and the handle has one, the handle that it names is
+/// asked for, unless that was asked for already or ten aliases were followed; else the answer is there. So at most ten questions come of one. `chance`
+/// is any number, by which one of several locations is chosen.
+pub fn next_step(
+    alloc: Global,
+    question: Question,
+    answered: Result<&[u8], NoAnswer>,
+    chance: u64,
+) -> Result<Next, AllocError>
+    ensures steps { IfOk result (IsStep question answered.entry) }
+    ensures located { IfOk result IsLocatedIfAnswered }
+{
+    let found = read_answer(alloc, question.name.sent(), answered)?;
+    match hop_in(alloc, &found, question.aliases)? {
+        Some(hop) => follow(alloc, question, hop),
+        None => Ok(Next::Answer(end(alloc, &question, &found, chance)?)),
+    }
+}
