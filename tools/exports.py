@@ -88,14 +88,19 @@ def asked_for():
     return [wire.resolution(handle) for handle in handles] + [wire.resolution(b"20/x", (7,)), wire.resolution(b"10/a", (2, 9))]
 
 
+def told(reply):
+    """What a message says: of a challenge its code alone, since its nonce is random."""
+    return reply[:8] if reply[4:8] == wire.number(wire.AUTHENTICATION_NEEDED) else reply
+
+
 def answers(ports, names):
-    """The message of the reply to each, of each of these publishers. A challenge is told by its code alone, since its nonce is random."""
+    """What the reply to each says, of each of these publishers."""
     found = []
     for name in names:
         with servers.Client(ports[name]) as client:
             for message in asked_for():
                 _, reply = client.send(message)
-                found.append((name, reply[:8] if reply[4:8] == wire.number(wire.AUTHENTICATION_NEEDED) else reply))
+                found.append((name, told(reply)))
     return found
 
 
@@ -172,7 +177,7 @@ def conversation(port):
     """What is answered to each request of acme's: who may read and change a handle that is left to others' lists, and what became of it."""
     found = []
     with servers.Client(port) as client:
-        found += [client.send(wire.resolution(handle)) for handle in (b"10/a", b"10/c", b"10.5/b", b"0.NA/10", b"10/none", b"20/l", b"30/x")]
+        found += [told(client.send(wire.resolution(handle))[1]) for handle in (b"10/a", b"10/c", b"10.5/b", b"0.NA/10", b"10/none", b"20/l", b"30/x")]
     for handle in (b"0.NA/10", b"20/k", b"30/k", b"20/other"):
         with servers.Client(port, handle) as client:
             found.append(client.asked(wire.resolution(b"10/c", (2,))))
@@ -183,7 +188,7 @@ def conversation(port):
         found += [client.create(b"10/new", [url(1, b"https://new/"), administrator(b"0.NA/10")]), client.delete(b"10/c"), client.delete(b"10/a")]
         found.append(client.asked(wire.message(wire.LIST, wire.string(b"0.NA/10"))))
     with servers.Client(port, b"20/k") as client:
-        found += [client.delete(b"10/c"), client.send(wire.resolution(b"10/c"))]
+        found += [client.delete(b"10/c"), told(client.send(wire.resolution(b"10/c"))[1])]
     return found
 
 
