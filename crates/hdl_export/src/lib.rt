@@ -13,7 +13,7 @@
 //!
 //! [`export_publisher`] writes one publisher's part in the same way, with what it rests on: the values of other publishers to which its values
 //! refer, and those to which the lists there refer (`specs/Laws.antt`, `IsPublisherExport`). [`publisher_moves`] is the law that the service which
-//! opens with it has of the publisher just what the old one had, in the words of `hdl_laws`: the restricted worlds are one.
+//! opens with it has of the publisher just what the old one had, in the words of `hdl_laws`: the restricted worlds are one. So it is answered alike ([`moved_is_answered_alike`]).
 //!
 //! A text can't say a handle without a value, nor one with a space or a line feed in its name. [`left_out`] and [`left_out_of`] count
 //! these, which no clause says.
@@ -44,7 +44,8 @@ mod writing;
 
 pub use fault::ExportFault;
 pub use laws::{
-    lines_are_read, publisher_moves, register_is_read, rows_are_only, value_line_is_read,
+    lines_are_read, moved_is_answered_alike, publisher_moves, register_is_read, rows_are_only,
+    value_line_is_read,
 };
 pub use left::{LeftOut, left_out, left_out_of};
 pub use line::value_line;
