@@ -131,7 +131,7 @@ def has(parts, name, *texts):
 def compared(parts, ports, work):
     """What was printed, with what the page leads one to expect."""
     lines = ["%d 127.0.0.1:%d\n" % (10 * (place + 1), ports[PORTS[place]]) for place in range(3)]
-    yield "the text is checked", has(parts, "Set up", "publisher") and "line" not in parts["Set up"]
+    yield "the text is checked", has(parts, "Set up", *("%d: port %d" % (10 * (place + 1), ports[PORTS[place]]) for place in range(3)))
     yield "the servers' lines", has(parts, "Start", *lines, "begins: publishers 3")
     yield "handles of a spreadsheet", has(parts, "First handles", "2 created, 0 there already, 0 failed\n", "10/report-7\n10/report-8\n")
     yield "a change", has(parts, "Change", "1 success", "https://example.org/moved\n")

@@ -14,7 +14,10 @@ use Rattle.hdl_tenants.specs.Text.{opened, place_of, IsLine, IsAccepted}
 use Rattle.hdl_export.specs.Lines.{Lacks, is_sayable, value_line, text_of, is_other, IsWritable}
 use Rattle.hdl_reach.specs.Laws.{IsOnward}
 use Rattle.hdl_laws.specs.Worlds.{World, hosts}
-use Rattle.hdl_laws.specs.Isolation.{EachCovered, IsClosed, restrict}
+use Rattle.hdl_laws.specs.Steps.{Turn}
+use Rattle.hdl_laws.specs.Runs.{IsRun, events, outcomes}
+use Rattle.hdl_laws.specs.Laws.{HostsNoRoot}
+use Rattle.hdl_laws.specs.Isolation.{EachCovered, IsClosed, IsQuiet, restrict, turns_of, written}
 use Rattle.hdl_core.specs.Opening.{opening_table}
 use Rattle.hdl_export.specs.Prefixes.{prefix_named, prefix_given, AreAmong}
 use Rattle.hdl_export.specs.Rows.{is_among, rows_in, foreign_rows}
@@ -113,11 +116,12 @@ abbrev pub with_table : World → Table → World
 with_table w t = record { site = w.site; table = t; lanes = w.lanes }
 
 -- Over the table of the second text a publisher has what it had. Both texts say the same lanes and prefixes; the places are a cover for it at the
--- start; and what it has of the world, with the values at the cover, is what it has of the world with the table that the second text opens.
+-- start, in both tables; and what it has of the world, with the values at the cover, is what it has of the world with the table that the second text opens.
 pub record IsMoved (w : World) (u : ℕ) (cover : List Place) (old new : Register) : Type 0 where
   pub publishers : new.publishers ≡ old.publishers
   pub hostings : new.hostings ≡ old.hostings
   pub closed : IsClosed (hosts w.site u) cover w.table
+  pub closed_there : IsClosed (hosts w.site u) cover (opening_table new.opening)
   pub same : restrict w u cover ≡ restrict (with_table w (opening_table new.opening)) u cover
 
 -- A publisher's export moves the publisher of its name, in each world with the table that was exported and the prefixes of the text that was given.
@@ -125,3 +129,12 @@ abbrev pub PublisherMoves : Type 0
 PublisherMoves =
     (texts : List (List ℕ)) (name : List ℕ) (t : Table) (out : List ℕ) (x : IsPublisherExport texts name t out) (s : Register) → IsAccepted (lines out) s → IsSayable (prefixes_for name texts) t
     → (w : World) → w.table ≡ t → w.site.hostings ≡ x.register.hostings → IsMoved w (place_of name x.register.publishers) x.cover x.register s
+
+-- A publisher that moved is answered alike: runs from the world as it was and with the table of the second text give it equal outcomes, where its
+-- events are the same, nobody else changes its rows or what stands at the cover, and it writes no reference beyond the cover.
+abbrev pub MovedIsAnsweredAlike : Type 0
+MovedIsAnsweredAlike =
+    (w : World) (u : ℕ) (cover : List Place) (old new : Register) (ts ts' : List Turn) → IsMoved w u cover old new → HostsNoRoot w.site
+    → IsRun w ts → IsRun (with_table w (opening_table new.opening)) ts' → EachCovered cover (written w.site u ts) → EachCovered cover (written w.site u ts')
+    → IsQuiet w.site u cover w ts → IsQuiet w.site u cover (with_table w (opening_table new.opening)) ts' → events (turns_of w.site u ts) ≡ events (turns_of w.site u ts')
+    → outcomes (turns_of w.site u ts) ≡ outcomes (turns_of w.site u ts')

@@ -1,6 +1,6 @@
 //! Laws over what is written, each the contract of a function without a body.
 
-ghost use Rattle.hdl_export.specs.Laws.{LinesAreRead, ValueLineIsRead, RegisterIsRead, RowsAreOnly, PublisherMoves};
+ghost use Rattle.hdl_export.specs.Laws.{LinesAreRead, ValueLineIsRead, RegisterIsRead, RowsAreOnly, PublisherMoves, MovedIsAnsweredAlike};
 
 /// Lines without a line feed are read back as they were written.
 pub fn lines_are_read()
@@ -27,4 +27,9 @@ pub fn rows_are_only()
 /// cover is closed there.
 pub fn publisher_moves()
     ensures { PublisherMoves }
+{}
+
+/// A publisher that moved is answered as it was, as long as nobody else changes what its answers rest on.
+pub fn moved_is_answered_alike()
+    ensures { MovedIsAnsweredAlike }
 {}

@@ -12,7 +12,8 @@
 //! say is read back as it was written; and [`rows_are_only`] that such a text says nothing else.
 //!
 //! [`export_publisher`] writes one publisher's part in the same way, with what it rests on: the values of other publishers to which its values
-//! refer, and those to which the lists there refer (`specs/Laws.antt`, `IsPublisherExport`).
+//! refer, and those to which the lists there refer (`specs/Laws.antt`, `IsPublisherExport`). [`publisher_moves`] is the law that the service which
+//! opens with it has of the publisher just what the old one had, in the words of `hdl_laws`: the restricted worlds are one. So it is answered alike ([`moved_is_answered_alike`]).
 //!
 //! A text can't say a handle without a value, nor one with a space or a line feed in its name. [`left_out`] and [`left_out_of`] count
 //! these, which no clause says.
@@ -21,6 +22,10 @@
 //!
 //! - **The lines of publishers and prefixes are taken over as they stand**, comments too, since a register keeps what they say and not how
 //!   they say it. A line that ends with CR gets another one before its LF, so that reading gives each line back.
+//! - **What a publisher rests on is looked up place by place**, each once and without a bound, from what its rows refer to. The rows are those that
+//!   reading its part of the text gives, so the table is gone through once.
+//! - **All lines of publishers stay in a publisher's export**, since lanes are numbered over all of them, and its prefix lines, since a text opens no
+//!   row of a prefix that it doesn't host.
 //! - **What was written is read before it is given out**: a table may have what no text says, such as more than 1,024 values of a handle, and a
 //!   text that nothing opens is no backup. That it is then the text of these rows, and of no others, is proved.
 #![tactic(auto)]
@@ -39,7 +44,8 @@ mod writing;
 
 pub use fault::ExportFault;
 pub use laws::{
-    lines_are_read, publisher_moves, register_is_read, rows_are_only, value_line_is_read,
+    lines_are_read, moved_is_answered_alike, publisher_moves, register_is_read, rows_are_only,
+    value_line_is_read,
 };
 pub use left::{LeftOut, left_out, left_out_of};
 pub use line::value_line;

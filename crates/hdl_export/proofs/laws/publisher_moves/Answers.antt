@@ -6,7 +6,7 @@ use Rattle.hdl_tenants.specs.Text.{place_of}
 use Rattle.hdl_tenants.proofs.Uniqueness.{one_register}
 use Rattle.hdl_laws.specs.Worlds.{hosts}
 use Rattle.hdl_laws.specs.Isolation.{Agrees, IsClosed, restrict, restrict_site, restrict_table}
-use Rattle.hdl_laws.proofs.Writes.{restrict_same}
+use Rattle.hdl_laws.proofs.Writes.{restrict_same, closed_agrees}
 use Rattle.hdl_core.specs.Opening.{opening_table}
 use Rattle.hdl_export.specs.Rows.{is_among, rows_in, foreign_rows}
 use Rattle.hdl_export.specs.Laws.{prefixes_for, with_rows}
@@ -31,5 +31,7 @@ returns c = λ texts name t out x s read say w tabled hosting.
       publishers = ap (λ (r : Register). r.publishers) same;
       hostings = ap (λ (r : Register). r.hostings) same;
       closed = subst (λ (z : Table). IsClosed (hosts w.site u) x.cover z) (sym tabled) (subst (λ (f : List ℕ → Bool). IsClosed f x.cover t) (sym hosted) closed_there);
+      closed_there = subst (λ (r : Register). IsClosed (hosts w.site u) x.cover (opening_table r.opening)) (sym same)
+          (subst (λ (f : List ℕ → Bool). IsClosed f x.cover (opening_table opened)) (sym hosted) (closed_agrees (λ q. is_among q prefixes) x.cover t (opening_table opened) one closed_there));
       same = λ i. record { site = restrict_site w.site u; table = tables i; lanes = (restrict w u x.cover).lanes };
     }
