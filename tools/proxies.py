@@ -6,6 +6,7 @@ It takes some 12 seconds, of which most is waiting. Its last line is 'N passed, 
 
 import contextlib
 import hashlib
+import html
 import os
 import resource
 import socket
@@ -43,9 +44,32 @@ value 10/admin 101 HS_VLIST 86400 1110 LIST 200:10/x 201:10/y
 value 10/admin 102 OCTETS 86400 1110 HEX 00ff41
 value 10/admin 103 HS_SITE 86400 1110 UTF8 site
 value 10/admin 300 HS_SECKEY 86400 1100 UTF8 never-shown
+value 10/alias 7 HS_ALIAS 60 1110 UTF8 10/none
+value 10/alias 5 HS_ALIAS 600 1110 UTF8 20/archive
+value 10/alias 1 URL 86400 1110 UTF8 https://example.org/own
+value 10/kept 1 HS_ALIAS 86400 1100 UTF8 20/archive
+value 10/kept 2 URL 86400 1110 UTF8 https://example.org/own
+value 10/odd 1 HS_ALIAS 86400 1110 UTF8 archive
+value 10/odd 2 URL 86400 1110 UTF8 https://example.org/own
+value 10/gone 1 HS_ALIAS 86400 1110 UTF8 20/none
+value 10/off 1 HS_ALIAS 86400 1110 UTF8 30/a
+value 10/shown 1 HS_ALIAS 3600 1110 UTF8 10/script
+value 10/places 1 URL 86400 1110 UTF8 https://example.org/own
+value 10/places 2 10320/loc 3600 1110 UTF8 <locations chooseby="locatt,weighted"> <!-- two places --> <location id="1" href="https://one.example.org/a?b=1&amp;c" weight="1"/> <location id='2' href="https://two.example.org/" weight="0"></location> <location id="3" href="javascript:alert(1)" weight="0"/> </locations>
+value 10/nothing 1 10320/loc 3600 1110 UTF8 <locations><location href="https://one.example.org/" weight="0"/></locations>
+value 10/nothing 2 URL 86400 1110 UTF8 https://example.org/own
+value 10/unread 1 10320/loc 3600 1110 UTF8 <locations><location href="https://one.example.org/" weight="heavy"/></locations>
+value 10/unread 2 URL 86400 1110 UTF8 https://example.org/own
+value 10/spread 1 10320/loc 0 1110 UTF8 <locations><location href="https://a.example.org/"/><location href="https://b.example.org/" weight="3"/></locations>
+value 10/circle 1 HS_ALIAS 86400 1110 UTF8 20/circle
+value 10/self 1 HS_ALIAS 86400 1110 UTF8 10/self
+value 20/circle 1 HS_ALIAS 86400 1110 UTF8 10/circle
+%svalue 10/11 1 URL 86400 1110 UTF8 https://example.org/eleven
 value 20/archive 1 URL 86400 1110 UTF8 https://example.org/archive
 value 20/host 1 URL 60 1110 UTF8 https://example.org
 """
+# ten aliases lead from 10/1 to 10/11, and eleven from 10/0
+CHAIN = "".join("value 10/%d 1 HS_ALIAS 86400 1110 UTF8 10/%d\n" % (hop, hop + 1) for hop in range(11))
 
 POLICY = "default-src 'none'; style-src 'unsafe-inline'; img-src 'self'; base-uri 'none'; frame-ancestors 'none'"
 WAY = [("content-security-policy", POLICY), ("content-type", "text/html; charset=utf-8"), ("x-content-type-options", "nosniff")]
@@ -115,6 +139,10 @@ A_PAGE = values("10/a", value("URL", 1, link(ONE, "https://example.org/one?q=1&a
                 value("TEXT", 2, text("&lt;b&gt;Tom &amp; &quot;Jerry&quot;&lt;/b&gt;"), "for an hour"),
                 value("URL", 3, link("https://example.org/three", "https://example.org/three")))
 SCRIPT_PAGE = values("10/script", value("URL", 1, text("javascript:alert(1)")), value("URL", 2, link("https://example.org/", "https://example.org/")))
+PLACES = html.escape('<locations chooseby="locatt,weighted"> <!-- two places --> <location id="1" href="https://one.example.org/a?b=1&amp;c" weight="1"/> '
+                     "<location id='2' href=\"https://two.example.org/\" weight=\"0\"></location> <location id=\"3\" href=\"javascript:alert(1)\" weight=\"0\"/> </locations>")
+PLACES_PAGE = values("10/places", value("URL", 1, link("https://example.org/own", "https://example.org/own")),
+                     value("10320/loc", 2, text(PLACES.replace("&#x27;", "&#39;")), "for an hour"))
 ADMINISTRATOR = '<p>Whoever has the key <span class="data">300:0.NA/10</span> may</p>\n<ul class="may">%s</ul>\n'
 ALL = "".join("<li>%s</li>" % may for may in ("create handles", "delete them", "list them", "read what isn't public", "add values", "change values", "remove values",
                                              "add administrators", "change administrators", "remove administrators"))
@@ -135,6 +163,9 @@ READING = "A handle is asked for by GET or HEAD."
 INDEX = "An index is a number below 4294967296."
 CALLBACK = "The word callback isn&#39;t taken: pages of any site may read this JSON."
 LOOK = "Please look for a mistake in the name. If there is none, ask who gave it to you."
+ELSEWHERE_PLEASE = "Please tell who gave it to you: one of these handles has to lead elsewhere."
+CIRCLE = "Its aliases lead in a circle: %s."
+BEYOND = "Its aliases lead on beyond ten handles: %s."
 SLASH = "Please look for a mistake in the name, such as the slash at its end. If there is none, ask who gave it to you."
 FORM = "A handle is a prefix, a slash and a local name, such as 10/a."
 FOLLOW = "Follow a link to a handle, or type its address."
@@ -174,6 +205,33 @@ PAGES = (
     ("GET /10/%3Cscript%3E", 404, NEVER, None, refusal("10/&lt;script&gt;", ABSENT, LOOK)),
     ("GET /30/a", 404, NEVER, None, refusal("30/a", ELSEWHERE, LOOK)),
     ("GET /%61pi/handles/10/a", 404, NEVER, None, refusal("api/handles/10/a", ELSEWHERE, LOOK)),
+    ("GET /10/alias", 302, KEPT % 60, "https://example.org/archive", way("20/archive", "https://example.org/archive")),
+    ("GET /10/alias?urlappend=/1", 302, KEPT % 60, "https://example.org/archive/1", way("20/archive", "https://example.org/archive/1")),
+    ("GET /10/alias?ignore_aliases", 302, KEPT % 60, "https://example.org/own", way("10/alias", "https://example.org/own")),
+    ("GET /10/alias?type=URL", 302, KEPT % 86400, "https://example.org/own", way("10/alias", "https://example.org/own")),
+    ("GET /10/alias?index=5", 302, KEPT % 600, "https://example.org/archive", way("20/archive", "https://example.org/archive")),
+    ("GET /10/alias?noredirect", 200, KEPT % 60, None,
+     values("10/alias", value("URL", 1, link("https://example.org/own", "https://example.org/own")), value("HS_ALIAS", 5, text("20/archive"), "for 10 minutes"),
+            value("HS_ALIAS", 7, text("10/none"), "for a minute"))),
+    ("GET /10/places", 302, KEPT % 3600, "https://one.example.org/a?b=1&c", way("10/places", "https://one.example.org/a?b=1&amp;c")),
+    ("GET /10/places?urlappend=d", 302, KEPT % 3600, "https://one.example.org/a?b=1&cd", way("10/places", "https://one.example.org/a?b=1&amp;cd")),
+    ("GET /10/places?locatt=id:2", 302, KEPT % 3600, "https://two.example.org/", way("10/places", "https://two.example.org/")),
+    ("GET /10/places?locatt=id:4", 302, KEPT % 3600, "https://one.example.org/a?b=1&c", way("10/places", "https://one.example.org/a?b=1&amp;c")),
+    ("GET /10/places?locatt=id:3", 200, KEPT % 3600, None, PLACES_PAGE),
+    ("GET /10/places?noredirect", 200, KEPT % 3600, None, PLACES_PAGE),
+    ("GET /10/nothing", 302, KEPT % 3600, "https://example.org/own", way("10/nothing", "https://example.org/own")),
+    ("GET /10/unread", 200, KEPT % 3600, None,
+     values("10/unread", value("10320/loc", 1, text("&lt;locations&gt;&lt;location href=&quot;https://one.example.org/&quot; weight=&quot;heavy&quot;/&gt;&lt;/locations&gt;"), "for an hour"),
+            value("URL", 2, link("https://example.org/own", "https://example.org/own")))),
+    ("GET /10/kept", 302, KEPT % 86400, "https://example.org/own", way("10/kept", "https://example.org/own")),
+    ("GET /10/odd", 302, KEPT % 86400, "https://example.org/own", way("10/odd", "https://example.org/own")),
+    ("GET /10/gone", 404, NEVER, None, refusal("20/none", ABSENT, LOOK)),
+    ("GET /10/off", 404, NEVER, None, refusal("30/a", ELSEWHERE, LOOK)),
+    ("GET /10/shown", 200, KEPT % 3600, None, SCRIPT_PAGE),
+    ("GET /10/circle", 404, NEVER, None, refusal("10/circle", CIRCLE % "10/circle, 20/circle, 10/circle", ELSEWHERE_PLEASE, "Leads nowhere")),
+    ("GET /10/self", 404, NEVER, None, refusal("10/self", CIRCLE % "10/self, 10/self", ELSEWHERE_PLEASE, "Leads nowhere")),
+    ("GET /10/1", 302, KEPT % 86400, "https://example.org/eleven", way("10/11", "https://example.org/eleven")),
+    ("GET /10/0", 404, NEVER, None, refusal("10/0", BEYOND % ", ".join("10/%d" % hop for hop in range(12)), ELSEWHERE_PLEASE, "Leads nowhere")),
     ("GET /favicon", 400, NEVER, None, refusal("favicon", "This is no handle: the name has no slash.", FORM, "No handle")),
     ("GET /10/%FF", 400, NEVER, None, refusal("10/%FF", "This is no handle: the name is not UTF-8.", FORM, "No handle")),
     ("GET /?handle=//evil.example", 400, NEVER, None, refusal("//evil.example", "This is no handle: the name has a bad segment.", FORM, "No handle")),
@@ -204,6 +262,7 @@ JSONS = (
     ("GET /10/a?index=4", 200, NEVER, json_refusal("10/a", HIDDEN, 200)),
     ("GET /10/admin?type=HS_SECKEY", 200, NEVER, json_refusal("10/admin", HIDDEN, 200)),
     ("GET /10/admin", 200, KEPT % 86400, ADMIN),
+    ("GET /10/circle", 200, KEPT % 86400, json_values("10/circle", json_value(1, "HS_ALIAS", json_text("20/circle")))),
     ("GET /10/none", 404, NEVER, json_refusal("10/none", "This handle isn't there.", 100)),
     ("GET /hdl:10/a", 404, NEVER, json_refusal("hdl:10/a", ELSEWHERE, 302)),
     ("GET /30/a", 404, NEVER, json_refusal("30/a", ELSEWHERE, 302)),
@@ -383,6 +442,15 @@ def again(port):
         yield line + " has no tag", answer[0] == status and not any(name == "etag" for name, _ in answer[1])
 
 
+def spread(port):
+    """Which of two locations is led to, 400 times, over one connection: one weighs three times what the other does."""
+    with socket.create_connection(("127.0.0.1", port)) as stream:
+        stream.sendall(b"".join(request("GET /10/spread", False) for _ in range(399)) + request("GET /10/spread"))
+        answers = heard(stream)
+    first, second = answers.count(b"location: https://a.example.org/\r\n"), answers.count(b"location: https://b.example.org/\r\n")
+    yield "locations by weight", first + second == 400 and 50 <= first <= 150
+
+
 def too_long(port):
     line = "GET /10/%s" % ("a" * 9000)
     yield "a first line of 9,000 octets", parts(said(port, request(line)))[0] == 414
@@ -464,14 +532,14 @@ def replies():
 
 
 def tenants(*ports):
-    return subprocess.run([WORDS, "tenants"], input=(TENANTS % ports).encode(), capture_output=True, check=True, timeout=60).stdout
+    return subprocess.run([WORDS, "tenants"], input=(TENANTS % (*ports, CHAIN)).encode(), capture_output=True, check=True, timeout=60).stdout
 
 
 def main():
     more_files()
     cases = []
     with servers.serving(tenants, 2) as behind, proxy(behind) as port:
-        for part in (pages, files, again, too_long, idle):
+        for part in (pages, files, again, spread, too_long, idle):
             cases += part(port)
     cases += replies()
     with proxy(servers.free_ports(2)) as port:

@@ -247,6 +247,48 @@ def kept():
         yield "for as long as is said", ask(port, "10/a")[0] == 503 and ask(port, "10/none")[0] == 503
 
 
+def alias(leads):
+    """Each of these handles is an alias of another one, and any other leads to its URL."""
+    return lambda handle: wire.values_reply(handle, wire.value(1, b"HS_ALIAS", leads[handle], READABLE, 60)) if handle in leads else url(handle)
+
+
+def aliases():
+    """Each handle that aliases lead through is asked for at its own server, or is kept."""
+    first, second, silent = Server(alias({b"10/a": b"20/b", b"10/s": b"30/a", b"10/r": b"40/a"})), Server(alias({b"20/b": b"10/c"})), Server(lambda _: None)
+    with proxy((first, "10"), (second, "20"), (silent, "30")) as port:
+        yield "from server to server", ask(port, "10/a")[0] == 302 and (first.asked, second.asked) == ([b"10/a", b"10/c"], [b"20/b"])
+        status, seconds = ask(port, "10/s")
+        yield "an alias to a silent server has its time", status == 502 and TIMEOUT <= seconds < TIMEOUT + SOON and silent.asked == [b"30/a"]
+        status, seconds = ask(port, "10/s")
+        yield "then it is left out", status == 502 and seconds < SOON and silent.asked == [b"30/a"]
+        yield "an alias to a prefix that no server has", ask(port, "10/r")[0] == 404
+    first, second = Server(alias({b"10/a": b"20/b"})), Server(alias({b"20/b": b"10/c"}))
+    with proxy((first, "10"), (second, "20"), options=["--cache", "60"]) as port:
+        yield "aliases are kept", [ask(port, "10/a")[0] for _ in range(3)] == [302] * 3 and (first.asked, second.asked) == ([b"10/a", b"10/c"], [b"20/b"])
+        yield "what is kept leads to what isn't", ask(port, "10/a?urlappend=/1")[0] == 302 and ask(port, "20/b?noredirect")[0] == 200 and len(first.asked + second.asked) == 3
+        yield "how many were answered so", "hdl_proxy_answers_kept_total 4" in body_of(port, "/metrics")[1]
+
+
+def unread():
+    """A request that can't be read has a line too."""
+    server = Server()
+    with tempfile.TemporaryDirectory() as folder:
+        path = os.path.join(folder, "visits")
+        with proxy((server, ""), options=["--log", path]) as port:
+            for head in (b"no request\r\n\r\n", b"GET /10/%s HTTP/1.1\r\nhost: h\r\n\r\n" % (b"a" * 9000), b"GET /10/a HTTP/1.1\r\n" + b"x: y\r\n" * 200 + b"\r\n"):
+                with socket.create_connection(("127.0.0.1", port)) as stream:
+                    stream.sendall(head)
+                    while stream.recv(65536):
+                        pass
+            with socket.create_connection(("127.0.0.1", port)):
+                pass
+            ask(port, "10/a")
+            text = lines_of(path, 4)
+        found = [LINE.fullmatch(line) for line in text.splitlines()]
+        yield "a line of what can't be read", all(found) and [one.group(2, 3, 4, 5) for one in found[:3]] == [("-", "-", "400", "0"), ("-", "-", "431", "0"), ("-", "-", "431", "0")]
+        yield "and of nothing else", len(found) == 4 and found[-1].group(2, 3, 4) == ("GET", "/10/a", "302")
+
+
 LINE = re.compile(r"\d{4}-\d\d-\d\dT\d\d:\d\d:\d\d(\.\d+)?Z (\S+) (\S+) (\d+) (\d+) \d+")
 SECRET = "Basic MzAwJTNBMC5OQS8xMDpz"
 
@@ -318,7 +360,7 @@ def faults():
 
 
 def main():
-    parts = (prefixes, referrals, silence, slowness, changes, kept, told, full, faults)
+    parts = (prefixes, referrals, silence, slowness, changes, kept, aliases, told, unread, full, faults)
     with concurrent.futures.ThreadPoolExecutor(len(parts)) as pool:
         cases = [case for found in pool.map(lambda part: list(part()), parts) for case in found]
     # its hundreds of threads would hold the other parts up

@@ -3,7 +3,7 @@ use Rattle.std.proofs.Common.{◌≡◌, ◌≢◌, ℕ, Bool, true, false, cond
 use Rattle.std.specs.Global.{Global}
 use Rattle.std.proofs.lemmas.List.Elements.{All-cons}
 use Rattle.hdl_value.specs.declared.value.Value.{Value}
-use Rattle.hdl_proxy.specs.Answer.{LeadsTo, Tells, IsLocated, IsWayBy, IsWayFrom, IsWayOf, IsWayOfValue, IsWayToMeant, Goes, ShowsValues, ShowsFound}
+use Rattle.hdl_proxy.specs.Answer.{LeadsTo, Tells, IsLocated, IsWayBy, IsWayFrom, IsWayOfValue, IsWayToMeant, Goes, ShowsValues, ShowsFound}
 use Rattle.hdl_proxy.specs.Link.{IsLink, address_of, path_to}
 use Rattle.hdl_proxy.specs.Status.{status_of_code}
 use Rattle.hdl_proxy.specs.Url.{IsGraphic, extended}

@@ -1,7 +1,7 @@
 //! A question on its way from server to server.
 
 use futures::channel::oneshot;
-use hdl_proxy::{Answer, NoAnswer, Question, finish};
+use hdl_proxy::{Answer, Next, NoAnswer, Question, finish, next_step};
 use hdl_routes::{Miss, worst};
 use std::alloc::{AllocError, Global};
 use std::vec::IntoIter;
@@ -37,10 +37,14 @@ impl Ask {
         self.missed = worst(self.missed, miss);
     }
 
-    /// Answers with this reply.
-    pub(crate) fn reply(self, message: &[u8]) {
-        let made = finish(self.alloc, &self.question, Ok(message));
-        self.give(made);
+    /// What is next, now that a server gave this reply, and where the answer goes.
+    pub(crate) fn next(
+        self,
+        reply: &[u8],
+        chance: u64,
+    ) -> (Result<Next, AllocError>, oneshot::Sender<Made>) {
+        let next = next_step(self.alloc, self.question, Ok(reply), chance);
+        (next, self.answer)
     }
 
     /// Answers that there was no memory.
@@ -50,7 +54,7 @@ impl Ask {
 
     /// Answers with what all servers came to.
     pub(crate) fn end(self) {
-        let made = finish(self.alloc, &self.question, Err(no_answer(self.missed)));
+        let made = finish(self.alloc, &self.question, Err(no_answer(self.missed)), 0);
         self.give(made);
     }
 

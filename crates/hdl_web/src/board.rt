@@ -1,6 +1,6 @@
 //! What all share: the servers, who waits for each, and how each stands.
 
-use crate::asks::Ask;
+use crate::asks::{Ask, Made};
 use crate::gathering::Turn;
 use crate::holders::Holders;
 use crate::lifetime::lifetime;
@@ -11,12 +11,13 @@ use crate::worker::Errand;
 use crossbeam_channel::Sender;
 use futures::channel::oneshot;
 use hdl_msg::ResponseCode;
-use hdl_proxy::{NoAnswer, Question, Resolver, Site, finish};
+use hdl_proxy::{Answer, HOPS_MOST, Next, NoAnswer, Question, Resolver, Site, finish, next_step};
 use hdl_routes::{Kept, Miss, Route, Standing, places_for, worst};
 use std::alloc::{AllocError, Global};
 use std::sync::atomic::{AtomicU64, Ordering};
 use std::sync::{Arc, Mutex, Wait};
 use std::time::{Clock, Instant};
+use std::vec::IntoIter;
 
 /// How many questions, or changes, wait for a server at most.
 pub(crate) const WAITING_MOST: usize = 256;
@@ -51,8 +52,17 @@ pub struct Board<R> {
     pub(crate) kept: Option<Mutex<Kept>>,
     pub(crate) keeps: u64,
     pub(crate) counts: Counts,
+    /// How many numbers were drawn, from a random one on, in steps that are odd.
+    pub(crate) drawn: AtomicU64,
     /// Where lines of visits go, where any are written.
     pub(crate) visits: Option<Sender<Visit>>,
+}
+
+/// A question as far as what is kept answers it: the answer, or a question that no kept reply answers, its message, and whom to ask.
+#[derive(Drop)]
+enum Known {
+    Answer(Answer),
+    Open(Question, Vec<u8>, IntoIter<usize>),
 }
 
 /// Whether a reply with this code shows that its server has the prefix.
@@ -72,6 +82,16 @@ impl<R: Wait + Clock> Board<R> {
             Ok(time) => u64::try_from(time.as_millis()).unwrap_or(u64::MAX),
             Err(_) => u64::MAX,
         }
+    }
+
+    /// A number by which one of several locations is chosen: each bit of it is as likely to be set as not (SplitMix64).
+    pub(crate) fn chance(&self) -> u64 {
+        let drawn = self
+            .drawn
+            .fetch_add(0x9E37_79B9_7F4A_7C15, Ordering::Relaxed);
+        let mixed = (drawn ^ (drawn >> 30)).wrapping_mul(0xBF58_476D_1CE4_E5B9);
+        let mixed = (mixed ^ (mixed >> 27)).wrapping_mul(0x94D0_49BB_1331_11EB);
+        mixed ^ (mixed >> 31)
     }
 
     /// Whom to ask for handles of this prefix, in turn.
@@ -104,24 +124,51 @@ impl<R: Wait + Clock> Board<R> {
         kept.lock(&self.rt).keep(message, reply, now, time);
     }
 
-    /// Takes a question: it is answered by what is kept, or its answer comes.
-    pub(crate) fn take(&self, question: Question) -> Result<Turn, AllocError> {
-        // a question has no message where it is longer than a message may be, which no head of 8 KiB comes to
-        let Some(message) = question.message(self.alloc)? else {
-            let made = finish(self.alloc, &question, Err(NoAnswer::Unreachable));
-            return Ok(Turn::Made(made));
-        };
-        if let Some(reply) = self.kept_reply(&message) {
-            self.counts.kept.fetch_add(1, Ordering::Relaxed);
-            return Ok(Turn::Made(finish(self.alloc, &question, Ok(&reply))));
+    /// A question as far as what is kept answers it, and the handles that its aliases name.
+    fn known(&self, question: Question) -> Result<Known, AllocError> {
+        let mut question = question;
+        for _ in 0..=HOPS_MOST {
+            // a question has no message where it is longer than a message may be, which no head of 8 KiB comes to
+            let Some(message) = question.message(self.alloc)? else {
+                let answer = finish(self.alloc, &question, Err(NoAnswer::Unreachable), 0)?;
+                return Ok(Known::Answer(answer));
+            };
+            let Some(reply) = self.kept_reply(&message) else {
+                let turn = self.turn(question.name.prefix())?.into_iter();
+                return Ok(Known::Open(question, message, turn));
+            };
+            match next_step(self.alloc, question, Ok(&reply), self.chance())? {
+                Next::Answer(answer) => {
+                    self.counts.kept.fetch_add(1, Ordering::Relaxed);
+                    return Ok(Known::Answer(answer));
+                }
+                Next::Ask(next) => question = next,
+            }
         }
-        self.send(question, message)
+        // so many aliases aren't followed, so none is left here
+        Err(AllocError)
     }
 
-    /// Sends a question on its way.
-    fn send(&self, question: Question, message: Vec<u8>) -> Result<Turn, AllocError> {
-        let (answer, from) = oneshot::channel(self.alloc)?;
-        let turn = self.turn(question.name.prefix())?.into_iter();
+    /// Takes a question: it is answered by what is kept, or its answer comes.
+    pub(crate) fn take(&self, question: Question) -> Result<Turn, AllocError> {
+        match self.known(question)? {
+            Known::Answer(answer) => Ok(Turn::Made(Ok(answer))),
+            Known::Open(question, message, turn) => {
+                let (answer, from) = oneshot::channel(self.alloc)?;
+                self.send(question, message, turn, answer);
+                Ok(Turn::Coming(from))
+            }
+        }
+    }
+
+    /// Sends a question on its way to these servers.
+    fn send(
+        &self,
+        question: Question,
+        message: Vec<u8>,
+        turn: IntoIter<usize>,
+        answer: oneshot::Sender<Made>,
+    ) {
         self.forward(Ask {
             alloc: self.alloc,
             question,
@@ -131,7 +178,17 @@ impl<R: Wait + Clock> Board<R> {
             since: 0,
             answer,
         });
-        Ok(Turn::Coming(from))
+    }
+
+    /// Goes on with the question that an alias led to.
+    fn resume(&self, question: Question, answer: oneshot::Sender<Made>) {
+        match self.known(question) {
+            Ok(Known::Open(question, message, turn)) => {
+                self.send(question, message, turn, answer);
+            }
+            Ok(Known::Answer(made)) => drop(answer.send(Ok(made))),
+            Err(refused) => drop(answer.send(Err(refused))),
+        }
     }
 
     /// Why the server at this place isn't to be asked, if it isn't.
@@ -197,7 +254,12 @@ impl<R: Wait + Clock> Board<R> {
             self.holders.lock(&self.rt).note(prefix, place, self.now());
         }
         self.keep(&ask.message, reply);
-        ask.reply(reply);
+        let (next, answer) = ask.next(reply, self.chance());
+        match next {
+            Ok(Next::Ask(question)) => self.resume(question, answer),
+            Ok(Next::Answer(made)) => drop(answer.send(Ok(made))),
+            Err(refused) => drop(answer.send(Err(refused))),
+        }
     }
 
     /// Asks the server at this place, and answers, or hands the question on.

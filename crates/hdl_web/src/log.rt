@@ -2,7 +2,7 @@
 
 use crate::board::Board;
 use crate::metrics::kind_of;
-use crossbeam_channel::Receiver;
+use crossbeam_channel::{Receiver, Sender};
 use hdl_proxy::Answer;
 use jiff_core::Timestamp;
 use jiff_fmt::temporal::DateTimePrinter;
@@ -42,6 +42,9 @@ impl Write for Log {
         }
     }
 }
+
+/// What stands for the method and the path of a request whose head couldn't be read.
+const UNREAD: &str = "-";
 
 /// A visit that is over: what was asked for, and what was answered.
 #[derive(Drop)]
@@ -91,6 +94,37 @@ fn begun<R: Clock>(rt: &R, alloc: Global, method: &str, path: &str) -> Option<As
     })
 }
 
+/// The line of a request that `hyper` refused with this status, since its head couldn't be read; without memory there is none.
+fn unread<R: Clock>(rt: &R, alloc: Global, status: u16) -> Option<Visit> {
+    Some(Visit {
+        moment: moment(rt),
+        method: String::from_str(alloc, UNREAD).ok()?,
+        path: String::from_str(alloc, UNREAD).ok()?,
+        status,
+        octets: 0,
+        microseconds: 0,
+    })
+}
+
+impl<R: Wait + Clock> Board<R> {
+    /// Sends a line on its way, or counts it as lost.
+    fn write(&self, visits: &Sender<Visit>, visit: Visit) {
+        if visits.len() >= LINES_MOST || visits.send(&self.rt, visit).is_err() {
+            self.counts.lost.fetch_add(1, Ordering::Relaxed);
+        }
+    }
+
+    /// A request was refused with this status, since its head couldn't be read: its line is written, where any are.
+    pub(crate) fn refused(&self, status: u16) {
+        let Some(visits) = &self.visits else {
+            return;
+        };
+        if let Some(visit) = unread(&self.rt, self.alloc, status) {
+            self.write(visits, visit);
+        }
+    }
+}
+
 impl<R: Wait + Clock> Open<R> {
     /// A visit begins. Without memory it has no line.
     pub(crate) fn new(board: Arc<Board<R>>, method: &str, path: &str) -> Open<R> {
@@ -132,9 +166,7 @@ impl<R: Wait + Clock> Open<R> {
             octets,
             microseconds,
         };
-        if visits.len() >= LINES_MOST || visits.send(&self.board.rt, visit).is_err() {
-            self.board.counts.lost.fetch_add(1, Ordering::Relaxed);
-        }
+        self.board.write(visits, visit);
     }
 }
 

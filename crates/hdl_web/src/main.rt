@@ -20,6 +20,7 @@ mod holders;
 mod lifetime;
 mod log;
 mod metrics;
+mod parting;
 mod patient;
 mod response;
 mod servers;

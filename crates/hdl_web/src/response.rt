@@ -24,15 +24,25 @@ const POLICY: &str =
 /// When a client may ask again where a server is busy or doesn't answer, in seconds.
 const RETRY_SECONDS: &str = "30";
 
-fn put(
+/// Adds a field whose value is made here.
+fn put_text(
     alloc: Global,
     headers: &mut HeaderMap<HeaderValue>,
     name: HeaderName,
     value: &str,
 ) -> Result<(), AllocError> {
-    let Ok(value) = HeaderValue::from_str(alloc, value) else {
-        return Err(AllocError);
-    };
+    match HeaderValue::from_str(alloc, value) {
+        Ok(value) => put(headers, name, value),
+        Err(_) => Err(AllocError),
+    }
+}
+
+/// Adds a field. One whose value is a text of this program needs no copy.
+fn put(
+    headers: &mut HeaderMap<HeaderValue>,
+    name: HeaderName,
+    value: HeaderValue,
+) -> Result<(), AllocError> {
     match headers.insert(name, value) {
         Ok(_) => Ok(()),
         Err(_) => Err(AllocError),
@@ -40,85 +50,101 @@ fn put(
 }
 
 /// The fields of a page. One that a browser leaves at once says nothing of the address that it came from, so the next site learns it.
-fn put_page(
-    alloc: Global,
-    headers: &mut HeaderMap<HeaderValue>,
-    stays: bool,
-) -> Result<(), AllocError> {
-    put(alloc, headers, CONTENT_TYPE, "text/html; charset=utf-8")?;
-    put(alloc, headers, CONTENT_SECURITY_POLICY, POLICY)?;
+fn put_page(headers: &mut HeaderMap<HeaderValue>, stays: bool) -> Result<(), AllocError> {
+    let html = HeaderValue::from_static("text/html; charset=utf-8");
+    put(headers, CONTENT_TYPE, html)?;
+    put(
+        headers,
+        CONTENT_SECURITY_POLICY,
+        HeaderValue::from_static(POLICY),
+    )?;
     if stays {
-        put(alloc, headers, REFERRER_POLICY, "no-referrer")?;
+        put(
+            headers,
+            REFERRER_POLICY,
+            HeaderValue::from_static("no-referrer"),
+        )?;
     }
     Ok(())
 }
 
-fn put_media(
-    alloc: Global,
-    headers: &mut HeaderMap<HeaderValue>,
-    media: Media,
-) -> Result<(), AllocError> {
-    put(alloc, headers, X_CONTENT_TYPE_OPTIONS, "nosniff")?;
+fn put_json(headers: &mut HeaderMap<HeaderValue>) -> Result<(), AllocError> {
+    put(
+        headers,
+        CONTENT_TYPE,
+        HeaderValue::from_static("application/json"),
+    )?;
+    put(
+        headers,
+        ACCESS_CONTROL_ALLOW_ORIGIN,
+        HeaderValue::from_static("*"),
+    )
+}
+
+fn put_media(headers: &mut HeaderMap<HeaderValue>, media: Media) -> Result<(), AllocError> {
+    put(
+        headers,
+        X_CONTENT_TYPE_OPTIONS,
+        HeaderValue::from_static("nosniff"),
+    )?;
     match media {
-        Media::Page => put_page(alloc, headers, true),
-        Media::Way => put_page(alloc, headers, false),
-        Media::Json => {
-            put(alloc, headers, CONTENT_TYPE, "application/json")?;
-            put(alloc, headers, ACCESS_CONTROL_ALLOW_ORIGIN, "*")
+        Media::Page => put_page(headers, true),
+        Media::Way => put_page(headers, false),
+        Media::Json => put_json(headers),
+        Media::Text => {
+            let plain = HeaderValue::from_static("text/plain; charset=utf-8");
+            put(headers, CONTENT_TYPE, plain)
         }
-        Media::Text => put(alloc, headers, CONTENT_TYPE, "text/plain; charset=utf-8"),
-        Media::Icon => put(alloc, headers, CONTENT_TYPE, "image/svg+xml"),
+        Media::Icon => put(
+            headers,
+            CONTENT_TYPE,
+            HeaderValue::from_static("image/svg+xml"),
+        ),
     }
 }
 
 /// The methods of an address under `/api/`.
-fn methods(changes: bool) -> &'static str {
+fn methods(changes: bool) -> HeaderValue {
     if changes {
-        "GET, HEAD, PUT, DELETE, OPTIONS"
+        HeaderValue::from_static("GET, HEAD, PUT, DELETE, OPTIONS")
     } else {
-        "GET, HEAD, OPTIONS"
+        HeaderValue::from_static("GET, HEAD, OPTIONS")
     }
 }
 
 /// The fields by which a browser learns which requests another page may send, for a day. The star doesn't stand for `Authorization`.
-fn put_options(
-    alloc: Global,
-    headers: &mut HeaderMap<HeaderValue>,
-    changes: bool,
-) -> Result<(), AllocError> {
-    put(alloc, headers, ALLOW, methods(changes))?;
+fn put_options(headers: &mut HeaderMap<HeaderValue>, changes: bool) -> Result<(), AllocError> {
+    put(headers, ALLOW, methods(changes))?;
+    put(headers, ACCESS_CONTROL_ALLOW_METHODS, methods(changes))?;
+    let fields = HeaderValue::from_static("*, Authorization");
+    put(headers, ACCESS_CONTROL_ALLOW_HEADERS, fields)?;
     put(
-        alloc,
         headers,
-        ACCESS_CONTROL_ALLOW_METHODS,
-        methods(changes),
-    )?;
-    put(
-        alloc,
-        headers,
-        ACCESS_CONTROL_ALLOW_HEADERS,
-        "*, Authorization",
-    )?;
-    put(alloc, headers, ACCESS_CONTROL_MAX_AGE, "86400")
+        ACCESS_CONTROL_MAX_AGE,
+        HeaderValue::from_static("86400"),
+    )
 }
 
 /// The fields of an answer by its status.
 fn put_status(
-    alloc: Global,
     headers: &mut HeaderMap<HeaderValue>,
     answer: &Answer,
     changes: bool,
 ) -> Result<(), AllocError> {
     match (answer.status, answer.media) {
-        (Status::MethodNotAllowed, Media::Json) => put(alloc, headers, ALLOW, methods(changes)),
-        (Status::MethodNotAllowed, _) => put(alloc, headers, ALLOW, "GET, HEAD"),
-        (Status::NoContent, _) => put_options(alloc, headers, changes),
+        (Status::MethodNotAllowed, Media::Json) => put(headers, ALLOW, methods(changes)),
+        (Status::MethodNotAllowed, _) => put(headers, ALLOW, HeaderValue::from_static("GET, HEAD")),
+        (Status::NoContent, _) => put_options(headers, changes),
         (Status::Unauthorized, _) => {
-            let basic = "Basic realm=\"handles\"";
-            put(alloc, headers, WWW_AUTHENTICATE, basic)
+            let basic = HeaderValue::from_static("Basic realm=\"handles\"");
+            put(headers, WWW_AUTHENTICATE, basic)
         }
         (Status::BadGateway | Status::Unavailable, _) => {
-            put(alloc, headers, RETRY_AFTER, RETRY_SECONDS)
+            put(
+                headers,
+                RETRY_AFTER,
+                HeaderValue::from_static(RETRY_SECONDS),
+            )
         }
         _ => Ok(()),
     }
@@ -130,10 +156,10 @@ fn put_keeping(
     keeping: Keeping,
 ) -> Result<(), AllocError> {
     match keeping {
-        Keeping::Never => put(alloc, headers, CACHE_CONTROL, "no-store"),
+        Keeping::Never => put(headers, CACHE_CONTROL, HeaderValue::from_static("no-store")),
         Keeping::Seconds(seconds) => {
             let text = format!(in alloc; "max-age={seconds}")?;
-            put(alloc, headers, CACHE_CONTROL, text.as_str())
+            put_text(alloc, headers, CACHE_CONTROL, text.as_str())
         }
     }
 }
@@ -144,14 +170,14 @@ fn put_headers(
     answer: &Answer,
     changes: bool,
 ) -> Result<(), AllocError> {
-    put_media(alloc, headers, answer.media)?;
-    put_status(alloc, headers, answer, changes)?;
+    put_media(headers, answer.media)?;
+    put_status(headers, answer, changes)?;
     put_keeping(alloc, headers, answer.keeping)?;
     if let Some(tag) = &answer.tag {
-        put(alloc, headers, ETAG, tag.as_str())?;
+        put_text(alloc, headers, ETAG, tag.as_str())?;
     }
     if let Some(location) = &answer.location {
-        put(alloc, headers, LOCATION, location.as_str())?;
+        put_text(alloc, headers, LOCATION, location.as_str())?;
     }
     Ok(())
 }

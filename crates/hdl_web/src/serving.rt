@@ -3,10 +3,11 @@
 use crate::board::Board;
 use crate::desk::Desk;
 use crate::log::{Visit, write_lines};
+use crate::parting::Parting;
 use crate::patient::Patient;
 use crate::servers::Clerk;
 use crate::staff::{Staff, start_asking};
-use crate::visitors::{Host, Quiet, Visitors};
+use crate::visitors::{Host, Visitors};
 use bytes::Bytes;
 use crossbeam_channel::{Sender, unbounded};
 use hdl_proxy::Resolver;
@@ -52,15 +53,16 @@ struct Reception<R> {
 }
 
 impl<R: Wait + Clock + Copy + Drop> Host for Reception<R> {
-    type Served = Quiet<Connection<Patient<R>, Desk<R>, Full<Bytes>, TokioTimer<R>>>;
+    type Served = Parting<R, Connection<Patient<R>, Desk<R>, Full<Bytes>, TokioTimer<R>>>;
 
     fn receive(&self, socket: TcpStream) -> Option<Self::Served> {
         let timers = self.timers.clone().ok()?;
         let theirs = self.timers.clone().ok()?;
         let board = Arc::try_clone(&self.board).ok()?;
+        let told = Arc::try_clone(&self.board).ok()?;
         let socket = Patient::new(socket, self.rt, timers);
         let desk = Desk::new(self.rt, self.alloc, theirs, board);
-        Some(Quiet::new(self.http.serve_connection(socket, desk)))
+        Some(Parting::new(self.http.serve_connection(socket, desk), told))
     }
 
     fn rest(&self) -> Option<Sleep> {

@@ -131,6 +131,12 @@ fn keeping<R: RandomSource + AllocGlobal>(rt: &R, keeps: u64) -> io::Result<Opti
     Ok(Some(Mutex::new(kept)))
 }
 
+fn random<R: RandomSource>(rt: &R) -> io::Result<u64> {
+    let mut octets = [0u8; 8];
+    rt.fill_bytes(&mut octets)?;
+    Ok(u64::from_be_bytes(octets))
+}
+
 /// The board with these posts; lines of visits go to `visits`.
 fn board_of<R>(
     rt: &R,
@@ -154,6 +160,7 @@ where
         kept: keeping(rt, plan.keeps)?,
         keeps: plan.keeps,
         counts: Counts::new(alloc),
+        drawn: AtomicU64::new(random(rt)?),
         site: Arc::new(alloc, plan.site)?,
         visits,
     };

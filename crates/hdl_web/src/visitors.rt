@@ -73,36 +73,3 @@ impl<H: Host> Stream for Visitors<H> {
         self.next(cx)
     }
 }
-
-/// A future of which only the end matters.
-#[derive(Drop)]
-pub(crate) struct Quiet<F> {
-    inner: F,
-}
-
-impl<F: Future> Quiet<F> {
-    pub(crate) fn new(inner: F) -> Quiet<F>
-        ensures { F.can_poll inner → F.can_poll result.inner }
-    {
-        Quiet { inner }
-    }
-}
-
-impl<F> Future for Quiet<F>
-where
-    F: Future,
-    F::Output: Drop,
-{
-    type Output = ();
-
-    ghost can_poll = { λ quiet. F.can_poll quiet.inner };
-
-    ghost needs = { λ quiet. F.needs quiet.inner };
-
-    fn poll(&mut self, cx: &mut Context<'_>) -> Poll<()> {
-        match self.inner.poll(cx) {
-            Poll::Ready(_) => Poll::Ready(()),
-            Poll::Pending => Poll::Pending,
-        }
-    }
-}

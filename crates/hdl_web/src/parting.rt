@@ -1,0 +1,59 @@
+//! The end of a connection.
+
+use crate::board::Board;
+use futures::Future;
+use futures::task::{Context, Poll};
+use std::sync::{Arc, Wait};
+use std::time::Clock;
+
+/// The status that `hyper` answered a request with whose head couldn't be read, if it refused one so. One that is too long it answers with 414 or 431, and
+/// doesn't tell which.
+fn refusal_of(fault: &hyper::Error) -> Option<u16> {
+    if fault.is_parse_too_large() {
+        Some(431)
+    } else if fault.is_parse() {
+        Some(400)
+    } else {
+        None
+    }
+}
+
+/// A connection, of which only matters whether it ended with a request that couldn't be read.
+#[derive(Drop)]
+pub(crate) struct Parting<R, F> {
+    inner: F,
+    board: Arc<Board<R>>,
+}
+
+impl<R: Drop, F: Future> Parting<R, F> {
+    pub(crate) fn new(inner: F, board: Arc<Board<R>>) -> Parting<R, F>
+        ensures { F.can_poll inner → F.can_poll result.inner }
+    {
+        Parting { inner, board }
+    }
+}
+
+impl<R, F> Future for Parting<R, F>
+where
+    R: Wait + Clock + Drop,
+    F: Future<Output = hyper::Result<()>>,
+{
+    type Output = ();
+
+    ghost can_poll = { λ parting. F.can_poll parting.inner };
+
+    ghost needs = { λ parting. F.needs parting.inner };
+
+    fn poll(&mut self, cx: &mut Context<'_>) -> Poll<()> {
+        match self.inner.poll(cx) {
+            Poll::Ready(Err(fault)) => {
+                if let Some(status) = refusal_of(&fault) {
+                    self.board.refused(status);
+                }
+                Poll::Ready(())
+            }
+            Poll::Ready(Ok(())) => Poll::Ready(()),
+            Poll::Pending => Poll::Pending,
+        }
+    }
+}
