@@ -36,7 +36,7 @@ use supervising::{log_at, stop};
 use tabled::{
     Desk, TabledFault, empty_table, ended, export_on, is_new, open_desk, replay_in, replay_on,
 };
-use words::{Asked, TableFile, read_words};
+use words::{Invocation, TableFile, read_words};
 
 /// What is left to do once the command line and the input were read.
 #[derive(Drop)]
@@ -111,27 +111,27 @@ fn run_serve(
 
 fn run(rt: &HostRuntime) -> Result<Next, TabledFault> {
     match read_words(rt)? {
-        Asked::Ended(status) => Ok(Next::Ended(status)),
-        Asked::Check => {
+        Invocation::Ended(status) => Ok(Next::Ended(status)),
+        Invocation::Check => {
             let text = read_text(rt)?;
             Ok(Next::Ended(check_text(rt, text.as_str())?))
         }
-        Asked::Export { table, publisher } => {
+        Invocation::Export { table, publisher } => {
             let text = read_text(rt)?;
             Ok(Next::Ended(export_on(rt, &table, text.as_str(), publisher)?))
         }
-        Asked::Replay { table: None } => Ok(Next::Ended(replayed(rt)?)),
-        Asked::Replay { table: Some(file) } => {
+        Invocation::Replay { table: None } => Ok(Next::Ended(replayed(rt)?)),
+        Invocation::Replay { table: Some(file) } => {
             let text = read_text(rt)?;
             replay_on(rt, &file, text.as_str())?;
             Ok(Next::Ended(0))
         }
-        Asked::Copy { from, to } => {
+        Invocation::Copy { from, to } => {
             copy_table(rt, from.as_str(), to.as_str())?;
             Ok(Next::Ended(0))
         }
-        Asked::Stop { control } => Ok(Next::Ended(stop(rt, control.as_str()))),
-        Asked::Serve {
+        Invocation::Stop { control } => Ok(Next::Ended(stop(rt, control.as_str()))),
+        Invocation::Serve {
             setting,
             bounds,
             log,

@@ -21,7 +21,7 @@ pub struct TableFile {
 
 /// What the command line asks for.
 #[derive(Drop)]
-pub enum Asked {
+pub enum Invocation {
     /// A script on standard input, over the table in a file, if one is named.
     Replay {
         table: Option<TableFile>,
@@ -177,12 +177,12 @@ impl From<AllocError> for Unclear {
 }
 
 /// What is asked for by the words behind `serve`.
-fn serve_words(alloc: Global, found: &ArgMatches) -> Result<Asked, Unclear> {
+fn serve_words(alloc: Global, found: &ArgMatches) -> Result<Invocation, Unclear> {
     let words = found.get_strs("listen").unwrap_or(&[]);
     if let Some(word) = no_address(words) {
         return Err(Unclear::Address(String::from_str(alloc, word)?));
     }
-    Ok(Asked::Serve {
+    Ok(Invocation::Serve {
         setting: Setting {
             addresses: addresses(alloc, words)?,
             limits: limits(found),
@@ -217,16 +217,16 @@ fn supervision(alloc: Global, found: &ArgMatches) -> Result<Supervision, Unclear
 }
 
 /// What is asked for by the words behind `copy`.
-fn copy_words(alloc: Global, found: &ArgMatches) -> Result<Asked, Unclear> {
-    Ok(Asked::Copy {
+fn copy_words(alloc: Global, found: &ArgMatches) -> Result<Invocation, Unclear> {
+    Ok(Invocation::Copy {
         from: String::from_str(alloc, found.get_str("table").unwrap_or(""))?,
         to: String::from_str(alloc, found.get_str("to").unwrap_or(""))?,
     })
 }
 
 /// What is asked for by the words behind `stop`.
-fn stop_words(alloc: Global, found: &ArgMatches) -> Result<Asked, Unclear> {
-    Ok(Asked::Stop {
+fn stop_words(alloc: Global, found: &ArgMatches) -> Result<Invocation, Unclear> {
+    Ok(Invocation::Stop {
         control: String::from_str(alloc, found.get_str("control").unwrap_or(""))?,
     })
 }
@@ -243,8 +243,8 @@ fn table_file(alloc: Global, found: &ArgMatches) -> Result<Option<TableFile>, Al
 }
 
 /// What is asked for by the words behind `export`.
-fn exported_table(alloc: Global, found: &ArgMatches) -> Result<Asked, Unclear> {
-    Ok(Asked::Export {
+fn exported_table(alloc: Global, found: &ArgMatches) -> Result<Invocation, Unclear> {
+    Ok(Invocation::Export {
         table: TableFile {
             path: String::from_str(alloc, found.get_str("table").unwrap_or(""))?,
             has_sums: false,
@@ -256,10 +256,10 @@ fn exported_table(alloc: Global, found: &ArgMatches) -> Result<Asked, Unclear> {
     })
 }
 
-fn parsed(alloc: Global, words: &[String]) -> Result<Asked, Unclear> {
+fn parsed(alloc: Global, words: &[String]) -> Result<Invocation, Unclear> {
     let matches = command(alloc)?.try_get_matches_from(words)?;
     if matches.subcommand_matches("check").is_some() {
-        return Ok(Asked::Check);
+        return Ok(Invocation::Check);
     }
     if let Some(found) = matches.subcommand_matches("export") {
         return exported_table(alloc, found);
@@ -274,22 +274,22 @@ fn parsed(alloc: Global, words: &[String]) -> Result<Asked, Unclear> {
         return stop_words(alloc, found);
     }
     match matches.subcommand_matches("replay") {
-        Some(found) => Ok(Asked::Replay {
+        Some(found) => Ok(Invocation::Replay {
             table: table_file(alloc, found)?,
         }),
-        None => Ok(Asked::Replay { table: None }),
+        None => Ok(Invocation::Replay { table: None }),
     }
 }
 
 /// Prints what `clap` has to say, and answers the exit status.
-fn told(rt: &HostRuntime, error: Error) -> Result<Asked, Fault> {
+fn told(rt: &HostRuntime, error: Error) -> Result<Invocation, Fault> {
     if error.kind() == ErrorKind::OutOfMemory {
         return Err(Fault::NoMemory);
     }
     let is_help = !error.use_stderr();
     match error.print(rt) {
         Err(_) if is_help => Err(Fault::Device),
-        _ => Ok(Asked::Ended(status_of_words(is_help))),
+        _ => Ok(Invocation::Ended(status_of_words(is_help))),
     }
 }
 
@@ -297,19 +297,19 @@ fn told(rt: &HostRuntime, error: Error) -> Result<Asked, Fault> {
 const BOUND: &str = "--bound <NAME=VALUES,OCTETS>";
 
 /// Says what is wrong with the value of an option.
-fn refused(rt: &HostRuntime, word: &str, option: &str, reason: &str) -> Asked {
+fn refused(rt: &HostRuntime, word: &str, option: &str, reason: &str) -> Invocation {
     let _ = eprintln!(rt;
         "error: invalid value '{word}' for '{option}': {reason}\n\nFor more information, try '--help'."
     );
-    Asked::Ended(status_of_words(false))
+    Invocation::Ended(status_of_words(false))
 }
 
 /// Reads the command line, and prints what there is to say of it.
-pub fn read_words(rt: &HostRuntime) -> Result<Asked, Fault> {
+pub fn read_words(rt: &HostRuntime) -> Result<Invocation, Fault> {
     let Ok(words) = words_of(rt) else {
         // words that are no text, or no memory for them
         let _ = eprintln!(rt; "error: the command line cannot be read");
-        return Ok(Asked::Ended(status_of_words(false)));
+        return Ok(Invocation::Ended(status_of_words(false)));
     };
     match parsed(rt.alloc(), words.as_slice()) {
         Ok(asked) => Ok(asked),

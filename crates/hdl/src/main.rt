@@ -21,7 +21,7 @@ use hdl_commands::{
 };
 use std::io::{self, Read};
 use std::process::ExitCode;
-use words::{Asked, read_words};
+use words::{Invocation, read_words};
 
 /// Explains the lines of standard input.
 fn explain_all(rt: &HostRuntime, shows_keys: bool) -> io::Result<()> {
@@ -102,18 +102,18 @@ fn key(rt: &HostRuntime) -> io::Result<u8> {
 /// Does what the command line asks for, and answers the exit status.
 fn run(rt: &HostRuntime) -> io::Result<u8> {
     match read_words(rt) {
-        Asked::Explain { shows_keys } => {
+        Invocation::Explain { shows_keys } => {
             explain_all(rt, shows_keys)?;
             Ok(0)
         }
-        Asked::Ask(question) => Ok(ask(rt, &question)),
-        Asked::Batch { server } => batch_all(rt, &server),
-        Asked::Import(import) => Ok(import_file(rt, &import)),
-        Asked::Script => script_all(rt),
-        Asked::Tenants => tenants_all(rt),
-        Asked::Init { prefixes } => init(rt, &prefixes),
-        Asked::Key => key(rt),
-        Asked::Ended(status) => Ok(status),
+        Invocation::Ask(question) => Ok(ask(rt, &question)),
+        Invocation::Batch { server } => batch_all(rt, &server),
+        Invocation::Import(import) => Ok(import_file(rt, &import)),
+        Invocation::Script => script_all(rt),
+        Invocation::Tenants => tenants_all(rt),
+        Invocation::Init { prefixes } => init(rt, &prefixes),
+        Invocation::Key => key(rt),
+        Invocation::Ended(status) => Ok(status),
     }
 }
 

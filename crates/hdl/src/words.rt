@@ -11,7 +11,7 @@ const SERVER: &str = "127.0.0.1:2641";
 
 /// What the command line asks for.
 #[derive(Drop)]
-pub enum Asked {
+pub enum Invocation {
     /// The lines on standard input in words, with the data of keys or without.
     Explain { shows_keys: bool },
     /// One request.
@@ -292,53 +292,53 @@ fn question_of(
     })
 }
 
-fn asked_of(alloc: Global, name: &str, matches: &ArgMatches<'_>) -> Result<Asked, AllocError> {
+fn asked_of(alloc: Global, name: &str, matches: &ArgMatches<'_>) -> Result<Invocation, AllocError> {
     match name {
-        "explain" => Ok(Asked::Explain {
+        "explain" => Ok(Invocation::Explain {
             shows_keys: matches.get_flag("keys"),
         }),
-        "batch" => Ok(Asked::Batch {
+        "batch" => Ok(Invocation::Batch {
             server: server_of(alloc, matches)?,
         }),
-        "import" => Ok(Asked::Import(Import {
+        "import" => Ok(Invocation::Import(Import {
             file: word(alloc, matches, "csv")?,
             server: server_of(alloc, matches)?,
             key: word(alloc, matches, "key")?,
         })),
-        "script" => Ok(Asked::Script),
-        "tenants" => Ok(Asked::Tenants),
-        "init" => Ok(Asked::Init {
+        "script" => Ok(Invocation::Script),
+        "tenants" => Ok(Invocation::Tenants),
+        "init" => Ok(Invocation::Init {
             prefixes: words(alloc, matches, "prefixes")?,
         }),
-        "key" => Ok(Asked::Key),
+        "key" => Ok(Invocation::Key),
         other => match operation_in(other) {
-            Some(operation) => Ok(Asked::Ask(question_of(alloc, operation, matches)?)),
-            None => Ok(Asked::Ended(2)),
+            Some(operation) => Ok(Invocation::Ask(question_of(alloc, operation, matches)?)),
+            None => Ok(Invocation::Ended(2)),
         },
     }
 }
 
-fn parsed(alloc: Global, words: &[String]) -> Result<Asked, Error> {
+fn parsed(alloc: Global, words: &[String]) -> Result<Invocation, Error> {
     let matches = command(alloc)?.try_get_matches_from(words)?;
     match matches.subcommand() {
         Some((name, found)) => Ok(asked_of(alloc, name, found)?),
-        None => Ok(Asked::Ended(2)),
+        None => Ok(Invocation::Ended(2)),
     }
 }
 
 /// Reads the command line, and prints what `clap` has to say of it.
-pub fn read_words(rt: &HostRuntime) -> Asked {
+pub fn read_words(rt: &HostRuntime) -> Invocation {
     let Ok(words) = words_of(rt) else {
         let _ = eprintln!(rt; "error: the command line cannot be read");
-        return Asked::Ended(2);
+        return Invocation::Ended(2);
     };
     match parsed(rt.alloc(), words.as_slice()) {
         Ok(found) => found,
         Err(error) => {
             let is_help = !error.use_stderr();
             match error.print(rt) {
-                Err(_) if is_help => Asked::Ended(1),
-                _ => Asked::Ended(status_of_words(is_help)),
+                Err(_) if is_help => Invocation::Ended(1),
+                _ => Invocation::Ended(status_of_words(is_help)),
             }
         }
     }

@@ -21,7 +21,7 @@ reference_octets r = REFERENCE_OCTETS + length r.handle
 
 -- a value: a fixed sum, its type, its data and its references
 abbrev pub value_octets : Value → ℕ
-value_octets v = ROW_OCTETS + length v.kind + length v.bytes + sum_by reference_octets v.refs
+value_octets v = ROW_OCTETS + length v.kind + length v.bytes + sum_by reference_octets v.references
 
 -- a handle: a fixed sum, and its name
 abbrev pub handle_octets : List ℕ → ℕ

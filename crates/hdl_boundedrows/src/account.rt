@@ -218,7 +218,7 @@ impl Accounts {
     }
 
     /// Counts the change of a handle of this prefix.
-    pub(crate) fn settle(&mut self, prefix: &[u8], change: Change)
+    pub(crate) fn count_change(&mut self, prefix: &[u8], change: Change)
         ensures { self.new ≡ map (after_change prefix.now change) self.old }
     {
         for account in self.all.iter_mut() {

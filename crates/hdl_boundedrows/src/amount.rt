@@ -71,7 +71,7 @@ fn value_octets(value: &Value) -> u64
 {
     let kind = value.kind.as_slice().len() as u64;
     let bytes = value.bytes.as_slice().len() as u64;
-    let refs = references_octets(value.refs.as_slice());
+    let refs = references_octets(value.references.as_slice());
     ROW_OCTETS
         .saturating_add(kind)
         .saturating_add(bytes)

@@ -6,13 +6,14 @@ ghost use Rattle.std.specs.List.{AllByRecursion};
 ghost use Rattle.hdl_boundedrows.specs.Amount.{with_handle, values_at};
 ghost use Rattle.hdl_name.specs.Name.{canonical, prefix};
 ghost use Rattle.hdl_value.specs.Refs.{place_of};
-ghost use Rattle.hdl_rows.specs.Table.{most, counted, has, at, values_of, values_in, names_of, HaveTheirIndexes, created, with_values, without_values, without_handle, AreDistinct, AreAbsent, ArePresent, indexes};
+ghost use Rattle.hdl_rows.specs.Table.{most, refusals_after, has, at, values_of, values_in, names_of, HaveTheirIndexes, created, with_values, without_values, without_handle, AreDistinct, AreAbsent, ArePresent, indexes};
 
 use crate::account::{Account, Accounts, Bound, Change};
 use crate::amount::{Amount, amount_of_indexes, amount_of_replaced, handle_amount, values_amount};
+use hdl_limits::Octets;
 use hdl_name::Name;
 use hdl_rows::{Refused, Rows};
-use hdl_value::{Octets, Reference, Value};
+use hdl_value::{Reference, Value};
 use std::alloc::Global;
 use std::marker::Model;
 
@@ -53,7 +54,7 @@ fn permit<A: Alarm>(
     change: Change,
 ) -> Result<(), Refused>
     ensures permitted { is_ok result ≡ are_permitted accounts.now prefix.now change }
-    ensures count { refusals.new ≡ counted result refusals.old }
+    ensures count { refusals.new ≡ refusals_after result refusals.old }
 {
     if accounts.permit(prefix, change) {
         return Ok(());
@@ -139,7 +140,7 @@ impl<R: Rows + Drop, A: Alarm + Drop> Rows for BoundedRows<R, A> {
     fn exists(&mut self, name: &Name) -> Result<bool, Refused>
         ensures found { IfOk result (λ is. is ≡ has self.old.table (canonical name.now)) }
         ensures unchanged { self.new.table ≡ self.old.table }
-        ensures count { self.new.refused ≡ counted result self.old.refused }
+        ensures count { self.new.refused ≡ refusals_after result self.old.refused }
         ensures holdings { self.new.holdings ≡ self.old.holdings }
     {
         self.rows.exists(name)
@@ -148,7 +149,7 @@ impl<R: Rows + Drop, A: Alarm + Drop> Rows for BoundedRows<R, A> {
     fn at(&mut self, reference: &Reference) -> Result<Option<Value>, Refused>
         ensures found { IfOk result (λ value. value ≡ at self.old.table (place_of reference.now)) }
         ensures unchanged { self.new.table ≡ self.old.table }
-        ensures count { self.new.refused ≡ counted result self.old.refused }
+        ensures count { self.new.refused ≡ refusals_after result self.old.refused }
         ensures holdings { self.new.holdings ≡ self.old.holdings }
     {
         self.rows.at(reference)
@@ -158,7 +159,7 @@ impl<R: Rows + Drop, A: Alarm + Drop> Rows for BoundedRows<R, A> {
         ensures found { IfOk result (λ all. all.items ≡ values_of self.old.table (canonical name.now)) }
         ensures by_index { IfOk result (λ all. HaveTheirIndexes self.old.table (canonical name.now) all.items) }
         ensures unchanged { self.new.table ≡ self.old.table }
-        ensures count { self.new.refused ≡ counted result self.old.refused }
+        ensures count { self.new.refused ≡ refusals_after result self.old.refused }
         ensures holdings { self.new.holdings ≡ self.old.holdings }
     {
         self.rows.values(name)
@@ -169,7 +170,7 @@ impl<R: Rows + Drop, A: Alarm + Drop> Rows for BoundedRows<R, A> {
         ensures found { IfOk result (λ all. values_in all ≡ values_of self.old.table (canonical name.now)) }
         ensures by_index { IfOk result (λ all. HaveTheirIndexes self.old.table (canonical name.now) (values_in all)) }
         ensures unchanged { self.new.table ≡ self.old.table }
-        ensures count { self.new.refused ≡ counted result self.old.refused }
+        ensures count { self.new.refused ≡ refusals_after result self.old.refused }
         ensures holdings { self.new.holdings ≡ self.old.holdings }
     {
         self.rows.look(name)
@@ -178,7 +179,7 @@ impl<R: Rows + Drop, A: Alarm + Drop> Rows for BoundedRows<R, A> {
     fn names(&mut self, authority: &[u8]) -> Result<Vec<Octets>, Refused>
         ensures found { IfOk result (λ all. all.items ≡ names_of self.old.table authority.now) }
         ensures unchanged { self.new.table ≡ self.old.table }
-        ensures count { self.new.refused ≡ counted result self.old.refused }
+        ensures count { self.new.refused ≡ refusals_after result self.old.refused }
         ensures holdings { self.new.holdings ≡ self.old.holdings }
     {
         self.rows.names(authority)
@@ -189,7 +190,7 @@ impl<R: Rows + Drop, A: Alarm + Drop> Rows for BoundedRows<R, A> {
         requires distinct { AreDistinct (indexes values.now) }
         ensures done { OnOk result (self.new.table ≡ created self.old.table (canonical name.now) values.now) }
         ensures undone { OnErr result (self.new.table ≡ self.old.table) }
-        ensures count { self.new.refused ≡ counted result self.old.refused }
+        ensures count { self.new.refused ≡ refusals_after result self.old.refused }
         ensures kept { OnErr result (self.new.holdings ≡ self.old.holdings) }
         ensures settled { OnOk result (self.new.holdings ≡ map (settled (prefix name.now) (λ m. with_handle m (canonical name.now) values.now) none) self.old.holdings) }
         ensures within { OnOk result (AllByRecursion (λ h. IsWithin (prefix name.now) h (settled (prefix name.now) (λ m. with_handle m (canonical name.now) values.now) none h)) self.old.holdings) }
@@ -210,7 +211,7 @@ impl<R: Rows + Drop, A: Alarm + Drop> Rows for BoundedRows<R, A> {
             change,
         )?;
         self.rows.create(name, values)?;
-        self.accounts.settle(prefix, change);
+        self.accounts.count_change(prefix, change);
         Ok(())
     }
 
@@ -220,7 +221,7 @@ impl<R: Rows + Drop, A: Alarm + Drop> Rows for BoundedRows<R, A> {
         requires free { AreAbsent self.old.table (canonical name.now) (indexes values.now) }
         ensures done { OnOk result (self.new.table ≡ with_values self.old.table (canonical name.now) values.now) }
         ensures undone { OnErr result (self.new.table ≡ self.old.table) }
-        ensures count { self.new.refused ≡ counted result self.old.refused }
+        ensures count { self.new.refused ≡ refusals_after result self.old.refused }
         ensures kept { OnErr result (self.new.holdings ≡ self.old.holdings) }
         ensures settled { OnOk result (self.new.holdings ≡ map (settled (prefix name.now) (λ m. sum_by m.value values.now) none) self.old.holdings) }
         ensures within { OnOk result (AllByRecursion (λ h. IsWithin (prefix name.now) h (settled (prefix name.now) (λ m. sum_by m.value values.now) none h)) self.old.holdings) }
@@ -241,7 +242,7 @@ impl<R: Rows + Drop, A: Alarm + Drop> Rows for BoundedRows<R, A> {
             change,
         )?;
         self.rows.add(name, values)?;
-        self.accounts.settle(prefix, change);
+        self.accounts.count_change(prefix, change);
         Ok(())
     }
 
@@ -251,7 +252,7 @@ impl<R: Rows + Drop, A: Alarm + Drop> Rows for BoundedRows<R, A> {
         requires taken { ArePresent self.old.table (canonical name.now) (indexes values.now) }
         ensures done { OnOk result (self.new.table ≡ with_values self.old.table (canonical name.now) values.now) }
         ensures undone { OnErr result (self.new.table ≡ self.old.table) }
-        ensures count { self.new.refused ≡ counted result self.old.refused }
+        ensures count { self.new.refused ≡ refusals_after result self.old.refused }
         ensures kept { OnErr result (self.new.holdings ≡ self.old.holdings) }
         ensures settled { OnOk result (self.new.holdings ≡ map (settled (prefix name.now) (λ m. sum_by m.value values.now) (λ m. values_at m (values_of self.old.table (canonical name.now)) (indexes values.now))) self.old.holdings) }
         ensures within { OnOk result (AllByRecursion (λ h. IsWithin (prefix name.now) h (settled (prefix name.now) (λ m. sum_by m.value values.now) (λ m. values_at m (values_of self.old.table (canonical name.now)) (indexes values.now)) h)) self.old.holdings) }
@@ -273,7 +274,7 @@ impl<R: Rows + Drop, A: Alarm + Drop> Rows for BoundedRows<R, A> {
             change,
         )?;
         self.rows.modify(name, values)?;
-        self.accounts.settle(prefix, change);
+        self.accounts.count_change(prefix, change);
         Ok(())
     }
 
@@ -283,7 +284,7 @@ impl<R: Rows + Drop, A: Alarm + Drop> Rows for BoundedRows<R, A> {
         requires taken { ArePresent self.old.table (canonical name.now) indexes.now }
         ensures done { OnOk result (self.new.table ≡ without_values self.old.table (canonical name.now) indexes.now) }
         ensures undone { OnErr result (self.new.table ≡ self.old.table) }
-        ensures count { self.new.refused ≡ counted result self.old.refused }
+        ensures count { self.new.refused ≡ refusals_after result self.old.refused }
         ensures kept { OnErr result (self.new.holdings ≡ self.old.holdings) }
         ensures settled { OnOk result (self.new.holdings ≡ map (settled (prefix name.now) none (λ m. values_at m (values_of self.old.table (canonical name.now)) indexes.now)) self.old.holdings) }
     {
@@ -297,7 +298,7 @@ impl<R: Rows + Drop, A: Alarm + Drop> Rows for BoundedRows<R, A> {
             back: amount_of_indexes(&held, indexes),
         };
         self.rows.remove(name, indexes)?;
-        self.accounts.settle(prefix, change);
+        self.accounts.count_change(prefix, change);
         Ok(())
     }
 
@@ -305,7 +306,7 @@ impl<R: Rows + Drop, A: Alarm + Drop> Rows for BoundedRows<R, A> {
         requires there { has self.old.table (canonical name.now) ≡ true }
         ensures done { OnOk result (self.new.table ≡ without_handle self.old.table (canonical name.now)) }
         ensures undone { OnErr result (self.new.table ≡ self.old.table) }
-        ensures count { self.new.refused ≡ counted result self.old.refused }
+        ensures count { self.new.refused ≡ refusals_after result self.old.refused }
         ensures kept { OnErr result (self.new.holdings ≡ self.old.holdings) }
         ensures settled { OnOk result (self.new.holdings ≡ map (settled (prefix name.now) none (λ m. with_handle m (canonical name.now) (values_of self.old.table (canonical name.now)))) self.old.holdings) }
     {
@@ -319,7 +320,7 @@ impl<R: Rows + Drop, A: Alarm + Drop> Rows for BoundedRows<R, A> {
             back: handle_amount(name.canon(), &held),
         };
         self.rows.delete(name)?;
-        self.accounts.settle(prefix, change);
+        self.accounts.count_change(prefix, change);
         Ok(())
     }
 

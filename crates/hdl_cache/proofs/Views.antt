@@ -6,22 +6,22 @@ use Rattle.hdl_value.specs.declared.admin.AdminMask.{AdminMask}
 use Rattle.hdl_reach.specs.Views.{mask_of}
 use Rattle.lru.specs.LruCache.{LruCache, lru_cache, promoted, put_entries}
 use Rattle.hdl_cache.specs.declared.pair.Pair.{Pair}
-use Rattle.hdl_cache.specs.Kept.{Asked, Kept, same_asked, with_mask, asked_of, kept_in}
+use Rattle.hdl_cache.specs.Kept.{Subject, Kept, same_subject, with_mask, subject_of, kept_in}
 use Rattle.hdl_cache.proofs.Entries.{lookup-seen, promoted-seen, put-seen}
 
 -- the derived equality of pairs
 abbrev pub same_pair : Pair → Pair → Bool
-same_pair p q = same_asked (asked_of p) (asked_of q)
+same_pair p q = same_subject (subject_of p) (subject_of q)
 
-module _ (kept : List Kept) (p : Pair) (a : Asked) (is : asked_of p ≡ a) where
-  pub found : (es : List (Pair × Option AdminMask)) (o : Option (Option AdminMask)) → kept_in es ≡ kept → o ≡ lookup (same_pair p) es → option_map mask_of o ≡ lookup (same_asked a) kept
-  found es o view e = ap (option_map mask_of) e ∙ sym (lookup-seen asked_of mask_of (same_pair p) (same_asked (asked_of p)) (λ q. refl) es) ∙ (λ i. lookup (same_asked (is i)) (view i))
+module _ (kept : List Kept) (p : Pair) (a : Subject) (is : subject_of p ≡ a) where
+  pub found : (es : List (Pair × Option AdminMask)) (o : Option (Option AdminMask)) → kept_in es ≡ kept → o ≡ lookup (same_pair p) es → option_map mask_of o ≡ lookup (same_subject a) kept
+  found es o view e = ap (option_map mask_of) e ∙ sym (lookup-seen subject_of mask_of (same_pair p) (same_subject (subject_of p)) (λ q. refl) es) ∙ (λ i. lookup (same_subject (is i)) (view i))
 
-  pub used : (es : List (Pair × Option AdminMask)) → kept_in es ≡ kept → kept_in (promoted (same_pair p) es) ≡ promoted (same_asked a) kept
-  used es view = sym (promoted-seen asked_of mask_of (same_pair p) (same_asked (asked_of p)) (λ q. refl) es) ∙ (λ i. promoted (same_asked (is i)) (view i))
+  pub used : (es : List (Pair × Option AdminMask)) → kept_in es ≡ kept → kept_in (promoted (same_pair p) es) ≡ promoted (same_subject a) kept
+  used es view = sym (promoted-seen subject_of mask_of (same_pair p) (same_subject (subject_of p)) (λ q. refl) es) ∙ (λ i. promoted (same_subject (is i)) (view i))
 
   put : (es : List (Pair × Option AdminMask)) (cap : ℕ) (m : Option AdminMask) → kept_in es ≡ kept → cap ≡ 256 → kept_in (put_entries same_pair (lru_cache es cap) p m) ≡ with_mask kept a (mask_of m)
-  put es cap m view most = sym (put-seen asked_of mask_of same_pair same_asked p m (λ q. refl) es cap) ∙ (λ i. put_entries same_asked (lru_cache (view i) (most i)) (is i) (mask_of m))
+  put es cap m view most = sym (put-seen subject_of mask_of same_pair same_subject p m (λ q. refl) es cap) ∙ (λ i. put_entries same_subject (lru_cache (view i) (most i)) (is i) (mask_of m))
 
   -- what is kept after a mask was put, or after that was refused
   pub kept_or_not : {X E : Type 0} (r : Result X E) (old new : LruCache Pair (Option AdminMask)) (m : Option AdminMask)

@@ -10,27 +10,27 @@ use Rattle.lru.specs.LruCache.{lru_cache, put_entries}
 use Rattle.hdl_cache.specs.declared.pair.Pair.{Pair}
 
 -- the key whose mask is kept, and the handle for which
-pub record Asked : Type 0 where
+pub record Subject : Type 0 where
   pub handle : List ℕ
   pub key : Place
 
-abbrev pub asked_for : List ℕ → Place → Asked
-asked_for h k = record { handle = h; key = k }
+abbrev pub subject : List ℕ → Place → Subject
+subject h k = record { handle = h; key = k }
 
 -- a mask that is kept, or that there is none
 abbrev pub Kept : Type 0
-Kept = Asked × Option ℕ
+Kept = Subject × Option ℕ
 
 -- the same handle and the same key
-abbrev pub same_asked : Asked → Asked → Bool
-same_asked a b = bytes_eq a.handle b.handle && (bytes_eq a.key.handle b.key.handle && nat_eq a.key.index b.key.index)
+abbrev pub same_subject : Subject → Subject → Bool
+same_subject a b = bytes_eq a.handle b.handle && (bytes_eq a.key.handle b.key.handle && nat_eq a.key.index b.key.index)
 
-abbrev pub is_asked : List ℕ → Place → Asked → Bool
-is_asked h k = same_asked (asked_for h k)
+abbrev pub is_subject : List ℕ → Place → Subject → Bool
+is_subject h k = same_subject (subject h k)
 
 -- one more, the most recently used; of as many others as are kept the least recently used is gone
-abbrev pub with_mask : List Kept → Asked → Option ℕ → List Kept
-with_mask kept a m = put_entries same_asked (lru_cache kept MASKS_MAX) a m
+abbrev pub with_mask : List Kept → Subject → Option ℕ → List Kept
+with_mask kept a m = put_entries same_subject (lru_cache kept MASKS_MAX) a m
 
 -- the masks that are kept are the table's
 abbrev pub AreMasks : Table → List Kept → Type 0
@@ -38,8 +38,8 @@ AreMasks t kept = (e : Kept) → Contains kept e → IsMask t e.0.handle e.0.key
 
 -- ---- the code's entries, as they are seen
 
-abbrev pub asked_of : Pair → Asked
-asked_of p = asked_for p.handle.items (record { handle = p.key.items; index = p.index })
+abbrev pub subject_of : Pair → Subject
+subject_of p = subject p.handle.items (record { handle = p.key.items; index = p.index })
 
 abbrev pub kept_in : List (Pair × Option AdminMask) → List Kept
-kept_in es = map (λ e. (asked_of e.0, mask_of e.1)) es
+kept_in es = map (λ e. (subject_of e.0, mask_of e.1)) es

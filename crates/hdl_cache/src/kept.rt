@@ -8,7 +8,7 @@ ghost use Rattle.hdl_rows.specs.Table.{Table};
 ghost use Rattle.hdl_reach.specs.Reach.{IsMask};
 ghost use Rattle.hdl_reach.specs.Views.{mask_of};
 ghost use Rattle.lru.specs.LruCache.{promoted};
-ghost use Rattle.hdl_cache.specs.Kept.{asked_for, is_asked, with_mask, AreMasks};
+ghost use Rattle.hdl_cache.specs.Kept.{subject, is_subject, with_mask, AreMasks};
 
 use crate::pair::Pair;
 use hdl_limits::MASKS_MAX;
@@ -59,8 +59,8 @@ impl KeptMasks {
         name: &Name,
         key: &Reference,
     ) -> Result<Option<Option<AdminMask>>, AllocError>
-        ensures found { IfOk result (λ found. option_map mask_of found ≡ lookup (is_asked (canonical name.now) (place_of key.now)) self.old) }
-        ensures used { OnOk result (self.new ≡ promoted (is_asked (canonical name.now) (place_of key.now)) self.old) }
+        ensures found { IfOk result (λ found. option_map mask_of found ≡ lookup (is_subject (canonical name.now) (place_of key.now)) self.old) }
+        ensures used { OnOk result (self.new ≡ promoted (is_subject (canonical name.now) (place_of key.now)) self.old) }
         ensures unchanged { OnErr result (self.new ≡ self.old) }
         ensures of_table { (t : Table) → AreMasks t self.old → IfOk result (λ found. IfSome found (λ mask. IsMask t (canonical name.now) (place_of key.now) (mask_of mask))) }
         ensures still_true { (t : Table) → AreMasks t self.old → AreMasks t self.new }
@@ -74,7 +74,7 @@ impl KeptMasks {
     /// Keeps the mask of this key for this handle, in the place of the least recently used one where 256 are kept.
     /// Want of memory changes nothing.
     pub fn keep(&mut self, name: &Name, key: &Reference, mask: Option<AdminMask>)
-        ensures kept { (self.new ≡ self.old) ⊎ (self.new ≡ with_mask self.old (asked_for (canonical name.now) (place_of key.now)) (mask_of mask)) }
+        ensures kept { (self.new ≡ self.old) ⊎ (self.new ≡ with_mask self.old (subject (canonical name.now) (place_of key.now)) (mask_of mask)) }
         ensures still_true { (t : Table) → AreMasks t self.old → IsMask t (canonical name.now) (place_of key.now) (mask_of mask) → AreMasks t self.new }
     {
         let Ok(pair) = Pair::new(self.alloc, name, key) else {

@@ -3,7 +3,7 @@
 ghost use Rattle.std.specs.Prelude.{◌≡◌, IfOk};
 ghost use Rattle.hdl_name.specs.Name.{canonical};
 ghost use Rattle.hdl_value.specs.Refs.{place_of};
-ghost use Rattle.hdl_cache.specs.Kept.{asked_for, asked_of};
+ghost use Rattle.hdl_cache.specs.Kept.{subject, subject_of};
 
 use hdl_name::Name;
 use hdl_value::Reference;
@@ -19,7 +19,7 @@ pub(crate) struct Pair {
 
 impl Pair {
     pub(crate) fn new(alloc: Global, name: &Name, key: &Reference) -> Result<Pair, AllocError>
-        ensures { IfOk result (λ pair. asked_of pair ≡ asked_for (canonical name.now) (place_of key.now)) }
+        ensures { IfOk result (λ pair. subject_of pair ≡ subject (canonical name.now) (place_of key.now)) }
     {
         Ok(Pair {
             handle: Vec::from_slice(alloc, name.canon())?,

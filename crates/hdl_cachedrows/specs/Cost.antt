@@ -11,7 +11,7 @@ reference_cost r = REFERENCE_COST + length r.handle
 
 -- a value: its parts, its type, its data and its references
 abbrev pub value_cost : Value → ℕ
-value_cost v = VALUE_COST + length v.kind + length v.bytes + sum_by reference_cost v.refs
+value_cost v = VALUE_COST + length v.kind + length v.bytes + sum_by reference_cost v.references
 
 -- a handle with its values: its place among those that are kept, its octets, and its values
 abbrev pub cost : List ℕ → List Value → ℕ

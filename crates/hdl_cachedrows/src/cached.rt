@@ -3,9 +3,10 @@
 ghost use Rattle.std.specs.Prelude.{◌≡◌, ◌≤◌, IfOk};
 
 use crate::cache::Cache;
+use hdl_limits::Octets;
 use hdl_name::Name;
 use hdl_rows::{Refused, Rows};
-use hdl_value::{Octets, Reference, Value};
+use hdl_value::{Reference, Value};
 use std::alloc::{AllocError, Global};
 use std::hash::RandomState;
 use std::marker::Model;

@@ -33,7 +33,7 @@ fn value_cost(value: &Value) -> usize
 {
     let kind = value.kind.as_slice().len();
     let bytes = value.bytes.as_slice().len();
-    let refs = references_cost(value.refs.as_slice());
+    let refs = references_cost(value.references.as_slice());
     VALUE_COST
         .saturating_add(kind)
         .saturating_add(bytes)

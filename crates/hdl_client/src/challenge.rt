@@ -11,9 +11,9 @@ ghost use Rattle.hdl_client.specs.Challenge as challenge;
 
 use crate::fault::ClientFault;
 use hdl_auth::{digest, mac};
-use hdl_limits::MESSAGE_MAX;
+use hdl_limits::{MESSAGE_MAX, Octets};
 use hdl_msg::{ContentView, Digest, Header, ReplyView, RequestBody, request_len, write_request};
-use hdl_value::{HS_SECKEY, Octets};
+use hdl_value::HS_SECKEY;
 use std::alloc::{AllocError, Global};
 
 /// A secret key, and the reference to the HS_SECKEY value that holds it at the service. It can't be printed.

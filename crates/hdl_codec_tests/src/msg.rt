@@ -3,12 +3,12 @@
 use crate::assertion::same;
 use crate::made::{header, reply};
 use hdl_frame::Envelope;
-use hdl_limits::MESSAGE_MAX;
+use hdl_limits::{Items, MESSAGE_MAX, Octets};
 use hdl_msg::{
     Body, Digest, Header, OpCode, OpFlag, Reply, ReplyContent, ResponseCode, Values, answer_header,
     busy, read_request, refuse, reply_len, write_reply,
 };
-use hdl_value::{Listed, Octets, read_value};
+use hdl_value::read_value;
 use std::alloc::{AllocError, Global};
 use std::test::Fail;
 
@@ -70,7 +70,7 @@ fn shows_a_value(alloc: Global) -> Result<bool, Fail> {
     let mut values = Vec::new(alloc);
     values.push(value)?;
     let handle = octets(alloc, b"10/a")?;
-    let values = Listed::new(values);
+    let values = Items::new(values);
     let content = ReplyContent::Values { handle, values };
     let shown = reply(1, OpCode::Resolution, ResponseCode::Success, content);
     let printed =
@@ -132,7 +132,7 @@ fn lists_handles(alloc: Global) -> Result<bool, Fail> {
     let mut handles = Vec::new(alloc);
     handles.push(octets(alloc, b"10/B")?)?;
     handles.push(octets(alloc, b"10/a")?)?;
-    let handles = Listed::new(handles);
+    let handles = Items::new(handles);
     let content = ReplyContent::Handles { handles };
     let mut listed = reply(10, OpCode::ListHandles, ResponseCode::Success, content);
     listed.session = 1;

@@ -1,5 +1,6 @@
 use crate::assertion::same;
-use hdl_name::{Name, NameFault, Octets, is_name};
+use hdl_limits::Octets;
+use hdl_name::{Name, NameFault, is_name};
 use std::test::Fail;
 
 fn fault(rt: &HostRuntime, octets: &[u8]) -> Option<NameFault> {

@@ -2,9 +2,9 @@
 
 use crate::assertion::same;
 use crate::msg::{hex, octets};
-use hdl_limits::MESSAGE_MAX;
+use hdl_limits::{Items, MESSAGE_MAX, Octets};
 use hdl_msg::{Header, OpFlag, RequestBody, request_len, write_request};
-use hdl_value::{Listed, Octets, Value, read_value};
+use hdl_value::{Value, read_value};
 use std::alloc::{AllocError, Global};
 use std::test::Fail;
 
@@ -52,8 +52,8 @@ fn resolution(
     indexes: &[u32],
     types: Vec<Octets>,
 ) -> Result<RequestBody, AllocError> {
-    let indexes = Listed::new(Vec::from_slice(alloc, indexes)?);
-    let types = Listed::new(types);
+    let indexes = Items::new(Vec::from_slice(alloc, indexes)?);
+    let types = Items::new(types);
     let handle = octets(alloc, handle)?;
     Ok(RequestBody::Resolution {
         handle,
@@ -87,12 +87,12 @@ fn resolution_by_type(alloc: Global) -> Result<bool, Fail> {
 }
 
 /// The list of the one value that these digits spell.
-fn values(alloc: Global, digits: &str) -> Result<Listed<Value>, Fail> {
+fn values(alloc: Global, digits: &str) -> Result<Items<Value>, Fail> {
     let spelt = hex(alloc, digits)?;
     let (value, _) = read_value(alloc, &spelt)?;
     let mut values = Vec::new(alloc);
     values.push(value)?;
-    Ok(Listed::new(values))
+    Ok(Items::new(values))
 }
 
 fn create(alloc: Global) -> Result<bool, Fail> {
@@ -143,7 +143,7 @@ fn list(alloc: Global) -> Result<bool, Fail> {
 }
 
 fn remove(alloc: Global) -> Result<bool, Fail> {
-    let indexes = Listed::new(Vec::from_slice(alloc, &[1, 9])?);
+    let indexes = Items::new(Vec::from_slice(alloc, &[1, 9])?);
     let handle = octets(alloc, b"10/h")?;
     let body = RequestBody::Remove { handle, indexes };
     let frame =

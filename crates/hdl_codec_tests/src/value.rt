@@ -12,7 +12,7 @@ fn spelt(
     index: u8,
     kind: &[u8],
     data: &[u8],
-    perm: u8,
+    permissions: u8,
 ) -> Result<Vec<u8>, AllocError> {
     let mut out = vec![in alloc; 0, 0, 0, index]?;
     let kind_len = u32::try_from(kind.len()).unwrap_or(0);
@@ -21,7 +21,7 @@ fn spelt(
     let data_len = u32::try_from(data.len()).unwrap_or(0);
     out.extend_from_slice(&data_len.to_be_bytes())?;
     out.extend_from_slice(data)?;
-    out.extend_from_slice(&[0, 0, 1, 0x51, 0x80, perm])?;
+    out.extend_from_slice(&[0, 0, 1, 0x51, 0x80, permissions])?;
     out.extend_from_slice(&[0; 12])?;
     Ok(out)
 }
@@ -60,7 +60,7 @@ fn reads_what_is_printed(rt: HostRuntime) -> Result<(), Fail> {
     same(
         &rt,
         "count, index, perm, stamp",
-        (count, value.index, value.perm, value.stamp),
+        (count, value.index, value.permissions, value.timestamp),
         (66, 1, 6, 7),
     );
     same(&rt, "kind", value.kind.as_slice(), b"URL".as_slice());
@@ -77,7 +77,7 @@ fn reads_what_is_printed(rt: HostRuntime) -> Result<(), Fail> {
 #[test]
 fn reads_printed_references(rt: HostRuntime) -> Result<(), Fail> {
     let (value, _) = read_value(rt.alloc(), &PRINTED)?;
-    let references = value.refs.into_vec();
+    let references = value.references.into_vec();
     assert!(rt; references.len() == 2);
     same(
         &rt,
@@ -105,7 +105,7 @@ fn copies(rt: HostRuntime) -> Result<(), Fail> {
     let (value, _) = read_value(rt.alloc(), &PRINTED)?;
     let copy = value.copy(rt.alloc())?;
     same(&rt, "bytes", copy.bytes.as_slice(), b"http://a/".as_slice());
-    same(&rt, "len", copy.refs.as_slice().len(), 2);
+    same(&rt, "len", copy.references.as_slice().len(), 2);
     Ok(())
 }
 
@@ -345,8 +345,8 @@ fn lists_keep_index_zero(rt: HostRuntime) -> Result<(), Fail> {
 }
 
 /// The class of a value with this permission octet.
-fn class(alloc: Global, perm: u8) -> Result<Class, Fail> {
-    let octets = spelt(alloc, 1, b"URL", b"", perm)?;
+fn class(alloc: Global, permissions: u8) -> Result<Class, Fail> {
+    let octets = spelt(alloc, 1, b"URL", b"", permissions)?;
     let (value, _) = read_value(alloc, &octets)?;
     Ok(value.class())
 }

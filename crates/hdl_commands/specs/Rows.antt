@@ -50,9 +50,9 @@ value_in_row columns place fields = do
   index ← ok_or (index_in columns.index place fields) fault.Index
   kind ← ok_or (field_at fields columns.kind) fault.Type
   ttl ← ok_or (option_and_then number_in (field_at fields columns.ttl)) fault.Ttl
-  perm ← ok_or (permissions_of columns.permissions fields) fault.Permissions
+  permissions ← ok_or (permissions_of columns.permissions fields) fault.Permissions
   text ← ok_or (field_at fields columns.bytes) fault.Text
-  value_by_type index kind ttl perm text
+  value_by_type index kind ttl permissions text
 
 -- an administrator who may do everything, by the key at this place
 abbrev pub administrator : RawRef → ℕ → Value

@@ -2,8 +2,8 @@
 
 use crate::fault::WordFault;
 use hdl_client::Key;
+use hdl_limits::Octets;
 use hdl_lines::read_reference;
-use hdl_value::Octets;
 use std::alloc::Global;
 use std::env;
 

@@ -1,9 +1,10 @@
 //! Requests in words.
 
 use crate::fault::WordFault;
+use hdl_limits::{Items, Octets};
 use hdl_lines::{index_in, read_value_line};
 use hdl_msg::{OpCode, RequestBody};
-use hdl_value::{Listed, Octets, Value};
+use hdl_value::Value;
 use std::alloc::{AllocError, Global};
 
 /// Whether values go with an operation.
@@ -85,9 +86,9 @@ pub fn request_of(
     {
         return Err(WordFault::Missing);
     }
-    let indexes = Listed::new(indexes);
-    let types = Listed::new(types);
-    let values = Listed::new(values);
+    let indexes = Items::new(indexes);
+    let types = Items::new(types);
+    let values = Items::new(values);
     match operation {
         OpCode::Resolution => Ok(RequestBody::Resolution {
             handle,

@@ -21,20 +21,20 @@ use Rattle.hdl_msg.specs.declared.replies.ReplyContent.TheVariants.{Empty}
 use Rattle.hdl_events.specs.declared.Outcome.TheVariants.{Reply, Silent}
 use Rattle.hdl_laws.specs.Lanes.{LaneState, fresh, with_partials}
 use Rattle.hdl_laws.specs.Tasks as tasks
-use Rattle.hdl_laws.specs.Tasks.{Received, Task, Ignore, Malformed, Unknown, Late, Ask, Redeem, is_late, redeemed, redeem_task, IsReading, IsResponseTask, IsRequestTask, IsMessageTask, IsLetterTask, IsWholeTask}
+use Rattle.hdl_laws.specs.Tasks.{Received, Task, Ignore, Malformed, Unknown, Late, Ask, Redeem, is_late, redeemed, redeem_task, IsReading, IsResponseTask, IsRequestTask, IsContentTask, IsMessageTask, IsWholeTask}
 use Rattle.hdl_laws.specs.Effects.{Effect, answer_effect, challenge_effect, ask_effect, Does}
-use Rattle.hdl_core.specs.declared.letter.Letter.{Letter}
+use Rattle.hdl_core.specs.declared.received.Origin.{Origin}
 use Rattle.hdl_core.specs.Held.{Held, held_at, state_at, with_state}
-use Rattle.hdl_core.specs.Serving.{received_as, letter_of, HearsAt, AssemblesAt}
+use Rattle.hdl_core.specs.Serving.{received_as, message_as, HearsAt, AssemblesAt}
 use Rattle.hdl_core.proofs.HeldLanes as held_lanes
 use Rattle.hdl_ops.specs.Tables.{apply_if}
 
 -- ---- a lane whose partial messages are others hears a message as it did
 
 -- the same on a lane with these partial messages
-record Moved (hosts : List ℕ → Bool) (algorithms : List ℕ → Algorithm) (t : Table) (s : LaneState) (p : List Partial) (m : tasks.Letter) (eff : Effect) : Type 0 where
+record Moved (hosts : List ℕ → Bool) (algorithms : List ℕ → Algorithm) (t : Table) (s : LaneState) (p : List Partial) (m : tasks.Message) (eff : Effect) : Type 0 where
   task : Task
-  is_task : IsLetterTask (with_partials s p) m task
+  is_task : IsMessageTask (with_partials s p) m task
   effect : Effect
   does : Does hosts algorithms t task effect
   outcome : effect.outcome ≡ eff.outcome
@@ -42,11 +42,11 @@ record Moved (hosts : List ℕ → Bool) (algorithms : List ℕ → Algorithm) (
   change : effect.change ≡ eff.change
   same : eff.state.partials ≡ s.partials
 
-module _ (hosts : List ℕ → Bool) (algorithms : List ℕ → Algorithm) (t : Table) (s : LaneState) (p : List Partial) (m : tasks.Letter) where
+module _ (hosts : List ℕ → Bool) (algorithms : List ℕ → Algorithm) (t : Table) (s : LaneState) (p : List Partial) (m : tasks.Message) where
   garbled : (o : Option Content) → IsReading (SpellsRequest m.message) o → o ≡ None → (eff : Effect) → Does hosts algorithms t (Malformed m s) eff → Moved hosts algorithms t s p m eff
   garbled o reading is eff does = record {
     task = Malformed m (with_partials s p);
-    is_task = (o, reading, subst (λ x. IsMessageTask (with_partials s p) m x (Malformed m (with_partials s p))) (sym is) refl);
+    is_task = (o, reading, subst (λ x. IsContentTask (with_partials s p) m x (Malformed m (with_partials s p))) (sym is) refl);
     effect = record { outcome = Reply (short_reply 4 m.envelope); state = with_partials s p; change = None };
     does = refl;
     outcome = sym (ap (λ (e : Effect). e.outcome) does);
@@ -87,7 +87,7 @@ module _ (hosts : List ℕ → Bool) (algorithms : List ℕ → Algorithm) (t : 
       same_by false = refl
 
   -- an answer that keeps the partial messages
-  replied : (k' : Task) (a : Algorithm) (r : Content) (d : Decision) (here here' : LaneState) (eff : Effect) → IsLetterTask (with_partials s p) m k' → here' ≡ with_partials here p → here.partials ≡ s.partials
+  replied : (k' : Task) (a : Algorithm) (r : Content) (d : Decision) (here here' : LaneState) (eff : Effect) → IsMessageTask (with_partials s p) m k' → here' ≡ with_partials here p → here.partials ≡ s.partials
       → eff ≡ answer_effect a here m r d → Does hosts algorithms t k' (answer_effect a here' m r d) → Moved hosts algorithms t s p m eff
   replied k' a r d here here' eff task moved same is does = record {
     task = k';
@@ -101,7 +101,7 @@ module _ (hosts : List ℕ → Bool) (algorithms : List ℕ → Algorithm) (t : 
   }
 
   found : (r : Content) (a : Response) (c : Pending) (o : Option Content) → SpellsRequest m.message r → response_of r.operation ≡ Some a → challenge_of s.challenges.challenges m.peer m.envelope.session ≡ Some c
-      → IsReading (SpellsRequest c.message) o → IsLetterTask (with_partials s p) m (redeem_task (with_partials s p) m a c o)
+      → IsReading (SpellsRequest c.message) o → IsMessageTask (with_partials s p) m (redeem_task (with_partials s p) m a c o)
   found r a c o spells is there reading = (
     Some r,
     spells,
@@ -143,7 +143,7 @@ module _ (hosts : List ℕ → Bool) (algorithms : List ℕ → Algorithm) (t : 
   requested r None k spells is task eff does = asked r spells is eff (subst (λ x. Does hosts algorithms t x eff) task does)
   requested r (Some a) k spells is task eff does = responded r a (challenge_of s.challenges.challenges m.peer m.envelope.session) k spells is refl task eff does
 
-  moved : (k : Task) → IsLetterTask s m k → (eff : Effect) → Does hosts algorithms t k eff → Moved hosts algorithms t s p m eff
+  moved : (k : Task) → IsMessageTask s m k → (eff : Effect) → Does hosts algorithms t k eff → Moved hosts algorithms t s p m eff
   moved k (None, reading, task) eff does = garbled None reading refl eff (subst (λ x. Does hosts algorithms t x eff) task does)
   moved k (Some r, reading, task) eff does = requested r (response_of r.operation) k reading refl task eff does
 
@@ -168,7 +168,7 @@ whole_stays lane key displaced more message is = refl
 
 -- ---- a piece
 
-module _ (hosts : List ℕ → Bool) (algorithms : List ℕ → Algorithm) (t : Table) (lanes : List Held) (number : ℕ) (m : Letter) (bytes : List ℕ) (envelope : m.envelope ≡ envelope_at bytes) where
+module _ (hosts : List ℕ → Bool) (algorithms : List ℕ → Algorithm) (t : Table) (lanes : List Held) (number : ℕ) (m : Origin) (bytes : List ℕ) (envelope : m.envelope ≡ envelope_at bytes) where
   abbrev x : Received
   x = received_as m bytes
 
@@ -205,13 +205,13 @@ module _ (hosts : List ℕ → Bool) (algorithms : List ℕ → Algorithm) (t : 
       same ∙ ap (λ p. with_state lanes number (with_partials here p)) stays ∙ sym (held_lanes.kept lanes number)
 
   pub whole : (message octets : List ℕ) (lanes' lanes'' : List Held) (t' : Table) → number < length lanes → made_whole message ≡ (taken (state_at lanes number).partials (piece_of m.peer bytes)).0
-      → HearsAt hosts algorithms t lanes number (letter_of m message) octets lanes' t'
+      → HearsAt hosts algorithms t lanes number (message_as m message) octets lanes' t'
       → lanes'' ≡ with_state lanes' number (with_partials (state_at lanes' number) (freed (state_at lanes' number).partials (key_of m.peer m.envelope)))
       → AssemblesAt hosts algorithms t lanes number (received_as m bytes) (Some octets) lanes'' t'
   whole message octets lanes' lanes'' t' there is (s', same, (k, task, (eff, does, out, state, table))) free =
       let key = key_of m.peer (envelope_at bytes) in
       let gone = freed here.partials key in
-      let mv = moved hosts algorithms t here gone (letter_of m message) k task eff does in
+      let mv = moved hosts algorithms t here gone (message_as m message) k task eff does in
       let now : state_at lanes' number ≡ s' = ap (λ (ls : List Held). state_at ls number) same ∙ ap (λ (h : Held). h.state) (get_or-set_same lanes number (record { publisher = (held_at lanes number).publisher; state = s' }) (record { publisher = 0; state = fresh false }) there) in
       let kept_partials : (state_at lanes' number).partials ≡ here.partials = ap (λ (s : LaneState). s.partials) (now ∙ sym state) ∙ mv.same in
       let freed_now : with_partials (state_at lanes' number) (freed (state_at lanes' number).partials (key_of m.peer m.envelope)) ≡ with_partials s' gone =
@@ -226,7 +226,7 @@ module _ (hosts : List ℕ → Bool) (algorithms : List ℕ → Algorithm) (t : 
           mv.effect,
           mv.task,
           subst (λ o. IsWholeTask (with_partials here after.1) (with_partials here gone) x o mv.task) (ap whole_message is)
-              (subst (λ (l : tasks.Letter). IsLetterTask (with_partials here gone) l mv.task) (λ i. record { peer = m.peer; moment = m.moment; nonce = m.nonce; envelope = envelope i; message = message }) mv.is_task),
+              (subst (λ (l : tasks.Message). IsMessageTask (with_partials here gone) l mv.task) (λ i. record { peer = m.peer; moment = m.moment; nonce = m.nonce; envelope = envelope i; message = message }) mv.is_task),
           mv.does,
           mv.outcome ∙ out,
           mv.state ∙ ap (λ (s : LaneState). with_partials s gone) state,

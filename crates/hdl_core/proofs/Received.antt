@@ -10,22 +10,22 @@ use Rattle.hdl_msg.specs.Reply.{short_reply}
 use Rattle.hdl_msg.specs.ReplyView.{IsReplyFrame}
 use Rattle.hdl_msg.proofs.ReplyReadings.{short_reply_read}
 use Rattle.hdl_rows.specs.Table.{Table}
-use Rattle.hdl_events.specs.declared.What.{What}
-use Rattle.hdl_events.specs.declared.What.TheVariants.{Open, Bad, Close}
+use Rattle.hdl_events.specs.declared.Happening.{Happening}
+use Rattle.hdl_events.specs.declared.Happening.TheVariants.{Open, Bad, Close}
 use Rattle.hdl_events.specs.declared.Outcome.{Outcome}
 use Rattle.hdl_events.specs.declared.Outcome.TheVariants.{Reply, Busy, Silent, CloseAfter}
 use Rattle.hdl_laws.specs.Lanes.{LaneState, fresh}
-use Rattle.hdl_laws.specs.Told.{IsReadable}
+use Rattle.hdl_laws.specs.Reveals.{IsReadable}
 use Rattle.hdl_laws.specs.Tasks as tasks
 use Rattle.hdl_laws.specs.Tasks.{Received, Task, Ignore, Break, IsFrameTask, IsOctetsTask}
 use Rattle.hdl_laws.specs.Effects.{Effect}
 use Rattle.hdl_laws.specs.Steps.{arrived}
-use Rattle.hdl_core.specs.declared.letter.Letter.{Letter}
+use Rattle.hdl_core.specs.declared.received.Origin.{Origin}
 use Rattle.hdl_core.specs.Held.{Held, state_at, with_state}
 use Rattle.std.specs.Prelude.{IfOk, IfSome, OnErr}
 use Rattle.std.specs.Option.{option_map_or}
 use Rattle.hdl_rows.specs.declared.rows.Refused.{Refused}
-use Rattle.hdl_core.specs.Serving.{letter_of, outcome_of, AssemblesAt, HearsAt, ReceivesAt, ServesAt}
+use Rattle.hdl_core.specs.Serving.{message_as, outcome_of, AssemblesAt, HearsAt, ReceivesAt, ServesAt}
 use Rattle.hdl_core.proofs.HeldLanes.{kept}
 
 when_true : (b : Bool) (P Q : Type 0) → b ≡ true → P → MatchBool b P Q
@@ -67,12 +67,12 @@ module _ (hosts : List ℕ → Bool) (algorithms : List ℕ → Algorithm) (t : 
     piece f (Ok None) o lanes' t' found e is done undone kept = assembled f None o lanes' t' found e is done
     piece f (Err refusal) o lanes' t' found e is done undone same = refused f o lanes' t' found is same undone
 
-    pub heard : (f : Frame) (m : Letter) (message octets : List ℕ) (lanes' : List Held) (t' : Table) → IsFrameOf x.bytes f → is_truncated f.envelope ≡ false → message ≡ drop 20 x.bytes
+    pub heard : (f : Frame) (m : Origin) (message octets : List ℕ) (lanes' : List Held) (t' : Table) → IsFrameOf x.bytes f → is_truncated f.envelope ≡ false → message ≡ drop 20 x.bytes
         → m ≡ record { lane = number; peer = x.peer; moment = x.moment; nonce = x.nonce; envelope = f.envelope }
-        → HearsAt hosts algorithms t lanes number (letter_of m message) octets lanes' t' → ReceivesAt hosts algorithms t lanes number x (Reply octets) lanes' t'
-    heard f m message octets lanes' t' found e is letter done =
-        let same : letter_of m message ≡ tasks.letter x (drop 20 x.bytes) = λ i. letter_of ((letter ∙ ap (λ (n : Envelope). record { lane = number; peer = x.peer; moment = x.moment; nonce = x.nonce; envelope = n }) found.envelope) i) (is i) in
-        let h = subst (λ (l : tasks.Letter). HearsAt hosts algorithms t lanes number l octets lanes' t') same done in (
+        → HearsAt hosts algorithms t lanes number (message_as m message) octets lanes' t' → ReceivesAt hosts algorithms t lanes number x (Reply octets) lanes' t'
+    heard f m message octets lanes' t' found e is origin done =
+        let same : message_as m message ≡ tasks.message_from x (drop 20 x.bytes) = λ i. message_as ((origin ∙ ap (λ (n : Envelope). record { lane = number; peer = x.peer; moment = x.moment; nonce = x.nonce; envelope = n }) found.envelope) i) (is i) in
+        let h = subst (λ (l : tasks.Message). HearsAt hosts algorithms t lanes number l octets lanes' t') same done in (
           h.0,
           h.1,
           inl (h.2.2.0, h.2.0, inl (found.frame, when_false (is_truncated (envelope_at x.bytes)) _ _ (sym (ap is_truncated found.envelope) ∙ e) h.2.1), h.2.2.1, sym h.2.2.2, sym h.2.2.3, h.2.2.4),
@@ -80,7 +80,7 @@ module _ (hosts : List ℕ → Bool) (algorithms : List ℕ → Algorithm) (t : 
 
   -- ---- an event of a lane
 
-  module _ (what : What) where
+  module _ (what : Happening) where
     silent : (s' : LaneState) (lanes' : List Held) → tasks.IsTask (state_at lanes number) what (Ignore s') → lanes' ≡ with_state lanes number s' → ServesAt hosts algorithms t lanes number what Silent lanes' t
     silent s' lanes' task after = (s', after, inl (record { outcome = Silent; state = s'; change = None }, Ignore s', task, refl, refl, refl, refl))
 

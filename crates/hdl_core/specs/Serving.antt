@@ -20,16 +20,16 @@ use Rattle.hdl_slots.specs.declared.pending.Pending.{Pending}
 use Rattle.hdl_slots.specs.Lanes.{challenge_of}
 use Rattle.hdl_ops.specs.Replies.{digest_of, reply_to}
 use Rattle.hdl_ops.specs.Tables.{apply_if}
-use Rattle.hdl_events.specs.declared.What.{What}
+use Rattle.hdl_events.specs.declared.Happening.{Happening}
 use Rattle.hdl_events.specs.declared.Outcome.{Outcome}
 use Rattle.hdl_events.specs.declared.Outcome.TheVariants.{Reply, Busy, Silent}
 use Rattle.hdl_laws.specs.Tasks as tasks
-use Rattle.hdl_laws.specs.Tasks.{Task, IsReading, redeemed, redeem_task, IsResponseTask, IsTask, IsLetterTask, IsPieceTask, IsOctetsTask, Received}
+use Rattle.hdl_laws.specs.Tasks.{Task, IsReading, redeemed, redeem_task, IsResponseTask, IsTask, IsMessageTask, IsPieceTask, IsOctetsTask, Received}
 use Rattle.hdl_laws.specs.Effects.{answer_octets, challenge_octets, Effect, Does}
 use Rattle.hdl_laws.specs.Steps.{arrived, moment_of}
 use Rattle.hdl_laws.specs.Lanes.{LaneState}
-use Rattle.hdl_core.specs.declared.letter.Letter.{Letter}
-use Rattle.hdl_core.specs.declared.letter.Received as code
+use Rattle.hdl_core.specs.declared.received.Origin.{Origin}
+use Rattle.hdl_core.specs.declared.received.Received as code
 use Rattle.hdl_core.specs.declared.hearing.Heard.{Heard}
 use Rattle.hdl_core.specs.declared.hearing.Heard.TheVariants.{Answered, Challenged}
 use Rattle.hdl_core.specs.Held.{Held, state_at, with_state}
@@ -38,13 +38,13 @@ use Rattle.hdl_core.specs.Held.{Held, state_at, with_state}
 abbrev pub received_of : code.Received → Received
 received_of x = record { peer = x.peer; moment = x.moment; nonce = x.nonce; bytes = x.bytes }
 
--- what was received, where the letter came as these octets
-abbrev pub received_as : Letter → List ℕ → Received
+-- what was received, where the message came as these octets
+abbrev pub received_as : Origin → List ℕ → Received
 received_as m bytes = record { peer = m.peer; moment = m.moment; nonce = m.nonce; bytes = bytes }
 
--- a letter with its message
-abbrev pub letter_of : Letter → List ℕ → tasks.Letter
-letter_of m message = record { peer = m.peer; moment = m.moment; nonce = m.nonce; envelope = m.envelope; message = message }
+-- a message with where it came from
+abbrev pub message_as : Origin → List ℕ → tasks.Message
+message_as m message = record { peer = m.peer; moment = m.moment; nonce = m.nonce; envelope = m.envelope; message = message }
 
 -- the header of the reply to this request, with this code and content, announces what it carries
 abbrev pub Announces : Algorithm → Envelope → Content → ℕ → ReplyContent → Type 0
@@ -60,11 +60,11 @@ sent_of (Answered octets) = octets
 sent_of (Challenged octets digest) = octets
 
 -- the challenge of a request of this algorithm under this number
-abbrev pub challenge_of_request : Algorithm → Letter → ℕ → Content → Heard
+abbrev pub challenge_of_request : Algorithm → Origin → ℕ → Content → Heard
 challenge_of_request a m next r = Challenged (challenge_octets a next m.envelope r m.nonce) (digest_of a r)
 
 -- a request of this algorithm is decided for anyone: it is answered, or challenged under the lane's next number
-abbrev pub IsAsked : (List ℕ → Bool) → Algorithm → Table → Letter → ℕ → Content → Heard → Table → Type 0
+abbrev pub IsAsked : (List ℕ → Bool) → Algorithm → Table → Origin → ℕ → Content → Heard → Table → Type 0
 IsAsked hosts a t m next r (Answered octets) t' =
     (d : Decision) × Decides hosts a t r Anyone d × ((d.code == 402) ≡ false) × (octets ≡ answer_octets a m.envelope r d.code d.content) × (t' ≡ apply_if t m.moment d.change)
 IsAsked hosts a t m next r (Challenged octets digest) t' =
@@ -76,24 +76,24 @@ Replies hosts algorithms t moment k octets s' t' =
     (eff : Effect) × Does hosts algorithms t k eff × (eff.outcome ≡ Reply octets) × (eff.state ≡ s') × (t' ≡ apply_if t moment eff.change)
 
 -- a challenge response that names this challenge has this reply, whatever else the lane holds
-abbrev pub IsRedeemed : (List ℕ → Bool) → (List ℕ → Algorithm) → Table → Letter → Response → Pending → List ℕ → Table → Type 0
+abbrev pub IsRedeemed : (List ℕ → Bool) → (List ℕ → Algorithm) → Table → Origin → Response → Pending → List ℕ → Table → Type 0
 IsRedeemed hosts algorithms t m a p octets t' =
     (s : LaneState) (message : List ℕ) → (o : Option Content) × IsReading (SpellsRequest p.message) o
-    × Replies hosts algorithms t m.moment (redeem_task s (letter_of m message) a p o) octets (redeemed s (letter_of m message)) t'
+    × Replies hosts algorithms t m.moment (redeem_task s (message_as m message) a p o) octets (redeemed s (message_as m message)) t'
 
 -- a challenge response on a lane has this reply
-abbrev pub RespondsAt : (List ℕ → Bool) → (List ℕ → Algorithm) → Table → List Held → ℕ → Letter → Content → Response → List ℕ → List Held → Table → Type 0
+abbrev pub RespondsAt : (List ℕ → Bool) → (List ℕ → Algorithm) → Table → List Held → ℕ → Origin → Content → Response → List ℕ → List Held → Table → Type 0
 RespondsAt hosts algorithms t lanes number m r a octets lanes' t' =
     (message : List ℕ) → (s' : LaneState) × (lanes' ≡ with_state lanes number s') × (k : Task)
-    × IsResponseTask (state_at lanes number) (letter_of m message) r a (challenge_of (state_at lanes number).challenges.challenges m.peer m.envelope.session) k
+    × IsResponseTask (state_at lanes number) (message_as m message) r a (challenge_of (state_at lanes number).challenges.challenges m.peer m.envelope.session) k
     × Replies hosts algorithms t m.moment k octets s' t'
 
--- a letter on a lane has this reply
-abbrev pub IsHeard : (List ℕ → Bool) → (List ℕ → Algorithm) → Table → LaneState → tasks.Letter → List ℕ → LaneState → Table → Type 0
-IsHeard hosts algorithms t s m octets s' t' = (k : Task) × IsLetterTask s m k × Replies hosts algorithms t m.moment k octets s' t'
+-- a message on a lane has this reply
+abbrev pub IsHeard : (List ℕ → Bool) → (List ℕ → Algorithm) → Table → LaneState → tasks.Message → List ℕ → LaneState → Table → Type 0
+IsHeard hosts algorithms t s m octets s' t' = (k : Task) × IsMessageTask s m k × Replies hosts algorithms t m.moment k octets s' t'
 
 -- the lanes after that
-abbrev pub HearsAt : (List ℕ → Bool) → (List ℕ → Algorithm) → Table → List Held → ℕ → tasks.Letter → List ℕ → List Held → Table → Type 0
+abbrev pub HearsAt : (List ℕ → Bool) → (List ℕ → Algorithm) → Table → List Held → ℕ → tasks.Message → List ℕ → List Held → Table → Type 0
 HearsAt hosts algorithms t lanes number m octets lanes' t' =
     (s' : LaneState) × (lanes' ≡ with_state lanes number s') × IsHeard hosts algorithms t (state_at lanes number) m octets s' t'
 
@@ -121,12 +121,12 @@ ReceivesAt hosts algorithms t lanes number x o lanes' t' =
     (s' : LaneState) × (lanes' ≡ with_state lanes number s') × IsReceived hosts algorithms t (state_at lanes number) x o s' t'
 
 -- an event of the lane has this outcome, and leaves the lane and the table so
-abbrev pub IsAnswered : (List ℕ → Bool) → (List ℕ → Algorithm) → Table → LaneState → What → Outcome → LaneState → Table → Type 0
+abbrev pub IsAnswered : (List ℕ → Bool) → (List ℕ → Algorithm) → Table → LaneState → Happening → Outcome → LaneState → Table → Type 0
 IsAnswered hosts algorithms t s what o s' t' =
     (eff : Effect) × (k : Task) × IsTask s what k × Does hosts algorithms t k eff × (o ≡ eff.outcome) × (s' ≡ eff.state) × (t' ≡ apply_if t (moment_of what) eff.change)
 
 -- a frame on the open lane is refused, and the lane stays
-pub record IsTurnedDown (t : Table) (s : LaneState) (what : What) (o : Outcome) (s' : LaneState) (t' : Table) : Type 0 where
+pub record IsTurnedDown (t : Table) (s : LaneState) (what : Happening) (o : Outcome) (s' : LaneState) (t' : Table) : Type 0 where
   pub received : Received
   pub frame_event : what ≡ arrived received
   pub frame : IsFrame received.bytes
@@ -135,9 +135,9 @@ pub record IsTurnedDown (t : Table) (s : LaneState) (what : What) (o : Outcome) 
   pub lane_stays : s' ≡ s
   pub table_stays : t' ≡ t
 
-abbrev pub IsServed : (List ℕ → Bool) → (List ℕ → Algorithm) → Table → LaneState → What → Outcome → LaneState → Table → Type 0
+abbrev pub IsServed : (List ℕ → Bool) → (List ℕ → Algorithm) → Table → LaneState → Happening → Outcome → LaneState → Table → Type 0
 IsServed hosts algorithms t s what o s' t' = IsAnswered hosts algorithms t s what o s' t' ⊎ IsTurnedDown t s what o s' t'
 
-abbrev pub ServesAt : (List ℕ → Bool) → (List ℕ → Algorithm) → Table → List Held → ℕ → What → Outcome → List Held → Table → Type 0
+abbrev pub ServesAt : (List ℕ → Bool) → (List ℕ → Algorithm) → Table → List Held → ℕ → Happening → Outcome → List Held → Table → Type 0
 ServesAt hosts algorithms t lanes number what o lanes' t' =
     (s' : LaneState) × (lanes' ≡ with_state lanes number s') × IsServed hosts algorithms t (state_at lanes number) what o s' t'

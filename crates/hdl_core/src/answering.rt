@@ -11,12 +11,12 @@ ghost use Rattle.hdl_ops.specs.Tables.{apply_if, CanApply};
 ghost use Rattle.hdl_laws.specs.Effects.{answer_octets};
 ghost use Rattle.hdl_core.specs.Serving.{Announces};
 
-use crate::letter::Letter;
+use crate::received::Origin;
 use hdl_frame::Envelope;
-use hdl_laws::Octets;
+use hdl_limits::Octets;
 use hdl_msg::{ReplyContent, ResponseCode, refuse};
 use hdl_ops::laws::empty_fits;
-use hdl_ops::{Asked, Change, Decision, Masks, Refused, Rows, apply, render};
+use hdl_ops::{Change, Decision, HashedRequest, Masks, Refused, Rows, apply, render};
 use std::alloc::Global;
 
 /// Makes the change of a decision, if there is one. What is known of administrators that it may touch is forgotten first.
@@ -44,18 +44,18 @@ fn make<R: Rows>(
 /// Renders the reply of a decision and makes its change.
 pub(crate) fn answer<R: Rows>(
     alloc: Global,
-    asked: &Asked<'_>,
+    asked: &HashedRequest<'_>,
     rows: &mut R,
     masks: &mut Masks,
-    letter: &Letter,
+    origin: &Origin,
     decision: Decision,
 ) -> Result<Octets, Refused>
     requires fits { IsTrue (fits asked.now.algorithm asked.now.request.now decision.content) }
     requires can_apply { IfSome decision.change (λ change. CanApply (R.content rows.old) change) }
     requires true_masks { AreTrue (R.content rows.old) masks.old }
-    ensures reply { IfOk result (λ octets. octets ≡ answer_octets asked.now.algorithm letter.now.envelope asked.now.request.now (response_number decision.code) decision.content) }
-    ensures read { IfOk result (λ octets. Announces asked.now.algorithm letter.now.envelope asked.now.request.now (response_number decision.code) decision.content → IsReplyFrame octets) }
-    ensures done { OnOk result (R.content rows.new ≡ apply_if (R.content rows.old) letter.now.moment decision.change) }
+    ensures reply { IfOk result (λ octets. octets ≡ answer_octets asked.now.algorithm origin.now.envelope asked.now.request.now (response_number decision.code) decision.content) }
+    ensures read { IfOk result (λ octets. Announces asked.now.algorithm origin.now.envelope asked.now.request.now (response_number decision.code) decision.content → IsReplyFrame octets) }
+    ensures done { OnOk result (R.content rows.new ≡ apply_if (R.content rows.old) origin.now.moment decision.change) }
     ensures undone { OnErr result (R.content rows.new ≡ R.content rows.old) }
     ensures true_masks { AreTrue (R.content rows.new) masks.new }
 {
@@ -64,24 +64,24 @@ pub(crate) fn answer<R: Rows>(
         content,
         change,
     } = decision;
-    let octets = render(alloc, asked, &letter.envelope, code, content)?;
-    make(rows, masks, change, letter.moment)?;
+    let octets = render(alloc, asked, &origin.envelope, code, content)?;
+    make(rows, masks, change, origin.moment)?;
     Ok(Octets::new(octets))
 }
 
 /// The reply to a request that needs no look at the table, with nothing but its code.
-pub(crate) fn tell(
+pub(crate) fn code_reply(
     alloc: Global,
-    asked: &Asked<'_>,
-    letter: &Letter,
+    asked: &HashedRequest<'_>,
+    origin: &Origin,
     code: ResponseCode,
 ) -> Result<Octets, Refused>
-    ensures reply { IfOk result (λ octets. octets ≡ answer_octets asked.now.algorithm letter.now.envelope asked.now.request.now (response_number code) content.Empty) }
-    ensures read { IfOk result (λ octets. Announces asked.now.algorithm letter.now.envelope asked.now.request.now (response_number code) content.Empty → IsReplyFrame octets) }
+    ensures reply { IfOk result (λ octets. octets ≡ answer_octets asked.now.algorithm origin.now.envelope asked.now.request.now (response_number code) content.Empty) }
+    ensures read { IfOk result (λ octets. Announces asked.now.algorithm origin.now.envelope asked.now.request.now (response_number code) content.Empty → IsReplyFrame octets) }
 {
     let empty = ReplyContent::Empty;
     empty_fits();
-    let octets = render(alloc, asked, &letter.envelope, code, empty)?;
+    let octets = render(alloc, asked, &origin.envelope, code, empty)?;
     Ok(Octets::new(octets))
 }
 

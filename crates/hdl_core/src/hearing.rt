@@ -7,19 +7,18 @@ ghost use Rattle.hdl_cache.specs.Truth.{AreTrue};
 ghost use Rattle.hdl_ops.specs.Admission.{request_algorithm};
 ghost use Rattle.hdl_ops.specs.Views.{algorithms_by, hosted_by, response_view};
 ghost use Rattle.hdl_laws.specs.Tasks.{is_late};
-ghost use Rattle.hdl_core.specs.Serving.{challenge_of_request, letter_of, sent_of, HasItsCode, IsAsked, IsRedeemed, RespondsAt, HearsAt};
+ghost use Rattle.hdl_core.specs.Serving.{challenge_of_request, message_as, sent_of, HasItsCode, IsAsked, IsRedeemed, RespondsAt, HearsAt};
 
-use crate::answering::{answer, malformed, tell};
+use crate::answering::{answer, code_reply, malformed};
 use crate::lanes::Lanes;
-use crate::letter::Letter;
+use crate::received::Origin;
 use hdl_auth::algorithm::{Algorithm, Digest};
 use hdl_frame::Envelope;
-use hdl_laws::Octets;
-use hdl_limits::CHALLENGE_LIFE;
+use hdl_limits::{CHALLENGE_LIFE, Octets};
 use hdl_msg::{Request, ResponseCode, read_request};
 use hdl_ops::{
-    Asked, Decision, Level, Masks, NamedRequest, Owner, Proof, Refused, Response, Rows, decide,
-    render_challenge, response_of,
+    Decision, HashedRequest, Level, Masks, NamedRequest, Owner, Proof, Refused, Response, Rows,
+    decide, render_challenge, response_of,
 };
 use hdl_slots::Pending;
 use std::alloc::Global;
@@ -32,15 +31,20 @@ pub(crate) enum Heard {
 }
 
 /// The challenge of a request under this number, with the request's digest.
-fn challenge(alloc: Global, asked: &Asked<'_>, letter: &Letter, next: u32) -> Result<Heard, Refused>
-    ensures challenged { IfOk result (λ heard. heard ≡ challenge_of_request asked.now.algorithm letter.now next asked.now.request.now) }
+fn challenge(
+    alloc: Global,
+    asked: &HashedRequest<'_>,
+    origin: &Origin,
+    next: u32,
+) -> Result<Heard, Refused>
+    ensures challenged { IfOk result (λ heard. heard ≡ challenge_of_request asked.now.algorithm origin.now next asked.now.request.now) }
     ensures read { IfOk result (λ heard. IsReplyFrame (sent_of heard)) }
 {
     let envelope = Envelope {
         session: next,
-        ..letter.envelope
+        ..origin.envelope
     };
-    let Ok(sent) = render_challenge(alloc, asked, &envelope, &letter.nonce) else {
+    let Ok(sent) = render_challenge(alloc, asked, &envelope, &origin.nonce) else {
         return Err(Refused);
     };
     let (octets, digest) = sent;
@@ -59,12 +63,12 @@ fn ask<R: Rows>(
     owner: &Owner<'_>,
     rows: &mut R,
     masks: &mut Masks,
-    letter: &Letter,
+    origin: &Origin,
     next: u32,
     request: &Request<'_>,
 ) -> Result<Heard, Refused>
     requires true_masks { AreTrue (R.content rows.old) masks.old }
-    ensures asked { IfOk result (λ heard. IsAsked (hosted_by owner.now) (request_algorithm (algorithms_by owner.now) request.now) (R.content rows.old) letter.now next request.now heard (R.content rows.new)) }
+    ensures asked { IfOk result (λ heard. IsAsked (hosted_by owner.now) (request_algorithm (algorithms_by owner.now) request.now) (R.content rows.old) origin.now next request.now heard (R.content rows.new)) }
     ensures read { IfOk result (λ heard. HasItsCode request.now → IsReplyFrame (sent_of heard)) }
     ensures undone { OnErr result (R.content rows.new ≡ R.content rows.old) }
     ensures true_masks { AreTrue (R.content rows.new) masks.new }
@@ -73,17 +77,17 @@ fn ask<R: Rows>(
     let asked = named.asked;
     let decision = decide(owner, named, rows, masks, &Level::Anyone)?;
     if is_challenged(&decision) {
-        return challenge(owner.alloc, &asked, letter, next);
+        return challenge(owner.alloc, &asked, origin, next);
     }
-    let octets = answer(owner.alloc, &asked, rows, masks, letter, decision)?;
+    let octets = answer(owner.alloc, &asked, rows, masks, origin, decision)?;
     Ok(Heard::Answered(octets))
 }
 
-/// The moment of the letter is later than the challenge's by more than a challenge lives; an earlier one counts as none.
-fn is_late(letter: &Letter, pending: &Pending) -> bool
-    ensures { (message : List ℕ) → result ≡ is_late (letter_of letter.now message) pending.now }
+/// The moment of the message is later than the challenge's by more than a challenge lives; an earlier one counts as none.
+fn is_late(origin: &Origin, pending: &Pending) -> bool
+    ensures { (message : List ℕ) → result ≡ is_late (message_as origin.now message) pending.now }
 {
-    letter.moment.saturating_sub(pending.moment) > CHALLENGE_LIFE
+    origin.moment.saturating_sub(pending.moment) > CHALLENGE_LIFE
 }
 
 /// The reply to a challenge response that names this challenge.
@@ -91,28 +95,28 @@ fn redeem<R: Rows>(
     owner: &Owner<'_>,
     rows: &mut R,
     masks: &mut Masks,
-    letter: &Letter,
+    origin: &Origin,
     response: Response<'_>,
     pending: &Pending,
 ) -> Result<Octets, Refused>
     requires true_masks { AreTrue (R.content rows.old) masks.old }
-    ensures redeemed { IfOk result (λ octets. IsRedeemed (hosted_by owner.now) (algorithms_by owner.now) (R.content rows.old) letter.now (response_view response.entry) pending.now octets (R.content rows.new)) }
+    ensures redeemed { IfOk result (λ octets. IsRedeemed (hosted_by owner.now) (algorithms_by owner.now) (R.content rows.old) origin.now (response_view response.entry) pending.now octets (R.content rows.new)) }
     ensures read { IfOk result (λ octets. IsReplyFrame octets) }
     ensures undone { OnErr result (R.content rows.new ≡ R.content rows.old) }
     ensures true_masks { AreTrue (R.content rows.new) masks.new }
 {
     let Ok(request) = read_request(pending.message.as_slice()) else {
-        return malformed(owner.alloc, &letter.envelope);
+        return malformed(owner.alloc, &origin.envelope);
     };
-    let asked = Asked {
+    let asked = HashedRequest {
         algorithm: pending.digest.algorithm(),
         request: &request,
     };
-    if is_late(letter, pending) {
-        return tell(
+    if is_late(origin, pending) {
+        return code_reply(
             owner.alloc,
             &asked,
-            letter,
+            origin,
             ResponseCode::AuthenticationTimeout,
         );
     }
@@ -123,7 +127,7 @@ fn redeem<R: Rows>(
     };
     let named = NamedRequest::read(owner.alloc, asked)?;
     let decision = decide(owner, named, rows, masks, &Level::Proven(proof))?;
-    answer(owner.alloc, &asked, rows, masks, letter, decision)
+    answer(owner.alloc, &asked, rows, masks, origin, decision)
 }
 
 /// The reply to a challenge response. The challenge that it names is spent, unless the reply is refused.
@@ -132,28 +136,28 @@ fn respond<R: Rows>(
     rows: &mut R,
     masks: &mut Masks,
     lanes: &mut Lanes,
-    letter: &Letter,
+    origin: &Origin,
     request: &Request<'_>,
     response: Response<'_>,
 ) -> Result<Octets, Refused>
-    requires there { letter.now.lane < length lanes.old }
+    requires there { origin.now.lane < length lanes.old }
     requires true_masks { AreTrue (R.content rows.old) masks.old }
-    ensures responded { IfOk result (λ octets. RespondsAt (hosted_by owner.now) (algorithms_by owner.now) (R.content rows.old) lanes.old letter.now.lane letter.now request.now (response_view response.entry) octets lanes.new (R.content rows.new)) }
+    ensures responded { IfOk result (λ octets. RespondsAt (hosted_by owner.now) (algorithms_by owner.now) (R.content rows.old) lanes.old origin.now.lane origin.now request.now (response_view response.entry) octets lanes.new (R.content rows.new)) }
     ensures read { IfOk result (λ octets. IsReplyFrame octets) }
     ensures undone { OnErr result (R.content rows.new ≡ R.content rows.old) }
     ensures kept { OnErr result (lanes.new ≡ lanes.old) }
     ensures true_masks { AreTrue (R.content rows.new) masks.new }
 {
-    let session = letter.envelope.session;
-    let Some(pending) = lanes.find(letter.lane, letter.peer, session) else {
-        let asked = Asked {
+    let session = origin.envelope.session;
+    let Some(pending) = lanes.find(origin.lane, origin.peer, session) else {
+        let asked = HashedRequest {
             algorithm: Algorithm::Sha1,
             request,
         };
-        return tell(owner.alloc, &asked, letter, ResponseCode::ProtocolError);
+        return code_reply(owner.alloc, &asked, origin, ResponseCode::ProtocolError);
     };
-    let octets = redeem(owner, rows, masks, letter, response, pending)?;
-    lanes.spend(letter.lane, letter.peer, session);
+    let octets = redeem(owner, rows, masks, origin, response, pending)?;
+    lanes.spend(origin.lane, origin.peer, session);
     Ok(octets)
 }
 
@@ -163,36 +167,36 @@ pub(crate) fn hear<R: Rows>(
     rows: &mut R,
     masks: &mut Masks,
     lanes: &mut Lanes,
-    letter: &Letter,
+    origin: &Origin,
     message: Vec<u8>,
 ) -> Result<Octets, Refused>
-    requires there { letter.now.lane < length lanes.old }
+    requires there { origin.now.lane < length lanes.old }
     requires true_masks { AreTrue (R.content rows.old) masks.old }
-    ensures heard { IfOk result (λ octets. HearsAt (hosted_by owner.now) (algorithms_by owner.now) (R.content rows.old) lanes.old letter.now.lane (letter_of letter.now message.items) octets lanes.new (R.content rows.new)) }
+    ensures heard { IfOk result (λ octets. HearsAt (hosted_by owner.now) (algorithms_by owner.now) (R.content rows.old) lanes.old origin.now.lane (message_as origin.now message.items) octets lanes.new (R.content rows.new)) }
     ensures read { IfOk result (λ octets. IsReplyFrame octets) }
     ensures undone { OnErr result (R.content rows.new ≡ R.content rows.old) }
     ensures kept { OnErr result (lanes.new ≡ lanes.old) }
     ensures true_masks { AreTrue (R.content rows.new) masks.new }
 {
     let Ok(request) = read_request(&message) else {
-        return malformed(owner.alloc, &letter.envelope);
+        return malformed(owner.alloc, &origin.envelope);
     };
     if let Some(response) = response_of(request.body()) {
-        return respond(owner, rows, masks, lanes, letter, &request, response);
+        return respond(owner, rows, masks, lanes, origin, &request, response);
     }
-    let next = lanes.next_number(letter.lane);
-    match ask(owner, rows, masks, letter, next, &request)? {
+    let next = lanes.next_number(origin.lane);
+    match ask(owner, rows, masks, origin, next, &request)? {
         Heard::Answered(octets) => Ok(octets),
         Heard::Challenged(octets, digest) => {
-            let nonce = letter.nonce;
+            let nonce = origin.nonce;
             let pending = Pending {
-                peer: letter.peer,
-                moment: letter.moment,
+                peer: origin.peer,
+                moment: origin.moment,
                 nonce,
                 digest,
                 message: Octets::new(message),
             };
-            lanes.challenge(letter.lane, pending);
+            lanes.challenge(origin.lane, pending);
             Ok(octets)
         }
     }

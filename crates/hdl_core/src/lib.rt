@@ -15,12 +15,12 @@ mod answering;
 mod hearing;
 mod lane;
 mod lanes;
-mod letter;
 mod opening;
+mod received;
 mod service;
 mod serving;
 
-pub use hdl_laws::{Event, Octets, Outcome, What};
+pub use hdl_laws::{Event, Happening, Outcome};
 pub use hdl_ops::{Refused, Rows, Tenants};
 pub use opening::OpenFault;
 pub use service::{Early, Service};

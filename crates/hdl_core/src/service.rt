@@ -3,7 +3,7 @@
 ghost use Rattle.std.specs.Prelude.{◌≡◌, All, IfOk, IfErr, OnErr};
 ghost use Rattle.hdl_laws.specs.Laws.{Hidden, HostsNoRoot, Isolated};
 ghost use Rattle.hdl_laws.specs.Runs.{Run, Steps};
-ghost use Rattle.hdl_laws.specs.Told.{IsReadable, Tells};
+ghost use Rattle.hdl_laws.specs.Reveals.{IsReadable, Reveals};
 
 use crate::lanes::Lanes;
 use crate::serving::serve;
@@ -60,7 +60,7 @@ impl<R: Rows + Drop> Service<R> {
     /// (`read`).
     pub fn step(&mut self, event: Event) -> Outcome
         ensures step { Steps self.old event result self.new }
-        ensures told { Tells self.old event result }
+        ensures told { Reveals self.old event result }
         ensures read { IsReadable result }
     {
         reply_told();

@@ -6,14 +6,15 @@ ghost use Rattle.hdl_frame.specs.Splitting.{IsFrameOf};
 ghost use Rattle.hdl_msg.specs.ReplyView.{IsReplyFrame};
 ghost use Rattle.hdl_cache.specs.Truth.{AreTrue};
 ghost use Rattle.hdl_ops.specs.Views.{algorithms_by, hosted_by};
-ghost use Rattle.hdl_laws.specs.Told.{IsReadable};
+ghost use Rattle.hdl_laws.specs.Reveals.{IsReadable};
 ghost use Rattle.hdl_core.specs.Serving.{AssemblesAt, outcome_of, received_as, received_of, ReceivesAt, ServesAt};
 
 use crate::hearing::hear;
 use crate::lanes::Lanes;
-use crate::letter::{Letter, Received};
+use crate::received::{Origin, Received};
 use hdl_frame::{ENVELOPE_LEN, Envelope, Frame, one_datagram};
-use hdl_laws::{Event, Octets, Outcome, What};
+use hdl_laws::{Event, Happening, Outcome};
+use hdl_limits::Octets;
 use hdl_msg::{busy, refuse};
 use hdl_ops::{Masks, Owner, Refused, Rows};
 use hdl_pool::Taken;
@@ -36,27 +37,27 @@ fn assemble<R: Rows>(
     rows: &mut R,
     masks: &mut Masks,
     lanes: &mut Lanes,
-    letter: &Letter,
+    origin: &Origin,
     frame: &Frame<'_>,
 ) -> Result<Option<Octets>, Refused>
-    requires there { letter.now.lane < length lanes.old }
+    requires there { origin.now.lane < length lanes.old }
     requires frame { IsFrameOf frame.now.bytes.now frame.now }
     requires piece { is_truncated (envelope_at frame.now.bytes.now) ≡ true }
-    requires envelope { letter.now.envelope ≡ envelope_at frame.now.bytes.now }
+    requires envelope { origin.now.envelope ≡ envelope_at frame.now.bytes.now }
     requires true_masks { AreTrue (R.content rows.old) masks.old }
-    ensures assembled { IfOk result (λ reply. AssemblesAt (hosted_by owner.now) (algorithms_by owner.now) (R.content rows.old) lanes.old letter.now.lane (received_as letter.now frame.now.bytes.now) reply lanes.new (R.content rows.new)) }
+    ensures assembled { IfOk result (λ reply. AssemblesAt (hosted_by owner.now) (algorithms_by owner.now) (R.content rows.old) lanes.old origin.now.lane (received_as origin.now frame.now.bytes.now) reply lanes.new (R.content rows.new)) }
     ensures read { IfOk result (λ reply. IfSome reply IsReplyFrame) }
     ensures undone { OnErr result (R.content rows.new ≡ R.content rows.old) }
     ensures kept { OnErr result (lanes.new ≡ lanes.old) }
     ensures true_masks { AreTrue (R.content rows.new) masks.new }
 {
-    let Ok(taken) = lanes.take_piece(letter.lane, letter.peer, frame) else {
+    let Ok(taken) = lanes.take_piece(origin.lane, origin.peer, frame) else {
         return Err(Refused);
     };
     match taken {
         Taken::Whole(message) => {
-            let reply = hear(owner, rows, masks, lanes, letter, message)?;
-            lanes.free(letter.lane, letter.peer, &letter.envelope);
+            let reply = hear(owner, rows, masks, lanes, origin, message)?;
+            lanes.free(origin.lane, origin.peer, &origin.envelope);
             Ok(Some(reply))
         }
         Taken::Kept => Ok(None),
@@ -101,7 +102,7 @@ fn receive<R: Rows>(
         return Outcome::Silent;
     };
     let envelope = frame.envelope;
-    let letter = Letter {
+    let origin = Origin {
         lane,
         peer,
         moment,
@@ -109,11 +110,11 @@ fn receive<R: Rows>(
         envelope,
     };
     if envelope.is_truncated() {
-        let reply = assemble(owner, rows, masks, lanes, &letter, &frame);
+        let reply = assemble(owner, rows, masks, lanes, &origin, &frame);
         return outcome_of(&envelope, reply);
     }
     let message = message_of(bytes);
-    match hear(owner, rows, masks, lanes, &letter, message) {
+    match hear(owner, rows, masks, lanes, &origin, message) {
         Ok(reply) => Outcome::Reply(reply),
         Err(_) => Outcome::Busy(busy(&envelope)),
     }
@@ -135,21 +136,21 @@ pub(crate) fn serve<R: Rows>(
 {
     let Event { lane, what } = event;
     match what {
-        What::Open => {
+        Happening::Open => {
             lanes.renew(lane, true);
             Outcome::Silent
         }
-        What::Close => {
+        Happening::Close => {
             lanes.renew(lane, false);
             Outcome::Silent
         }
-        What::Bad { session, request } => {
+        Happening::Bad { session, request } => {
             if !lanes.is_open(lane) {
                 return Outcome::Silent;
             }
             Outcome::CloseAfter(refuse(&Envelope::of_message(session, request, 0)))
         }
-        What::Frame {
+        Happening::Frame {
             peer,
             moment,
             nonce,

@@ -3,7 +3,7 @@ use Rattle.std.proofs.Common.{◌≡◌, ◌⊎◌, ℕ, List, [], ◌∷◌, Op
 use Rattle.slab.specs.Slab.{Slab, get, with_value, Updates, SameValues}
 use Rattle.slab.proofs.SlabLemmas.{Updates-with_value}
 use Rattle.hdl_crowd.specs.declared.entry.Entry.{Entry}
-use Rattle.hdl_crowd.specs.Talk.{Talking, Step, tells, says, refusal_of, Takes, TakesAll, TurnsAway}
+use Rattle.hdl_crowd.specs.Talk.{Talking, Step, is_observed, says, refusal_of, Takes, TakesAll, TurnsAway}
 use Rattle.hdl_crowd.specs.Book.{Goes, Rests}
 
 pub goes : (s : Slab Entry) (place : ℕ) (e f : Entry) (steps : List Step) → get s place ≡ Some e → f.serial ≡ e.serial → TakesAll e.talk steps f.talk
@@ -18,8 +18,8 @@ pub rests : (s : Slab Entry) (place : ℕ) (e f : Entry) → get s place ≡ Som
     → Rests s (with_value s place f) place
 rests s place e f here same (inl stays) = inl (goes s place e f [] here same stays)
 rests s place e f here same (inr (fault, v, told, said)) =
-    let run : TakesAll e.talk (tells fault ∷ says (refusal_of fault) ∷ []) f.talk = (v, told, (f.talk, said, refl)) in
-    inr (fault, goes s place e f (tells fault ∷ says (refusal_of fault) ∷ []) here same run)
+    let run : TakesAll e.talk (is_observed fault ∷ says (refusal_of fault) ∷ []) f.talk = (v, told, (f.talk, said, refl)) in
+    inr (fault, goes s place e f (is_observed fault ∷ says (refusal_of fault) ∷ []) here same run)
 
 -- the same of the connection that is at a place
 pub goes_at : (s : Slab Entry) (place : ℕ) (e f : Entry) (steps : Entry → List Step) → get s place ≡ Some e → f.serial ≡ e.serial → TakesAll e.talk (steps e) f.talk

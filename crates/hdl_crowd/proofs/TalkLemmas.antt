@@ -7,7 +7,7 @@ use Rattle.std.proofs.lemmas.List.Elements.{All-nil, All-cons, All-head, All-tai
 use Rattle.hdl_frame.specs.declared.envelope.FrameFault.{FrameFault}
 use Rattle.hdl_frame.specs.Frames.{IsFrame, BeginsWithFrame, fault_at, IsCut}
 use Rattle.hdl_frame.proofs.CutLemmas.{all_rest, frame_first, one_cut_lem, each_is_cut_lem}
-use Rattle.hdl_crowd.specs.Talk.{Talking, Step, reads, hands, tells, says, writes, fresh, Takes, TakesAll, all_read, all_handed, all_said, all_written}
+use Rattle.hdl_crowd.specs.Talk.{Talking, Step, reads, hands, is_observed, says, writes, fresh, Takes, TakesAll, all_read, all_handed, all_said, all_written}
 
 -- what is left of a connection is what it had and what was read, without what was handed out
 pub rest_after : (steps : List Step) (t u : Talking) → TakesAll t steps u
@@ -24,7 +24,7 @@ rest_after (hands frame ∷ ss) t u (v, step, later) =
           ∙ sym (append_assoc frame (concat (all_handed ss)) u.rest),
       All-cons IsFrame frame (all_handed ss) step.0 below.1,
     )
-rest_after (tells fault ∷ ss) t u (v, step, later) =
+rest_after (is_observed fault ∷ ss) t u (v, step, later) =
     let below = rest_after ss v u later in
     (ap (λ (w : Talking). w.rest ++ all_read ss) (sym step.1) ∙ below.0, below.1)
 rest_after (says octets ∷ ss) t u (v, step, later) =
@@ -68,7 +68,7 @@ owed_after (reads octets ∷ ss) t u (v, step, later) =
     ap (λ (w : Talking). w.owed ++ all_said ss) (sym step.1) ∙ owed_after ss v u later
 owed_after (hands frame ∷ ss) t u (v, step, later) =
     ap (λ (o : List ℕ). o ++ all_said ss) (sym step.4) ∙ owed_after ss v u later
-owed_after (tells fault ∷ ss) t u (v, step, later) =
+owed_after (is_observed fault ∷ ss) t u (v, step, later) =
     ap (λ (w : Talking). w.owed ++ all_said ss) (sym step.1) ∙ owed_after ss v u later
 owed_after (says octets ∷ ss) t u (v, step, later) =
     sym (append_assoc t.owed octets (all_said ss)) ∙ ap (λ (w : Talking). w.owed ++ all_said ss) (sym step) ∙ owed_after ss v u later

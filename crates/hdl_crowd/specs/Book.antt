@@ -5,7 +5,7 @@ use Rattle.hdl_frame.specs.declared.envelope.FrameFault.{FrameFault}
 use Rattle.hdl_trail.specs.Peers.{address_among}
 use Rattle.hdl_crowd.specs.declared.entry.Entry.{Entry}
 use Rattle.hdl_crowd.specs.declared.entry.Member.{Member}
-use Rattle.hdl_crowd.specs.Talk.{Step, tells, says, refusal_of, TakesAll}
+use Rattle.hdl_crowd.specs.Talk.{Step, is_observed, says, refusal_of, TakesAll}
 
 -- the connection at this place is this one
 abbrev pub IsAt : Slab Entry → Member → ℕ → Type 0
@@ -22,7 +22,7 @@ Goes old new place steps =
 
 -- nothing happens there, or the fault that stands next is told and refused
 abbrev pub Rests : Slab Entry → Slab Entry → ℕ → Type 0
-Rests old new place = Goes old new place [] ⊎ ((fault : FrameFault) × Goes old new place (tells fault ∷ says (refusal_of fault) ∷ []))
+Rests old new place = Goes old new place [] ⊎ ((fault : FrameFault) × Goes old new place (is_observed fault ∷ says (refusal_of fault) ∷ []))
 
 -- every other place has what it had
 abbrev pub SameBut : ℕ → Slab Entry → Slab Entry → Type 0

@@ -20,7 +20,7 @@ fresh = record { rest = []; fault = None; owed = [] }
 pub data Step : Type 0 where
   reads : List ℕ → Step
   hands : List ℕ → Step
-  tells : FrameFault → Step
+  is_observed : FrameFault → Step
   says : List ℕ → Step
   writes : List ℕ → Step
 
@@ -28,7 +28,7 @@ pub data Step : Type 0 where
 abbrev pub Takes : Talking → Step → Talking → Type 0
 Takes t (reads octets) u = (t.fault ≡ None) × (u ≡ record { rest = t.rest ++ octets; fault = None; owed = t.owed })
 Takes t (hands frame) u = IsFrame frame × (t.rest ≡ frame ++ u.rest) × (t.fault ≡ None) × (u.fault ≡ None) × (u.owed ≡ t.owed)
-Takes t (tells fault) u = (fault_at t.rest ≡ Some fault) × (u ≡ record { rest = t.rest; fault = Some fault; owed = t.owed })
+Takes t (is_observed fault) u = (fault_at t.rest ≡ Some fault) × (u ≡ record { rest = t.rest; fault = Some fault; owed = t.owed })
 Takes t (says octets) u = u ≡ record { rest = t.rest; fault = t.fault; owed = t.owed ++ octets }
 Takes t (writes octets) u = (t.owed ≡ octets ++ u.owed) × (u.rest ≡ t.rest) × (u.fault ≡ t.fault)
 
@@ -41,7 +41,7 @@ refusal_of Memory = []
 
 -- the fault that stands next is told, and refused
 abbrev pub TurnsAway : Talking → Talking → Type 0
-TurnsAway t u = (fault : FrameFault) × (v : Talking) × Takes t (tells fault) v × Takes v (says (refusal_of fault)) u
+TurnsAway t u = (fault : FrameFault) × (v : Talking) × Takes t (is_observed fault) v × Takes v (says (refusal_of fault)) u
 
 -- steps one after the other
 abbrev pub TakesAll : Talking → List Step → Talking → Type 0
@@ -52,28 +52,28 @@ TakesAll t (s ∷ ss) u = (v : Talking) × Takes t s v × TakesAll v ss u
 abbrev pub read_in : Step → List ℕ
 read_in (reads octets) = octets
 read_in (hands frame) = []
-read_in (tells fault) = []
+read_in (is_observed fault) = []
 read_in (says octets) = []
 read_in (writes octets) = []
 
 abbrev pub handed_in : Step → List (List ℕ)
 handed_in (reads octets) = []
 handed_in (hands frame) = frame ∷ []
-handed_in (tells fault) = []
+handed_in (is_observed fault) = []
 handed_in (says octets) = []
 handed_in (writes octets) = []
 
 abbrev pub said_in : Step → List ℕ
 said_in (reads octets) = []
 said_in (hands frame) = []
-said_in (tells fault) = []
+said_in (is_observed fault) = []
 said_in (says octets) = octets
 said_in (writes octets) = []
 
 abbrev pub written_in : Step → List ℕ
 written_in (reads octets) = []
 written_in (hands frame) = []
-written_in (tells fault) = []
+written_in (is_observed fault) = []
 written_in (says octets) = []
 written_in (writes octets) = octets
 

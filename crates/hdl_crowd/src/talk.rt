@@ -3,7 +3,7 @@
 ghost use Rattle.std.specs.Prelude.{◌≡◌, ◌≤◌, ◌+◌, length, take, None, [], ◌↔◌, IsFalse, IfErr, IfOk, OnOk, OnErr, MatchOption};
 ghost use Rattle.hdl_frame.specs.Frames.{BeginsWithFrame, fault_at};
 ghost use Rattle.hdl_crowd.specs.Joining.{said_of};
-ghost use Rattle.hdl_crowd.specs.Talk.{fresh, reads, hands, tells, says, writes, refusal_of, Takes};
+ghost use Rattle.hdl_crowd.specs.Talk.{fresh, reads, hands, is_observed, says, writes, refusal_of, Takes};
 
 use crate::joining::push_said;
 use hdl_frame::{Cutter, ENVELOPE_LEN, FrameFault};
@@ -71,7 +71,7 @@ impl Talk {
         ensures found { IfOk result (λ found. MatchOption found
             ((¬ BeginsWithFrame self.old.rest) × (fault_at self.old.rest ≡ None) × (self.new ≡ self.old))
             (λ len. (len ≤ length buffer.new) × Takes self.old (hands (take len buffer.new)) self.new)) }
-        ensures fault { IfErr result (λ fault. Takes self.old (tells fault) self.new) }
+        ensures fault { IfErr result (λ fault. Takes self.old (is_observed fault) self.new) }
     {
         match self.cutter.next_frame() {
             Ok(Some(frame)) => {

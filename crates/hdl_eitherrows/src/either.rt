@@ -3,9 +3,10 @@
 ghost use Rattle.std.specs.Prelude.{◌≡◌};
 ghost use Rattle.hdl_eitherrows.specs.Either.{said_of};
 
+use hdl_limits::Octets;
 use hdl_name::Name;
 use hdl_rows::{Refused, Rows};
-use hdl_value::{Octets, Reference, Value};
+use hdl_value::{Reference, Value};
 
 /// A table of one of two kinds.
 #[derive(Drop)]

@@ -4,14 +4,14 @@
 //! nothing else of the service, so these types stand in a crate of their own: `hdl_workers` needs no layer between this one and the
 //! machine. What an event brings about is said in `hdl_laws`, and done in `hdl_core`.
 //!
-//! It stands on `hdl_name`, for [`Octets`], and promises nothing: it has types alone.
+//! It promises nothing: it has types alone.
 #![tactic(auto)]
 
-pub use hdl_name::Octets;
+use hdl_limits::Octets;
 
 /// What happens on a lane.
 #[derive(Debug, Drop)]
-pub enum What {
+pub enum Happening {
     /// A connection begins; a datagram lane has one for good.
     Open,
     /// Octets that should be one frame.
@@ -37,7 +37,7 @@ pub enum What {
 #[derive(Debug, Drop)]
 pub struct Event {
     pub lane: u16,
-    pub what: What,
+    pub what: Happening,
 }
 
 /// What comes of an event.

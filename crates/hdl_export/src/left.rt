@@ -4,7 +4,8 @@ use crate::fault::ExportFault;
 use crate::line::is_sayable;
 use crate::prefixes::{authorities_of, is_among, prefixes_for, prefixes_of};
 use crate::rows::name_of;
-use hdl_rows::{Octets, Rows};
+use hdl_limits::Octets;
+use hdl_rows::Rows;
 use std::alloc::Global;
 
 /// How many handles of a table aren't in the text that [`export`](crate::export) writes, though it hosts their prefixes.

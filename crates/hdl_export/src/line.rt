@@ -33,7 +33,7 @@ fn references_fit(references: &[RawRef]) -> bool
 fn can_be_spelt(value: &Value) -> bool
     ensures { IsTrue result → CanBeSpelt value.now }
 {
-    let references = value.refs.as_slice();
+    let references = value.references.as_slice();
     value.kind.as_slice().len() <= FIELD_MAX
         && value.bytes.as_slice().len() <= FIELD_MAX
         && references.len() <= FIELD_MAX

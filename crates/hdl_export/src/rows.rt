@@ -8,8 +8,9 @@ ghost use Rattle.hdl_export.specs.Rows.{line_text, handle_text, authority_text, 
 use crate::fault::ExportFault;
 use crate::line::{is_sayable, put_line, value_line};
 use crate::prefixes::is_among;
+use hdl_limits::Octets;
 use hdl_name::{Name, NameFault};
-use hdl_rows::{Octets, Rows};
+use hdl_rows::Rows;
 use hdl_value::Value;
 use std::alloc::Global;
 

@@ -12,13 +12,13 @@ use Rattle.hdl_msg.specs.Reply.{short_reply}
 use Rattle.hdl_pool.specs.Partial as pool
 use Rattle.hdl_pool.specs.Partial.{Partial, piece_of}
 use Rattle.hdl_pool.specs.Taking.{taken, whole_message, freed}
-use Rattle.hdl_events.specs.declared.What.{What}
+use Rattle.hdl_events.specs.declared.Happening.{Happening}
 use Rattle.hdl_events.specs.declared.Event.{Event}
 use Rattle.hdl_events.specs.declared.Outcome.{Outcome}
 use Rattle.hdl_events.specs.declared.Outcome.TheVariants.{Reply, Busy}
 use Rattle.hdl_laws.specs.Lanes.{LaneState, fresh, with_partials}
 use Rattle.hdl_laws.specs.Worlds.{World, owner, hosts, algorithms, lane_of}
-use Rattle.hdl_laws.specs.Tasks.{Received, letter, Task, Ignore, IsTask, IsLetterTask, IsWholeTask, IsPieceTask, IsFrameTask, IsOctetsTask}
+use Rattle.hdl_laws.specs.Tasks.{Received, message_from, Task, Ignore, IsTask, IsMessageTask, IsWholeTask, IsPieceTask, IsFrameTask, IsOctetsTask}
 use Rattle.hdl_laws.specs.Effects.{Effect, Does}
 use Rattle.hdl_laws.specs.Steps.{Turn, IsAnswerFor, IsBusy, IsStep}
 use Rattle.hdl_trail.specs.declared.kept.Mark.{Mark}
@@ -34,7 +34,7 @@ use Rattle.hdl_follows.proofs.Lists.{each_filter, list_any_seen}
 use Rattle.hdl_follows.proofs.Fronts.{number_drop, or_none}
 use Rattle.hdl_follows.proofs.Replies.{front, answered_is}
 use Rattle.hdl_follows.proofs.Partials.{freed_seen, piece_left, whole_left}
-use Rattle.hdl_follows.proofs.Letters.{Answered, letter_answered, short_seen}
+use Rattle.hdl_follows.proofs.Messages.{Answered, message_answered, short_seen}
 
 pub begins : BeginsFollowed
 begins = record {
@@ -78,9 +78,9 @@ module _ (hosted : List ℕ → Bool) (algorithms : List ℕ → Algorithm) (t :
 
   -- a message that is answered on a lane: the trail has its partial messages as the lane has, and knows the message's operation
   message_followed : (gone : LaneState) (message : List ℕ) (k : Task) (eff : Effect) → IsInUse gone → gone.challenges ≡ s.challenges → ended e marks ≡ map mark_of gone.partials → operation_of e marks ≡ number_at message 0
-      → IsLetterTask gone (letter x message) k → Does hosted algorithms t k eff → FollowsOn (view s) e eff
+      → IsMessageTask gone (message_from x message) k → Does hosted algorithms t k eff → FollowsOn (view s) e eff
   message_followed gone message k eff used same ends knows task does =
-      let ans : Answered gone (letter x message) eff = letter_answered hosted algorithms t gone used (letter x message) k eff task does in
+      let ans : Answered gone (message_from x message) eff = message_answered hosted algorithms t gone used (message_from x message) k eff task does in
       let settles : settled (view s) (Some (answered_by (sent eff.outcome) e)) ≡ answered (view s) e ans.code ans.session =
       answered_with (view s) e ans.octets eff.outcome ans.code ans.session refl ans.outcome ans.seen ans.calm in (
         record {
@@ -95,8 +95,8 @@ module _ (hosted : List ℕ → Bool) (algorithms : List ℕ → Algorithm) (t :
       )
 
   -- without TC
-  letter_followed : is_truncated (envelope_at x.bytes) ≡ false → (k : Task) (eff : Effect) → IsLetterTask s (letter x (drop 20 x.bytes)) k → Does hosted algorithms t k eff → FollowsOn (view s) e eff
-  letter_followed plain k eff task does =
+  single_followed : is_truncated (envelope_at x.bytes) ≡ false → (k : Task) (eff : Effect) → IsMessageTask s (message_from x (drop 20 x.bytes)) k → Does hosted algorithms t k eff → FollowsOn (view s) e eff
+  single_followed plain k eff task does =
       message_followed s (drop 20 x.bytes) k eff u refl
       (ap (λ (b : Bool). cond b (filter (λ m. not (trail.is_of e.key m)) marks) marks) plain)
       (ap (λ (b : Bool). option_or (cond (not b || eqb (envelope_at x.bytes).sequence 0) (number_at x.bytes 20) None) (cond b (option_and_then (λ (m : Mark). m.operation) (find (trail.is_of e.key) marks)) None)) plain
@@ -118,7 +118,7 @@ module _ (hosted : List ℕ → Bool) (algorithms : List ℕ → Algorithm) (t :
 
   -- a piece that makes its message whole
   whole_followed : is_truncated (envelope_at x.bytes) ≡ true → (message : List ℕ) → whole_message (taken s.partials (piece_of x.peer x.bytes)).0 ≡ Some message → (k : Task) (eff : Effect)
-      → IsLetterTask (with_partials s (freed s.partials (pool.key_of x.peer (envelope_at x.bytes)))) (letter x message) k → Does hosted algorithms t k eff → FollowsOn (view s) e eff
+      → IsMessageTask (with_partials s (freed s.partials (pool.key_of x.peer (envelope_at x.bytes)))) (message_from x message) k → Does hosted algorithms t k eff → FollowsOn (view s) e eff
   whole_followed truncated message made k eff task does =
       let key = pool.key_of x.peer (envelope_at x.bytes) in
       message_followed (with_partials s (freed s.partials key)) message k eff
@@ -137,11 +137,11 @@ module _ (hosted : List ℕ → Bool) (algorithms : List ℕ → Algorithm) (t :
       by_whole truncated (Some message) made task = whole_followed truncated message made k eff task does
 
       by_flag : (b : Bool) → is_truncated (envelope_at x.bytes) ≡ b
-          → MatchBool b (IsPieceTask s x (taken s.partials (piece_of x.peer x.bytes)) k) (IsLetterTask s (letter x (drop 20 x.bytes)) k) → FollowsOn (view s) e eff
+          → MatchBool b (IsPieceTask s x (taken s.partials (piece_of x.peer x.bytes)) k) (IsMessageTask s (message_from x (drop 20 x.bytes)) k) → FollowsOn (view s) e eff
       by_flag true truncated task = by_whole truncated (whole_message (taken s.partials (piece_of x.peer x.bytes)).0) refl task
-      by_flag false plain task = letter_followed plain k eff task does
+      by_flag false plain task = single_followed plain k eff task does
 
-  pub event_followed : (k : Task) (eff : Effect) → IsTask s (What.Frame x.peer x.moment x.nonce x.bytes) k → Does hosted algorithms t k eff → FollowsOn (view s) e eff
+  pub event_followed : (k : Task) (eff : Effect) → IsTask s (Happening.Frame x.peer x.moment x.nonce x.bytes) k → Does hosted algorithms t k eff → FollowsOn (view s) e eff
   event_followed k eff task does =
       let here : IsOctetsTask s x k = subst (λ (b : Bool). MatchBool b (IsOctetsTask s x k) (k ≡ Ignore s)) u.is_open task in
       by_frame here
@@ -159,7 +159,7 @@ after_is w lane s =
 
 module _ (w : World) (lane peer moment : ℕ) (nonce octets : List ℕ) (f : Followed) (frame : IsFrame octets) (owned : owner w.site lane ≢ None) (used : IsInUse (lane_of w lane)) (follows : Follows f (lane_of w lane)) where
   abbrev event : Event
-  event = record { lane = lane; what = What.Frame peer moment nonce octets }
+  event = record { lane = lane; what = Happening.Frame peer moment nonce octets }
 
   -- the trail follows the lane of this world once the outcome is seen
   abbrev FollowsAfter : Outcome → World → Type 0
@@ -170,7 +170,7 @@ module _ (w : World) (lane peer moment : ℕ) (nonce octets : List ℕ) (f : Fol
   answer_followed t same (Some publisher) of is =
       let x : Received = record { peer = peer; moment = moment; nonce = nonce; bytes = octets } in
       let eff : Effect = is.0 in
-      let task : IsTask (lane_of w lane) (What.Frame peer moment nonce octets) is.1 = subst (λ (z : Event). IsTask (lane_of w z.lane) z.what is.1) same is.2 in
+      let task : IsTask (lane_of w lane) (Happening.Frame peer moment nonce octets) is.1 = subst (λ (z : Event). IsTask (lane_of w z.lane) z.what is.1) same is.2 in
       let on : FollowsOn (view (lane_of w lane)) (arrival octets peer) eff = event_followed (hosts w.site publisher) (algorithms w.site publisher) w.table (lane_of w lane) used x frame is.1 eff task is.3 in
       let here : FollowsOn f (arrival octets peer) eff = subst (λ (g : Followed). FollowsOn g (arrival octets peer) eff) (view_is f (lane_of w lane) follows) on in
       let state : lane_of t.after lane ≡ eff.state =

@@ -4,6 +4,6 @@ pub mod Operations
 pub mod Fronts
 pub mod Partials
 pub mod Challenges
-pub mod Letters
+pub mod Messages
 pub mod Followed
 pub mod Coming

@@ -10,7 +10,7 @@ use Rattle.hdl_pool.specs.Partial.{Partial, payload_at}
 use Rattle.hdl_slots.specs.declared.pending.Challenge.{Challenge}
 use Rattle.hdl_events.specs.declared.Outcome.{Outcome}
 use Rattle.hdl_laws.specs.Lanes.{LaneState}
-use Rattle.hdl_laws.specs.Told.{sent_by}
+use Rattle.hdl_laws.specs.Reveals.{sent_by}
 use Rattle.hdl_trail.specs.declared.kept.Mark.{Mark}
 use Rattle.hdl_trail.specs.declared.kept.Sent.{Sent}
 use Rattle.hdl_trail.specs.declared.exchange.Exchange.{Exchange}

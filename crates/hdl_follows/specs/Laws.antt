@@ -1,7 +1,7 @@
 -- The laws of `src/laws.rt`.
 use Rattle.std.specs.Prelude.{◌≡◌, ◌≢◌, ℕ, ◌||◌, List, [], Some, None, true, IsTrue}
 use Rattle.hdl_frame.specs.Frames.{IsFrame}
-use Rattle.hdl_events.specs.declared.What.{What}
+use Rattle.hdl_events.specs.declared.Happening.{Happening}
 use Rattle.hdl_events.specs.declared.Outcome.{Outcome}
 use Rattle.hdl_laws.specs.Lanes.{LaneState, fresh}
 use Rattle.hdl_laws.specs.Worlds.{World, owner, lane_of}
@@ -22,7 +22,7 @@ abbrev pub StepsFollowed : Type 0
 StepsFollowed =
     (w new : World) (lane peer moment : ℕ) (nonce octets : List ℕ) (o : Outcome) (f : Followed)
     → IsFrame octets → owner w.site lane ≢ None → IsInUse (lane_of w lane) → Follows f (lane_of w lane)
-    → Steps w (record { lane = lane; what = What.Frame peer moment nonce octets }) o new
+    → Steps w (record { lane = lane; what = Happening.Frame peer moment nonce octets }) o new
     → Follows (settled f (Some (answered_by (sent o) (arrival octets peer)))) (lane_of new lane) × IsInUse (lane_of new lane)
 
 -- a trail that follows a lane holds the numbers under which the lane keeps something, and no others

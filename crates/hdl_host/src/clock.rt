@@ -109,7 +109,7 @@ impl<R: std::rt::Clock> MachineClock<R> {
 impl<R: std::rt::Clock> Clock for MachineClock<R> {
     ghost use Rattle.std.specs.Prelude.{false, []};
 
-    ghost tells = { false };
+    ghost is_observed = { false };
 
     ghost answers = { λ _. [] };
 

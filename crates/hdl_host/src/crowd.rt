@@ -399,7 +399,7 @@ impl<R: std::rt::Clock + Eprint + Drop> SocketCrowd<R> {
 impl<R: std::rt::Clock + Eprint + Drop> Packets for SocketCrowd<R> {
     ghost use Rattle.std.specs.Prelude.{false, []};
 
-    ghost tells = { false };
+    ghost is_observed = { false };
 
     ghost received = { λ _. [] };
 

@@ -28,7 +28,7 @@ impl<R: std::rt::Clock + Eprint + Drop> Door for SocketDoor<R> {
     ghost use Rattle.std.specs.Prelude.{false, true, []};
     ghost use Rattle.hdl_workers.specs.Door.{fresh};
 
-    ghost tells = { false };
+    ghost is_observed = { false };
 
     ghost ended = { λ _. [] };
 

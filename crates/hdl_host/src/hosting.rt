@@ -14,7 +14,7 @@ use crate::workers::{join_all, start};
 use hdl_boundedrows::BoundedRows;
 use hdl_core::{Rows, Service, Tenants};
 use hdl_replay::{Fault, put_all, tenants_of};
-use hdl_serve::{Clock as Pauses, Far, LaneEnds, lanes_of, serve};
+use hdl_serve::{Clock as Pauses, LaneEnds, WorkerSide, lanes_of, serve};
 use std::alloc::Global;
 use std::fs;
 use std::fs::Files;
@@ -32,7 +32,7 @@ const RING: usize = 16;
 #[derive(Drop)]
 struct Ready {
     ends: Vec<LaneEnds>,
-    far: Vec<Far>,
+    far: Vec<WorkerSide>,
     places: Vec<Place>,
     lines: String,
     sleep: Sleep,

@@ -19,7 +19,7 @@ impl MachineNonces {
 impl Nonces for MachineNonces {
     ghost use Rattle.std.specs.Prelude.{false, []};
 
-    ghost tells = { false };
+    ghost is_observed = { false };
 
     ghost answers = { λ _. [] };
 

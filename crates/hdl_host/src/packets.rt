@@ -188,7 +188,7 @@ impl<R: std::rt::Clock + Eprint + Drop> SocketPackets<R> {
 impl<R: std::rt::Clock + Eprint + Drop> Packets for SocketPackets<R> {
     ghost use Rattle.std.specs.Prelude.{false, []};
 
-    ghost tells = { false };
+    ghost is_observed = { false };
 
     ghost received = { λ _. [] };
 

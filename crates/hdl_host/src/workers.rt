@@ -16,7 +16,7 @@ use crate::sockets::{PacketSocket, Sockets};
 use crate::waking::{Bell, Sleep};
 use crate::watch::Watch;
 use hdl_replay::Fault;
-use hdl_serve::{Far, Why, WorkerEnd, packet_worker, stream_worker};
+use hdl_serve::{EndReason, WorkerEnd, WorkerSide, packet_worker, stream_worker};
 use rand::make_rng;
 use std::alloc::Global;
 use std::random::RandomSource;
@@ -29,7 +29,7 @@ use std::vec::IntoIter;
 /// What a worker has beside its door: its side of the lane, the bell of the thread that serves, and its turns.
 #[derive(Drop)]
 struct Side {
-    far: Far,
+    far: WorkerSide,
     bell: Arc<Bell>,
     turns: u64,
 }
@@ -56,7 +56,7 @@ fn start_stream<R: Threads + Clock + RandomSource + Eprint + Copy + Send + Drop 
     side: Side,
 ) -> Result<JoinHandle<WorkerEnd>, Fault> {
     let Side { far, bell, turns } = side;
-    let Far { inlet, outcomes } = far;
+    let WorkerSide { inlet, outcomes } = far;
     let rng = had(make_rng(rt))?;
     let theirs = *rt;
     let spawned = thread::spawn(
@@ -94,7 +94,7 @@ fn start_crowd<R: Threads + Clock + RandomSource + Eprint + Copy + Send + Drop +
     side: Side,
 ) -> Result<JoinHandle<WorkerEnd>, Fault> {
     let Side { far, bell, turns } = side;
-    let Far { inlet, outcomes } = far;
+    let WorkerSide { inlet, outcomes } = far;
     let rng = had(make_rng(rt))?;
     let theirs = *rt;
     let spawned = thread::spawn(
@@ -138,7 +138,7 @@ fn start_packets<R: Threads + Clock + RandomSource + Eprint + Copy + Send + Drop
     side: Side,
 ) -> Result<JoinHandle<WorkerEnd>, Fault> {
     let Side { far, bell, turns } = side;
-    let Far { inlet, outcomes } = far;
+    let WorkerSide { inlet, outcomes } = far;
     let rng = had(make_rng(rt))?;
     let theirs = *rt;
     let spawned = thread::spawn(
@@ -210,7 +210,7 @@ pub fn start<R: Threads + Clock + RandomSource + Eprint + Copy + Send + Drop + '
     rt: &R,
     alloc: Global,
     places: Vec<Place>,
-    far: Vec<Far>,
+    far: Vec<WorkerSide>,
     sleep: &Sleep,
     turns: u64,
 ) -> Result<Vec<JoinHandle<WorkerEnd>>, Fault> {
@@ -235,7 +235,7 @@ pub fn join_all<R: Threads>(
 ) -> Result<(), Fault> {
     let mut ended = Ok(());
     for worker in workers {
-        if worker.join(rt).why == Why::Device && !ending.is_asked() {
+        if worker.join(rt).reason == EndReason::Device && !ending.is_asked() {
             ended = Err(Fault::Device);
         }
     }

@@ -3,15 +3,16 @@
 ghost use Rattle.std.specs.Prelude.{◌≡◌, ◌||◌, ◌+◌, min, not, true, false, IsTrue, MatchResult, IsErr, Ok, OnOk, OnErr, is_err};
 ghost use Rattle.sqlite.specs.State.{HasCleanDisk, Survives};
 ghost use Rattle.sqlite.specs.Held.{state};
-ghost use Rattle.hdl_rows.specs.Table.{IsPlaced, counted, most};
+ghost use Rattle.hdl_rows.specs.Table.{IsPlaced, refusals_after, most};
 ghost use Rattle.hdl_sqlrows.specs.Filed.{IsFiled, CrashLeaves, filed};
 ghost use Rattle.hdl_sqlrows.specs.Kept.{table_in};
 ghost use Rattle.hdl_lastingrows.specs.Lasting.{IsNear};
 
 use hdl_filerows::{Fault, FileRows};
+use hdl_limits::Octets;
 use hdl_name::Name;
 use hdl_rows::{Refused, Rows};
-use hdl_value::{Octets, Reference, Value};
+use hdl_value::{Reference, Value};
 use sqlite::{Alter, Connection};
 use std::marker::Model;
 
@@ -48,7 +49,7 @@ impl<R: Rows + Drop, S: Alter + Drop, A: Alarm + Drop> Model for LastingRows<R, 
 }
 
 /// After a write that the database refused: counts that, and asks whether the store has shut.
-fn settle<S: Alter + Drop, A: Alarm>(
+fn conclude_write<S: Alter + Drop, A: Alarm>(
     file: &mut FileRows<S>,
     is_shut: &mut bool,
     refusals: &mut u64,
@@ -56,7 +57,7 @@ fn settle<S: Alter + Drop, A: Alarm>(
     written: Result<(), Fault>,
 ) -> Result<(), Refused>
     ensures same { MatchResult written (λ x. result ≡ Ok x) (λ _. IsErr result) }
-    ensures count { refusals.new ≡ counted written refusals.old }
+    ensures count { refusals.new ≡ refusals_after written refusals.old }
     ensures done { OnOk written ((file.new ≡ file.old) × (is_shut.new ≡ is_shut.old)) }
     ensures open { OnErr written (is_shut.new ≡ false → HasCleanDisk (state S.Store file.new) → IsTrue (state S.Store file.old).is_open × IsFiled (state S.Store file.new) (filed (state S.Store file.old))) }
     ensures survives { OnErr written (Survives (state S.Store file.old) (state S.Store file.new) (λ _. ⊥)) }
@@ -169,7 +170,7 @@ impl<R: Rows + Drop, S: Alter + Drop, A: Alarm + Drop> Rows for LastingRows<R, S
             return Err(refuse(&mut self.refusals));
         }
         let written = self.file.create(name, values);
-        settle(
+        conclude_write(
             &mut self.file,
             &mut self.is_shut,
             &mut self.refusals,
@@ -185,7 +186,7 @@ impl<R: Rows + Drop, S: Alter + Drop, A: Alarm + Drop> Rows for LastingRows<R, S
             return Err(refuse(&mut self.refusals));
         }
         let written = self.file.add(name, values);
-        settle(
+        conclude_write(
             &mut self.file,
             &mut self.is_shut,
             &mut self.refusals,
@@ -201,7 +202,7 @@ impl<R: Rows + Drop, S: Alter + Drop, A: Alarm + Drop> Rows for LastingRows<R, S
             return Err(refuse(&mut self.refusals));
         }
         let written = self.file.modify(name, values);
-        settle(
+        conclude_write(
             &mut self.file,
             &mut self.is_shut,
             &mut self.refusals,
@@ -217,7 +218,7 @@ impl<R: Rows + Drop, S: Alter + Drop, A: Alarm + Drop> Rows for LastingRows<R, S
             return Err(refuse(&mut self.refusals));
         }
         let written = self.file.remove(name, indexes);
-        settle(
+        conclude_write(
             &mut self.file,
             &mut self.is_shut,
             &mut self.refusals,
@@ -233,7 +234,7 @@ impl<R: Rows + Drop, S: Alter + Drop, A: Alarm + Drop> Rows for LastingRows<R, S
             return Err(refuse(&mut self.refusals));
         }
         let written = self.file.delete(name);
-        settle(
+        conclude_write(
             &mut self.file,
             &mut self.is_shut,
             &mut self.refusals,

@@ -24,14 +24,14 @@ use Rattle.hdl_ops.specs.Decisions.{Anyone, Proven, Decision, Decides}
 use Rattle.hdl_ops.specs.Requests.{Response, response_of}
 use Rattle.hdl_ops.specs.Replies.{reply_to, challenge_to}
 use Rattle.hdl_ops.proofs.Announced.{answer_announced_lem, protocol_error_announced, timeout_announced, challenge_announced_lem, proven_code}
-use Rattle.hdl_events.specs.declared.What.{What}
-use Rattle.hdl_events.specs.declared.What.TheVariants.{Open, Bad, Close}
+use Rattle.hdl_events.specs.declared.Happening.{Happening}
+use Rattle.hdl_events.specs.declared.Happening.TheVariants.{Open, Bad, Close}
 use Rattle.hdl_laws.specs.Lanes.{LaneState, with_partials}
 use Rattle.hdl_laws.specs.Worlds.{World, hosts, algorithms, owner, lane_of}
-use Rattle.hdl_laws.specs.Tasks.{Received, Letter, letter, Task, Ignore, Break, Malformed, Unknown, Late, Ask, Redeem, is_late, redeemed, redeem_task, IsReading, IsResponseTask, IsRequestTask, IsMessageTask, IsLetterTask, IsWholeTask, IsFrameTask, IsOctetsTask, IsTask}
+use Rattle.hdl_laws.specs.Tasks.{Received, Message, message_from, Task, Ignore, Break, Malformed, Unknown, Late, Ask, Redeem, is_late, redeemed, redeem_task, IsReading, IsResponseTask, IsRequestTask, IsContentTask, IsMessageTask, IsWholeTask, IsFrameTask, IsOctetsTask, IsTask}
 use Rattle.hdl_laws.specs.Effects.{Effect, Does, answer_effect, challenge_effect}
 use Rattle.hdl_laws.specs.Steps.{Turn, IsAnswerFor, IsStep}
-use Rattle.hdl_laws.specs.Told.{IsSelfTold, sent_by, StepsAnnounce}
+use Rattle.hdl_laws.specs.Reveals.{IsSelfTold, sent_by, StepsAnnounce}
 
 -- ---- octets
 
@@ -68,7 +68,7 @@ either : {A B P : Type 0} (b : Bool) → (A → P) → (B → P) → MatchBool b
 either true f g x = f x
 either false f g x = g x
 
-redeem_coded : (s : LaneState) (m : Letter) (a : Response) (p : Pending) (o : Option Content) → IsReading (SpellsRequest p.message) o → CodedTask (redeem_task s m a p o)
+redeem_coded : (s : LaneState) (m : Message) (a : Response) (p : Pending) (o : Option Content) → IsReading (SpellsRequest p.message) o → CodedTask (redeem_task s m a p o)
 redeem_coded s m a p None h = tt
 redeem_coded s m a p (Some r) h = by (is_late m p)
   where
@@ -76,36 +76,36 @@ redeem_coded s m a p (Some r) h = by (is_late m p)
     by true = tt
     by false = h.has_code
 
-response_coded : (s : LaneState) (m : Letter) (r : Content) (a : Response) (o : Option Pending) (k : Task) → IsResponseTask s m r a o k → CodedTask k
+response_coded : (s : LaneState) (m : Message) (r : Content) (a : Response) (o : Option Pending) (k : Task) → IsResponseTask s m r a o k → CodedTask k
 response_coded s m r a None k is = subst CodedTask (sym is) tt
 response_coded s m r a (Some p) k is = subst CodedTask (sym is.2) (redeem_coded s m a p is.0 is.1)
 
-request_coded : (s : LaneState) (m : Letter) (r : Content) (o : Option Response) (k : Task) → Coded r → IsRequestTask s m r o k → CodedTask k
+request_coded : (s : LaneState) (m : Message) (r : Content) (o : Option Response) (k : Task) → Coded r → IsRequestTask s m r o k → CodedTask k
 request_coded s m r None k has is = subst CodedTask (sym is) has
 request_coded s m r (Some a) k has is = response_coded s m r a (challenge_of s.challenges.challenges m.peer m.envelope.session) k is
 
-message_coded : (s : LaneState) (m : Letter) (o : Option Content) (k : Task) → IsReading (SpellsRequest m.message) o → IsMessageTask s m o k → CodedTask k
-message_coded s m None k h is = subst CodedTask (sym is) tt
-message_coded s m (Some r) k h is = request_coded s m r (response_of r.operation) k h.has_code is
+content_coded : (s : LaneState) (m : Message) (o : Option Content) (k : Task) → IsReading (SpellsRequest m.message) o → IsContentTask s m o k → CodedTask k
+content_coded s m None k h is = subst CodedTask (sym is) tt
+content_coded s m (Some r) k h is = request_coded s m r (response_of r.operation) k h.has_code is
 
-letter_coded : (s : LaneState) (m : Letter) (k : Task) → IsLetterTask s m k → CodedTask k
-letter_coded s m k is = message_coded s m is.0 k is.1 is.2
+message_coded : (s : LaneState) (m : Message) (k : Task) → IsMessageTask s m k → CodedTask k
+message_coded s m k is = content_coded s m is.0 k is.1 is.2
 
 whole_coded : (kept gone : LaneState) (x : Received) (o : Option (List ℕ)) (k : Task) → IsWholeTask kept gone x o k → CodedTask k
 whole_coded kept gone x None k is = subst CodedTask (sym is) tt
-whole_coded kept gone x (Some bytes) k is = letter_coded gone (letter x bytes) k is
+whole_coded kept gone x (Some bytes) k is = message_coded gone (message_from x bytes) k is
 
 frame_coded : (s : LaneState) (x : Received) (k : Task) → IsFrameTask s x k → CodedTask k
 frame_coded s x k is =
     either (is_truncated (envelope_at x.bytes))
     (λ piece. whole_coded _ (with_partials s (freed s.partials (key_of x.peer (envelope_at x.bytes)))) x (whole_message (taken s.partials (piece_of x.peer x.bytes)).0) k piece)
-    (λ whole. letter_coded s _ k whole) is
+    (λ whole. message_coded s _ k whole) is
 
 octets_coded : (s : LaneState) (x : Received) (k : Task) → IsOctetsTask s x k → CodedTask k
 octets_coded s x k (inl frame) = frame_coded s x k frame.1
 octets_coded s x k (inr none) = subst CodedTask (sym none.1) tt
 
-task_coded : (s : LaneState) (what : What) (k : Task) → IsTask s what k → CodedTask k
+task_coded : (s : LaneState) (what : Happening) (k : Task) → IsTask s what k → CodedTask k
 task_coded s Open k is = subst CodedTask (sym is) tt
 task_coded s Close k is = subst CodedTask (sym is) tt
 task_coded s (Bad session request) k is = subst CodedTask (sym is) (by s.is_open)
@@ -113,11 +113,11 @@ task_coded s (Bad session request) k is = subst CodedTask (sym is) (by s.is_open
     by : (b : Bool) → CodedTask (cond {A = Task} b (Break session request s) (Ignore s))
     by true = tt
     by false = tt
-task_coded s (What.Frame peer moment nonce bytes) k is = either s.is_open (λ x. octets_coded s _ k x) (λ e. subst CodedTask (sym e) tt) is
+task_coded s (Happening.Frame peer moment nonce bytes) k is = either s.is_open (λ x. octets_coded s _ k x) (λ e. subst CodedTask (sym e) tt) is
 
 -- ---- steps
 
-asked_self : (hosted : List ℕ → Bool) (a : Algorithm) (t : Table) (s : LaneState) (m : Letter) (r : Content) (d : Decision) (octets : List ℕ) (b : Bool) → Coded r → d.code == 402 ≡ b → Decides hosted a t r Anyone d
+asked_self : (hosted : List ℕ → Bool) (a : Algorithm) (t : Table) (s : LaneState) (m : Message) (r : Content) (d : Decision) (octets : List ℕ) (b : Bool) → Coded r → d.code == 402 ≡ b → Decides hosted a t r Anyone d
     → sent_by (cond {A = Effect} b (challenge_effect a s m r) (answer_effect a s m r d)).outcome ≡ Some octets → IsSelfTold octets
 asked_self hosted a t s m r d octets true has e decided is =
     same_octets octets _ is (made_self (challenge_to a s.challenges.next m.envelope.request r m.nonce) (challenge_announced_lem a s.challenges.next m.envelope.request r m.nonce))

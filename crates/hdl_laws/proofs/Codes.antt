@@ -16,7 +16,7 @@ use Rattle.hdl_ops.specs.Replies.{reply_to, challenge_to}
 use Rattle.hdl_ops.specs.Decisions.{Anyone, Proven, Decision, failure}
 use Rattle.hdl_ops.proofs.Codes.{is_answer_code, code_fits, decides_code}
 use Rattle.hdl_laws.specs.Lanes.{LaneState}
-use Rattle.hdl_laws.specs.Tasks.{Letter, Task, Ignore, Break, Malformed, Unknown, Late, Ask, Redeem}
+use Rattle.hdl_laws.specs.Tasks.{Message, Task, Ignore, Break, Malformed, Unknown, Late, Ask, Redeem}
 use Rattle.hdl_laws.specs.Effects.{Effect, Does, ask_effect, answer_effect, challenge_effect}
 use Rattle.hdl_laws.specs.Isolation.{code_of}
 
@@ -29,10 +29,10 @@ unfolding challenge_to
 challenge_code a session number r nonce = code_at_its_place_lem (challenge_to a session number r nonce) (code_fits 402 refl)
 
 -- the outcome has the decision's code
-pub answer_code : (a : Algorithm) (s : LaneState) (m : Letter) (r : Content) (d : Decision) → IsTrue (is_answer_code d.code) → code_of (answer_effect a s m r d).outcome ≡ d.code
+pub answer_code : (a : Algorithm) (s : LaneState) (m : Message) (r : Content) (d : Decision) → IsTrue (is_answer_code d.code) → code_of (answer_effect a s m r d).outcome ≡ d.code
 answer_code a s m r d e = reply_code a m.envelope.session m.envelope.request r d.code d.content e
 
-pub ask_code : (a : Algorithm) (s : LaneState) (m : Letter) (r : Content) (d : Decision) → IsTrue (is_answer_code d.code) → code_of (ask_effect a s m r d).outcome ≡ d.code
+pub ask_code : (a : Algorithm) (s : LaneState) (m : Message) (r : Content) (d : Decision) → IsTrue (is_answer_code d.code) → code_of (ask_effect a s m r d).outcome ≡ d.code
 ask_code a s m r d e = pick (d.code == 402) refl
   where
     pick : (b : Bool) → d.code == 402 ≡ b → code_of (cond {A = Effect} b (challenge_effect a s m r) (answer_effect a s m r d)).outcome ≡ d.code

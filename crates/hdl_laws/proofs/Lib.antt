@@ -7,7 +7,7 @@ pub mod Steps
 pub mod Restriction
 pub mod Isolation
 pub mod Codes
-pub mod Told
+pub mod Reveals
 pub mod Announced
 pub mod Twins
 pub mod TwinRuns

@@ -23,12 +23,12 @@ use Rattle.hdl_ops.specs.Replies.{fits}
 use Rattle.hdl_ops.specs.Decisions.{Level, Anyone, Proven, Decision, DecidesBy, decision, refused, success, failure, carried, change_of}
 use Rattle.hdl_ops.proofs.Passed.{Passes, passes_unless_refused, canonical_is_hosted}
 use Rattle.hdl_ops.proofs.Decided.{one_decision_lem}
-use Rattle.hdl_events.specs.declared.What.{What}
+use Rattle.hdl_events.specs.declared.Happening.{Happening}
 use Rattle.hdl_pool.specs.Partial as partial
 use Rattle.hdl_pool.specs.Partial.{piece_of}
 use Rattle.hdl_pool.specs.Taking.{taken, whole_message, freed}
 use Rattle.hdl_laws.specs.Lanes.{LaneState, with_partials}
-use Rattle.hdl_laws.specs.Tasks.{Received, Letter, letter, Task, Ignore, Break, Malformed, Unknown, Late, Ask, Redeem, IsReading, IsTask, IsResponseTask, IsRequestTask, IsMessageTask, IsLetterTask, IsWholeTask, IsPieceTask, IsFrameTask, IsOctetsTask, redeem_task}
+use Rattle.hdl_laws.specs.Tasks.{Received, Message, message_from, Task, Ignore, Break, Malformed, Unknown, Late, Ask, Redeem, IsReading, IsTask, IsResponseTask, IsRequestTask, IsContentTask, IsMessageTask, IsWholeTask, IsPieceTask, IsFrameTask, IsOctetsTask, redeem_task}
 use Rattle.hdl_laws.specs.Effects.{Effect, Does, ask_effect, answer_effect, challenge_effect}
 use Rattle.hdl_laws.specs.Runs.{is_busy}
 use Rattle.hdl_laws.specs.Isolation.{Agrees, IsClosed}
@@ -46,20 +46,20 @@ same_reading P one (Some x) (Some y) a b = ap Some (one x y a b)
 one_reading : (octets : List ℕ) (o o' : Option Content) → IsReading (SpellsRequest octets) o → IsReading (SpellsRequest octets) o' → o ≡ o'
 one_reading octets o o' a b = same_reading (SpellsRequest octets) (λ c d p q. one_request_lem octets c d p q) o o' a b
 
-response_task_one : (s : LaneState) (m : Letter) (r : Content) (a : Response) (p : Option Pending) (k k' : Task) → IsResponseTask s m r a p k → IsResponseTask s m r a p k' → k ≡ k'
+response_task_one : (s : LaneState) (m : Message) (r : Content) (a : Response) (p : Option Pending) (k k' : Task) → IsResponseTask s m r a p k → IsResponseTask s m r a p k' → k ≡ k'
 response_task_one s m r a None k k' x y = x ∙ sym y
 response_task_one s m r a (Some p) k k' x y = x.2 ∙ ap (redeem_task s m a p) (one_reading p.message x.0 y.0 x.1 y.1) ∙ sym y.2
 
-request_task_one : (s : LaneState) (m : Letter) (r : Content) (a : Option Response) (k k' : Task) → IsRequestTask s m r a k → IsRequestTask s m r a k' → k ≡ k'
+request_task_one : (s : LaneState) (m : Message) (r : Content) (a : Option Response) (k k' : Task) → IsRequestTask s m r a k → IsRequestTask s m r a k' → k ≡ k'
 request_task_one s m r None k k' x y = x ∙ sym y
 request_task_one s m r (Some a) k k' x y = response_task_one s m r a _ k k' x y
 
-message_task_one : (s : LaneState) (m : Letter) (o : Option Content) (k k' : Task) → IsMessageTask s m o k → IsMessageTask s m o k' → k ≡ k'
-message_task_one s m None k k' x y = x ∙ sym y
-message_task_one s m (Some r) k k' x y = request_task_one s m r (response_of r.operation) k k' x y
+content_task_one : (s : LaneState) (m : Message) (o : Option Content) (k k' : Task) → IsContentTask s m o k → IsContentTask s m o k' → k ≡ k'
+content_task_one s m None k k' x y = x ∙ sym y
+content_task_one s m (Some r) k k' x y = request_task_one s m r (response_of r.operation) k k' x y
 
-letter_task_one : (s : LaneState) (m : Letter) (k k' : Task) → IsLetterTask s m k → IsLetterTask s m k' → k ≡ k'
-letter_task_one s m k k' a b = message_task_one s m b.0 k k' (subst (λ o. IsMessageTask s m o k) (one_reading m.message a.0 b.0 a.1 b.1) a.2) b.2
+message_task_one : (s : LaneState) (m : Message) (k k' : Task) → IsMessageTask s m k → IsMessageTask s m k' → k ≡ k'
+message_task_one s m k k' a b = content_task_one s m b.0 k k' (subst (λ o. IsContentTask s m o k) (one_reading m.message a.0 b.0 a.1 b.1) a.2) b.2
 
 either_one : (c : Bool) (P Q : Task → Type 0) → ((k k' : Task) → P k → P k' → k ≡ k') → ((k k' : Task) → Q k → Q k' → k ≡ k') → (k k' : Task) → MatchBool c (P k) (Q k) → MatchBool c (P k') (Q k') → k ≡ k'
 either_one true P Q p q k k' a b = p k k' a b
@@ -70,14 +70,14 @@ same_task x k k' a b = a ∙ sym b
 
 whole_task_one : (kept gone : LaneState) (x : Received) (o : Option (List ℕ)) (k k' : Task) → IsWholeTask kept gone x o k → IsWholeTask kept gone x o k' → k ≡ k'
 whole_task_one kept gone x None k k' a b = same_task (Ignore kept) k k' a b
-whole_task_one kept gone x (Some message) k k' a b = letter_task_one gone (letter x message) k k' a b
+whole_task_one kept gone x (Some message) k k' a b = message_task_one gone (message_from x message) k k' a b
 
 frame_task_one : (s : LaneState) (x : Received) (k k' : Task) → IsFrameTask s x k → IsFrameTask s x k' → k ≡ k'
 frame_task_one s x k k' a b =
     let after = taken s.partials (piece_of x.peer x.bytes) in
     let gone = with_partials s (freed s.partials (partial.key_of x.peer (envelope_at x.bytes))) in
-    either_one (is_truncated (envelope_at x.bytes)) (λ j. IsPieceTask s x after j) (λ j. IsLetterTask s (letter x (drop 20 x.bytes)) j)
-    (whole_task_one (with_partials s after.1) gone x (whole_message after.0)) (letter_task_one s (letter x (drop 20 x.bytes))) k k' a b
+    either_one (is_truncated (envelope_at x.bytes)) (λ j. IsPieceTask s x after j) (λ j. IsMessageTask s (message_from x (drop 20 x.bytes)) j)
+    (whole_task_one (with_partials s after.1) gone x (whole_message after.0)) (message_task_one s (message_from x (drop 20 x.bytes))) k k' a b
 
 octets_task_one : (s : LaneState) (x : Received) (k k' : Task) → IsOctetsTask s x k → IsOctetsTask s x k' → k ≡ k'
 octets_task_one s x k k' (inl a) (inl b) = frame_task_one s x k k' a.1 b.1
@@ -85,11 +85,11 @@ octets_task_one s x k k' (inl a) (inr b) = absurd (b.0 a.0)
 octets_task_one s x k k' (inr a) (inl b) = absurd (a.0 b.0)
 octets_task_one s x k k' (inr a) (inr b) = a.1 ∙ sym b.1
 
-pub task_one : (s : LaneState) (what : What) (k k' : Task) → IsTask s what k → IsTask s what k' → k ≡ k'
-task_one s What.Open k k' a b = a ∙ sym b
-task_one s What.Close k k' a b = a ∙ sym b
-task_one s (What.Bad session request) k k' a b = a ∙ sym b
-task_one s (What.Frame peer moment nonce bytes) k k' a b =
+pub task_one : (s : LaneState) (what : Happening) (k k' : Task) → IsTask s what k → IsTask s what k' → k ≡ k'
+task_one s Happening.Open k k' a b = a ∙ sym b
+task_one s Happening.Close k k' a b = a ∙ sym b
+task_one s (Happening.Bad session request) k k' a b = a ∙ sym b
+task_one s (Happening.Frame peer moment nonce bytes) k k' a b =
     let x : Received = record { peer = peer; moment = moment; nonce = nonce; bytes = bytes } in
     either_one s.is_open (λ j. IsOctetsTask s x j) (λ j. j ≡ Ignore s) (octets_task_one s x) (same_task (Ignore s)) k k' a b
 

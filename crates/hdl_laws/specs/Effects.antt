@@ -20,7 +20,7 @@ use Rattle.hdl_ops.specs.Replies.{digest_of, reply_to, challenge_to}
 use Rattle.hdl_events.specs.declared.Outcome.{Outcome}
 use Rattle.hdl_events.specs.declared.Outcome.TheVariants.{Reply, Silent, CloseAfter}
 use Rattle.hdl_laws.specs.Lanes.{LaneState}
-use Rattle.hdl_laws.specs.Tasks.{Letter, Task, Ignore, Break, Malformed, Unknown, Late, Ask, Redeem}
+use Rattle.hdl_laws.specs.Tasks.{Message, Task, Ignore, Break, Malformed, Unknown, Late, Ask, Redeem}
 
 -- what an event of a lane does: its outcome, the lane after it, and the change of the table
 pub record Effect : Type 0 where
@@ -37,11 +37,11 @@ abbrev pub challenge_octets : Algorithm → ℕ → Envelope → Content → Lis
 challenge_octets algorithm number envelope request nonce = reply_octets (challenge_to algorithm number envelope.request request nonce)
 
 -- the request that waits for its response
-abbrev pub pending : Algorithm → Letter → Content → Pending
+abbrev pub pending : Algorithm → Message → Content → Pending
 pending algorithm arrival request = record { peer = arrival.peer; moment = arrival.moment; nonce = arrival.nonce; digest = digest_of algorithm request; message = arrival.message }
 
 -- the lane's next number, and the challenge put under it
-abbrev pub challenge_effect : Algorithm → LaneState → Letter → Content → Effect
+abbrev pub challenge_effect : Algorithm → LaneState → Message → Content → Effect
 challenge_effect algorithm state arrival request = record {
   outcome = Reply (challenge_octets algorithm state.challenges.next arrival.envelope request arrival.nonce);
   state = record state { challenges = challenged state.challenges (pending algorithm arrival request) };
@@ -49,7 +49,7 @@ challenge_effect algorithm state arrival request = record {
 }
 
 -- the reply to the request, and the change
-abbrev pub answer_effect : Algorithm → LaneState → Letter → Content → Decision → Effect
+abbrev pub answer_effect : Algorithm → LaneState → Message → Content → Decision → Effect
 answer_effect algorithm state arrival request decision = record {
   outcome = Reply (answer_octets algorithm arrival.envelope request decision.code decision.content);
   state = state;
@@ -57,19 +57,19 @@ answer_effect algorithm state arrival request decision = record {
 }
 
 -- a request decided for anyone: code 402 is a challenge
-abbrev pub ask_effect : Algorithm → LaneState → Letter → Content → Decision → Effect
+abbrev pub ask_effect : Algorithm → LaneState → Message → Content → Decision → Effect
 ask_effect algorithm state arrival request decision =
     if decision.code == 402
     then challenge_effect algorithm state arrival request
     else answer_effect algorithm state arrival request decision
 
 -- a request that came as it is, of this algorithm
-abbrev pub DoesAsk : (List ℕ → Bool) → Algorithm → Table → Letter → Content → LaneState → Effect → Type 0
+abbrev pub DoesAsk : (List ℕ → Bool) → Algorithm → Table → Message → Content → LaneState → Effect → Type 0
 DoesAsk hosted algorithm table arrival request state effect =
     (decision : Decision) × Decides hosted algorithm table request Anyone decision × (effect ≡ ask_effect algorithm state arrival request decision)
 
 -- a challenged request, of this algorithm, with its proof
-abbrev pub DoesRedeem : (List ℕ → Bool) → Algorithm → Table → Letter → Content → Proof → LaneState → Effect → Type 0
+abbrev pub DoesRedeem : (List ℕ → Bool) → Algorithm → Table → Message → Content → Proof → LaneState → Effect → Type 0
 DoesRedeem hosted algorithm table arrival request proof state effect =
     (decision : Decision) × Decides hosted algorithm table request (Proven proof) decision × (effect ≡ answer_effect algorithm state arrival request decision)
 

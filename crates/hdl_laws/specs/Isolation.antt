@@ -141,7 +141,7 @@ may_be_read H h v = is_public v || (is_kept v && is_held H h)
 
 -- the index and the permission alone
 abbrev pub without_content : Value → Value
-without_content v = record { index = v.index; kind = []; bytes = []; ttl = []; perm = v.perm; stamp = 0; refs = [] }
+without_content v = record { index = v.index; kind = []; bytes = []; ttl = []; permissions = v.permissions; timestamp = 0; references = [] }
 
 -- what may be read of a value at the handle
 abbrev pub readable : List (List ℕ) → List ℕ → Value → Value

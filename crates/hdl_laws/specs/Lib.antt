@@ -4,6 +4,6 @@ pub mod Tasks
 pub mod Effects
 pub mod Steps
 pub mod Runs
-pub mod Told
+pub mod Reveals
 pub mod Isolation
 pub mod Laws

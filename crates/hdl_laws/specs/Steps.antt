@@ -6,8 +6,8 @@ use Rattle.hdl_frame.specs.Frames.{IsFrame}
 use Rattle.hdl_msg.specs.Reply.{short_reply}
 use Rattle.hdl_ops.specs.declared.change.Change.{Change}
 use Rattle.hdl_ops.specs.Tables.{apply_if}
-use Rattle.hdl_events.specs.declared.What.{What}
-use Rattle.hdl_events.specs.declared.What.TheVariants.{Open, Bad, Close}
+use Rattle.hdl_events.specs.declared.Happening.{Happening}
+use Rattle.hdl_events.specs.declared.Happening.TheVariants.{Open, Bad, Close}
 use Rattle.hdl_events.specs.declared.Event.{Event}
 use Rattle.hdl_events.specs.declared.Outcome.{Outcome}
 use Rattle.hdl_events.specs.declared.Outcome.TheVariants.{Busy, Silent}
@@ -16,15 +16,15 @@ use Rattle.hdl_laws.specs.Tasks.{Received, Task, IsTask}
 use Rattle.hdl_laws.specs.Effects.{Effect, Does}
 
 -- the moment of an event, which a change of the table is stamped with
-abbrev pub moment_of : What → ℕ
+abbrev pub moment_of : Happening → ℕ
 moment_of Open = 0
-moment_of (What.Frame peer moment nonce bytes) = moment
+moment_of (Happening.Frame peer moment nonce bytes) = moment
 moment_of (Bad session request) = 0
 moment_of Close = 0
 
 -- the frame event of what was received
-abbrev pub arrived : Received → What
-arrived received = What.Frame received.peer received.moment received.nonce received.bytes
+abbrev pub arrived : Received → Happening
+arrived received = Happening.Frame received.peer received.moment received.nonce received.bytes
 
 -- one step: the event, its outcome, the change that it made, the world after it
 pub record Turn : Type 0 where

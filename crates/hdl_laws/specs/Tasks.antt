@@ -13,8 +13,8 @@ use Rattle.hdl_slots.specs.declared.pending.Pending.{Pending}
 use Rattle.hdl_slots.specs.Lanes.{challenge_of, spent}
 use Rattle.hdl_ops.specs.Proven.{Proof}
 use Rattle.hdl_ops.specs.Requests.{Response, response_of}
-use Rattle.hdl_events.specs.declared.What.{What}
-use Rattle.hdl_events.specs.declared.What.TheVariants.{Open, Bad, Close}
+use Rattle.hdl_events.specs.declared.Happening.{Happening}
+use Rattle.hdl_events.specs.declared.Happening.TheVariants.{Open, Bad, Close}
 use Rattle.hdl_laws.specs.Lanes.{LaneState, fresh, with_partials}
 
 -- what a frame event brings
@@ -25,41 +25,41 @@ pub record Received : Type 0 where
   pub bytes : List ℕ
 
 -- a message that a frame on an open lane brings: who sent the frame, when, a nonce for it, and its envelope
-pub record Letter : Type 0 where
+pub record Message : Type 0 where
   pub peer : ℕ
   pub moment : ℕ
   pub nonce : List ℕ
   pub envelope : Envelope
   pub message : List ℕ
 
-abbrev pub letter : Received → List ℕ → Letter
-letter received message = record { peer = received.peer; moment = received.moment; nonce = received.nonce; envelope = envelope_at received.bytes; message = message }
+abbrev pub message_from : Received → List ℕ → Message
+message_from received message = record { peer = received.peer; moment = received.moment; nonce = received.nonce; envelope = envelope_at received.bytes; message = message }
 
 -- what an event comes to, with the lane as it then is
 pub data Task : Type 0 where
   Ignore : LaneState → Task
   Break : ℕ → ℕ → LaneState → Task
-  Malformed : Letter → LaneState → Task
-  Unknown : Letter → Content → LaneState → Task
-  Late : Letter → Content → Algorithm → LaneState → Task
-  Ask : Letter → Content → LaneState → Task
-  Redeem : Letter → Content → Proof → LaneState → Task
+  Malformed : Message → LaneState → Task
+  Unknown : Message → Content → LaneState → Task
+  Late : Message → Content → Algorithm → LaneState → Task
+  Ask : Message → Content → LaneState → Task
+  Redeem : Message → Content → Proof → LaneState → Task
 
 -- what the octets spell, or that they spell nothing
 abbrev pub IsReading : {A : Type 0} → (A → Type 0) → Option A → Type 0
 IsReading {A} P None = (x : A) → P x → ⊥
 IsReading P (Some x) = P x
 
--- the moment of the letter is later than the challenge's by more than a challenge lives; an earlier moment counts as none
-abbrev pub is_late : Letter → Pending → Bool
+-- the moment of the message is later than the challenge's by more than a challenge lives; an earlier moment counts as none
+abbrev pub is_late : Message → Pending → Bool
 is_late arrival challenge = nat_lt CHALLENGE_LIFE (arrival.moment - challenge.moment)
 
--- the lane without the challenge that the letter names
-abbrev pub redeemed : LaneState → Letter → LaneState
+-- the lane without the challenge that the message names
+abbrev pub redeemed : LaneState → Message → LaneState
 redeemed state arrival = record state { challenges = spent state.challenges arrival.peer arrival.envelope.session }
 
 -- the challenged request, by the reading of its message; its challenge is spent
-abbrev pub redeem_task : LaneState → Letter → Response → Pending → Option Content → Task
+abbrev pub redeem_task : LaneState → Message → Response → Pending → Option Content → Task
 redeem_task state arrival response challenge None = Malformed arrival (redeemed state arrival)
 redeem_task state arrival response challenge (Some request) =
     if is_late arrival challenge
@@ -67,30 +67,30 @@ redeem_task state arrival response challenge (Some request) =
     else Redeem arrival request (record { response = response; nonce = challenge.nonce; digest = challenge.digest }) (redeemed state arrival)
 
 -- a challenge response, by the challenge that it names
-abbrev pub IsResponseTask : LaneState → Letter → Content → Response → Option Pending → Task → Type 0
+abbrev pub IsResponseTask : LaneState → Message → Content → Response → Option Pending → Task → Type 0
 IsResponseTask state arrival request response None task = task ≡ Unknown arrival request state
 IsResponseTask state arrival request response (Some challenge) task =
     (reading : Option Content) × IsReading (SpellsRequest challenge.message) reading × (task ≡ redeem_task state arrival response challenge reading)
 
 -- a request, by whether it is a challenge response
-abbrev pub IsRequestTask : LaneState → Letter → Content → Option Response → Task → Type 0
+abbrev pub IsRequestTask : LaneState → Message → Content → Option Response → Task → Type 0
 IsRequestTask state arrival request None task = task ≡ Ask arrival request state
 IsRequestTask state arrival request (Some response) task =
     IsResponseTask state arrival request response (challenge_of state.challenges.challenges arrival.peer arrival.envelope.session) task
 
 -- a message, by its reading
-abbrev pub IsMessageTask : LaneState → Letter → Option Content → Task → Type 0
-IsMessageTask state arrival None task = task ≡ Malformed arrival state
-IsMessageTask state arrival (Some request) task = IsRequestTask state arrival request (response_of request.operation) task
+abbrev pub IsContentTask : LaneState → Message → Option Content → Task → Type 0
+IsContentTask state arrival None task = task ≡ Malformed arrival state
+IsContentTask state arrival (Some request) task = IsRequestTask state arrival request (response_of request.operation) task
 
--- a letter, by what its message spells
-abbrev pub IsLetterTask : LaneState → Letter → Task → Type 0
-IsLetterTask state arrival task = (reading : Option Content) × IsReading (SpellsRequest arrival.message) reading × IsMessageTask state arrival reading task
+-- a message, by what it spells
+abbrev pub IsMessageTask : LaneState → Message → Task → Type 0
+IsMessageTask state arrival task = (reading : Option Content) × IsReading (SpellsRequest arrival.message) reading × IsContentTask state arrival reading task
 
 -- a piece, by the message that it makes whole; the lane's partial message of its key is then gone
 abbrev pub IsWholeTask : LaneState → LaneState → Received → Option (List ℕ) → Task → Type 0
 IsWholeTask kept gone received None task = task ≡ Ignore kept
-IsWholeTask kept gone received (Some message) task = IsLetterTask gone (letter received message) task
+IsWholeTask kept gone received (Some message) task = IsMessageTask gone (message_from received message) task
 
 -- a piece, by what becomes of it
 abbrev pub IsPieceTask : LaneState → Received → Fate × List Partial → Task → Type 0
@@ -103,17 +103,17 @@ abbrev pub IsFrameTask : LaneState → Received → Task → Type 0
 IsFrameTask state received task =
     MatchBool (is_truncated (envelope_at received.bytes))
     (IsPieceTask state received (taken state.partials (piece_of received.peer received.bytes)) task)
-    (IsLetterTask state (letter received (drop 20 received.bytes)) task)
+    (IsMessageTask state (message_from received (drop 20 received.bytes)) task)
 
 -- octets, by the frame that they are or are not
 abbrev pub IsOctetsTask : LaneState → Received → Task → Type 0
 IsOctetsTask state received task = (IsFrame received.bytes × IsFrameTask state received task) ⊎ ((¬ IsFrame received.bytes) × (task ≡ Ignore state))
 
-abbrev pub IsTask : LaneState → What → Task → Type 0
+abbrev pub IsTask : LaneState → Happening → Task → Type 0
 IsTask state Open task = task ≡ Ignore (fresh true)
 IsTask state Close task = task ≡ Ignore (fresh false)
 IsTask state (Bad session request) task = task ≡ (if state.is_open then Break session request state else Ignore state)
-IsTask state (What.Frame peer moment nonce bytes) task =
+IsTask state (Happening.Frame peer moment nonce bytes) task =
     MatchBool state.is_open
     (IsOctetsTask state (record { peer = peer; moment = moment; nonce = nonce; bytes = bytes }) task)
     (task ≡ Ignore state)

@@ -1,7 +1,7 @@
 //! Laws over whole runs, each the contract of a function without a body.
 
 ghost use Rattle.hdl_laws.specs.Laws.{CalmIsQuiet, HasCover, JoinsRuns, KeepsCovers, RunWithoutBusyIsOne, RestrictsRuns, TwinsReplyAlike, TwoRunsAgree};
-ghost use Rattle.hdl_laws.specs.Told.{StepsTell, StepsAnnounce};
+ghost use Rattle.hdl_laws.specs.Reveals.{StepsTell, StepsAnnounce};
 
 /// Two runs in a row are one run of the joined events.
 pub fn runs_joined()

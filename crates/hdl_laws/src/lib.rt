@@ -15,4 +15,4 @@
 
 pub mod laws;
 
-pub use hdl_events::{Event, Octets, Outcome, What};
+pub use hdl_events::{Event, Happening, Outcome};

@@ -4,11 +4,15 @@
 //! from `specs.declared.TheConstants`, so the number stands in no other file of `src/` or `specs/`. [`numbers`] says each number, so
 //! that none changes unseen. To change a limit, change its constant, its clause there, and docs/PROTOCOL.md.
 //!
-//! This crate is the lowest of the service and stands on no other. The definition of octets, which each layer above shares,
-//! stands here too (`specs/Octets.antt`).
+//! This crate is the lowest of the service and stands on no other. What each layer above shares stands here too: the definition of
+//! octets (`specs/Octets.antt`), and [`Items`], a vector that contracts see as a list, such as [`Octets`].
 #![tactic(auto)]
 
+mod items;
+
 ghost use Rattle.std.specs.Prelude.{◌≡◌, ◌≤◌, ◌<◌, ◌*◌, ◌-◌};
+
+pub use items::{Items, Octets};
 
 /// How many lanes there are, and so the most lanes of all publishers together.
 pub const LANES: usize = 64;

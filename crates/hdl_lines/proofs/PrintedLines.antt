@@ -64,7 +64,7 @@ fields_graphic v fits h =
     graphic_joined _ _ (field_graphic (decimal v.index) (decimal_graphic v.index fits.index))
     (graphic_joined _ _ (field_graphic v.kind (word_graphic v.kind h.kind))
     (graphic_joined _ _ (field_graphic _ (decimal_graphic _ (ttl_number v fits)))
-    (field_graphic (permission_digits v.perm) (permissions_graphic v.perm))))
+    (field_graphic (permission_digits v.permissions) (permissions_graphic v.permissions))))
 
 -- ---- data
 

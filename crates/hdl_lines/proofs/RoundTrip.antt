@@ -69,13 +69,13 @@ refs_octets (r ∷ rs) h =
 pub spelling_octets : (v : Value) → Fits v → AreOctets (spelling v)
 unfolding spelling
 spelling_octets v h =
-    let behind_stamp = references v.refs in
-    let behind_ttl = v.perm ∷ (to_be_bytes w64 v.stamp ++ behind_stamp) in
+    let behind_stamp = references v.references in
+    let behind_ttl = v.permissions ∷ (to_be_bytes w64 v.timestamp ++ behind_stamp) in
     let behind_bytes = v.ttl ++ behind_ttl in
     let behind_kind = string v.bytes ++ behind_bytes in
-    let refs = octets_joined (to_be_bytes w32 (length v.refs)) (flat_map reference v.refs) (octets32 (length v.refs)) (refs_octets v.refs h.refs.each) in
-    let perm : Octets behind_ttl = (h.perm, octets_joined (to_be_bytes w64 v.stamp) behind_stamp (octets64 v.stamp) refs) in
-    let ttl = octets_joined v.ttl behind_ttl (octets_from v.ttl h.ttl_octets) perm in
+    let refs = octets_joined (to_be_bytes w32 (length v.references)) (flat_map reference v.references) (octets32 (length v.references)) (refs_octets v.references h.references.each) in
+    let permissions : Octets behind_ttl = (h.permissions, octets_joined (to_be_bytes w64 v.timestamp) behind_stamp (octets64 v.timestamp) refs) in
+    let ttl = octets_joined v.ttl behind_ttl (octets_from v.ttl h.ttl_octets) permissions in
     let bytes = octets_joined (string v.bytes) behind_bytes (string_octets v.bytes h.bytes) ttl in
     let kind = octets_joined (string v.kind) behind_kind (string_octets v.kind h.kind) bytes in
     octets_at (spelling v) (octets_joined (to_be_bytes w32 v.index) (string v.kind ++ behind_kind) (octets32 v.index) kind)
@@ -226,16 +226,16 @@ octets_again v fits = rw (hex_again (spelling v) (spelling_octets v fits)) (rw (
 
 pub record Plain (v : Value) : Type 0 where
   pub how : get_or v.ttl 0 0 ≡ 0
-  pub perm : v.perm < 2 ^ 4
-  pub refs : v.refs ≡ []
+  pub permissions : v.permissions < 2 ^ 4
+  pub references : v.references ≡ []
   pub kind : is_word v.kind ≡ true
 
 pub plain_from : (v : Value) → has_fields v ≡ true → Plain v
 plain_from v h =
-    let a = and_parts (eqb (get_or v.ttl 0 0) 0 && ltb v.perm (2 ^ 4) && eqb (length v.refs) 0) (is_word v.kind) h in
-    let b = and_parts (eqb (get_or v.ttl 0 0) 0 && ltb v.perm (2 ^ 4)) (eqb (length v.refs) 0) a.0 in
-    let d = and_parts (eqb (get_or v.ttl 0 0) 0) (ltb v.perm (2 ^ 4)) b.0 in
-    record { how = eqb-true _ _ d.0; perm = ltb-true _ _ d.1; refs = nil_from_length v.refs (eqb-true _ _ b.1); kind = a.1 }
+    let a = and_parts (eqb (get_or v.ttl 0 0) 0 && ltb v.permissions (2 ^ 4) && eqb (length v.references) 0) (is_word v.kind) h in
+    let b = and_parts (eqb (get_or v.ttl 0 0) 0 && ltb v.permissions (2 ^ 4)) (eqb (length v.references) 0) a.0 in
+    let d = and_parts (eqb (get_or v.ttl 0 0) 0) (ltb v.permissions (2 ^ 4)) b.0 in
+    record { how = eqb-true _ _ d.0; permissions = ltb-true _ _ d.1; references = nil_from_length v.references (eqb-true _ _ b.1); kind = a.1 }
 
 pub ttl_again : (ttl : List ℕ) → length ttl ≡ 5 → AreOctets ttl → get_or ttl 0 0 ≡ 0 → 0 ∷ to_be_bytes w32 (from_be_bytes w32 (drop 1 ttl)) ≡ ttl
 ttl_again [] len fits how = absurd (omega (arith, len))
@@ -247,11 +247,11 @@ in_a_row : (i k t p d : List ℕ) → field i ++ (field k ++ (field t ++ field p
 in_a_row i k t p d = simp append_assoc
 
 -- the value of its parts
-value_made : (v : Value) → Fits v → Plain v → record { index = v.index; kind = v.kind; bytes = v.bytes; ttl = 0 ∷ to_be_bytes w32 (from_be_bytes w32 (drop 1 v.ttl)); perm = v.perm; stamp = 0; refs = [] } ≡ unstamped v
+value_made : (v : Value) → Fits v → Plain v → record { index = v.index; kind = v.kind; bytes = v.bytes; ttl = 0 ∷ to_be_bytes w32 (from_be_bytes w32 (drop 1 v.ttl)); permissions = v.permissions; timestamp = 0; references = [] } ≡ unstamped v
 value_made v fits h =
     let ttl = ttl_again v.ttl fits.ttl fits.ttl_octets h.how in
-    let refs = sym h.refs in
-    λ i. record { index = v.index; kind = v.kind; bytes = v.bytes; ttl = ttl i; perm = v.perm; stamp = 0; refs = refs i }
+    let refs = sym h.references in
+    λ i. record { index = v.index; kind = v.kind; bytes = v.bytes; ttl = ttl i; permissions = v.permissions; timestamp = 0; references = refs i }
 
 pub ttl_number : (v : Value) → Fits v → from_be_bytes w32 (drop 1 v.ttl) < 2 ^ 32
 ttl_number v fits = wide32.below (drop 1 v.ttl) (AreOctets-drop 1 v.ttl fits.ttl_octets)
@@ -260,12 +260,12 @@ fields_again : (v : Value) → Fits v → Plain v → value_in (fields_text v ++
 unfolding value_in value_in_fields fields_text
 fields_again v fits h =
     let ttl = from_be_bytes w32 (drop 1 v.ttl) in
-    ap value_in (in_a_row (decimal v.index) v.kind (decimal ttl) (permission_digits v.perm) (data_text v))
-    ∙ rw (cut_again space (decimal v.index) (v.kind ++ space ∷ (decimal ttl ++ space ∷ (permission_digits v.perm ++ space ∷ data_text v))) (decimal_lacks_space v.index fits.index))
+    ap value_in (in_a_row (decimal v.index) v.kind (decimal ttl) (permission_digits v.permissions) (data_text v))
+    ∙ rw (cut_again space (decimal v.index) (v.kind ++ space ∷ (decimal ttl ++ space ∷ (permission_digits v.permissions ++ space ∷ data_text v))) (decimal_lacks_space v.index fits.index))
     (rw (number_no_octets v.index fits.index, number_again v.index fits.index)
-    (rw (word_again v.kind (decimal ttl ++ space ∷ (permission_digits v.perm ++ space ∷ data_text v)) h.kind)
-    (rw (number_field_again ttl (permission_digits v.perm ++ space ∷ data_text v) (ttl_number v fits))
-    (rw (permissions_field_again v.perm (data_text v) h.perm)
+    (rw (word_again v.kind (decimal ttl ++ space ∷ (permission_digits v.permissions ++ space ∷ data_text v)) h.kind)
+    (rw (number_field_again ttl (permission_digits v.permissions ++ space ∷ data_text v) (ttl_number v fits))
+    (rw (permissions_field_again v.permissions (data_text v) h.permissions)
     (rw (data_again v fits)
     (ap Ok (value_made v fits h)))))))
 

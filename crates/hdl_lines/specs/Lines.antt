@@ -40,7 +40,7 @@ data_in text = do
 
 -- the value without its timestamp
 abbrev pub unstamped : Value → Value
-unstamped v = record v { stamp = 0 }
+unstamped v = record v { timestamp = 0 }
 
 -- a value by its octets
 unfoldable pub value_in_octets : List ℕ → Result Value LineFault
@@ -57,7 +57,7 @@ ttl_fault text = if bytes_eq (format_and_data text).0 (codes "HIDDEN") then faul
 
 -- the value of these parts
 abbrev pub value_of : ℕ → List ℕ → ℕ → ℕ → List ℕ → Value
-value_of index kind ttl perm bytes = record { index = index; kind = kind; bytes = bytes; ttl = 0 ∷ to_be_bytes w32 ttl; perm = perm; stamp = 0; refs = [] }
+value_of index kind ttl permissions bytes = record { index = index; kind = kind; bytes = bytes; ttl = 0 ∷ to_be_bytes w32 ttl; permissions = permissions; timestamp = 0; references = [] }
 
 -- the data of a type that is a word, in words
 abbrev pub data_of : List ℕ → List ℕ → Result (List ℕ) LineFault
@@ -65,18 +65,18 @@ data_of kind text = if is_word kind then ok_or (data_by (format_of kind) text) (
 
 -- the value of these parts, its data in words by the format of its type
 unfoldable pub value_by_type : ℕ → List ℕ → ℕ → ℕ → List ℕ → Result Value LineFault
-value_by_type index kind ttl perm text = do
+value_by_type index kind ttl permissions text = do
   bytes ← data_of kind text
-  Ok (value_of index kind ttl perm bytes)
+  Ok (value_of index kind ttl permissions bytes)
 
 -- TYPE TTL PERMISSIONS FORMAT DATA
 unfoldable pub value_in_fields : ℕ → List ℕ → Result Value LineFault
 value_in_fields index text = do
   kind ← ok_or (word_at text) fault.Type
   ttl ← ok_or (number_at kind.1) (ttl_fault kind.1)
-  perm ← ok_or (permissions_at ttl.1) fault.Permissions
-  bytes ← data_in perm.1
-  Ok (value_of index kind.0 ttl.0 perm.0 bytes)
+  permissions ← ok_or (permissions_at ttl.1) fault.Permissions
+  bytes ← data_in permissions.1
+  Ok (value_of index kind.0 ttl.0 permissions.0 bytes)
 
 -- the value that a line says, sound or not, or the first field that is wrong
 unfoldable pub value_in : List ℕ → Result Value LineFault
@@ -92,14 +92,14 @@ IsFaultIn said e = (e ≡ fault.Memory) ⊎ (said ≡ Err e) ⊎ ((v : Value) ×
 
 -- the TTL is relative, no upper permission bit is set, there are no references, and the type is a word
 abbrev pub has_fields : Value → Bool
-has_fields v = slice_index v.ttl 0 == 0 && nat_lt v.perm (2 ^ 4) && length v.refs == 0 && is_word v.kind
+has_fields v = slice_index v.ttl 0 == 0 && nat_lt v.permissions (2 ^ 4) && length v.references == 0 && is_word v.kind
 
 -- INDEX TYPE TTL PERMISSIONS, and a space behind each
 abbrev pub field : List ℕ → List ℕ
 field octets = octets ++ space ∷ []
 
 unfoldable pub fields_text : Value → List ℕ
-fields_text v = field (decimal v.index) ++ (field v.kind ++ (field (decimal (from_be_bytes w32 (drop 1 v.ttl))) ++ field (permission_digits v.perm)))
+fields_text v = field (decimal v.index) ++ (field v.kind ++ (field (decimal (from_be_bytes w32 (drop 1 v.ttl))) ++ field (permission_digits v.permissions)))
 
 abbrev pub octets_text : Value → List ℕ
 octets_text v = codes "OCTETS " ++ encode_lower (spelling v)

@@ -9,7 +9,8 @@ ghost use Rattle.hdl_lines.specs.Data.{format_named, format_of, admin_parts, adm
 
 use crate::fault::LineFault;
 use crate::fields::{cut_at, is_handle_word, is_text, mask_in, number_in};
-use hdl_value::{HS_ADMIN, HS_VLIST, Octets, RawRef, put_references, put_string, put_u16, put_u32};
+use hdl_limits::Octets;
+use hdl_value::{HS_ADMIN, HS_VLIST, RawRef, put_references, put_string, put_u16, put_u32};
 use hex::FromHexError;
 use std::alloc::{AllocError, Global};
 

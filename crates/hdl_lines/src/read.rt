@@ -8,8 +8,8 @@ ghost use Rattle.hdl_lines.specs.Lines.{value_of, value_by_type, value_in, value
 use crate::data::{Format, data_by, data_in, octets_in};
 use crate::fault::LineFault;
 use crate::fields::{cut_at, is_word, number_at, number_in, permissions_at, word_at};
-use hdl_limits::{DATA_MAX, TYPE_MAX};
-use hdl_value::{Octets, RawRefs, Value, ValueFault, cut_value, value_fits, write_value};
+use hdl_limits::{DATA_MAX, Octets, TYPE_MAX};
+use hdl_value::{RawRefs, Value, ValueFault, cut_value, value_fits, write_value};
 use std::alloc::Global;
 
 /// The value that the octets spell, without its timestamp.
@@ -29,7 +29,10 @@ fn value_in_octets(alloc: Global, octets: &[u8]) -> Result<Value, LineFault>
     let Ok(value) = cut.read(alloc) else {
         return Err(LineFault::Memory);
     };
-    Ok(Value { stamp: 0, ..value })
+    Ok(Value {
+        timestamp: 0,
+        ..value
+    })
 }
 
 /// The value that digits spell.
@@ -48,7 +51,7 @@ fn value_in_digits(alloc: Global, digits: &[u8]) -> Result<Value, LineFault>
 
 /// Refuses a value that breaks a limit or whose data is bad.
 fn check(alloc: Global, value: &Value) -> Result<(), LineFault>
-    requires no_references { value.now.refs ≡ [] }
+    requires no_references { value.now.references ≡ [] }
     ensures sound { OnOk result (IsSound value.now) }
     ensures fault { IfErr result (λ e. IsFaultIn (Ok value.now) e) }
     ensures can_be_spelt { OnOk result (CanBeSpelt value.now) }
@@ -79,12 +82,12 @@ fn sound_value(
     index: u32,
     kind: &[u8],
     ttl: u32,
-    perm: u8,
+    permissions: u8,
     bytes: Vec<u8>,
 ) -> Result<Value, LineFault>
-    ensures value { IfOk result (λ v. v ≡ value_of index kind.now ttl perm bytes.items) }
+    ensures value { IfOk result (λ v. v ≡ value_of index kind.now ttl permissions bytes.items) }
     ensures sound { IfOk result (λ v. IsSound v) }
-    ensures fault { IfErr result (λ e. IsFaultIn (Ok (value_of index kind.now ttl perm bytes.items)) e) }
+    ensures fault { IfErr result (λ e. IsFaultIn (Ok (value_of index kind.now ttl permissions bytes.items)) e) }
     ensures can_be_spelt { IfOk result (λ v. CanBeSpelt v) }
 {
     let [a, b, c, d] = ttl.to_be_bytes();
@@ -93,9 +96,9 @@ fn sound_value(
         kind: Octets::new(Vec::from_slice(alloc, kind)?),
         bytes: Octets::new(bytes),
         ttl: [0, a, b, c, d],
-        perm,
-        stamp: 0,
-        refs: RawRefs::new(Vec::new(alloc)),
+        permissions,
+        timestamp: 0,
+        references: RawRefs::new(Vec::new(alloc)),
     };
     check(alloc, &value)?;
     Ok(value)
@@ -110,19 +113,19 @@ pub fn value_by_type(
     index: u32,
     kind: &[u8],
     ttl: u32,
-    perm: u8,
+    permissions: u8,
     text: &[u8],
 ) -> Result<Value, LineFault>
-    ensures value { IfOk result (λ v. value_by_type index kind.now ttl perm text.now ≡ Ok v) }
+    ensures value { IfOk result (λ v. value_by_type index kind.now ttl permissions text.now ≡ Ok v) }
     ensures sound { IfOk result (λ v. IsSound v) }
-    ensures fault { IfErr result (λ e. IsFaultIn (value_by_type index kind.now ttl perm text.now) e) }
+    ensures fault { IfErr result (λ e. IsFaultIn (value_by_type index kind.now ttl permissions text.now) e) }
     ensures can_be_spelt { IfOk result (λ v. CanBeSpelt v) }
 {
     if !is_word(kind) {
         return Err(LineFault::Type);
     }
     let bytes = data_by(alloc, Format::of(kind), text)?;
-    sound_value(alloc, index, kind, ttl, perm, bytes)
+    sound_value(alloc, index, kind, ttl, permissions, bytes)
 }
 
 /// What is wrong where a TTL should stand: the data is hidden, or it is no number.
@@ -151,11 +154,11 @@ fn value_in_fields(alloc: Global, index: u32, fields: &[u8]) -> Result<Value, Li
     let Some((ttl, rest)) = number_at(rest) else {
         return Err(ttl_fault(rest));
     };
-    let Some((perm, rest)) = permissions_at(rest) else {
+    let Some((permissions, rest)) = permissions_at(rest) else {
         return Err(LineFault::Permissions);
     };
     let bytes = data_in(alloc, rest)?;
-    sound_value(alloc, index, kind, ttl, perm, bytes)
+    sound_value(alloc, index, kind, ttl, permissions, bytes)
 }
 
 /// Reads the line of a value, which has no line end.

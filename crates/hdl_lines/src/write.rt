@@ -20,8 +20,8 @@ pub(crate) fn has_fields(value: &Value) -> bool
 {
     let [how, ..] = value.ttl;
     how == 0
-        && value.perm < 16
-        && value.refs.as_slice().is_empty()
+        && value.permissions < 16
+        && value.references.as_slice().is_empty()
         && is_word(value.kind.as_slice())
 }
 
@@ -54,7 +54,7 @@ fn put_fields(out: &mut Vec<u8>, value: &Value) -> Result<(), AllocError>
     put_number_field(out, value.index)?;
     put_field(out, value.kind.as_slice())?;
     put_number_field(out, ttl)?;
-    put_field(out, &permission_digits(value.perm))
+    put_field(out, &permission_digits(value.permissions))
 }
 
 /// `ADMIN INDEX:MASK:HANDLE`, if the data is that and words can say it.

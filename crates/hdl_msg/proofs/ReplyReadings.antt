@@ -24,7 +24,7 @@ use Rattle.hdl_msg.specs.declared.replies.ReplyContent.{ReplyContent}
 use Rattle.hdl_msg.specs.declared.replies.ReplyContent.TheVariants.{Values, Handles, Nothing, Referral, Nonce, Empty}
 use Rattle.hdl_msg.specs.declared.reply_view.ReplyForm.{ReplyForm}
 use Rattle.hdl_msg.specs.declared.reply_view.ReplyForm.TheVariants as form
-use Rattle.hdl_msg.specs.Message.{number, counted, header_octets, IsNumber, AreFew}
+use Rattle.hdl_msg.specs.Message.{number, count_prefixed, header_octets, IsNumber, AreFew}
 use Rattle.hdl_msg.specs.Reading.{strings_at, values_at, message_at}
 use Rattle.hdl_limits.specs.declared.TheConstants.{MESSAGE_MAX}
 use Rattle.hdl_msg.specs.Reply.{content_octets, digest_octets, reply_body, reply_message, reply_octets, short_header, short_reply}
@@ -129,7 +129,7 @@ handles_takes : (octets : List ℕ) (content : ReplyContent) → AreOctets octet
 unfolding handles_in
 handles_takes octets content fits e =
     let a = bind_some (whole_of strings_at octets) (λ x. Some (Handles x)) content e in
-    let t = whole_takes strings_at (counted string) (AreFew IsString) strings_codec octets a.0 fits a.1 in
+    let t = whole_takes strings_at (count_prefixed string) (AreFew IsString) strings_codec octets a.0 fits a.1 in
     subst (λ (c : ReplyContent). SpellsContent form.Handles octets c) (some_is (Handles a.0) content a.2) (record { fits = t.1; has_form = refl; spelt = t.0 })
 
 nothing_takes : (octets : List ℕ) (content : ReplyContent) → nothing_in octets ≡ Some content → SpellsContent form.Nothing octets content
@@ -185,7 +185,7 @@ none_fit = record { short = omega arith; each = λ i. omega arith }
 content_again : (content : ReplyContent) → ContentFits content → content_in (form_of content) (content_octets content) ≡ Some content
 unfolding content_in shown_values_in handles_in nothing_in referral_in nonce_in empty_in
 content_again (Values handle values) fits = rw (whole_again _ _ _ write_codec (handle, values) fits) refl
-content_again (Handles handles) fits = rw (whole_again strings_at (counted string) (AreFew IsString) strings_codec handles fits) refl
+content_again (Handles handles) fits = rw (whole_again strings_at (count_prefixed string) (AreFew IsString) strings_codec handles fits) refl
 content_again Nothing fits = refl
 content_again (Referral prefix) fits = rw (whole_again _ _ _ referral_codec (codes "0.NA/" ++ prefix, 0) (fits, omega arith), prefix_again prefix) refl
 content_again (Nonce nonce) fits = rw (whole_again string_at string IsString string_codec nonce (short16 nonce fits), whole_again (octets_at 16) (λ text. text) (IsLong 16) (octets_codec 16) nonce fits) refl

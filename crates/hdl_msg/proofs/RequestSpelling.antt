@@ -11,7 +11,7 @@ use Rattle.hdl_msg.specs.declared.codes.OpCode.TheVariants.{Resolution as Resolu
 use Rattle.hdl_msg.specs.declared.request_body.RequestBody.{RequestBody}
 use Rattle.hdl_msg.specs.declared.request_body.RequestBody.TheVariants.{Resolution, Create, Delete, Add, Remove, Modify, List as ListAll, Response}
 use Rattle.hdl_msg.specs.Codes.{op_number, IsNumberOf}
-use Rattle.hdl_msg.specs.Message.{number, counted, body, header_octets, IsShort, IsNumber, HeaderFits, OperationFits, code_of, SpellsRequest}
+use Rattle.hdl_msg.specs.Message.{number, count_prefixed, body, header_octets, IsShort, IsNumber, HeaderFits, OperationFits, code_of, SpellsRequest}
 use Rattle.hdl_limits.specs.declared.TheConstants.{MESSAGE_MAX}
 use Rattle.hdl_msg.specs.RequestBody.{requested, requested_code, request_content, request_message, request_length, CanBeRequested}
 use Rattle.hdl_msg.proofs.Written.{few_from, each_from, some_spelling, short_value}
@@ -27,21 +27,21 @@ length-numbers (n ∷ ns) =
 short_string : (t more : List ℕ) (n : ℕ) → length (string t ++ more) ≤ n → (length t ≤ n) × (length more ≤ n)
 short_string t more n le = let e = length-append t more in (omega (arith, e, le), omega (arith, e, le))
 
-can_list : (handle : List ℕ) (values : List Value) → length (string handle ++ counted spelling values) ≤ MESSAGE_MAX → IsShort handle × ((length values < 2 ^ 32) × AllByRecursion CanBeSpelt values)
+can_list : (handle : List ℕ) (values : List Value) → length (string handle ++ count_prefixed spelling values) ≤ MESSAGE_MAX → IsShort handle × ((length values < 2 ^ 32) × AllByRecursion CanBeSpelt values)
 can_list handle values le =
-    let s = short_string handle (counted spelling values) MESSAGE_MAX le in
+    let s = short_string handle (count_prefixed spelling values) MESSAGE_MAX le in
     (omega (arith, s.0), (omega (arith, s.1, few_from spelling some_spelling values), each_from spelling CanBeSpelt (2 ^ 32) short_value values (omega (arith, s.1))))
 
 can : (b : RequestBody) → length (body (requested b)) ≤ MESSAGE_MAX → CanBeRequested b
 can (Resolution handle indexes types) le =
-    let s = short_string handle (counted number indexes ++ counted string types) MESSAGE_MAX le in
-    let e = length-append (flat_map number indexes) (counted string types) in
+    let s = short_string handle (count_prefixed number indexes ++ count_prefixed string types) MESSAGE_MAX le in
+    let e = length-append (flat_map number indexes) (count_prefixed string types) in
     (omega (arith, s.0), (omega (arith, s.1, e, length-numbers indexes), (omega (arith, s.1, e, few_from string (λ t. omega arith) types), each_from string IsShort (2 ^ 32) (λ t l. omega (arith, l)) types (omega (arith, s.1, e)))))
 can (Create handle values) le = can_list handle values le
 can (Delete handle) le = omega (arith, le)
 can (Add handle values) le = can_list handle values le
 can (Remove handle indexes) le =
-    let s = short_string handle (counted number indexes) MESSAGE_MAX le in
+    let s = short_string handle (count_prefixed number indexes) MESSAGE_MAX le in
     (omega (arith, s.0), omega (arith, s.1, length-numbers indexes))
 can (Modify handle values) le = can_list handle values le
 can (ListAll handle) le = omega (arith, le)

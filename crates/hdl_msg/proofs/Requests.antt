@@ -13,7 +13,7 @@ use Rattle.hdl_msg.specs.declared.codes.OpCode.{OpCode}
 use Rattle.hdl_msg.specs.declared.codes.OpCode.TheVariants.{Resolution, CreateHandle, DeleteHandle, AddValue, RemoveValue, ModifyValue, ListHandles, ChallengeResponse}
 use Rattle.hdl_msg.specs.Codes.{op_code_of, IsNumberOf}
 use Rattle.hdl_msg.proofs.OpCodes.{op_code_is, op_code_again}
-use Rattle.hdl_msg.specs.Message.{Operation, resolution, create, delete, add, remove, modify, list, response, other, body, number, counted, header_octets, IsShort, AreFew, OperationFits, code_of, Content, signed_octets, SpellsRequest}
+use Rattle.hdl_msg.specs.Message.{Operation, resolution, create, delete, add, remove, modify, list, response, other, body, number, count_prefixed, header_octets, IsShort, AreFew, OperationFits, code_of, Content, signed_octets, SpellsRequest}
 use Rattle.hdl_msg.specs.Reading.{resolution_in, with_values_in, remove_in, response_in, operation_in, signed_at, message_at, request_at}
 use Rattle.hdl_msg.proofs.Codecs.{Message, message_spelling, MessageFits, message_codec, resolution_codec, write_codec, remove_codec, response_codec, signed_codec, front, AreOctets-front, AreOctets-back}
 
@@ -40,7 +40,7 @@ resolution_takes octets operation fits e =
     let t = seen_takes _ _ _ (λ x. resolution x.0 x.1.0 x.1.1) resolution_codec octets operation fits e in
     rw t.1 (record { fits = t.3; has_code = refl; spelt = t.2 })
 
-write_takes : (make : List ℕ × List Value → Operation) (code : Option OpCode) (octets : List ℕ) (operation : Operation) → ((x : List ℕ × List Value) → (IsString x.0 × AreFew Fits x.1) → SpellsBody code (string x.0 ++ counted spelling x.1) (make x))
+write_takes : (make : List ℕ × List Value → Operation) (code : Option OpCode) (octets : List ℕ) (operation : Operation) → ((x : List ℕ × List Value) → (IsString x.0 × AreFew Fits x.1) → SpellsBody code (string x.0 ++ count_prefixed spelling x.1) (make x))
     → AreOctets octets → (with_values_in octets >>= λ x. Some (make x)) ≡ Some operation → SpellsBody code octets operation
 unfolding with_values_in
 write_takes make code octets operation made fits e =

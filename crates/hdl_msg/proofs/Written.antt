@@ -8,7 +8,7 @@ use Rattle.hdl_value.specs.declared.value.Value.{Value}
 use Rattle.hdl_value.specs.declared.references.RawRef.{RawRef}
 use Rattle.hdl_value.specs.Spelling.{string, reference, references, spelling, CanBeSpelt}
 use Rattle.hdl_msg.specs.declared.fields.Header.{Header}
-use Rattle.hdl_msg.specs.Message.{number, counted, header_octets}
+use Rattle.hdl_msg.specs.Message.{number, count_prefixed, header_octets}
 use Rattle.hdl_frame.specs.Envelope.{envelope_octets, message_envelope}
 use Rattle.hdl_msg.specs.declared.replies.Reply.{Reply}
 use Rattle.hdl_msg.specs.declared.replies.ReplyContent.{ReplyContent}
@@ -37,14 +37,14 @@ pub length-header_octets : (h : Header) → length (header_octets h) ≡ 20
 unfolding header_octets
 length-header_octets h = refl
 
-pub length-spelling : (v : Value) → length (spelling v) ≡ length (string v.kind) + length (string v.bytes) + length (references v.refs) + length v.ttl + 13
+pub length-spelling : (v : Value) → length (spelling v) ≡ length (string v.kind) + length (string v.bytes) + length (references v.references) + length v.ttl + 13
 unfolding spelling
 length-spelling v =
     omega (
       arith,
-      length-append v.kind (string v.bytes ++ (v.ttl ++ (v.perm ∷ (to_be_bytes w64 v.stamp ++ references v.refs)))),
-      length-append v.bytes (v.ttl ++ (v.perm ∷ (to_be_bytes w64 v.stamp ++ references v.refs))),
-      length-append v.ttl (v.perm ∷ (to_be_bytes w64 v.stamp ++ references v.refs)),
+      length-append v.kind (string v.bytes ++ (v.ttl ++ (v.permissions ∷ (to_be_bytes w64 v.timestamp ++ references v.references)))),
+      length-append v.bytes (v.ttl ++ (v.permissions ∷ (to_be_bytes w64 v.timestamp ++ references v.references))),
+      length-append v.ttl (v.permissions ∷ (to_be_bytes w64 v.timestamp ++ references v.references)),
     )
 
 pub capped-sum : (a b : ℕ) → capped (capped a + b) ≡ capped (a + b)
@@ -90,13 +90,13 @@ short_value v lt =
     record {
       kind = omega (arith, all, lt);
       bytes = omega (arith, all, lt);
-      count = omega (arith, all, lt, few_from reference some_reference v.refs);
-      handles = each_from reference (λ r. length r.handle < 2 ^ 32) (2 ^ 32) short_handle v.refs (omega (arith, all, lt));
+      count = omega (arith, all, lt, few_from reference some_reference v.references);
+      handles = each_from reference (λ r. length r.handle < 2 ^ 32) (2 ^ 32) short_handle v.references (omega (arith, all, lt));
     }
 
 pub can_write : (content : ReplyContent) → length (content_octets content) < 2 ^ 32 → CanBeWritten content
 can_write (Values handle values) lt =
-    let all = length-append handle (counted spelling values) in
+    let all = length-append handle (count_prefixed spelling values) in
     (omega (arith, all, lt), (omega (arith, all, lt, few_from spelling some_spelling values), each_from spelling CanBeSpelt (2 ^ 32) short_value values (omega (arith, all, lt))))
 can_write (Handles handles) lt =
     (omega (arith, lt, few_from string (λ t. omega arith) handles), each_from string (λ t. length t < 2 ^ 32) (2 ^ 32) (λ t l. omega (arith, l)) handles (omega (arith, lt)))

@@ -2,12 +2,13 @@
 
 ghost use Rattle.std.specs.Prelude.{◌≡◌, length};
 ghost use Rattle.hdl_value.specs.Spelling.{string, spelling, references};
-ghost use Rattle.hdl_msg.specs.Message.{counted};
+ghost use Rattle.hdl_msg.specs.Message.{count_prefixed};
 ghost use Rattle.hdl_msg.specs.Reply.{capped, content_octets, digest_octets, reply_message};
 
 use crate::replies::{Reply, ReplyContent};
 use hdl_auth::algorithm::Digest;
-use hdl_value::{Octets, RawRef, Value};
+use hdl_limits::Octets;
+use hdl_value::{RawRef, Value};
 
 /// Octets of a message beside its body: the header's 24, and the credential's length.
 pub(crate) const OVERHEAD: usize = 28;
@@ -34,7 +35,7 @@ fn value_len(value: &Value) -> usize
 {
     let kind = string_len(value.kind.as_slice());
     let bytes = string_len(value.bytes.as_slice());
-    let refs = references_len(value.refs.as_slice());
+    let refs = references_len(value.references.as_slice());
     let ttl: &[u8] = &value.ttl;
     kind.saturating_add(bytes)
         .saturating_add(refs)
@@ -43,7 +44,7 @@ fn value_len(value: &Value) -> usize
 }
 
 pub(crate) fn values_len(values: &[Value]) -> usize
-    ensures { result ≡ capped (length (counted spelling values.now)) }
+    ensures { result ≡ capped (length (count_prefixed spelling values.now)) }
 {
     let mut total: usize = 4;
     for value in values {
@@ -53,7 +54,7 @@ pub(crate) fn values_len(values: &[Value]) -> usize
 }
 
 pub(crate) fn handles_len(handles: &[Octets]) -> usize
-    ensures { result ≡ capped (length (counted string handles.now)) }
+    ensures { result ≡ capped (length (count_prefixed string handles.now)) }
 {
     let mut total: usize = 4;
     for handle in handles {

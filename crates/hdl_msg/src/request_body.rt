@@ -4,7 +4,8 @@ ghost use Rattle.std.specs.Prelude.{◌≡◌};
 ghost use Rattle.hdl_msg.specs.RequestBody.{requested_code};
 
 use crate::codes::OpCode;
-use hdl_value::{Listed, Octets, Value};
+use hdl_limits::{Items, Octets};
+use hdl_value::Value;
 
 /// What a request asks for, with what it names: the body of each operation (RFC 3652, sections 3.2 and 3.5 to 3.7, in our
 /// profile: docs/PROTOCOL.md, "Message"), owned by who writes it. `Body` is the same where it stands in a message.
@@ -23,27 +24,27 @@ use hdl_value::{Listed, Octets, Value};
 pub enum RequestBody {
     Resolution {
         handle: Octets,
-        indexes: Listed<u32>,
-        types: Listed<Octets>,
+        indexes: Items<u32>,
+        types: Items<Octets>,
     },
     Create {
         handle: Octets,
-        values: Listed<Value>,
+        values: Items<Value>,
     },
     Delete {
         handle: Octets,
     },
     Add {
         handle: Octets,
-        values: Listed<Value>,
+        values: Items<Value>,
     },
     Remove {
         handle: Octets,
-        indexes: Listed<u32>,
+        indexes: Items<u32>,
     },
     Modify {
         handle: Octets,
-        values: Listed<Value>,
+        values: Items<Value>,
     },
     List {
         handle: Octets,

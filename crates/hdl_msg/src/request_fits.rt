@@ -8,7 +8,8 @@ ghost use Rattle.hdl_msg.specs.RequestBody.{requested, CanBeRequested};
 
 use crate::fields::Header;
 use crate::request_body::RequestBody;
-use hdl_value::{Octets, Value, number_fits, string_fits, value_fits};
+use hdl_limits::Octets;
+use hdl_value::{Value, number_fits, string_fits, value_fits};
 
 fn octet_fits(octet: u8)
     ensures { octet < 2 ^ 8 }

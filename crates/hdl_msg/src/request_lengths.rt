@@ -1,7 +1,7 @@
 //! How long a request is, without writing it. The greatest number stands for those that are more, so no sum can wrap.
 
 ghost use Rattle.std.specs.Prelude.{◌≡◌, length};
-ghost use Rattle.hdl_msg.specs.Message.{body, counted, number};
+ghost use Rattle.hdl_msg.specs.Message.{body, count_prefixed, number};
 ghost use Rattle.hdl_msg.specs.Reply.{capped};
 ghost use Rattle.hdl_msg.specs.RequestBody.{requested, request_length};
 
@@ -9,7 +9,7 @@ use crate::lengths::{OVERHEAD, handles_len, string_len, values_len};
 use crate::request_body::RequestBody;
 
 fn numbers_len(numbers: &[u32]) -> usize
-    ensures { result ≡ capped (length (counted number numbers.now)) }
+    ensures { result ≡ capped (length (count_prefixed number numbers.now)) }
 {
     numbers.len().saturating_mul(4).saturating_add(4)
 }

@@ -3,7 +3,7 @@
 ghost use Rattle.std.specs.Prelude.{◌≡◌, ◌≤◌, ◌<◌, ◌^◌, ◌++◌, length, IfOk, OnOk};
 ghost use Rattle.std.specs.List.{AllByRecursion};
 ghost use Rattle.hdl_value.specs.Spelling.{string, spelling, CanBeSpelt};
-ghost use Rattle.hdl_msg.specs.Message.{SpellsRequest, body, counted, number};
+ghost use Rattle.hdl_msg.specs.Message.{SpellsRequest, body, count_prefixed, number};
 ghost use Rattle.hdl_msg.specs.RequestBody.{requested, request_content, request_message, request_length, CanBeRequested};
 
 use crate::fields::{Header, put_header};
@@ -12,13 +12,13 @@ use crate::replies::{put_handles, put_values};
 use crate::request_body::RequestBody;
 use crate::request_fits::{body_fits, header_fits};
 use crate::request_lengths::request_len;
-use hdl_limits::MESSAGE_MAX;
-use hdl_value::{Octets, Value, put_string, put_u32};
+use hdl_limits::{MESSAGE_MAX, Octets};
+use hdl_value::{Value, put_string, put_u32};
 use std::alloc::{AllocError, Global};
 
 fn put_numbers(out: &mut Vec<u8>, numbers: &[u32]) -> Result<(), AllocError>
     requires { length numbers.now < 2 ^ 32 }
-    ensures { OnOk result (out.new.items ≡ out.old.items ++ counted number numbers.now) }
+    ensures { OnOk result (out.new.items ≡ out.old.items ++ count_prefixed number numbers.now) }
 {
     put_u32(out, numbers.len() as u32)?;
     for number in numbers {
@@ -31,7 +31,7 @@ fn put_write(out: &mut Vec<u8>, handle: &[u8], values: &[Value]) -> Result<(), A
     requires handle { length handle.now < 2 ^ 32 }
     requires count { length values.now < 2 ^ 32 }
     requires each { AllByRecursion CanBeSpelt values.now }
-    ensures { OnOk result (out.new.items ≡ out.old.items ++ (string handle.now ++ counted spelling values.now)) }
+    ensures { OnOk result (out.new.items ≡ out.old.items ++ (string handle.now ++ count_prefixed spelling values.now)) }
 {
     put_string(out, handle)?;
     put_values(out, values)
@@ -47,7 +47,7 @@ fn put_resolution(
     requires indexes { length indexes.now < 2 ^ 32 }
     requires types { length types.now < 2 ^ 32 }
     requires each { AllByRecursion (λ octets. length octets < 2 ^ 32) types.now }
-    ensures { OnOk result (out.new.items ≡ out.old.items ++ (string handle.now ++ (counted number indexes.now ++ counted string types.now))) }
+    ensures { OnOk result (out.new.items ≡ out.old.items ++ (string handle.now ++ (count_prefixed number indexes.now ++ count_prefixed string types.now))) }
 {
     put_string(out, handle)?;
     put_numbers(out, indexes)?;

@@ -8,15 +8,13 @@
 //! same test without memory. The laws that the crates above lean on (one reading, the canonical form is a name and stays)
 //! are the contracts of functions without a body.
 //!
-//! Contracts see a [`Name`] as the octets that were sent, and [`Listed`] items, such as [`Octets`], as a list.
+//! Contracts see a [`Name`] as the octets that were sent.
 #![tactic(auto)]
 
 mod fault;
 mod laws;
-mod listed;
 mod name;
 
 pub use fault::NameFault;
 pub use laws::{canonical_stays, names_decided, one_reading, same_prefix};
-pub use listed::{Listed, Octets};
 pub use name::{Name, is_authority, is_name};

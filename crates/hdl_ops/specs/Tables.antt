@@ -10,7 +10,7 @@ use Rattle.hdl_ops.specs.declared.change.Change.TheVariants.{Create, Delete, Add
 
 -- the value with the moment of its write
 abbrev pub stamped : ℕ → Value → Value
-stamped moment v = record v { stamp = moment }
+stamped moment v = record v { timestamp = moment }
 
 -- the write of a change, its values as they are
 abbrev pub write_of : Change → Write

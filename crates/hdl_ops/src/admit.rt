@@ -8,16 +8,15 @@ ghost use Rattle.hdl_ops.specs.Admission.{handle_in, request_algorithm};
 ghost use Rattle.hdl_ops.specs.Requests.{named};
 ghost use Rattle.hdl_ops.specs.Views.{algorithms_by, hosted_by, IsAdmitted};
 
-use crate::decision::{Asked, Decision};
+use crate::decision::{Decision, HashedRequest};
 use crate::owner::Owner;
 use crate::requests::{is_list, is_unused, makes_or_ends, named};
 use crate::written::is_bad_write;
 use hdl_auth::algorithm::Algorithm;
-use hdl_limits::NAME_MAX;
+use hdl_limits::{NAME_MAX, Octets};
 use hdl_msg::{ReplyContent, Request, ResponseCode};
 use hdl_name::{Name, names_decided};
 use hdl_rows::Refused;
-use hdl_value::Octets;
 use std::alloc::{AllocError, Global};
 
 /// What comes of the tests before the table is looked at.
@@ -52,7 +51,7 @@ pub(crate) fn read_name(alloc: Global, octets: &[u8]) -> Result<Option<Name>, Re
 /// A request whose name is read.
 #[derive(Drop)]
 pub struct NamedRequest<'a> {
-    pub asked: Asked<'a>,
+    pub asked: HashedRequest<'a>,
     /// The handle that it names, if that is a name.
     name: Option<Name>,
     ghost handle: { option_map canonical name ≡ handle_in (named asked.request.now.operation) },
@@ -72,14 +71,14 @@ impl<'a> NamedRequest<'a> {
         let octets = named(request.body());
         if !is_name(octets) {
             let algorithm = Algorithm::Sha1;
-            let asked = Asked { algorithm, request };
+            let asked = HashedRequest { algorithm, request };
             return Ok(NamedRequest { asked, name: None });
         }
         let Ok(name) = Name::read(owner.alloc, octets) else {
             return Err(Refused);
         };
         let algorithm = owner.tenants.algorithm(owner.publisher, &name);
-        let asked = Asked { algorithm, request };
+        let asked = HashedRequest { algorithm, request };
         Ok(NamedRequest {
             asked,
             name: Some(name),
@@ -87,7 +86,7 @@ impl<'a> NamedRequest<'a> {
     }
 
     /// Reads the name of a request whose hash function is known. Refused only for want of memory.
-    pub fn read(alloc: Global, asked: Asked<'a>) -> Result<NamedRequest<'a>, Refused>
+    pub fn read(alloc: Global, asked: HashedRequest<'a>) -> Result<NamedRequest<'a>, Refused>
         ensures asked { IfOk result (λ named. named.asked ≡ asked.entry) }
     {
         let name = read_name(alloc, named(asked.request.body()))?;

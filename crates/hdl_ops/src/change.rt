@@ -2,22 +2,23 @@
 
 ghost use Rattle.std.specs.Prelude.{◌≡◌, map, OnOk, OnErr};
 ghost use Rattle.hdl_name.specs.Name.{canonical};
-ghost use Rattle.hdl_rows.specs.Table.{indexes, counted};
+ghost use Rattle.hdl_rows.specs.Table.{indexes, refusals_after};
 ghost use Rattle.hdl_rows.specs.Write.{handle_of};
 ghost use Rattle.hdl_ops.specs.Tables.{apply, stamped, write_of, CanApply};
 
+use hdl_limits::Items;
 use hdl_name::Name;
 use hdl_rows::{Refused, Rows};
-use hdl_value::{Listed, Value};
+use hdl_value::Value;
 
 /// One write of the table. A name stands for its canonical form.
 #[derive(Debug, Drop)]
 pub enum Change {
-    Create { name: Name, values: Listed<Value> },
+    Create { name: Name, values: Items<Value> },
     Delete { name: Name },
-    Add { name: Name, values: Listed<Value> },
-    Remove { name: Name, indexes: Listed<u32> },
-    Modify { name: Name, values: Listed<Value> },
+    Add { name: Name, values: Items<Value> },
+    Remove { name: Name, indexes: Items<u32> },
+    Modify { name: Name, values: Items<Value> },
 }
 
 impl Change {
@@ -39,13 +40,13 @@ fn with_moment(mut values: Vec<Value>, moment: u64) -> Vec<Value>
     ensures { result.items ≡ map (stamped moment) values.items }
 {
     for value in values.iter_mut() {
-        value.stamp = moment;
+        value.timestamp = moment;
     }
     values
 }
 
 /// The values with the moment of their write.
-fn stamp(values: Listed<Value>, moment: u64) -> Vec<Value>
+fn stamp(values: Items<Value>, moment: u64) -> Vec<Value>
     ensures stamped { result.items ≡ map (stamped moment) values }
     ensures indexes { indexes result.items ≡ indexes values }
 {
@@ -58,7 +59,7 @@ pub fn apply<R: Rows>(rows: &mut R, change: Change, moment: u64) -> Result<(), R
     requires can_apply { CanApply (R.content rows.old) change }
     ensures done { OnOk result (R.content rows.new ≡ apply (R.content rows.old) moment change) }
     ensures undone { OnErr result (R.content rows.new ≡ R.content rows.old) }
-    ensures count { R.refused rows.new ≡ counted result (R.refused rows.old) }
+    ensures count { R.refused rows.new ≡ refusals_after result (R.refused rows.old) }
 {
     match change {
         Change::Create { name, values } => rows.create(&name, &stamp(values, moment)),

@@ -2,7 +2,7 @@
 
 ghost use Rattle.std.specs.Prelude.{◌≡◌, [], None, if◌then◌else◌, IfOk, IfSome, OnOk, IsTrue};
 ghost use Rattle.hdl_name.specs.Name.{prefix};
-ghost use Rattle.hdl_rows.specs.Table.{counted, names_of, values_of, HaveTheirIndexes, IsCounted};
+ghost use Rattle.hdl_rows.specs.Table.{refusals_after, names_of, values_of, HaveTheirIndexes, AreRefusalsAfter};
 ghost use Rattle.hdl_cache.specs.Truth.{AreTrue};
 ghost use Rattle.hdl_ops.specs.Admission.{refusal};
 ghost use Rattle.hdl_ops.specs.Decisions as decisions;
@@ -15,16 +15,16 @@ ghost use Rattle.hdl_ops.specs.Views.{decision_of, hosted_by, level_of, proof_of
 
 use crate::admit::{Admitted, NamedRequest, admit};
 use crate::anyone::code_for_anyone;
-use crate::decision::{Asked, Decision, Level, Proof, Sight};
+use crate::decision::{Decision, HashedRequest, Level, Proof, Sight};
 use crate::keys::code_for_proof;
 use crate::owner::Owner;
 use crate::requests::is_list;
-use crate::settle::settle;
+use crate::whole_decision::whole_decision;
 use hdl_cache::Masks;
+use hdl_limits::Octets;
 use hdl_msg::Request;
 use hdl_name::Name;
 use hdl_rows::{Refused, Rows};
-use hdl_value::Octets;
 use std::alloc::Global;
 
 /// For a list, the handles of the naming authority.
@@ -36,7 +36,7 @@ fn names<R: Rows>(
 ) -> Result<Vec<Octets>, Refused>
     ensures unchanged { R.content rows.new ≡ R.content rows.old }
     ensures names { IfOk result (λ all. all.items ≡ (if is_list request.now.operation then names_of (R.content rows.old) (prefix name.now) else [])) }
-    ensures count { R.refused rows.new ≡ counted result (R.refused rows.old) }
+    ensures count { R.refused rows.new ≡ refusals_after result (R.refused rows.old) }
 {
     if is_list(request.body()) {
         rows.names(name.prefix())
@@ -57,7 +57,7 @@ fn look<R: Rows>(
     ensures unchanged { R.content rows.new ≡ R.content rows.old }
     ensures sight { IfOk result (λ s. sight_of s ≡ sight (R.content rows.old) request.now) }
     ensures by_index { OnOk result (HaveTheirIndexes (R.content rows.old) (handle_of request.now) (sight (R.content rows.old) request.now).values) }
-    ensures count { R.refused rows.new ≡ counted result (R.refused rows.old) }
+    ensures count { R.refused rows.new ≡ refusals_after result (R.refused rows.old) }
 {
     let found = rows.look(name)?;
     let names = names(alloc, rows, request, name)?;
@@ -78,7 +78,7 @@ fn look<R: Rows>(
 /// The decision about a request that came as it is, and that the tests before the table let pass.
 fn decide_for_anyone<R: Rows>(
     alloc: Global,
-    asked: &Asked<'_>,
+    asked: &HashedRequest<'_>,
     rows: &mut R,
     name: Name,
 ) -> Result<Decision, Refused>
@@ -87,17 +87,17 @@ fn decide_for_anyone<R: Rows>(
     ensures decided { IfOk result (λ d. DecidesBy asked.now.algorithm (R.content rows.old) asked.now.request.now decisions.Anyone None (decision_of d)) }
     ensures carried { IfOk result (λ d. IsTrue (fits asked.now.algorithm asked.now.request.now d.content)) }
     ensures by_index { OnOk result (HaveTheirIndexes (R.content rows.old) (handle_of asked.now.request.now) (sight (R.content rows.old) asked.now.request.now).values) }
-    ensures count { IsCounted result (R.refused rows.old) (R.refused rows.new) }
+    ensures count { AreRefusalsAfter result (R.refused rows.old) (R.refused rows.new) }
 {
     let sight = look(alloc, rows, asked.request, &name)?;
     let code = code_for_anyone(asked.request, &sight);
-    settle(alloc, asked, &Level::Anyone, sight, code, name)
+    whole_decision(alloc, asked, &Level::Anyone, sight, code, name)
 }
 
 /// The decision about a request that came back with a proof.
 fn decide_with_proof<R: Rows>(
     alloc: Global,
-    asked: &Asked<'_>,
+    asked: &HashedRequest<'_>,
     rows: &mut R,
     masks: &mut Masks,
     name: Name,
@@ -110,11 +110,11 @@ fn decide_with_proof<R: Rows>(
     ensures decided { IfOk result (λ d. DecidesBy asked.now.algorithm (R.content rows.old) asked.now.request.now (decisions.Proven (proof_of proof.now)) None (decision_of d)) }
     ensures carried { IfOk result (λ d. IsTrue (fits asked.now.algorithm asked.now.request.now d.content)) }
     ensures by_index { OnOk result (HaveTheirIndexes (R.content rows.old) (handle_of asked.now.request.now) (sight (R.content rows.old) asked.now.request.now).values) }
-    ensures count { IsCounted result (R.refused rows.old) (R.refused rows.new) }
+    ensures count { AreRefusalsAfter result (R.refused rows.old) (R.refused rows.new) }
 {
     let sight = look(alloc, rows, asked.request, &name)?;
     let code = code_for_proof(alloc, rows, masks, asked.request, &sight, &name, proof)?;
-    settle(alloc, asked, &Level::Proven(*proof), sight, code, name)
+    whole_decision(alloc, asked, &Level::Proven(*proof), sight, code, name)
 }
 
 /// The decision about a request on a lane of its owner. The table stays as it is. What is kept is the table's, before and
@@ -135,7 +135,7 @@ pub fn decide<R: Rows>(
     ensures decided { IfOk result (λ d. Decides (hosted_by owner.now) request.entry.asked.algorithm (R.content rows.old) request.entry.asked.request.now (level_of level.now) (decision_of d)) }
     ensures carried { IfOk result (λ d. IsTrue (fits request.entry.asked.algorithm request.entry.asked.request.now d.content)) }
     ensures can_apply { IfOk result (λ d. IfSome d.change (λ change. CanApply (R.content rows.old) change)) }
-    ensures count { IsCounted result (R.refused rows.old) (R.refused rows.new) }
+    ensures count { AreRefusalsAfter result (R.refused rows.old) (R.refused rows.new) }
 {
     let alloc = owner.alloc;
     let asked = request.asked;

@@ -3,12 +3,13 @@
 use crate::change::Change;
 use crate::requests::Response;
 use hdl_auth::algorithm::{Algorithm, Digest};
+use hdl_limits::Octets;
 use hdl_msg::{ReplyContent, Request, ResponseCode};
-use hdl_value::{Octets, Value};
+use hdl_value::Value;
 
 /// A request, and the hash function of its digest: what came, for whoever answers it.
 #[derive(Clone, Copy)]
-pub struct Asked<'a> {
+pub struct HashedRequest<'a> {
     pub algorithm: Algorithm,
     pub request: &'a Request<'a>,
 }

@@ -3,7 +3,7 @@
 ghost use Rattle.std.specs.Prelude.{◌≡◌, Some, option_map, IfOk};
 ghost use Rattle.hdl_name.specs.Name.{canonical, prefix};
 ghost use Rattle.hdl_value.specs.Refs.{place_of};
-ghost use Rattle.hdl_rows.specs.Table.{IsCounted};
+ghost use Rattle.hdl_rows.specs.Table.{AreRefusalsAfter};
 ghost use Rattle.hdl_reach.specs.Views.{mask_of};
 ghost use Rattle.hdl_cache.specs.Truth.{AreTrue};
 ghost use Rattle.hdl_msg.specs.Bodies.{operation_of};
@@ -72,7 +72,7 @@ fn mask_of<R: Rows>(
     ensures unchanged { R.content rows.new ≡ R.content rows.old }
     ensures true_masks { AreTrue (R.content rows.new) masks.new }
     ensures mask { IfOk result (λ mask. MaskOf (R.content rows.old) (target (operation_of body.now)) (Some (place_of key.now)) (mask_of mask)) }
-    ensures count { IsCounted result (R.refused rows.old) (R.refused rows.new) }
+    ensures count { AreRefusalsAfter result (R.refused rows.old) (R.refused rows.new) }
 {
     if !creates(body) {
         return masks.mask(rows, name, key);
@@ -98,7 +98,7 @@ fn code_for_key<R: Rows>(
     ensures unchanged { R.content rows.new ≡ R.content rows.old }
     ensures true_masks { AreTrue (R.content rows.new) masks.new }
     ensures code { IfOk result (λ code. IsCodeForKey (R.content rows.old) (sight_of sight.now) request.now (proof_of proof.now) (response_number code)) }
-    ensures count { IsCounted result (R.refused rows.old) (R.refused rows.new) }
+    ensures count { AreRefusalsAfter result (R.refused rows.old) (R.refused rows.new) }
 {
     let Some(key) = key_of(alloc, proof)? else {
         return Ok(ResponseCode::NotAuthorized);
@@ -126,7 +126,7 @@ pub(crate) fn code_for_proof<R: Rows>(
     ensures unchanged { R.content rows.new ≡ R.content rows.old }
     ensures true_masks { AreTrue (R.content rows.new) masks.new }
     ensures code { IfOk result (λ code. IsCodeForProof (R.content rows.old) request.now (proof_of proof.now) (response_number code)) }
-    ensures count { IsCounted result (R.refused rows.old) (R.refused rows.new) }
+    ensures count { AreRefusalsAfter result (R.refused rows.old) (R.refused rows.new) }
 {
     match code_before_key(request, sight, proof) {
         Some(code) => Ok(code),

@@ -25,14 +25,14 @@ mod permitted;
 mod proven;
 mod rendering;
 mod requests;
-mod settle;
 mod sights;
+mod whole_decision;
 mod written;
 
 pub use admit::NamedRequest;
 pub use change::{Change, apply};
 pub use deciding::decide;
-pub use decision::{Asked, Decision, Level, Proof};
+pub use decision::{Decision, HashedRequest, Level, Proof};
 pub use hdl_cache::Masks;
 pub use hdl_msg::{Request, read_request};
 pub use hdl_rows::{Refused, Rows};

@@ -6,7 +6,7 @@ ghost use Rattle.hdl_msg.specs.Reply.{digest_octets, reply_octets};
 ghost use Rattle.hdl_msg.specs.ReplyView.{reply_parts, IsAnnounced, IsReplyFrame};
 ghost use Rattle.hdl_ops.specs.Replies.{digest_of, asked_digest, reply_to, challenge_to, fits};
 
-use crate::decision::Asked;
+use crate::decision::HashedRequest;
 use crate::requests::wants_digest;
 use hdl_auth::algorithm::Digest;
 use hdl_auth::digest;
@@ -16,7 +16,7 @@ use hdl_msg::{Reply, ReplyContent, ResponseCode, answer_header, reply_len, write
 use std::alloc::{AllocError, Global};
 
 /// The digest of the request, where it asks for it.
-fn asked_digest(asked: &Asked<'_>) -> Option<Digest>
+fn asked_digest(asked: &HashedRequest<'_>) -> Option<Digest>
     ensures { result ≡ asked_digest asked.now.algorithm asked.now.request.now }
 {
     if wants_digest(asked.request) {
@@ -27,7 +27,7 @@ fn asked_digest(asked: &Asked<'_>) -> Option<Digest>
 }
 
 /// How many octets of a reply's message are those of the digest and of the octet before it. No digest is made to know it.
-fn digest_room(asked: &Asked<'_>) -> usize
+fn digest_room(asked: &HashedRequest<'_>) -> usize
     ensures room { result ≡ length (digest_octets (asked_digest asked.now.algorithm asked.now.request.now)) }
     ensures short { result ≤ 33 }
 {
@@ -40,7 +40,7 @@ fn digest_room(asked: &Asked<'_>) -> usize
 
 /// The content, if the message of a reply with it isn't too long.
 #[tactic(auto, unfolding(crate::specs::Replies::fits))]
-pub(crate) fn fitting(asked: &Asked<'_>, content: ReplyContent) -> Option<ReplyContent>
+pub(crate) fn fitting(asked: &HashedRequest<'_>, content: ReplyContent) -> Option<ReplyContent>
     ensures { result ≡ (if fits asked.now.algorithm asked.now.request.now content then Some content else None) }
 {
     let reply = Reply {
@@ -61,7 +61,7 @@ pub(crate) fn fitting(asked: &Asked<'_>, content: ReplyContent) -> Option<ReplyC
 #[tactic(auto, unfolding(crate::specs::Replies::reply_to))]
 pub fn render(
     alloc: Global,
-    asked: &Asked<'_>,
+    asked: &HashedRequest<'_>,
     envelope: &Envelope,
     code: ResponseCode,
     content: ReplyContent,
@@ -84,7 +84,7 @@ pub fn render(
 #[tactic(auto, unfolding(crate::specs::Replies::challenge_to))]
 pub fn render_challenge(
     alloc: Global,
-    asked: &Asked<'_>,
+    asked: &HashedRequest<'_>,
     envelope: &Envelope,
     nonce: &[u8; 16],
 ) -> Result<(Vec<u8>, Digest), AllocError>

@@ -8,9 +8,9 @@ use std::test::Fail;
 const NONCE: [u8; 16] = [0, 1, 2, 3, 4, 5, 6, 7, 8, 9, 10, 11, 12, 13, 14, 15];
 
 /// Appends a public value of type X whose data is so many letters, in hexadecimal digits.
-fn push_value(text: &mut String, head: &str, letters: usize) -> Result<(), Fail> {
+fn push_value(text: &mut String, head: &str, datagrams: usize) -> Result<(), Fail> {
     text.push_str(head)?;
-    for _ in 0..letters {
+    for _ in 0..datagrams {
         text.push_str("61")?;
     }
     text.push_str("000000000002000000000000000000000000")?;
@@ -18,14 +18,14 @@ fn push_value(text: &mut String, head: &str, letters: usize) -> Result<(), Fail>
 }
 
 /// A script that asks for two values, the second with this head and so many letters.
-fn two_values(rt: &HostRuntime, head: &str, letters: usize) -> Result<String, Fail> {
+fn two_values(rt: &HostRuntime, head: &str, datagrams: usize) -> Result<String, Fail> {
     let mut script = behind_tenants(rt, "value 10/a ")?;
     push_value(&mut script, "00000001000000015800008000", 32768)?;
     script.push_str(
         "\n\
          value 10/a ",
     )?;
-    push_value(&mut script, head, letters)?;
+    push_value(&mut script, head, datagrams)?;
     script.push_str(
         "\n\
          run\n\

@@ -6,8 +6,9 @@ use crate::assertion::same;
 use crate::rows::{each_call, lists};
 use crate::values::great;
 use crate::writes::{add, create, delete, modify, reference, remove};
+use hdl_limits::Octets;
 use hdl_name::Name;
-use hdl_rows::{Octets, PlainRows, Rows};
+use hdl_rows::{PlainRows, Rows};
 use hdl_sqlrows::SqlRows;
 use hdl_value::{RawRef, RawRefs, Reference, Value};
 use std::alloc::{AllocError, Global};
@@ -37,9 +38,9 @@ fn least(alloc: Global, index: u32) -> Result<Value, AllocError>
         kind: octets(alloc, b"")?,
         bytes: octets(alloc, b"")?,
         ttl: [0; 5],
-        perm: 0,
-        stamp: 0,
-        refs: RawRefs::new(Vec::new(alloc)),
+        permissions: 0,
+        timestamp: 0,
+        references: RawRefs::new(Vec::new(alloc)),
     })
 }
 
@@ -49,9 +50,9 @@ fn are_one(a: &Value, b: &Value) -> bool {
         && a.kind.as_slice() == b.kind.as_slice()
         && a.bytes.as_slice() == b.bytes.as_slice()
         && a.ttl == b.ttl
-        && a.perm == b.perm
-        && a.stamp == b.stamp
-        && are_same_refs(a.refs.as_slice(), b.refs.as_slice())
+        && a.permissions == b.permissions
+        && a.timestamp == b.timestamp
+        && are_same_refs(a.references.as_slice(), b.references.as_slice())
 }
 
 fn are_same_refs(a: &[RawRef], b: &[RawRef]) -> bool {

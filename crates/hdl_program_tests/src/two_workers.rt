@@ -9,7 +9,8 @@ use crate::sockets::{FRAME, REPLY, TENANTS};
 use hdl_core::{Service, Tenants};
 use hdl_rows::PlainRows;
 use hdl_serve::{
-    Clock, Door, DoorFault, Far, LaneEnds, MemoryDoor, MemoryNonces, lanes_of, serve, stream_worker,
+    Clock, Door, DoorFault, LaneEnds, MemoryDoor, MemoryNonces, WorkerSide, lanes_of, serve,
+    stream_worker,
 };
 use std::alloc::{AllocError, Global};
 use std::collections::VecDeque;
@@ -44,7 +45,7 @@ impl<D: Door> Door for Paired<D> {
     ghost use Rattle.std.specs.Prelude.{false, []};
     ghost use Rattle.hdl_workers.specs.Door.{fresh};
 
-    ghost tells = { false };
+    ghost is_observed = { false };
 
     ghost ended = { λ _. [] };
 
@@ -93,7 +94,7 @@ struct Sleeping<R> {
 impl<R: std::rt::Clock> Clock for Sleeping<R> {
     ghost use Rattle.std.specs.Prelude.{false, []};
 
-    ghost tells = { false };
+    ghost is_observed = { false };
 
     ghost answers = { λ _. [] };
 
@@ -134,10 +135,10 @@ fn door_of(
 fn start<R: Threads + std::rt::Clock + Copy + Send + Drop + 'static>(
     rt: &R,
     alloc: Global,
-    far: Far,
+    far: WorkerSide,
     door: Paired<MemoryDoor>,
 ) -> Result<JoinHandle<Paired<MemoryDoor>>, AllocError> {
-    let Far { inlet, outcomes } = far;
+    let WorkerSide { inlet, outcomes } = far;
     let mut clock = Sleeping {
         rt: *rt,
         left: Arc::try_clone(&door.left)?,
@@ -173,7 +174,7 @@ fn start<R: Threads + std::rt::Clock + Copy + Send + Drop + 'static>(
 fn start_both<R: Threads + std::rt::Clock + Copy + Send + Drop + 'static>(
     rt: &R,
     alloc: Global,
-    far: Vec<Far>,
+    far: Vec<WorkerSide>,
     left: &Count,
 ) -> Result<Vec<JoinHandle<Paired<MemoryDoor>>>, Fail> {
     let mut written = Arc::new(alloc, AtomicU64::new(0))?;

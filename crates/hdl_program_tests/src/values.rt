@@ -2,7 +2,8 @@
 
 ghost use Rattle.std.specs.Prelude.{◌≡◌, IfOk};
 
-use hdl_value::{Octets, RawRef, RawRefs, Value};
+use hdl_limits::Octets;
+use hdl_value::{RawRef, RawRefs, Value};
 use std::alloc::{AllocError, Global};
 
 /// A value whose fields are all great, with this index and this data.
@@ -21,8 +22,8 @@ pub fn great(alloc: Global, index: u32, bytes: &[u8]) -> Result<Value, AllocErro
         kind: Octets::new(Vec::from_slice(alloc, &[255; 255])?),
         bytes: Octets::new(Vec::from_slice(alloc, bytes)?),
         ttl: [255, 0, 1, 2, 254],
-        perm: 255,
-        stamp: u64::MAX,
-        refs: RawRefs::new(refs),
+        permissions: 255,
+        timestamp: u64::MAX,
+        references: RawRefs::new(refs),
     })
 }

@@ -88,15 +88,15 @@ written_none : (written : Option (List ℕ)) → has_float (written_json written
 written_none None = refl
 written_none (Some words) = refl
 
-written_put_none : (stamp : ℕ) (written : Option (List ℕ)) (ms : Members) → members_have_float ms ≡ false → members_have_float (put_written stamp written ms) ≡ false
-written_put_none stamp written ms h =
-    cond_both (stamp == 0) ms (put (codes "timestamp") (written_json written) ms) (λ m. members_have_float m ≡ false)
+written_put_none : (timestamp : ℕ) (written : Option (List ℕ)) (ms : Members) → members_have_float ms ≡ false → members_have_float (put_written timestamp written ms) ≡ false
+written_put_none timestamp written ms h =
+    cond_both (timestamp == 0) ms (put (codes "timestamp") (written_json written) ms) (λ m. members_have_float m ≡ false)
     (λ _. h) (λ _. put_none (codes "timestamp") (written_json written) ms (written_none written) h)
 
 permissions_none : (v : Value) (ms : Members) → members_have_float ms ≡ false → members_have_float (put_permissions v ms) ≡ false
 permissions_none v ms h =
-    let digits = string (value_digits v.perm) in
-    cond_both (v.perm == usual_permissions v.kind) ms (put (codes "permissions") digits ms) (λ m. members_have_float m ≡ false)
+    let digits = string (value_digits v.permissions) in
+    cond_both (v.permissions == usual_permissions v.kind) ms (put (codes "permissions") digits ms) (λ m. members_have_float m ≡ false)
     (λ _. h) (λ _. put_none (codes "permissions") digits ms refl h)
 
 value_none : (v : Value) (kept : KeptFor) (written : Option (List ℕ)) → has_float (value_json v kept written) ≡ false
@@ -106,8 +106,8 @@ value_none v kept written =
     let kind = put_text (codes "type") v.kind index in
     let told = put (codes "data") (data_json v) kind in
     let ttl = put (codes "ttl") (kept_json kept) told in
-    permissions_none v (put_written v.stamp written ttl)
-    (written_put_none v.stamp written ttl
+    permissions_none v (put_written v.timestamp written ttl)
+    (written_put_none v.timestamp written ttl
     (put_none (codes "ttl") (kept_json kept) told (kept_none kept)
     (put_none (codes "data") (data_json v) kind (data_none v)
     (put_none (codes "type") (string (text_of v.kind)) index refl

@@ -71,15 +71,15 @@ written_json (Some words) = string words
 
 -- when it was written; a timestamp of 0 says nothing
 abbrev pub put_written : ℕ → Option (List ℕ) → Members → Members
-put_written stamp written members = if stamp == 0 then members else put (codes "timestamp") (written_json written) members
+put_written timestamp written members = if timestamp == 0 then members else put (codes "timestamp") (written_json written) members
 
 -- the permissions, where they aren't the usual ones of the type
 abbrev pub put_permissions : Value → Members → Members
-put_permissions v members = if v.perm == usual_permissions v.kind then members else put (codes "permissions") (string (value_digits v.perm)) members
+put_permissions v members = if v.permissions == usual_permissions v.kind then members else put (codes "permissions") (string (value_digits v.permissions)) members
 
 unfoldable pub value_json : Value → KeptFor → Option (List ℕ) → Data
 value_json v kept written =
-    object (put_permissions v (put_written v.stamp written
+    object (put_permissions v (put_written v.timestamp written
     (put (codes "ttl") (kept_json kept)
     (put (codes "data") (data_json v)
     (put_text (codes "type") v.kind

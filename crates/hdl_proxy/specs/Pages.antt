@@ -107,15 +107,15 @@ kept_part (Until words) = codes "until " ++ escaped (string_bytes words)
 
 -- a timestamp of 0 says nothing
 abbrev pub written_part : ℕ → Option (List ℕ) → List ℕ
-written_part stamp None = []
-written_part stamp (Some words) = if stamp == 0 then [] else codes "<br>written " ++ escaped words
+written_part timestamp None = []
+written_part timestamp (Some words) = if timestamp == 0 then [] else codes "<br>written " ++ escaped words
 
 abbrev pub times_part : ℕ → KeptFor → Option (List ℕ) → List ℕ
-times_part stamp kept written = codes "</td>\n<td>" ++ (kept_part kept ++ (written_part stamp written ++ codes "</td></tr>\n"))
+times_part timestamp kept written = codes "</td>\n<td>" ++ (kept_part kept ++ (written_part timestamp written ++ codes "</td></tr>\n"))
 
 abbrev pub IsTimesPart : Value → List ℕ → Type 0
 IsTimesPart v part =
-    (kept : KeptFor) × (written : Option (List ℕ)) × IsKeptFor v kept × IsWritten v written × (part ≡ times_part v.stamp kept written)
+    (kept : KeptFor) × (written : Option (List ℕ)) × IsKeptFor v kept × IsWritten v written × (part ≡ times_part v.timestamp kept written)
 
 -- ---- a value, and all of them
 

@@ -44,7 +44,7 @@ IsMomentText nanoseconds words =
 
 -- the words are when the value was written, by its timestamp in milliseconds; there are none where the calendar hasn't that moment
 abbrev pub written_at : Value → ℤ
-written_at v = pos (v.stamp * 1_000_000)
+written_at v = pos (v.timestamp * 1_000_000)
 
 abbrev pub IsWritten : Value → Option (List ℕ) → Type 0
 IsWritten v None = ¬ IsTimestampNanos (written_at v)
@@ -64,13 +64,13 @@ IsKeptFor v (Until words) = (ttl_kind v ≡ 1) × IsMomentText (pos (ttl_seconds
 -- ---- spans
 
 -- so many of a unit
-abbrev pub counted : ℕ → List ℕ → List ℕ → List ℕ
-counted n one many = if n == 1 then one else decimal n ++ many
+abbrev pub count_phrase : ℕ → List ℕ → List ℕ → List ℕ
+count_phrase n one many = if n == 1 then one else decimal n ++ many
 
 -- so many seconds, by the largest unit of which they are some
 abbrev pub span_words : ℕ → List ℕ
 span_words n =
-    if n % 86_400 == 0 then counted (n / 86_400) (codes "a day") (codes " days")
-    else if n % 3_600 == 0 then counted (n / 3_600) (codes "an hour") (codes " hours")
-    else if n % 60 == 0 then counted (n / 60) (codes "a minute") (codes " minutes")
-    else counted n (codes "a second") (codes " seconds")
+    if n % 86_400 == 0 then count_phrase (n / 86_400) (codes "a day") (codes " days")
+    else if n % 3_600 == 0 then count_phrase (n / 3_600) (codes "an hour") (codes " hours")
+    else if n % 60 == 0 then count_phrase (n / 60) (codes "a minute") (codes " minutes")
+    else count_phrase n (codes "a second") (codes " seconds")

@@ -210,12 +210,12 @@ fn written_json(written: Option<String>) -> Json
 fn put_written(
     alloc: Global,
     object: &mut Map<String, Json>,
-    stamp: u64,
+    timestamp: u64,
     written: Option<String>,
 ) -> Result<(), AllocError>
-    ensures { OnOk result (members_view object.new.entries ≡ put_written stamp (option_map string_bytes written) (members_view object.old.entries)) }
+    ensures { OnOk result (members_view object.new.entries ≡ put_written timestamp (option_map string_bytes written) (members_view object.old.entries)) }
 {
-    if stamp == 0 {
+    if timestamp == 0 {
         return Ok(());
     }
     put(object, alloc, "timestamp", written_json(written))
@@ -229,10 +229,10 @@ fn put_permissions(
 ) -> Result<(), AllocError>
     ensures { OnOk result (members_view object.new.entries ≡ put_permissions value.now (members_view object.old.entries)) }
 {
-    if value.perm == usual_permissions(value.kind.as_slice()) {
+    if value.permissions == usual_permissions(value.kind.as_slice()) {
         return Ok(());
     }
-    let digits = value_digits(alloc, value.perm)?;
+    let digits = value_digits(alloc, value.permissions)?;
     put(object, alloc, "permissions", Json::from(digits))
 }
 
@@ -247,7 +247,7 @@ fn value_json(alloc: Global, value: &Value) -> Result<Json, AllocError>
     put_text(alloc, &mut object, "type", value.kind.as_slice())?;
     put(&mut object, alloc, "data", data_json(alloc, value)?)?;
     put(&mut object, alloc, "ttl", kept_json(kept))?;
-    put_written(alloc, &mut object, value.stamp, written)?;
+    put_written(alloc, &mut object, value.timestamp, written)?;
     put_permissions(alloc, &mut object, value)?;
     Ok(Json::from(object))
 }

@@ -398,13 +398,13 @@ fn put_kept(page: &mut Page, kept: KeptFor) -> Result<(), AllocError>
 }
 
 /// When a value was written. A timestamp of 0 says nothing.
-fn put_written(page: &mut Page, stamp: u64, written: Option<String>) -> Result<(), AllocError>
-    ensures { OnOk result (page.new.octets.items ≡ page.old.octets.items ++ written_part stamp (option_map string_bytes written)) }
+fn put_written(page: &mut Page, timestamp: u64, written: Option<String>) -> Result<(), AllocError>
+    ensures { OnOk result (page.new.octets.items ≡ page.old.octets.items ++ written_part timestamp (option_map string_bytes written)) }
 {
     let Some(moment) = written else {
         return Ok(());
     };
-    if stamp == 0 {
+    if timestamp == 0 {
         return Ok(());
     }
     page.markup("<br>written ")?;
@@ -418,7 +418,7 @@ fn put_times(page: &mut Page, value: &Value) -> Result<(), AllocError>
     let written = written_words(page.alloc, value)?;
     page.markup("</td>\n<td>")?;
     put_kept(page, kept)?;
-    put_written(page, value.stamp, written)?;
+    put_written(page, value.timestamp, written)?;
     page.markup("</td></tr>\n")
 }
 

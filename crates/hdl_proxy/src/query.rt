@@ -3,7 +3,7 @@
 ghost use Rattle.std.specs.Prelude.{◌≡◌, IfOk, codes, map, option_map, option_copied, string_bytes};
 ghost use Rattle.hdl_proxy.specs.Query.{AreIndexes, IsAppended, IsLast, IsLocatt, has_pair, pairs_of, texts_of, values_named};
 
-use hdl_name::Octets;
+use hdl_limits::Octets;
 use std::alloc::{AllocError, Global};
 
 /// A name and its value, as the query means them.

@@ -8,9 +8,9 @@ ghost use Rattle.hdl_msg.specs.declared.codes.OpFlag.TheVariants.{PublicOnly};
 ghost use Rattle.hdl_proxy.specs.Question.{AsksInPublic, IsTooLong};
 
 use crate::answer::Keeping;
-use hdl_limits::MESSAGE_MAX;
+use hdl_limits::{Items, MESSAGE_MAX, Octets};
 use hdl_msg::{Header, OpCode, OpFlag, RequestBody, request_len, write_request};
-use hdl_name::{Listed, Name, Octets};
+use hdl_name::Name;
 use std::alloc::{AllocError, Global};
 
 /// In which form a handle is answered.
@@ -76,8 +76,8 @@ impl Question {
         ensures { IfOk result (λ body. requested body ≡ resolution self.now.name self.now.indexes.items self.now.types.items) }
     {
         let handle = Octets::new(Vec::from_slice(alloc, self.name.sent())?);
-        let indexes = Listed::new(Vec::from_slice(alloc, &self.indexes)?);
-        let types = Listed::new(copies(alloc, &self.types)?);
+        let indexes = Items::new(Vec::from_slice(alloc, &self.indexes)?);
+        let types = Items::new(copies(alloc, &self.types)?);
         Ok(RequestBody::Resolution {
             handle,
             indexes,

@@ -2,7 +2,7 @@
 
 ghost use Rattle.std.specs.Prelude.{◌≡◌, ◌+◌, ◌<◌, ◌++◌, IfOk, OnOk, option_map, string_bytes};
 ghost use Rattle.hdl_value.specs.Permission.{bits};
-ghost use Rattle.hdl_proxy.specs.Words.{counted, span_words, permission_digits, value_digits, usual_permissions, IsMomentText, IsKeptFor, IsWritten};
+ghost use Rattle.hdl_proxy.specs.Words.{count_phrase, span_words, permission_digits, value_digits, usual_permissions, IsMomentText, IsKeptFor, IsWritten};
 
 use hdl_value::{AdminMask, HS_SECKEY, Value};
 use jiff_core::Timestamp;
@@ -44,14 +44,14 @@ pub(crate) fn permission_digits(alloc: Global, mask: AdminMask) -> Result<String
 }
 
 /// The permissions of a value as four digits: administrator reads, administrator writes, anybody reads, anybody writes.
-pub(crate) fn value_digits(alloc: Global, perm: u8) -> Result<String, AllocError>
-    ensures { IfOk result (λ digits. string_bytes digits ≡ value_digits perm) }
+pub(crate) fn value_digits(alloc: Global, permissions: u8) -> Result<String, AllocError>
+    ensures { IfOk result (λ digits. string_bytes digits ≡ value_digits permissions) }
 {
     let mut digits = String::new(alloc);
-    digits.push(digit(u16::from(perm / 8 % 2)))?;
-    digits.push(digit(u16::from(perm / 4 % 2)))?;
-    digits.push(digit(u16::from(perm / 2 % 2)))?;
-    digits.push(digit(u16::from(perm % 2)))?;
+    digits.push(digit(u16::from(permissions / 8 % 2)))?;
+    digits.push(digit(u16::from(permissions / 4 % 2)))?;
+    digits.push(digit(u16::from(permissions / 2 % 2)))?;
+    digits.push(digit(u16::from(permissions % 2)))?;
     Ok(digits)
 }
 
@@ -79,7 +79,7 @@ fn moment_words(alloc: Global, moment: Timestamp) -> Result<String, AllocError>
 pub(crate) fn written_words(alloc: Global, value: &Value) -> Result<Option<String>, AllocError>
     ensures { IfOk result (λ o. IsWritten value.now (option_map string_bytes o)) }
 {
-    let nanoseconds = i128::from(value.stamp) * 1_000_000;
+    let nanoseconds = i128::from(value.timestamp) * 1_000_000;
     match Timestamp::from_nanosecond(nanoseconds) {
         Ok(moment) => Ok(Some(moment_words(alloc, moment)?)),
         Err(_) => Ok(None),
@@ -109,8 +109,8 @@ pub(crate) fn kept_for(alloc: Global, value: &Value) -> Result<KeptFor, AllocErr
 }
 
 /// So many of a unit.
-fn counted(alloc: Global, number: u32, one: &str, many: &str) -> Result<String, AllocError>
-    ensures { IfOk result (λ words. string_bytes words ≡ counted number one.now many.now) }
+fn count_phrase(alloc: Global, number: u32, one: &str, many: &str) -> Result<String, AllocError>
+    ensures { IfOk result (λ words. string_bytes words ≡ count_phrase number one.now many.now) }
 {
     if number == 1 {
         return String::from_str(alloc, one);
@@ -125,13 +125,13 @@ pub(crate) fn span_words(alloc: Global, seconds: u32) -> Result<String, AllocErr
     ensures { IfOk result (λ words. string_bytes words ≡ span_words seconds) }
 {
     if seconds % 86_400 == 0 {
-        return counted(alloc, seconds / 86_400, "a day", " days");
+        return count_phrase(alloc, seconds / 86_400, "a day", " days");
     }
     if seconds % 3_600 == 0 {
-        return counted(alloc, seconds / 3_600, "an hour", " hours");
+        return count_phrase(alloc, seconds / 3_600, "an hour", " hours");
     }
     if seconds % 60 == 0 {
-        return counted(alloc, seconds / 60, "a minute", " minutes");
+        return count_phrase(alloc, seconds / 60, "a minute", " minutes");
     }
-    counted(alloc, seconds, "a second", " seconds")
+    count_phrase(alloc, seconds, "a second", " seconds")
 }

@@ -2,7 +2,7 @@
 
 ghost use Rattle.std.specs.Prelude.{◌≡◌, filter, IfOk};
 ghost use Rattle.hdl_value.specs.Refs.{listed, refers, place_of};
-ghost use Rattle.hdl_rows.specs.Table.{IsCounted};
+ghost use Rattle.hdl_rows.specs.Table.{AreRefusalsAfter};
 ghost use Rattle.hdl_reach.specs.Reach.{lists};
 ghost use Rattle.hdl_reach.specs.Seen.{places};
 
@@ -41,7 +41,7 @@ pub(crate) fn list_at<R: Rows>(
 ) -> Result<Vec<Reference>, Refused>
     ensures unchanged { R.content rows.new ≡ R.content rows.old }
     ensures found { IfOk result (λ all. places all.items ≡ lists (R.content rows.old) (place_of here.now)) }
-    ensures count { IsCounted result (R.refused rows.old) (R.refused rows.new) }
+    ensures count { AreRefusalsAfter result (R.refused rows.old) (R.refused rows.new) }
 {
     let Some(value) = rows.at(here)? else {
         return Ok(Vec::new(alloc));

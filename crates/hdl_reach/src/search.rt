@@ -5,7 +5,7 @@ ghost use Rattle.std.specs.Bool.{Decides};
 ghost use Rattle.hdl_name.specs.Name.{canonical};
 ghost use Rattle.hdl_value.specs.Place.{Place};
 ghost use Rattle.hdl_value.specs.Refs.{place_of};
-ghost use Rattle.hdl_rows.specs.Table.{Table, values_of, IsCounted};
+ghost use Rattle.hdl_rows.specs.Table.{Table, values_of, AreRefusalsAfter};
 ghost use Rattle.hdl_reach.specs.Reach.{is_among, IsMask};
 ghost use Rattle.hdl_reach.specs.Seen.{places, AreKept, Extends};
 ghost use Rattle.hdl_reach.specs.Sources.{sources_of};
@@ -85,7 +85,7 @@ impl Search {
     pub fn begin<R: Rows>(alloc: Global, rows: &mut R, name: &Name) -> Result<Search, Refused>
         ensures unchanged { R.content rows.new ≡ R.content rows.old }
         ensures begun { IfOk result (λ search. IsSearch (R.content rows.old) search × (handle_of search ≡ canonical name.now)) }
-        ensures count { IsCounted result (R.refused rows.old) (R.refused rows.new) }
+        ensures count { AreRefusalsAfter result (R.refused rows.old) (R.refused rows.new) }
     {
         let values = rows.values(name)?;
         Ok(search_from(alloc, name, &values)?)
@@ -130,7 +130,7 @@ impl Search {
         requires more { IsDone self.old → ⊥ }
         ensures unchanged { R.content rows.new ≡ R.content rows.old }
         ensures search { OnOk result (IsSearch (R.content rows.old) self.new × (handle_of self.new ≡ handle_of self.old)) }
-        ensures count { IsCounted result (R.refused rows.old) (R.refused rows.new) }
+        ensures count { AreRefusalsAfter result (R.refused rows.old) (R.refused rows.new) }
     {
         let here = &self.seen.references[self.passed];
         let listed = list_at(alloc, rows, here)?;
@@ -154,7 +154,7 @@ impl Search {
         requires search { IsSearch (R.content rows.old) self }
         ensures unchanged { R.content rows.new ≡ R.content rows.old }
         ensures search { IfOk result (λ search. IsSearch (R.content rows.old) search × (handle_of search ≡ handle_of self)) }
-        ensures count { IsCounted result (R.refused rows.old) (R.refused rows.new) }
+        ensures count { AreRefusalsAfter result (R.refused rows.old) (R.refused rows.new) }
     {
         let most_seen = self.references().saturating_add(most);
         for _ in 0..most {

@@ -1,5 +1,5 @@
 -- What is kept of replies, put and found.
-use Rattle.std.proofs.Common.{◌≡◌, ◌<◌, ◌⊎◌, ℕ, Vec, List, Option, Some, Result, Ok, Err, OnOk, OnErr, IfOk, IfSome, inl, inr, sym, subst, ◌∙◌}
+use Rattle.std.proofs.Common.{◌≡◌, ◌<◌, ℕ, Vec, List, Option, Some, Result, Ok, Err, OnOk, OnErr, IfOk, IfSome, inl, inr, sym, subst, ◌∙◌}
 use Rattle.std.specs.declared.alloc.Global.{Global}
 use Rattle.std.specs.Result.{result_ok}
 use Rattle.std.specs.Map.{lookup}

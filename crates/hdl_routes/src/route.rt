@@ -5,7 +5,8 @@ ghost use Rattle.std.specs.List.{before_first};
 ghost use Rattle.hdl_routes.specs.Route.{IsPrefix, is_equals};
 
 use crate::fault::RouteFault;
-use hdl_name::{Octets, is_authority};
+use hdl_limits::Octets;
+use hdl_name::is_authority;
 use std::alloc::{AllocError, Global};
 
 /// The authority of administrative handles, which are of the prefix that they name.

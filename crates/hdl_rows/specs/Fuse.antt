@@ -1,6 +1,6 @@
 -- Which calls a fuse refuses.
 use Rattle.std.specs.Prelude.{◌≡◌, ℕ, ◌+◌, min, Bool, true, false, ◌&&◌, nat_le, if◌then◌else◌, Result, IsErr}
-use Rattle.hdl_rows.specs.Table.{most, counted}
+use Rattle.hdl_rows.specs.Table.{most, refusals_after}
 use Rattle.hdl_rows.specs.declared.fuse.Wire.{Wire}
 use Rattle.hdl_rows.specs.declared.fuse.Fuse.{Fuse}
 
@@ -33,4 +33,4 @@ Blows old new result = is_blown (wire_of old) ≡ true → IsErr result × (inne
 
 -- Any other is the inner table's to answer or to refuse.
 abbrev pub Passes : {R X E : Type 0} → (R → ℕ) → Fuse R → Fuse R → Result X E → Type 0
-Passes refused old new result = is_blown (wire_of old) ≡ false → refused (inner_of new) ≡ counted result (refused (inner_of old))
+Passes refused old new result = is_blown (wire_of old) ≡ false → refused (inner_of new) ≡ refusals_after result (refused (inner_of old))

@@ -108,13 +108,13 @@ abbrev pub most : ℕ
 most = 2 ^ 64 - 1
 
 -- a call that is refused raises the count by one, up to the greatest
-abbrev pub counted : {X E : Type 0} → Result X E → ℕ → ℕ
-counted (Ok x) n = n
-counted (Err e) n = min (n + 1) most
+abbrev pub refusals_after : {X E : Type 0} → Result X E → ℕ → ℕ
+refusals_after (Ok x) n = n
+refusals_after (Err e) n = min (n + 1) most
 
 -- The count after several looks: as it was where all answered; else one look was refused, or memory for the answer was, which no table counts.
-abbrev pub IsCounted : {X E : Type 0} → Result X E → ℕ → ℕ → Type 0
-IsCounted result old new = OnOk result (new ≡ old) × OnErr result ((new ≡ old) ⊎ (new ≡ min (old + 1) most))
+abbrev pub AreRefusalsAfter : {X E : Type 0} → Result X E → ℕ → ℕ → Type 0
+AreRefusalsAfter result old new = OnOk result (new ≡ old) × OnErr result ((new ≡ old) ⊎ (new ≡ min (old + 1) most))
 
 -- ---- what a contract sees of an implementation: what it holds, and how many calls were refused
 

@@ -3,11 +3,12 @@
 ghost use Rattle.std.specs.Prelude.{◌≡◌, ◌+◌, min, map, true, false, is_some, IfOk, OnOk, OnErr};
 ghost use Rattle.hdl_name.specs.Name.{canonical};
 ghost use Rattle.hdl_value.specs.Refs.{place_of};
-ghost use Rattle.hdl_rows.specs.Table.{most, counted, has, at, values_of, values_in, names_of, HaveTheirIndexes, created, with_values, without_values, without_handle, AreDistinct, AreAbsent, ArePresent, indexes};
+ghost use Rattle.hdl_rows.specs.Table.{most, refusals_after, has, at, values_of, values_in, names_of, HaveTheirIndexes, created, with_values, without_values, without_handle, AreDistinct, AreAbsent, ArePresent, indexes};
 
 use crate::rows::{Refused, Rows};
+use hdl_limits::Octets;
 use hdl_name::Name;
-use hdl_value::{Octets, Reference, Value};
+use hdl_value::{Reference, Value};
 
 /// Which calls are refused, and what came so far.
 #[derive(Clone, Copy, Drop)]
@@ -24,7 +25,7 @@ impl Wire {
     /// Counts a call, and tells whether it is refused.
     fn blows(&mut self) -> bool
         ensures refused { result ≡ is_blown self.old }
-        ensures counted { self.new ≡ after_call self.old }
+        ensures refusals_after { self.new ≡ after_call self.old }
     {
         self.calls = self.calls.saturating_add(1);
         let refused = self.first <= self.calls && self.calls <= self.last;
@@ -74,7 +75,7 @@ impl<R: Rows> Rows for Fuse<R> {
     fn exists(&mut self, name: &Name) -> Result<bool, Refused>
         ensures found { IfOk result (λ is. is ≡ has (R.content (inner_of self.old)) (canonical name.now)) }
         ensures unchanged { R.content (inner_of self.new) ≡ R.content (inner_of self.old) }
-        ensures count { refusals_of R.refused self.new ≡ counted result (refusals_of R.refused self.old) }
+        ensures count { refusals_of R.refused self.new ≡ refusals_after result (refusals_of R.refused self.old) }
         ensures wire { wire_of self.new ≡ after_call (wire_of self.old) }
         ensures blown { Blows self.old self.new result }
         ensures passed { Passes R.refused self.old self.new result }
@@ -88,7 +89,7 @@ impl<R: Rows> Rows for Fuse<R> {
     fn at(&mut self, reference: &Reference) -> Result<Option<Value>, Refused>
         ensures found { IfOk result (λ value. value ≡ at (R.content (inner_of self.old)) (place_of reference.now)) }
         ensures unchanged { R.content (inner_of self.new) ≡ R.content (inner_of self.old) }
-        ensures count { refusals_of R.refused self.new ≡ counted result (refusals_of R.refused self.old) }
+        ensures count { refusals_of R.refused self.new ≡ refusals_after result (refusals_of R.refused self.old) }
         ensures wire { wire_of self.new ≡ after_call (wire_of self.old) }
         ensures blown { Blows self.old self.new result }
         ensures passed { Passes R.refused self.old self.new result }
@@ -103,7 +104,7 @@ impl<R: Rows> Rows for Fuse<R> {
         ensures found { IfOk result (λ all. all.items ≡ values_of (R.content (inner_of self.old)) (canonical name.now)) }
         ensures by_index { IfOk result (λ all. HaveTheirIndexes (R.content (inner_of self.old)) (canonical name.now) all.items) }
         ensures unchanged { R.content (inner_of self.new) ≡ R.content (inner_of self.old) }
-        ensures count { refusals_of R.refused self.new ≡ counted result (refusals_of R.refused self.old) }
+        ensures count { refusals_of R.refused self.new ≡ refusals_after result (refusals_of R.refused self.old) }
         ensures wire { wire_of self.new ≡ after_call (wire_of self.old) }
         ensures blown { Blows self.old self.new result }
         ensures passed { Passes R.refused self.old self.new result }
@@ -119,7 +120,7 @@ impl<R: Rows> Rows for Fuse<R> {
         ensures found { IfOk result (λ all. values_in all ≡ values_of (R.content (inner_of self.old)) (canonical name.now)) }
         ensures by_index { IfOk result (λ all. HaveTheirIndexes (R.content (inner_of self.old)) (canonical name.now) (values_in all)) }
         ensures unchanged { R.content (inner_of self.new) ≡ R.content (inner_of self.old) }
-        ensures count { refusals_of R.refused self.new ≡ counted result (refusals_of R.refused self.old) }
+        ensures count { refusals_of R.refused self.new ≡ refusals_after result (refusals_of R.refused self.old) }
         ensures wire { wire_of self.new ≡ after_call (wire_of self.old) }
         ensures blown { Blows self.old self.new result }
         ensures passed { Passes R.refused self.old self.new result }
@@ -133,7 +134,7 @@ impl<R: Rows> Rows for Fuse<R> {
     fn names(&mut self, authority: &[u8]) -> Result<Vec<Octets>, Refused>
         ensures found { IfOk result (λ all. all.items ≡ names_of (R.content (inner_of self.old)) authority.now) }
         ensures unchanged { R.content (inner_of self.new) ≡ R.content (inner_of self.old) }
-        ensures count { refusals_of R.refused self.new ≡ counted result (refusals_of R.refused self.old) }
+        ensures count { refusals_of R.refused self.new ≡ refusals_after result (refusals_of R.refused self.old) }
         ensures wire { wire_of self.new ≡ after_call (wire_of self.old) }
         ensures blown { Blows self.old self.new result }
         ensures passed { Passes R.refused self.old self.new result }
@@ -149,7 +150,7 @@ impl<R: Rows> Rows for Fuse<R> {
         requires distinct { AreDistinct (indexes values.now) }
         ensures done { OnOk result (R.content (inner_of self.new) ≡ created (R.content (inner_of self.old)) (canonical name.now) values.now) }
         ensures undone { OnErr result (R.content (inner_of self.new) ≡ R.content (inner_of self.old)) }
-        ensures count { refusals_of R.refused self.new ≡ counted result (refusals_of R.refused self.old) }
+        ensures count { refusals_of R.refused self.new ≡ refusals_after result (refusals_of R.refused self.old) }
         ensures wire { wire_of self.new ≡ after_call (wire_of self.old) }
         ensures blown { Blows self.old self.new result }
         ensures passed { Passes R.refused self.old self.new result }
@@ -166,7 +167,7 @@ impl<R: Rows> Rows for Fuse<R> {
         requires free { AreAbsent (R.content (inner_of self.old)) (canonical name.now) (indexes values.now) }
         ensures done { OnOk result (R.content (inner_of self.new) ≡ with_values (R.content (inner_of self.old)) (canonical name.now) values.now) }
         ensures undone { OnErr result (R.content (inner_of self.new) ≡ R.content (inner_of self.old)) }
-        ensures count { refusals_of R.refused self.new ≡ counted result (refusals_of R.refused self.old) }
+        ensures count { refusals_of R.refused self.new ≡ refusals_after result (refusals_of R.refused self.old) }
         ensures wire { wire_of self.new ≡ after_call (wire_of self.old) }
         ensures blown { Blows self.old self.new result }
         ensures passed { Passes R.refused self.old self.new result }
@@ -183,7 +184,7 @@ impl<R: Rows> Rows for Fuse<R> {
         requires taken { ArePresent (R.content (inner_of self.old)) (canonical name.now) (indexes values.now) }
         ensures done { OnOk result (R.content (inner_of self.new) ≡ with_values (R.content (inner_of self.old)) (canonical name.now) values.now) }
         ensures undone { OnErr result (R.content (inner_of self.new) ≡ R.content (inner_of self.old)) }
-        ensures count { refusals_of R.refused self.new ≡ counted result (refusals_of R.refused self.old) }
+        ensures count { refusals_of R.refused self.new ≡ refusals_after result (refusals_of R.refused self.old) }
         ensures wire { wire_of self.new ≡ after_call (wire_of self.old) }
         ensures blown { Blows self.old self.new result }
         ensures passed { Passes R.refused self.old self.new result }
@@ -200,7 +201,7 @@ impl<R: Rows> Rows for Fuse<R> {
         requires taken { ArePresent (R.content (inner_of self.old)) (canonical name.now) indexes.now }
         ensures done { OnOk result (R.content (inner_of self.new) ≡ without_values (R.content (inner_of self.old)) (canonical name.now) indexes.now) }
         ensures undone { OnErr result (R.content (inner_of self.new) ≡ R.content (inner_of self.old)) }
-        ensures count { refusals_of R.refused self.new ≡ counted result (refusals_of R.refused self.old) }
+        ensures count { refusals_of R.refused self.new ≡ refusals_after result (refusals_of R.refused self.old) }
         ensures wire { wire_of self.new ≡ after_call (wire_of self.old) }
         ensures blown { Blows self.old self.new result }
         ensures passed { Passes R.refused self.old self.new result }
@@ -215,7 +216,7 @@ impl<R: Rows> Rows for Fuse<R> {
         requires there { has (R.content (inner_of self.old)) (canonical name.now) ≡ true }
         ensures done { OnOk result (R.content (inner_of self.new) ≡ without_handle (R.content (inner_of self.old)) (canonical name.now)) }
         ensures undone { OnErr result (R.content (inner_of self.new) ≡ R.content (inner_of self.old)) }
-        ensures count { refusals_of R.refused self.new ≡ counted result (refusals_of R.refused self.old) }
+        ensures count { refusals_of R.refused self.new ≡ refusals_after result (refusals_of R.refused self.old) }
         ensures wire { wire_of self.new ≡ after_call (wire_of self.old) }
         ensures blown { Blows self.old self.new result }
         ensures passed { Passes R.refused self.old self.new result }

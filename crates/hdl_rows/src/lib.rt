@@ -26,7 +26,6 @@ mod rows;
 mod shelf;
 
 pub use fuse::Fuse;
-pub use hdl_value::Octets;
 pub use plain::PlainRows;
 pub use row::value_with;
 pub use rows::{Refused, Rows};

@@ -1,12 +1,13 @@
 //! A table in memory.
 
 ghost use Rattle.std.specs.Prelude.{◌≡◌, MatchResult, IsErr, Ok, IfOk, option_copied};
-ghost use Rattle.hdl_rows.specs.Table.{no_rows, counted};
+ghost use Rattle.hdl_rows.specs.Table.{no_rows, refusals_after};
 
 use crate::rows::{Refused, Rows};
 use crate::shelf::Shelf;
+use hdl_limits::Octets;
 use hdl_name::Name;
-use hdl_value::{Octets, Reference, Value};
+use hdl_value::{Reference, Value};
 use std::alloc::{AllocError, Global};
 use std::marker::Model;
 
@@ -44,7 +45,7 @@ impl PlainRows {
 
 /// Counts a call that was refused.
 fn tally<T>(refusals: &mut u64, outcome: Result<T, AllocError>) -> Result<T, Refused>
-    ensures count { refusals.new ≡ counted outcome refusals.old }
+    ensures count { refusals.new ≡ refusals_after outcome refusals.old }
     ensures same { MatchResult outcome (λ x. result ≡ Ok x) (λ _. IsErr result) }
 {
     match outcome {

@@ -9,7 +9,8 @@ ghost use Rattle.hdl_rows.specs.Shelf.{by_index, put_all};
 ghost use Rattle.hdl_rows.specs.Table.{no_rows, place, has, at, values_of, values_in, names_of, HaveTheirIndexes, created, with_values, without_values, without_handle};
 
 use crate::row::{copies, put_copies, take_away, value_of};
-use hdl_value::{Octets, Value};
+use hdl_limits::Octets;
+use hdl_value::Value;
 use std::alloc::{AllocError, Global};
 use std::collections::BTreeMap;
 use std::marker::Model;

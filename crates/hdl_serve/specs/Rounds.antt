@@ -1,7 +1,7 @@
 -- What one round does, lane by lane, by the lanes' places.
 use Rattle.std.specs.Prelude.{◌≡◌, ◌<◌, ℕ, Bool, true, false, List, [], ◌∷◌, ◌++◌, All, length, get_or, map}
 use Rattle.hdl_lanes.specs.Lane.{put_into, taken_from, SameInlet, SameOutlet}
-use Rattle.hdl_events.specs.declared.What.{What}
+use Rattle.hdl_events.specs.declared.Happening.{Happening}
 use Rattle.hdl_events.specs.declared.Event.{Event}
 use Rattle.hdl_events.specs.declared.Outcome.{Outcome}
 use Rattle.hdl_laws.specs.Worlds.{World}
@@ -17,7 +17,7 @@ AreWithEnd false events items = items ≡ events
 AreWithEnd true events items = items ≡ events ++ Item.End ∷ []
 
 -- the lane gave these events and was given these outcomes; whether it had ended before, and has now
-pub record Passes (was now : Bool) (whats : List What) (outcomes : List Outcome) (a b : LaneEnds) : Type 0 where
+pub record Passes (was now : Bool) (whats : List Happening) (outcomes : List Outcome) (a b : LaneEnds) : Type 0 where
   pub lane : b.lane ≡ a.lane
   pub outlet : SameOutlet a.items b.items
   pub inlet : SameInlet a.outcomes b.outcomes
@@ -34,12 +34,12 @@ pub record Answers (outcome : Outcome) (a b : LaneEnds) : Type 0 where
   pub put : put_into b.outcomes ≡ put_into a.outcomes ++ outcome ∷ []
 
 -- events of one lane
-abbrev pub on_lane : ℕ → List What → List Event
+abbrev pub on_lane : ℕ → List Happening → List Event
 on_lane n whats = map (λ what. record { lane = n; what = what }) whats
 
 -- events of the lane are a run from one world to the other, and it was given their outcomes
 pub record Serves (was now : Bool) (w new : World) (a b : LaneEnds) : Type 0 where
-  pub whats : List What
+  pub whats : List Happening
   pub outcomes : List Outcome
   pub run : Run w (on_lane a.lane whats) outcomes new
   pub passes : Passes was now whats outcomes a b

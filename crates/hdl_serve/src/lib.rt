@@ -36,8 +36,8 @@ mod rounds;
 mod serving;
 
 pub use hdl_workers::{
-    Clock, Door, DoorFault, Far, Item, LaneEnds, Letter, MemoryClock, MemoryConnection, MemoryDoor,
-    MemoryNonces, MemoryPackets, Nonces, Packets, Why, WorkerEnd, lanes_of, packet_worker,
-    stream_worker,
+    Clock, Datagram, Door, DoorFault, EndReason, Item, LaneEnds, MemoryClock, MemoryConnection,
+    MemoryDoor, MemoryNonces, MemoryPackets, Nonces, Packets, WorkerEnd, WorkerSide, lanes_of,
+    packet_worker, stream_worker,
 };
 pub use serving::{Served, serve};

@@ -7,12 +7,12 @@ ghost use Rattle.hdl_workers.specs.declared.ends.LaneEnds.{LaneEnds};
 ghost use Rattle.hdl_serve.specs.Rounds.{Answers, IsServing, Passes, Serves};
 
 use hdl_core::{Rows, Service};
-use hdl_events::{Event, Outcome, What};
+use hdl_events::{Event, Happening, Outcome};
 use hdl_laws::laws::runs_joined;
 use hdl_workers::{Item, LaneEnds};
 
 /// The lane's next event, if one is seen and its outcome finds room. A lane that gave End isn't asked again.
-fn ask(ends: &mut LaneEnds, ended: &mut bool) -> Option<What>
+fn ask(ends: &mut LaneEnds, ended: &mut bool) -> Option<Happening>
     ensures { MatchOption result (Passes ended.old ended.new [] [] ends.old ends.new) (λ what. Passes ended.old ended.new (what ∷ []) [] ends.old ends.new × (0 < known_room ends.new.outcomes)) }
 {
     if *ended {

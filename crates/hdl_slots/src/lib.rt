@@ -32,7 +32,6 @@ mod pending;
 mod slots;
 
 pub use hdl_auth::algorithm::Digest;
-pub use hdl_name::Octets;
 pub use laws::{at_most_eight, put_is_found, taken_is_gone};
 pub use pending::{Challenge, Pending};
 pub use slots::Slots;

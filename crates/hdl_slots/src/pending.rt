@@ -1,7 +1,7 @@
 //! A challenge that waits for its response.
 
 use hdl_auth::algorithm::Digest;
-use hdl_name::Octets;
+use hdl_limits::Octets;
 
 /// A challenge as it was sent, and the request that it stands before.
 #[derive(Debug, Drop)]

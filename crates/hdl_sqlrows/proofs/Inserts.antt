@@ -87,7 +87,7 @@ inserts_handle old new name authority count has h =
 
 -- the cells of a value at a handle, in the order of the columns, and a row of `entries`
 abbrev pub entry_cells : List ℕ → Kept → Row
-entry_cells name v = Blob name ∷ Int (pos v.index) ∷ Blob v.kind ∷ Blob v.bytes ∷ Blob v.ttl ∷ Int (pos v.perm) ∷ Blob (to_be_bytes w64 v.stamp) ∷ Blob (references v.refs) ∷ []
+entry_cells name v = Blob name ∷ Int (pos v.index) ∷ Blob v.kind ∷ Blob v.bytes ∷ Blob v.ttl ∷ Int (pos v.permissions) ∷ Blob (to_be_bytes w64 v.timestamp) ∷ Blob (references v.references) ∷ []
 
 abbrev pub entry_row : ℤ → List ℕ → Kept → Row
 entry_row id name v = Int id ∷ entry_cells name v
@@ -97,7 +97,7 @@ entry_source name v = Null ∷ entry_cells name v
 
 entry_news : (rows : List Row) (name : List ℕ) (v : Kept) → with_rowid Chosen rows (cast_row (record entries { tree = 2 }) (entry_source name v)) ≡ entry_row (next_rowid rows) name v
 entry_news rows name v =
-    (λ i. with_rowid Chosen rows (cast_null i ∷ Blob name ∷ cast_int (pos v.index) i ∷ Blob v.kind ∷ Blob v.bytes ∷ Blob v.ttl ∷ cast_int (pos v.perm) i ∷ Blob (to_be_bytes w64 v.stamp) ∷ Blob (references v.refs) ∷ []))
+    (λ i. with_rowid Chosen rows (cast_null i ∷ Blob name ∷ cast_int (pos v.index) i ∷ Blob v.kind ∷ Blob v.bytes ∷ Blob v.ttl ∷ cast_int (pos v.permissions) i ∷ Blob (to_be_bytes w64 v.timestamp) ∷ Blob (references v.references) ∷ []))
 
 entry_edit : (keys : Keys) (db next : Trees) (name : List ℕ) (v : Kept) → Applies layout keys db (edit_of db entries [] Chosen 0 (entry_source name v ∷ [])) next → Adds (entry_row (next_rowid (db 2)) name v) (db 2) (next 2) × (next 0 ≡ db 0) × (next 4 ≡ db 4)
 entry_edit keys db next name v made =

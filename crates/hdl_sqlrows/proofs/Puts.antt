@@ -91,8 +91,8 @@ puts_handle old new name count inside absent ran =
     (ran.1.is_open, record { whole = record { layout = did.0; kept = made.0 }; inside = ran.1.mode }, made.1)
 
 -- the row of a value says that value
-entry_is : (id : ℤ) (name : List ℕ) (v : Value) → v.stamp < 2 ^ 64 → AreShort v.refs → entry_in (entry_row id name v) ≡ (place name v.index, v)
-entry_is id name v stamp short = λ i. (place name v.index, record v { stamp = stamp_again v.stamp stamp i; refs = refs_again v.refs short i })
+entry_is : (id : ℤ) (name : List ℕ) (v : Value) → v.timestamp < 2 ^ 64 → AreShort v.references → entry_in (entry_row id name v) ≡ (place name v.index, v)
+entry_is id name v timestamp short = λ i. (place name v.index, record v { timestamp = stamp_again v.timestamp timestamp i; references = refs_again v.references short i })
 
 -- a row more of `entries`
 pub with_entry_row : (db next : Trees) (row : Row) → AreKept db → IsEntryRow row → Adds row (db 2) (next 2) → next 0 ≡ db 0 → at (table_in db) (place_in row) ≡ None
@@ -110,17 +110,17 @@ with_entry_row db next row kept is more same absent =
       (λ i. record { handles = set.from_list (map handle_in (same i)); values = values i }),
     )
 
-pub with_entry : (db next : Trees) (id : ℤ) (name : List ℕ) (v : Value) → AreKept db → v.stamp < 2 ^ 64 → AreShort v.refs → Adds (entry_row id name v) (db 2) (next 2) → next 0 ≡ db 0 → at (table_in db) (place name v.index) ≡ None
+pub with_entry : (db next : Trees) (id : ℤ) (name : List ℕ) (v : Value) → AreKept db → v.timestamp < 2 ^ 64 → AreShort v.references → Adds (entry_row id name v) (db 2) (next 2) → next 0 ≡ db 0 → at (table_in db) (place name v.index) ≡ None
     → AreKept next × (table_in next ≡ record (table_in db) { values = map.insert (table_in db).values (place name v.index) v })
-with_entry db next id name v kept stamp short more same absent =
+with_entry db next id name v kept timestamp short more same absent =
     let made = with_entry_row db next (entry_row id name v) kept (record { id = refl; name = refl; index = refl }) more same absent in
-    (made.0, made.1 ∙ (λ i. record (table_in db) { values = map.insert (table_in db).values (entry_is id name v stamp short i).0 (entry_is id name v stamp short i).1 }))
+    (made.0, made.1 ∙ (λ i. record (table_in db) { values = map.insert (table_in db).values (entry_is id name v timestamp short i).0 (entry_is id name v timestamp short i).1 }))
 
-pub puts_entry : (old new : State) (name : List ℕ) (v : Value) (count : ℕ) → IsInside old → v.stamp < 2 ^ 64 → AreShort v.refs → at (drafted old) (place name v.index) ≡ None → ExecutesInside 0 insert_entry (entry_cells name v) old new (Ok count)
+pub puts_entry : (old new : State) (name : List ℕ) (v : Value) (count : ℕ) → IsInside old → v.timestamp < 2 ^ 64 → AreShort v.references → at (drafted old) (place name v.index) ≡ None → ExecutesInside 0 insert_entry (entry_cells name v) old new (Ok count)
     → IsDraft new (record (drafted old) { values = map.insert (drafted old).values (place name v.index) v })
-puts_entry old new name v count inside stamp short absent ran =
+puts_entry old new name v count inside timestamp short absent ran =
     let did = inserts_entry old new name v count inside.whole.layout ran.0 in
-    let made = with_entry old.now.trees new.now.trees (next_rowid (old.now.trees 2)) name v inside.whole.kept stamp short did.1 did.2 absent in
+    let made = with_entry old.now.trees new.now.trees (next_rowid (old.now.trees 2)) name v inside.whole.kept timestamp short did.1 did.2 absent in
     (ran.1.is_open, record { whole = record { layout = did.0; kept = made.0 }; inside = ran.1.mode }, made.1)
 
 -- ---- one after the other

@@ -66,13 +66,13 @@ one_row db p kept there = by_rows (filter (has_place p) (db 2)) refl (kept.place
 
 -- the cells that a row keeps, and those of a value
 abbrev source : Row → Value → Row
-source r v = rowid r ∷ column r 1 ∷ column r 2 ∷ Blob v.kind ∷ Blob v.bytes ∷ Blob v.ttl ∷ Int (pos v.perm) ∷ Blob (to_be_bytes w64 v.stamp) ∷ Blob (references v.refs) ∷ []
+source r v = rowid r ∷ column r 1 ∷ column r 2 ∷ Blob v.kind ∷ Blob v.bytes ∷ Blob v.ttl ∷ Int (pos v.permissions) ∷ Blob (to_be_bytes w64 v.timestamp) ∷ Blob (references v.references) ∷ []
 
 new_row : (r : Row) (name : List ℕ) (v : Value) → IsEntryRow r → place_in r ≡ place name v.index → cast_row entries (source r v) ≡ entry_row (id_of r) name v
 new_row r name v is same =
-    (λ k. cast_row entries (is.id k ∷ is.name k ∷ is.index k ∷ Blob v.kind ∷ Blob v.bytes ∷ Blob v.ttl ∷ Int (pos v.perm) ∷ Blob (to_be_bytes w64 v.stamp) ∷ Blob (references v.refs) ∷ []))
-    ∙ (λ k. cast_int (id_of r) k ∷ Blob (place_in r).handle ∷ cast_int (pos (place_in r).index) k ∷ Blob v.kind ∷ Blob v.bytes ∷ Blob v.ttl ∷ cast_int (pos v.perm) k ∷ Blob (to_be_bytes w64 v.stamp) ∷ Blob (references v.refs) ∷ [])
-    ∙ ap (λ (p : Place). Int (id_of r) ∷ Blob p.handle ∷ Int (pos p.index) ∷ Blob v.kind ∷ Blob v.bytes ∷ Blob v.ttl ∷ Int (pos v.perm) ∷ Blob (to_be_bytes w64 v.stamp) ∷ Blob (references v.refs) ∷ []) same
+    (λ k. cast_row entries (is.id k ∷ is.name k ∷ is.index k ∷ Blob v.kind ∷ Blob v.bytes ∷ Blob v.ttl ∷ Int (pos v.permissions) ∷ Blob (to_be_bytes w64 v.timestamp) ∷ Blob (references v.references) ∷ []))
+    ∙ (λ k. cast_int (id_of r) k ∷ Blob (place_in r).handle ∷ cast_int (pos (place_in r).index) k ∷ Blob v.kind ∷ Blob v.bytes ∷ Blob v.ttl ∷ cast_int (pos v.permissions) k ∷ Blob (to_be_bytes w64 v.timestamp) ∷ Blob (references v.references) ∷ [])
+    ∙ ap (λ (p : Place). Int (id_of r) ∷ Blob p.handle ∷ Int (pos p.index) ∷ Blob v.kind ∷ Blob v.bytes ∷ Blob v.ttl ∷ Int (pos v.permissions) ∷ Blob (to_be_bytes w64 v.timestamp) ∷ Blob (references v.references) ∷ []) same
 
 abbrev entry_tests : List Term
 entry_tests = is_param 1 0 ∷ is_param 2 1 ∷ []
@@ -132,21 +132,21 @@ replaced t mid next p v first second =
         map.get-insert place_total (map.remove t.values p) p v q ∙ ap (cond (eq_by_cmp place_cmp q p) (Some v)) (map.get-remove place_total t.values p q)
         ∙ over (eq_by_cmp place_cmp q p) (map.get t.values q) ∙ sym (map.get-insert place_total t.values p v q))
 
-with_updated : (db next : Trees) (id : ℤ) (name : List ℕ) (v : Value) → AreKept db → v.stamp < 2 ^ 64 → AreShort v.refs
+with_updated : (db next : Trees) (id : ℤ) (name : List ℕ) (v : Value) → AreKept db → v.timestamp < 2 ^ 64 → AreShort v.references
     → Adds (entry_row id name v) (filter (λ r. not (has_place (place name v.index) r)) (db 2)) (next 2) → next 0 ≡ db 0
     → AreKept next × (table_in next ≡ record (table_in db) { values = map.insert (table_in db).values (place name v.index) v })
-with_updated db next id name v kept stamp short more same =
+with_updated db next id name v kept timestamp short more same =
     let p = place name v.index in
     let mid : Trees = λ t. cond (t == 2) (filter (λ r. not (has_place p r)) (db 2)) (db t) in
     let gone = without_entry db mid p kept refl refl in
-    let put = with_entry mid next id name v gone.0 stamp short more same (free_after (table_in db) (table_in mid) p gone.1) in
+    let put = with_entry mid next id name v gone.0 timestamp short more same (free_after (table_in db) (table_in mid) p gone.1) in
     (put.0, replaced (table_in db) (table_in mid) (table_in next) p v gone.1 put.1)
 
-pub replaces_entry : (old new : State) (name : List ℕ) (v : Value) (count : ℕ) → IsInside old → v.stamp < 2 ^ 64 → AreShort v.refs → at (drafted old) (place name v.index) ≢ None → ExecutesInside 0 update_entry (entry_cells name v) old new (Ok count)
+pub replaces_entry : (old new : State) (name : List ℕ) (v : Value) (count : ℕ) → IsInside old → v.timestamp < 2 ^ 64 → AreShort v.references → at (drafted old) (place name v.index) ≢ None → ExecutesInside 0 update_entry (entry_cells name v) old new (Ok count)
     → IsDraft new (record (drafted old) { values = map.insert (drafted old).values (place name v.index) v })
-replaces_entry old new name v count inside stamp short there ran =
+replaces_entry old new name v count inside timestamp short there ran =
     let did = updates_entry old new name v count inside.whole there ran.0 in
-    let made = with_updated old.now.trees new.now.trees did.1.0 name v inside.whole.kept stamp short did.1.1 did.2 in
+    let made = with_updated old.now.trees new.now.trees did.1.0 name v inside.whole.kept timestamp short did.1.1 did.2 in
     (ran.1.is_open, record { whole = record { layout = did.0; kept = made.0 }; inside = ran.1.mode }, made.1)
 
 pub update_beside : (old new : State) (name : List ℕ) (v : Value) (count : ℕ) → IsInside old → at (drafted old) (place name v.index) ≢ None → ExecutesInside 0 update_entry (entry_cells name v) old new (Ok count) → new.now.trees 4 ≡ old.now.trees 4

@@ -46,9 +46,9 @@ value_of r = record {
   kind = bytes (column r 1);
   bytes = bytes (column r 2);
   ttl = bytes (column r 3);
-  perm = number (column r 4);
-  stamp = from_be_bytes w64 (bytes (column r 5));
-  refs = refs_in (bytes (column r 6));
+  permissions = number (column r 4);
+  timestamp = from_be_bytes w64 (bytes (column r 5));
+  references = refs_in (bytes (column r 6));
 }
 
 -- the cells of a row of `entries` from idx on, as an answer shows them

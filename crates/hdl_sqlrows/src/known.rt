@@ -120,12 +120,12 @@ fn are_cells(columns: &[Column]) -> bool
     ensures { IsTrue result ↔ (columns.now ≡ cell_columns) }
 {
     match columns {
-        [kind, bytes, ttl, perm, stamp, refs] => {
+        [kind, bytes, ttl, permissions, timestamp, refs] => {
             is_required(kind, b"kind", Kind::Blob)
                 && is_required(bytes, b"bytes", Kind::Blob)
                 && is_required(ttl, b"ttl", Kind::Blob)
-                && is_required(perm, b"perm", Kind::Integer)
-                && is_required(stamp, b"stamp", Kind::Blob)
+                && is_required(permissions, b"perm", Kind::Integer)
+                && is_required(timestamp, b"stamp", Kind::Blob)
                 && is_required(refs, b"refs", Kind::Blob)
         }
         _ => false,

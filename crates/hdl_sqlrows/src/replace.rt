@@ -24,8 +24,8 @@ fn replace_cells<'x, S: Alter>(
     refs: &'x [u8],
 ) -> Result<(), Fault>
     requires inside { WhereOpen (state S.Store tx.old.conn.now) (IsInside (state S.Store tx.old.conn.now)) }
-    requires spelt { refs.now ≡ references value.now.refs }
-    requires short { AreShort value.now.refs }
+    requires spelt { refs.now ≡ references value.now.references }
+    requires short { AreShort value.now.references }
     requires there { WhereOpen (state S.Store tx.old.conn.now) (at (drafted (state S.Store tx.old.conn.now)) (place name.now value.now.index) ≢ None) }
     ensures same_reference { tx.new.conn.ghost_name ≡ tx.old.conn.ghost_name }
     ensures survives { Survives (state S.Store tx.old.conn.now) (state S.Store tx.new.conn.now) (λ _. ⊥) }
@@ -33,7 +33,7 @@ fn replace_cells<'x, S: Alter>(
     ensures put { OnOk result (HasCleanDisk (state S.Store tx.new.conn.now) → IsTrue (state S.Store tx.old.conn.now).is_open × IsDraft (state S.Store tx.new.conn.now) (record (drafted (state S.Store tx.old.conn.now)) { values = map.insert (drafted (state S.Store tx.old.conn.now)).values (place name.now value.now.index) value.now })) }
     ensures beside { OnOk result (HasCleanDisk (state S.Store tx.new.conn.now) → (state S.Store tx.new.conn.now).now.trees 4 ≡ (state S.Store tx.old.conn.now).now.trees 4) }
 {
-    let stamp = value.stamp.to_be_bytes();
+    let timestamp = value.timestamp.to_be_bytes();
     tx.execute(
         "UPDATE entries SET kind = ?3, bytes = ?4, ttl = ?5, perm = ?6, stamp = ?7, refs = ?8 WHERE name = ?1 AND idx = ?2",
         params![
@@ -42,8 +42,8 @@ fn replace_cells<'x, S: Alter>(
             value.kind.as_slice(),
             value.bytes.as_slice(),
             value.ttl.as_slice(),
-            u32::from(value.perm),
-            stamp.as_slice(),
+            u32::from(value.permissions),
+            timestamp.as_slice(),
             refs
         ],
     )?;
@@ -65,7 +65,7 @@ fn replace_entry<S: Alter>(
     ensures put { OnOk result (HasCleanDisk (state S.Store tx.new.conn.now) → IsTrue (state S.Store tx.old.conn.now).is_open × IsDraft (state S.Store tx.new.conn.now) (record (drafted (state S.Store tx.old.conn.now)) { values = map.insert (drafted (state S.Store tx.old.conn.now)).values (place name.now value.now.index) value.now })) }
     ensures beside { OnOk result (HasCleanDisk (state S.Store tx.new.conn.now) → (state S.Store tx.new.conn.now).now.trees 4 ≡ (state S.Store tx.old.conn.now).now.trees 4) }
 {
-    let refs = refs_of(alloc, value.refs.as_slice())?;
+    let refs = refs_of(alloc, value.references.as_slice())?;
     replace_cells(tx, name, value, &refs)
 }
 

@@ -1,13 +1,14 @@
 //! A table in SQL.
 
 ghost use Rattle.std.specs.Prelude.{◌≡◌, IfOk, MatchResult, IsErr, Ok};
-ghost use Rattle.hdl_rows.specs.Table.{no_rows, counted};
+ghost use Rattle.hdl_rows.specs.Table.{no_rows, refusals_after};
 
 use crate::fault::Fault;
 use crate::{memory, queries};
+use hdl_limits::Octets;
 use hdl_name::Name;
 use hdl_rows::{Refused, Rows};
-use hdl_value::{Octets, Reference, Value};
+use hdl_value::{Reference, Value};
 use sqlite::{Connection, MemStore};
 use std::alloc::Global;
 use std::marker::Model;
@@ -55,7 +56,7 @@ impl SqlRows {
 
 /// Counts a call that was refused.
 fn tally<T>(refusals: &mut u64, outcome: Result<T, Fault>) -> Result<T, Refused>
-    ensures count { refusals.new ≡ counted outcome refusals.old }
+    ensures count { refusals.new ≡ refusals_after outcome refusals.old }
     ensures same { MatchResult outcome (λ x. result ≡ Ok x) (λ _. IsErr result) }
 {
     match outcome {

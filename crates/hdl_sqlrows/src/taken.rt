@@ -91,7 +91,7 @@ fn put_value<R: Rows>(rows: &mut R, name: Name, value: &Value) -> Result<(), Loa
     Ok(rows.add(&place.name, slice::from_ref(value))?)
 }
 
-/// Puts the value in a row of `entries`, as `SELECT idx, kind, bytes, ttl, perm, stamp, refs, name, rowid` shows it, and tells its rowid.
+/// Puts the value in a row of `entries`, as `SELECT idx, kind, bytes, ttl, permissions, timestamp, refs, name, rowid` shows it, and tells its rowid.
 pub(crate) fn take_entry<R: Rows>(
     alloc: Global,
     row: &Row,

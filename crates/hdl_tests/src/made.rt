@@ -2,7 +2,8 @@
 
 ghost use Rattle.std.specs.Prelude.{◌≡◌, IfOk};
 
-use hdl_value::{Octets, RawRefs, Value};
+use hdl_limits::Octets;
+use hdl_value::{RawRefs, Value};
 use std::alloc::{AllocError, Global};
 
 /// A value of this index, type and data that anybody may read, without a timestamp and references.
@@ -14,8 +15,8 @@ pub fn value(alloc: Global, index: u32, kind: &[u8], bytes: &[u8]) -> Result<Val
         kind: Octets::new(Vec::from_slice(alloc, kind)?),
         bytes: Octets::new(Vec::from_slice(alloc, bytes)?),
         ttl: [0; 5],
-        perm: 6,
-        stamp: 0,
-        refs: RawRefs::new(Vec::new(alloc)),
+        permissions: 6,
+        timestamp: 0,
+        references: RawRefs::new(Vec::new(alloc)),
     })
 }

@@ -1,8 +1,9 @@
 use crate::assertion::same;
+use hdl_limits::{Items, Octets};
 use hdl_name::Name;
 use hdl_ops::{Change, apply};
 use hdl_rows::{PlainRows, Rows};
-use hdl_value::{Listed, Octets, RawRefs, Reference, Value};
+use hdl_value::{RawRefs, Reference, Value};
 use std::alloc::{AllocError, Global};
 use std::test::Fail;
 
@@ -13,9 +14,9 @@ fn value(alloc: Global) -> Result<Value, AllocError> {
         kind: Octets::new(Vec::from_slice(alloc, b"X")?),
         bytes: Octets::new(Vec::from_slice(alloc, b"a")?),
         ttl: [0; 5],
-        perm: 3,
-        stamp: 7,
-        refs: RawRefs::new(Vec::new(alloc)),
+        permissions: 3,
+        timestamp: 7,
+        references: RawRefs::new(Vec::new(alloc)),
     })
 }
 
@@ -25,11 +26,11 @@ fn create_is_stamped(rt: HostRuntime) -> Result<(), Fail> {
     let mut rows = PlainRows::new(rt.alloc());
     let name = Name::read(rt.alloc(), b"10/b")?;
     assert!(rt; !rows.exists(&name)?);
-    let values = Listed::new(Vec::from_array(rt.alloc(), [value(rt.alloc())?])?);
+    let values = Items::new(Vec::from_array(rt.alloc(), [value(rt.alloc())?])?);
     apply(&mut rows, Change::Create { name, values }, 1000)?;
     let name = Name::read(rt.alloc(), b"10/b")?;
     let found = rows.at(&Reference { name, index: 2 })?;
-    same(&rt, "stamp", found.map(|value| value.stamp), Some(1000));
+    same(&rt, "stamp", found.map(|value| value.timestamp), Some(1000));
     Ok(())
 }
 

@@ -1,5 +1,6 @@
 use crate::assertion::same;
-use hdl_slots::{Digest, Octets, Pending, Slots};
+use hdl_limits::Octets;
+use hdl_slots::{Digest, Pending, Slots};
 use std::alloc::{AllocError, Global};
 use std::test::Fail;
 

@@ -120,7 +120,7 @@ impl<A: Eq + Copy> Peers<A> {
         ensures room { length self.new.under_way < UNDER_WAY_MAX }
     {
         if self.trail.is_full() {
-            self.trail.settle();
+            self.trail.finish_oldest();
         }
     }
 
@@ -137,7 +137,7 @@ impl<A: Eq + Copy> Peers<A> {
     pub fn replied(&mut self)
         ensures { self.new ≡ settle_oldest self.old }
     {
-        self.trail.settle();
+        self.trail.finish_oldest();
     }
 
     /// Whether a reply to the oldest frame whose message has so many octets is one datagram, or has in all its datagrams at most so many times

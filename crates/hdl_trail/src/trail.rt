@@ -38,7 +38,7 @@ const CHALLENGE: u32 = 402;
 const RESPONSE: u32 = 200;
 
 /// What the service keeps of a lane, by the frames that came and the replies that were sent. Frames that come are seen by `came`, each datagram of
-/// the reply to the oldest by `answered`, and `settle` says that this reply is whole.
+/// the reply to the oldest by `answered`, and `finish_oldest` says that this reply is whole.
 #[derive(Drop)]
 pub struct Trail {
     /// The partial messages, the oldest first.
@@ -162,7 +162,7 @@ impl Trail {
     }
 
     /// The reply to the oldest frame is whole, or there is none.
-    pub fn settle(&mut self)
+    pub fn finish_oldest(&mut self)
         ensures followed { followed self.new ≡ settled (followed self.old) (oldest self.old.under_way.items) }
         ensures under_way { self.new.under_way.items ≡ drop 1 self.old.under_way.items }
     {

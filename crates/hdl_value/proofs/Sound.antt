@@ -22,9 +22,9 @@ limits_decide v =
     (let d : Decides (ltb 0 v.index) (0 < v.index) = (ltb-true _ _, lt-ltb _ _) in d)
     (let d : Decides (leb (length v.kind) TYPE_MAX) (length v.kind ≤ TYPE_MAX) = (leb-true _ _, le-leb _ _) in d))
     (let d : Decides (leb (length v.bytes) DATA_MAX) (length v.bytes ≤ DATA_MAX) = (leb-true _ _, le-leb _ _) in d))
-    (let d : Decides (leb (length v.refs) REFERENCES_MAX) (length v.refs ≤ REFERENCES_MAX) = (leb-true _ _, le-leb _ _) in d) in (
-      λ e. let h = all.0 e in record { index = h.0.0.0; kind = h.0.0.1; bytes = h.0.1; refs = h.1 },
-      λ h. all.1 (((h.index, h.kind), h.bytes), h.refs),
+    (let d : Decides (leb (length v.references) REFERENCES_MAX) (length v.references ≤ REFERENCES_MAX) = (leb-true _ _, le-leb _ _) in d) in (
+      λ e. let h = all.0 e in record { index = h.0.0.0; kind = h.0.0.1; bytes = h.0.1; references = h.1 },
+      λ h. all.1 (((h.index, h.kind), h.bytes), h.references),
     )
 
 -- a test that is asked for only where another holds
@@ -57,7 +57,7 @@ faulty v Short f other h = f
 faulty v IndexZero f other h = let some = h.limits.index in omega (arith, f, some)
 faulty v TypeLong f other h = let short = h.limits.kind in omega (arith, f.1, short)
 faulty v DataLong f other h = let short = h.limits.bytes in omega (arith, f.2, short)
-faulty v RefsMany f other h = let few = h.limits.refs in omega (arith, f.3, few)
+faulty v RefsMany f other h = let few = h.limits.references in omega (arith, f.3, few)
 faulty v BadAdmin f other h = f.2 (h.admin f.1)
 faulty v BadList f other h = f.2 (h.list f.1)
 faulty v Memory f other h = other refl

@@ -32,7 +32,7 @@ Fields = ℕ × (List ℕ × (List ℕ × (List ℕ × (ℕ × (ℕ × List RawR
 
 -- the value of these fields
 abbrev pub value_of : Fields → Value
-value_of x = record { index = x.0; kind = x.1.0; bytes = x.1.1.0; ttl = x.1.1.1.0; perm = x.1.1.1.1.0; stamp = x.1.1.1.1.1.0; refs = x.1.1.1.1.1.1 }
+value_of x = record { index = x.0; kind = x.1.0; bytes = x.1.1.0; ttl = x.1.1.1.0; permissions = x.1.1.1.1.0; timestamp = x.1.1.1.1.1.0; references = x.1.1.1.1.1.1 }
 
 -- the fields one after the other
 unfoldable pub value_at : List ℕ → Option (Value × List ℕ)
@@ -48,7 +48,7 @@ abbrev pub refs_view : RawReferences → List RawRef
 refs_view r = option_map_or (λ x. x.0) (many_at ref_at r.count r.octets.now) []
 
 abbrev pub value_view : RawValue → Value
-value_view v = record { index = v.index; kind = v.kind.now; bytes = v.bytes.now; ttl = v.ttl; perm = v.perm; stamp = v.stamp; refs = refs_view v.refs }
+value_view v = record { index = v.index; kind = v.kind.now; bytes = v.bytes.now; ttl = v.ttl; permissions = v.permissions; timestamp = v.timestamp; references = refs_view v.references }
 
 -- the octets are those of so many references, and no others
 pub record IsWhole (r : RawReferences) : Type 0 where
@@ -58,4 +58,4 @@ pub record IsWhole (r : RawReferences) : Type 0 where
 -- the fields stand in these octets, and nothing else does
 pub record IsCut (octets : List ℕ) (v : RawValue) : Type 0 where
   pub spelt : Begins octets (value_view v) []
-  pub whole : IsWhole v.refs
+  pub whole : IsWhole v.references

@@ -26,7 +26,7 @@ permission_bit AdminRead = 0x08
 
 -- the value has this permission
 abbrev pub permits : Value → Permission → Bool
-permits v permission = has_bit v.perm (permission_bit permission)
+permits v permission = has_bit v.permissions (permission_bit permission)
 
 -- ---- the class of a value: who may read it
 

@@ -6,7 +6,7 @@ use Rattle.hdl_value.specs.Refs.{is_admin, is_list, admin_in, list_in}
 
 -- index 0 names no value, and nothing is longer than its limit
 abbrev pub is_in_limits : Value → Bool
-is_in_limits v = nat_lt 0 v.index && nat_le (length v.kind) TYPE_MAX && nat_le (length v.bytes) DATA_MAX && nat_le (length v.refs) REFERENCES_MAX
+is_in_limits v = nat_lt 0 v.index && nat_le (length v.kind) TYPE_MAX && nat_le (length v.bytes) DATA_MAX && nat_le (length v.references) REFERENCES_MAX
 
 -- data that has a meaning has its layout
 abbrev pub has_good_data : Value → Bool

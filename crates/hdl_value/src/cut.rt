@@ -24,9 +24,9 @@ pub(crate) struct RawValue<'a> {
     pub kind: &'a [u8],
     pub bytes: &'a [u8],
     pub ttl: [u8; 5],
-    pub perm: u8,
-    pub stamp: u64,
-    pub refs: RawReferences<'a>,
+    pub permissions: u8,
+    pub timestamp: u64,
+    pub references: RawReferences<'a>,
 }
 
 /// A value where it stands, seen as that value. Its fields may break the limits, and its data may be bad.
@@ -57,23 +57,23 @@ fn ttl_at(octets: &[u8]) -> Option<([u8; 5], &[u8])>
 #[tactic(auto, unfolding(crate::specs::Cut::value_at))]
 fn fields_at(octets: &[u8]) -> Option<(RawValue<'_>, &[u8])>
     ensures reads { Reads (λ x. (value_view x.0, x.1.now)) result (value_at octets.now) }
-    ensures whole { IfSome result (λ x. IsWhole x.0.refs) }
+    ensures whole { IfSome result (λ x. IsWhole x.0.references) }
 {
     let (index, rest) = u32_at(octets)?;
     let (kind, rest) = string_at(rest)?;
     let (bytes, rest) = string_at(rest)?;
     let (ttl, rest) = ttl_at(rest)?;
-    let (perm, rest) = octet_at(rest)?;
-    let (stamp, rest) = u64_at(rest)?;
+    let (permissions, rest) = octet_at(rest)?;
+    let (timestamp, rest) = u64_at(rest)?;
     let (refs, rest) = references_at(rest)?;
     let value = RawValue {
         index,
         kind,
         bytes,
         ttl,
-        perm,
-        stamp,
-        refs,
+        permissions,
+        timestamp,
+        references: refs,
     };
     Some((value, rest))
 }

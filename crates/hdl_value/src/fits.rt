@@ -18,10 +18,10 @@ pub fn number_fits(number: u32)
     let _ = number;
 }
 
-fn stamp_fits(stamp: u64)
-    ensures fits { stamp < 2 ^ 64 }
+fn stamp_fits(timestamp: u64)
+    ensures fits { timestamp < 2 ^ 64 }
 {
-    let _ = stamp;
+    let _ = timestamp;
 }
 
 fn octet_fits(octet: u8)
@@ -71,7 +71,7 @@ pub fn value_fits(value: &Value)
     string_fits(value.kind.as_slice());
     string_fits(value.bytes.as_slice());
     ttl_fits(value.ttl);
-    octet_fits(value.perm);
-    stamp_fits(value.stamp);
-    refs_fit(value.refs.as_slice());
+    octet_fits(value.permissions);
+    stamp_fits(value.timestamp);
+    refs_fit(value.references.as_slice());
 }

@@ -36,7 +36,6 @@ pub use cut::{CutValue, cut_value};
 pub use fault::ValueFault;
 pub use fields::{octet_at, put_string, put_u16, put_u32, string_at, u16_at, u32_at};
 pub use fits::{number_fits, string_fits, value_fits};
-pub use hdl_name::{Listed, Octets};
 pub use kinds::{HS_ADMIN, HS_SECKEY, HS_VLIST};
 pub use laws::{
     grants_are_named, listed_are_named, none_begins_another, one_administrator, one_list,

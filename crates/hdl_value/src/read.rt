@@ -11,13 +11,12 @@ use crate::fault::ValueFault;
 use crate::kinds::{HS_ADMIN, HS_VLIST};
 use crate::references::{RawRefs, copied_references};
 use crate::value::Value;
-use hdl_limits::{DATA_MAX, REFERENCES_MAX, TYPE_MAX};
-use hdl_name::Octets;
+use hdl_limits::{DATA_MAX, Octets, REFERENCES_MAX, TYPE_MAX};
 use std::alloc::{AllocError, Global};
 
 /// The first fault of a value that was cut by layout. It takes no memory.
 pub(crate) fn check(raw: &RawValue<'_>) -> Result<(), ValueFault>
-    requires { IsWhole raw.now.refs }
+    requires { IsWhole raw.now.references }
     ensures { MatchResult result (λ _. IsSound (value_view raw.now)) (λ e. IsFirstFault (value_view raw.now) e × (e ≢ ValueFault.Memory)) }
 {
     if raw.index == 0 {
@@ -29,7 +28,7 @@ pub(crate) fn check(raw: &RawValue<'_>) -> Result<(), ValueFault>
     if raw.bytes.len() > DATA_MAX {
         return Err(ValueFault::DataLong);
     }
-    if raw.refs.count > REFERENCES_MAX {
+    if raw.references.count > REFERENCES_MAX {
         return Err(ValueFault::RefsMany);
     }
     if raw.kind == HS_ADMIN && !is_admin_data(raw.bytes) {
@@ -42,20 +41,20 @@ pub(crate) fn check(raw: &RawValue<'_>) -> Result<(), ValueFault>
 }
 
 pub(crate) fn copied(alloc: Global, raw: &RawValue<'_>) -> Result<Value, AllocError>
-    requires { IsWhole raw.now.refs }
+    requires { IsWhole raw.now.references }
     ensures { IfOk result (λ v. v ≡ value_view raw.now) }
 {
     let kind = Octets::new(Vec::from_slice(alloc, raw.kind)?);
     let bytes = Octets::new(Vec::from_slice(alloc, raw.bytes)?);
-    let refs = RawRefs::new(copied_references(alloc, &raw.refs)?);
+    let refs = RawRefs::new(copied_references(alloc, &raw.references)?);
     Ok(Value {
         index: raw.index,
         kind,
         bytes,
         ttl: raw.ttl,
-        perm: raw.perm,
-        stamp: raw.stamp,
-        refs,
+        permissions: raw.permissions,
+        timestamp: raw.timestamp,
+        references: refs,
     })
 }
 

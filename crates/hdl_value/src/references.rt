@@ -8,7 +8,7 @@ ghost use Rattle.hdl_value.specs.Reading.{Reads, many_at, whole_of};
 ghost use Rattle.hdl_value.specs.Cut.{ref_at, refs_at, ref_view, refs_view, IsWhole};
 
 use crate::fields::{put_string, put_u32, string_at, u32_at};
-use hdl_name::{Listed, Octets};
+use hdl_limits::{Items, Octets};
 use std::alloc::{AllocError, Global};
 
 /// A reference as it is spelt: a handle, which may be no name, and an index.
@@ -19,7 +19,7 @@ pub struct RawRef {
 }
 
 /// The references of a value.
-pub type RawRefs = Listed<RawRef>;
+pub type RawRefs = Items<RawRef>;
 
 /// A reference where it stands in the octets.
 #[derive(Clone, Copy)]

@@ -5,7 +5,7 @@ ghost use Rattle.std.specs.Prelude.{◌≡◌, IfOk};
 use crate::kinds::{HS_ADMIN, HS_SECKEY, HS_VLIST};
 use crate::permission::{Class, Permission};
 use crate::references::{RawRef, RawRefs};
-use hdl_name::Octets;
+use hdl_limits::Octets;
 use std::alloc::{AllocError, Global};
 
 /// A value of a handle (RFC 3651, section 3.1; its layout is our profile). The fields in order, numbers in network order:
@@ -25,9 +25,9 @@ pub struct Value {
     pub kind: Octets,
     pub bytes: Octets,
     pub ttl: [u8; 5],
-    pub perm: u8,
-    pub stamp: u64,
-    pub refs: RawRefs,
+    pub permissions: u8,
+    pub timestamp: u64,
+    pub references: RawRefs,
 }
 
 impl Value {
@@ -38,7 +38,7 @@ impl Value {
     pub fn permits(&self, permission: Permission) -> bool
         ensures { result ≡ permits self.now permission }
     {
-        self.perm & permission.bit() != 0
+        self.permissions & permission.bit() != 0
     }
 
     /// Who may read the value: anybody, an administrator alone, or nobody.
@@ -81,15 +81,15 @@ impl Value {
     {
         let kind = Octets::new(Vec::from_slice(alloc, self.kind.as_slice())?);
         let bytes = Octets::new(Vec::from_slice(alloc, self.bytes.as_slice())?);
-        let refs = RawRefs::new(copies(alloc, self.refs.as_slice())?);
+        let refs = RawRefs::new(copies(alloc, self.references.as_slice())?);
         Ok(Value {
             index: self.index,
             kind,
             bytes,
             ttl: self.ttl,
-            perm: self.perm,
-            stamp: self.stamp,
-            refs,
+            permissions: self.permissions,
+            timestamp: self.timestamp,
+            references: refs,
         })
     }
 }

@@ -62,12 +62,12 @@ pub(crate) struct Visit {
 #[derive(Drop)]
 pub(crate) struct Open<R> {
     pub(crate) board: Arc<Board<R>>,
-    asked: Option<Asked>,
+    asked: Option<RequestLine>,
 }
 
 /// What a visit asked for, where its line is written.
 #[derive(Drop)]
-struct Asked {
+struct RequestLine {
     began: Instant,
     moment: u64,
     method: String,
@@ -85,8 +85,8 @@ fn moment<R: Clock>(rt: &R) -> u64 {
     }
 }
 
-fn begun<R: Clock>(rt: &R, alloc: Global, method: &str, path: &str) -> Option<Asked> {
-    Some(Asked {
+fn begun<R: Clock>(rt: &R, alloc: Global, method: &str, path: &str) -> Option<RequestLine> {
+    Some(RequestLine {
         began: Instant::now(rt).ok()?,
         moment: moment(rt),
         method: String::from_str(alloc, method).ok()?,

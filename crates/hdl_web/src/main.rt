@@ -43,7 +43,7 @@ use std::io;
 use std::net::SocketAddr;
 use std::process::ExitCode;
 use std::time::Duration;
-use words::{Asked, ProxyWords, read_words};
+use words::{Invocation, ProxyWords, read_words};
 
 /// The servers that the words name. None where a word names none, which is told, or memory was refused.
 fn routes(rt: &HostRuntime, words: &ProxyWords) -> Option<Vec<Route>> {
@@ -154,8 +154,8 @@ fn opened(
 
 fn main(rt: HostRuntime) -> ExitCode {
     let words = match read_words(&rt) {
-        Asked::Proxy(words) => words,
-        Asked::Ended(status) => return ExitCode::from(status),
+        Invocation::Proxy(words) => words,
+        Invocation::Ended(status) => return ExitCode::from(status),
     };
     let Some(routes) = routes(&rt, &words) else {
         return ExitCode::from(2);

@@ -44,7 +44,7 @@ pub struct ProxyWords {
 
 /// What the command line asks for.
 #[derive(Drop)]
-pub enum Asked {
+pub enum Invocation {
     /// Serving browsers.
     Proxy(ProxyWords),
     /// Nothing: help or a fault was printed, and this is the exit status.
@@ -167,18 +167,18 @@ fn parsed(alloc: Global, words: &[String]) -> Result<ProxyWords, Error> {
 }
 
 /// Reads the command line, and prints what `clap` has to say of it.
-pub fn read_words(rt: &HostRuntime) -> Asked {
+pub fn read_words(rt: &HostRuntime) -> Invocation {
     let Ok(words) = words_of(rt) else {
         let _ = eprintln!(rt; "error: the command line cannot be read");
-        return Asked::Ended(2);
+        return Invocation::Ended(2);
     };
     match parsed(rt.alloc(), words.as_slice()) {
-        Ok(found) => Asked::Proxy(found),
+        Ok(found) => Invocation::Proxy(found),
         Err(error) => {
             let is_help = !error.use_stderr();
             match error.print(rt) {
-                Err(_) if is_help => Asked::Ended(1),
-                _ => Asked::Ended(status_of_words(is_help)),
+                Err(_) if is_help => Invocation::Ended(1),
+                _ => Invocation::Ended(status_of_words(is_help)),
             }
         }
     }

@@ -3,7 +3,7 @@ use Rattle.std.proofs.Common.{◌≡◌, ◌≢◌, ℕ, ◌+◌, ◌<◌, List,
 use Rattle.std.proofs.lemmas.List.Elements.{All-push}
 use Rattle.std.proofs.lemmas.List.Quantifiers.{all_pairs_push}
 use Rattle.hdl_workers.specs.declared.ends.LaneEnds.{LaneEnds}
-use Rattle.hdl_workers.specs.declared.far.Far.{Far}
+use Rattle.hdl_workers.specs.declared.worker_side.WorkerSide.{WorkerSide}
 use Rattle.hdl_workers.specs.Ends.{AreDistinct, AreSides, AreLanes}
 
 pub distinct_more : (lanes : List LaneEnds) (y : LaneEnds) (n : ℕ) → y.lane ≡ n → AreDistinct lanes → All (λ e. e.lane < n) lanes
@@ -13,7 +13,7 @@ distinct_more lanes y n is distinct below = (
   All-push (λ (e : LaneEnds). e.lane < n + 1) lanes y (λ k d h. let under = below k d h in omega (arith, under)) (omega (arith, is)),
 )
 
-pub lanes_more : (first n : ℕ) (ends : List LaneEnds) (far : List Far) (e : LaneEnds) (f : Far) → AreLanes first ends far → length ends + first ≡ n → e.lane ≡ n → AreSides e f
+pub lanes_more : (first n : ℕ) (ends : List LaneEnds) (far : List WorkerSide) (e : LaneEnds) (f : WorkerSide) → AreLanes first ends far → length ends + first ≡ n → e.lane ≡ n → AreSides e f
     → AreLanes first (ends ++ e ∷ []) (far ++ f ∷ [])
 lanes_more first n [] [] e f lanes many is sides = (omega (arith, many, is), sides, tt)
 lanes_more first n [] (g ∷ far) e f lanes many is sides = elim lanes [ ]

@@ -2,7 +2,7 @@
 use Rattle.std.specs.Prelude.{◌≡◌, ◌≢◌, ◌+◌, ⊤, ℕ, List, [], ◌∷◌, AllPairs}
 use Rattle.hdl_lanes.specs.Lane.{AreEnds, AreEnded, put_into, taken_from}
 use Rattle.hdl_workers.specs.declared.ends.LaneEnds.{LaneEnds}
-use Rattle.hdl_workers.specs.declared.far.Far.{Far}
+use Rattle.hdl_workers.specs.declared.worker_side.WorkerSide.{WorkerSide}
 use Rattle.hdl_workers.specs.declared.worker.WorkerEnd.{WorkerEnd}
 
 -- no two lanes have one number
@@ -10,11 +10,11 @@ abbrev pub AreDistinct : List LaneEnds → Type 0
 AreDistinct lanes = AllPairs (λ a b. a.lane ≢ b.lane) lanes
 
 -- the service's and the worker's side of one lane, of which the service took nothing and put nothing
-abbrev pub AreSides : LaneEnds → Far → Type 0
+abbrev pub AreSides : LaneEnds → WorkerSide → Type 0
 AreSides ends far = AreEnds far.inlet ends.items × AreEnds ends.outcomes far.outcomes × (taken_from ends.items ≡ []) × (put_into ends.outcomes ≡ [])
 
 -- as many of the one as of the other, side by side, and numbered from the first number on
-abbrev pub AreLanes : ℕ → List LaneEnds → List Far → Type 0
+abbrev pub AreLanes : ℕ → List LaneEnds → List WorkerSide → Type 0
 AreLanes first [] [] = ⊤
 AreLanes first [] (f ∷ far) = ⊥
 AreLanes first (e ∷ ends) [] = ⊥

@@ -7,5 +7,5 @@ pub mod Talk
 pub mod Joined
 pub mod Mail
 pub mod Memory
-pub mod Letters
+pub mod MemoryPackets
 pub mod Ends

@@ -55,7 +55,7 @@ impl LaneEnds {
             outcomes,
         } = self;
         let WorkerEnd {
-            why: _,
+            reason: _,
             ended,
             outlet,
         } = end;

@@ -1,10 +1,10 @@
 //! What goes through a lane to the service.
 
-use hdl_events::What;
+use hdl_events::Happening;
 
 /// What a worker puts: what happened on its lane, or that nothing more comes.
 #[derive(Debug, Drop)]
 pub enum Item {
-    Event(What),
+    Event(Happening),
     End,
 }

@@ -9,7 +9,7 @@
 //! carry what comes through a door into a lane and its outcomes back out. [`LaneEnds`] is the service's side of a lane, of which
 //! this crate knows no more than that: it speaks of events, outcomes and octets, and `hdl_serve` serves them.
 //!
-//! Promised of a worker, over a door that tells its octets: every frame of what came is put, in order, with one moment and one nonce of its
+//! Promised of a worker, over a door that is observed: every frame of what came is put, in order, with one moment and one nonce of its
 //! own, and what was written is the outcomes' octets. [`LaneEnds::settle`] gives what is left once both threads of a lane were joined.
 //!
 //! Nothing here takes a lock or waits for anybody: what finds nothing pauses by the caller's [`Clock`], and all is bounded by a
@@ -34,27 +34,27 @@
 mod door;
 mod ends;
 mod failing;
-mod far;
 mod item;
-mod letters;
 mod line;
 mod memory;
+mod memory_packets;
 mod packet;
 mod relay;
 mod sides;
 mod sources;
 mod stream;
 mod worker;
+mod worker_side;
 
 pub use door::{Clock, Door, DoorFault, Nonces, Packets};
 pub use ends::LaneEnds;
-pub use far::Far;
-pub use hdl_events::{Octets, Outcome, What};
+pub use hdl_events::{Happening, Outcome};
 pub use item::Item;
-pub use letters::{Letter, MemoryPackets};
 pub use memory::{MemoryConnection, MemoryDoor};
+pub use memory_packets::{Datagram, MemoryPackets};
 pub use packet::packet_worker;
 pub use sides::lanes_of;
 pub use sources::{MemoryClock, MemoryNonces};
 pub use stream::stream_worker;
-pub use worker::{Why, WorkerEnd};
+pub use worker::{EndReason, WorkerEnd};
+pub use worker_side::WorkerSide;

@@ -4,7 +4,7 @@ ghost use Rattle.std.specs.Prelude.{◌≡◌, ◌+◌, length};
 ghost use Rattle.hdl_lanes.specs.Lane.{put_into, taken_from};
 
 use crate::Item;
-use hdl_events::{Outcome, What};
+use hdl_events::{Happening, Outcome};
 use hdl_lanes::{Inlet, Outlet};
 
 #[derive(Drop)]
@@ -32,7 +32,7 @@ impl Line {
     }
 
     /// Puts an event.
-    pub(crate) fn put(&mut self, what: What)
+    pub(crate) fn put(&mut self, what: Happening)
         requires room { HasPlace self.old }
         ensures line { SameLine self.old self.new }
         ensures put { put_by self.new ≡ put_by self.old ++ Event what ∷ [] }

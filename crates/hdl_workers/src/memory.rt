@@ -111,7 +111,7 @@ impl MemoryDoor {
 impl Door for MemoryDoor {
     ghost use Rattle.hdl_workers.specs.Memory.{connection_of};
 
-    ghost tells = { true };
+    ghost is_observed = { true };
 
     ghost ended = { λ d. map connection_of d.left.items };
 

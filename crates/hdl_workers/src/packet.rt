@@ -2,7 +2,7 @@
 
 ghost use Rattle.std.specs.Prelude.{◌≡◌, ◌≤◌, ◌<◌, ◌++◌, ◌∷◌, [], ◌⊎◌, ◌^◌, ◌-◌, ℕ, List, IsTrue, IsFalse, IfOk, IfSome, MatchOption, MatchResult, length, take, replicate, ◌+◌};
 ghost use Rattle.hdl_limits.specs.declared.TheConstants.{UNDER_WAY_MAX};
-ghost use Rattle.hdl_workers.specs.declared.worker.Why.TheVariants.{Device};
+ghost use Rattle.hdl_workers.specs.declared.worker.EndReason.TheVariants.{Device};
 ghost use Rattle.hdl_workers.specs.declared.item.Item.{Item};
 ghost use Rattle.hdl_lanes.specs.Lane.{put_into, taken_from, all_put, SameOutlet};
 ghost use Rattle.hdl_workers.specs.Door.{Counts, Gives};
@@ -14,13 +14,13 @@ ghost use Rattle.hdl_workers.specs.Mail.{to_peer, SendsReply, BeginsReply, Sends
 use crate::line::Line;
 use crate::relay::octets_of;
 use crate::stream::copy;
-use crate::worker::{Why, WorkerEnd, open, put_end, spend};
+use crate::worker::{EndReason, WorkerEnd, open, put_end, spend};
 use crate::{Clock, DoorFault, Item, Nonces, Packets};
 use arrayvec::ArrayVec;
-use hdl_events::{Octets, Outcome, What};
+use hdl_events::{Happening, Outcome};
 use hdl_frame::{ENVELOPE_LEN, one_datagram, pieces};
 use hdl_lanes::{Inlet, Outlet};
-use hdl_limits::{MESSAGE_MAX, PIECE_LEN, UNDER_WAY_MAX};
+use hdl_limits::{MESSAGE_MAX, Octets, PIECE_LEN, UNDER_WAY_MAX};
 use std::alloc::Global;
 
 /// The most octets of a datagram that is sent.
@@ -48,8 +48,8 @@ fn send_piece<P: Packets>(
 ) -> Result<(), DoorFault>
     requires short { length payload.now ≤ PIECE_LEN }
     ensures faults { Counts result (P.fault_count packets.old) (P.fault_count packets.new) }
-    ensures received { IsTrue P.tells → P.received packets.new ≡ P.received packets.old }
-    ensures sent { IsTrue P.tells → MatchResult result
+    ensures received { IsTrue P.is_observed → P.received packets.new ≡ P.received packets.old }
+    ensures sent { IsTrue P.is_observed → MatchResult result
         (λ _. P.sent packets.new ≡ P.sent packets.old ++ to_peer peer (envelope, payload.now) ∷ [])
         (λ _. P.sent packets.new ≡ P.sent packets.old) }
 {
@@ -62,9 +62,9 @@ fn send_piece<P: Packets>(
 fn send_reply<P: Packets>(packets: &mut P, peer: u16, octets: &[u8], turns: &mut u64) -> bool
     ensures turns { turns.new ≤ turns.old }
     ensures faults { P.fault_count packets.old ≤ P.fault_count packets.new }
-    ensures received { IsTrue P.tells → P.received packets.new ≡ P.received packets.old }
-    ensures whole { IsTrue P.tells → IsTrue result → Sends (SendsReply peer octets.now) (P.sent packets.old) (P.fault_count packets.old) (P.sent packets.new) (P.fault_count packets.new) }
-    ensures part { IsTrue P.tells → Sends (BeginsReply peer octets.now) (P.sent packets.old) (P.fault_count packets.old) (P.sent packets.new) (P.fault_count packets.new) }
+    ensures received { IsTrue P.is_observed → P.received packets.new ≡ P.received packets.old }
+    ensures whole { IsTrue P.is_observed → IsTrue result → Sends (SendsReply peer octets.now) (P.sent packets.old) (P.fault_count packets.old) (P.sent packets.new) (P.fault_count packets.new) }
+    ensures part { IsTrue P.is_observed → Sends (BeginsReply peer octets.now) (P.sent packets.old) (P.fault_count packets.old) (P.sent packets.new) (P.fault_count packets.new) }
 {
     for (envelope, payload) in pieces(octets) {
         if !spend(turns) {
@@ -92,14 +92,14 @@ fn put_frame<C: Clock, N: Nonces>(
     ensures taken { taken_by line.new ≡ taken_by line.old }
     ensures put { IsTrue result → PutOne (framed peer bytes) (put_by line.old) (put_by line.new) }
     ensures kept { IsFalse result → put_by line.new ≡ put_by line.old }
-    ensures moments { IsTrue C.tells → MomentsUsed (C.answers clock.old) (put_by line.old) (C.answers clock.new) (put_by line.new) }
-    ensures nonces { IsTrue N.tells → NoncesUsed (N.answers nonces.old) (put_by line.old) (N.answers nonces.new) (put_by line.new) }
+    ensures moments { IsTrue C.is_observed → MomentsUsed (C.answers clock.old) (put_by line.old) (C.answers clock.new) (put_by line.new) }
+    ensures nonces { IsTrue N.is_observed → NoncesUsed (N.answers nonces.old) (put_by line.old) (N.answers nonces.new) (put_by line.new) }
 {
     while spend(turns) {
         if line.has_room() {
             let moment = clock.now();
             let nonce = nonces.next();
-            line.put(What::Frame {
+            line.put(Happening::Frame {
                 peer,
                 moment,
                 nonce,
@@ -119,7 +119,7 @@ fn await_outcome<C: Clock>(line: &mut Line, clock: &mut C, turns: &mut u64) -> O
     ensures line { SameLine line.old line.new }
     ensures put { put_by line.new ≡ put_by line.old }
     ensures taken { MatchOption result (taken_by line.new ≡ taken_by line.old) (λ outcome. taken_by line.new ≡ taken_by line.old ++ outcome ∷ []) }
-    ensures answers { IsTrue C.tells → C.answers clock.new ≡ C.answers clock.old }
+    ensures answers { IsTrue C.is_observed → C.answers clock.new ≡ C.answers clock.old }
 {
     while spend(turns) {
         if let Some(outcome) = line.next() {
@@ -146,8 +146,8 @@ fn submit<C: Clock, N: Nonces>(
     ensures taken { taken_by line.new ≡ taken_by line.old }
     ensures put { IsTrue result → PutOne (framed peer octets.now) (put_by line.old) (put_by line.new) }
     ensures kept { IsFalse result → put_by line.new ≡ put_by line.old }
-    ensures moments { IsTrue C.tells → MomentsUsed (C.answers clock.old) (put_by line.old) (C.answers clock.new) (put_by line.new) }
-    ensures nonces { IsTrue N.tells → NoncesUsed (N.answers nonces.old) (put_by line.old) (N.answers nonces.new) (put_by line.new) }
+    ensures moments { IsTrue C.is_observed → MomentsUsed (C.answers clock.old) (put_by line.old) (C.answers clock.new) (put_by line.new) }
+    ensures nonces { IsTrue N.is_observed → NoncesUsed (N.answers nonces.old) (put_by line.old) (N.answers nonces.new) (put_by line.new) }
 {
     match copy(alloc, octets, turns) {
         Err(_) => false,
@@ -170,8 +170,8 @@ fn take_in<C: Clock, N: Nonces>(
     ensures turns { turns.new ≤ turns.old }
     ensures line { SameLine line.old line.new }
     ensures taken { taken_by line.new ≡ taken_by line.old }
-    ensures moments { IsTrue C.tells → MomentsUsed (C.answers clock.old) (put_by line.old) (C.answers clock.new) (put_by line.new) }
-    ensures nonces { IsTrue N.tells → NoncesUsed (N.answers nonces.old) (put_by line.old) (N.answers nonces.new) (put_by line.new) }
+    ensures moments { IsTrue C.is_observed → MomentsUsed (C.answers clock.old) (put_by line.old) (C.answers clock.new) (put_by line.new) }
+    ensures nonces { IsTrue N.is_observed → NoncesUsed (N.answers nonces.old) (put_by line.old) (N.answers nonces.new) (put_by line.new) }
     ensures took { IsTrue result → TakesIn (peer, octets.now) peers.old.items (put_by line.old) peers.new.items (put_by line.new) (taken_by line.new) }
     ensures cut { IsFalse result → MayTakeIn (peer, octets.now) peers.old.items (put_by line.old) (put_by line.new) (taken_by line.new) }
 {
@@ -201,11 +201,11 @@ fn reply_oldest<P: Packets, C: Clock>(
     ensures faults { P.fault_count packets.old ≤ P.fault_count packets.new }
     ensures line { SameLine line.old line.new }
     ensures put { put_by line.new ≡ put_by line.old }
-    ensures answers { IsTrue C.tells → C.answers clock.new ≡ C.answers clock.old }
-    ensures received { IsTrue P.tells → P.received packets.new ≡ P.received packets.old }
-    ensures replied { IsTrue P.tells → IsTrue result → Replies peers.old.items (put_by line.new)
+    ensures answers { IsTrue C.is_observed → C.answers clock.new ≡ C.answers clock.old }
+    ensures received { IsTrue P.is_observed → P.received packets.new ≡ P.received packets.old }
+    ensures replied { IsTrue P.is_observed → IsTrue result → Replies peers.old.items (put_by line.new)
         (P.sent packets.old) (P.fault_count packets.old) (taken_by line.old) peers.new.items (P.sent packets.new) (P.fault_count packets.new) (taken_by line.new) }
-    ensures cut { IsTrue P.tells → IsFalse result → MayReply peers.old.items (put_by line.new)
+    ensures cut { IsTrue P.is_observed → IsFalse result → MayReply peers.old.items (put_by line.new)
         (P.sent packets.old) (P.fault_count packets.old) (taken_by line.old) (P.sent packets.new) (P.fault_count packets.new) (taken_by line.new) }
 {
     let peer = peers.remove(0);
@@ -231,11 +231,11 @@ fn reply_all<P: Packets, C: Clock>(
     ensures faults { P.fault_count packets.old ≤ P.fault_count packets.new }
     ensures line { SameLine line.old line.new }
     ensures put { put_by line.new ≡ put_by line.old }
-    ensures answers { IsTrue C.tells → C.answers clock.new ≡ C.answers clock.old }
-    ensures received { IsTrue P.tells → P.received packets.new ≡ P.received packets.old }
-    ensures replied { IsTrue P.tells → IsTrue result → Replies peers.old.items (put_by line.new)
+    ensures answers { IsTrue C.is_observed → C.answers clock.new ≡ C.answers clock.old }
+    ensures received { IsTrue P.is_observed → P.received packets.new ≡ P.received packets.old }
+    ensures replied { IsTrue P.is_observed → IsTrue result → Replies peers.old.items (put_by line.new)
         (P.sent packets.old) (P.fault_count packets.old) (taken_by line.old) [] (P.sent packets.new) (P.fault_count packets.new) (taken_by line.new) }
-    ensures cut { IsTrue P.tells → IsFalse result → MayReply peers.old.items (put_by line.new)
+    ensures cut { IsTrue P.is_observed → IsFalse result → MayReply peers.old.items (put_by line.new)
         (P.sent packets.old) (P.fault_count packets.old) (taken_by line.old) (P.sent packets.new) (P.fault_count packets.new) (taken_by line.new) }
 {
     while !peers.is_empty() {
@@ -255,8 +255,8 @@ fn receive_next<P: Packets>(
     ensures faults { Counts result (P.fault_count packets.old) (P.fault_count packets.new) }
     ensures fits { IfOk result (λ came. IfSome came (λ d. d.1 ≤ length buffer.new)) }
     ensures room { IfOk result (λ came. IfSome came (λ _. length peers.now.items < UNDER_WAY_MAX)) }
-    ensures sent { IsTrue P.tells → P.sent packets.new ≡ P.sent packets.old }
-    ensures received { IsTrue P.tells → MatchResult result
+    ensures sent { IsTrue P.is_observed → P.sent packets.new ≡ P.sent packets.old }
+    ensures received { IsTrue P.is_observed → MatchResult result
         (λ came. MatchOption came (P.received packets.new ≡ P.received packets.old) (λ d. P.received packets.new ≡ P.received packets.old ++ (d.0, take d.1 buffer.new) ∷ []))
         (λ _. P.received packets.new ≡ P.received packets.old) }
 {
@@ -279,11 +279,11 @@ fn go_on<P: Packets, C: Clock>(
     ensures faults { P.fault_count packets.old ≤ P.fault_count packets.new }
     ensures line { SameLine line.old line.new }
     ensures put { put_by line.new ≡ put_by line.old }
-    ensures answers { IsTrue C.tells → C.answers clock.new ≡ C.answers clock.old }
-    ensures received { IsTrue P.tells → P.received packets.new ≡ P.received packets.old }
-    ensures replied { IsTrue P.tells → IsTrue result → Replies peers.old.items (put_by line.new)
+    ensures answers { IsTrue C.is_observed → C.answers clock.new ≡ C.answers clock.old }
+    ensures received { IsTrue P.is_observed → P.received packets.new ≡ P.received packets.old }
+    ensures replied { IsTrue P.is_observed → IsTrue result → Replies peers.old.items (put_by line.new)
         (P.sent packets.old) (P.fault_count packets.old) (taken_by line.old) peers.new.items (P.sent packets.new) (P.fault_count packets.new) (taken_by line.new) }
-    ensures cut { IsTrue P.tells → IsFalse result → MayReply peers.old.items (put_by line.new)
+    ensures cut { IsTrue P.is_observed → IsFalse result → MayReply peers.old.items (put_by line.new)
         (P.sent packets.old) (P.fault_count packets.old) (taken_by line.old) (P.sent packets.new) (P.fault_count packets.new) (taken_by line.new) }
 {
     if peers.is_empty() {
@@ -300,7 +300,7 @@ fn begin<C: Clock>(line: &mut Line, clock: &mut C, turns: &mut u64) -> bool
     ensures line { SameLine line.old line.new }
     ensures traded { IsTrue result → (n : ℕ) → Traded [] [] n n (put_by line.new) (taken_by line.new) }
     ensures cut { IsFalse result → (n : ℕ) → Trades [] [] n n (put_by line.new) (taken_by line.new) }
-    ensures moments { IsTrue C.tells → MomentsUsed (C.answers clock.old) (put_by line.old) (C.answers clock.new) (put_by line.new) }
+    ensures moments { IsTrue C.is_observed → MomentsUsed (C.answers clock.old) (put_by line.old) (C.answers clock.new) (put_by line.new) }
     ensures nonces { nonces_of (put_by line.new) ≡ nonces_of (put_by line.old) }
 {
     if !open(line, clock, turns) {
@@ -323,18 +323,18 @@ fn serve_packets<P: Packets, C: Clock, N: Nonces>(
     clock: &mut C,
     nonces: &mut N,
     turns: &mut u64,
-) -> Why
+) -> EndReason
     requires empty { (put_by line.old ≡ []) × (taken_by line.old ≡ []) }
-    requires first { IsTrue P.tells → (P.received packets.old ≡ []) × (P.sent packets.old ≡ []) }
+    requires first { IsTrue P.is_observed → (P.received packets.old ≡ []) × (P.sent packets.old ≡ []) }
     ensures line { SameLine line.old line.new }
-    ensures moments { IsTrue C.tells → MomentsUsed (C.answers clock.old) (put_by line.old) (C.answers clock.new) (put_by line.new) }
-    ensures nonces { IsTrue N.tells → NoncesUsed (N.answers nonces.old) (put_by line.old) (N.answers nonces.new) (put_by line.new) }
+    ensures moments { IsTrue C.is_observed → MomentsUsed (C.answers clock.old) (put_by line.old) (C.answers clock.new) (put_by line.new) }
+    ensures nonces { IsTrue N.is_observed → NoncesUsed (N.answers nonces.old) (put_by line.old) (N.answers nonces.new) (put_by line.new) }
     ensures device { result ≡ Device → (P.fault_count packets.old < P.fault_count packets.new) ⊎ (P.fault_count packets.old ≡ 2 ^ 64 - 1) }
-    ensures whole { IsTrue P.tells → result ≡ Device → Traded (P.received packets.new) (P.sent packets.new) (P.fault_count packets.old) (P.fault_count packets.new) (put_by line.new) (taken_by line.new) }
-    ensures trades { IsTrue P.tells → Trades (P.received packets.new) (P.sent packets.new) (P.fault_count packets.old) (P.fault_count packets.new) (put_by line.new) (taken_by line.new) }
+    ensures whole { IsTrue P.is_observed → result ≡ Device → Traded (P.received packets.new) (P.sent packets.new) (P.fault_count packets.old) (P.fault_count packets.new) (put_by line.new) (taken_by line.new) }
+    ensures trades { IsTrue P.is_observed → Trades (P.received packets.new) (P.sent packets.new) (P.fault_count packets.old) (P.fault_count packets.new) (put_by line.new) (taken_by line.new) }
 {
     if !begin(line, clock, turns) {
-        return Why::Turns;
+        return EndReason::Turns;
     }
     let mut buffer = [0u8; RECEIVED_MAX];
     let mut peers = ArrayVec::new();
@@ -342,24 +342,24 @@ fn serve_packets<P: Packets, C: Clock, N: Nonces>(
         match receive_next(packets, &peers, &mut buffer) {
             Err(_) => {
                 if reply_all(packets, line, &mut peers, clock, turns) {
-                    return Why::Device;
+                    return EndReason::Device;
                 }
-                return Why::Turns;
+                return EndReason::Turns;
             }
             Ok(None) => {
                 if !go_on(packets, line, &mut peers, clock, turns) {
-                    return Why::Turns;
+                    return EndReason::Turns;
                 }
             }
             Ok(Some((peer, length))) => {
                 let octets = &buffer[..length];
                 if !take_in(alloc, line, &mut peers, clock, nonces, turns, peer, octets) {
-                    return Why::Turns;
+                    return EndReason::Turns;
                 }
             }
         }
     }
-    Why::Turns
+    EndReason::Turns
 }
 
 /// Serves datagrams until the turns are spent or `receive` fails: then it sends the replies that are owed, puts End and ends with Device.
@@ -378,15 +378,15 @@ pub fn packet_worker<P: Packets, C: Clock, N: Nonces>(
     turns: u64,
 ) -> WorkerEnd
     requires empty { (put_into inlet ≡ []) × (taken_from outcomes ≡ []) }
-    requires first { IsTrue P.tells → (P.received packets.old ≡ []) × (P.sent packets.old ≡ []) }
+    requires first { IsTrue P.is_observed → (P.received packets.old ≡ []) × (P.sent packets.old ≡ []) }
     ensures inlet { EndsLane inlet result.ended }
     ensures outlet { SameOutlet outcomes result.outlet }
-    ensures device { result.why ≡ Device → (P.fault_count packets.old < P.fault_count packets.new) ⊎ (P.fault_count packets.old ≡ 2 ^ 64 - 1) }
-    ensures moments { IsTrue C.tells → Gives 0 (C.answers clock.old) (moments_of (all_put result.ended)) (C.answers clock.new) }
-    ensures nonces { IsTrue N.tells → Gives (replicate 16 0) (N.answers nonces.old) (nonces_of (all_put result.ended)) (N.answers nonces.new) }
-    ensures whole { IsTrue P.tells → result.why ≡ Device → (events : List Item) × WithEnd events (all_put result.ended)
+    ensures device { result.reason ≡ Device → (P.fault_count packets.old < P.fault_count packets.new) ⊎ (P.fault_count packets.old ≡ 2 ^ 64 - 1) }
+    ensures moments { IsTrue C.is_observed → Gives 0 (C.answers clock.old) (moments_of (all_put result.ended)) (C.answers clock.new) }
+    ensures nonces { IsTrue N.is_observed → Gives (replicate 16 0) (N.answers nonces.old) (nonces_of (all_put result.ended)) (N.answers nonces.new) }
+    ensures whole { IsTrue P.is_observed → result.reason ≡ Device → (events : List Item) × WithEnd events (all_put result.ended)
         × Traded (P.received packets.new) (P.sent packets.new) (P.fault_count packets.old) (P.fault_count packets.new) events (taken_from result.outlet) }
-    ensures trades { IsTrue P.tells → (events : List Item) × WithEnd events (all_put result.ended)
+    ensures trades { IsTrue P.is_observed → (events : List Item) × WithEnd events (all_put result.ended)
         × Trades (P.received packets.new) (P.sent packets.new) (P.fault_count packets.old) (P.fault_count packets.new) events (taken_from result.outlet) }
 {
     let mut turns = turns;
@@ -395,17 +395,17 @@ pub fn packet_worker<P: Packets, C: Clock, N: Nonces>(
         outcomes,
         waiting: 0,
     };
-    let why = serve_packets(alloc, packets, &mut line, clock, nonces, &mut turns);
+    let reason = serve_packets(alloc, packets, &mut line, clock, nonces, &mut turns);
     let Line {
         mut inlet,
         outcomes,
         waiting: _,
     } = line;
-    if why == Why::Device {
+    if reason == EndReason::Device {
         put_end(&mut inlet, clock, &mut turns);
     }
     WorkerEnd {
-        why,
+        reason,
         ended: inlet.finish(),
         outlet: outcomes,
     }

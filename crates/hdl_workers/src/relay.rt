@@ -22,10 +22,10 @@ fn write_all<D: Door>(door: &mut D, octets: &[u8], turns: &mut u64) -> Result<()
     ensures turns { turns.new ≤ turns.old }
     ensures faults { D.fault_count door.old ≤ D.fault_count door.new }
     ensures still_open { D.is_open door.new ≡ D.is_open door.old }
-    ensures ended { IsTrue D.tells → D.ended door.new ≡ D.ended door.old }
-    ensures whole { IsTrue D.tells → OnOk result (D.current door.new ≡ say octets.now (D.current door.old)) }
-    ensures part { IsTrue D.tells → IsPrefix (D.current door.new).written ((D.current door.old).written ++ octets.now) × ((D.current door.new).read ≡ (D.current door.old).read) }
-    ensures broken { IsTrue D.tells → IfErr result (λ stop. stop ≡ Broken → (D.current door.new).broken ≡ true) }
+    ensures ended { IsTrue D.is_observed → D.ended door.new ≡ D.ended door.old }
+    ensures whole { IsTrue D.is_observed → OnOk result (D.current door.new ≡ say octets.now (D.current door.old)) }
+    ensures part { IsTrue D.is_observed → IsPrefix (D.current door.new).written ((D.current door.old).written ++ octets.now) × ((D.current door.new).read ≡ (D.current door.old).read) }
+    ensures broken { IsTrue D.is_observed → IfErr result (λ stop. stop ≡ Broken → (D.current door.new).broken ≡ true) }
 {
     let mut at = 0;
     while at < octets.len() {
@@ -56,10 +56,10 @@ fn write_outcome<D: Door>(door: &mut D, outcome: &Outcome, turns: &mut u64) -> R
     ensures turns { turns.new ≤ turns.old }
     ensures faults { D.fault_count door.old ≤ D.fault_count door.new }
     ensures still_open { D.is_open door.new ≡ D.is_open door.old }
-    ensures ended { IsTrue D.tells → D.ended door.new ≡ D.ended door.old }
-    ensures whole { IsTrue D.tells → OnOk result (D.current door.new ≡ say (octets_of outcome.now) (D.current door.old)) }
-    ensures part { IsTrue D.tells → IsPrefix (D.current door.new).written ((D.current door.old).written ++ octets_of outcome.now) × ((D.current door.new).read ≡ (D.current door.old).read) }
-    ensures broken { IsTrue D.tells → IfErr result (λ stop. stop ≡ Broken → (D.current door.new).broken ≡ true) }
+    ensures ended { IsTrue D.is_observed → D.ended door.new ≡ D.ended door.old }
+    ensures whole { IsTrue D.is_observed → OnOk result (D.current door.new ≡ say (octets_of outcome.now) (D.current door.old)) }
+    ensures part { IsTrue D.is_observed → IsPrefix (D.current door.new).written ((D.current door.old).written ++ octets_of outcome.now) × ((D.current door.new).read ≡ (D.current door.old).read) }
+    ensures broken { IsTrue D.is_observed → IfErr result (λ stop. stop ≡ Broken → (D.current door.new).broken ≡ true) }
 {
     write_all(door, octets_of(outcome), turns)
 }
@@ -92,7 +92,7 @@ fn join<C: Clock>(
 ) -> Option<Outcome>
     ensures line { SameLine line.old line.new }
     ensures put { put_by line.new ≡ put_by line.old }
-    ensures answers { IsTrue C.tells → C.answers clock.new ≡ C.answers clock.old }
+    ensures answers { IsTrue C.is_observed → C.answers clock.new ≡ C.answers clock.old }
     ensures joined { MatchOption result
         (Joins (taken_by line.old) joined.old.items (taken_by line.new) joined.new.items)
         (λ last. (u : List Outcome) × (taken_by line.new ≡ u ++ last ∷ []) × Joins (taken_by line.old) joined.old.items u joined.new.items) }
@@ -119,11 +119,11 @@ fn write_joined<D: Door, C: Clock>(
     ensures still_open { D.is_open door.new ≡ D.is_open door.old }
     ensures line { SameLine line.old line.new }
     ensures put { put_by line.new ≡ put_by line.old }
-    ensures answers { IsTrue C.tells → C.answers clock.new ≡ C.answers clock.old }
-    ensures ended { IsTrue D.tells → D.ended door.new ≡ D.ended door.old }
-    ensures whole { IsTrue D.tells → OnOk result ((t : List Outcome) → taken_by line.old ≡ t ++ first ∷ [] → Relayed t (D.current door.old) (taken_by line.new) (D.current door.new)) }
-    ensures part { IsTrue D.tells → (t : List Outcome) → taken_by line.old ≡ t ++ first ∷ [] → RelayedPart t (D.current door.old) (taken_by line.new) (D.current door.new) }
-    ensures broken { IsTrue D.tells → IfErr result (λ stop. stop ≡ Broken → (D.current door.new).broken ≡ true) }
+    ensures answers { IsTrue C.is_observed → C.answers clock.new ≡ C.answers clock.old }
+    ensures ended { IsTrue D.is_observed → D.ended door.new ≡ D.ended door.old }
+    ensures whole { IsTrue D.is_observed → OnOk result ((t : List Outcome) → taken_by line.old ≡ t ++ first ∷ [] → Relayed t (D.current door.old) (taken_by line.new) (D.current door.new)) }
+    ensures part { IsTrue D.is_observed → (t : List Outcome) → taken_by line.old ≡ t ++ first ∷ [] → RelayedPart t (D.current door.old) (taken_by line.new) (D.current door.new) }
+    ensures broken { IsTrue D.is_observed → IfErr result (λ stop. stop ≡ Broken → (D.current door.new).broken ≡ true) }
 {
     let mut joined = ArrayVec::new();
     match joined.try_extend_from_slice(octets_of(&first)) {
@@ -151,11 +151,11 @@ fn relay<D: Door, C: Clock>(
     ensures still_open { D.is_open door.new ≡ D.is_open door.old }
     ensures line { SameLine line.old line.new }
     ensures put { put_by line.new ≡ put_by line.old }
-    ensures answers { IsTrue C.tells → C.answers clock.new ≡ C.answers clock.old }
-    ensures ended { IsTrue D.tells → D.ended door.new ≡ D.ended door.old }
-    ensures whole { IsTrue D.tells → OnOk result (Relayed (taken_by line.old) (D.current door.old) (taken_by line.new) (D.current door.new)) }
-    ensures part { IsTrue D.tells → RelayedPart (taken_by line.old) (D.current door.old) (taken_by line.new) (D.current door.new) }
-    ensures broken { IsTrue D.tells → IfErr result (λ stop. stop ≡ Broken → (D.current door.new).broken ≡ true) }
+    ensures answers { IsTrue C.is_observed → C.answers clock.new ≡ C.answers clock.old }
+    ensures ended { IsTrue D.is_observed → D.ended door.new ≡ D.ended door.old }
+    ensures whole { IsTrue D.is_observed → OnOk result (Relayed (taken_by line.old) (D.current door.old) (taken_by line.new) (D.current door.new)) }
+    ensures part { IsTrue D.is_observed → RelayedPart (taken_by line.old) (D.current door.old) (taken_by line.new) (D.current door.new) }
+    ensures broken { IsTrue D.is_observed → IfErr result (λ stop. stop ≡ Broken → (D.current door.new).broken ≡ true) }
 {
     if !spend(turns) {
         return Err(Stop::Turns);
@@ -175,7 +175,7 @@ fn relay<D: Door, C: Clock>(
 }
 
 /// Waits until each event put has its outcome, and that was written.
-pub(crate) fn settle<D: Door, C: Clock>(
+pub(crate) fn await_outcomes<D: Door, C: Clock>(
     door: &mut D,
     line: &mut Line,
     clock: &mut C,
@@ -186,12 +186,12 @@ pub(crate) fn settle<D: Door, C: Clock>(
     ensures still_open { D.is_open door.new ≡ D.is_open door.old }
     ensures line { SameLine line.old line.new }
     ensures put { put_by line.new ≡ put_by line.old }
-    ensures answers { IsTrue C.tells → C.answers clock.new ≡ C.answers clock.old }
-    ensures ended { IsTrue D.tells → D.ended door.new ≡ D.ended door.old }
+    ensures answers { IsTrue C.is_observed → C.answers clock.new ≡ C.answers clock.old }
+    ensures ended { IsTrue D.is_observed → D.ended door.new ≡ D.ended door.old }
     ensures settled { OnOk result (length (taken_by line.new) ≡ length (put_by line.new)) }
-    ensures whole { IsTrue D.tells → OnOk result (Relayed (taken_by line.old) (D.current door.old) (taken_by line.new) (D.current door.new)) }
-    ensures part { IsTrue D.tells → RelayedPart (taken_by line.old) (D.current door.old) (taken_by line.new) (D.current door.new) }
-    ensures broken { IsTrue D.tells → IfErr result (λ stop. stop ≡ Broken → (D.current door.new).broken ≡ true) }
+    ensures whole { IsTrue D.is_observed → OnOk result (Relayed (taken_by line.old) (D.current door.old) (taken_by line.new) (D.current door.new)) }
+    ensures part { IsTrue D.is_observed → RelayedPart (taken_by line.old) (D.current door.old) (taken_by line.new) (D.current door.new) }
+    ensures broken { IsTrue D.is_observed → IfErr result (λ stop. stop ≡ Broken → (D.current door.new).broken ≡ true) }
 {
     while line.waiting > 0 {
         relay(door, line, clock, turns)?;
@@ -212,11 +212,11 @@ pub(crate) fn await_room<D: Door, C: Clock>(
     ensures line { SameLine line.old line.new }
     ensures put { put_by line.new ≡ put_by line.old }
     ensures room { OnOk result (HasPlace line.new) }
-    ensures answers { IsTrue C.tells → C.answers clock.new ≡ C.answers clock.old }
-    ensures ended { IsTrue D.tells → D.ended door.new ≡ D.ended door.old }
-    ensures whole { IsTrue D.tells → OnOk result (Relayed (taken_by line.old) (D.current door.old) (taken_by line.new) (D.current door.new)) }
-    ensures part { IsTrue D.tells → RelayedPart (taken_by line.old) (D.current door.old) (taken_by line.new) (D.current door.new) }
-    ensures broken { IsTrue D.tells → IfErr result (λ stop. stop ≡ Broken → (D.current door.new).broken ≡ true) }
+    ensures answers { IsTrue C.is_observed → C.answers clock.new ≡ C.answers clock.old }
+    ensures ended { IsTrue D.is_observed → D.ended door.new ≡ D.ended door.old }
+    ensures whole { IsTrue D.is_observed → OnOk result (Relayed (taken_by line.old) (D.current door.old) (taken_by line.new) (D.current door.new)) }
+    ensures part { IsTrue D.is_observed → RelayedPart (taken_by line.old) (D.current door.old) (taken_by line.new) (D.current door.new) }
+    ensures broken { IsTrue D.is_observed → IfErr result (λ stop. stop ≡ Broken → (D.current door.new).broken ≡ true) }
 {
     while spend(turns) {
         if line.has_room() {

@@ -3,7 +3,7 @@
 ghost use Rattle.std.specs.Prelude.{◌≡◌, length, IfOk};
 ghost use Rattle.hdl_workers.specs.Ends.{AreDistinct, AreLanes};
 
-use crate::{Far, LaneEnds};
+use crate::{LaneEnds, WorkerSide};
 use hdl_lanes::lane;
 use std::alloc::{AllocError, Global};
 
@@ -12,7 +12,7 @@ pub fn lanes_of(
     alloc: Global,
     count: u16,
     capacity: usize,
-) -> Result<(Vec<LaneEnds>, Vec<Far>), AllocError>
+) -> Result<(Vec<LaneEnds>, Vec<WorkerSide>), AllocError>
     ensures distinct { IfOk result (λ sides. AreDistinct sides.0.items) }
     ensures lanes { IfOk result (λ sides. AreLanes 0 sides.0.items sides.1.items) }
     ensures count { IfOk result (λ sides. length sides.0.items ≡ count) }
@@ -27,7 +27,7 @@ pub fn lanes_of(
             items,
             outcomes: given,
         })?;
-        far.push(Far { inlet, outcomes })?;
+        far.push(WorkerSide { inlet, outcomes })?;
     }
     Ok((ends, far))
 }

@@ -12,7 +12,7 @@ pub struct MemoryClock {
 }
 
 impl Clock for MemoryClock {
-    ghost tells = { true };
+    ghost is_observed = { true };
 
     ghost answers = { λ c. c.coming.items };
 
@@ -35,7 +35,7 @@ pub struct MemoryNonces {
 }
 
 impl Nonces for MemoryNonces {
-    ghost tells = { true };
+    ghost is_observed = { true };
 
     ghost answers = { λ n. n.coming.items };
 

@@ -3,11 +3,11 @@
 ghost use Rattle.std.specs.Prelude.{◌≡◌, ◌++◌, ◌∷◌, [], ◌≤◌, ◌<◌, IsTrue, IsFalse, OnOk, ◌⊎◌, ◌^◌, ◌-◌, IfErr, IfOk, OnErr, List, ℕ, true, length, None, replicate};
 ghost use Rattle.hdl_frame.specs.Held.{Held};
 ghost use Rattle.hdl_workers.specs.declared.worker.Stop.TheVariants.{Broken, Turns};
-ghost use Rattle.hdl_workers.specs.declared.worker.Why.TheVariants.{Device};
+ghost use Rattle.hdl_workers.specs.declared.worker.EndReason.TheVariants.{Device};
 ghost use Rattle.hdl_workers.specs.declared.item.Item.{Item};
 ghost use Rattle.hdl_workers.specs.declared.item.Item.TheVariants.{Event};
 ghost use Rattle.hdl_events.specs.declared.Outcome.{Outcome};
-ghost use Rattle.hdl_events.specs.declared.What.TheVariants.{Bad, Close};
+ghost use Rattle.hdl_events.specs.declared.Happening.TheVariants.{Bad, Close};
 ghost use Rattle.hdl_lanes.specs.Lane.{put_into, taken_from, all_put, SameOutlet};
 ghost use Rattle.hdl_workers.specs.Door.{fresh, hear, Gives};
 ghost use Rattle.hdl_workers.specs.Found.{Finds, fault_found};
@@ -17,12 +17,13 @@ ghost use Rattle.hdl_workers.specs.Sign.{framed, moments_of, nonces_of, MomentsU
 ghost use Rattle.hdl_workers.specs.Talk.{fault_sign, FramesSoFar, Waiting, AllFrames, SomeFrames, AnyBeginning, Underway, CutOff, CanClose, History, Serves};
 
 use crate::line::Line;
-use crate::relay::{await_room, settle};
-use crate::worker::{Stop, Why, WorkerEnd, open, put_end, spend};
+use crate::relay::{await_outcomes, await_room};
+use crate::worker::{EndReason, Stop, WorkerEnd, open, put_end, spend};
 use crate::{Clock, Door, Item, Nonces};
-use hdl_events::{Octets, Outcome, What};
+use hdl_events::{Happening, Outcome};
 use hdl_frame::{Cutter, FrameFault};
 use hdl_lanes::{Inlet, Outlet};
+use hdl_limits::Octets;
 use std::alloc::Global;
 
 /// How many octets are asked of a connection at a time.
@@ -97,17 +98,17 @@ fn submit_frame<D: Door, C: Clock, N: Nonces>(
     ensures line { SameLine line.old line.new }
     ensures put { OnOk result (PutOne (framed 0 bytes) (put_by line.old) (put_by line.new)) }
     ensures kept { OnErr result (put_by line.new ≡ put_by line.old) }
-    ensures moments { IsTrue C.tells → MomentsUsed (C.answers clock.old) (put_by line.old) (C.answers clock.new) (put_by line.new) }
-    ensures nonces { IsTrue N.tells → NoncesUsed (N.answers nonces.old) (put_by line.old) (N.answers nonces.new) (put_by line.new) }
-    ensures ended { IsTrue D.tells → D.ended door.new ≡ D.ended door.old }
-    ensures whole { IsTrue D.tells → OnOk result (Relayed (taken_by line.old) (D.current door.old) (taken_by line.new) (D.current door.new)) }
-    ensures part { IsTrue D.tells → RelayedPart (taken_by line.old) (D.current door.old) (taken_by line.new) (D.current door.new) }
-    ensures broken { IsTrue D.tells → IfErr result (λ stop. stop ≡ Broken → (D.current door.new).broken ≡ true) }
+    ensures moments { IsTrue C.is_observed → MomentsUsed (C.answers clock.old) (put_by line.old) (C.answers clock.new) (put_by line.new) }
+    ensures nonces { IsTrue N.is_observed → NoncesUsed (N.answers nonces.old) (put_by line.old) (N.answers nonces.new) (put_by line.new) }
+    ensures ended { IsTrue D.is_observed → D.ended door.new ≡ D.ended door.old }
+    ensures whole { IsTrue D.is_observed → OnOk result (Relayed (taken_by line.old) (D.current door.old) (taken_by line.new) (D.current door.new)) }
+    ensures part { IsTrue D.is_observed → RelayedPart (taken_by line.old) (D.current door.old) (taken_by line.new) (D.current door.new) }
+    ensures broken { IsTrue D.is_observed → IfErr result (λ stop. stop ≡ Broken → (D.current door.new).broken ≡ true) }
 {
     await_room(door, line, clock, turns)?;
     let moment = clock.now();
     let nonce = nonces.next();
-    line.put(What::Frame {
+    line.put(Happening::Frame {
         peer: 0,
         moment,
         nonce,
@@ -131,14 +132,14 @@ fn submit_fault<D: Door, C: Clock>(
     ensures line { SameLine line.old line.new }
     ensures put { OnOk result (put_by line.new ≡ put_by line.old ++ Event (Bad session request) ∷ []) }
     ensures kept { OnErr result (put_by line.new ≡ put_by line.old) }
-    ensures answers { IsTrue C.tells → C.answers clock.new ≡ C.answers clock.old }
-    ensures ended { IsTrue D.tells → D.ended door.new ≡ D.ended door.old }
-    ensures whole { IsTrue D.tells → OnOk result (Relayed (taken_by line.old) (D.current door.old) (taken_by line.new) (D.current door.new)) }
-    ensures part { IsTrue D.tells → RelayedPart (taken_by line.old) (D.current door.old) (taken_by line.new) (D.current door.new) }
-    ensures broken { IsTrue D.tells → IfErr result (λ stop. stop ≡ Broken → (D.current door.new).broken ≡ true) }
+    ensures answers { IsTrue C.is_observed → C.answers clock.new ≡ C.answers clock.old }
+    ensures ended { IsTrue D.is_observed → D.ended door.new ≡ D.ended door.old }
+    ensures whole { IsTrue D.is_observed → OnOk result (Relayed (taken_by line.old) (D.current door.old) (taken_by line.new) (D.current door.new)) }
+    ensures part { IsTrue D.is_observed → RelayedPart (taken_by line.old) (D.current door.old) (taken_by line.new) (D.current door.new) }
+    ensures broken { IsTrue D.is_observed → IfErr result (λ stop. stop ≡ Broken → (D.current door.new).broken ≡ true) }
 {
     await_room(door, line, clock, turns)?;
-    line.put(What::Bad { session, request });
+    line.put(Happening::Bad { session, request });
     Ok(())
 }
 
@@ -154,19 +155,19 @@ fn submit_frames<D: Door, C: Clock, N: Nonces>(
     cutter: &mut Cutter,
 ) -> Result<bool, Stop>
     requires sound { cutter.old.fault ≡ None }
-    requires talk { IsTrue D.tells → Underway (FramesSoFar cutter.old.rest) (D.ended door.old) (D.current door.old) (put_by line.old) (taken_by line.old) }
+    requires talk { IsTrue D.is_observed → Underway (FramesSoFar cutter.old.rest) (D.ended door.old) (D.current door.old) (put_by line.old) (taken_by line.old) }
     ensures turns { turns.new ≤ turns.old }
     ensures faults { D.fault_count door.old ≤ D.fault_count door.new }
     ensures still_open { D.is_open door.new ≡ D.is_open door.old }
     ensures line { SameLine line.old line.new }
     ensures sound { IfOk result (λ faulty. IsFalse faulty → cutter.new.fault ≡ None) }
-    ensures moments { IsTrue C.tells → MomentsUsed (C.answers clock.old) (put_by line.old) (C.answers clock.new) (put_by line.new) }
-    ensures nonces { IsTrue N.tells → NoncesUsed (N.answers nonces.old) (put_by line.old) (N.answers nonces.new) (put_by line.new) }
-    ensures ended { IsTrue D.tells → D.ended door.new ≡ D.ended door.old }
-    ensures waits { IsTrue D.tells → IfOk result (λ faulty. IsFalse faulty → Underway (Waiting cutter.new.rest) (D.ended door.new) (D.current door.new) (put_by line.new) (taken_by line.new)) }
-    ensures stops { IsTrue D.tells → IfOk result (λ faulty. IsTrue faulty → Underway AllFrames (D.ended door.new) (D.current door.new) (put_by line.new) (taken_by line.new)) }
-    ensures cut { IsTrue D.tells → CutOff SomeFrames (D.ended door.new) (D.current door.new) (put_by line.new) (taken_by line.new) }
-    ensures broken { IsTrue D.tells → IfErr result (λ stop. stop ≡ Broken → (D.current door.new).broken ≡ true) }
+    ensures moments { IsTrue C.is_observed → MomentsUsed (C.answers clock.old) (put_by line.old) (C.answers clock.new) (put_by line.new) }
+    ensures nonces { IsTrue N.is_observed → NoncesUsed (N.answers nonces.old) (put_by line.old) (N.answers nonces.new) (put_by line.new) }
+    ensures ended { IsTrue D.is_observed → D.ended door.new ≡ D.ended door.old }
+    ensures waits { IsTrue D.is_observed → IfOk result (λ faulty. IsFalse faulty → Underway (Waiting cutter.new.rest) (D.ended door.new) (D.current door.new) (put_by line.new) (taken_by line.new)) }
+    ensures stops { IsTrue D.is_observed → IfOk result (λ faulty. IsTrue faulty → Underway AllFrames (D.ended door.new) (D.current door.new) (put_by line.new) (taken_by line.new)) }
+    ensures cut { IsTrue D.is_observed → CutOff SomeFrames (D.ended door.new) (D.current door.new) (put_by line.new) (taken_by line.new) }
+    ensures broken { IsTrue D.is_observed → IfErr result (λ stop. stop ≡ Broken → (D.current door.new).broken ≡ true) }
 {
     while *turns > 0 {
         match find(alloc, cutter, turns)? {
@@ -192,12 +193,12 @@ fn hear<D: Door>(
     ensures turns { (turns.new ≤ turns.old) × OnOk result (turns.new < turns.old) }
     ensures faults { D.fault_count door.old ≤ D.fault_count door.new }
     ensures still_open { D.is_open door.new ≡ D.is_open door.old }
-    ensures ended { IsTrue D.tells → D.ended door.new ≡ D.ended door.old }
+    ensures ended { IsTrue D.is_observed → D.ended door.new ≡ D.ended door.old }
     ensures sound { OnOk result (cutter.new.fault ≡ None) }
-    ensures came { IsTrue D.tells → IfOk result (λ came. IsTrue came → (octets : List ℕ) × (D.current door.new ≡ hear octets (D.current door.old)) × (cutter.new ≡ record { rest = cutter.old.rest ++ octets; fault = None })) }
-    ensures closed { IsTrue D.tells → IfOk result (λ came. IsFalse came → (D.current door.new ≡ D.current door.old) × (cutter.new ≡ cutter.old)) }
+    ensures came { IsTrue D.is_observed → IfOk result (λ came. IsTrue came → (octets : List ℕ) × (D.current door.new ≡ hear octets (D.current door.old)) × (cutter.new ≡ record { rest = cutter.old.rest ++ octets; fault = None })) }
+    ensures closed { IsTrue D.is_observed → IfOk result (λ came. IsFalse came → (D.current door.new ≡ D.current door.old) × (cutter.new ≡ cutter.old)) }
     ensures turns_only { IfErr result (λ stop. stop ≡ Turns) }
-    ensures heard { IsTrue D.tells → (octets : List ℕ) × (D.current door.new ≡ hear octets (D.current door.old)) }
+    ensures heard { IsTrue D.is_observed → (octets : List ℕ) × (D.current door.new ≡ hear octets (D.current door.old)) }
 {
     if !spend(turns) {
         return Err(Stop::Turns);
@@ -226,28 +227,28 @@ fn converse<D: Door, C: Clock, N: Nonces>(
     turns: &mut u64,
     buffer: &mut [u8],
 ) -> Result<(), Stop>
-    requires talk { IsTrue D.tells → Underway (Waiting []) (D.ended door.old) (D.current door.old) (put_by line.old) (taken_by line.old) }
+    requires talk { IsTrue D.is_observed → Underway (Waiting []) (D.ended door.old) (D.current door.old) (put_by line.old) (taken_by line.old) }
     ensures turns { turns.new ≤ turns.old }
     ensures faults { D.fault_count door.old ≤ D.fault_count door.new }
     ensures still_open { D.is_open door.new ≡ D.is_open door.old }
     ensures line { SameLine line.old line.new }
-    ensures moments { IsTrue C.tells → MomentsUsed (C.answers clock.old) (put_by line.old) (C.answers clock.new) (put_by line.new) }
-    ensures nonces { IsTrue N.tells → NoncesUsed (N.answers nonces.old) (put_by line.old) (N.answers nonces.new) (put_by line.new) }
-    ensures ended { IsTrue D.tells → D.ended door.new ≡ D.ended door.old }
+    ensures moments { IsTrue C.is_observed → MomentsUsed (C.answers clock.old) (put_by line.old) (C.answers clock.new) (put_by line.new) }
+    ensures nonces { IsTrue N.is_observed → NoncesUsed (N.answers nonces.old) (put_by line.old) (N.answers nonces.new) (put_by line.new) }
+    ensures ended { IsTrue D.is_observed → D.ended door.new ≡ D.ended door.old }
     ensures settled { OnOk result (length (taken_by line.new) ≡ length (put_by line.new)) }
-    ensures whole { IsTrue D.tells → OnOk result (Underway AllFrames (D.ended door.new) (D.current door.new) (put_by line.new) (taken_by line.new)) }
-    ensures cut { IsTrue D.tells → CutOff SomeFrames (D.ended door.new) (D.current door.new) (put_by line.new) (taken_by line.new) }
-    ensures broken { IsTrue D.tells → IfErr result (λ stop. stop ≡ Broken → (D.current door.new).broken ≡ true) }
+    ensures whole { IsTrue D.is_observed → OnOk result (Underway AllFrames (D.ended door.new) (D.current door.new) (put_by line.new) (taken_by line.new)) }
+    ensures cut { IsTrue D.is_observed → CutOff SomeFrames (D.ended door.new) (D.current door.new) (put_by line.new) (taken_by line.new) }
+    ensures broken { IsTrue D.is_observed → IfErr result (λ stop. stop ≡ Broken → (D.current door.new).broken ≡ true) }
 {
     let mut cutter = Cutter::new(alloc);
-    settle(door, line, clock, turns)?;
+    await_outcomes(door, line, clock, turns)?;
     while hear(door, turns, &mut cutter, buffer)? {
         let faulty = submit_frames(alloc, door, line, clock, nonces, turns, &mut cutter)?;
         if faulty {
-            settle(door, line, clock, turns)?;
+            await_outcomes(door, line, clock, turns)?;
             return Ok(());
         }
-        settle(door, line, clock, turns)?;
+        await_outcomes(door, line, clock, turns)?;
     }
     Ok(())
 }
@@ -263,16 +264,16 @@ fn converse_to_end<D: Door, C: Clock, N: Nonces>(
     turns: &mut u64,
     buffer: &mut [u8],
 ) -> bool
-    requires talk { IsTrue D.tells → Underway (Waiting []) (D.ended door.old) (D.current door.old) (put_by line.old) (taken_by line.old) }
+    requires talk { IsTrue D.is_observed → Underway (Waiting []) (D.ended door.old) (D.current door.old) (put_by line.old) (taken_by line.old) }
     ensures turns { turns.new ≤ turns.old }
     ensures faults { D.fault_count door.old ≤ D.fault_count door.new }
     ensures still_open { D.is_open door.new ≡ D.is_open door.old }
     ensures line { SameLine line.old line.new }
-    ensures moments { IsTrue C.tells → MomentsUsed (C.answers clock.old) (put_by line.old) (C.answers clock.new) (put_by line.new) }
-    ensures nonces { IsTrue N.tells → NoncesUsed (N.answers nonces.old) (put_by line.old) (N.answers nonces.new) (put_by line.new) }
-    ensures ended { IsTrue D.tells → D.ended door.new ≡ D.ended door.old }
-    ensures can_close { IsTrue D.tells → IsTrue result → CanClose (D.ended door.new) (D.current door.new) (put_by line.new) (taken_by line.new) }
-    ensures cut { IsTrue D.tells → CutOff SomeFrames (D.ended door.new) (D.current door.new) (put_by line.new) (taken_by line.new) }
+    ensures moments { IsTrue C.is_observed → MomentsUsed (C.answers clock.old) (put_by line.old) (C.answers clock.new) (put_by line.new) }
+    ensures nonces { IsTrue N.is_observed → NoncesUsed (N.answers nonces.old) (put_by line.old) (N.answers nonces.new) (put_by line.new) }
+    ensures ended { IsTrue D.is_observed → D.ended door.new ≡ D.ended door.old }
+    ensures can_close { IsTrue D.is_observed → IsTrue result → CanClose (D.ended door.new) (D.current door.new) (put_by line.new) (taken_by line.new) }
+    ensures cut { IsTrue D.is_observed → CutOff SomeFrames (D.ended door.new) (D.current door.new) (put_by line.new) (taken_by line.new) }
 {
     match converse(alloc, door, line, clock, nonces, turns, buffer) {
         Ok(()) => true,
@@ -288,11 +289,11 @@ fn put_close<C: Clock>(line: &mut Line, clock: &mut C, turns: &mut u64) -> bool
     ensures taken { (more : List Outcome) × (taken_by line.new ≡ taken_by line.old ++ more) }
     ensures put { IsTrue result → put_by line.new ≡ put_by line.old ++ Event Close ∷ [] }
     ensures kept { IsFalse result → put_by line.new ≡ put_by line.old }
-    ensures answers { IsTrue C.tells → C.answers clock.new ≡ C.answers clock.old }
+    ensures answers { IsTrue C.is_observed → C.answers clock.new ≡ C.answers clock.old }
 {
     while spend(turns) {
         if line.has_room() {
-            line.put(What::Close);
+            line.put(Happening::Close);
             return true;
         }
         if line.next().is_some() {
@@ -310,7 +311,7 @@ fn drop_outcomes<C: Clock>(line: &mut Line, clock: &mut C, turns: &mut u64) -> b
     ensures line { SameLine line.old line.new }
     ensures taken { (more : List Outcome) × (taken_by line.new ≡ taken_by line.old ++ more) }
     ensures put { put_by line.new ≡ put_by line.old }
-    ensures answers { IsTrue C.tells → C.answers clock.new ≡ C.answers clock.old }
+    ensures answers { IsTrue C.is_observed → C.answers clock.new ≡ C.answers clock.old }
     ensures settled { IsTrue result → length (taken_by line.new) ≡ length (put_by line.new) }
 {
     while line.waiting > 0 {
@@ -338,17 +339,17 @@ fn serve_connection<D: Door, C: Clock, N: Nonces>(
     buffer: &mut [u8],
 ) -> bool
     requires ready { D.is_open door.old ≡ true }
-    requires fresh { IsTrue D.tells → D.current door.old ≡ fresh }
-    requires history { IsTrue D.tells → History (D.ended door.old) (put_by line.old) (taken_by line.old) }
+    requires fresh { IsTrue D.is_observed → D.current door.old ≡ fresh }
+    requires history { IsTrue D.is_observed → History (D.ended door.old) (put_by line.old) (taken_by line.old) }
     requires settled { length (taken_by line.old) ≡ length (put_by line.old) }
     ensures turns { turns.new ≤ turns.old }
     ensures faults { D.fault_count door.old ≤ D.fault_count door.new }
     ensures line { SameLine line.old line.new }
-    ensures moments { IsTrue C.tells → MomentsUsed (C.answers clock.old) (put_by line.old) (C.answers clock.new) (put_by line.new) }
-    ensures nonces { IsTrue N.tells → NoncesUsed (N.answers nonces.old) (put_by line.old) (N.answers nonces.new) (put_by line.new) }
+    ensures moments { IsTrue C.is_observed → MomentsUsed (C.answers clock.old) (put_by line.old) (C.answers clock.new) (put_by line.new) }
+    ensures nonces { IsTrue N.is_observed → NoncesUsed (N.answers nonces.old) (put_by line.old) (N.answers nonces.new) (put_by line.new) }
     ensures settled { IsTrue result → length (taken_by line.new) ≡ length (put_by line.new) }
-    ensures history { IsTrue D.tells → IsTrue result → History (D.ended door.new) (put_by line.new) (taken_by line.new) }
-    ensures cut { IsTrue D.tells → IsFalse result → CutOff AnyBeginning (D.ended door.new) (D.current door.new) (put_by line.new) (taken_by line.new) }
+    ensures history { IsTrue D.is_observed → IsTrue result → History (D.ended door.new) (put_by line.new) (taken_by line.new) }
+    ensures cut { IsTrue D.is_observed → IsFalse result → CutOff AnyBeginning (D.ended door.new) (D.current door.new) (put_by line.new) (taken_by line.new) }
 {
     if !open(line, clock, turns) {
         return false;
@@ -378,29 +379,29 @@ fn serve_door<D: Door, C: Clock, N: Nonces>(
     clock: &mut C,
     nonces: &mut N,
     turns: &mut u64,
-) -> Why
-    requires history { IsTrue D.tells → History (D.ended door.old) (put_by line.old) (taken_by line.old) }
+) -> EndReason
+    requires history { IsTrue D.is_observed → History (D.ended door.old) (put_by line.old) (taken_by line.old) }
     requires settled { length (taken_by line.old) ≡ length (put_by line.old) }
     ensures line { SameLine line.old line.new }
-    ensures moments { IsTrue C.tells → MomentsUsed (C.answers clock.old) (put_by line.old) (C.answers clock.new) (put_by line.new) }
-    ensures nonces { IsTrue N.tells → NoncesUsed (N.answers nonces.old) (put_by line.old) (N.answers nonces.new) (put_by line.new) }
+    ensures moments { IsTrue C.is_observed → MomentsUsed (C.answers clock.old) (put_by line.old) (C.answers clock.new) (put_by line.new) }
+    ensures nonces { IsTrue N.is_observed → NoncesUsed (N.answers nonces.old) (put_by line.old) (N.answers nonces.new) (put_by line.new) }
     ensures device { result ≡ Device → (D.fault_count door.old < D.fault_count door.new) ⊎ (D.fault_count door.old ≡ 2 ^ 64 - 1) }
-    ensures whole { IsTrue D.tells → result ≡ Device → History (D.ended door.new) (put_by line.new) (taken_by line.new) }
-    ensures serves { IsTrue D.tells → Serves (D.ended door.new) (D.current door.new) (put_by line.new) (taken_by line.new) }
+    ensures whole { IsTrue D.is_observed → result ≡ Device → History (D.ended door.new) (put_by line.new) (taken_by line.new) }
+    ensures serves { IsTrue D.is_observed → Serves (D.ended door.new) (D.current door.new) (put_by line.new) (taken_by line.new) }
 {
     let mut buffer = [0u8; READ_AT_ONCE];
     while spend(turns) {
         match door.accept() {
-            Err(_) => return Why::Device,
+            Err(_) => return EndReason::Device,
             Ok(false) => clock.pause(),
             Ok(true) => {
                 if !serve_connection(alloc, door, line, clock, nonces, turns, &mut buffer) {
-                    return Why::Turns;
+                    return EndReason::Turns;
                 }
             }
         }
     }
-    Why::Turns
+    EndReason::Turns
 }
 
 /// Serves one connection after the other until the turns are spent or `accept` fails: then it puts End and ends with Device.
@@ -420,14 +421,14 @@ pub fn stream_worker<D: Door, C: Clock, N: Nonces>(
     turns: u64,
 ) -> WorkerEnd
     requires empty { (put_into inlet ≡ []) × (taken_from outcomes ≡ []) }
-    requires first { IsTrue D.tells → D.ended door.old ≡ [] }
+    requires first { IsTrue D.is_observed → D.ended door.old ≡ [] }
     ensures inlet { EndsLane inlet result.ended }
     ensures outlet { SameOutlet outcomes result.outlet }
-    ensures device { result.why ≡ Device → (D.fault_count door.old < D.fault_count door.new) ⊎ (D.fault_count door.old ≡ 2 ^ 64 - 1) }
-    ensures moments { IsTrue C.tells → Gives 0 (C.answers clock.old) (moments_of (all_put result.ended)) (C.answers clock.new) }
-    ensures nonces { IsTrue N.tells → Gives (replicate 16 0) (N.answers nonces.old) (nonces_of (all_put result.ended)) (N.answers nonces.new) }
-    ensures whole { IsTrue D.tells → result.why ≡ Device → (events : List Item) × WithEnd events (all_put result.ended) × History (D.ended door.new) events (taken_from result.outlet) }
-    ensures serves { IsTrue D.tells → (events : List Item) × WithEnd events (all_put result.ended) × Serves (D.ended door.new) (D.current door.new) events (taken_from result.outlet) }
+    ensures device { result.reason ≡ Device → (D.fault_count door.old < D.fault_count door.new) ⊎ (D.fault_count door.old ≡ 2 ^ 64 - 1) }
+    ensures moments { IsTrue C.is_observed → Gives 0 (C.answers clock.old) (moments_of (all_put result.ended)) (C.answers clock.new) }
+    ensures nonces { IsTrue N.is_observed → Gives (replicate 16 0) (N.answers nonces.old) (nonces_of (all_put result.ended)) (N.answers nonces.new) }
+    ensures whole { IsTrue D.is_observed → result.reason ≡ Device → (events : List Item) × WithEnd events (all_put result.ended) × History (D.ended door.new) events (taken_from result.outlet) }
+    ensures serves { IsTrue D.is_observed → (events : List Item) × WithEnd events (all_put result.ended) × Serves (D.ended door.new) (D.current door.new) events (taken_from result.outlet) }
 {
     let mut turns = turns;
     let mut line = Line {
@@ -435,17 +436,17 @@ pub fn stream_worker<D: Door, C: Clock, N: Nonces>(
         outcomes,
         waiting: 0,
     };
-    let why = serve_door(alloc, door, &mut line, clock, nonces, &mut turns);
+    let reason = serve_door(alloc, door, &mut line, clock, nonces, &mut turns);
     let Line {
         mut inlet,
         outcomes,
         waiting: _,
     } = line;
-    if why == Why::Device {
+    if reason == EndReason::Device {
         put_end(&mut inlet, clock, &mut turns);
     }
     WorkerEnd {
-        why,
+        reason,
         ended: inlet.finish(),
         outlet: outcomes,
     }

@@ -2,19 +2,19 @@
 
 ghost use Rattle.std.specs.Prelude.{◌≡◌, ◌+◌, ◌++◌, ◌∷◌, [], ◌≤◌, IsTrue, IsFalse};
 ghost use Rattle.hdl_workers.specs.declared.item.Item.TheVariants.{Event};
-ghost use Rattle.hdl_events.specs.declared.What.TheVariants.{Open};
+ghost use Rattle.hdl_events.specs.declared.Happening.TheVariants.{Open};
 ghost use Rattle.hdl_lanes.specs.Lane.{put_into, SameInlet};
 ghost use Rattle.hdl_workers.specs.Sign.{WithEnd};
 ghost use Rattle.hdl_workers.specs.Line.{put_by, taken_by, SameLine};
 
 use crate::line::Line;
 use crate::{Clock, Item};
-use hdl_events::{Outcome, What};
+use hdl_events::{Happening, Outcome};
 use hdl_lanes::{Ended, Inlet, Outlet};
 
 /// Why a worker ended.
 #[derive(Clone, Copy, Debug, PartialEq, Eq)]
-pub enum Why {
+pub enum EndReason {
     /// Its turns are spent.
     Turns,
     /// Its door failed.
@@ -24,7 +24,7 @@ pub enum Why {
 /// Why a worker ended, and its ends of the lane, for the thread that joins it: by them both rings are settled.
 #[derive(Drop)]
 pub struct WorkerEnd {
-    pub why: Why,
+    pub reason: EndReason,
     pub ended: Ended<Item>,
     pub outlet: Outlet<Outcome>,
 }
@@ -55,11 +55,11 @@ pub(crate) fn open<C: Clock>(line: &mut Line, clock: &mut C, turns: &mut u64) ->
     ensures taken { taken_by line.new ≡ taken_by line.old }
     ensures put { IsTrue result → put_by line.new ≡ put_by line.old ++ Event Open ∷ [] }
     ensures kept { IsFalse result → put_by line.new ≡ put_by line.old }
-    ensures answers { IsTrue C.tells → C.answers clock.new ≡ C.answers clock.old }
+    ensures answers { IsTrue C.is_observed → C.answers clock.new ≡ C.answers clock.old }
 {
     while spend(turns) {
         if line.has_room() {
-            line.put(What::Open);
+            line.put(Happening::Open);
             clock.worked();
             return true;
         }
@@ -72,7 +72,7 @@ pub(crate) fn open<C: Clock>(line: &mut Line, clock: &mut C, turns: &mut u64) ->
 pub(crate) fn put_end<C: Clock>(inlet: &mut Inlet<Item>, clock: &mut C, turns: &mut u64)
     ensures inlet { SameInlet inlet.old inlet.new }
     ensures put { WithEnd (put_into inlet.old) (put_into inlet.new) }
-    ensures answers { IsTrue C.tells → C.answers clock.new ≡ C.answers clock.old }
+    ensures answers { IsTrue C.is_observed → C.answers clock.new ≡ C.answers clock.old }
 {
     while spend(turns) {
         if inlet.put(Item::End).is_ok() {

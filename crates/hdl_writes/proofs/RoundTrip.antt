@@ -121,27 +121,27 @@ abbrev lasting : Value → Members
 lasting v = put (codes "ttl") (number (unsigned (ttl_seconds v))) (put (codes "data") (data_json v) (named v))
 
 abbrev timed : Value → Option (List ℕ) → Members
-timed v written = put_written v.stamp written (lasting v)
+timed v written = put_written v.timestamp written (lasting v)
 
 past_written : (q : List ℕ) (v : Value) (written : Option (List ℕ)) → (q ≡ codes "timestamp" → ⊥) → get_member q (timed v written) ≡ get_member q (lasting v)
 past_written q v written other =
     let told = put (codes "timestamp") (written_json written) (lasting v) in
-    cond_both (v.stamp == 0) (lasting v) told (λ m. get_member q m ≡ get_member q (lasting v))
+    cond_both (v.timestamp == 0) (lasting v) told (λ m. get_member q m ≡ get_member q (lasting v))
     (λ _. refl) (λ _. get_member-put_other q (codes "timestamp") (written_json written) (lasting v) other)
 
 past : (q : List ℕ) (v : Value) (ms : Members) → (q ≡ codes "permissions" → ⊥) → get_member q (put_permissions v ms) ≡ get_member q ms
 past q v ms other =
-    let digits = string (value_digits v.perm) in
-    cond_both (v.perm == usual_permissions v.kind) ms (put (codes "permissions") digits ms) (λ m. get_member q m ≡ get_member q ms)
+    let digits = string (value_digits v.permissions) in
+    cond_both (v.permissions == usual_permissions v.kind) ms (put (codes "permissions") digits ms) (λ m. get_member q m ≡ get_member q ms)
     (λ _. refl) (λ _. get_member-put_other q (codes "permissions") digits ms other)
 
-permissions_kept : (v : Value) (written : Option (List ℕ)) → v.perm < 2 ^ 4
-    → permissions_told v.kind (get_member (codes "permissions") (put_permissions v (timed v written))) ≡ Some v.perm
+permissions_kept : (v : Value) (written : Option (List ℕ)) → v.permissions < 2 ^ 4
+    → permissions_told v.kind (get_member (codes "permissions") (put_permissions v (timed v written))) ≡ Some v.permissions
 permissions_kept v written small =
-    let digits = string (value_digits v.perm) in
-    cond_both (v.perm == usual_permissions v.kind) (timed v written) (put (codes "permissions") digits (timed v written)) (λ m. permissions_told v.kind (get_member (codes "permissions") m) ≡ Some v.perm)
-    (λ e. ap (permissions_told v.kind) (past_written (codes "permissions") v written (λ q. absurd cc)) ∙ ap Some (sym (eqb-true v.perm (usual_permissions v.kind) e)))
-    (λ _. ap (permissions_told v.kind) (get_member-put (codes "permissions") digits (timed v written)) ∙ digits_same v.perm small)
+    let digits = string (value_digits v.permissions) in
+    cond_both (v.permissions == usual_permissions v.kind) (timed v written) (put (codes "permissions") digits (timed v written)) (λ m. permissions_told v.kind (get_member (codes "permissions") m) ≡ Some v.permissions)
+    (λ e. ap (permissions_told v.kind) (past_written (codes "permissions") v written (λ q. absurd cc)) ∙ ap Some (sym (eqb-true v.permissions (usual_permissions v.kind) e)))
+    (λ _. ap (permissions_told v.kind) (get_member-put (codes "permissions") digits (timed v written)) ∙ digits_same v.permissions small)
 
 index_kept : (v : Value) (written : Option (List ℕ)) → get_member (codes "index") (put_permissions v (timed v written)) ≡ Some (number (unsigned v.index))
 index_kept v written = past (codes "index") v (timed v written) (λ e. absurd cc) ∙ past_written (codes "index") v written (λ e. absurd cc)
@@ -157,18 +157,18 @@ ttl_kept v written = past (codes "ttl") v (timed v written) (λ e. absurd cc) �
 
 -- ---- the value
 
-value_made : (v : Value) → CanBeTold v → record { index = v.index; kind = v.kind; bytes = v.bytes; ttl = 0 ∷ to_be_bytes w32 (ttl_seconds v); perm = v.perm; stamp = 0; refs = [] } ≡ unstamped v
+value_made : (v : Value) → CanBeTold v → record { index = v.index; kind = v.kind; bytes = v.bytes; ttl = 0 ∷ to_be_bytes w32 (ttl_seconds v); permissions = v.permissions; timestamp = 0; references = [] } ≡ unstamped v
 value_made v h =
     let ttl = ttl_again v.ttl h.fits.ttl h.fits.ttl_octets h.how in
-    let refs = sym h.refs in
-    λ i. record { index = v.index; kind = v.kind; bytes = v.bytes; ttl = ttl i; perm = v.perm; stamp = 0; refs = refs i }
+    let refs = sym h.references in
+    λ i. record { index = v.index; kind = v.kind; bytes = v.bytes; ttl = ttl i; permissions = v.permissions; timestamp = 0; references = refs i }
 
 -- what five members say
-fields_from : (d : Data) (index ttl perm : ℕ) (kind bytes : List ℕ) → number_of (codes "index") d ≡ Some index → text_in (codes "type") d ≡ Some kind
-    → data_told (get (codes "data") d) ≡ Ok bytes → ttl_told (get (codes "ttl") d) ≡ Some ttl → permissions_told kind (get (codes "permissions") d) ≡ Some perm
-    → fields_told d ≡ Ok (record { index = index; kind = kind; bytes = bytes; ttl = 0 ∷ to_be_bytes w32 ttl; perm = perm; stamp = 0; refs = [] })
+fields_from : (d : Data) (index ttl permissions : ℕ) (kind bytes : List ℕ) → number_of (codes "index") d ≡ Some index → text_in (codes "type") d ≡ Some kind
+    → data_told (get (codes "data") d) ≡ Ok bytes → ttl_told (get (codes "ttl") d) ≡ Some ttl → permissions_told kind (get (codes "permissions") d) ≡ Some permissions
+    → fields_told d ≡ Ok (record { index = index; kind = kind; bytes = bytes; ttl = 0 ∷ to_be_bytes w32 ttl; permissions = permissions; timestamp = 0; references = [] })
 unfolding fields_told
-fields_from d index ttl perm kind bytes i k b t p = rw i (rw k (rw b (rw t (rw p refl))))
+fields_from d index ttl permissions kind bytes i k b t p = rw i (rw k (rw b (rw t (rw p refl))))
 
 kind_text : (v : Value) → CanBeTold v → as_str (string (text_of v.kind)) ≡ Some v.kind
 kind_text v h = ap Some (cond-true (is_utf8 v.kind) v.kind (encode_lower v.kind) h.kind)
@@ -177,12 +177,12 @@ fields_again : (v : Value) (written : Option (List ℕ)) → CanBeTold v → fie
 unfolding value_json
 fields_again v written h =
     let d = object (put_permissions v (timed v written)) in
-    fields_from d v.index (ttl_seconds v) v.perm v.kind v.bytes
+    fields_from d v.index (ttl_seconds v) v.permissions v.kind v.bytes
     (ap (λ (o : Option Data). o >>= number_told) (index_kept v written) ∙ number_again v.index h.fits.index)
     (ap (λ (o : Option Data). o >>= as_str) (type_kept v written) ∙ kind_text v h)
     (ap data_told (data_kept v written) ∙ data_again v h)
     (ap ttl_told (ttl_kept v written) ∙ number_again (ttl_seconds v) (ttl_number v h.fits))
-    (permissions_kept v written h.perm)
+    (permissions_kept v written h.permissions)
     ∙ ap Ok (value_made v h)
 
 unstamped_sound : (v : Value) → first_fault v ≡ None → first_fault (unstamped v) ≡ None

@@ -39,8 +39,8 @@ fields_told d =
     (ok_or (text_of (codes "type") d) fault.Type >>> λ kind.
     (data_told (get (codes "data") d) >>> λ bytes.
     (ok_or (ttl_told (get (codes "ttl") d)) fault.Ttl >>> λ ttl.
-    (ok_or (permissions_told kind (get (codes "permissions") d)) fault.Permissions >>> λ perm.
-    Ok (record { index = index; kind = kind; bytes = bytes; ttl = 0 ∷ to_be_bytes w32 ttl; perm = perm; stamp = 0; refs = [] })))))
+    (ok_or (permissions_told kind (get (codes "permissions") d)) fault.Permissions >>> λ permissions.
+    Ok (record { index = index; kind = kind; bytes = bytes; ttl = 0 ∷ to_be_bytes w32 ttl; permissions = permissions; timestamp = 0; references = [] })))))
 
 -- the value that is meant
 unfoldable pub value_told : Data → Result Value EntryFault

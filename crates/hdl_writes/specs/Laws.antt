@@ -19,9 +19,9 @@ pub record CanBeTold (v : Value) : Type 0 where
   pub sound : first_fault v ≡ None
   pub kind : is_utf8 v.kind ≡ true
   pub how : slice_index v.ttl 0 ≡ 0
-  pub perm : v.perm < 2 ^ 4
+  pub permissions : v.permissions < 2 ^ 4
   pub mask : IfSome (admin_read v) (λ x. x.0 < 2 ^ 12)
-  pub refs : v.refs ≡ []
+  pub references : v.references ≡ []
 
 -- the JSON of such a value is read as it, but for its timestamp
 abbrev pub WrittenIsRead : Type 0

@@ -7,9 +7,8 @@ use crate::plan::{is_among, merging, replacing};
 use crate::record::read_record;
 use crate::service::Service;
 use crate::told::{change_words, failure, status_of_change, success};
-use hdl_limits::{MESSAGE_MAX, WRITTEN_MAX};
+use hdl_limits::{Items, MESSAGE_MAX, Octets, WRITTEN_MAX};
 use hdl_msg::{ContentView, RequestBody, ResponseCode, Values, read_reply, request_len};
-use hdl_name::{Listed, Octets};
 use hdl_proxy::{Answer, Keeping, NoAnswer, Status, refusal, values_answer};
 use hdl_value::{Value, ValueFault};
 use std::alloc::{AllocError, Global};
@@ -203,8 +202,8 @@ fn indexes_there<S: Service>(
 ) -> Result<Vec<u32>, Stop> {
     let body = RequestBody::Resolution {
         handle: handle_of(alloc, order)?,
-        indexes: Listed::new(asked),
-        types: Listed::new(Vec::new(alloc)),
+        indexes: Items::new(asked),
+        types: Items::new(Vec::new(alloc)),
     };
     let message = reply_to(service, order, &body)?;
     indexes_told(alloc, order.name.sent(), &message)
@@ -218,12 +217,12 @@ fn indexes_of(alloc: Global, values: &[Value]) -> Result<Vec<u32>, AllocError> {
     Ok(indexes)
 }
 
-fn copies(alloc: Global, values: &[Value]) -> Result<Listed<Value>, AllocError> {
+fn copies(alloc: Global, values: &[Value]) -> Result<Items<Value>, AllocError> {
     let mut all = Vec::new(alloc);
     for value in values {
         all.push(value.copy(alloc)?)?;
     }
-    Ok(Listed::new(all))
+    Ok(Items::new(all))
 }
 
 fn create<S: Service>(
@@ -377,7 +376,7 @@ fn carry_remove<S: Service>(
 ) -> Result<Answer, AllocError> {
     let body = RequestBody::Remove {
         handle: handle_of(alloc, order)?,
-        indexes: Listed::new(Vec::from_slice(alloc, indexes)?),
+        indexes: Items::new(Vec::from_slice(alloc, indexes)?),
     };
     carry_one(alloc, service, order, &body, Status::Success)
 }
@@ -416,12 +415,12 @@ fn read_told(alloc: Global, handle: &[u8], message: &[u8]) -> Result<Answer, All
     }
 }
 
-fn type_copies(alloc: Global, types: &[Octets]) -> Result<Listed<Octets>, AllocError> {
+fn type_copies(alloc: Global, types: &[Octets]) -> Result<Items<Octets>, AllocError> {
     let mut all = Vec::new(alloc);
     for kind in types {
         all.push(Octets::new(Vec::from_slice(alloc, kind.as_slice())?))?;
     }
-    Ok(Listed::new(all))
+    Ok(Items::new(all))
 }
 
 fn carry_read<S: Service>(
@@ -433,7 +432,7 @@ fn carry_read<S: Service>(
 ) -> Result<Answer, AllocError> {
     let body = RequestBody::Resolution {
         handle: handle_of(alloc, order)?,
-        indexes: Listed::new(Vec::from_slice(alloc, indexes)?),
+        indexes: Items::new(Vec::from_slice(alloc, indexes)?),
         types: type_copies(alloc, types)?,
     };
     match reply_to(service, order, &body) {

@@ -7,8 +7,8 @@ ghost use Rattle.hdl_writes.specs.Entry.{first_fault, data_told, fields_told, va
 use crate::data::data_in;
 use crate::fault::EntryFault;
 use crate::fields::{number_of, permissions_told, text_of, ttl_told};
-use hdl_limits::{DATA_MAX, TYPE_MAX};
-use hdl_value::{Octets, RawRefs, Value, ValueFault, admin_of, vlist_of};
+use hdl_limits::{DATA_MAX, Octets, TYPE_MAX};
+use hdl_value::{RawRefs, Value, ValueFault, admin_of, vlist_of};
 use serde_json::Value as Json;
 use std::alloc::{AllocError, Global};
 
@@ -62,7 +62,7 @@ fn fields_told(alloc: Global, json: &Json) -> Result<Value, EntryFault>
     let Some(ttl) = ttl_told(json.get("ttl")) else {
         return Err(EntryFault::Ttl);
     };
-    let Some(perm) = permissions_told(kind, json.get("permissions")) else {
+    let Some(permissions) = permissions_told(kind, json.get("permissions")) else {
         return Err(EntryFault::Permissions);
     };
     let [a, b, c, d] = ttl.to_be_bytes();
@@ -71,9 +71,9 @@ fn fields_told(alloc: Global, json: &Json) -> Result<Value, EntryFault>
         kind: Octets::new(Vec::from_slice(alloc, kind)?),
         bytes: Octets::new(bytes),
         ttl: [0, a, b, c, d],
-        perm,
-        stamp: 0,
-        refs: RawRefs::new(Vec::new(alloc)),
+        permissions,
+        timestamp: 0,
+        references: RawRefs::new(Vec::new(alloc)),
     })
 }
 

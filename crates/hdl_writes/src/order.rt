@@ -2,8 +2,9 @@
 
 use crate::credentials::{KeyFault, read_key};
 use hdl_client::Key;
+use hdl_limits::Octets;
 use hdl_msg::ResponseCode;
-use hdl_name::{Name, Octets};
+use hdl_name::Name;
 use hdl_proxy::{
     Answer, Pair, Status, has_pair, indexes_of, last_named, options, read_name, read_pairs,
     refusal, types_of, unescaped, values_named,
@@ -182,7 +183,7 @@ fn act_of(alloc: Global, method: &str, pairs: &[Pair]) -> Result<Act, AddressFau
 }
 
 /// A number of the query, if it is there.
-fn counted(alloc: Global, pairs: &[Pair], name: &str) -> Result<Option<u32>, AddressFault> {
+fn number_of(alloc: Global, pairs: &[Pair], name: &str) -> Result<Option<u32>, AddressFault> {
     match last_named(alloc, pairs, name)? {
         Some(text) => match text.parse::<u32>() {
             Ok(number) => Ok(Some(number)),
@@ -193,8 +194,8 @@ fn counted(alloc: Global, pairs: &[Pair], name: &str) -> Result<Option<u32>, Add
 }
 
 fn listing(alloc: Global, pairs: &[Pair]) -> Result<Act, AddressFault> {
-    let page = counted(alloc, pairs, "page")?.unwrap_or(0);
-    let window = match counted(alloc, pairs, "pageSize")? {
+    let page = number_of(alloc, pairs, "page")?.unwrap_or(0);
+    let window = match number_of(alloc, pairs, "pageSize")? {
         Some(size) => Some(Window { page, size }),
         None => None,
     };

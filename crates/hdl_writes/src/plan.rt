@@ -5,8 +5,9 @@ ghost use Rattle.hdl_msg.specs.RequestBody.{requested};
 ghost use Rattle.hdl_writes.specs.Plan.{is_among, known, fresh, gone, modifying, adding, removing, merging, replacing};
 
 use crate::record::has_index;
+use hdl_limits::{Items, Octets};
 use hdl_msg::RequestBody;
-use hdl_value::{Listed, Octets, Value};
+use hdl_value::Value;
 use std::alloc::{AllocError, Global};
 
 /// Whether the number is one of these.
@@ -72,7 +73,7 @@ fn push_modify(
         return Ok(());
     }
     let handle = octets(alloc, handle)?;
-    let values = Listed::new(values);
+    let values = Items::new(values);
     steps.push(RequestBody::Modify { handle, values })?;
     Ok(())
 }
@@ -90,7 +91,7 @@ fn push_add(
         return Ok(());
     }
     let handle = octets(alloc, handle)?;
-    let values = Listed::new(values);
+    let values = Items::new(values);
     steps.push(RequestBody::Add { handle, values })?;
     Ok(())
 }
@@ -108,7 +109,7 @@ fn push_remove(
         return Ok(());
     }
     let handle = octets(alloc, handle)?;
-    let indexes = Listed::new(indexes);
+    let indexes = Items::new(indexes);
     steps.push(RequestBody::Remove { handle, indexes })?;
     Ok(())
 }

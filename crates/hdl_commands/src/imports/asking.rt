@@ -6,9 +6,10 @@ use crate::imports::rows::{Faults, Rows};
 use crate::key::key_of;
 use crate::words::code_name;
 use hdl_client::{Batch, ClientFault, Key, Outcomes, Session, Task, connect, request_message};
+use hdl_limits::{Items, Octets};
 use hdl_lines::{printed, shown_line};
 use hdl_msg::{Body, ContentView, ReplyView, RequestBody, ResponseCode, Values, read_request};
-use hdl_value::{Listed, Octets, RawRef};
+use hdl_value::RawRef;
 use std::alloc::{AllocError, Global};
 use std::io::{self, Read, Write};
 use std::{fs, mem};
@@ -193,8 +194,8 @@ impl Outcomes for Comparisons<'_> {
 fn resolution(alloc: Global, handle: &[u8]) -> Result<Vec<u8>, ClientFault> {
     let body = RequestBody::Resolution {
         handle: Octets::new(Vec::from_slice(alloc, handle)?),
-        indexes: Listed::new(Vec::new(alloc)),
-        types: Listed::new(Vec::new(alloc)),
+        indexes: Items::new(Vec::new(alloc)),
+        types: Items::new(Vec::new(alloc)),
     };
     request_message(alloc, &body)
 }

@@ -10,11 +10,11 @@ use crate::batch_text::{is_relied_on, may_disturb};
 use crate::fault::WordFault;
 use crate::imports::row::OPEN;
 use hdl_client::{Task, request_message};
-use hdl_limits::{NAME_MAX, WRITTEN_MAX};
+use hdl_limits::{Items, NAME_MAX, Octets, WRITTEN_MAX};
 use hdl_lines::printed;
 use hdl_msg::{OpCode, RequestBody};
 use hdl_name::Name;
-use hdl_value::{HS_ADMIN, Listed, Octets, RawRef, RawRefs, Value, put_string, put_u16, put_u32};
+use hdl_value::{HS_ADMIN, RawRef, RawRefs, Value, put_string, put_u16, put_u32};
 use std::alloc::Global;
 
 /// The TTL of an administrator who is added: a day.
@@ -43,9 +43,9 @@ fn administrator(alloc: Global, key: &RawRef, index: u32) -> Result<Value, WordF
         kind: Octets::new(Vec::from_slice(alloc, HS_ADMIN)?),
         bytes: Octets::new(data),
         ttl: [0, a, b, c, d],
-        perm: OPEN,
-        stamp: 0,
-        refs: RawRefs::new(Vec::new(alloc)),
+        permissions: OPEN,
+        timestamp: 0,
+        references: RawRefs::new(Vec::new(alloc)),
     })
 }
 
@@ -115,7 +115,7 @@ fn creation(
     }
     let body = RequestBody::Create {
         handle: Octets::new(Vec::from_slice(alloc, handle)?),
-        values: Listed::new(values),
+        values: Items::new(values),
     };
     Ok(request_message(alloc, &body)?)
 }

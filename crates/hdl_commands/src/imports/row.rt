@@ -59,11 +59,11 @@ pub(crate) fn value_in_row(
     let Some(ttl) = number_at(fields, columns.ttl) else {
         return Err(LineFault::Ttl);
     };
-    let Some(perm) = permissions_of(columns.permissions, fields) else {
+    let Some(permissions) = permissions_of(columns.permissions, fields) else {
         return Err(LineFault::Permissions);
     };
     let Some(text) = fields.get(columns.bytes) else {
         return Err(LineFault::Text);
     };
-    value_by_type(alloc, index, kind, ttl, perm, text)
+    value_by_type(alloc, index, kind, ttl, permissions, text)
 }

@@ -12,7 +12,7 @@ use std::alloc::AllocError;
 
 /// When the value was written, if that is said and the calendar has it.
 fn written(value: &Value) -> Option<Timestamp> {
-    let moment = i64::try_from(value.stamp).ok()?;
+    let moment = i64::try_from(value.timestamp).ok()?;
     if moment == 0 {
         return None;
     }

@@ -9,8 +9,8 @@ use crate::lanes::pair::Pair;
 use crate::lanes::server::Serving;
 use hdl_core::Outcome;
 use hdl_serve::{
-    Clock, Item, LaneEnds, MemoryDoor, MemoryNonces, MemoryPackets, Why, WorkerEnd, packet_worker,
-    stream_worker,
+    Clock, EndReason, Item, LaneEnds, MemoryDoor, MemoryNonces, MemoryPackets, WorkerEnd,
+    packet_worker, stream_worker,
 };
 use std::alloc::{AllocError, Global};
 use std::collections::VecDeque;
@@ -81,7 +81,7 @@ impl<L: Made, S: Serving> Beside<L, S> {
 impl<L: Made, S: Serving> Clock for Beside<L, S> {
     ghost use Rattle.std.specs.Prelude.{false, []};
 
-    ghost tells = { false };
+    ghost is_observed = { false };
 
     ghost answers = { λ _. [] };
 
@@ -115,7 +115,7 @@ pub struct Plan {
 #[derive(Drop)]
 pub struct Ran<S> {
     pub serving: S,
-    pub why: Why,
+    pub reason: EndReason,
     pub served: u64,
     pub unserved: Vec<Item>,
     pub untaken: Vec<Outcome>,
@@ -133,11 +133,11 @@ fn settled<L: Made, S: Serving + Drop>(beside: Beside<L, S>, end: WorkerEnd) -> 
         of: _,
     } = beside;
     let ends = lanes.pop()?;
-    let why = end.why;
+    let reason = end.reason;
     let (unserved, untaken) = ends.settle(end);
     Some(Ran {
         serving,
-        why,
+        reason,
         served,
         unserved,
         untaken,

@@ -8,7 +8,7 @@ use crate::lanes::words::{
     bad, number, numbers, octets, short, size, tell_item, tell_octets, tell_outcome, word_of,
 };
 use hdl_replay::parts_of;
-use hdl_serve::{Door, Letter, MemoryDoor, MemoryPackets, Packets};
+use hdl_serve::{Datagram, Door, MemoryDoor, MemoryPackets, Packets};
 use std::alloc::{AllocError, Global};
 use std::collections::VecDeque;
 use std::io::{self, Write};
@@ -20,7 +20,7 @@ struct Doors<S> {
     alloc: Global,
     serving: Option<S>,
     peers: Vec<Vec<u8>>,
-    letters: Vec<Letter>,
+    datagrams: Vec<Datagram>,
 }
 
 fn peers_of(alloc: Global, peers: &[Vec<u8>]) -> Result<VecDeque<Vec<u8>>, AllocError> {
@@ -31,23 +31,23 @@ fn peers_of(alloc: Global, peers: &[Vec<u8>]) -> Result<VecDeque<Vec<u8>>, Alloc
     Ok(coming)
 }
 
-fn letters_of(alloc: Global, letters: &[Letter]) -> Result<VecDeque<Letter>, AllocError> {
+fn datagrams_of(alloc: Global, datagrams: &[Datagram]) -> Result<VecDeque<Datagram>, AllocError> {
     let mut coming = VecDeque::new(alloc);
-    for letter in letters {
-        coming.push_back(Letter {
-            peer: letter.peer,
-            octets: Vec::from_slice(alloc, letter.octets.as_slice())?,
+    for datagram in datagrams {
+        coming.push_back(Datagram {
+            peer: datagram.peer,
+            octets: Vec::from_slice(alloc, datagram.octets.as_slice())?,
         })?;
     }
     Ok(coming)
 }
 
 /// The datagram of a line `PEER OCTETS`.
-fn letter_of(alloc: Global, fields: &str) -> io::Result<Letter> {
+fn datagram_of(alloc: Global, fields: &str) -> io::Result<Datagram> {
     let Some((peer, digits)) = fields.split_once(' ') else {
         return Err(bad());
     };
-    Ok(Letter {
+    Ok(Datagram {
         peer: short(number(peer)?)?,
         octets: octets(alloc, digits)?,
     })
@@ -78,11 +78,11 @@ fn tell_ran<S>(
     ran: &Ran<S>,
     told: &mut Vec<u8>,
 ) -> io::Result<()> {
-    let why = word_of(ran.why);
+    let reason = word_of(ran.reason);
     let served = ran.served;
     writeln!(
         told,
-        "  {why}, {faults} faults, {served} served, {frames} frames"
+        "  {reason}, {faults} faults, {served} served, {frames} frames"
     )?;
     write!(told, "  unserved")?;
     for item in &ran.unserved {
@@ -137,7 +137,7 @@ fn work_stream<S: Serving + Drop>(
 fn work_packets<S: Serving + Drop>(
     alloc: Global,
     serving: S,
-    coming: VecDeque<Letter>,
+    coming: VecDeque<Datagram>,
     plan: Plan,
     told: &mut Vec<u8>,
 ) -> io::Result<S> {
@@ -168,7 +168,7 @@ fn work_beside<S: Serving + Drop>(
     told: &mut Vec<u8>,
 ) -> io::Result<()> {
     let alloc = doors.alloc;
-    let letters = letters_of(alloc, &doors.letters)?;
+    let datagrams = datagrams_of(alloc, &doors.datagrams)?;
     let peers = peers_of(alloc, &doors.peers)?;
     let Some(serving) = doors.serving.take() else {
         return Err(bad());
@@ -176,7 +176,7 @@ fn work_beside<S: Serving + Drop>(
     let serving = if is_stream {
         work_stream(alloc, serving, peers, plan, told)?
     } else {
-        work_packets(alloc, serving, letters, plan, told)?
+        work_packets(alloc, serving, datagrams, plan, told)?
     };
     doors.serving = Some(serving);
     Ok(())
@@ -218,7 +218,7 @@ fn follow<S: Serving + Drop>(
 ) -> io::Result<()> {
     let Some((word, fields)) = line.split_once(' ') else {
         doors.peers.clear();
-        doors.letters.clear();
+        doors.datagrams.clear();
         if line == "open" {
             open(&mut doors.serving, tenants)?;
         }
@@ -229,14 +229,14 @@ fn follow<S: Serving + Drop>(
         return Ok(());
     }
     if word == "letter" {
-        doors.letters.push(letter_of(doors.alloc, fields)?)?;
+        doors.datagrams.push(datagram_of(doors.alloc, fields)?)?;
         return Ok(());
     }
     work(doors, word, fields, told)
 }
 
 /// A tenants text, a line `run`, and then a line for each step: `nobody`, behind which nobody comes any more; `open`, which opens the service
-/// anew as well; `peer OCTETS` and `letter PEER OCTETS`, which come at each door; and the workers. `stream` and `packets` are served at
+/// anew as well; `peer OCTETS` and `datagram PEER OCTETS`, which come at each door; and the workers. `stream` and `packets` are served at
 /// each pause of the worker, `idle` is a stream worker that isn't; `LANE CAPACITY MOST FAILS TURNS AFTER` stand behind each. `record` has
 /// ITEMS and OCTETS behind these, and no service.
 pub fn run<S: Serving + Drop>(
@@ -250,7 +250,7 @@ pub fn run<S: Serving + Drop>(
         alloc,
         serving: Some(serving),
         peers: Vec::new(alloc),
-        letters: Vec::new(alloc),
+        datagrams: Vec::new(alloc),
     };
     for line in parts.script.lines() {
         follow(&mut doors, parts.tenants, line, told)?;

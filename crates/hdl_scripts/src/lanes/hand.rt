@@ -8,7 +8,7 @@ use crate::table::{Table, empty_rows};
 use hdl_core::{Event, Outcome};
 use hdl_lanes::{Inlet, Outlet};
 use hdl_replay::{events_of, parts_of, replay};
-use hdl_serve::{Far, Item, LaneEnds, lanes_of};
+use hdl_serve::{Item, LaneEnds, WorkerSide, lanes_of};
 use std::alloc::{AllocError, Global};
 use std::io::{self, Write};
 
@@ -28,10 +28,10 @@ struct Lanes {
     ghost distinct: { AreDistinct ends.items },
 }
 
-fn sides_of(alloc: Global, far: Vec<Far>) -> Result<Vec<Side>, AllocError> {
+fn sides_of(alloc: Global, far: Vec<WorkerSide>) -> Result<Vec<Side>, AllocError> {
     let mut sides = Vec::new(alloc);
     for one in far {
-        let Far { inlet, outcomes } = one;
+        let WorkerSide { inlet, outcomes } = one;
         sides.push(Side { inlet, outcomes })?;
     }
     Ok(sides)

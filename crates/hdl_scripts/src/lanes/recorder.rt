@@ -5,8 +5,11 @@ ghost use Rattle.std.specs.Prelude.{◌≡◌, []};
 use crate::lanes::beside::{Plan, source};
 use crate::lanes::pair::{Pair, pair_of};
 use crate::lanes::words::{tell_item, word_of};
-use hdl_core::{Octets, Outcome};
-use hdl_serve::{Clock, Door, DoorFault, LaneEnds, MemoryDoor, MemoryNonces, Why, stream_worker};
+use hdl_core::Outcome;
+use hdl_limits::Octets;
+use hdl_serve::{
+    Clock, Door, DoorFault, EndReason, LaneEnds, MemoryDoor, MemoryNonces, stream_worker,
+};
 use std::alloc::Global;
 use std::collections::VecDeque;
 use std::io::{self, Write};
@@ -49,7 +52,7 @@ impl Recorder {
 impl Clock for Recorder {
     ghost use Rattle.std.specs.Prelude.{false, []};
 
-    ghost tells = { false };
+    ghost is_observed = { false };
 
     ghost answers = { λ _. [] };
 
@@ -77,7 +80,7 @@ impl<D: Door> Door for Counting<D> {
     ghost use Rattle.std.specs.Prelude.{false, []};
     ghost use Rattle.hdl_workers.specs.Door.{fresh};
 
-    ghost tells = { false };
+    ghost is_observed = { false };
 
     ghost ended = { λ _. [] };
 
@@ -118,7 +121,7 @@ fn recorded<D: Door>(
     recorder: &mut Recorder,
     nonces: &mut MemoryNonces,
     turns: u64,
-) -> Why {
+) -> EndReason {
     let Pair {
         inlet,
         outcomes,
@@ -126,23 +129,23 @@ fn recorded<D: Door>(
     } = pair;
     recorder.ends = ends;
     let end = stream_worker(alloc, door, recorder, nonces, inlet, outcomes, turns);
-    end.why
+    end.reason
 }
 
 /// Tells how a worker ended, and what it put.
 fn tell_recorded<D: Door>(
-    why: Why,
+    reason: EndReason,
     door: &Counting<D>,
     put: &[u8],
     told: &mut Vec<u8>,
 ) -> io::Result<()> {
-    let why = word_of(why);
+    let reason = word_of(reason);
     let faults = door.faults();
     let writes = door.writes;
     let longest = door.longest;
     writeln!(
         told,
-        "  {why}, {faults} faults, {writes} writes, the longest of {longest}"
+        "  {reason}, {faults} faults, {writes} writes, the longest of {longest}"
     )?;
     write!(told, "  put")?;
     told.write_all(put)?;
@@ -172,7 +175,7 @@ pub fn record(
         writes: 0,
         longest: 0,
     };
-    let why = recorded(
+    let reason = recorded(
         alloc,
         pair,
         &mut door,
@@ -181,5 +184,5 @@ pub fn record(
         plan.turns,
     );
     recorder.answer_all(plan.after)?;
-    tell_recorded(why, &door, &recorder.put, told)
+    tell_recorded(reason, &door, &recorder.put, told)
 }

@@ -33,7 +33,7 @@ pub struct Pauses {
 impl Clock for Pauses {
     ghost use Rattle.std.specs.Prelude.{false, []};
 
-    ghost tells = { false };
+    ghost is_observed = { false };
 
     ghost answers = { λ _. [] };
 

@@ -1,8 +1,8 @@
 //! Words of the texts, and of what is printed.
 
-use hdl_core::{Event, Outcome, What};
+use hdl_core::{Event, Happening, Outcome};
 use hdl_replay::{Fault, events_of, line_of};
-use hdl_serve::{Item, Why};
+use hdl_serve::{EndReason, Item};
 use hdl_tenants::decimal;
 use std::alloc::Global;
 use std::io::{self, Write};
@@ -89,10 +89,13 @@ pub fn tell_octets(alloc: Global, word: &str, octets: &[u8], told: &mut Vec<u8>)
 /// Tells an item: a frame by the last octet of its request's number.
 pub fn tell_item(item: &Item, told: &mut Vec<u8>) -> io::Result<()> {
     match item {
-        Item::Event(What::Open) => write!(told, " open"),
-        Item::Event(What::Close) => write!(told, " close"),
-        Item::Event(What::Bad { session, request }) => write!(told, " bad {session} {request}"),
-        Item::Event(What::Frame { bytes, .. }) => match bytes.as_slice().get(11) {
+        Item::Event(Happening::Open) => write!(told, " open"),
+        Item::Event(Happening::Close) => write!(told, " close"),
+        Item::Event(Happening::Bad { session, request }) => write!(
+            told,
+            " bad {session} {request}"
+        ),
+        Item::Event(Happening::Frame { bytes, .. }) => match bytes.as_slice().get(11) {
             Some(request) => write!(told, " frame {request}"),
             None => write!(told, " frame"),
         },
@@ -101,9 +104,9 @@ pub fn tell_item(item: &Item, told: &mut Vec<u8>) -> io::Result<()> {
 }
 
 /// The word for why a worker ended.
-pub fn word_of(why: Why) -> &'static str {
-    match why {
-        Why::Turns => "turns",
-        Why::Device => "device",
+pub fn word_of(reason: EndReason) -> &'static str {
+    match reason {
+        EndReason::Turns => "turns",
+        EndReason::Device => "device",
     }
 }

@@ -2,7 +2,7 @@ use Rattle.std.proofs.Common.{◌≡◌, ◌==◌, true, false, refl, sym, ◌�
 use Rattle.hdl_msg.specs.Codes.{response_number}
 use Rattle.hdl_ops.proofs.Announced.{answer_announced_lem}
 use Rattle.hdl_ops.specs.Decisions.{Decides, Anyone}
-use Rattle.hdl_ops.specs.declared.decision.Asked.{Asked}
+use Rattle.hdl_ops.specs.declared.decision.HashedRequest.{HashedRequest}
 use Rattle.hdl_ops.specs.Tables.{apply_if}
 use Rattle.hdl_ops.specs.Admission.{request_algorithm}
 use Rattle.hdl_ops.specs.Views.{algorithms_by, decision_of, hosted_by}
@@ -15,16 +15,16 @@ use Rattle.hdl_core.proofs.hearing.ask.Goals as goal
 pub returns-then-is_challenged-clause-asked : goal.returns-then-is_challenged-clause-asked
 returns-then-is_challenged-clause-asked g c =
     let r = c.args.request.now in
-    let m = c.args.letter.now in
+    let m = c.args.origin.now in
     let hosts = hosted_by c.args.owner.now in
     let a = request_algorithm (algorithms_by c.args.owner.now) r in
     let t = g.R.Rows.content c.args.rows.now in
     let needed : (response_number c.in_ok-decision.decision.code == 402) ≡ true = sym c.is_challenged.ensures ∙ c.if-is_challenged.true in
     let named = c.in_ok-named.ensures.asked in
     on_ok c.challenge.result _ _
-    (λ heard is. subst (λ (h : Heard). IsAsked hosts a t m c.args.next r h (g.R.Rows.content c.decide.new.rows)) (sym (is ∙ ap (λ (x : Asked). challenge_of_request x.algorithm m c.args.next x.request.now) named)) (
+    (λ heard is. subst (λ (h : Heard). IsAsked hosts a t m c.args.next r h (g.R.Rows.content c.decide.new.rows)) (sym (is ∙ ap (λ (x : HashedRequest). challenge_of_request x.algorithm m c.args.next x.request.now) named)) (
       decision_of c.in_ok-decision.decision,
-      subst (λ (x : Asked). Decides hosts x.algorithm t x.request.now Anyone (decision_of c.in_ok-decision.decision)) named c.in_ok-decision.ensures.decided,
+      subst (λ (x : HashedRequest). Decides hosts x.algorithm t x.request.now Anyone (decision_of c.in_ok-decision.decision)) named c.in_ok-decision.ensures.decided,
       needed,
       refl,
       refl,
@@ -38,16 +38,16 @@ returns-clause-asked g c =
     let answered : (response_number c.in_ok-decision.decision.code == 402) ≡ false = sym c.is_challenged.ensures ∙ c.if-is_challenged.false in
     let named = c.in_ok-named.ensures.asked in (
       d,
-      subst (λ (x : Asked). Decides (hosted_by c.args.owner.now) x.algorithm (g.R.Rows.content c.args.rows.now) x.request.now Anyone d) named c.in_ok-decision.ensures.decided,
+      subst (λ (x : HashedRequest). Decides (hosted_by c.args.owner.now) x.algorithm (g.R.Rows.content c.args.rows.now) x.request.now Anyone d) named c.in_ok-decision.ensures.decided,
       answered,
-      c.in_ok-octets.ensures.reply ∙ ap (λ (x : Asked). answer_octets x.algorithm c.args.letter.now.envelope x.request.now d.code d.content) named,
-      c.in_ok-octets.ensures.done ∙ ap (λ t. apply_if t c.args.letter.now.moment c.in_ok-decision.decision.change) c.decide.ensures.unchanged,
+      c.in_ok-octets.ensures.reply ∙ ap (λ (x : HashedRequest). answer_octets x.algorithm c.args.origin.now.envelope x.request.now d.code d.content) named,
+      c.in_ok-octets.ensures.done ∙ ap (λ t. apply_if t c.args.origin.now.moment c.in_ok-decision.decision.change) c.decide.ensures.unchanged,
     )
 
 pub returns-clause-read : goal.returns-clause-read
 returns-clause-read g c = λ has.
     let answered : (response_number c.in_ok-decision.decision.code == 402) ≡ false = sym c.is_challenged.ensures ∙ c.if-is_challenged.false in
-    let e = c.args.letter.now.envelope in
+    let e = c.args.origin.now.envelope in
     let asked = c.in_ok-named.named.asked in
     c.in_ok-octets.ensures.read
-    (answer_announced_lem (hosted_by c.args.owner.now) asked.algorithm (g.R.Rows.content c.args.rows.now) asked.request.now Anyone (decision_of c.in_ok-decision.decision) e.session e.request (subst (λ (x : Asked). HasItsCode x.request.now) (sym c.in_ok-named.ensures.asked) has) c.in_ok-decision.ensures.decided answered)
+    (answer_announced_lem (hosted_by c.args.owner.now) asked.algorithm (g.R.Rows.content c.args.rows.now) asked.request.now Anyone (decision_of c.in_ok-decision.decision) e.session e.request (subst (λ (x : HashedRequest). HasItsCode x.request.now) (sym c.in_ok-named.ensures.asked) has) c.in_ok-decision.ensures.decided answered)

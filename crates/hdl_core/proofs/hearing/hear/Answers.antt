@@ -14,7 +14,7 @@ use Rattle.hdl_core.proofs.hearing.hear.Goals as goal
 pub returns-in_default-clause-heard : goal.returns-in_default-clause-heard
 returns-in_default-clause-heard g c =
     on_ok c.malformed.result _ _
-    (λ octets is. no_request (hosted_by c.args.owner.now) (algorithms_by c.args.owner.now) (g.R.Rows.content c.args.rows.now) c.args.letter.now c.args.lanes.now c.args.letter.now.lane c.args.message.items octets
+    (λ octets is. no_request (hosted_by c.args.owner.now) (algorithms_by c.args.owner.now) (g.R.Rows.content c.args.rows.now) c.args.origin.now c.args.lanes.now c.args.origin.now.lane c.args.message.items octets
     (λ r spells. c.in_default.ensures.malformed r (subst (λ (b : List ℕ). SpellsRequest b r) (sym c.deref.ensures.value) spells)) is)
     c.malformed.ensures.octets
 
@@ -23,7 +23,7 @@ returns-in-Some-clause-heard g c =
     let r = c.in-Ok.request in
     let is : Some (response_view c.in-Some.response) ≡ response_of r.operation = sym (ap (option_map response_view) c.in-Some.is) ∙ c.response_of.ensures ∙ ap response_of c.body.ensures in
     on_ok c.respond.result _ _
-    (λ octets responds. responded (hosted_by c.args.owner.now) (algorithms_by c.args.owner.now) (g.R.Rows.content c.args.rows.now) c.args.letter.now c.args.lanes.now c.args.letter.now.lane c.args.message.items r (response_view c.in-Some.response) octets c.respond.new.lanes (g.R.Rows.content c.respond.new.rows)
+    (λ octets responds. responded (hosted_by c.args.owner.now) (algorithms_by c.args.owner.now) (g.R.Rows.content c.args.rows.now) c.args.origin.now c.args.lanes.now c.args.origin.now.lane c.args.message.items r (response_view c.in-Some.response) octets c.respond.new.lanes (g.R.Rows.content c.respond.new.rows)
     (subst (λ (b : List ℕ). SpellsRequest b r) c.deref.ensures.value c.in-Ok.ensures.read) is responds)
     c.respond.ensures.responded
 
@@ -31,19 +31,19 @@ pub returns-in-Answered-clause-heard : goal.returns-in-Answered-clause-heard
 returns-in-Answered-clause-heard g c =
     let r = c.in-Ok.request in
     let is : None ≡ response_of r.operation = sym (ap (option_map response_view) c.in_default-response_of.is) ∙ c.response_of.ensures ∙ ap response_of c.body.ensures in
-    answered (hosted_by c.args.owner.now) (algorithms_by c.args.owner.now) (g.R.Rows.content c.args.rows.now) c.args.letter.now c.args.lanes.now c.args.letter.now.lane c.args.message.items r c.in-Answered.octets (g.R.Rows.content c.ask.new.rows) c.in_ok-octets.field-0 c.next_number-next.result
+    answered (hosted_by c.args.owner.now) (algorithms_by c.args.owner.now) (g.R.Rows.content c.args.rows.now) c.args.origin.now c.args.lanes.now c.args.origin.now.lane c.args.message.items r c.in-Answered.octets (g.R.Rows.content c.ask.new.rows) c.in_ok-octets.field-0 c.next_number-next.result
     (subst (λ (b : List ℕ). SpellsRequest b r) c.deref.ensures.value c.in-Ok.ensures.read) is c.in-Answered.is c.in_ok-octets.ensures.asked
 
 pub returns-in-Challenged-clause-heard : goal.returns-in-Challenged-clause-heard
 returns-in-Challenged-clause-heard g c =
     let r = c.in-Ok.request in
     let is : None ≡ response_of r.operation = sym (ap (option_map response_view) c.in_default-response_of.is) ∙ c.response_of.ensures ∙ ap response_of c.body.ensures in
-    challenges (hosted_by c.args.owner.now) (algorithms_by c.args.owner.now) (g.R.Rows.content c.args.rows.now) c.args.letter.now c.args.lanes.now c.args.letter.now.lane c.args.message.items r c.in-Challenged.octets c.in-Challenged.digest (g.R.Rows.content c.ask.new.rows) c.challenge.new.self c.in_ok-octets.field-0 c.next_number-next.result
+    challenges (hosted_by c.args.owner.now) (algorithms_by c.args.owner.now) (g.R.Rows.content c.args.rows.now) c.args.origin.now c.args.lanes.now c.args.origin.now.lane c.args.message.items r c.in-Challenged.octets c.in-Challenged.digest (g.R.Rows.content c.ask.new.rows) c.challenge.new.self c.in_ok-octets.field-0 c.next_number-next.result
     (subst (λ (b : List ℕ). SpellsRequest b r) c.deref.ensures.value c.in-Ok.ensures.read) is c.in-Challenged.is c.next_number-next.ensures c.in_ok-octets.ensures.asked
-    (c.challenge.ensures ∙ ap (λ (message : List ℕ). with_state c.args.lanes.now c.args.letter.now.lane (record {
-      is_open = (state_at c.args.lanes.now c.args.letter.now.lane).is_open;
-      partials = (state_at c.args.lanes.now c.args.letter.now.lane).partials;
-      challenges = challenged (state_at c.args.lanes.now c.args.letter.now.lane).challenges (record { peer = c.args.letter.now.peer; moment = c.args.letter.now.moment; nonce = c.args.letter.now.nonce; digest = c.in-Challenged.digest; message = message });
+    (c.challenge.ensures ∙ ap (λ (message : List ℕ). with_state c.args.lanes.now c.args.origin.now.lane (record {
+      is_open = (state_at c.args.lanes.now c.args.origin.now.lane).is_open;
+      partials = (state_at c.args.lanes.now c.args.origin.now.lane).partials;
+      challenges = challenged (state_at c.args.lanes.now c.args.origin.now.lane).challenges (record { peer = c.args.origin.now.peer; moment = c.args.origin.now.moment; nonce = c.args.origin.now.nonce; digest = c.in-Challenged.digest; message = message });
     })) c.new.ensures)
 
 pub returns-in-Answered-clause-read : goal.returns-in-Answered-clause-read

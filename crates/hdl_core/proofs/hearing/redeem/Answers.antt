@@ -2,7 +2,7 @@ use Rattle.std.proofs.Common.{ℕ, List, sym, ap, ◌∙◌, subst}
 use Rattle.hdl_msg.specs.Message.{SpellsRequest}
 use Rattle.hdl_ops.proofs.Announced.{answer_announced_lem, proven_code, timeout_announced}
 use Rattle.hdl_ops.specs.Decisions.{Decides, Proven}
-use Rattle.hdl_ops.specs.declared.decision.Asked.{Asked}
+use Rattle.hdl_ops.specs.declared.decision.HashedRequest.{HashedRequest}
 use Rattle.hdl_ops.specs.Proven.{Proof}
 use Rattle.hdl_ops.specs.Tables.{apply_if}
 use Rattle.hdl_ops.specs.Views.{algorithms_by, decision_of, hosted_by, response_view}
@@ -12,16 +12,16 @@ use Rattle.hdl_core.proofs.hearing.redeem.Goals as goal
 pub returns-in_default-clause-redeemed : goal.returns-in_default-clause-redeemed
 returns-in_default-clause-redeemed g c =
     on_ok c.malformed.result _ _
-    (λ octets is. unreadable (hosted_by c.args.owner.now) (algorithms_by c.args.owner.now) (g.R.Rows.content c.args.rows.now) c.args.letter.now (response_view c.args.response) c.args.pending.now octets
+    (λ octets is. unreadable (hosted_by c.args.owner.now) (algorithms_by c.args.owner.now) (g.R.Rows.content c.args.rows.now) c.args.origin.now (response_view c.args.response) c.args.pending.now octets
     (λ r spells. c.in_default.ensures.malformed r (subst (λ (b : List ℕ). SpellsRequest b r) (sym c.as_slice.ensures) spells)) is)
     c.malformed.ensures.octets
 
 pub returns-then-is_late-clause-redeemed : goal.returns-then-is_late-clause-redeemed
 returns-then-is_late-clause-redeemed g c =
-    on_ok c.tell.result _ _
-    (λ octets is. late (hosted_by c.args.owner.now) (algorithms_by c.args.owner.now) (g.R.Rows.content c.args.rows.now) c.args.letter.now (response_view c.args.response) c.args.pending.now c.in-Ok.request c.algorithm.result octets c.algorithm.ensures
+    on_ok c.code_reply.result _ _
+    (λ octets is. late (hosted_by c.args.owner.now) (algorithms_by c.args.owner.now) (g.R.Rows.content c.args.rows.now) c.args.origin.now (response_view c.args.response) c.args.pending.now c.in-Ok.request c.algorithm.result octets c.algorithm.ensures
     (subst (λ (b : List ℕ). SpellsRequest b c.in-Ok.request) c.as_slice.ensures c.in-Ok.ensures.read) (λ message. sym c.if-is_late.true ∙ c.is_late.ensures message) is)
-    c.tell.ensures.reply
+    c.code_reply.ensures.reply
 
 pub returns-clause-redeemed : goal.returns-clause-redeemed
 returns-clause-redeemed g c =
@@ -30,25 +30,25 @@ returns-clause-redeemed g c =
     let p : Proof = record { response = response_view c.args.response; nonce = c.args.pending.now.nonce; digest = c.args.pending.now.digest } in
     let d = decision_of c.in_ok-decision.decision in
     on_both c.answer.result _ _ _
-    (λ octets is table. proven hosts (algorithms_by c.args.owner.now) t c.args.letter.now (response_view c.args.response) c.args.pending.now c.in-Ok.request c.algorithm.result d octets (g.R.Rows.content c.answer.new.rows) c.algorithm.ensures
+    (λ octets is table. proven hosts (algorithms_by c.args.owner.now) t c.args.origin.now (response_view c.args.response) c.args.pending.now c.in-Ok.request c.algorithm.result d octets (g.R.Rows.content c.answer.new.rows) c.algorithm.ensures
     (subst (λ (b : List ℕ). SpellsRequest b c.in-Ok.request) c.as_slice.ensures c.in-Ok.ensures.read) (λ message. sym c.if-is_late.false ∙ c.is_late.ensures message)
-    (subst (λ (x : Asked). Decides hosts x.algorithm t x.request.now (Proven p) d) c.in_ok-named.ensures.asked c.in_ok-decision.ensures.decided) is (table ∙ ap (λ t. apply_if t c.args.letter.now.moment c.in_ok-decision.decision.change) c.decide.ensures.unchanged))
+    (subst (λ (x : HashedRequest). Decides hosts x.algorithm t x.request.now (Proven p) d) c.in_ok-named.ensures.asked c.in_ok-decision.ensures.decided) is (table ∙ ap (λ t. apply_if t c.args.origin.now.moment c.in_ok-decision.decision.change) c.decide.ensures.unchanged))
     c.answer.ensures.reply c.answer.ensures.done
 
 pub returns-then-is_late-clause-read : goal.returns-then-is_late-clause-read
 returns-then-is_late-clause-read g c =
-    let e = c.args.letter.now.envelope in
-    on_ok c.tell.result _ _ (λ octets reads. reads (timeout_announced c.algorithm.result e.session e.request c.in-Ok.request)) c.tell.ensures.read
+    let e = c.args.origin.now.envelope in
+    on_ok c.code_reply.result _ _ (λ octets reads. reads (timeout_announced c.algorithm.result e.session e.request c.in-Ok.request)) c.code_reply.ensures.read
 
 pub returns-clause-read : goal.returns-clause-read
 returns-clause-read g c =
-    let e = c.args.letter.now.envelope in
+    let e = c.args.origin.now.envelope in
     let r = c.in-Ok.request in
     let hosts = hosted_by c.args.owner.now in
     let t = g.R.Rows.content c.args.rows.now in
     let p : Proof = record { response = response_view c.args.response; nonce = c.args.pending.now.nonce; digest = c.args.pending.now.digest } in
     let d = decision_of c.in_ok-decision.decision in
-    let decided = subst (λ (x : Asked). Decides hosts x.algorithm t x.request.now (Proven p) d) c.in_ok-named.ensures.asked c.in_ok-decision.ensures.decided in
+    let decided = subst (λ (x : HashedRequest). Decides hosts x.algorithm t x.request.now (Proven p) d) c.in_ok-named.ensures.asked c.in_ok-decision.ensures.decided in
     on_ok c.answer.result _ _
     (λ octets reads. reads (answer_announced_lem hosts c.algorithm.result t r (Proven p) d e.session e.request c.in-Ok.ensures.read.has_code decided (proven_code hosts c.algorithm.result t r p d decided)))
     c.answer.ensures.read

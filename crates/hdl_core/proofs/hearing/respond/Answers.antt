@@ -8,17 +8,17 @@ use Rattle.hdl_core.proofs.hearing.respond.Goals as goal
 
 pub returns-in_default-clause-responded : goal.returns-in_default-clause-responded
 returns-in_default-clause-responded g c =
-    on_ok c.tell.result _ _
-    (λ octets is. unknown (hosted_by c.args.owner.now) (algorithms_by c.args.owner.now) (g.R.Rows.content c.args.rows.now) c.args.letter.now c.args.lanes.now c.args.letter.now.lane c.args.request.now (response_view c.args.response) octets
+    on_ok c.code_reply.result _ _
+    (λ octets is. unknown (hosted_by c.args.owner.now) (algorithms_by c.args.owner.now) (g.R.Rows.content c.args.rows.now) c.args.origin.now c.args.lanes.now c.args.origin.now.lane c.args.request.now (response_view c.args.response) octets
     (sym (ap option_copied c.in_default.is) ∙ c.find.ensures) is)
-    c.tell.ensures.reply
+    c.code_reply.ensures.reply
 
 pub returns-clause-responded : goal.returns-clause-responded
 returns-clause-responded g c =
-    known (hosted_by c.args.owner.now) (algorithms_by c.args.owner.now) (g.R.Rows.content c.args.rows.now) c.args.letter.now c.args.lanes.now c.args.letter.now.lane c.args.request.now (response_view c.args.response) c.in-Some.pending.now c.in_ok-octets.octets c.spend.new.self (g.R.Rows.content c.redeem.new.rows)
+    known (hosted_by c.args.owner.now) (algorithms_by c.args.owner.now) (g.R.Rows.content c.args.rows.now) c.args.origin.now c.args.lanes.now c.args.origin.now.lane c.args.request.now (response_view c.args.response) c.in-Some.pending.now c.in_ok-octets.octets c.spend.new.self (g.R.Rows.content c.redeem.new.rows)
     (sym (ap option_copied c.in-Some.is) ∙ c.find.ensures) c.in_ok-octets.ensures.redeemed c.spend.ensures
 
 pub returns-in_default-clause-read : goal.returns-in_default-clause-read
 returns-in_default-clause-read g c =
-    let e = c.args.letter.now.envelope in
-    on_ok c.tell.result _ _ (λ octets reads. reads (protocol_error_announced Sha1 e.session e.request c.args.request.now)) c.tell.ensures.read
+    let e = c.args.origin.now.envelope in
+    on_ok c.code_reply.result _ _ (λ octets reads. reads (protocol_error_announced Sha1 e.session e.request c.args.request.now)) c.code_reply.ensures.read

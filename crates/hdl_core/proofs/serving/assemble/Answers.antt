@@ -2,7 +2,7 @@ use Rattle.std.proofs.Common.{List, refl, sym, ap, ◌∙◌, subst}
 use Rattle.hdl_pool.specs.Taking.{kept, ignored, displaced, fate_of}
 use Rattle.hdl_core.specs.Held.{Held}
 use Rattle.hdl_ops.specs.Views.{algorithms_by, hosted_by}
-use Rattle.hdl_core.specs.Serving.{letter_of, HearsAt}
+use Rattle.hdl_core.specs.Serving.{message_as, HearsAt}
 use Rattle.hdl_core.proofs.Assembled.{waits, unchanged, whole}
 use Rattle.hdl_core.proofs.Heard.{on_any_err}
 use Rattle.hdl_core.proofs.serving.assemble.Goals as goal
@@ -10,23 +10,23 @@ use Rattle.hdl_core.proofs.serving.assemble.Goals as goal
 pub returns-in_err-reply-in-Whole-clause-kept : goal.returns-in_err-reply-in-Whole-clause-kept
 returns-in_err-reply-in-Whole-clause-kept g c =
     on_any_err c.from_residual.result _
-    (c.in_err-reply-in-Whole.ensures.kept ∙ unchanged (hosted_by c.args.owner.now) (algorithms_by c.args.owner.now) (g.R.Rows.content c.args.rows.now) c.args.lanes.now c.args.letter.now.lane c.args.letter.now c.args.frame.now.bytes.now c.requires.envelope c.in-Whole.message.items c.take_piece.new.self (sym (ap fate_of c.in-Whole.is) ∙ c.in-Ok.ensures.fate) c.in-Ok.ensures.lanes)
+    (c.in_err-reply-in-Whole.ensures.kept ∙ unchanged (hosted_by c.args.owner.now) (algorithms_by c.args.owner.now) (g.R.Rows.content c.args.rows.now) c.args.lanes.now c.args.origin.now.lane c.args.origin.now c.args.frame.now.bytes.now c.requires.envelope c.in-Whole.message.items c.take_piece.new.self (sym (ap fate_of c.in-Whole.is) ∙ c.in-Ok.ensures.fate) c.in-Ok.ensures.lanes)
 
 pub returns-in_ok-reply-in-Whole-clause-assembled : goal.returns-in_ok-reply-in-Whole-clause-assembled
 returns-in_ok-reply-in-Whole-clause-assembled g c =
-    let same = unchanged (hosted_by c.args.owner.now) (algorithms_by c.args.owner.now) (g.R.Rows.content c.args.rows.now) c.args.lanes.now c.args.letter.now.lane c.args.letter.now c.args.frame.now.bytes.now c.requires.envelope c.in-Whole.message.items c.take_piece.new.self (sym (ap fate_of c.in-Whole.is) ∙ c.in-Ok.ensures.fate) c.in-Ok.ensures.lanes in
-    whole (hosted_by c.args.owner.now) (algorithms_by c.args.owner.now) (g.R.Rows.content c.args.rows.now) c.args.lanes.now c.args.letter.now.lane c.args.letter.now c.args.frame.now.bytes.now c.requires.envelope c.in-Whole.message.items c.in_ok-reply-in-Whole.reply c.hear.new.lanes c.free.new.self (g.R.Rows.content c.hear.new.rows) c.requires.there (sym (ap fate_of c.in-Whole.is) ∙ c.in-Ok.ensures.fate)
-    (subst (λ (ls : List Held). HearsAt (hosted_by c.args.owner.now) (algorithms_by c.args.owner.now) (g.R.Rows.content c.args.rows.now) ls c.args.letter.now.lane (letter_of c.args.letter.now c.in-Whole.message.items) c.in_ok-reply-in-Whole.reply c.hear.new.lanes (g.R.Rows.content c.hear.new.rows)) same c.in_ok-reply-in-Whole.ensures.heard)
+    let same = unchanged (hosted_by c.args.owner.now) (algorithms_by c.args.owner.now) (g.R.Rows.content c.args.rows.now) c.args.lanes.now c.args.origin.now.lane c.args.origin.now c.args.frame.now.bytes.now c.requires.envelope c.in-Whole.message.items c.take_piece.new.self (sym (ap fate_of c.in-Whole.is) ∙ c.in-Ok.ensures.fate) c.in-Ok.ensures.lanes in
+    whole (hosted_by c.args.owner.now) (algorithms_by c.args.owner.now) (g.R.Rows.content c.args.rows.now) c.args.lanes.now c.args.origin.now.lane c.args.origin.now c.args.frame.now.bytes.now c.requires.envelope c.in-Whole.message.items c.in_ok-reply-in-Whole.reply c.hear.new.lanes c.free.new.self (g.R.Rows.content c.hear.new.rows) c.requires.there (sym (ap fate_of c.in-Whole.is) ∙ c.in-Ok.ensures.fate)
+    (subst (λ (ls : List Held). HearsAt (hosted_by c.args.owner.now) (algorithms_by c.args.owner.now) (g.R.Rows.content c.args.rows.now) ls c.args.origin.now.lane (message_as c.args.origin.now c.in-Whole.message.items) c.in_ok-reply-in-Whole.reply c.hear.new.lanes (g.R.Rows.content c.hear.new.rows)) same c.in_ok-reply-in-Whole.ensures.heard)
     c.free.ensures
 
 pub returns-in-Kept-clause-assembled : goal.returns-in-Kept-clause-assembled
 returns-in-Kept-clause-assembled g c =
-    waits (hosted_by c.args.owner.now) (algorithms_by c.args.owner.now) (g.R.Rows.content c.args.rows.now) c.args.lanes.now c.args.letter.now.lane c.args.letter.now c.args.frame.now.bytes.now c.requires.envelope kept c.take_piece.new.self refl (sym (ap fate_of c.in-Kept.is) ∙ c.in-Ok.ensures.fate) c.in-Ok.ensures.lanes
+    waits (hosted_by c.args.owner.now) (algorithms_by c.args.owner.now) (g.R.Rows.content c.args.rows.now) c.args.lanes.now c.args.origin.now.lane c.args.origin.now c.args.frame.now.bytes.now c.requires.envelope kept c.take_piece.new.self refl (sym (ap fate_of c.in-Kept.is) ∙ c.in-Ok.ensures.fate) c.in-Ok.ensures.lanes
 
 pub returns-in-Ignored-clause-assembled : goal.returns-in-Ignored-clause-assembled
 returns-in-Ignored-clause-assembled g c =
-    waits (hosted_by c.args.owner.now) (algorithms_by c.args.owner.now) (g.R.Rows.content c.args.rows.now) c.args.lanes.now c.args.letter.now.lane c.args.letter.now c.args.frame.now.bytes.now c.requires.envelope ignored c.take_piece.new.self refl (sym (ap fate_of c.in-Ignored.is) ∙ c.in-Ok.ensures.fate) c.in-Ok.ensures.lanes
+    waits (hosted_by c.args.owner.now) (algorithms_by c.args.owner.now) (g.R.Rows.content c.args.rows.now) c.args.lanes.now c.args.origin.now.lane c.args.origin.now c.args.frame.now.bytes.now c.requires.envelope ignored c.take_piece.new.self refl (sym (ap fate_of c.in-Ignored.is) ∙ c.in-Ok.ensures.fate) c.in-Ok.ensures.lanes
 
 pub returns-in-Displaced-clause-assembled : goal.returns-in-Displaced-clause-assembled
 returns-in-Displaced-clause-assembled g c =
-    waits (hosted_by c.args.owner.now) (algorithms_by c.args.owner.now) (g.R.Rows.content c.args.rows.now) c.args.lanes.now c.args.letter.now.lane c.args.letter.now c.args.frame.now.bytes.now c.requires.envelope displaced c.take_piece.new.self refl (sym (ap fate_of c.in-Displaced.is) ∙ c.in-Ok.ensures.fate) c.in-Ok.ensures.lanes
+    waits (hosted_by c.args.owner.now) (algorithms_by c.args.owner.now) (g.R.Rows.content c.args.rows.now) c.args.lanes.now c.args.origin.now.lane c.args.origin.now c.args.frame.now.bytes.now c.requires.envelope displaced c.take_piece.new.self refl (sym (ap fate_of c.in-Displaced.is) ∙ c.in-Ok.ensures.fate) c.in-Ok.ensures.lanes

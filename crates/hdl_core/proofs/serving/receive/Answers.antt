@@ -4,7 +4,7 @@ use Rattle.hdl_frame.specs.Splitting.{IsFrameOf}
 use Rattle.hdl_msg.specs.ReplyView.{IsReplyFrame}
 use Rattle.hdl_msg.proofs.ReplyReadings.{short_reply_read}
 use Rattle.hdl_events.specs.declared.Outcome.TheVariants.{Busy}
-use Rattle.hdl_core.specs.declared.letter.Letter.{Letter}
+use Rattle.hdl_core.specs.declared.received.Origin.{Origin}
 use Rattle.std.specs.Prelude.{IfOk}
 use Rattle.hdl_ops.specs.Views.{algorithms_by, hosted_by}
 use Rattle.hdl_core.specs.Serving.{received_of, AssemblesAt}
@@ -31,7 +31,7 @@ returns-then-is_truncated-clause-received g c =
 pub returns-in-Ok-hear-clause-received : goal.returns-in-Ok-hear-clause-received
 returns-in-Ok-hear-clause-received g c =
     let x = received_of c.args.received in
-    let m : Letter = record { lane = c.args.received.lane; peer = c.args.received.peer; moment = c.args.received.moment; nonce = c.args.received.nonce; envelope = c.in-Ok.frame.envelope } in
+    let m : Origin = record { lane = c.args.received.lane; peer = c.args.received.peer; moment = c.args.received.moment; nonce = c.args.received.nonce; envelope = c.in-Ok.frame.envelope } in
     heard (hosted_by c.args.owner.now) (algorithms_by c.args.owner.now) (g.R.Rows.content c.args.rows.now) c.args.lanes.now c.args.received.lane x c.in-Ok.frame m c.message_of-message.result.items c.in-Ok-hear.reply c.hear.new.lanes (g.R.Rows.content c.hear.new.rows)
     (subst (λ (b : List ℕ). IsFrameOf b c.in-Ok.frame) c.as_slice.ensures c.in-Ok.ensures.ok) (sym c.is_truncated.ensures ∙ c.if-is_truncated.false) c.message_of-message.ensures refl c.in-Ok-hear.ensures.heard
 

@@ -11,10 +11,10 @@ use Rattle.hdl_proxy.proofs.pages.put_written.Goals as goal
 pub returns : goal.returns
 returns c =
     let before = c.args.page.now.octets.items in
-    let stamp = c.args.stamp in
+    let timestamp = c.args.timestamp in
     let text : List ℕ = string_bytes c.in-Some.moment in
-    let told : written_part stamp (Some text) ≡ codes "<br>written " ++ escaped text = cond-false (stamp == 0) [] (codes "<br>written " ++ escaped text) (false_from_ne_true (stamp == 0) (λ t. c.if-stamp-eq0.false (eqb-true stamp 0 t))) in
-    let same : written_part stamp (option_map string_bytes c.args.written) ≡ written_part stamp (Some text) = ap (λ (o : Option (String Global)). written_part stamp (option_map string_bytes o)) c.in-Some.is in
+    let told : written_part timestamp (Some text) ≡ codes "<br>written " ++ escaped text = cond-false (timestamp == 0) [] (codes "<br>written " ++ escaped text) (false_from_ne_true (timestamp == 0) (λ t. c.if-timestamp-eq0.false (eqb-true timestamp 0 t))) in
+    let same : written_part timestamp (option_map string_bytes c.args.written) ≡ written_part timestamp (Some text) = ap (λ (o : Option (String Global)). written_part timestamp (option_map string_bytes o)) c.in-Some.is in
     on_ok_weaker c.text.result (λ put.
     two before _ _ (codes "<br>written ") (escaped text)
     c.in_ok-markup.ensures

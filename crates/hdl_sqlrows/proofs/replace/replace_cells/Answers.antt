@@ -15,11 +15,11 @@ pub returns-clause-put : goal.returns-clause-put
 returns-clause-put g c clean =
     let old = state g.S.Store c.args.tx.now.conn.now in
     let new = state g.S.Store c.execute.new.self.conn.now in
-    let stamp : c.args.value.now.stamp < 2 ^ 64 = omega arith in
+    let timestamp : c.args.value.now.timestamp < 2 ^ 64 = omega arith in
     let late : HasCleanDisk old = omega (arith, clean, c.execute.ensures.survives.clean) in
     let ran = went_on old new _ _ _ c.in_ok-execute.ensures.ended (c.in_ok-execute.ensures.runs clean) in
     let up = ran.1.was_open in
-    (up, replaces_entry old new c.args.name.now c.args.value.now _ (c.requires.inside late up) stamp c.requires.short (c.requires.there late up) (rw (c.params-to_sql.ensures, c.params-to_sql-2.ensures, c.params-to_sql-3.ensures, c.params-to_sql-4.ensures, c.params-to_sql-5.ensures, c.params-to_sql-6.ensures, c.params-to_sql-7.ensures, c.params-to_sql-8.ensures, c.as_slice.ensures, c.as_slice-2.ensures, c.as_slice-3.ensures, c.as_slice-4.ensures, c.to_be_bytes-stamp.ensures, c.from.ensures, c.requires.spelt) at ran))
+    (up, replaces_entry old new c.args.name.now c.args.value.now _ (c.requires.inside late up) timestamp c.requires.short (c.requires.there late up) (rw (c.params-to_sql.ensures, c.params-to_sql-2.ensures, c.params-to_sql-3.ensures, c.params-to_sql-4.ensures, c.params-to_sql-5.ensures, c.params-to_sql-6.ensures, c.params-to_sql-7.ensures, c.params-to_sql-8.ensures, c.as_slice.ensures, c.as_slice-2.ensures, c.as_slice-3.ensures, c.as_slice-4.ensures, c.to_be_bytes-timestamp.ensures, c.from.ensures, c.requires.spelt) at ran))
 
 pub returns-clause-beside : goal.returns-clause-beside
 returns-clause-beside g c clean =
@@ -28,4 +28,4 @@ returns-clause-beside g c clean =
     let late : HasCleanDisk old = omega (arith, clean, c.execute.ensures.survives.clean) in
     let ran = went_on old new _ _ _ c.in_ok-execute.ensures.ended (c.in_ok-execute.ensures.runs clean) in
     let up = ran.1.was_open in
-    update_beside old new c.args.name.now c.args.value.now _ (c.requires.inside late up) (c.requires.there late up) (rw (c.params-to_sql.ensures, c.params-to_sql-2.ensures, c.params-to_sql-3.ensures, c.params-to_sql-4.ensures, c.params-to_sql-5.ensures, c.params-to_sql-6.ensures, c.params-to_sql-7.ensures, c.params-to_sql-8.ensures, c.as_slice.ensures, c.as_slice-2.ensures, c.as_slice-3.ensures, c.as_slice-4.ensures, c.to_be_bytes-stamp.ensures, c.from.ensures, c.requires.spelt) at ran)
+    update_beside old new c.args.name.now c.args.value.now _ (c.requires.inside late up) (c.requires.there late up) (rw (c.params-to_sql.ensures, c.params-to_sql-2.ensures, c.params-to_sql-3.ensures, c.params-to_sql-4.ensures, c.params-to_sql-5.ensures, c.params-to_sql-6.ensures, c.params-to_sql-7.ensures, c.params-to_sql-8.ensures, c.as_slice.ensures, c.as_slice-2.ensures, c.as_slice-3.ensures, c.as_slice-4.ensures, c.to_be_bytes-timestamp.ensures, c.from.ensures, c.requires.spelt) at ran)

@@ -8,7 +8,7 @@ invariant-loop-line g l = record {
   line : SameLine l.initial.line l.line;
   taken : taken_by l.line ≡ taken_by l.initial.line;
   put : put_by l.line ≡ put_by l.initial.line;
-  answers : IsTrue g.C.Clock.tells → g.C.Clock.answers l.clock ≡ g.C.Clock.answers l.initial.clock;
+  answers : IsTrue g.C.Clock.is_observed → g.C.Clock.answers l.clock ≡ g.C.Clock.answers l.initial.clock;
 }
 
 abbrev pub decreases-loop-line : goal.decreases-loop-line

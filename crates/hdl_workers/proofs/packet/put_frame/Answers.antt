@@ -1,5 +1,5 @@
 use Rattle.std.proofs.Common.{◌≡◌, refl, ◌++◌, ◌∷◌, [], replicate}
-use Rattle.hdl_events.specs.declared.What.TheVariants.{Frame}
+use Rattle.hdl_events.specs.declared.Happening.TheVariants.{Frame}
 use Rattle.hdl_workers.specs.declared.item.Item.TheVariants.{Event}
 use Rattle.hdl_workers.specs.Line.{put_by}
 use Rattle.hdl_workers.specs.Door.{Takes}

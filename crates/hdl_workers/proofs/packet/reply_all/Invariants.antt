@@ -9,9 +9,9 @@ invariant-loop-packets g l = record {
   faults : g.P.Packets.fault_count l.initial.packets ≤ g.P.Packets.fault_count l.packets;
   line : SameLine l.initial.line l.line;
   put : put_by l.line ≡ put_by l.initial.line;
-  answers : IsTrue g.C.Clock.tells → g.C.Clock.answers l.clock ≡ g.C.Clock.answers l.initial.clock;
-  received : IsTrue g.P.Packets.tells → g.P.Packets.received l.packets ≡ g.P.Packets.received l.initial.packets;
-  replied : IsTrue g.P.Packets.tells → Replies l.initial.peers.items (put_by l.initial.line) (g.P.Packets.sent l.initial.packets) (g.P.Packets.fault_count l.initial.packets) (taken_by l.initial.line)
+  answers : IsTrue g.C.Clock.is_observed → g.C.Clock.answers l.clock ≡ g.C.Clock.answers l.initial.clock;
+  received : IsTrue g.P.Packets.is_observed → g.P.Packets.received l.packets ≡ g.P.Packets.received l.initial.packets;
+  replied : IsTrue g.P.Packets.is_observed → Replies l.initial.peers.items (put_by l.initial.line) (g.P.Packets.sent l.initial.packets) (g.P.Packets.fault_count l.initial.packets) (taken_by l.initial.line)
       l.peers.items (g.P.Packets.sent l.packets) (g.P.Packets.fault_count l.packets) (taken_by l.line);
 }
 

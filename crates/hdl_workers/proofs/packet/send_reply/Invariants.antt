@@ -8,6 +8,6 @@ invariant-loop-envelope g l = record {
   turns : l.turns ≤ l.initial.turns;
   order : seen l.yielded ++ l.envelope-iterator ≡ l.initial.envelope-iterator;
   faults : g.P.Packets.fault_count l.packets ≡ g.P.Packets.fault_count l.initial.packets;
-  received : IsTrue g.P.Packets.tells → g.P.Packets.received l.packets ≡ g.P.Packets.received l.initial.packets;
-  sent : IsTrue g.P.Packets.tells → g.P.Packets.sent l.packets ≡ g.P.Packets.sent l.initial.packets ++ map (to_peer l.peer) (seen l.yielded);
+  received : IsTrue g.P.Packets.is_observed → g.P.Packets.received l.packets ≡ g.P.Packets.received l.initial.packets;
+  sent : IsTrue g.P.Packets.is_observed → g.P.Packets.sent l.packets ≡ g.P.Packets.sent l.initial.packets ++ map (to_peer l.peer) (seen l.yielded);
 }

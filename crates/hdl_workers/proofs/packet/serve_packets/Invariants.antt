@@ -8,9 +8,9 @@ abbrev pub invariant-loop-alloc : goal.invariant-loop-alloc
 invariant-loop-alloc g l = record {
   faults : g.P.Packets.fault_count l.fn.packets ≤ g.P.Packets.fault_count l.packets;
   line : SameLine l.fn.line l.line;
-  moments : IsTrue g.C.Clock.tells → MomentsUsed (g.C.Clock.answers l.fn.clock) (put_by l.fn.line) (g.C.Clock.answers l.clock) (put_by l.line);
-  nonces : IsTrue g.N.Nonces.tells → NoncesUsed (g.N.Nonces.answers l.fn.nonces) (put_by l.fn.line) (g.N.Nonces.answers l.nonces) (put_by l.line);
-  trading : IsTrue g.P.Packets.tells → Trading l.peers.items (g.P.Packets.received l.packets) (g.P.Packets.sent l.packets) (g.P.Packets.fault_count l.fn.packets) (g.P.Packets.fault_count l.packets) (put_by l.line) (taken_by l.line);
+  moments : IsTrue g.C.Clock.is_observed → MomentsUsed (g.C.Clock.answers l.fn.clock) (put_by l.fn.line) (g.C.Clock.answers l.clock) (put_by l.line);
+  nonces : IsTrue g.N.Nonces.is_observed → NoncesUsed (g.N.Nonces.answers l.fn.nonces) (put_by l.fn.line) (g.N.Nonces.answers l.nonces) (put_by l.line);
+  trading : IsTrue g.P.Packets.is_observed → Trading l.peers.items (g.P.Packets.received l.packets) (g.P.Packets.sent l.packets) (g.P.Packets.fault_count l.fn.packets) (g.P.Packets.fault_count l.packets) (put_by l.line) (taken_by l.line);
 }
 
 abbrev pub decreases-loop-alloc : goal.decreases-loop-alloc

@@ -9,9 +9,9 @@ invariant-loop-line g l = record {
   still_open : g.D.Door.is_open l.door ≡ g.D.Door.is_open l.initial.door;
   line : SameLine l.initial.line l.line;
   put : put_by l.line ≡ put_by l.initial.line;
-  answers : IsTrue g.C.Clock.tells → g.C.Clock.answers l.clock ≡ g.C.Clock.answers l.initial.clock;
-  ended : IsTrue g.D.Door.tells → g.D.Door.ended l.door ≡ g.D.Door.ended l.initial.door;
-  whole : IsTrue g.D.Door.tells → Relayed (taken_by l.initial.line) (g.D.Door.current l.initial.door) (taken_by l.line) (g.D.Door.current l.door);
+  answers : IsTrue g.C.Clock.is_observed → g.C.Clock.answers l.clock ≡ g.C.Clock.answers l.initial.clock;
+  ended : IsTrue g.D.Door.is_observed → g.D.Door.ended l.door ≡ g.D.Door.ended l.initial.door;
+  whole : IsTrue g.D.Door.is_observed → Relayed (taken_by l.initial.line) (g.D.Door.current l.initial.door) (taken_by l.line) (g.D.Door.current l.door);
 }
 
 abbrev pub decreases-loop-line : goal.decreases-loop-line

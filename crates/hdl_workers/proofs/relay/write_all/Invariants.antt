@@ -8,8 +8,8 @@ invariant-loop-at g l = record {
   turns : l.turns ≤ l.initial.turns;
   faults : g.D.Door.fault_count l.initial.door ≤ g.D.Door.fault_count l.door;
   still_open : g.D.Door.is_open l.door ≡ g.D.Door.is_open l.initial.door;
-  ended : IsTrue g.D.Door.tells → g.D.Door.ended l.door ≡ g.D.Door.ended l.initial.door;
-  said : IsTrue g.D.Door.tells → g.D.Door.current l.door ≡ say (take l.at l.octets) (g.D.Door.current l.initial.door);
+  ended : IsTrue g.D.Door.is_observed → g.D.Door.ended l.door ≡ g.D.Door.ended l.initial.door;
+  said : IsTrue g.D.Door.is_observed → g.D.Door.current l.door ≡ say (take l.at l.octets) (g.D.Door.current l.initial.door);
 }
 
 abbrev pub decreases-loop-at : goal.decreases-loop-at

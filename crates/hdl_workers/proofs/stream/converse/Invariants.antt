@@ -11,11 +11,11 @@ invariant-loop-cutter g l = record {
   still_open : g.D.Door.is_open l.door ≡ g.D.Door.is_open l.fn.door;
   line : SameLine l.fn.line l.line;
   sound : l.cutter.fault ≡ None;
-  moments : IsTrue g.C.Clock.tells → MomentsUsed (g.C.Clock.answers l.fn.clock) (put_by l.fn.line) (g.C.Clock.answers l.clock) (put_by l.line);
-  nonces : IsTrue g.N.Nonces.tells → NoncesUsed (g.N.Nonces.answers l.fn.nonces) (put_by l.fn.line) (g.N.Nonces.answers l.nonces) (put_by l.line);
-  ended : IsTrue g.D.Door.tells → g.D.Door.ended l.door ≡ g.D.Door.ended l.fn.door;
+  moments : IsTrue g.C.Clock.is_observed → MomentsUsed (g.C.Clock.answers l.fn.clock) (put_by l.fn.line) (g.C.Clock.answers l.clock) (put_by l.line);
+  nonces : IsTrue g.N.Nonces.is_observed → NoncesUsed (g.N.Nonces.answers l.fn.nonces) (put_by l.fn.line) (g.N.Nonces.answers l.nonces) (put_by l.line);
+  ended : IsTrue g.D.Door.is_observed → g.D.Door.ended l.door ≡ g.D.Door.ended l.fn.door;
   settled : length (taken_by l.line) ≡ length (put_by l.line);
-  talk : IsTrue g.D.Door.tells → Underway (Waiting l.cutter.rest) (g.D.Door.ended l.door) (g.D.Door.current l.door) (put_by l.line) (taken_by l.line);
+  talk : IsTrue g.D.Door.is_observed → Underway (Waiting l.cutter.rest) (g.D.Door.ended l.door) (g.D.Door.current l.door) (put_by l.line) (taken_by l.line);
 }
 
 abbrev pub decreases-loop-cutter : goal.decreases-loop-cutter

@@ -8,10 +8,10 @@ abbrev pub invariant-loop-alloc : goal.invariant-loop-alloc
 invariant-loop-alloc g l = record {
   faults : g.D.Door.fault_count l.fn.door ≤ g.D.Door.fault_count l.door;
   line : SameLine l.fn.line l.line;
-  moments : IsTrue g.C.Clock.tells → MomentsUsed (g.C.Clock.answers l.fn.clock) (put_by l.fn.line) (g.C.Clock.answers l.clock) (put_by l.line);
-  nonces : IsTrue g.N.Nonces.tells → NoncesUsed (g.N.Nonces.answers l.fn.nonces) (put_by l.fn.line) (g.N.Nonces.answers l.nonces) (put_by l.line);
+  moments : IsTrue g.C.Clock.is_observed → MomentsUsed (g.C.Clock.answers l.fn.clock) (put_by l.fn.line) (g.C.Clock.answers l.clock) (put_by l.line);
+  nonces : IsTrue g.N.Nonces.is_observed → NoncesUsed (g.N.Nonces.answers l.fn.nonces) (put_by l.fn.line) (g.N.Nonces.answers l.nonces) (put_by l.line);
   settled : length (taken_by l.line) ≡ length (put_by l.line);
-  history : IsTrue g.D.Door.tells → History (g.D.Door.ended l.door) (put_by l.line) (taken_by l.line);
+  history : IsTrue g.D.Door.is_observed → History (g.D.Door.ended l.door) (put_by l.line) (taken_by l.line);
 }
 
 abbrev pub decreases-loop-alloc : goal.decreases-loop-alloc

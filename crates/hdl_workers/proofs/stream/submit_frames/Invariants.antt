@@ -11,10 +11,10 @@ invariant-loop-turns g l = record {
   still_open : g.D.Door.is_open l.door ≡ g.D.Door.is_open l.initial.door;
   line : SameLine l.initial.line l.line;
   sound : l.cutter.fault ≡ None;
-  moments : IsTrue g.C.Clock.tells → MomentsUsed (g.C.Clock.answers l.initial.clock) (put_by l.initial.line) (g.C.Clock.answers l.clock) (put_by l.line);
-  nonces : IsTrue g.N.Nonces.tells → NoncesUsed (g.N.Nonces.answers l.initial.nonces) (put_by l.initial.line) (g.N.Nonces.answers l.nonces) (put_by l.line);
-  ended : IsTrue g.D.Door.tells → g.D.Door.ended l.door ≡ g.D.Door.ended l.initial.door;
-  talk : IsTrue g.D.Door.tells → Underway (FramesSoFar l.cutter.rest) (g.D.Door.ended l.door) (g.D.Door.current l.door) (put_by l.line) (taken_by l.line);
+  moments : IsTrue g.C.Clock.is_observed → MomentsUsed (g.C.Clock.answers l.initial.clock) (put_by l.initial.line) (g.C.Clock.answers l.clock) (put_by l.line);
+  nonces : IsTrue g.N.Nonces.is_observed → NoncesUsed (g.N.Nonces.answers l.initial.nonces) (put_by l.initial.line) (g.N.Nonces.answers l.nonces) (put_by l.line);
+  ended : IsTrue g.D.Door.is_observed → g.D.Door.ended l.door ≡ g.D.Door.ended l.initial.door;
+  talk : IsTrue g.D.Door.is_observed → Underway (FramesSoFar l.cutter.rest) (g.D.Door.ended l.door) (g.D.Door.current l.door) (put_by l.line) (taken_by l.line);
 }
 
 abbrev pub decreases-loop-turns : goal.decreases-loop-turns

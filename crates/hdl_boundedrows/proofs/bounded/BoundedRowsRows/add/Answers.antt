@@ -19,7 +19,7 @@ returns-clause-settled g c =
       gain_octets = c.values_amount.ensures.octets;
       back_values = refl;
       back_octets = refl;
-    }) _ c.settle.ensures
+    }) _ c.count_change.ensures
 
 pub returns-clause-within : goal.returns-clause-within
 returns-clause-within g c =

@@ -20,7 +20,7 @@ returns-clause-settled g c =
       gain_octets = c.handle_amount.ensures.octets ∙ ap (λ h. capped (with_handle in_octets h c.args.values.now)) c.canon.ensures;
       back_values = refl;
       back_octets = refl;
-    }) _ c.settle.ensures
+    }) _ c.count_change.ensures
 
 pub returns-clause-within : goal.returns-clause-within
 returns-clause-within g c =

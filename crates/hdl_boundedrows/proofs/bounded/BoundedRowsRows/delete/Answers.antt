@@ -18,4 +18,4 @@ returns-clause-settled g c =
       gain_octets = refl;
       back_values = c.handle_amount.ensures.values ∙ (λ i. capped (with_handle in_values (c.canon.ensures i) (there i)));
       back_octets = c.handle_amount.ensures.octets ∙ (λ i. capped (with_handle in_octets (c.canon.ensures i) (there i)));
-    }) _ c.settle.ensures
+    }) _ c.count_change.ensures

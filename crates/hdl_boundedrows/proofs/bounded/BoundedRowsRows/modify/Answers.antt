@@ -22,7 +22,7 @@ returns-clause-settled g c =
       gain_octets = c.values_amount.ensures.octets;
       back_values = c.amount_of_replaced.ensures.values ∙ ap (λ vs. capped (values_at in_values vs (indexes c.args.values.now))) there;
       back_octets = c.amount_of_replaced.ensures.octets ∙ ap (λ vs. capped (values_at in_octets vs (indexes c.args.values.now))) there;
-    }) _ c.settle.ensures
+    }) _ c.count_change.ensures
 
 pub returns-clause-within : goal.returns-clause-within
 returns-clause-within g c =

@@ -18,4 +18,4 @@ returns-clause-settled g c =
       gain_octets = refl;
       back_values = c.amount_of_indexes.ensures.values ∙ ap (λ vs. capped (values_at in_values vs c.args.indexes.now)) there;
       back_octets = c.amount_of_indexes.ensures.octets ∙ ap (λ vs. capped (values_at in_octets vs c.args.indexes.now)) there;
-    }) _ c.settle.ensures
+    }) _ c.count_change.ensures

@@ -4,7 +4,7 @@ use Rattle.std.proofs.lemmas.List.Elements.{All-push}
 use Rattle.std.proofs.lemmas.Iterator.Adapters.{YieldsList-from_vec}
 use Rattle.std.proofs.lemmas.Iterator.Consumers.{YieldsList-end}
 use Rattle.hdl_laws.specs.Runs.{Run}
-use Rattle.hdl_laws.specs.Told.{IsReadable}
+use Rattle.hdl_laws.specs.Reveals.{IsReadable}
 use Rattle.hdl_laws.specs.Laws.{HostsNoRoot}
 use Rattle.hdl_core.proofs.Steps.{run_step, no_root}
 use Rattle.hdl_core.proofs.service.Service.run.Goals as goal

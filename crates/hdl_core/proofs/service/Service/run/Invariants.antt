@@ -1,7 +1,7 @@
 use Rattle.std.proofs.Common.{◌≤◌, length, vec_capacity}
 use Rattle.std.specs.Prelude.{All}
 use Rattle.hdl_laws.specs.Runs.{Run}
-use Rattle.hdl_laws.specs.Told.{IsReadable}
+use Rattle.hdl_laws.specs.Reveals.{IsReadable}
 use Rattle.hdl_core.proofs.service.Service.run.Given as goal
 
 abbrev pub invariant-loop-event : goal.invariant-loop-event

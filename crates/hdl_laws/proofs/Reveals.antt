@@ -18,10 +18,10 @@ use Rattle.hdl_ops.proofs.Codes.{is_answer_code, code_fits, decides_code, tells_
 use Rattle.hdl_events.specs.declared.Outcome.TheVariants.{Reply, Busy, Silent, CloseAfter}
 use Rattle.hdl_laws.specs.Lanes.{LaneState}
 use Rattle.hdl_laws.specs.Worlds.{World, hosts, algorithms, algorithms_for, owner, lane_of}
-use Rattle.hdl_laws.specs.Tasks.{Letter, Task, Ignore, Break, Malformed, Unknown, Late, Ask, Redeem, IsTask}
+use Rattle.hdl_laws.specs.Tasks.{Message, Task, Ignore, Break, Malformed, Unknown, Late, Ask, Redeem, IsTask}
 use Rattle.hdl_laws.specs.Effects.{Effect, Does, answer_octets, challenge_octets, answer_effect, challenge_effect}
 use Rattle.hdl_laws.specs.Steps.{Turn, IsAnswerFor, IsStep}
-use Rattle.hdl_laws.specs.Told.{IsReplyBy, asked_octets, Tells, StepsTell}
+use Rattle.hdl_laws.specs.Reveals.{IsReplyBy, asked_octets, Reveals, StepsTell}
 use Rattle.hdl_laws.proofs.Codes.{reply_code, challenge_code}
 
 silent_is_none : (octets : List ℕ) → Silent ≡ Reply octets → ⊥
@@ -49,7 +49,7 @@ decided_reply : (hosted : List ℕ → Bool) (a : Algorithm) (t : Table) (e : En
 decided_reply hosted a t e r level d octets decided is =
     by_its_code a e r d.code (told t r level) octets (decides_code hosted a t r level d decided) (is ∙ ap (answer_octets a e r d.code) (tells_by_code_lem hosted a t r level d decided))
 
-asked_reply : (hosted : List ℕ → Bool) (a : Algorithm) (t : Table) (s : LaneState) (m : Letter) (r : Content) (d : Decision) (octets : List ℕ) (b : Bool) → d.code == 402 ≡ b → Decides hosted a t r Anyone d
+asked_reply : (hosted : List ℕ → Bool) (a : Algorithm) (t : Table) (s : LaneState) (m : Message) (r : Content) (d : Decision) (octets : List ℕ) (b : Bool) → d.code == 402 ≡ b → Decides hosted a t r Anyone d
     → (cond {A = Effect} b (challenge_effect a s m r) (answer_effect a s m r d)).outcome ≡ Reply octets → octets ≡ asked_octets a t m r s (response_code_at octets)
 asked_reply hosted a t s m r d octets true coded decided is =
     let sent : octets ≡ challenge_octets a s.challenges.next m.envelope r m.nonce = same_reply octets _ is in
@@ -72,7 +72,7 @@ does_tell hosted algorithms t (Late m r a s) eff octets is e = by_its_code a m.e
 does_tell hosted algorithms t (Ask m r s) eff octets is e = asked_reply hosted (request_algorithm algorithms r) t s m r is.0 octets (is.0.code == 402) refl is.1 (sym (ap (λ (x : Effect). x.outcome) is.2) ∙ e)
 does_tell hosted algorithms t (Redeem m r p s) eff octets is e = decided_reply hosted (algorithm_of p.digest) t m.envelope r (Proven p) is.0 octets is.1 (same_reply octets _ (sym (ap (λ (x : Effect). x.outcome) is.2) ∙ e))
 
-step_tells : (w : World) (t : Turn) → IsStep w t → Tells w t.event t.outcome
+step_tells : (w : World) (t : Turn) → IsStep w t → Reveals w t.event t.outcome
 step_tells w t (inl a) octets e = by_owner (owner w.site t.event.lane) a
   where
     by_owner : (o : Option ℕ) → IsAnswerFor w o t → (k : Task) × IsTask (lane_of w t.event.lane) t.event.what k × IsReplyBy (algorithms_for w.site o) w.table k (response_code_at octets) octets
@@ -82,4 +82,4 @@ step_tells w t (inl a) octets e = by_owner (owner w.site t.event.lane) a
 step_tells w t (inr b) octets e = absurd (busy_is_none octets _ (sym (ap (λ (z : Turn). z.outcome) b.busy) ∙ e))
 
 pub steps_tell : StepsTell
-steps_tell w new e o s = subst (λ x. Tells w x o) s.2 (subst (λ x. Tells w s.0.event x) s.3 (step_tells w s.0 s.1))
+steps_tell w new e o s = subst (λ x. Reveals w x o) s.2 (subst (λ x. Reveals w s.0.event x) s.3 (step_tells w s.0 s.1))

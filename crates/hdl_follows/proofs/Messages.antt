@@ -25,7 +25,7 @@ use Rattle.hdl_ops.proofs.Announced.{proven_code}
 use Rattle.hdl_ops.proofs.Codes.{is_answer_code, code_fits, decides_code, not_busy}
 use Rattle.hdl_events.specs.declared.Outcome.TheVariants.{Reply}
 use Rattle.hdl_laws.specs.Lanes.{LaneState}
-use Rattle.hdl_laws.specs.Tasks.{Letter, Task, Ignore, Break, Malformed, Unknown, Late, Ask, Redeem, is_late, redeem_task, IsReading, IsResponseTask, IsRequestTask, IsMessageTask, IsLetterTask}
+use Rattle.hdl_laws.specs.Tasks.{Message, Task, Ignore, Break, Malformed, Unknown, Late, Ask, Redeem, is_late, redeem_task, IsReading, IsResponseTask, IsRequestTask, IsContentTask, IsMessageTask}
 use Rattle.hdl_laws.specs.Tasks as laws
 use Rattle.hdl_laws.specs.Effects.{Effect, Does, pending, answer_octets, challenge_octets, answer_effect, challenge_effect}
 use Rattle.hdl_laws.proofs.Codes.{reply_code, challenge_code}
@@ -70,7 +70,7 @@ short_seen code e fits =
 -- ---- what the reply leaves
 
 -- The effect on the lane: a reply whose code and session the trail sees, with which its challenges become the lane's.
-pub record Answered (s : LaneState) (m : Letter) (eff : Effect) : Type 0 where
+pub record Answered (s : LaneState) (m : Message) (eff : Effect) : Type 0 where
   pub octets : List ℕ
   pub outcome : eff.outcome ≡ Reply octets
   pub code : ℕ
@@ -85,10 +85,10 @@ no_change : (b : Bool) → b && false ≡ false
 no_change true = refl
 no_change false = refl
 
-abbrev spent_lane : LaneState → Letter → LaneState
+abbrev spent_lane : LaneState → Message → LaneState
 spent_lane s m = laws.redeemed s m
 
-spent_in_use : (s : LaneState) (m : Letter) → IsInUse s → IsInUse (spent_lane s m)
+spent_in_use : (s : LaneState) (m : Message) → IsInUse s → IsInUse (spent_lane s m)
 spent_in_use s m u = record {
   is_open = u.is_open;
   partials = u.partials;
@@ -97,7 +97,7 @@ spent_in_use s m u = record {
   challenges = each_filter CanBeRead (λ (c : Challenge). not (slots.is_of m.peer m.envelope.session c)) s.challenges.challenges u.challenges;
 }
 
-module _ (hosted : List ℕ → Bool) (algorithms : List ℕ → Algorithm) (t : Table) (s : LaneState) (u : IsInUse s) (m : Letter) where
+module _ (hosted : List ℕ → Bool) (algorithms : List ℕ → Algorithm) (t : Table) (s : LaneState) (u : IsInUse s) (m : Message) where
   abbrev key : Key
   key = key_of m.peer m.envelope
 
@@ -219,8 +219,8 @@ module _ (hosted : List ℕ → Bool) (algorithms : List ℕ → Algorithm) (t :
               (ap (λ (b : Bool). b && not (eqb d.code 4)) is ∙ ap not (proven_no_fault hosted a t request proof d done.1)))
 
   -- the trail sees what the reply to a message does
-  pub letter_answered : (k : Task) (eff : Effect) → IsLetterTask s m k → Does hosted algorithms t k eff → Answered s m eff
-  letter_answered k eff task does = by_reading task.0 task.1 task.2
+  pub message_answered : (k : Task) (eff : Effect) → IsMessageTask s m k → Does hosted algorithms t k eff → Answered s m eff
+  message_answered k eff task does = by_reading task.0 task.1 task.2
     where
       by_response : (r : Content) → SpellsRequest m.message r → (o : Option Response) → response_of r.operation ≡ o → IsRequestTask s m r o k → Answered s m eff
       by_response r spelt None is task =
@@ -228,6 +228,6 @@ module _ (hosted : List ℕ → Bool) (algorithms : List ℕ → Algorithm) (t :
       by_response r spelt (Some answer) is task =
           responded r answer (response_seen m.message r spelt ∙ ap is_some is) (slots.challenge_of s.challenges.challenges m.peer m.envelope.session) refl k eff task does
 
-      by_reading : (o : Option Content) → IsReading (SpellsRequest m.message) o → IsMessageTask s m o k → Answered s m eff
+      by_reading : (o : Option Content) → IsReading (SpellsRequest m.message) o → IsContentTask s m o k → Answered s m eff
       by_reading None none task = malformed eff (subst (λ (j : Task). Does hosted algorithms t j eff) task does)
       by_reading (Some r) spelt task = by_response r spelt (response_of r.operation) refl task

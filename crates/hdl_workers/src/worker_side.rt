@@ -9,7 +9,7 @@ use hdl_lanes::{Inlet, Outlet};
 
 /// The worker's side of a lane, through which nothing went yet.
 #[derive(Drop)]
-pub struct Far {
+pub struct WorkerSide {
     pub inlet: Inlet<Item>,
     pub outcomes: Outlet<Outcome>,
     ghost fresh: { (put_into inlet ≡ []) × (taken_from outcomes ≡ []) },

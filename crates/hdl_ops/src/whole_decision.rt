@@ -12,14 +12,15 @@ ghost use Rattle.hdl_ops.specs.Sights.{asks};
 ghost use Rattle.hdl_ops.specs.Views.{decision_of, level_of, sight_of};
 
 use crate::change::Change;
-use crate::decision::{Asked, Decision, Level, Sight};
+use crate::decision::{Decision, HashedRequest, Level, Sight};
 use crate::rendering::fitting;
 use crate::sights::{asks, is_kept, is_public};
 use crate::written::{copied_indexes, copied_values};
+use hdl_limits::{Items, Octets};
 use hdl_msg::{Body, ReplyContent, Request, ResponseCode, Values};
 use hdl_name::Name;
 use hdl_rows::Refused;
-use hdl_value::{Listed, Octets, Value};
+use hdl_value::Value;
 use std::alloc::{AllocError, Global};
 
 fn may_read(level: &Level<'_>, value: &Value) -> bool
@@ -51,12 +52,12 @@ fn carried(
 {
     match request.body() {
         Body::Resolution { .. } => {
-            let values = Listed::new(shown(request.body(), level, sight.values));
+            let values = Items::new(shown(request.body(), level, sight.values));
             let handle = Octets::new(name.into_sent());
             (ReplyContent::Values { handle, values }, None)
         }
         Body::List { .. } => {
-            let handles = Listed::new(sight.names);
+            let handles = Items::new(sight.names);
             (ReplyContent::Handles { handles }, Some(name))
         }
         Body::Create { .. } => (ReplyContent::Nothing, Some(name)),
@@ -69,10 +70,10 @@ fn carried(
     }
 }
 
-fn value_list(alloc: Global, values: Values<'_>) -> Result<Listed<Value>, AllocError>
+fn value_list(alloc: Global, values: Values<'_>) -> Result<Items<Value>, AllocError>
     ensures { IfOk result (λ list. list ≡ values_of values.entry) }
 {
-    Ok(Listed::new(copied_values(alloc, values)?))
+    Ok(Items::new(copied_values(alloc, values)?))
 }
 
 /// The write that the operation asks for. A resolution, which asks for none, has no name left.
@@ -98,7 +99,7 @@ fn change_of(
             Ok(Some(Change::Add { name, values }))
         }
         Body::Remove { indexes, .. } => {
-            let indexes = Listed::new(copied_indexes(alloc, *indexes)?);
+            let indexes = Items::new(copied_indexes(alloc, *indexes)?);
             Ok(Some(Change::Remove { name, indexes }))
         }
         Body::Modify { values, .. } => {
@@ -124,9 +125,9 @@ fn failure(code: ResponseCode) -> Decision
 
 /// The whole decision, from the code of the table.
 #[tactic(auto, unfolding(crate::specs::Decisions::decision), using(crate::proofs::Lengths::empty_fits))]
-pub(crate) fn settle(
+pub(crate) fn whole_decision(
     alloc: Global,
-    asked: &Asked<'_>,
+    asked: &HashedRequest<'_>,
     level: &Level<'_>,
     sight: Sight,
     code: ResponseCode,

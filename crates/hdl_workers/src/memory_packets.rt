@@ -10,7 +10,7 @@ use std::collections::VecDeque;
 
 /// A datagram and its peer.
 #[derive(Debug, Drop)]
-pub struct Letter {
+pub struct Datagram {
     pub peer: u16,
     pub octets: Vec<u8>,
 }
@@ -19,9 +19,9 @@ pub struct Letter {
 #[derive(Drop)]
 pub struct MemoryPackets {
     alloc: Global,
-    coming: VecDeque<Letter>,
-    received: Vec<Letter>,
-    sent: Vec<Letter>,
+    coming: VecDeque<Datagram>,
+    received: Vec<Datagram>,
+    sent: Vec<Datagram>,
     faults: Faults,
     under_way: usize,
 }
@@ -30,7 +30,7 @@ impl MemoryPackets {
     /// A place where these datagrams come in, of which so many frames may be under way. The call with this number fails, from 1 on.
     pub fn new(
         alloc: Global,
-        coming: VecDeque<Letter>,
+        coming: VecDeque<Datagram>,
         fails: u64,
         under_way: usize,
     ) -> MemoryPackets
@@ -50,7 +50,7 @@ impl MemoryPackets {
     }
 
     /// What was sent, oldest first.
-    pub fn sent(&self) -> &[Letter]
+    pub fn sent(&self) -> &[Datagram]
         ensures { result.now ≡ self.now.sent.items }
     {
         self.sent.as_slice()
@@ -58,13 +58,13 @@ impl MemoryPackets {
 }
 
 impl Packets for MemoryPackets {
-    ghost use Rattle.hdl_workers.specs.Letters.{letter_of};
+    ghost use Rattle.hdl_workers.specs.MemoryPackets.{datagram_of};
 
-    ghost tells = { true };
+    ghost is_observed = { true };
 
-    ghost received = { λ p. map letter_of p.received.items };
+    ghost received = { λ p. map datagram_of p.received.items };
 
-    ghost sent = { λ p. map letter_of p.sent.items };
+    ghost sent = { λ p. map datagram_of p.sent.items };
 
     ghost fault_count = { λ p. p.faults.count };
 
@@ -77,17 +77,17 @@ impl Packets for MemoryPackets {
         if self.received.reserve(1).is_err() {
             return Err(self.faults.raise());
         }
-        let Some(letter) = self.coming.pop_front() else {
+        let Some(datagram) = self.coming.pop_front() else {
             return Ok(None);
         };
-        let Letter { peer, mut octets } = letter;
+        let Datagram { peer, mut octets } = datagram;
         if peer == 0 || peer as usize > PEERS_MAX {
             return Ok(None);
         }
         octets.truncate(buffer.len());
         let count = octets.len();
         buffer[..count].copy_from_slice(&octets);
-        self.received.push_reserved(Letter { peer, octets });
+        self.received.push_reserved(Datagram { peer, octets });
         Ok(Some((peer, count)))
     }
 
@@ -96,7 +96,7 @@ impl Packets for MemoryPackets {
         let Ok(octets) = Vec::from_slice(self.alloc, octets) else {
             return Err(self.faults.raise());
         };
-        match self.sent.push(Letter { peer, octets }) {
+        match self.sent.push(Datagram { peer, octets }) {
             Ok(()) => Ok(()),
             Err(_) => Err(self.faults.raise()),
         }

@@ -1,7 +1,7 @@
 use Rattle.std.proofs.Common.{arith, ap, get_or, set, ◌∙◌}
 use Rattle.std.proofs.lemmas.List.Edits.{map_over_more}
 use Rattle.hdl_boundedrows.specs.Bounded.{after_change}
-use Rattle.hdl_boundedrows.proofs.account.Accounts.settle.Goals as goal
+use Rattle.hdl_boundedrows.proofs.account.Accounts.count_change.Goals as goal
 
 pub loop-account-preserved : goal.loop-account-preserved
 loop-account-preserved c =

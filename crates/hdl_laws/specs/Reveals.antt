@@ -18,12 +18,12 @@ use Rattle.hdl_events.specs.declared.Outcome.{Outcome}
 use Rattle.hdl_events.specs.declared.Outcome.TheVariants.{Reply, Busy, Silent, CloseAfter}
 use Rattle.hdl_laws.specs.Lanes.{LaneState}
 use Rattle.hdl_laws.specs.Worlds.{World, owner, algorithms_for, lane_of}
-use Rattle.hdl_laws.specs.Tasks.{Letter, Task, Ignore, Break, Malformed, Unknown, Late, Ask, Redeem, IsTask}
+use Rattle.hdl_laws.specs.Tasks.{Message, Task, Ignore, Break, Malformed, Unknown, Late, Ask, Redeem, IsTask}
 use Rattle.hdl_laws.specs.Effects.{answer_octets, challenge_octets}
 use Rattle.hdl_laws.specs.Runs.{Steps}
 
 -- the reply with this code to a request that came as it is
-abbrev pub asked_octets : Algorithm → Table → Letter → Content → LaneState → ℕ → List ℕ
+abbrev pub asked_octets : Algorithm → Table → Message → Content → LaneState → ℕ → List ℕ
 asked_octets a t m r s code =
     if code == 402 then challenge_octets a s.challenges.next m.envelope r m.nonce
     else answer_octets a m.envelope r code (told t r Anyone code)
@@ -44,12 +44,12 @@ abbrev pub IsReplyTo : World → ℕ → Task → ℕ → List ℕ → Type 0
 IsReplyTo w lane k code octets = IsReplyBy (algorithms_for w.site (owner w.site lane)) w.table k code octets
 
 -- if the outcome is a reply, it is the one with its code to what the event comes to
-abbrev pub Tells : World → Event → Outcome → Type 0
-Tells w e o = (octets : List ℕ) → o ≡ Reply octets → (k : Task) × IsTask (lane_of w e.lane) e.what k × IsReplyTo w e.lane k (response_code_at octets) octets
+abbrev pub Reveals : World → Event → Outcome → Type 0
+Reveals w e o = (octets : List ℕ) → o ≡ Reply octets → (k : Task) × IsTask (lane_of w e.lane) e.what k × IsReplyTo w e.lane k (response_code_at octets) octets
 
 -- each step does
 abbrev pub StepsTell : Type 0
-StepsTell = (w new : World) (e : Event) (o : Outcome) → Steps w e o new → Tells w e o
+StepsTell = (w new : World) (e : Event) (o : Outcome) → Steps w e o new → Reveals w e o
 
 -- ---- what a reply announces
 

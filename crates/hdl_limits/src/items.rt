@@ -7,14 +7,14 @@ use std::marker::Model;
 /// Items that a record of the protocol holds. Contracts see them as a list, so a record with such a field is itself the
 /// mathematical record.
 #[derive(Debug, Drop)]
-pub struct Listed<T> {
+pub struct Items<T> {
     items: Vec<T>,
 }
 
 /// Octets on the heap.
-pub type Octets = Listed<u8>;
+pub type Octets = Items<u8>;
 
-impl<T> Model for Listed<T> {
+impl<T> Model for Items<T> {
     ghost use Rattle.std.specs.Prelude.{List};
 
     ghost Value = { List T };
@@ -22,12 +22,12 @@ impl<T> Model for Listed<T> {
     ghost view = { λ a. a.items.items };
 }
 
-impl<T> Listed<T> {
+impl<T> Items<T> {
     /// The items of a vector, which is taken as it is.
-    pub fn new(items: Vec<T>) -> Listed<T>
+    pub fn new(items: Vec<T>) -> Items<T>
         ensures { result ≡ items.items }
     {
-        Listed { items }
+        Items { items }
     }
 
     /// The items where they stand.
@@ -41,7 +41,7 @@ impl<T> Listed<T> {
     pub fn into_vec(self) -> Vec<T>
         ensures { result.items ≡ self }
     {
-        let Listed { items } = self;
+        let Items { items } = self;
         items
     }
 }

@@ -1,7 +1,7 @@
 use Rattle.std.proofs.Common.{rules}
 use Rattle.hdl_workers.specs.Line.{taken_by}
 use Rattle.hdl_workers.proofs.Writes.{relayed_both, relayed_then_part}
-use Rattle.hdl_workers.proofs.relay.settle.Goals as goal
+use Rattle.hdl_workers.proofs.relay.await_outcomes.Goals as goal
 
 pub returns-in_err-relay-clause-part : goal.returns-in_err-relay-clause-part
 returns-in_err-relay-clause-part g c = λ t.
