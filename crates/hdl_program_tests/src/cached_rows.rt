@@ -42,7 +42,7 @@ fn a_cache_agrees(rt: HostRuntime) -> Result<(), Fail> {
 }
 
 /// Whether each call that reads tells just this value of the handle.
-fn is_observed<R: Rows>(rows: &mut R, place: &Reference, data: &[u8]) -> Result<bool, Fail> {
+fn has_just<R: Rows>(rows: &mut R, place: &Reference, data: &[u8]) -> Result<bool, Fail> {
     let wanted = [(place.index, data)];
     let looked = match rows.look(&place.name)? {
         Some(values) => are(&values, &wanted),
@@ -71,7 +71,7 @@ fn keeps<R: Rows>(rt: &impl Abort, alloc: Global, rows: &mut R) -> Result<(), Fa
     let two = value(alloc, 2, b"URL", b"two")?;
     create(rt, rows, &place.name, &[two])?;
     for turn in 0..2u32 {
-        same(rt, turn, is_observed(rows, &place, b"two")?, true);
+        same(rt, turn, has_just(rows, &place, b"two")?, true);
     }
     forgets(rt, rows, &place.name)
 }
@@ -103,7 +103,7 @@ fn makes<R: Rows>(rt: &impl Abort, alloc: Global, rows: &mut R) -> Result<(), Fa
 fn reads<R: Rows>(rt: &impl Abort, alloc: Global, rows: &mut R) -> Result<(), Fail> {
     for number in 0..HANDLES {
         let place = place_of(alloc, number)?;
-        let told = is_observed(rows, &place, &number.to_be_bytes())?;
+        let told = has_just(rows, &place, &number.to_be_bytes())?;
         same(rt, number, told, true);
     }
     Ok(())
