@@ -1,7 +1,7 @@
 -- What of a batch may be under way together, and which key answers a challenge.
 use Rattle.std.specs.Prelude.{◌≡◌, ◌⊎◌, ⊤, true, List, [], ◌∷◌, All, Option, Some, option_and_then}
 use Rattle.std.specs.List.{slice_get}
-use Rattle.hdl_msg.specs.ReplyView.{ReplyParts}
+use Rattle.hdl_msg.specs.Reply.{ReplyParts}
 use Rattle.hdl_client.specs.Challenge.{Answers}
 use Rattle.hdl_client.specs.declared.batch.Flight.{Flight}
 use Rattle.hdl_client.specs.declared.batch.Task.{Task}

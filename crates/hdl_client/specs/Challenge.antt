@@ -8,7 +8,7 @@ use Rattle.hdl_msg.specs.declared.request_body.RequestBody.{RequestBody}
 use Rattle.hdl_msg.specs.declared.request_body.RequestBody.TheVariants.{Response}
 use Rattle.hdl_msg.specs.declared.replies.ReplyContent.TheVariants.{Nonce}
 use Rattle.hdl_msg.specs.RequestBody.{request_message}
-use Rattle.hdl_msg.specs.ReplyView.{ReplyParts}
+use Rattle.hdl_msg.specs.Reply.{ReplyParts}
 use Rattle.hdl_client.specs.declared.challenge.Key.{Key}
 
 -- a header without flags

@@ -1,7 +1,7 @@
 //! Many requests on one connection, several of them in flight.
 
 ghost use Rattle.std.specs.Prelude.{◌≡◌, ◌↔◌, IsTrue, All, IfOk, option_copied};
-ghost use Rattle.hdl_msg.specs.ReplyView.{reply_seen};
+ghost use Rattle.hdl_msg.specs.Reply.{reply_seen};
 ghost use Rattle.hdl_client.specs.Batch.{OrderMatters, IsApart, AreApart, key_of, Lands};
 
 use crate::challenge::{Key, challenge_answer};

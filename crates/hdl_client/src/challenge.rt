@@ -4,7 +4,7 @@ ghost use Rattle.std.specs.Prelude.{◌≡◌, ◌≢◌, ◌≤◌, ◌<◌, �
 ghost use Rattle.hdl_auth.specs.declared.algorithm.Digest.{Digest};
 ghost use Rattle.hdl_auth.specs.Digest.{algorithm_of, digest_of};
 ghost use Rattle.hdl_msg.specs.RequestBody as requests;
-ghost use Rattle.hdl_msg.specs.ReplyView.{reply_seen};
+ghost use Rattle.hdl_msg.specs.Reply.{reply_seen};
 ghost use Rattle.hdl_client.specs.Challenge.{plain_header, response_of, Challenges, Answers, IsOtherChallenge};
 ghost use Rattle.hdl_client.specs.declared.fault.ClientFault.TheVariants.{Memory, TooLong, OtherChallenge};
 ghost use Rattle.hdl_client.specs.Challenge as challenge;

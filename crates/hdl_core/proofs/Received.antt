@@ -6,8 +6,7 @@ use Rattle.hdl_frame.specs.declared.frame.Frame.{Frame}
 use Rattle.hdl_frame.specs.Envelope.{envelope_at, is_truncated, message_envelope}
 use Rattle.hdl_frame.specs.Frames.{IsFrame}
 use Rattle.hdl_frame.specs.Splitting.{IsFrameOf}
-use Rattle.hdl_msg.specs.Reply.{short_reply}
-use Rattle.hdl_msg.specs.ReplyView.{IsReplyFrame}
+use Rattle.hdl_msg.specs.Reply.{short_reply, IsReplyFrame}
 use Rattle.hdl_msg.proofs.ReplyReadings.{short_reply_read}
 use Rattle.hdl_rows.specs.Table.{Table}
 use Rattle.hdl_events.specs.declared.Happening.{Happening}

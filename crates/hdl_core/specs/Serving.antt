@@ -8,8 +8,7 @@ use Rattle.hdl_frame.specs.Frames.{IsFrame}
 use Rattle.hdl_msg.specs.declared.replies.ReplyContent.{ReplyContent}
 use Rattle.hdl_msg.specs.Codes.{IsNumberOf}
 use Rattle.hdl_msg.specs.Message.{Content, SpellsRequest, code_of}
-use Rattle.hdl_msg.specs.Reply.{short_reply}
-use Rattle.hdl_msg.specs.ReplyView.{reply_parts, IsAnnounced}
+use Rattle.hdl_msg.specs.Reply.{short_reply, reply_parts, IsAnnounced}
 use Rattle.hdl_pool.specs.Partial.{piece_of}
 use Rattle.hdl_pool.specs.Taking.{taken}
 use Rattle.hdl_rows.specs.Table.{Table}

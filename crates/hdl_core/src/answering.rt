@@ -2,8 +2,7 @@
 
 ghost use Rattle.std.specs.Prelude.{◌≡◌, IfOk, IfSome, IsTrue, OnErr, OnOk};
 ghost use Rattle.hdl_msg.specs.Codes.{response_number};
-ghost use Rattle.hdl_msg.specs.Reply.{short_reply};
-ghost use Rattle.hdl_msg.specs.ReplyView.{IsReplyFrame};
+ghost use Rattle.hdl_msg.specs.Reply.{short_reply, IsReplyFrame};
 ghost use Rattle.hdl_msg.specs.declared.replies.ReplyContent.TheVariants as content;
 ghost use Rattle.hdl_cache.specs.Truth.{AreTrue};
 ghost use Rattle.hdl_ops.specs.Replies.{fits};

@@ -2,7 +2,7 @@
 
 ghost use Rattle.std.specs.Prelude.{◌≡◌, ◌==◌, ◌<◌, ℕ, List, length, IfOk, OnErr};
 ghost use Rattle.hdl_msg.specs.Codes.{response_number};
-ghost use Rattle.hdl_msg.specs.ReplyView.{IsReplyFrame};
+ghost use Rattle.hdl_msg.specs.Reply.{IsReplyFrame};
 ghost use Rattle.hdl_cache.specs.Truth.{AreTrue};
 ghost use Rattle.hdl_ops.specs.Admission.{request_algorithm};
 ghost use Rattle.hdl_ops.specs.Views.{algorithms_by, hosted_by, response_view};

@@ -3,7 +3,7 @@
 ghost use Rattle.std.specs.Prelude.{◌≡◌, ◌<◌, true, drop, length, IfOk, IfSome, OnErr};
 ghost use Rattle.hdl_frame.specs.Envelope.{envelope_at, is_truncated};
 ghost use Rattle.hdl_frame.specs.Splitting.{IsFrameOf};
-ghost use Rattle.hdl_msg.specs.ReplyView.{IsReplyFrame};
+ghost use Rattle.hdl_msg.specs.Reply.{IsReplyFrame};
 ghost use Rattle.hdl_cache.specs.Truth.{AreTrue};
 ghost use Rattle.hdl_ops.specs.Views.{algorithms_by, hosted_by};
 ghost use Rattle.hdl_laws.specs.Reveals.{IsReadable};

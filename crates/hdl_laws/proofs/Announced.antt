@@ -12,8 +12,7 @@ use Rattle.hdl_msg.specs.declared.replies.ReplyContent.TheVariants.{Empty}
 use Rattle.hdl_msg.specs.Codes.{IsNumberOf}
 use Rattle.hdl_msg.specs.Laws.{short_parts}
 use Rattle.hdl_msg.specs.Message.{Content, code_of, SpellsRequest}
-use Rattle.hdl_msg.specs.Reply.{reply_body, reply_message, reply_octets, short_reply}
-use Rattle.hdl_msg.specs.ReplyView.{ReplyParts, reply_parts, IsAnnounced, parts_message}
+use Rattle.hdl_msg.specs.Reply.{reply_body, reply_message, reply_octets, short_reply, ReplyParts, reply_parts, IsAnnounced, parts_message}
 use Rattle.hdl_msg.proofs.ReplyReadings.{reply_again, short_reply_spelt_lem}
 use Rattle.hdl_pool.specs.Taking.{taken, freed, whole_message}
 use Rattle.hdl_pool.specs.Partial.{key_of, piece_of}

@@ -6,9 +6,8 @@ use Rattle.hdl_auth.specs.Digest.{algorithm_of}
 use Rattle.hdl_rows.specs.Table.{Table}
 use Rattle.hdl_msg.specs.Message.{Content, IsShort}
 use Rattle.hdl_msg.specs.Laws.{response_code_at}
-use Rattle.hdl_msg.specs.Reply.{short_reply}
-use Rattle.hdl_msg.specs.ReplyView.{ReplyParts, IsAnnounced, PartsFit, parts_body, parts_message, IsReplyFrame}
-use Rattle.hdl_msg.specs.ReplyReading.{reply_at}
+use Rattle.hdl_msg.specs.Reply.{short_reply, ReplyParts, IsAnnounced, PartsFit, parts_body, parts_message, IsReplyFrame}
+use Rattle.hdl_msg.specs.Reading.{reply_at}
 use Rattle.hdl_msg.specs.declared.replies.ReplyContent.TheVariants.{Empty}
 use Rattle.hdl_ops.specs.Admission.{request_algorithm}
 use Rattle.hdl_ops.specs.Decisions.{Anyone, Proven}

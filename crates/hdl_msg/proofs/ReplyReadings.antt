@@ -25,11 +25,9 @@ use Rattle.hdl_msg.specs.declared.replies.ReplyContent.TheVariants.{Values, Hand
 use Rattle.hdl_msg.specs.declared.reply_view.ReplyForm.{ReplyForm}
 use Rattle.hdl_msg.specs.declared.reply_view.ReplyForm.TheVariants as form
 use Rattle.hdl_msg.specs.Message.{number, count_prefixed, header_octets, IsNumber, AreFew}
-use Rattle.hdl_msg.specs.Reading.{strings_at, values_at, message_at}
+use Rattle.hdl_msg.specs.Reading.{strings_at, values_at, message_at, sized_digest_at, digest_behind, digest_at, announced_digest_at, prefix_in, shown_values_in, handles_in, nothing_in, referral_in, nonce_in, empty_in, content_in, reply_body_in, reply_at}
 use Rattle.hdl_limits.specs.declared.TheConstants.{MESSAGE_MAX}
-use Rattle.hdl_msg.specs.Reply.{content_octets, digest_octets, reply_body, reply_message, reply_octets, short_header, short_reply}
-use Rattle.hdl_msg.specs.ReplyView.{ReplyParts, reply_parts, announces_digest, announced_form, form_of, IsWholeDigest, DigestFits, ContentFits, IsAnnounced, PartsFit, parts_body, SpellsReply, FramesReply, IsReplyFrame}
-use Rattle.hdl_msg.specs.ReplyReading.{sized_digest_at, digest_behind, digest_at, announced_digest_at, prefix_in, shown_values_in, handles_in, nothing_in, referral_in, nonce_in, empty_in, content_in, reply_body_in, reply_at}
+use Rattle.hdl_msg.specs.Reply.{content_octets, digest_octets, reply_body, reply_message, reply_octets, short_header, short_reply, ReplyParts, reply_parts, announces_digest, announced_form, form_of, IsWholeDigest, DigestFits, ContentFits, IsAnnounced, PartsFit, parts_body, SpellsReply, FramesReply, IsReplyFrame}
 use Rattle.hdl_msg.specs.Laws.{IsReadable, reply_of, short_parts}
 use Rattle.hdl_msg.proofs.Codecs.{Message, message_spelling, MessageFits, message_codec, write_codec, strings_codec, u32_codec, AreOctets-front, AreOctets-back}
 use Rattle.hdl_msg.proofs.Written.{length-reply_message}

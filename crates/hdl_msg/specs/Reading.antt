@@ -1,20 +1,23 @@
--- Reading of messages, from the readers of their fields.
-use Rattle.std.specs.Prelude.{ℕ, zero, suc, List, [], ◌∷◌, Option, Some, None}
-use Rattle.std.specs.Option.{option_map_or}
+-- Reading of messages, from the readers of their fields: requests, and replies behind them.
+use Rattle.std.specs.Prelude.{ℕ, List, Option, Some, None, length, codes, bytes_eq, Bool, true, false, ◌==◌, if◌then◌else◌}
 use Rattle.std.specs.Int.{w16, w32}
 use Rattle.hdl_value.specs.declared.value.Value.{Value}
-use Rattle.hdl_value.specs.Reading.{◌>>=◌, pair_at, seen_at, counted_at, whole_of, number_at, octet_at, string_at}
+use Rattle.hdl_value.specs.Reading.{◌>>=◌, pair_at, seen_at, counted_at, whole_of, number_at, octet_at, string_at, octets_at}
 use Rattle.hdl_value.specs.Cut.{value_at}
 use Rattle.hdl_msg.specs.declared.fields.Header.{Header}
 use Rattle.hdl_msg.specs.declared.codes.OpCode.{OpCode}
 use Rattle.hdl_msg.specs.declared.codes.OpCode.TheVariants.{Resolution, CreateHandle, DeleteHandle, AddValue, RemoveValue, ModifyValue, ListHandles, ChallengeResponse}
 use Rattle.hdl_msg.specs.Codes.{op_code_of}
 use Rattle.hdl_msg.specs.Message.{Operation, resolution, create, delete, add, remove, modify, list, response, other, Content}
-
--- what can be read, up to so many: what a walk over a list gives
-abbrev pub walked : {A : Type 0} → (List ℕ → Option (A × List ℕ)) → ℕ → List ℕ → List A
-walked reader zero octets = []
-walked reader (suc n) octets = option_map_or (λ x. x.0 ∷ walked reader n x.1) (reader octets) []
+use Rattle.hdl_auth.specs.declared.algorithm.Algorithm.TheVariants as algorithm
+use Rattle.hdl_auth.specs.declared.algorithm.Digest.{Digest}
+use Rattle.hdl_auth.specs.declared.algorithm.Digest.TheVariants as digest
+use Rattle.hdl_auth.specs.Digest.{octet_of, size_of}
+use Rattle.hdl_msg.specs.declared.replies.ReplyContent.{ReplyContent}
+use Rattle.hdl_msg.specs.declared.replies.ReplyContent.TheVariants.{Values, Handles, Nothing, Referral, Nonce, Empty}
+use Rattle.hdl_msg.specs.declared.reply_view.ReplyForm.{ReplyForm}
+use Rattle.hdl_msg.specs.declared.reply_view.ReplyForm.TheVariants as form
+use Rattle.hdl_msg.specs.Reply.{ReplyParts, announces_digest, announced_form}
 
 -- ---- bodies
 
@@ -86,3 +89,92 @@ request_at octets = do
   m ← whole_of message_at octets
   operation ← operation_in (op_code_of m.0.0.op_code) m.0.1
   Some (record { header = m.0.0; operation = operation })
+
+-- ---- replies
+
+-- ---- digests
+
+-- so many octets, as a digest
+abbrev pub sized_digest_at : (List ℕ → Digest) → ℕ → List ℕ → Option (Digest × List ℕ)
+sized_digest_at make n octets = octets_at n octets >>= λ x. Some (make x.0, x.1)
+
+-- as many octets as digests have of the hash function that this octet names
+abbrev pub digest_behind : ℕ → List ℕ → Option (Digest × List ℕ)
+digest_behind first octets =
+    if first == octet_of algorithm.Sha1 then sized_digest_at digest.Sha1 (size_of algorithm.Sha1) octets
+    else if first == octet_of algorithm.Sha256 then sized_digest_at digest.Sha256 (size_of algorithm.Sha256) octets
+    else None
+
+-- the octet of a hash function, and a digest
+unfoldable pub digest_at : List ℕ → Option (Digest × List ℕ)
+digest_at octets = do
+  first ← octet_at octets
+  digest_behind first.0 first.1
+
+-- a digest where one is announced
+unfoldable pub announced_digest_at : Bool → List ℕ → Option (Option Digest × List ℕ)
+announced_digest_at false octets = Some (None, octets)
+announced_digest_at true octets = do
+  x ← digest_at octets
+  Some (Some x.0, x.1)
+
+-- ---- contents
+
+-- the prefix in the administrative handle that a referral names
+unfoldable pub prefix_in : List ℕ → Option (List ℕ)
+prefix_in octets = do
+  x ← octets_at 5 octets
+  if bytes_eq x.0 (codes "0.NA/") then Some x.1 else None
+
+unfoldable pub shown_values_in : List ℕ → Option ReplyContent
+shown_values_in octets = do
+  x ← whole_of (pair_at string_at values_at) octets
+  Some (Values x.0 x.1)
+
+unfoldable pub handles_in : List ℕ → Option ReplyContent
+handles_in octets = do
+  x ← whole_of strings_at octets
+  Some (Handles x)
+
+unfoldable pub nothing_in : List ℕ → Option ReplyContent
+nothing_in octets = if length octets == 0 then Some Nothing else None
+
+unfoldable pub referral_in : List ℕ → Option ReplyContent
+referral_in octets = do
+  x ← whole_of (pair_at string_at (number_at w32)) octets
+  if x.1 == 0 then (prefix_in x.0 >>= λ prefix. Some (Referral prefix)) else None
+
+unfoldable pub nonce_in : List ℕ → Option ReplyContent
+nonce_in octets = do
+  x ← whole_of string_at octets
+  nonce ← whole_of (octets_at 16) x
+  Some (Nonce nonce)
+
+unfoldable pub empty_in : List ℕ → Option ReplyContent
+empty_in octets = do
+  x ← whole_of string_at octets
+  if length x == 0 then Some Empty else None
+
+-- the content of this form, all of the octets
+unfoldable pub content_in : ReplyForm → List ℕ → Option ReplyContent
+content_in form.Values octets = shown_values_in octets
+content_in form.Handles octets = handles_in octets
+content_in form.Nothing octets = nothing_in octets
+content_in form.Referral octets = referral_in octets
+content_in form.Nonce octets = nonce_in octets
+content_in form.Empty octets = empty_in octets
+
+-- ---- messages
+
+-- the body behind this header, all of the octets
+unfoldable pub reply_body_in : Header → List ℕ → Option ReplyParts
+reply_body_in h octets = do
+  x ← announced_digest_at (announces_digest h) octets
+  content ← content_in (announced_form h) x.1
+  Some (record { header = h; digest = x.0; content = content })
+
+-- the reply whose message the octets are; its credential is empty
+unfoldable pub reply_at : List ℕ → Option ReplyParts
+reply_at octets = do
+  m ← whole_of message_at octets
+  if length m.1 == 0 then reply_body_in m.0.0 m.0.1 else None

@@ -2,8 +2,7 @@
 
 ghost use Rattle.std.specs.Prelude.{◌≡◌, length};
 ghost use Rattle.hdl_limits.specs.Octets.{AreOctets};
-ghost use Rattle.hdl_msg.specs.Reply.{CanBeWritten};
-ghost use Rattle.hdl_msg.specs.ReplyView.{ContentFits, DigestFits, PartsFit, reply_parts};
+ghost use Rattle.hdl_msg.specs.Reply.{CanBeWritten, ContentFits, DigestFits, PartsFit, reply_parts};
 
 use crate::replies::{Reply, ReplyContent};
 use crate::request_fits::{header_fits, strings_fit, values_fit};

@@ -2,8 +2,8 @@
 
 ghost use Rattle.std.specs.Prelude.{◌≡◌, IfOk, OnErr};
 ghost use Rattle.hdl_value.specs.Reading.{Reads};
-ghost use Rattle.hdl_msg.specs.ReplyView.{ReplyParts, SpellsReply, content_seen, reply_seen};
-ghost use Rattle.hdl_msg.specs.ReplyReading.{digest_at, announced_digest_at, prefix_in, shown_values_in, handles_in, nothing_in, referral_in, nonce_in, empty_in, content_in, reply_body_in, reply_at};
+ghost use Rattle.hdl_msg.specs.Reply.{ReplyParts, SpellsReply, content_seen, reply_seen};
+ghost use Rattle.hdl_msg.specs.Reading.{digest_at, announced_digest_at, prefix_in, shown_values_in, handles_in, nothing_in, referral_in, nonce_in, empty_in, content_in, reply_body_in, reply_at};
 
 use crate::fields::Header;
 use crate::lists::{Strings, Values};
@@ -14,7 +14,7 @@ use hdl_auth::algorithm::{Algorithm, Digest};
 use hdl_value::{octet_at, string_at, u32_at};
 
 /// The octet of a hash function and as many octets as its digests have, and what follows.
-#[tactic(auto, unfolding(crate::specs::ReplyReading::digest_at))]
+#[tactic(auto, unfolding(crate::specs::Reading::digest_at))]
 fn digest_at(octets: &[u8]) -> Option<(Digest, &[u8])>
     ensures { Reads (λ x. (x.0, x.1.now)) result (digest_at octets.now) }
 {
@@ -31,7 +31,7 @@ fn digest_at(octets: &[u8]) -> Option<(Digest, &[u8])>
 }
 
 /// A digest where one is announced, and what follows.
-#[tactic(auto, unfolding(crate::specs::ReplyReading::announced_digest_at))]
+#[tactic(auto, unfolding(crate::specs::Reading::announced_digest_at))]
 fn announced_digest_at(announced: bool, octets: &[u8]) -> Option<(Option<Digest>, &[u8])>
     ensures { Reads (λ x. (x.0, x.1.now)) result (announced_digest_at announced octets.now) }
 {
@@ -42,7 +42,7 @@ fn announced_digest_at(announced: bool, octets: &[u8]) -> Option<(Option<Digest>
     Some((Some(digest), rest))
 }
 
-#[tactic(auto, unfolding(crate::specs::ReplyReading::shown_values_in))]
+#[tactic(auto, unfolding(crate::specs::Reading::shown_values_in))]
 fn shown_values(octets: &[u8]) -> Option<ContentView<'_>>
     ensures { Reads content_seen result (shown_values_in octets.now) }
 {
@@ -54,7 +54,7 @@ fn shown_values(octets: &[u8]) -> Option<ContentView<'_>>
     Some(ContentView::Values { handle, values })
 }
 
-#[tactic(auto, unfolding(crate::specs::ReplyReading::handles_in))]
+#[tactic(auto, unfolding(crate::specs::Reading::handles_in))]
 fn handles(octets: &[u8]) -> Option<ContentView<'_>>
     ensures { Reads content_seen result (handles_in octets.now) }
 {
@@ -65,7 +65,7 @@ fn handles(octets: &[u8]) -> Option<ContentView<'_>>
     Some(ContentView::Handles { handles })
 }
 
-#[tactic(auto, unfolding(crate::specs::ReplyReading::nothing_in))]
+#[tactic(auto, unfolding(crate::specs::Reading::nothing_in))]
 fn nothing(octets: &[u8]) -> Option<ContentView<'_>>
     ensures { Reads content_seen result (nothing_in octets.now) }
 {
@@ -76,7 +76,7 @@ fn nothing(octets: &[u8]) -> Option<ContentView<'_>>
 }
 
 /// The prefix in the administrative handle that a referral names.
-#[tactic(auto, unfolding(crate::specs::ReplyReading::prefix_in))]
+#[tactic(auto, unfolding(crate::specs::Reading::prefix_in))]
 fn prefix_in(octets: &[u8]) -> Option<&[u8]>
     ensures { Reads (λ p. p.now) result (prefix_in octets.now) }
 {
@@ -87,7 +87,7 @@ fn prefix_in(octets: &[u8]) -> Option<&[u8]>
     Some(prefix)
 }
 
-#[tactic(auto, unfolding(crate::specs::ReplyReading::referral_in))]
+#[tactic(auto, unfolding(crate::specs::Reading::referral_in))]
 fn referral(octets: &[u8]) -> Option<ContentView<'_>>
     ensures { Reads content_seen result (referral_in octets.now) }
 {
@@ -103,7 +103,7 @@ fn referral(octets: &[u8]) -> Option<ContentView<'_>>
     Some(ContentView::Referral { prefix })
 }
 
-#[tactic(auto, unfolding(crate::specs::ReplyReading::nonce_in))]
+#[tactic(auto, unfolding(crate::specs::Reading::nonce_in))]
 fn nonce(octets: &[u8]) -> Option<ContentView<'_>>
     ensures { Reads content_seen result (nonce_in octets.now) }
 {
@@ -118,7 +118,7 @@ fn nonce(octets: &[u8]) -> Option<ContentView<'_>>
     Some(ContentView::Nonce { nonce })
 }
 
-#[tactic(auto, unfolding(crate::specs::ReplyReading::empty_in))]
+#[tactic(auto, unfolding(crate::specs::Reading::empty_in))]
 fn empty(octets: &[u8]) -> Option<ContentView<'_>>
     ensures { Reads content_seen result (empty_in octets.now) }
 {
@@ -133,7 +133,7 @@ fn empty(octets: &[u8]) -> Option<ContentView<'_>>
 }
 
 /// The content of this form, all of the octets.
-#[tactic(auto, unfolding(crate::specs::ReplyReading::content_in))]
+#[tactic(auto, unfolding(crate::specs::Reading::content_in))]
 fn content_in(form: ReplyForm, octets: &[u8]) -> Option<ContentView<'_>>
     ensures { Reads content_seen result (content_in form octets.now) }
 {
@@ -148,7 +148,7 @@ fn content_in(form: ReplyForm, octets: &[u8]) -> Option<ContentView<'_>>
 }
 
 /// The body behind this header, all of the octets.
-#[tactic(auto, unfolding(crate::specs::ReplyReading::reply_body_in))]
+#[tactic(auto, unfolding(crate::specs::Reading::reply_body_in))]
 fn reply_body(header: Header, octets: &[u8]) -> Option<ReplyView<'_>>
     ensures { Reads reply_seen result (reply_body_in header octets.now) }
 {
@@ -161,7 +161,7 @@ fn reply_body(header: Header, octets: &[u8]) -> Option<ReplyView<'_>>
     })
 }
 
-#[tactic(auto, unfolding(crate::specs::ReplyReading::reply_at, crate::specs::Reading::message_at))]
+#[tactic(auto, unfolding(crate::specs::Reading::reply_at, crate::specs::Reading::message_at))]
 fn whole_reply(octets: &[u8]) -> Option<ReplyView<'_>>
     ensures { Reads reply_seen result (reply_at octets.now) }
 {

@@ -1,7 +1,7 @@
 //! Replies where they stand in octets.
 
 ghost use Rattle.std.specs.Prelude.{◌≡◌};
-ghost use Rattle.hdl_msg.specs.ReplyView.{announces_digest, success_form, announced_form};
+ghost use Rattle.hdl_msg.specs.Reply.{announces_digest, success_form, announced_form};
 
 use crate::codes::{OpCode, OpFlag, ResponseCode};
 use crate::fields::Header;
@@ -83,7 +83,7 @@ fn success_form(operation: Option<OpCode>) -> ReplyForm
 
 impl ReplyForm {
     /// The form that the header of a reply announces: by its code, and with code 1 by its operation.
-    #[tactic(auto, unfolding(crate::specs::ReplyView::announced_form))]
+    #[tactic(auto, unfolding(crate::specs::Reply::announced_form))]
     pub fn of(header: Header) -> ReplyForm
         ensures form { result ≡ announced_form header }
     {

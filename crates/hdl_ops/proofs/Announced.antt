@@ -15,8 +15,7 @@ use Rattle.hdl_msg.specs.declared.reply_view.ReplyForm.{ReplyForm}
 use Rattle.hdl_msg.specs.declared.reply_view.ReplyForm.TheVariants as form
 use Rattle.hdl_msg.specs.Codes.{op_code_of, IsNumberOf, has_flag, flag_bit}
 use Rattle.hdl_msg.specs.Message.{Content, Operation, resolution, create, delete, add, remove, modify, list, response, other, code_of}
-use Rattle.hdl_msg.specs.Reply.{answer_header}
-use Rattle.hdl_msg.specs.ReplyView.{reply_parts, IsAnnounced, announces_digest, announced_form, success_form, form_of}
+use Rattle.hdl_msg.specs.Reply.{answer_header, reply_parts, IsAnnounced, announces_digest, announced_form, success_form, form_of}
 use Rattle.hdl_msg.proofs.OpCodes.{op_code_again}
 use Rattle.hdl_ops.specs.First.{first, or_code}
 use Rattle.hdl_ops.specs.Admission.{refusal}

@@ -3,8 +3,7 @@
 ghost use Rattle.std.specs.Prelude.{◌≡◌};
 ghost use Rattle.std.specs.List.{list_any, list_all};
 ghost use Rattle.hdl_value.specs.Permission.{mask_permits};
-ghost use Rattle.hdl_msg.specs.Bodies.{operation_of};
-ghost use Rattle.hdl_msg.specs.Views.{numbers_of, values_of};
+ghost use Rattle.hdl_msg.specs.Views.{operation_of, numbers_of, values_of};
 ghost use Rattle.hdl_ops.specs.Proven.{add_needs, remove_needs, modify_needs, is_allowed, is_locked_at, is_locked};
 
 use crate::sights::is_admin_at;

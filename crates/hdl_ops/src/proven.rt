@@ -3,9 +3,8 @@
 ghost use Rattle.std.specs.Prelude.{◌≡◌, option_map};
 ghost use Rattle.std.specs.List.{list_any};
 ghost use Rattle.hdl_value.specs.Refs.{is_secret_key};
-ghost use Rattle.hdl_msg.specs.Bodies.{operation_of};
+ghost use Rattle.hdl_msg.specs.Views.{operation_of, numbers_of, values_of};
 ghost use Rattle.hdl_msg.specs.Codes.{response_number};
-ghost use Rattle.hdl_msg.specs.Views.{numbers_of, values_of};
 ghost use Rattle.hdl_ops.specs.Proven.{is_right, misses_at, takes_at, misses, takes, overfills, is_asked, code_before_key, code_behind_key};
 ghost use Rattle.hdl_ops.specs.Sights.{passes};
 ghost use Rattle.hdl_ops.specs.Views.{sight_of, proof_of};

@@ -2,8 +2,7 @@
 
 ghost use Rattle.std.specs.Prelude.{◌≡◌, ◌≤◌, length, IfOk, IsTrue, Some, None, if◌then◌else◌};
 ghost use Rattle.hdl_msg.specs.Codes.{response_number};
-ghost use Rattle.hdl_msg.specs.Reply.{digest_octets, reply_octets};
-ghost use Rattle.hdl_msg.specs.ReplyView.{reply_parts, IsAnnounced, IsReplyFrame};
+ghost use Rattle.hdl_msg.specs.Reply.{digest_octets, reply_octets, reply_parts, IsAnnounced, IsReplyFrame};
 ghost use Rattle.hdl_ops.specs.Replies.{digest_of, asked_digest, reply_to, challenge_to, fits};
 
 use crate::decision::HashedRequest;

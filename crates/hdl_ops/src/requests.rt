@@ -1,7 +1,7 @@
 //! A request, in the words of the tables of decision.
 
 ghost use Rattle.std.specs.Prelude.{◌≡◌, option_map};
-ghost use Rattle.hdl_msg.specs.Bodies.{operation_of};
+ghost use Rattle.hdl_msg.specs.Views.{operation_of};
 ghost use Rattle.hdl_ops.specs.Requests.{response_of, named, is_unused, resolves, creates, makes_or_ends, is_list, is_public_only, wants_digest};
 ghost use Rattle.hdl_ops.specs.Views.{response_view};
 

@@ -4,8 +4,7 @@ ghost use Rattle.std.specs.Prelude.{◌≡◌, ◌==◌, length};
 ghost use Rattle.std.specs.List.{list_any};
 ghost use Rattle.hdl_value.specs.Permission.{is_public, is_kept};
 ghost use Rattle.hdl_value.specs.Refs.{is_admin};
-ghost use Rattle.hdl_msg.specs.Bodies.{operation_of};
-ghost use Rattle.hdl_msg.specs.Views.{numbers_of, strings_of};
+ghost use Rattle.hdl_msg.specs.Views.{operation_of, numbers_of, strings_of};
 ghost use Rattle.hdl_ops.specs.Sights.{matches, is_named, asks, passes_at};
 
 use hdl_msg::{Body, Numbers, Strings};

@@ -1,9 +1,8 @@
 //! From the code of a table of decision to the whole decision.
 
 ghost use Rattle.std.specs.Prelude.{◌≡◌, ◌&&◌, filter, if◌then◌else◌, Some, None, IfOk, IsTrue};
-ghost use Rattle.hdl_msg.specs.Bodies.{operation_of};
+ghost use Rattle.hdl_msg.specs.Views.{operation_of, values_of};
 ghost use Rattle.hdl_msg.specs.Codes.{response_number};
-ghost use Rattle.hdl_msg.specs.Views.{values_of};
 ghost use Rattle.hdl_ops.specs.Decisions as decisions;
 ghost use Rattle.hdl_ops.specs.Decisions.{may_read, carried, change_of};
 ghost use Rattle.hdl_ops.specs.Replies.{fits};

@@ -4,8 +4,7 @@ ghost use Rattle.std.specs.Prelude.{◌≡◌, ◌==◌, length, IfOk};
 ghost use Rattle.std.specs.List.{list_any, list_all};
 ghost use Rattle.hdl_value.specs.Refs.{is_admin};
 ghost use Rattle.hdl_value.specs.Tests.{is_sound};
-ghost use Rattle.hdl_msg.specs.Bodies.{operation_of};
-ghost use Rattle.hdl_msg.specs.Views.{numbers_of, values_of};
+ghost use Rattle.hdl_msg.specs.Views.{operation_of, numbers_of, values_of};
 ghost use Rattle.hdl_ops.specs.Admission.{has_twins, is_bad_list, are_bad, is_bad_write};
 
 use crate::sights::lists_index;

@@ -4,7 +4,7 @@ use Rattle.std.specs.Global.{Vec}
 use Rattle.std.specs.Borrow.{Bor}
 use Rattle.hdl_value.specs.declared.value.Value.{Value}
 use Rattle.hdl_value.specs.Fault.{IsSound}
-use Rattle.hdl_msg.specs.ReplyView.{ReplyParts, SpellsReply}
+use Rattle.hdl_msg.specs.Reply.{ReplyParts, SpellsReply}
 use Rattle.hdl_msg.specs.declared.replies.ReplyContent.{ReplyContent}
 use Rattle.hdl_msg.specs.declared.replies.ReplyContent.TheVariants as content
 use Rattle.hdl_msg.specs.Codes.{response_number}

@@ -3,7 +3,7 @@
 ghost use Rattle.std.specs.Prelude.{IfOk};
 ghost use Rattle.hdl_msg.specs.Views.{values_of};
 ghost use Rattle.hdl_proxy.specs.Choice.{is_shown};
-ghost use Rattle.hdl_msg.specs.ReplyView.{content_seen};
+ghost use Rattle.hdl_msg.specs.Reply.{content_seen};
 ghost use Rattle.hdl_proxy.specs.Found.{IsFoundIn, IsFoundOf, IsSaidBy, AreShown};
 
 use crate::choice::is_shown;

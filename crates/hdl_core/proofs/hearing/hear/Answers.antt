@@ -1,7 +1,7 @@
 use Rattle.std.proofs.Common.{ℕ, List, Some, None, ◌≡◌, sym, ap, ◌∙◌, subst}
 use Rattle.std.specs.Prelude.{option_map}
 use Rattle.hdl_msg.specs.Message.{SpellsRequest}
-use Rattle.hdl_msg.specs.ReplyView.{IsReplyFrame}
+use Rattle.hdl_msg.specs.Reply.{IsReplyFrame}
 use Rattle.hdl_ops.specs.Requests.{response_of}
 use Rattle.hdl_ops.specs.Views.{algorithms_by, hosted_by, response_view}
 use Rattle.hdl_slots.specs.Lanes.{challenged}

@@ -1,6 +1,5 @@
 use Rattle.std.proofs.Common.{ap, sym, ◌∙◌, subst}
-use Rattle.hdl_msg.specs.Reply.{short_reply}
-use Rattle.hdl_msg.specs.ReplyView.{IsReplyFrame}
+use Rattle.hdl_msg.specs.Reply.{short_reply, IsReplyFrame}
 use Rattle.hdl_msg.proofs.ReplyReadings.{short_reply_read}
 use Rattle.hdl_laws.specs.Tasks.{Received}
 use Rattle.hdl_core.proofs.Received.{opened, closed, unbroken, broken, unheard, received}

@@ -1,5 +1,5 @@
 use Rattle.std.proofs.Common.{List, ℕ, arith, rules, subst, sym}
-use Rattle.hdl_msg.specs.ReplyView.{reply_parts, FramesReply}
+use Rattle.hdl_msg.specs.Reply.{reply_parts, FramesReply}
 use Rattle.hdl_msg.proofs.Written.{length-reply_message, content_short, reply_written}
 use Rattle.hdl_msg.proofs.ReplyReadings.{reply_framed}
 use Rattle.hdl_msg.proofs.replies.write_reply.Goals as goal

@@ -1,5 +1,5 @@
 use Rattle.std.proofs.Common.{sym, ◌∙◌, arith}
-use Rattle.hdl_msg.specs.ReplyView.{reply_seen}
+use Rattle.hdl_msg.specs.Reply.{reply_seen}
 use Rattle.hdl_msg.proofs.ReplyReadings.{reply_takes, reply_again}
 use Rattle.hdl_msg.proofs.reply_reading.read_reply.Goals as goal
 

@@ -4,8 +4,7 @@ use Rattle.hdl_auth.specs.Digest.{spelt}
 use Rattle.hdl_auth.proofs.Digests.{digest_short}
 use Rattle.hdl_msg.specs.declared.fields.Header.{Header}
 use Rattle.hdl_msg.specs.declared.replies.ReplyContent.TheVariants.{Nonce}
-use Rattle.hdl_msg.specs.Reply.{answer_header}
-use Rattle.hdl_msg.specs.ReplyView.{ReplyParts, IsAnnounced}
+use Rattle.hdl_msg.specs.Reply.{answer_header, ReplyParts, IsAnnounced}
 use Rattle.hdl_ops.specs.Replies.{challenge_to}
 use Rattle.hdl_ops.proofs.Announced.{challenge_announced_lem}
 use Rattle.hdl_ops.proofs.Lengths.{challenge_short}
