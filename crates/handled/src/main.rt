@@ -1,7 +1,7 @@
 //! The program `handled`: replays a script, or serves over TCP and UDP.
 //!
 //! `handled` and `handled replay` are [`hdl_replay::replay`], handed the standard streams and a table in SQL, in memory.
-//! `handled serve` is [`hdl_host::hosted`], handed the tenants text on standard input and such a table, whose handles are kept where they
+//! `handled serve` is [`hdl_host::host_tenants`], handed the tenants text on standard input and such a table, whose handles are kept where they
 //! were read last (hdl_cachedrows). `handled check` says what such a text has, or all of its faults (hdl_check), `handled export` writes a table as such a text (hdl_export). With `--table FILE` both go on over the table in that file (hdl_lastingrows). What is printed, the fault lines and the exit statuses are those of docs/PROTOCOL.md, "The tenants
 //! text and scripts". This crate has the command line alone, since nothing else needs `clap`.
 #![tactic(auto)]
@@ -21,7 +21,7 @@ use bounds::{BoundWord, bounds_of};
 use checking::check_text;
 use copying::copy_table;
 use hdl_core::Tenants;
-use hdl_host::{Ending, Setting, hosted, hosted_on};
+use hdl_host::{Ending, Setting, host_resumed, host_tenants};
 use hdl_replay::{Fault, read_input, tenants_of};
 use notices::{Kept, say_begins, say_ends};
 use ports::can_listen;
@@ -66,7 +66,7 @@ fn read_text(rt: &HostRuntime) -> Result<String, Fault> {
 }
 
 /// Runs the script over a table in SQL, in memory, and answers the exit status.
-fn replayed(rt: &HostRuntime) -> Result<u8, Fault> {
+fn replay_script(rt: &HostRuntime) -> Result<u8, Fault> {
     let rows = empty_table(rt, 0)?;
     replay_in(rt, rows)
 }
@@ -120,7 +120,7 @@ fn run(rt: &HostRuntime) -> Result<Next, TabledFault> {
             let text = read_text(rt)?;
             Ok(Next::Ended(export_on(rt, &table, text.as_str(), publisher)?))
         }
-        Invocation::Replay { table: None } => Ok(Next::Ended(replayed(rt)?)),
+        Invocation::Replay { table: None } => Ok(Next::Ended(replay_script(rt)?)),
         Invocation::Replay { table: Some(file) } => {
             let text = read_text(rt)?;
             replay_on(rt, &file, text.as_str())?;
@@ -142,18 +142,18 @@ fn run(rt: &HostRuntime) -> Result<Next, TabledFault> {
 }
 
 /// Says how a server ended, and answers the exit status.
-fn told(rt: &HostRuntime, served: Result<(), TabledFault>, ending: &Ending) -> ExitCode {
+fn report_end(rt: &HostRuntime, served: Result<(), TabledFault>, ending: &Ending) -> ExitCode {
     match served {
         Ok(()) => {
             say_ends(rt, ending.is_asked());
             ExitCode::from(0)
         }
-        Err(fault) => failed(rt, fault),
+        Err(fault) => report_fault(rt, fault),
     }
 }
 
 /// Prints the fault line, and answers the exit status.
-fn failed(rt: &HostRuntime, fault: TabledFault) -> ExitCode {
+fn report_fault(rt: &HostRuntime, fault: TabledFault) -> ExitCode {
     let _ = eprintln!(rt; "{fault}");
     ExitCode::from(fault.status())
 }
@@ -173,16 +173,16 @@ fn serve_in_memory<
 >(machine: &R, rt: &HostRuntime, tenants: Tenants, setting: Setting, row_cache: usize) -> ExitCode {
     let rows = match empty_table(rt, row_cache) {
         Ok(rows) => rows,
-        Err(fault) => return failed(rt, TabledFault::from(fault)),
+        Err(fault) => return report_fault(rt, TabledFault::from(fault)),
     };
     say_begins(rt, &tenants, Kept::Memory { row_cache }, setting.limits);
     let mut output = rt.stdout();
     let ending = match Arc::try_clone(&setting.supervision.ending) {
         Ok(ending) => ending,
-        Err(_) => return failed(rt, TabledFault::from(Fault::NoMemory)),
+        Err(_) => return report_fault(rt, TabledFault::from(Fault::NoMemory)),
     };
-    let served = hosted(machine, rt.alloc(), rows, tenants, setting, &mut output);
-    told(rt, served.map_err(TabledFault::from), &ending)
+    let served = host_tenants(machine, rt.alloc(), rows, tenants, setting, &mut output);
+    report_end(rt, served.map_err(TabledFault::from), &ending)
 }
 
 /// Serves over the table in a file, and answers the exit status.
@@ -207,10 +207,10 @@ fn serve_on<
     let mut output = rt.stdout();
     let ending = match Arc::try_clone(&setting.supervision.ending) {
         Ok(ending) => ending,
-        Err(_) => return failed(rt, TabledFault::from(Fault::NoMemory)),
+        Err(_) => return report_fault(rt, TabledFault::from(Fault::NoMemory)),
     };
-    let served = hosted_on(machine, rt.alloc(), table, tenants, setting, &mut output);
-    told(rt, ended(served), &ending)
+    let served = host_resumed(machine, rt.alloc(), table, tenants, setting, &mut output);
+    report_end(rt, ended(served), &ending)
 }
 
 fn main(rt: HostRuntime) -> ExitCode {
@@ -224,6 +224,6 @@ fn main(rt: HostRuntime) -> ExitCode {
             },
         ) => serve_in_memory(&rt, &rt, tenants, setting, row_cache),
         Ok(Next::ServeOn { desk, setting }) => serve_on(&rt, &rt, desk, setting),
-        Err(fault) => failed(&rt, fault),
+        Err(fault) => report_fault(&rt, fault),
     }
 }

@@ -13,7 +13,7 @@ use hdl_eitherrows::EitherRows;
 use hdl_export::ExportFault;
 use hdl_host::{Health, HostFault, Notices};
 use hdl_lastingrows::{Alarm, FileTable, TableFault, open_file, table_over};
-use hdl_replay::{Fault, events_of, parts_of, put_all, replay, tenants_of, told_on};
+use hdl_replay::{Fault, events_of, lines_of_resumed, parts_of, put_all, replay, tenants_of};
 use hdl_rows::PlainRows;
 use hdl_sqlrows::SqlRows;
 use hdl_sqlrows::load::Progress;
@@ -220,7 +220,7 @@ fn replay_over<T: Rows + Closing + Drop>(
     events: Vec<Event>,
 ) -> Result<(), TabledFault> {
     let rows = unbounded(rt, table)?;
-    let (lines, rows) = told_on(rt.alloc(), rows, tenants, events)?;
+    let (lines, rows) = lines_of_resumed(rt.alloc(), rows, tenants, events)?;
     put_all(&mut rt.stdout(), lines.as_bytes())?;
     rows.into_rows().close()
 }

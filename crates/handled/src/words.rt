@@ -282,7 +282,7 @@ fn parsed(alloc: Global, words: &[String]) -> Result<Invocation, Unclear> {
 }
 
 /// Prints what `clap` has to say, and answers the exit status.
-fn told(rt: &HostRuntime, error: Error) -> Result<Invocation, Fault> {
+fn print_help(rt: &HostRuntime, error: Error) -> Result<Invocation, Fault> {
     if error.kind() == ErrorKind::OutOfMemory {
         return Err(Fault::NoMemory);
     }
@@ -313,7 +313,7 @@ pub fn read_words(rt: &HostRuntime) -> Result<Invocation, Fault> {
     };
     match parsed(rt.alloc(), words.as_slice()) {
         Ok(asked) => Ok(asked),
-        Err(Unclear::Words(error)) => told(rt, error),
+        Err(Unclear::Words(error)) => print_help(rt, error),
         Err(Unclear::Address(word)) => Ok(refused(
             rt,
             word.as_str(),

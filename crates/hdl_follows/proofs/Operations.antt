@@ -15,7 +15,7 @@ use Rattle.hdl_ops.specs.Requests.{response_of}
 use Rattle.hdl_ops.specs.Sights.{Sight, sight}
 use Rattle.hdl_ops.specs.Proven.{Proof, key_of, value_at, code_before_key, code_behind_key, code_for_key, IsCodeBy}
 use Rattle.hdl_ops.specs.Replies.{fits}
-use Rattle.hdl_ops.specs.Decisions.{Level, Proven, Decision, Decides, DecidesBy, decision, refused, success, failure, carried}
+use Rattle.hdl_ops.specs.Decisions.{Level, Proven, Decision, Decides, DecidesBy, decision, refused, success, failure, carried_content}
 use Rattle.hdl_msg.specs.declared.replies.ReplyContent.TheVariants.{Empty}
 use Rattle.hdl_ops.proofs.Codes.{codes_pass}
 use Rattle.hdl_frame.specs.Envelope.{u32_at}
@@ -71,7 +71,7 @@ refusal_code hosts r = codes_pass no_fault _ 0 refl refl
 
 decision_code : (a : Algorithm) (s : Sight) (r : Content) (level : Level) (c : ℕ) → IsTrue (no_fault c) → IsTrue (no_fault (decision a s r level c).code)
 unfolding decision
-decision_code a s r level c f = pick (eqb c 1) (fits a r (carried s r level))
+decision_code a s r level c f = pick (eqb c 1) (fits a r (carried_content s r level))
   where
     pick : (x b : Bool) → IsTrue (no_fault (cond {A = Decision} x (cond {A = Decision} b (success s r level) (failure 2 Empty)) (failure c Empty)).code)
     pick true true = refl

@@ -7,7 +7,7 @@ ghost use Rattle.hdl_workers.specs.Ends.{AreDistinct};
 use crate::bounds::Notices;
 use crate::clock::{MachineClock, Part};
 use crate::fault::HostFault;
-use crate::listening::{Limits, Place, Setting, had, places_of};
+use crate::listening::{Limits, Place, Setting, or_device, places_of};
 use crate::supervision::{Supervised, supervise};
 use crate::waking::{Patience, Sleep};
 use crate::workers::{join_all, start};
@@ -32,7 +32,7 @@ const RING: usize = 16;
 #[derive(Drop)]
 struct Ready {
     ends: Vec<LaneEnds>,
-    far: Vec<WorkerSide>,
+    sides: Vec<WorkerSide>,
     places: Vec<Place>,
     lines: String,
     sleep: Sleep,
@@ -49,13 +49,13 @@ fn ready_for<R: Net<Listener = TcpListener, Stream = TcpStream> + Clock + Files>
     setting: &Setting,
 ) -> Result<Ready, HostFault> {
     let turns = setting.limits.turns;
-    let (ends, far) = lanes_of(alloc, tenants.lanes(), RING)?;
+    let (ends, sides) = lanes_of(alloc, tenants.lanes(), RING)?;
     let (places, lines) = places_of(rt, alloc, tenants, setting)?;
-    let sleep = had(Sleep::new(rt, alloc, Patience::of(turns).events))?;
+    let sleep = or_device(Sleep::new(rt, alloc, Patience::of(turns).events))?;
     let supervised = supervise(rt, alloc, &setting.supervision, places.as_slice())?;
     Ok(Ready {
         ends,
-        far,
+        sides,
         places,
         lines,
         sleep,
@@ -92,13 +92,13 @@ impl<T: Rows + Drop> Serving for Service<T> {
 }
 
 /// Starts the workers, serves on this thread, joins them, and gives back what served.
-fn served<
+fn run_workers<
     R: Threads + Clock + RandomSource + Eprint + Copy + Send + Drop + 'static,
     S: Serving + Drop,
 >(rt: &R, alloc: Global, service: S, ready: Ready) -> Result<S, Fault> {
     let Ready {
         ends,
-        far,
+        sides,
         places,
         sleep,
         turns,
@@ -106,7 +106,7 @@ fn served<
         ..
     } = ready;
     let ending = supervised.start(rt, alloc)?;
-    let workers = start(rt, alloc, places, far, &sleep, turns)?;
+    let workers = start(rt, alloc, places, sides, &sleep, turns)?;
     let mut clock = MachineClock::new(*rt, Part::Serves(sleep));
     let service = service.serve_lanes(alloc, ends, &mut clock, turns);
     join_all(rt, workers, &ending)?;
@@ -120,7 +120,7 @@ fn tell_and_serve<
     W: Write,
 >(rt: &R, alloc: Global, service: S, ready: Ready, output: &mut W) -> Result<S, Fault> {
     put_all(output, ready.lines.as_bytes())?;
-    served(rt, alloc, service, ready)
+    run_workers(rt, alloc, service, ready)
 }
 
 /// Opens the service of the tenants over an empty table, tells where it listens, and serves.
@@ -174,7 +174,7 @@ fn leave_control<R: Files>(rt: &R, path: &Option<String>) {
 ///
 /// Refusals: memory, the table's refusal of an opening row, `Listen` where a port can't be had at one of the addresses, and `Device` where
 /// another thing of the machine isn't to be had (at once, with nothing joined), or where a worker's device failed.
-pub fn hosted<
+pub fn host_tenants<
     R: Net<Listener = TcpListener, Stream = TcpStream>
         + Threads
         + Clock
@@ -206,8 +206,8 @@ pub fn hosted<
     Ok(served?)
 }
 
-/// Serves the tenants over a table that is there already, as [`hosted`] does, and gives the table back. The table is dropped with a refusal.
-pub fn hosted_on<
+/// Serves the tenants over a table that is there already, as [`host_tenants`] does, and gives the table back. The table is dropped with a refusal.
+pub fn host_resumed<
     R: Net<Listener = TcpListener, Stream = TcpStream>
         + Threads
         + Clock
@@ -237,8 +237,8 @@ pub fn hosted_on<
     Ok(served?.into_rows())
 }
 
-/// Serves the tenants of the text over TCP and UDP, over an empty table, as [`hosted`] does.
-fn hosted_text<
+/// Serves the tenants of the text over TCP and UDP, over an empty table, as [`host_tenants`] does.
+fn host_text<
     R: Net<Listener = TcpListener, Stream = TcpStream>
         + Threads
         + Clock
@@ -263,7 +263,7 @@ fn hosted_text<
 {
     let tenants = tenants_of(alloc, text)?;
     let setting = Setting::on_loopback(alloc, limits)?;
-    hosted(rt, alloc, rows, tenants, setting, output)
+    host_tenants(rt, alloc, rows, tenants, setting, output)
 }
 
 /// Serves the tenants of the text over TCP and UDP on 127.0.0.1, over an empty table, until each worker ended or the turns are
@@ -287,7 +287,7 @@ pub fn host<
 >(rt: &R, rows: T, text: &str, limits: Limits, output: &mut W, faults: &mut F) -> u8
     requires empty { T.content rows ≡ no_rows }
 {
-    match hosted_text(rt, rt.alloc(), rows, text, limits, output) {
+    match host_text(rt, rt.alloc(), rows, text, limits, output) {
         Ok(()) => 0,
         Err(fault) => {
             let _ = writeln!(faults, "{fault}");

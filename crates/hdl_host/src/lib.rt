@@ -7,8 +7,8 @@
 //!                        a thread for each lane
 //! ```
 //!
-//! [`hosted`] listens at each publisher's port and each address of a [`Setting`] by TCP and UDP, starts a worker for each lane, and serves on the thread
-//! that called it. [`hosted_on`] does so over a table that is there already, and gives it back; [`host`] takes a text, on loopback. Everything between a door and a table is proved of `hdl_workers`, `hdl_serve` and `hdl_core`, and the numbers of datagram
+//! [`host_tenants`] listens at each publisher's port and each address of a [`Setting`] by TCP and UDP, starts a worker for each lane, and serves on the thread
+//! that called it. [`host_resumed`] does so over a table that is there already, and gives it back; [`host`] takes a text, on loopback. Everything between a door and a table is proved of `hdl_workers`, `hdl_serve` and `hdl_core`, and the numbers of datagram
 //! peers of `hdl_trail`, what a crowd of connections keeps of `hdl_crowd`; this crate hands them what the machine has: sockets, a clock, random numbers and threads. No contract can
 //! say what these give, so the doors here tell nothing, and nothing is promised of octets on a wire. Beyond loopback a reply by UDP that is too long for a
 //! stranger stays back here, behind the worker's door (docs/PROTOCOL.md, "Replies to strangers").
@@ -85,7 +85,7 @@ pub use ending::Ending;
 pub use fault::HostFault;
 pub use hdl_boundedrows::{Amount, Bound};
 pub use health::Health;
-pub use hosting::{host, hosted, hosted_on};
+pub use hosting::{host, host_resumed, host_tenants};
 pub use listening::{AMPLIFY, Limits, Setting};
 pub use log::Log;
 pub use supervision::Supervision;

@@ -99,7 +99,7 @@ struct Opened {
 }
 
 /// What the machine doesn't give is a device fault.
-pub fn had<T: Drop>(gained: io::Result<T>) -> Result<T, Fault> {
+pub fn or_device<T: Drop>(gained: io::Result<T>) -> Result<T, Fault> {
     match gained {
         Ok(value) => Ok(value),
         Err(_) => Err(Fault::Device),
@@ -202,7 +202,7 @@ pub fn places_of<R: Net<Listener = TcpListener, Stream = TcpStream> + Clock>(
             unreachable!()
         };
         let opened = open(rt, alloc, setting, (name, port), &mut lines)?;
-        places.push(had(place_of(rt, alloc, opened, (name, lanes), setting))?)?;
+        places.push(or_device(place_of(rt, alloc, opened, (name, lanes), setting))?)?;
     }
     Ok((places, lines))
 }

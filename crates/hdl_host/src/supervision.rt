@@ -5,7 +5,7 @@ use crate::counts::Counts;
 use crate::ending::Ending;
 use crate::fault::HostFault;
 use crate::health::Health;
-use crate::listening::{Place, had};
+use crate::listening::{Place, or_device};
 use crate::log::Log;
 use crate::recorder::Record;
 use crate::status::{StatusPage, serve_status};
@@ -101,7 +101,7 @@ pub fn supervise<R: Net<Listener = TcpListener, Stream = TcpStream> + Files>(
 ) -> Result<Supervised, HostFault> {
     let status = match supervision.status {
         Some(at) => match TcpListener::bind(rt, at) {
-            Ok(listener) => Some((listener, had(page_of(alloc, supervision, places))?)),
+            Ok(listener) => Some((listener, or_device(page_of(alloc, supervision, places))?)),
             Err(e) => return Err(HostFault::Listen(at, e.kind())),
         },
         None => None,
@@ -113,7 +113,7 @@ pub fn supervise<R: Net<Listener = TcpListener, Stream = TcpStream> + Files>(
         },
         None => None,
     };
-    let ending = had(Arc::try_clone(&supervision.ending).map_err(io::Error::from))?;
+    let ending = or_device(Arc::try_clone(&supervision.ending).map_err(io::Error::from))?;
     Ok(Supervised {
         status,
         control,
@@ -169,7 +169,7 @@ impl Supervised {
             start_status(rt, alloc, listener, page)?;
         }
         if let Some(listener) = control {
-            let ending = had(Arc::try_clone(&ending).map_err(io::Error::from))?;
+            let ending = or_device(Arc::try_clone(&ending).map_err(io::Error::from))?;
             start_control(rt, alloc, listener, ending)?;
         }
         Ok(ending)

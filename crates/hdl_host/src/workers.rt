@@ -7,7 +7,7 @@ use crate::clock::{MachineClock, Part};
 use crate::crowd::{Crowd, SocketCrowd};
 use crate::door::SocketDoor;
 use crate::ending::Ending;
-use crate::listening::{Place, had};
+use crate::listening::{Place, or_device};
 use crate::nonces::MachineNonces;
 use crate::packets::SocketPackets;
 use crate::recorder::{Record, Recorder, StreamRecorder};
@@ -29,7 +29,7 @@ use std::vec::IntoIter;
 /// What a worker has beside its door: its side of the lane, the bell of the thread that serves, and its turns.
 #[derive(Drop)]
 struct Side {
-    far: WorkerSide,
+    ends: WorkerSide,
     bell: Arc<Bell>,
     turns: u64,
 }
@@ -42,7 +42,7 @@ fn recorder_of<R: Clock + Eprint + Copy + Drop>(
     lane: usize,
 ) -> Result<Option<Recorder<R>>, Fault> {
     match record {
-        Some(record) => Ok(Some(had(Recorder::new(*rt, alloc, record, lane))?)),
+        Some(record) => Ok(Some(or_device(Recorder::new(*rt, alloc, record, lane))?)),
         None => Ok(None),
     }
 }
@@ -55,9 +55,9 @@ fn start_stream<R: Threads + Clock + RandomSource + Eprint + Copy + Send + Drop 
     recorder: Option<Recorder<R>>,
     side: Side,
 ) -> Result<JoinHandle<WorkerEnd>, Fault> {
-    let Side { far, bell, turns } = side;
-    let WorkerSide { inlet, outcomes } = far;
-    let rng = had(make_rng(rt))?;
+    let Side { ends, bell, turns } = side;
+    let WorkerSide { inlet, outcomes } = ends;
+    let rng = or_device(make_rng(rt))?;
     let theirs = *rt;
     let spawned = thread::spawn(
         rt,
@@ -93,9 +93,9 @@ fn start_crowd<R: Threads + Clock + RandomSource + Eprint + Copy + Send + Drop +
     recorder: Option<Recorder<R>>,
     side: Side,
 ) -> Result<JoinHandle<WorkerEnd>, Fault> {
-    let Side { far, bell, turns } = side;
-    let WorkerSide { inlet, outcomes } = far;
-    let rng = had(make_rng(rt))?;
+    let Side { ends, bell, turns } = side;
+    let WorkerSide { inlet, outcomes } = ends;
+    let rng = or_device(make_rng(rt))?;
     let theirs = *rt;
     let spawned = thread::spawn(
         rt,
@@ -137,9 +137,9 @@ fn start_packets<R: Threads + Clock + RandomSource + Eprint + Copy + Send + Drop
     recorder: Option<Recorder<R>>,
     side: Side,
 ) -> Result<JoinHandle<WorkerEnd>, Fault> {
-    let Side { far, bell, turns } = side;
-    let WorkerSide { inlet, outcomes } = far;
-    let rng = had(make_rng(rt))?;
+    let Side { ends, bell, turns } = side;
+    let WorkerSide { inlet, outcomes } = ends;
+    let rng = or_device(make_rng(rt))?;
     let theirs = *rt;
     let spawned = thread::spawn(
         rt,
@@ -210,15 +210,15 @@ pub fn start<R: Threads + Clock + RandomSource + Eprint + Copy + Send + Drop + '
     rt: &R,
     alloc: Global,
     places: Vec<Place>,
-    far: Vec<WorkerSide>,
+    lanes: Vec<WorkerSide>,
     sleep: &Sleep,
     turns: u64,
 ) -> Result<Vec<JoinHandle<WorkerEnd>>, Fault> {
-    let mut workers = Vec::with_capacity(alloc, far.len())?;
-    let mut sides = Vec::with_capacity(alloc, far.len())?;
-    for far in far {
-        let bell = had(sleep.bell())?;
-        sides.push(Side { far, bell, turns })?;
+    let mut workers = Vec::with_capacity(alloc, lanes.len())?;
+    let mut sides = Vec::with_capacity(alloc, lanes.len())?;
+    for ends in lanes {
+        let bell = or_device(sleep.bell())?;
+        sides.push(Side { ends, bell, turns })?;
     }
     let mut sides = sides.into_iter();
     for place in places {

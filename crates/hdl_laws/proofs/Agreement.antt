@@ -18,7 +18,7 @@ use Rattle.hdl_reach.proofs.Members.{among_first, or_true, all_append}
 use Rattle.hdl_tenants.specs.Register.{root}
 use Rattle.hdl_msg.specs.Message.{Content}
 use Rattle.hdl_ops.specs.Admission.{refusal}
-use Rattle.hdl_ops.specs.Requests.{named, handle_of, is_list}
+use Rattle.hdl_ops.specs.Requests.{sent_handle, handle_of, is_list}
 use Rattle.hdl_ops.specs.Sights.{Sight, sight}
 use Rattle.hdl_ops.specs.Anyone.{code_for_anyone}
 use Rattle.hdl_ops.specs.Proven.{Proof, target, key_of, MaskOf, value_at, code_before_key, code_for_key, IsCodeBy}
@@ -50,7 +50,7 @@ module _ (hosted : List ℕ → Bool) (C : List Place) (t t' : Table) (agree : A
       λ i. record {
         there = agree.handles (handle_of r) mine i;
         values = values_agree (handle_of r) mine i;
-        names = if is_list r.operation then names_agree (prefix (named r.operation)) passes.mine rootless i else [];
+        names = if is_list r.operation then names_agree (prefix (sent_handle r.operation)) passes.mine rootless i else [];
       }
 
   -- ---- masks

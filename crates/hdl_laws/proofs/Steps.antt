@@ -17,10 +17,10 @@ use Rattle.hdl_slots.specs.declared.pending.Pending.{Pending}
 use Rattle.hdl_ops.specs.declared.change.Change.{Change}
 use Rattle.hdl_ops.specs.declared.change.Change.TheVariants.{Create, Delete, Add, Remove, Modify}
 use Rattle.hdl_ops.specs.Admission.{refusal, request_algorithm}
-use Rattle.hdl_ops.specs.Requests.{Response, named, response_of}
+use Rattle.hdl_ops.specs.Requests.{Response, sent_handle, response_of}
 use Rattle.hdl_ops.specs.Sights.{Sight, sight}
 use Rattle.hdl_ops.specs.Replies.{fits}
-use Rattle.hdl_ops.specs.Decisions.{Level, Anyone, Proven, Decision, DecidesBy, decision, refused, success, failure, carried, change_of}
+use Rattle.hdl_ops.specs.Decisions.{Level, Anyone, Proven, Decision, DecidesBy, decision, refused, success, failure, carried_content, change_of}
 use Rattle.hdl_ops.proofs.Passed.{Passes, passes_unless_refused, canonical_is_hosted}
 use Rattle.hdl_ops.proofs.Decided.{one_decision_lem}
 use Rattle.hdl_events.specs.declared.Happening.{Happening}
@@ -133,7 +133,7 @@ changes_none hosted x e = absurd (some_none x (sym e))
 changes_one : (hosted : List ℕ → Bool) (c : Change) → IsTrue (hosted (prefix (written_handle c))) → ChangesHosted hosted (Some c)
 changes_one hosted c mine x e = subst (λ o. IsTrue (hosted (prefix (written_handle (unwrap_or o c))))) e mine
 
-asked_change : (hosted : List ℕ → Bool) (o : Operation) → IsTrue (hosted (prefix (canonical (named o)))) → ChangesHosted hosted (change_of o)
+asked_change : (hosted : List ℕ → Bool) (o : Operation) → IsTrue (hosted (prefix (canonical (sent_handle o)))) → ChangesHosted hosted (change_of o)
 asked_change hosted (create handle values) mine = changes_one hosted (Create handle values) mine
 asked_change hosted (delete handle) mine = changes_one hosted (Delete handle) mine
 asked_change hosted (add handle values) mine = changes_one hosted (Add handle values) mine
@@ -147,7 +147,7 @@ asked_change hosted (other octets) mine = changes_none hosted
 module _ (hosted : List ℕ → Bool) (t : Table) where
   decision_change : (a : Algorithm) (s : Sight) (r : Content) (level : Level) (code : ℕ) → Passes hosted r → ChangesHosted hosted (decision a s r level code).change
   unfolding decision
-  decision_change a s r level code passes = pick (code == 1) (fits a r (carried s r level))
+  decision_change a s r level code passes = pick (code == 1) (fits a r (carried_content s r level))
     where
       pick : (b c : Bool) → ChangesHosted hosted (cond {A = Decision} b (cond {A = Decision} c (success s r level) (failure 2 Empty)) (failure code Empty)).change
       pick true true = asked_change hosted r.operation (canonical_is_hosted hosted r passes)

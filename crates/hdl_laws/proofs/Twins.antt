@@ -19,11 +19,11 @@ use Rattle.hdl_msg.specs.declared.replies.ReplyContent.TheVariants.{Values, Hand
 use Rattle.hdl_ops.specs.declared.change.Change.{Change}
 use Rattle.hdl_ops.specs.Admission.{refusal, request_algorithm}
 use Rattle.hdl_ops.specs.Requests as requests
-use Rattle.hdl_ops.specs.Requests.{named, resolves, is_list}
+use Rattle.hdl_ops.specs.Requests.{sent_handle, resolves, is_list}
 use Rattle.hdl_ops.specs.Sights.{Sight, sight, asks}
 use Rattle.hdl_ops.specs.Proven.{Proof}
 use Rattle.hdl_ops.specs.Replies.{fits}
-use Rattle.hdl_ops.specs.Decisions.{Level, Anyone, Proven, Decision, DecidesBy, decision, success, failure, show, carried, carried_by, may_read, change_of}
+use Rattle.hdl_ops.specs.Decisions.{Level, Anyone, Proven, Decision, DecidesBy, decision, success, failure, show, carried_content, carried_by, may_read, change_of}
 use Rattle.hdl_ops.specs.Tables.{write_of, stamped_write, apply_if}
 use Rattle.hdl_ops.proofs.Codes.{decides_code}
 use Rattle.hdl_laws.specs.Tasks.{Task, Ignore, Break, Malformed, Unknown, Late, Ask, Redeem}
@@ -82,7 +82,7 @@ IsFormOf s r level d = (d ≡ success s r level) ⊎ ((n : ℕ) × ((n == 1) ≡
 
 decision_form : (a : Algorithm) (s : Sight) (r : Content) (level : Level) (code : ℕ) → IsFormOf s r level (decision a s r level code)
 unfolding decision
-decision_form a s r level code = pick (code == 1) refl (fits a r (carried s r level))
+decision_form a s r level code = pick (code == 1) refl (fits a r (carried_content s r level))
   where
     pick : (b : Bool) → code == 1 ≡ b → (c : Bool) → IsFormOf s r level (cond {A = Decision} b (cond {A = Decision} c (success s r level) (failure 2 Empty)) (failure code Empty))
     pick true e true = inl refl
@@ -118,7 +118,7 @@ module _ (H : List (List ℕ)) (t t' : Table) (twins : AreTwins H t t') where
 
   sight_names_twin : (r : Content) → (sight t r).names ≡ (sight t' r).names
   unfolding sight
-  sight_names_twin r = ap (λ names. if is_list r.operation then names else []) (names_twin (prefix (named r.operation)))
+  sight_names_twin r = ap (λ names. if is_list r.operation then names else []) (names_twin (prefix (sent_handle r.operation)))
 
   carried_twin : (o : Operation) (r : Content) (level : Level) → (IsTrue (resolves o) → Reads (is_held H (requests.handle_of r)) level) → carried_by o (sight t r) r level ≡ carried_by o (sight t' r) r level
   carried_twin (resolution handle indexes types) r level f = ap (Values handle) (show_twin r level (f refl))

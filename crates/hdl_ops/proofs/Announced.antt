@@ -19,11 +19,11 @@ use Rattle.hdl_msg.specs.Reply.{answer_header, reply_parts, IsAnnounced, announc
 use Rattle.hdl_msg.proofs.OpCodes.{op_code_again}
 use Rattle.hdl_ops.specs.First.{first, or_code}
 use Rattle.hdl_ops.specs.Admission.{refusal}
-use Rattle.hdl_ops.specs.Decisions.{Level, Proven, Decision, Decides, DecidesBy, decision, success, failure, refused, carried, carried_by}
+use Rattle.hdl_ops.specs.Decisions.{Level, Proven, Decision, Decides, DecidesBy, decision, success, failure, refused, carried_content, carried_by}
 use Rattle.hdl_ops.specs.Laws.{told}
 use Rattle.hdl_ops.specs.Proven.{Proof, key_of, value_at, code_before_key, code_behind_key, code_for_key, IsCodeBy}
 use Rattle.hdl_ops.specs.Replies.{digest_of, asked_digest, fits, reply_to, challenge_to}
-use Rattle.hdl_ops.specs.Requests.{named, is_unused, wants_digest}
+use Rattle.hdl_ops.specs.Requests.{sent_handle, is_unused, wants_digest}
 use Rattle.hdl_ops.specs.Sights.{Sight, sight}
 use Rattle.hdl_ops.proofs.Codes.{codes_pass, tells_by_code_lem}
 
@@ -86,7 +86,7 @@ module _ (hosts : List ℕ → Bool) (a : Algorithm) (t : Table) (r : Content) (
   told_form code has used e = pick (code == 1) refl (code == 302) (code == 402) e
     where
       pick : (x : Bool) → code == 1 ≡ x → (y z : Bool) → z ≡ false
-          → form_of (cond {A = ReplyContent} x (carried (sight t r) r level) (cond {A = ReplyContent} y (Referral (sent_prefix (named r.operation))) Empty))
+          → form_of (cond {A = ReplyContent} x (carried_content (sight t r) r level) (cond {A = ReplyContent} y (Referral (sent_prefix (sent_handle r.operation))) Empty))
           ≡ cond {A = ReplyForm} x (success_form (op_code_of r.header.op_code)) (cond {A = ReplyForm} y form.Referral (cond {A = ReplyForm} z form.Nonce form.Empty))
       pick true is y z e = carried_form r.operation (sight t r) r level (used (eqb-true _ _ is)) ∙ ap success_form (sym (op_code_again (code_of r.operation) r.header.op_code has))
       pick false is true z e = refl
@@ -138,7 +138,7 @@ refusal_code hosts r = codes_pass no_challenge _ 0 refl refl
 
 decision_code : (a : Algorithm) (s : Sight) (r : Content) (level : Level) (c : ℕ) → IsTrue (no_challenge c) → IsTrue (no_challenge (decision a s r level c).code)
 unfolding decision
-decision_code a s r level c f = pick (c == 1) (fits a r (carried s r level))
+decision_code a s r level c f = pick (c == 1) (fits a r (carried_content s r level))
   where
     pick : (x b : Bool) → IsTrue (no_challenge (cond {A = Decision} x (cond {A = Decision} b (success s r level) (failure 2 Empty)) (failure c Empty)).code)
     pick true true = refl

@@ -17,7 +17,7 @@ use Rattle.hdl_ops.specs.Admission.{refusal, has_twins, is_bad_list, are_bad, is
 use Rattle.hdl_ops.specs.Sights.{Sight, sight, passes, passes_at}
 use Rattle.hdl_ops.specs.Anyone.{is_open, is_open_write, code_for_anyone}
 use Rattle.hdl_ops.specs.Proven.{Proof, misses_at, takes_at, misses, takes, code_before_key, code_behind_key, code_for_key, value_at, key_of, IsCodeBy}
-use Rattle.hdl_ops.specs.Decisions.{Level, Anyone, Proven, Decision, success, failure, carried, change_of, decision, DecidesBy}
+use Rattle.hdl_ops.specs.Decisions.{Level, Anyone, Proven, Decision, success, failure, carried_content, change_of, decision, DecidesBy}
 use Rattle.hdl_auth.specs.declared.algorithm.Algorithm.{Algorithm}
 use Rattle.hdl_ops.specs.Replies.{fits}
 use Rattle.hdl_ops.specs.Views.{decision_of, IsAdmitted}
@@ -242,7 +242,7 @@ key_stands t s r p None code e see is one = by_mask is.0 (sym is.2 ∙ one)
 
 by_code : (a : Algorithm) (t : Table) (s : Sight) (r : Content) (level : Level) (code : ℕ) → (code ≡ 1 → IfSome (change_of r.operation) (CanApply t)) → IfSome (decision a s r level code).change (CanApply t)
 unfolding decision
-by_code a t s r level code f = by_test (code == 1) refl (fits a r (carried s r level))
+by_code a t s r level code f = by_test (code == 1) refl (fits a r (carried_content s r level))
   where
     by_test : (b : Bool) → (code == 1) ≡ b → (fit : Bool) → IfSome (cond {A = Decision} b (cond fit (success s r level) (failure 2 Empty)) (failure code Empty)).change (CanApply t)
     by_test true is true = f (eqb-true code 1 is)

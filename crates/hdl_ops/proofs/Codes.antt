@@ -10,13 +10,13 @@ use Rattle.hdl_msg.specs.Message.{Content, IsNumber}
 use Rattle.hdl_msg.specs.declared.replies.ReplyContent.TheVariants.{Referral, Empty}
 use Rattle.hdl_ops.specs.First.{first, or_code}
 use Rattle.hdl_ops.specs.Admission.{refusal}
-use Rattle.hdl_ops.specs.Requests.{named}
+use Rattle.hdl_ops.specs.Requests.{sent_handle}
 use Rattle.hdl_ops.specs.Sights.{Sight, sight}
 use Rattle.hdl_ops.specs.Anyone.{code_for_anyone}
 use Rattle.hdl_ops.specs.Proven.{Proof, key_of, value_at, code_before_key, code_behind_key, code_for_key, IsCodeBy}
 use Rattle.hdl_auth.specs.declared.algorithm.Algorithm.{Algorithm}
 use Rattle.hdl_ops.specs.Replies.{fits}
-use Rattle.hdl_ops.specs.Decisions.{Level, Anyone, Proven, Decision, Decides, DecidesBy, decision, refused, success, failure, carried}
+use Rattle.hdl_ops.specs.Decisions.{Level, Anyone, Proven, Decision, Decides, DecidesBy, decision, refused, success, failure, carried_content}
 use Rattle.hdl_ops.specs.Laws.{told}
 
 -- a code of at most three digits that isn't busy's
@@ -76,7 +76,7 @@ module _ (a : Algorithm) (t : Table) (r : Content) (level : Level) where
 
   decision_tells : (c : ℕ) → IsTrue (is_table_code c) → TellsOnly (decision a (sight t r) r level c)
   unfolding decision
-  decision_tells c e = pick (c == 1) refl (fits a r (carried (sight t r) r level))
+  decision_tells c e = pick (c == 1) refl (fits a r (carried_content (sight t r) r level))
     where
       pick : (x : Bool) → c == 1 ≡ x → (b : Bool) → TellsOnly (cond {A = Decision} x (cond {A = Decision} b (success (sight t r) r level) (failure 2 Empty)) (failure c Empty))
       pick true is true = (refl, refl)
@@ -84,14 +84,14 @@ module _ (a : Algorithm) (t : Table) (r : Content) (level : Level) where
       pick false is b =
           let parts = and_parts (is_answer_code c) _ e in (
             parts.0,
-            sym (ap (λ x. cond x (carried (sight t r) r level) (cond (c == 302) (Referral (sent_prefix (named r.operation))) Empty)) is ∙ ap (λ x. cond x (Referral (sent_prefix (named r.operation))) Empty) (not-true (c == 302) parts.1)),
+            sym (ap (λ x. cond x (carried_content (sight t r) r level) (cond (c == 302) (Referral (sent_prefix (sent_handle r.operation))) Empty)) is ∙ ap (λ x. cond x (Referral (sent_prefix (sent_handle r.operation))) Empty) (not-true (c == 302) parts.1)),
           )
 
   refused_tells : (c : ℕ) → IsTrue (is_refusal_code c) → TellsOnly (refused r c)
   unfolding refused
   refused_tells c e =
       let parts = and_parts (is_answer_code c) _ e in
-      (parts.0, sym (ap (λ x. cond x (carried (sight t r) r level) (cond (c == 302) (Referral (sent_prefix (named r.operation))) Empty)) (not-true (c == 1) parts.1)))
+      (parts.0, sym (ap (λ x. cond x (carried_content (sight t r) r level) (cond (c == 302) (Referral (sent_prefix (sent_handle r.operation))) Empty)) (not-true (c == 1) parts.1)))
 
 tells_by : (hosts : List ℕ → Bool) (a : Algorithm) (t : Table) (r : Content) (level : Level) (d : Decision) (c : Option ℕ) → refusal hosts r ≡ c → DecidesBy a t r level c d → TellsOnly a t r level d
 tells_by hosts a t r level d (Some c) e is =

@@ -7,7 +7,7 @@ use Rattle.hdl_name.proofs.Equal.{handle_decides, prefix-canonical, lower_prefix
 use Rattle.hdl_rows.proofs.Writes.{some_none}
 use Rattle.hdl_msg.specs.Message.{Content}
 use Rattle.hdl_ops.specs.First.{first}
-use Rattle.hdl_ops.specs.Requests.{named, handle_of, creates}
+use Rattle.hdl_ops.specs.Requests.{sent_handle, handle_of, creates}
 use Rattle.hdl_ops.specs.Admission.{handle_in, refusal}
 use Rattle.hdl_ops.specs.Proven.{admin_octets, target}
 
@@ -31,8 +31,8 @@ name_from s e = (handle_decides s).0 (tested (is_handle s) e)
 
 -- The request names a handle, under a hosted prefix.
 pub record Passes (hosted : List ℕ → Bool) (r : Content) : Type 0 where
-  pub handle : IsHandle (named r.operation)
-  pub mine : IsTrue (hosted (prefix (named r.operation)))
+  pub handle : IsHandle (sent_handle r.operation)
+  pub mine : IsTrue (hosted (prefix (sent_handle r.operation)))
 
 pub passes_unless_refused : (hosted : List ℕ → Bool) (r : Content) → refusal hosted r ≡ None → Passes hosted r
 unfolding refusal
@@ -44,8 +44,8 @@ passes_unless_refused hosted r e =
     let hosting = row_fails _ _ _ admin.1 in
     record { handle = name_from _ name.0; mine = not_false _ hosting.0 }
 
-pub canonical_is_hosted : (hosted : List ℕ → Bool) (r : Content) → Passes hosted r → IsTrue (hosted (prefix (canonical (named r.operation))))
-canonical_is_hosted hosted r p = ap hosted (prefix-canonical (named r.operation) p.handle) ∙ p.mine
+pub canonical_is_hosted : (hosted : List ℕ → Bool) (r : Content) → Passes hosted r → IsTrue (hosted (prefix (canonical (sent_handle r.operation))))
+canonical_is_hosted hosted r p = ap hosted (prefix-canonical (sent_handle r.operation) p.handle) ∙ p.mine
 
 pub handle_is_hosted : (hosted : List ℕ → Bool) (r : Content) → Passes hosted r → IsTrue (hosted (prefix (handle_of r)))
 unfolding handle_of
@@ -66,7 +66,7 @@ unfolding target
 target_is_hosted hosted r p h e = made (creates r.operation) e
   where
     n : List ℕ
-    n = named r.operation
+    n = sent_handle r.operation
 
     made : (b : Bool) → (if b then handle_in (admin_octets (prefix n)) else Some (canonical n)) ≡ Some h → IsTrue (hosted (prefix h))
     made true e = ap hosted (handle_in_is (admin_octets (prefix n)) h e ∙ lower_prefix n) ∙ p.mine

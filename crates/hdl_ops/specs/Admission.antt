@@ -11,7 +11,7 @@ use Rattle.hdl_auth.specs.declared.algorithm.Algorithm.{Algorithm}
 use Rattle.hdl_auth.specs.declared.algorithm.Algorithm.TheVariants.{Sha1}
 use Rattle.hdl_msg.specs.Message.{Content, Operation, create, add, remove, modify}
 use Rattle.hdl_ops.specs.First.{first}
-use Rattle.hdl_ops.specs.Requests.{named, is_unused, makes_or_ends, is_list}
+use Rattle.hdl_ops.specs.Requests.{sent_handle, is_unused, makes_or_ends, is_list}
 
 -- the canonical handle that octets name
 unfoldable pub handle_in : List ℕ → Option (List ℕ)
@@ -44,20 +44,20 @@ is_bad_write _ = false
 
 -- the hash function of a request, where prefixes have these: that of the prefix of the handle that it names
 abbrev pub request_algorithm : (List ℕ → Algorithm) → Content → Algorithm
-request_algorithm algorithms r = if is_handle (named r.operation) then algorithms (name.prefix (named r.operation)) else Sha1
+request_algorithm algorithms r = if is_handle (sent_handle r.operation) then algorithms (name.prefix (sent_handle r.operation)) else Sha1
 
 -- ---- the table
 
 -- an administrative handle is named
 abbrev pub is_under_root : Operation → Bool
-is_under_root o = name.is_admin (named o)
+is_under_root o = name.is_admin (sent_handle o)
 
 unfoldable pub refusal : (List ℕ → Bool) → Content → Option ℕ
 refusal hosts r = first
     ((is_unused r.operation, 5)
-    ∷ (is_none (handle_in (named r.operation)), 102)
+    ∷ (is_none (handle_in (sent_handle r.operation)), 102)
     ∷ (is_list r.operation && not (is_under_root r.operation), 102)
     ∷ (makes_or_ends r.operation && is_under_root r.operation, 5)
-    ∷ (not (hosts (name.prefix (named r.operation))), 302)
+    ∷ (not (hosts (name.prefix (sent_handle r.operation))), 302)
     ∷ (is_bad_write r.operation, 202)
     ∷ [])

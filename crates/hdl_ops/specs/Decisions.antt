@@ -15,7 +15,7 @@ use Rattle.hdl_ops.specs.Admission.{refusal}
 use Rattle.hdl_ops.specs.Anyone.{code_for_anyone}
 use Rattle.hdl_ops.specs.Proven.{Proof, IsCodeForProof}
 use Rattle.hdl_ops.specs.Replies.{fits}
-use Rattle.hdl_ops.specs.Requests.{named}
+use Rattle.hdl_ops.specs.Requests.{sent_handle}
 use Rattle.hdl_ops.specs.Sights.{Sight, sight, asks}
 
 -- at what level a request is decided
@@ -44,8 +44,8 @@ carried_by (resolution handle indexes types) s r level = Values handle (show s r
 carried_by (list handle) s r level = Handles s.names
 carried_by _ s r level = Nothing
 
-abbrev pub carried : Sight → Content → Level → ReplyContent
-carried s r level = carried_by r.operation s r level
+abbrev pub carried_content : Sight → Content → Level → ReplyContent
+carried_content s r level = carried_by r.operation s r level
 
 -- the write that the operation asks for
 abbrev pub change_of : Operation → Option Change
@@ -57,7 +57,7 @@ change_of (modify handle values) = Some (Modify handle values)
 change_of _ = None
 
 abbrev pub success : Sight → Content → Level → Decision
-success s r level = record { code = 1; content = carried s r level; change = change_of r.operation }
+success s r level = record { code = 1; content = carried_content s r level; change = change_of r.operation }
 
 -- ---- the decision
 
@@ -67,11 +67,11 @@ failure code content = record { code = code; content = content; change = None }
 -- by the code of the table of decision; where code 1 would need too long a message, the code is 2
 unfoldable pub decision : Algorithm → Sight → Content → Level → ℕ → Decision
 decision a s r level code =
-    if code == 1 then (if fits a r (carried s r level) then success s r level else failure 2 Empty)
+    if code == 1 then (if fits a r (carried_content s r level) then success s r level else failure 2 Empty)
     else failure code Empty
 
 unfoldable pub refused : Content → ℕ → Decision
-refused r code = failure code (if code == 302 then Referral (name.sent_prefix (named r.operation)) else Empty)
+refused r code = failure code (if code == 302 then Referral (name.sent_prefix (sent_handle r.operation)) else Empty)
 
 abbrev pub DecidesBy : Algorithm → Table → Content → Level → Option ℕ → Decision → Type 0
 DecidesBy a t r level (Some code) d = d ≡ refused r code

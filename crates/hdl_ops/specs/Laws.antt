@@ -6,9 +6,9 @@ use Rattle.hdl_rows.specs.Table.{Table}
 use Rattle.hdl_msg.specs.Message.{Content}
 use Rattle.hdl_msg.specs.declared.replies.ReplyContent.{ReplyContent}
 use Rattle.hdl_msg.specs.declared.replies.ReplyContent.TheVariants.{Referral, Empty}
-use Rattle.hdl_ops.specs.Decisions.{Level, Decision, Decides, carried}
+use Rattle.hdl_ops.specs.Decisions.{Level, Decision, Decides, carried_content}
 use Rattle.hdl_ops.specs.Replies.{fits}
-use Rattle.hdl_ops.specs.Requests.{named}
+use Rattle.hdl_ops.specs.Requests.{sent_handle}
 use Rattle.hdl_ops.specs.Sights.{sight}
 
 -- a request is decided in one way
@@ -19,8 +19,8 @@ OneDecision = (hosts : List ℕ → Bool) (a : Algorithm) (t : Table) (r : Conte
 -- listed; with 302 the prefix that was named; nothing with another
 abbrev pub told : Table → Content → Level → ℕ → ReplyContent
 told t r level code =
-    if code == 1 then carried (sight t r) r level
-    else (if code == 302 then Referral (sent_prefix (named r.operation)) else Empty)
+    if code == 1 then carried_content (sight t r) r level
+    else (if code == 302 then Referral (sent_prefix (sent_handle r.operation)) else Empty)
 
 -- a decision tells what its code says, and no more
 abbrev pub TellsByCode : Type 0

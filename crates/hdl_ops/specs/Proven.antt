@@ -19,7 +19,7 @@ use Rattle.hdl_auth.specs.Mac.{has_response_form, is_right_response}
 use Rattle.hdl_msg.specs.Message.{Content, Operation, resolution, create, delete, add, remove, modify, list}
 use Rattle.hdl_ops.specs.First.{first, or_code}
 use Rattle.hdl_ops.specs.Admission.{handle_in}
-use Rattle.hdl_ops.specs.Requests.{Response, named, resolves, creates}
+use Rattle.hdl_ops.specs.Requests.{Response, sent_handle, resolves, creates}
 use Rattle.hdl_ops.specs.Sights.{Sight, sight, asks, passes, passes_at}
 
 -- a challenge response, with the challenge's nonce and the challenged request's digest
@@ -46,7 +46,7 @@ admin_octets prefix = codes "0.na/" ++ prefix
 
 -- the handle whose administrators may do it; of a create that of the prefix, unless it would be too long for a name
 unfoldable pub target : Operation → Option (List ℕ)
-target o = if creates o then handle_in (admin_octets (name.prefix (named o))) else Some (name.canonical (named o))
+target o = if creates o then handle_in (admin_octets (name.prefix (sent_handle o))) else Some (name.canonical (sent_handle o))
 
 -- the place of the key
 abbrev pub key_of : Proof → Option Place

@@ -6,20 +6,20 @@ use Rattle.hdl_msg.specs.declared.codes.OpFlag.TheVariants.{PublicOnly, ReturnDi
 use Rattle.hdl_msg.specs.Message.{Content, Operation, resolution, create, delete, add, remove, modify, list, response, other}
 
 -- the handle that an operation names, as it was sent
-abbrev pub named : Operation → List ℕ
-named (resolution handle indexes types) = handle
-named (create handle values) = handle
-named (delete handle) = handle
-named (add handle values) = handle
-named (remove handle indexes) = handle
-named (modify handle values) = handle
-named (list handle) = handle
-named (response kind handle index answer) = []
-named (other octets) = []
+abbrev pub sent_handle : Operation → List ℕ
+sent_handle (resolution handle indexes types) = handle
+sent_handle (create handle values) = handle
+sent_handle (delete handle) = handle
+sent_handle (add handle values) = handle
+sent_handle (remove handle indexes) = handle
+sent_handle (modify handle values) = handle
+sent_handle (list handle) = handle
+sent_handle (response kind handle index answer) = []
+sent_handle (other octets) = []
 
 -- that handle in canonical form
 unfoldable pub handle_of : Content → List ℕ
-handle_of r = canonical (named r.operation)
+handle_of r = canonical (sent_handle r.operation)
 
 -- no operation that is offered, or a challenge response, which is not decided by itself
 abbrev pub is_unused : Operation → Bool

@@ -5,7 +5,7 @@ use Rattle.hdl_name.specs.Name.{prefix}
 use Rattle.hdl_value.specs.declared.value.Value.{Value}
 use Rattle.hdl_rows.specs.Table.{Table, has, values_of, names_of, value_with}
 use Rattle.hdl_msg.specs.Message.{Content, Operation, resolution}
-use Rattle.hdl_ops.specs.Requests.{named, handle_of, is_list}
+use Rattle.hdl_ops.specs.Requests.{sent_handle, handle_of, is_list}
 
 pub record Sight : Type 0 where
   pub there : Bool  -- the handle is there
@@ -16,7 +16,7 @@ unfoldable pub sight : Table → Content → Sight
 sight t r = record {
   there = has t (handle_of r);
   values = values_of t (handle_of r);
-  names = if is_list r.operation then names_of t (prefix (named r.operation)) else [];
+  names = if is_list r.operation then names_of t (prefix (sent_handle r.operation)) else [];
 }
 
 -- the value is there and passes the test

@@ -18,7 +18,7 @@ use Rattle.hdl_ops.specs.Proven as proven
 use Rattle.hdl_ops.specs.Replies.{fits}
 use Rattle.hdl_ops.specs.declared.requests.Response.{Response}
 use Rattle.hdl_ops.specs.Requests as requests
-use Rattle.hdl_ops.specs.Requests.{named}
+use Rattle.hdl_ops.specs.Requests.{sent_handle}
 use Rattle.hdl_ops.specs.Sights as sights
 
 -- the prefixes that are hosted for the owner
@@ -48,4 +48,4 @@ level_of (level.Proven p) = d.Proven (proof_of p)
 -- what comes of the tests before the table is looked at
 abbrev pub IsAdmitted : (List ℕ → Bool) → Content → Admitted → Type 0
 IsAdmitted hosted r (admitted.Refused x) = (refusal hosted r ≡ Some (response_number x.code)) × (decision_of x ≡ d.refused r (response_number x.code)) × ((a : Algorithm) → IsTrue (fits a r x.content)) × (x.change ≡ None)
-IsAdmitted hosted r (admitted.Passed name) = (refusal hosted r ≡ None) × (name ≡ named r.operation)
+IsAdmitted hosted r (admitted.Passed name) = (refusal hosted r ≡ None) × (name ≡ sent_handle r.operation)

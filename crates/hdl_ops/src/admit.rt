@@ -5,12 +5,12 @@ ghost use Rattle.std.specs.Option.{ForSome};
 ghost use Rattle.hdl_name.specs.Name.{canonical, sent_prefix};
 ghost use Rattle.hdl_name.specs.Tests.{is_handle};
 ghost use Rattle.hdl_ops.specs.Admission.{handle_in, request_algorithm};
-ghost use Rattle.hdl_ops.specs.Requests.{named};
+ghost use Rattle.hdl_ops.specs.Requests.{sent_handle};
 ghost use Rattle.hdl_ops.specs.Views.{algorithms_by, hosted_by, IsAdmitted};
 
 use crate::decision::{Decision, HashedRequest};
 use crate::owner::Owner;
-use crate::requests::{is_list, is_unused, makes_or_ends, named};
+use crate::requests::{is_list, is_unused, makes_or_ends, sent_handle};
 use crate::written::is_bad_write;
 use hdl_auth::algorithm::Algorithm;
 use hdl_limits::{NAME_MAX, Octets};
@@ -54,8 +54,8 @@ pub struct NamedRequest<'a> {
     pub asked: HashedRequest<'a>,
     /// The handle that it names, if that is a name.
     name: Option<Name>,
-    ghost handle: { option_map canonical name ≡ handle_in (named asked.request.now.operation) },
-    ghost sent: { ForSome name (λ name. name ≡ named asked.request.now.operation) },
+    ghost handle: { option_map canonical name ≡ handle_in (sent_handle asked.request.now.operation) },
+    ghost sent: { ForSome name (λ name. name ≡ sent_handle asked.request.now.operation) },
 }
 
 impl<'a> NamedRequest<'a> {
@@ -66,9 +66,9 @@ impl<'a> NamedRequest<'a> {
         owner: &Owner<'_>,
         request: &'a Request<'a>,
     ) -> Result<NamedRequest<'a>, Refused>
-        ensures asked { IfOk result (λ named. named.asked ≡ record { algorithm = request_algorithm (algorithms_by owner.now) request.now; request = request.entry }) }
+        ensures asked { IfOk result (λ it. it.asked ≡ record { algorithm = request_algorithm (algorithms_by owner.now) request.now; request = request.entry }) }
     {
-        let octets = named(request.body());
+        let octets = sent_handle(request.body());
         if !is_name(octets) {
             let algorithm = Algorithm::Sha1;
             let asked = HashedRequest { algorithm, request };
@@ -87,9 +87,9 @@ impl<'a> NamedRequest<'a> {
 
     /// Reads the name of a request whose hash function is known. Refused only for want of memory.
     pub fn read(alloc: Global, asked: HashedRequest<'a>) -> Result<NamedRequest<'a>, Refused>
-        ensures asked { IfOk result (λ named. named.asked ≡ asked.entry) }
+        ensures asked { IfOk result (λ it. it.asked ≡ asked.entry) }
     {
-        let name = read_name(alloc, named(asked.request.body()))?;
+        let name = read_name(alloc, sent_handle(asked.request.body()))?;
         Ok(NamedRequest { asked, name })
     }
 }
@@ -102,7 +102,7 @@ fn sent_prefix(alloc: Global, name: &Name) -> Result<Octets, AllocError>
     Ok(Octets::new(Vec::from_slice(alloc, name.prefix_sent())?))
 }
 
-fn failed(code: ResponseCode, content: ReplyContent) -> Admitted
+fn refusal_with(code: ResponseCode, content: ReplyContent) -> Admitted
     ensures { result ≡ Admitted.Refused (record { code = code; content = content; change = None }) }
 {
     Admitted::Refused(Decision {
@@ -120,26 +120,26 @@ pub(crate) fn admit(owner: &Owner<'_>, request: NamedRequest<'_>) -> Result<Admi
     let NamedRequest { asked, name, .. } = request;
     let body = asked.request.body();
     if is_unused(body) {
-        return Ok(failed(ResponseCode::OperationDenied, ReplyContent::Empty));
+        return Ok(refusal_with(ResponseCode::OperationDenied, ReplyContent::Empty));
     }
     let Some(name) = name else {
-        return Ok(failed(ResponseCode::InvalidHandle, ReplyContent::Empty));
+        return Ok(refusal_with(ResponseCode::InvalidHandle, ReplyContent::Empty));
     };
     if is_list(body) && !name.is_admin_handle() {
-        return Ok(failed(ResponseCode::InvalidHandle, ReplyContent::Empty));
+        return Ok(refusal_with(ResponseCode::InvalidHandle, ReplyContent::Empty));
     }
     if makes_or_ends(body) && name.is_admin_handle() {
-        return Ok(failed(ResponseCode::OperationDenied, ReplyContent::Empty));
+        return Ok(refusal_with(ResponseCode::OperationDenied, ReplyContent::Empty));
     }
     if !owner.tenants.hosts(owner.publisher, &name) {
         let Ok(prefix) = sent_prefix(owner.alloc, &name) else {
             return Err(Refused);
         };
         let referral = ReplyContent::Referral { prefix };
-        return Ok(failed(ResponseCode::ServiceReferral, referral));
+        return Ok(refusal_with(ResponseCode::ServiceReferral, referral));
     }
     if is_bad_write(body) {
-        return Ok(failed(ResponseCode::ValueInvalid, ReplyContent::Empty));
+        return Ok(refusal_with(ResponseCode::ValueInvalid, ReplyContent::Empty));
     }
     Ok(Admitted::Passed(name))
 }

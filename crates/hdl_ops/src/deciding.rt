@@ -8,7 +8,7 @@ ghost use Rattle.hdl_ops.specs.Admission.{refusal};
 ghost use Rattle.hdl_ops.specs.Decisions as decisions;
 ghost use Rattle.hdl_ops.specs.Decisions.{Decides, DecidesBy};
 ghost use Rattle.hdl_ops.specs.Replies.{fits};
-ghost use Rattle.hdl_ops.specs.Requests.{named, handle_of, is_list};
+ghost use Rattle.hdl_ops.specs.Requests.{sent_handle, handle_of, is_list};
 ghost use Rattle.hdl_ops.specs.Sights.{sight};
 ghost use Rattle.hdl_ops.specs.Tables.{CanApply};
 ghost use Rattle.hdl_ops.specs.Views.{decision_of, hosted_by, level_of, proof_of, sight_of};
@@ -53,7 +53,7 @@ fn look<R: Rows>(
     request: &Request<'_>,
     name: &Name,
 ) -> Result<Sight, Refused>
-    requires named { name.now ≡ named request.now.operation }
+    requires named { name.now ≡ sent_handle request.now.operation }
     ensures unchanged { R.content rows.new ≡ R.content rows.old }
     ensures sight { IfOk result (λ s. sight_of s ≡ sight (R.content rows.old) request.now) }
     ensures by_index { OnOk result (HaveTheirIndexes (R.content rows.old) (handle_of request.now) (sight (R.content rows.old) request.now).values) }
@@ -82,7 +82,7 @@ fn decide_for_anyone<R: Rows>(
     rows: &mut R,
     name: Name,
 ) -> Result<Decision, Refused>
-    requires named { name ≡ named asked.now.request.now.operation }
+    requires named { name ≡ sent_handle asked.now.request.now.operation }
     ensures unchanged { R.content rows.new ≡ R.content rows.old }
     ensures decided { IfOk result (λ d. DecidesBy asked.now.algorithm (R.content rows.old) asked.now.request.now decisions.Anyone None (decision_of d)) }
     ensures carried { IfOk result (λ d. IsTrue (fits asked.now.algorithm asked.now.request.now d.content)) }
@@ -103,7 +103,7 @@ fn decide_with_proof<R: Rows>(
     name: Name,
     proof: &Proof<'_>,
 ) -> Result<Decision, Refused>
-    requires named { name ≡ named asked.now.request.now.operation }
+    requires named { name ≡ sent_handle asked.now.request.now.operation }
     requires true_masks { AreTrue (R.content rows.old) masks.old }
     ensures unchanged { R.content rows.new ≡ R.content rows.old }
     ensures true_masks { AreTrue (R.content rows.new) masks.new }

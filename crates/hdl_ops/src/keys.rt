@@ -10,7 +10,7 @@ ghost use Rattle.hdl_msg.specs.Views.{operation_of};
 ghost use Rattle.hdl_msg.specs.Codes.{response_number};
 ghost use Rattle.hdl_ops.specs.Admission.{handle_in};
 ghost use Rattle.hdl_ops.specs.Proven.{admin_octets, target, key_of, MaskOf, IsCodeForKey, IsCodeForProof};
-ghost use Rattle.hdl_ops.specs.Requests.{named};
+ghost use Rattle.hdl_ops.specs.Requests.{sent_handle};
 ghost use Rattle.hdl_ops.specs.Sights as sights;
 ghost use Rattle.hdl_ops.specs.Views.{sight_of, proof_of};
 
@@ -67,7 +67,7 @@ fn mask_of<R: Rows>(
     name: &Name,
     key: &Reference,
 ) -> Result<Option<AdminMask>, Refused>
-    requires named { name.now ≡ named (operation_of body.now) }
+    requires named { name.now ≡ sent_handle (operation_of body.now) }
     requires true_masks { AreTrue (R.content rows.old) masks.old }
     ensures unchanged { R.content rows.new ≡ R.content rows.old }
     ensures true_masks { AreTrue (R.content rows.new) masks.new }
@@ -93,7 +93,7 @@ fn code_for_key<R: Rows>(
     name: &Name,
     proof: &Proof<'_>,
 ) -> Result<ResponseCode, Refused>
-    requires named { name.now ≡ named request.now.operation }
+    requires named { name.now ≡ sent_handle request.now.operation }
     requires true_masks { AreTrue (R.content rows.old) masks.old }
     ensures unchanged { R.content rows.new ≡ R.content rows.old }
     ensures true_masks { AreTrue (R.content rows.new) masks.new }
@@ -120,7 +120,7 @@ pub(crate) fn code_for_proof<R: Rows>(
     name: &Name,
     proof: &Proof<'_>,
 ) -> Result<ResponseCode, Refused>
-    requires named { name.now ≡ named request.now.operation }
+    requires named { name.now ≡ sent_handle request.now.operation }
     requires sight { sight_of sight.now ≡ sights.sight (R.content rows.old) request.now }
     requires true_masks { AreTrue (R.content rows.old) masks.old }
     ensures unchanged { R.content rows.new ≡ R.content rows.old }

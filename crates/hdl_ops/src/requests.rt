@@ -2,7 +2,7 @@
 
 ghost use Rattle.std.specs.Prelude.{◌≡◌, option_map};
 ghost use Rattle.hdl_msg.specs.Views.{operation_of};
-ghost use Rattle.hdl_ops.specs.Requests.{response_of, named, is_unused, resolves, creates, makes_or_ends, is_list, is_public_only, wants_digest};
+ghost use Rattle.hdl_ops.specs.Requests.{response_of, sent_handle, is_unused, resolves, creates, makes_or_ends, is_list, is_public_only, wants_digest};
 ghost use Rattle.hdl_ops.specs.Views.{response_view};
 
 use hdl_msg::{Body, OpFlag, Request};
@@ -48,8 +48,8 @@ pub fn response_of<'a>(body: &Body<'a>) -> Option<Response<'a>>
 }
 
 /// The handle that a body names, as it was sent.
-pub(crate) fn named<'a>(body: &Body<'a>) -> &'a [u8]
-    ensures { result.now ≡ named (operation_of body.now) }
+pub(crate) fn sent_handle<'a>(body: &Body<'a>) -> &'a [u8]
+    ensures { result.now ≡ sent_handle (operation_of body.now) }
 {
     match body {
         Body::Resolution { handle, .. } => handle,

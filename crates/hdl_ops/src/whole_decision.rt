@@ -4,9 +4,9 @@ ghost use Rattle.std.specs.Prelude.{◌≡◌, ◌&&◌, filter, if◌then◌els
 ghost use Rattle.hdl_msg.specs.Views.{operation_of, values_of};
 ghost use Rattle.hdl_msg.specs.Codes.{response_number};
 ghost use Rattle.hdl_ops.specs.Decisions as decisions;
-ghost use Rattle.hdl_ops.specs.Decisions.{may_read, carried, change_of};
+ghost use Rattle.hdl_ops.specs.Decisions.{may_read, carried_content, change_of};
 ghost use Rattle.hdl_ops.specs.Replies.{fits};
-ghost use Rattle.hdl_ops.specs.Requests.{named, resolves};
+ghost use Rattle.hdl_ops.specs.Requests.{sent_handle, resolves};
 ghost use Rattle.hdl_ops.specs.Sights.{asks};
 ghost use Rattle.hdl_ops.specs.Views.{decision_of, level_of, sight_of};
 
@@ -31,7 +31,7 @@ fn may_read(level: &Level<'_>, value: &Value) -> bool
     }
 }
 
-fn shown(body: &Body<'_>, level: &Level<'_>, mut values: Vec<Value>) -> Vec<Value>
+fn readable_values(body: &Body<'_>, level: &Level<'_>, mut values: Vec<Value>) -> Vec<Value>
     ensures { result.items ≡ filter (λ v. asks (operation_of body.now) v && may_read (level_of level.now) v) values.items }
 {
     values.retain(|value| asks(body, value) && may_read(level, value));
@@ -39,19 +39,19 @@ fn shown(body: &Body<'_>, level: &Level<'_>, mut values: Vec<Value>) -> Vec<Valu
 }
 
 /// What the reply carries with code 1, and the name of the request, unless the reply carries that.
-fn carried(
+fn carried_content(
     request: &Request<'_>,
     level: &Level<'_>,
     sight: Sight,
     name: Name,
 ) -> (ReplyContent, Option<Name>)
-    requires named { name ≡ named request.now.operation }
-    ensures content { result.0 ≡ carried (sight_of sight) request.now (level_of level.now) }
-    ensures left { result.1 ≡ (if resolves request.now.operation then None else Some (named request.now.operation)) }
+    requires named { name ≡ sent_handle request.now.operation }
+    ensures content { result.0 ≡ carried_content (sight_of sight) request.now (level_of level.now) }
+    ensures left { result.1 ≡ (if resolves request.now.operation then None else Some (sent_handle request.now.operation)) }
 {
     match request.body() {
         Body::Resolution { .. } => {
-            let values = Items::new(shown(request.body(), level, sight.values));
+            let values = Items::new(readable_values(request.body(), level, sight.values));
             let handle = Octets::new(name.into_sent());
             (ReplyContent::Values { handle, values }, None)
         }
@@ -81,7 +81,7 @@ fn change_of(
     body: &Body<'_>,
     name: Option<Name>,
 ) -> Result<Option<Change>, AllocError>
-    requires named { name ≡ (if resolves (operation_of body.now) then None else Some (named (operation_of body.now))) }
+    requires named { name ≡ (if resolves (operation_of body.now) then None else Some (sent_handle (operation_of body.now))) }
     ensures { IfOk result (λ change. change ≡ change_of (operation_of body.now)) }
 {
     let Some(name) = name else {
@@ -132,14 +132,14 @@ pub(crate) fn whole_decision(
     code: ResponseCode,
     name: Name,
 ) -> Result<Decision, Refused>
-    requires named { name ≡ named asked.now.request.now.operation }
+    requires named { name ≡ sent_handle asked.now.request.now.operation }
     ensures carried { IfOk result (λ d. IsTrue (fits asked.now.algorithm asked.now.request.now d.content)) }
     ensures decided { IfOk result (λ d. decision_of d ≡ decisions.decision asked.now.algorithm (sight_of sight) asked.now.request.now (level_of level.now) (response_number code)) }
 {
     if code != ResponseCode::Success {
         return Ok(failure(code));
     }
-    let (content, name) = carried(asked.request, level, sight, name);
+    let (content, name) = carried_content(asked.request, level, sight, name);
     let Some(content) = fitting(asked, content) else {
         return Ok(failure(ResponseCode::Error));
     };

@@ -135,10 +135,10 @@ fn door_of(
 fn start<R: Threads + std::rt::Clock + Copy + Send + Drop + 'static>(
     rt: &R,
     alloc: Global,
-    far: WorkerSide,
+    side: WorkerSide,
     door: Paired<MemoryDoor>,
 ) -> Result<JoinHandle<Paired<MemoryDoor>>, AllocError> {
-    let WorkerSide { inlet, outcomes } = far;
+    let WorkerSide { inlet, outcomes } = side;
     let mut clock = Sleeping {
         rt: *rt,
         left: Arc::try_clone(&door.left)?,
@@ -174,13 +174,13 @@ fn start<R: Threads + std::rt::Clock + Copy + Send + Drop + 'static>(
 fn start_both<R: Threads + std::rt::Clock + Copy + Send + Drop + 'static>(
     rt: &R,
     alloc: Global,
-    far: Vec<WorkerSide>,
+    sides: Vec<WorkerSide>,
     left: &Count,
 ) -> Result<Vec<JoinHandle<Paired<MemoryDoor>>>, Fail> {
     let mut written = Arc::new(alloc, AtomicU64::new(0))?;
     let mut others = Arc::new(alloc, AtomicU64::new(0))?;
     let mut workers = Vec::new(alloc);
-    for side in far {
+    for side in sides {
         let door = door_of(alloc, &written, &others, left)?;
         workers.push(start(rt, alloc, side, door)?)?;
         std::mem::swap(&mut written, &mut others);
@@ -218,8 +218,8 @@ fn serve_both<R: std::rt::Clock + Copy + Drop>(
 fn two_workers(rt: HostRuntime) -> Result<(), Fail> {
     let alloc = rt.alloc();
     let left = Arc::new(alloc, AtomicU64::new(0))?;
-    let (ends, far) = lanes_of(alloc, 2, 16)?;
-    let workers = start_both(&rt, alloc, far, &left)?;
+    let (ends, sides) = lanes_of(alloc, 2, 16)?;
+    let workers = start_both(&rt, alloc, sides, &left)?;
     serve_both(&rt, alloc, ends, &left)?;
     for worker in workers {
         let paired = worker.join(&rt);

@@ -6,7 +6,7 @@
 //!
 //! The script, the printed lines, the fault lines and the exit statuses are those of docs/PROTOCOL.md, "The tenants text and
 //! scripts". All lines are made before the first is written, so a fault other than that of a device prints nothing.
-//! [`replay`] does all of it over any empty table, a reader and two writers, and knows neither a command line nor a file. [`told_on`] is the part
+//! [`replay`] does all of it over any empty table, a reader and two writers, and knows neither a command line nor a file. [`lines_of_resumed`] is the part
 //! between text and lines, over a table that is there already.
 //!
 //! It stands on `hdl_core`, `hdl_tenants` and the contract of `hdl_rows`.
@@ -19,5 +19,5 @@ mod script;
 
 pub use fault::Fault;
 pub use input::{INPUT_LIMIT, read_input};
-pub use replaying::{line_of, put_all, replay, replayed, tenants_of, told_on};
+pub use replaying::{line_of, lines_of_resumed, put_all, replay, tenants_of, try_replay};
 pub use script::{Parts, events_of, parts_of};

@@ -71,7 +71,7 @@ pub fn tenants_of(alloc: Global, text: &str) -> Result<Tenants, Fault> {
 }
 
 /// The outcomes of the events.
-fn served<R: Rows + Drop>(
+fn run_events<R: Rows + Drop>(
     service: &mut Service<R>,
     events: Vec<Event>,
 ) -> Result<Vec<Outcome>, Fault> {
@@ -91,11 +91,11 @@ fn outcomes_of<R: Rows + Drop>(
     requires empty { R.content rows ≡ no_rows }
 {
     let mut service = Service::open(alloc, tenants, rows)?;
-    served(&mut service, events)
+    run_events(&mut service, events)
 }
 
 /// The lines of the events' outcomes, over an empty table.
-fn told<R: Rows + Drop>(
+fn lines_of_run<R: Rows + Drop>(
     alloc: Global,
     rows: R,
     tenants: Tenants,
@@ -109,7 +109,7 @@ fn told<R: Rows + Drop>(
 }
 
 /// The lines of the events' outcomes, over a table that is there already, and the table after them.
-pub fn told_on<R: Rows + Drop>(
+pub fn lines_of_resumed<R: Rows + Drop>(
     alloc: Global,
     rows: R,
     tenants: Tenants,
@@ -117,13 +117,13 @@ pub fn told_on<R: Rows + Drop>(
 ) -> Result<(String, R), Fault> {
     let lanes = lanes_of(alloc, events.as_slice())?;
     let mut service = Service::resume(alloc, tenants, rows)?;
-    let outcomes = served(&mut service, events)?;
+    let outcomes = run_events(&mut service, events)?;
     let text = lines_of(alloc, lanes.as_slice(), outcomes.as_slice())?;
     Ok((text, service.into_rows()))
 }
 
 /// What a script prints, over an empty table.
-fn printed<R: Rows + Drop>(alloc: Global, rows: R, text: &[u8]) -> Result<String, Fault>
+fn output_of<R: Rows + Drop>(alloc: Global, rows: R, text: &[u8]) -> Result<String, Fault>
     requires empty { R.content rows ≡ no_rows }
 {
     let Ok(text) = str::from_utf8(text) else {
@@ -132,12 +132,12 @@ fn printed<R: Rows + Drop>(alloc: Global, rows: R, text: &[u8]) -> Result<String
     let parts = parts_of(text);
     let tenants = tenants_of(alloc, parts.tenants)?;
     let events = events_of(alloc, parts.script, parts.run_line)?;
-    told(alloc, rows, tenants, events)
+    lines_of_run(alloc, rows, tenants, events)
 }
 
 /// Runs the script on the input over an empty table, and writes the outcomes to the output. After any fault but that of a
 /// device nothing is written.
-pub fn replayed<R: Rows + Drop, I: Read, O: Write>(
+pub fn try_replay<R: Rows + Drop, I: Read, O: Write>(
     alloc: Global,
     rows: R,
     input: &mut I,
@@ -147,11 +147,11 @@ pub fn replayed<R: Rows + Drop, I: Read, O: Write>(
     ensures silent { IfErr result (λ e. e ≢ Fault.Device → Keeps (O.contents output.old) (O.contents output.new)) }
 {
     let text = read_input(alloc, input)?;
-    let lines = printed(alloc, rows, text.as_slice())?;
+    let lines = output_of(alloc, rows, text.as_slice())?;
     put_all(output, lines.as_bytes())
 }
 
-/// Runs the script as [`replayed`] does, and writes a fault line to the faults.
+/// Runs the script as [`try_replay`] does, and writes a fault line to the faults.
 /// Answers the exit status. A fault line that can't be written changes no status.
 pub fn replay<R: Rows + Drop, I: Read, O: Write, F: Write>(
     alloc: Global,
@@ -162,7 +162,7 @@ pub fn replay<R: Rows + Drop, I: Read, O: Write, F: Write>(
 ) -> u8
     requires empty { R.content rows ≡ no_rows }
 {
-    match replayed(alloc, rows, input, output) {
+    match try_replay(alloc, rows, input, output) {
         Ok(()) => 0,
         Err(fault) => {
             let _ = writeln!(faults, "{fault}");

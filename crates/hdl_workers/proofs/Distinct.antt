@@ -13,9 +13,9 @@ distinct_more lanes y n is distinct below = (
   All-push (λ (e : LaneEnds). e.lane < n + 1) lanes y (λ k d h. let under = below k d h in omega (arith, under)) (omega (arith, is)),
 )
 
-pub lanes_more : (first n : ℕ) (ends : List LaneEnds) (far : List WorkerSide) (e : LaneEnds) (f : WorkerSide) → AreLanes first ends far → length ends + first ≡ n → e.lane ≡ n → AreSides e f
-    → AreLanes first (ends ++ e ∷ []) (far ++ f ∷ [])
+pub lanes_more : (first n : ℕ) (ends : List LaneEnds) (sides : List WorkerSide) (e : LaneEnds) (f : WorkerSide) → AreLanes first ends sides → length ends + first ≡ n → e.lane ≡ n → AreSides e f
+    → AreLanes first (ends ++ e ∷ []) (sides ++ f ∷ [])
 lanes_more first n [] [] e f lanes many is sides = (omega (arith, many, is), sides, tt)
-lanes_more first n [] (g ∷ far) e f lanes many is sides = elim lanes [ ]
+lanes_more first n [] (g ∷ sides) e f lanes many is sides = elim lanes [ ]
 lanes_more first n (d ∷ ends) [] e f lanes many is sides = elim lanes [ ]
-lanes_more first n (d ∷ ends) (g ∷ far) e f lanes many is sides = (lanes.0, lanes.1, lanes_more (first + 1) n ends far e f lanes.2 (omega (arith, many)) is sides)
+lanes_more first n (d ∷ ends) (g ∷ sides) e f lanes many is sides = (lanes.0, lanes.1, lanes_more (first + 1) n ends sides e f lanes.2 (omega (arith, many)) is sides)

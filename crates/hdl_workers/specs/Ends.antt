@@ -11,14 +11,14 @@ AreDistinct lanes = AllPairs (λ a b. a.lane ≢ b.lane) lanes
 
 -- the service's and the worker's side of one lane, of which the service took nothing and put nothing
 abbrev pub AreSides : LaneEnds → WorkerSide → Type 0
-AreSides ends far = AreEnds far.inlet ends.items × AreEnds ends.outcomes far.outcomes × (taken_from ends.items ≡ []) × (put_into ends.outcomes ≡ [])
+AreSides ends sides = AreEnds sides.inlet ends.items × AreEnds ends.outcomes sides.outcomes × (taken_from ends.items ≡ []) × (put_into ends.outcomes ≡ [])
 
 -- as many of the one as of the other, side by side, and numbered from the first number on
 abbrev pub AreLanes : ℕ → List LaneEnds → List WorkerSide → Type 0
 AreLanes first [] [] = ⊤
-AreLanes first [] (f ∷ far) = ⊥
+AreLanes first [] (f ∷ sides) = ⊥
 AreLanes first (e ∷ ends) [] = ⊥
-AreLanes first (e ∷ ends) (f ∷ far) = (e.lane ≡ first) × AreSides e f × AreLanes (first + 1) ends far
+AreLanes first (e ∷ ends) (f ∷ sides) = (e.lane ≡ first) × AreSides e f × AreLanes (first + 1) ends sides
 
 -- the worker's and the service's ends of one lane
 abbrev pub Meet : WorkerEnd → LaneEnds → Type 0

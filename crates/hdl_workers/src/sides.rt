@@ -18,7 +18,7 @@ pub fn lanes_of(
     ensures count { IfOk result (λ sides. length sides.0.items ≡ count) }
 {
     let mut ends = Vec::new(alloc);
-    let mut far = Vec::new(alloc);
+    let mut sides = Vec::new(alloc);
     for number in 0..count {
         let (inlet, items) = lane(alloc, capacity)?;
         let (given, outcomes) = lane(alloc, capacity)?;
@@ -27,7 +27,7 @@ pub fn lanes_of(
             items,
             outcomes: given,
         })?;
-        far.push(WorkerSide { inlet, outcomes })?;
+        sides.push(WorkerSide { inlet, outcomes })?;
     }
-    Ok((ends, far))
+    Ok((ends, sides))
 }

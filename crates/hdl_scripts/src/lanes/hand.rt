@@ -28,9 +28,9 @@ struct Lanes {
     ghost distinct: { AreDistinct ends.items },
 }
 
-fn sides_of(alloc: Global, far: Vec<WorkerSide>) -> Result<Vec<Side>, AllocError> {
+fn sides_of(alloc: Global, sides: Vec<WorkerSide>) -> Result<Vec<Side>, AllocError> {
     let mut sides = Vec::new(alloc);
-    for one in far {
+    for one in sides {
         let WorkerSide { inlet, outcomes } = one;
         sides.push(Side { inlet, outcomes })?;
     }
@@ -39,8 +39,8 @@ fn sides_of(alloc: Global, far: Vec<WorkerSide>) -> Result<Vec<Side>, AllocError
 
 /// So many lanes, whose rings have room for so many items.
 fn both_sides(alloc: Global, count: u16, capacity: usize) -> Result<Lanes, AllocError> {
-    let (ends, far) = lanes_of(alloc, count, capacity)?;
-    let sides = sides_of(alloc, far)?;
+    let (ends, sides) = lanes_of(alloc, count, capacity)?;
+    let sides = sides_of(alloc, sides)?;
     Ok(Lanes { alloc, ends, sides })
 }
 
