@@ -23,7 +23,7 @@ use Rattle.hdl_laws.specs.Lanes.{LaneState, fresh, with_partials}
 use Rattle.hdl_laws.specs.Tasks as tasks
 use Rattle.hdl_laws.specs.Tasks.{Received, Task, Ignore, Malformed, Unknown, Late, Ask, Redeem, is_late, redeemed, redeem_task, IsReading, IsResponseTask, IsRequestTask, IsContentTask, IsMessageTask, IsWholeTask}
 use Rattle.hdl_laws.specs.Effects.{Effect, answer_effect, challenge_effect, ask_effect, Does}
-use Rattle.hdl_core.specs.declared.received.Origin.{Origin}
+use Rattle.hdl_core.specs.declared.origin.Origin.{Origin}
 use Rattle.hdl_core.specs.Held.{Held, held_at, state_at, with_state}
 use Rattle.hdl_core.specs.Serving.{received_as, message_as, HearsAt, AssemblesAt}
 use Rattle.hdl_core.proofs.HeldLanes as held_lanes

@@ -20,7 +20,7 @@ use Rattle.hdl_events.specs.declared.Outcome.TheVariants.{Reply}
 use Rattle.hdl_laws.specs.Lanes.{LaneState}
 use Rattle.hdl_laws.specs.Tasks.{Task, Malformed, Unknown, Late, Ask, Redeem, is_late, redeemed, redeem_task, IsResponseTask, IsRequestTask, IsMessageTask}
 use Rattle.hdl_laws.specs.Effects.{answer_octets, challenge_octets, Effect, pending, answer_effect, challenge_effect, Does}
-use Rattle.hdl_core.specs.declared.received.Origin.{Origin}
+use Rattle.hdl_core.specs.declared.origin.Origin.{Origin}
 use Rattle.hdl_core.specs.declared.hearing.Heard.{Heard}
 use Rattle.hdl_core.specs.declared.hearing.Heard.TheVariants.{Answered, Challenged}
 use Rattle.hdl_core.specs.Held.{Held, state_at, with_state}

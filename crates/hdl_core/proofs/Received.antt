@@ -19,7 +19,7 @@ use Rattle.hdl_laws.specs.Tasks as tasks
 use Rattle.hdl_laws.specs.Tasks.{Received, Task, Ignore, Break, IsFrameTask, IsOctetsTask}
 use Rattle.hdl_laws.specs.Effects.{Effect}
 use Rattle.hdl_laws.specs.Steps.{arrived}
-use Rattle.hdl_core.specs.declared.received.Origin.{Origin}
+use Rattle.hdl_core.specs.declared.origin.Origin.{Origin}
 use Rattle.hdl_core.specs.Held.{Held, state_at, with_state}
 use Rattle.std.specs.Prelude.{IfOk, IfSome, OnErr}
 use Rattle.std.specs.Option.{option_map_or}

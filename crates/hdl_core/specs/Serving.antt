@@ -27,8 +27,8 @@ use Rattle.hdl_laws.specs.Tasks.{Task, IsReading, redeemed, redeem_task, IsRespo
 use Rattle.hdl_laws.specs.Effects.{answer_octets, challenge_octets, Effect, Does}
 use Rattle.hdl_laws.specs.Steps.{arrived, moment_of}
 use Rattle.hdl_laws.specs.Lanes.{LaneState}
-use Rattle.hdl_core.specs.declared.received.Origin.{Origin}
-use Rattle.hdl_core.specs.declared.received.Received as code
+use Rattle.hdl_core.specs.declared.origin.Origin.{Origin}
+use Rattle.hdl_core.specs.declared.origin.Received as code
 use Rattle.hdl_core.specs.declared.hearing.Heard.{Heard}
 use Rattle.hdl_core.specs.declared.hearing.Heard.TheVariants.{Answered, Challenged}
 use Rattle.hdl_core.specs.Held.{Held, state_at, with_state}

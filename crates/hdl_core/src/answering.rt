@@ -10,7 +10,7 @@ ghost use Rattle.hdl_ops.specs.Tables.{apply_if, CanApply};
 ghost use Rattle.hdl_laws.specs.Effects.{answer_octets};
 ghost use Rattle.hdl_core.specs.Serving.{Announces};
 
-use crate::received::Origin;
+use crate::origin::Origin;
 use hdl_frame::Envelope;
 use hdl_limits::Octets;
 use hdl_msg::{ReplyContent, ResponseCode, refuse};

@@ -11,7 +11,7 @@ ghost use Rattle.hdl_core.specs.Serving.{challenge_of_request, message_as, sent_
 
 use crate::answering::{answer, code_reply, malformed};
 use crate::lanes::Lanes;
-use crate::received::Origin;
+use crate::origin::Origin;
 use hdl_auth::algorithm::{Algorithm, Digest};
 use hdl_frame::Envelope;
 use hdl_limits::{CHALLENGE_LIFE, Octets};

@@ -16,7 +16,7 @@ mod hearing;
 mod lane;
 mod lanes;
 mod opening;
-mod received;
+mod origin;
 mod service;
 mod serving;
 

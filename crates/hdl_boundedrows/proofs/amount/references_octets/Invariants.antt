@@ -3,4 +3,4 @@ use Rattle.hdl_boundedrows.specs.Amount.{reference_octets, capped}
 use Rattle.hdl_boundedrows.proofs.amount.references_octets.Given as goal
 
 abbrev pub invariant-loop-r : goal.invariant-loop-r
-invariant-loop-r l = l.sum ≡ capped (sum_by reference_octets (take l.r-index l.references))
+invariant-loop-r l = l.sum ≡ capped (sum_by reference_octets (take l.r-index l.refs))

@@ -3,4 +3,4 @@ use Rattle.hdl_cachedrows.specs.Cost.{reference_cost, capped}
 use Rattle.hdl_cachedrows.proofs.cost.references_cost.Given as goal
 
 abbrev pub invariant-loop-r : goal.invariant-loop-r
-invariant-loop-r l = l.sum ≡ capped (sum_by reference_cost (take l.r-index l.references))
+invariant-loop-r l = l.sum ≡ capped (sum_by reference_cost (take l.r-index l.refs))

@@ -4,7 +4,7 @@ use Rattle.hdl_frame.specs.Splitting.{IsFrameOf}
 use Rattle.hdl_msg.specs.Reply.{IsReplyFrame}
 use Rattle.hdl_msg.proofs.ReplyReadings.{short_reply_read}
 use Rattle.hdl_events.specs.declared.Outcome.TheVariants.{Busy}
-use Rattle.hdl_core.specs.declared.received.Origin.{Origin}
+use Rattle.hdl_core.specs.declared.origin.Origin.{Origin}
 use Rattle.std.specs.Prelude.{IfOk}
 use Rattle.hdl_ops.specs.Views.{algorithms_by, hosted_by}
 use Rattle.hdl_core.specs.Serving.{received_of, AssemblesAt}
