@@ -159,16 +159,9 @@ def single(folder, file, copied, ports):
 
 
 def main():
-    passed, failed = 0, 0
     seconds = float(sys.argv[1]) if len(sys.argv) > 1 else SECONDS
     with tempfile.TemporaryDirectory() as folder:
-        for case, holds in under_changes(folder, seconds):
-            passed += holds
-            failed += not holds
-            if not holds:
-                print("%s: not as it should be" % case)
-    print("%d passed, %d failed" % (passed, failed))
-    sys.exit(1 if failed else 0)
+        return servers.tally(under_changes(folder, seconds))
 
 
-main()
+sys.exit(main())

@@ -6,6 +6,7 @@ gives its rows alone, with which it answers the same. Then `--publisher`: of thr
 and what these lists lead to, and a server that opens with it answers it as the old one does, changes by each administrator too. Then what no text says, and what is refused, in words. Its last line is 'N passed, M failed', a case counting one."""
 
 import contextlib
+import itertools
 import os
 import struct
 import subprocess
@@ -273,16 +274,8 @@ def refused(folder):
 
 
 def main():
-    passed, failed = 0, 0
     with tempfile.TemporaryDirectory() as folder:
-        for part in (exported(folder), moved(folder), refused(folder)):
-            for case, holds in part:
-                passed += holds
-                failed += not holds
-                if not holds:
-                    print("%s: not as it should be" % case)
-    print("%d passed, %d failed" % (passed, failed))
-    sys.exit(1 if failed else 0)
+        return servers.tally(itertools.chain(exported(folder), moved(folder), refused(folder)))
 
 
-main()
+sys.exit(main())

@@ -124,14 +124,8 @@ def trials(folder):
 
 
 def main():
-    passed = failed = 0
     with tempfile.TemporaryDirectory() as folder:
-        for what, is_well in trials(folder):
-            passed, failed = passed + is_well, failed + (not is_well)
-            if not is_well:
-                print("front: %s: failed" % what)
-    print("%d passed, %d failed" % (passed, failed))
-    return 1 if failed else 0
+        return servers.tally(trials(folder))
 
 
 if __name__ == "__main__":

@@ -17,7 +17,7 @@ import release
 import spent
 
 ROOT = os.path.dirname(os.path.dirname(os.path.abspath(__file__)))
-PAGES = ("tools/quotes.py", "tools/map.py", "tools/cites.py", "tools/believed.py")
+PAGES = ("tools/quotes.py", "tools/map.py", "tools/cites.py", "tools/believed.py", "tools/heads.py")
 # All but the first run programs that ./test proved and built.
 PARTS = (
     ["./test"],

@@ -3,6 +3,7 @@ what is resolved afterwards: whole files, each fault of a row told with its line
 a server that goes away. Its last line is 'N passed, M failed', a case counting one."""
 
 import contextlib
+import itertools
 import os
 import re
 import socket
@@ -264,18 +265,10 @@ def closed():
 
 
 def main():
-    passed, failed = 0, 0
     with contextlib.ExitStack() as stack:
         (port,) = stack.enter_context(servers.serving(tenants, 1))
         (nobody,) = servers.free_ports(1)
-        for part in (whole(port), again(port), faults(port), unsent(nobody), keys(port), killed(port), closed()):
-            for case, holds in part:
-                passed += holds
-                failed += not holds
-                if not holds:
-                    print("%s: not as it should be" % case)
-    print("%d passed, %d failed" % (passed, failed))
-    return 1 if failed else 0
+        return servers.tally(itertools.chain(whole(port), again(port), faults(port), unsent(nobody), keys(port), killed(port), closed()))
 
 
 if __name__ == "__main__":

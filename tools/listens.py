@@ -167,14 +167,7 @@ CASES = (lines_and_end, loopback_alone, all_are_served, idle_costs_little, port_
 
 
 def main():
-    passed = 0
-    for case in CASES:
-        good = bool(case())
-        passed += good
-        if not good:
-            print("%s: it isn't so that %s" % (case.__name__, case.__doc__))
-    print("%d passed, %d failed" % (passed, len(CASES) - passed))
-    return 0 if passed == len(CASES) else 1
+    return servers.tally((("%s: it isn't so that %s" % (case.__name__, case.__doc__), case()) for case in CASES), "failed")
 
 
 sys.exit(main())

@@ -154,18 +154,11 @@ def compared(parts, ports, work):
 
 
 def main():
-    passed, failed = 0, 0
     folder = tempfile.mkdtemp()
     try:
-        for case, holds in day(folder):
-            passed += bool(holds)
-            failed += not holds
-            if not holds:
-                print("%s: not as it should be" % case)
+        return servers.tally(day(folder))
     finally:
         shutil.rmtree(folder)
-    print("%d passed, %d failed" % (passed, failed))
-    sys.exit(1 if failed else 0)
 
 
-main()
+sys.exit(main())

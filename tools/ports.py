@@ -240,15 +240,8 @@ CASES = (not_frames, many_clients, pieces_are_kept, pieces_of_two, pieces_are_di
 
 
 def main():
-    passed = 0
     with servers.serving(tenants, 1) as ports:
-        for case in CASES:
-            good = case(ports[0])
-            passed += good
-            if not good:
-                print("%s: another reply than should be, or none" % case.__name__)
-    print("%d passed, %d failed" % (passed, len(CASES) - passed))
-    return 0 if passed == len(CASES) else 1
+        return servers.tally(((case.__name__, case(ports[0])) for case in CASES), "another reply than should be, or none")
 
 
 sys.exit(main())

@@ -360,12 +360,7 @@ def main():
     cases = []
     real(cases)
     broken(cases)
-    for name, good in cases:
-        if not good:
-            print("%s: another answer than the one that should be" % name)
-    failed = sum(not good for _, good in cases)
-    print("%d passed, %d failed" % (len(cases) - failed, failed))
-    return 1 if failed else 0
+    return servers.tally(cases, "another answer than the one that should be")
 
 
 sys.exit(main())

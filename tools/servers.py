@@ -15,6 +15,17 @@ HANDLED = os.environ.get("HANDLED", repository.program("handled"))
 TRIES = 5
 
 
+def tally(cases, words="not as it should be"):
+    """Says of each case that doesn't hold what it is, and then how many do; answers the exit status. A case is a name and whether it holds."""
+    passed = failed = 0
+    for name, holds in cases:
+        passed, failed = passed + bool(holds), failed + (not holds)
+        if not holds:
+            print("%s: %s" % (name, words))
+    print("%d passed, %d failed" % (passed, failed))
+    return 1 if failed else 0
+
+
 def free_ports(count):
     """Ports that are free, as far as is known."""
     listeners = [socket.create_server(("127.0.0.1", 0)) for _ in range(count)]
