@@ -133,7 +133,7 @@ impl Trail {
     }
 
     /// A frame came from whoever has the number.
-    pub fn came(&mut self, number: u16, frame: &Frame<'_>)
+    pub(crate) fn came(&mut self, number: u16, frame: &Frame<'_>)
         requires room { length self.old.under_way.items < UNDER_WAY_MAX }
         ensures followed { followed self.new ≡ followed self.old }
         ensures under_way { self.new.under_way.items ≡ self.old.under_way.items ++ exchange_of number frame.now.envelope frame.now.bytes.now ∷ [] }
