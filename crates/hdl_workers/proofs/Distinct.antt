@@ -15,7 +15,7 @@ distinct_more lanes y n is distinct below = (
 
 pub lanes_more : (first n : ℕ) (ends : List LaneEnds) (sides : List WorkerSide) (e : LaneEnds) (f : WorkerSide) → AreLanes first ends sides → length ends + first ≡ n → e.lane ≡ n → AreSides e f
     → AreLanes first (ends ++ e ∷ []) (sides ++ f ∷ [])
-lanes_more first n [] [] e f lanes many is sides = (omega (arith, many, is), sides, tt)
-lanes_more first n [] (g ∷ sides) e f lanes many is sides = elim lanes [ ]
-lanes_more first n (d ∷ ends) [] e f lanes many is sides = elim lanes [ ]
-lanes_more first n (d ∷ ends) (g ∷ sides) e f lanes many is sides = (lanes.0, lanes.1, lanes_more (first + 1) n ends sides e f lanes.2 (omega (arith, many)) is sides)
+lanes_more first n [] [] e f lanes many is are = (omega (arith, many, is), are, tt)
+lanes_more first n [] (g ∷ sides) e f lanes many is are = elim lanes [ ]
+lanes_more first n (d ∷ ends) [] e f lanes many is are = elim lanes [ ]
+lanes_more first n (d ∷ ends) (g ∷ sides) e f lanes many is are = (lanes.0, lanes.1, lanes_more (first + 1) n ends sides e f lanes.2 (omega (arith, many)) is are)

@@ -11,7 +11,7 @@ AreDistinct lanes = AllPairs (λ a b. a.lane ≢ b.lane) lanes
 
 -- the service's and the worker's side of one lane, of which the service took nothing and put nothing
 abbrev pub AreSides : LaneEnds → WorkerSide → Type 0
-AreSides ends sides = AreEnds sides.inlet ends.items × AreEnds ends.outcomes sides.outcomes × (taken_from ends.items ≡ []) × (put_into ends.outcomes ≡ [])
+AreSides ends side = AreEnds side.inlet ends.items × AreEnds ends.outcomes side.outcomes × (taken_from ends.items ≡ []) × (put_into ends.outcomes ≡ [])
 
 -- as many of the one as of the other, side by side, and numbered from the first number on
 abbrev pub AreLanes : ℕ → List LaneEnds → List WorkerSide → Type 0
