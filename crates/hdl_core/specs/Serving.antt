@@ -6,7 +6,8 @@ use Rattle.hdl_frame.specs.declared.envelope.Envelope.{Envelope}
 use Rattle.hdl_frame.specs.Envelope.{envelope_at}
 use Rattle.hdl_frame.specs.Frames.{IsFrame}
 use Rattle.hdl_msg.specs.declared.replies.ReplyContent.{ReplyContent}
-use Rattle.hdl_msg.specs.Codes.{IsNumberOf}
+use Rattle.hdl_msg.specs.Codes.{IsNumberOf, response_number}
+use Rattle.hdl_msg.specs.declared.codes.ResponseCode.TheVariants.{ServerBusy, AuthenticationNeeded}
 use Rattle.hdl_msg.specs.Message.{Content, SpellsRequest, code_of}
 use Rattle.hdl_msg.specs.Reply.{short_reply, reply_parts, IsAnnounced}
 use Rattle.hdl_pool.specs.Partial.{piece_of}
@@ -65,9 +66,9 @@ challenge_of_request a m next r = Challenged (challenge_octets a next m.envelope
 -- a request of this algorithm is decided for anyone: it is answered, or challenged under the lane's next number
 abbrev pub IsAsked : (List ℕ → Bool) → Algorithm → Table → Origin → ℕ → Content → Heard → Table → Type 0
 IsAsked hosts a t m next r (Answered octets) t' =
-    (d : Decision) × Decides hosts a t r Anyone d × ((d.code == 402) ≡ false) × (octets ≡ answer_octets a m.envelope r d.code d.content) × (t' ≡ apply_if t m.moment d.change)
+    (d : Decision) × Decides hosts a t r Anyone d × ((d.code == response_number AuthenticationNeeded) ≡ false) × (octets ≡ answer_octets a m.envelope r d.code d.content) × (t' ≡ apply_if t m.moment d.change)
 IsAsked hosts a t m next r (Challenged octets digest) t' =
-    (d : Decision) × Decides hosts a t r Anyone d × ((d.code == 402) ≡ true) × (octets ≡ challenge_octets a next m.envelope r m.nonce) × (digest ≡ digest_of a r) × (t' ≡ t)
+    (d : Decision) × Decides hosts a t r Anyone d × ((d.code == response_number AuthenticationNeeded) ≡ true) × (octets ≡ challenge_octets a next m.envelope r m.nonce) × (digest ≡ digest_of a r) × (t' ≡ t)
 
 -- the task has this reply, and leaves the lane and the table so
 abbrev pub Replies : (List ℕ → Bool) → (List ℕ → Algorithm) → Table → ℕ → Task → List ℕ → LaneState → Table → Type 0
@@ -100,7 +101,7 @@ HearsAt hosts algorithms t lanes number m octets lanes' t' =
 abbrev pub outcome_of : Envelope → Result (Option (List ℕ)) Refused → Outcome
 outcome_of e (Ok (Some octets)) = Reply octets
 outcome_of e (Ok None) = Silent
-outcome_of e (Err refused) = Busy (short_reply 3 e)
+outcome_of e (Err refused) = Busy (short_reply (response_number ServerBusy) e)
 
 -- a piece that came on an open lane has this reply, or none yet
 abbrev pub AssemblesAt : (List ℕ → Bool) → (List ℕ → Algorithm) → Table → List Held → ℕ → Received → Option (List ℕ) → List Held → Table → Type 0
@@ -113,7 +114,7 @@ AssemblesAt hosts algorithms t lanes number x reply lanes' t' =
 abbrev pub IsReceived : (List ℕ → Bool) → (List ℕ → Algorithm) → Table → LaneState → Received → Outcome → LaneState → Table → Type 0
 IsReceived hosts algorithms t s x o s' t' =
     ((eff : Effect) × (k : Task) × IsOctetsTask s x k × Does hosts algorithms t k eff × (o ≡ eff.outcome) × (s' ≡ eff.state) × (t' ≡ apply_if t x.moment eff.change))
-    ⊎ (IsFrame x.bytes × (o ≡ Busy (short_reply 3 (envelope_at x.bytes))) × (s' ≡ s) × (t' ≡ t))
+    ⊎ (IsFrame x.bytes × (o ≡ Busy (short_reply (response_number ServerBusy) (envelope_at x.bytes))) × (s' ≡ s) × (t' ≡ t))
 
 abbrev pub ReceivesAt : (List ℕ → Bool) → (List ℕ → Algorithm) → Table → List Held → ℕ → Received → Outcome → List Held → Table → Type 0
 ReceivesAt hosts algorithms t lanes number x o lanes' t' =
@@ -130,7 +131,7 @@ pub record IsTurnedDown (t : Table) (s : LaneState) (what : Happening) (o : Outc
   pub frame_event : what ≡ arrived received
   pub frame : IsFrame received.bytes
   pub is_open : s.is_open ≡ true
-  pub outcome : o ≡ Busy (short_reply 3 (envelope_at received.bytes))
+  pub outcome : o ≡ Busy (short_reply (response_number ServerBusy) (envelope_at received.bytes))
   pub lane_stays : s' ≡ s
   pub table_stays : t' ≡ t
 

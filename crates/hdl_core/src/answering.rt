@@ -86,7 +86,7 @@ pub(crate) fn code_reply(
 
 /// The short reply to a message that isn't in the grammar.
 pub(crate) fn malformed(alloc: Global, envelope: &Envelope) -> Result<Octets, Refused>
-    ensures octets { IfOk result (λ octets. octets ≡ short_reply 4 envelope.now) }
+    ensures octets { IfOk result (λ octets. octets ≡ short_reply (response_number ResponseCode.ProtocolError) envelope.now) }
     ensures read { IfOk result (λ octets. IsReplyFrame octets) }
 {
     let octets = Vec::from_slice(alloc, &refuse(envelope))?;

@@ -44,16 +44,13 @@ fn challenge(
         session: next,
         ..origin.envelope
     };
-    let Ok(sent) = render_challenge(alloc, asked, &envelope, &origin.nonce) else {
-        return Err(Refused);
-    };
-    let (octets, digest) = sent;
+    let (octets, digest) = render_challenge(alloc, asked, &envelope, &origin.nonce)?;
     Ok(Heard::Challenged(Octets::new(octets), digest))
 }
 
 /// Whether the decision is that a key has to be proved.
 fn is_challenged(decision: &Decision) -> bool
-    ensures { result ≡ (response_number decision.now.code == 402) }
+    ensures { result ≡ (response_number decision.now.code == response_number ResponseCode.AuthenticationNeeded) }
 {
     decision.code == ResponseCode::AuthenticationNeeded
 }

@@ -4,6 +4,8 @@ use Rattle.std.specs.List.{flat_map}
 use Rattle.hdl_frame.specs.declared.envelope.FrameFault.{FrameFault}
 use Rattle.hdl_frame.specs.declared.envelope.FrameFault.TheVariants.{Version, Flags, TooLong, Memory}
 use Rattle.hdl_frame.specs.Frames.{IsFrame, fault_at}
+use Rattle.hdl_msg.specs.Codes.{response_number}
+use Rattle.hdl_msg.specs.declared.codes.ResponseCode.TheVariants.{ProtocolError}
 use Rattle.hdl_msg.specs.Reply.{short_reply}
 
 -- what was read and not handed out, the fault that was told of it, and what is owed: said and not written
@@ -32,11 +34,11 @@ Takes t (is_observed fault) u = (fault_at t.rest ≡ Some fault) × (u ≡ recor
 Takes t (says octets) u = u ≡ record { rest = t.rest; fault = t.fault; owed = t.owed ++ octets }
 Takes t (writes octets) u = (t.owed ≡ octets ++ u.owed) × (u.rest ≡ t.rest) × (u.fault ≡ t.fault)
 
--- what is said of a faulty envelope: code 4, under its numbers
+-- what is said of a faulty envelope: ProtocolError, under its numbers
 abbrev pub refusal_of : FrameFault → List ℕ
-refusal_of (Version e) = short_reply 4 e
-refusal_of (Flags e) = short_reply 4 e
-refusal_of (TooLong e) = short_reply 4 e
+refusal_of (Version e) = short_reply (response_number ProtocolError) e
+refusal_of (Flags e) = short_reply (response_number ProtocolError) e
+refusal_of (TooLong e) = short_reply (response_number ProtocolError) e
 refusal_of Memory = []
 
 -- the fault that stands next is told, and refused

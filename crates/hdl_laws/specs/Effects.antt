@@ -4,6 +4,8 @@ use Rattle.hdl_auth.specs.declared.algorithm.Algorithm.{Algorithm}
 use Rattle.hdl_auth.specs.declared.algorithm.Algorithm.TheVariants.{Sha1}
 use Rattle.hdl_auth.specs.Digest.{algorithm_of}
 use Rattle.hdl_frame.specs.declared.envelope.Envelope.{Envelope}
+use Rattle.hdl_msg.specs.Codes.{response_number}
+use Rattle.hdl_msg.specs.declared.codes.ResponseCode.TheVariants.{ProtocolError, AuthenticationNeeded, AuthenticationTimeout}
 use Rattle.hdl_msg.specs.Message.{Content}
 use Rattle.hdl_msg.specs.declared.replies.ReplyContent.{ReplyContent}
 use Rattle.hdl_msg.specs.declared.replies.ReplyContent.TheVariants.{Empty}
@@ -56,10 +58,10 @@ answer_effect algorithm state arrival request decision = record {
   change = decision.change;
 }
 
--- a request decided for anyone: code 402 is a challenge
+-- a request decided for anyone: AuthenticationNeeded is a challenge
 abbrev pub ask_effect : Algorithm → LaneState → Message → Content → Decision → Effect
 ask_effect algorithm state arrival request decision =
-    if decision.code == 402
+    if decision.code == response_number AuthenticationNeeded
     then challenge_effect algorithm state arrival request
     else answer_effect algorithm state arrival request decision
 
@@ -77,9 +79,9 @@ DoesRedeem hosted algorithm table arrival request proof state effect =
 -- prefix, a challenged one that of its challenge's digest
 abbrev pub Does : (List ℕ → Bool) → (List ℕ → Algorithm) → Table → Task → Effect → Type 0
 Does hosted algorithms table (Ignore state) effect = effect ≡ record { outcome = Silent; state = state; change = None }
-Does hosted algorithms table (Break session request state) effect = effect ≡ record { outcome = CloseAfter (short_reply 4 (message_envelope session request 0)); state = state; change = None }
-Does hosted algorithms table (Malformed arrival state) effect = effect ≡ record { outcome = Reply (short_reply 4 arrival.envelope); state = state; change = None }
-Does hosted algorithms table (Unknown arrival request state) effect = effect ≡ answer_effect Sha1 state arrival request (failure 4 Empty)
-Does hosted algorithms table (Late arrival request algorithm state) effect = effect ≡ answer_effect algorithm state arrival request (failure 405 Empty)
+Does hosted algorithms table (Break session request state) effect = effect ≡ record { outcome = CloseAfter (short_reply (response_number ProtocolError) (message_envelope session request 0)); state = state; change = None }
+Does hosted algorithms table (Malformed arrival state) effect = effect ≡ record { outcome = Reply (short_reply (response_number ProtocolError) arrival.envelope); state = state; change = None }
+Does hosted algorithms table (Unknown arrival request state) effect = effect ≡ answer_effect Sha1 state arrival request (failure (response_number ProtocolError) Empty)
+Does hosted algorithms table (Late arrival request algorithm state) effect = effect ≡ answer_effect algorithm state arrival request (failure (response_number AuthenticationTimeout) Empty)
 Does hosted algorithms table (Ask arrival request state) effect = DoesAsk hosted (request_algorithm algorithms request) table arrival request state effect
 Does hosted algorithms table (Redeem arrival request proof state) effect = DoesRedeem hosted (algorithm_of proof.digest) table arrival request proof state effect

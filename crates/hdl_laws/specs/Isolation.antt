@@ -11,6 +11,8 @@ use Rattle.hdl_value.specs.Refs.{refs_of}
 use Rattle.hdl_rows.specs.Table.{Table, has, at}
 use Rattle.hdl_reach.specs.Reach.{is_among}
 use Rattle.hdl_reach.specs.Laws.{IsOnward, AgreeAt}
+use Rattle.hdl_msg.specs.Codes.{response_number}
+use Rattle.hdl_msg.specs.declared.codes.ResponseCode.TheVariants.{Success, ServerBusy, ProtocolError}
 use Rattle.hdl_msg.specs.Message.{Content}
 use Rattle.hdl_msg.specs.Laws.{response_code_at}
 use Rattle.hdl_ops.specs.declared.change.Change.{Change}
@@ -161,9 +163,9 @@ pub record AreTwinWorlds (H : List (List ℕ)) (w w' : World) : Type 0 where
 -- a reply's ResponseCode, and a number for each other outcome
 abbrev pub code_of : Outcome → ℕ
 code_of (Reply octets) = response_code_at octets
-code_of (Busy octets) = 3
+code_of (Busy octets) = response_number ServerBusy
 code_of Silent = 0
-code_of (CloseAfter octets) = 4
+code_of (CloseAfter octets) = response_number ProtocolError
 
 -- the challenged request that a task decides
 abbrev pub proven_request : Task → Option Content
@@ -175,12 +177,12 @@ proven_request (Unknown m r s) = None
 proven_request (Late m r a s) = None
 proven_request (Ask m r s) = None
 
--- if the event's task decides a challenged resolution, and its outcome has code 1, then H holds the resolution's handle
+-- if the event's task decides a challenged resolution, and its outcome has code Success, then H holds the resolution's handle
 abbrev pub AllowsTurn : List (List ℕ) → World → Turn → Type 0
 AllowsTurn H w t =
-    (k : Task) (r : Content) → IsTask (lane_of w t.event.lane) t.event.what k → proven_request k ≡ Some r → IsTrue (resolves r.operation) → code_of t.outcome ≡ 1 → IsTrue (is_held H (handle_of r))
+    (k : Task) (r : Content) → IsTask (lane_of w t.event.lane) t.event.what k → proven_request k ≡ Some r → IsTrue (resolves r.operation) → code_of t.outcome ≡ response_number Success → IsTrue (is_held H (handle_of r))
 
--- H holds the handle of each authorised resolution that is answered 1
+-- H holds the handle of each authorised resolution that is answered Success
 abbrev pub Allows : List (List ℕ) → World → List Turn → Type 0
 Allows H w [] = ⊤
 Allows H w (t ∷ ts) = AllowsTurn H w t × Allows H t.after ts

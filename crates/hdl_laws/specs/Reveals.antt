@@ -4,6 +4,8 @@ use Rattle.hdl_auth.specs.declared.algorithm.Algorithm.{Algorithm}
 use Rattle.hdl_auth.specs.declared.algorithm.Algorithm.TheVariants.{Sha1}
 use Rattle.hdl_auth.specs.Digest.{algorithm_of}
 use Rattle.hdl_rows.specs.Table.{Table}
+use Rattle.hdl_msg.specs.Codes.{response_number}
+use Rattle.hdl_msg.specs.declared.codes.ResponseCode.TheVariants.{AuthenticationNeeded}
 use Rattle.hdl_msg.specs.Message.{Content, IsShort}
 use Rattle.hdl_msg.specs.Laws.{response_code_at}
 use Rattle.hdl_msg.specs.Reply.{short_reply, ReplyParts, IsAnnounced, PartsFit, parts_body, parts_message, IsReplyFrame}
@@ -24,7 +26,7 @@ use Rattle.hdl_laws.specs.Runs.{Steps}
 -- the reply with this code to a request that came as it is
 abbrev pub asked_octets : Algorithm → Table → Message → Content → LaneState → ℕ → List ℕ
 asked_octets a t m r s code =
-    if code == 402 then challenge_octets a s.challenges.next m.envelope r m.nonce
+    if code == response_number AuthenticationNeeded then challenge_octets a s.challenges.next m.envelope r m.nonce
     else answer_octets a m.envelope r code (told t r Anyone code)
 
 -- The octets are the reply with this code to what the event comes to, where prefixes have these hash functions. Of the table they

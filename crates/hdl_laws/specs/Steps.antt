@@ -3,6 +3,8 @@ use Rattle.std.specs.Prelude.{◌≡◌, ◌≢◌, ℕ, Option, Some, None, ◌
 use Rattle.std.specs.FinMap as map
 use Rattle.hdl_frame.specs.Envelope.{envelope_at}
 use Rattle.hdl_frame.specs.Frames.{IsFrame}
+use Rattle.hdl_msg.specs.Codes.{response_number}
+use Rattle.hdl_msg.specs.declared.codes.ResponseCode.TheVariants.{ServerBusy}
 use Rattle.hdl_msg.specs.Reply.{short_reply}
 use Rattle.hdl_ops.specs.declared.change.Change.{Change}
 use Rattle.hdl_ops.specs.Tables.{apply_if}
@@ -60,7 +62,7 @@ pub record IsBusy (world : World) (step : Turn) : Type 0 where
   pub frame : IsFrame received.bytes
   pub owned : owner world.site step.event.lane ≢ None
   pub is_open : IsTrue (lane_of world step.event.lane).is_open
-  pub busy : step ≡ record { event = step.event; outcome = Busy (short_reply 3 (envelope_at received.bytes)); change = None; after = world }
+  pub busy : step ≡ record { event = step.event; outcome = Busy (short_reply (response_number ServerBusy) (envelope_at received.bytes)); change = None; after = world }
 
 abbrev pub IsStep : World → Turn → Type 0
 IsStep world step = IsAnswer world step ⊎ IsBusy world step

@@ -74,3 +74,32 @@ response_number AuthenticationFailed = 403
 response_number InvalidCredential = 404
 response_number AuthenticationTimeout = 405
 response_number UnableToAuthenticate = 406
+
+-- the response of a number, of those that are used
+unfoldable pub response_code_of : ℕ → Option ResponseCode
+response_code_of n =
+    if n == 1 then Some Success
+    else if n == 2 then Some Error
+    else if n == 3 then Some ServerBusy
+    else if n == 4 then Some ProtocolError
+    else if n == 5 then Some OperationDenied
+    else if n == 100 then Some HandleNotFound
+    else if n == 101 then Some HandleAlreadyExists
+    else if n == 102 then Some InvalidHandle
+    else if n == 200 then Some ValueNotFound
+    else if n == 201 then Some ValueAlreadyExists
+    else if n == 202 then Some ValueInvalid
+    else if n == 302 then Some ServiceReferral
+    else if n == 400 then Some NotAuthorized
+    else if n == 401 then Some AccessDenied
+    else if n == 402 then Some AuthenticationNeeded
+    else if n == 403 then Some AuthenticationFailed
+    else if n == 404 then Some InvalidCredential
+    else if n == 405 then Some AuthenticationTimeout
+    else if n == 406 then Some UnableToAuthenticate
+    else None
+
+-- the number is that of this response, or of none that is used
+abbrev pub IsResponseNumberOf : Option ResponseCode → ℕ → Type 0
+IsResponseNumberOf (Some code) n = n ≡ response_number code
+IsResponseNumberOf None n = (code : ResponseCode) → n ≢ response_number code

@@ -1,7 +1,7 @@
 //! Operations, flags and responses, and their numbers.
 
 ghost use Rattle.std.specs.Prelude.{◌≡◌};
-ghost use Rattle.hdl_msg.specs.Codes.{op_number, op_code_of, IsNumberOf, flag_bit, response_number};
+ghost use Rattle.hdl_msg.specs.Codes.{op_number, op_code_of, IsNumberOf, flag_bit, response_number, response_code_of, IsResponseNumberOf};
 
 /// OpCode, under the names of RFC 3652, section 2.2.2.1; the numbers are this project's own. Every other number is that of
 /// an operation that isn't used.
@@ -117,5 +117,35 @@ impl ResponseCode {
         ensures { result ≡ response_number self }
     {
         self as u32
+    }
+
+    /// The response of a number, or None where it is that of none.
+    #[tactic(auto, unfolding(crate::specs::Codes::response_code_of))]
+    pub fn of(number: u32) -> Option<ResponseCode>
+        ensures computed { result ≡ response_code_of number }
+        ensures number { IsResponseNumberOf result number }
+    {
+        match number {
+            1 => Some(ResponseCode::Success),
+            2 => Some(ResponseCode::Error),
+            3 => Some(ResponseCode::ServerBusy),
+            4 => Some(ResponseCode::ProtocolError),
+            5 => Some(ResponseCode::OperationDenied),
+            100 => Some(ResponseCode::HandleNotFound),
+            101 => Some(ResponseCode::HandleAlreadyExists),
+            102 => Some(ResponseCode::InvalidHandle),
+            200 => Some(ResponseCode::ValueNotFound),
+            201 => Some(ResponseCode::ValueAlreadyExists),
+            202 => Some(ResponseCode::ValueInvalid),
+            302 => Some(ResponseCode::ServiceReferral),
+            400 => Some(ResponseCode::NotAuthorized),
+            401 => Some(ResponseCode::AccessDenied),
+            402 => Some(ResponseCode::AuthenticationNeeded),
+            403 => Some(ResponseCode::AuthenticationFailed),
+            404 => Some(ResponseCode::InvalidCredential),
+            405 => Some(ResponseCode::AuthenticationTimeout),
+            406 => Some(ResponseCode::UnableToAuthenticate),
+            _ => None,
+        }
     }
 }

@@ -1,6 +1,7 @@
 //! Replies where they stand in octets.
 
 ghost use Rattle.std.specs.Prelude.{◌≡◌};
+ghost use Rattle.hdl_msg.specs.Codes.{response_code_of};
 ghost use Rattle.hdl_msg.specs.Reply.{announces_digest, success_form, announced_form};
 
 use crate::codes::{OpCode, OpFlag, ResponseCode};
@@ -63,6 +64,15 @@ pub struct ReplyView<'a> {
     pub content: ContentView<'a>,
 }
 
+impl ReplyView<'_> {
+    /// The response that its code is the number of, or None where that is the number of none.
+    pub fn code(&self) -> Option<ResponseCode>
+        ensures { result ≡ response_code_of self.now.header.response_code }
+    {
+        ResponseCode::of(self.header.response_code)
+    }
+}
+
 /// The form of the reply to an operation that was done.
 fn success_form(operation: Option<OpCode>) -> ReplyForm
     ensures { result ≡ success_form operation }
@@ -82,16 +92,20 @@ fn success_form(operation: Option<OpCode>) -> ReplyForm
 }
 
 impl ReplyForm {
-    /// The form that the header of a reply announces: by its code, and with code 1 by its operation.
+    /// The form that the header of a reply announces: by its code, and with Success by its operation.
     #[tactic(auto, unfolding(crate::specs::Reply::announced_form))]
     pub fn of(header: Header) -> ReplyForm
         ensures form { result ≡ announced_form header }
     {
-        match header.response_code {
-            1 => success_form(OpCode::of(header.op_code)),
-            302 => ReplyForm::Referral,
-            402 => ReplyForm::Nonce,
-            _ => ReplyForm::Empty,
+        let code = header.response_code;
+        if code == ResponseCode::Success.number() {
+            success_form(OpCode::of(header.op_code))
+        } else if code == ResponseCode::ServiceReferral.number() {
+            ReplyForm::Referral
+        } else if code == ResponseCode::AuthenticationNeeded.number() {
+            ReplyForm::Nonce
+        } else {
+            ReplyForm::Empty
         }
     }
 }

@@ -9,6 +9,8 @@ use Rattle.hdl_value.specs.Refs.{is_admin}
 use Rattle.hdl_value.specs.Tests.{is_sound}
 use Rattle.hdl_auth.specs.declared.algorithm.Algorithm.{Algorithm}
 use Rattle.hdl_auth.specs.declared.algorithm.Algorithm.TheVariants.{Sha1}
+use Rattle.hdl_msg.specs.Codes.{response_number}
+use Rattle.hdl_msg.specs.declared.codes.ResponseCode.TheVariants.{OperationDenied, InvalidHandle, ValueInvalid, ServiceReferral}
 use Rattle.hdl_msg.specs.Message.{Content, Operation, create, add, remove, modify}
 use Rattle.hdl_ops.specs.First.{first}
 use Rattle.hdl_ops.specs.Requests.{sent_handle, is_unused, makes_or_ends, is_list}
@@ -54,10 +56,10 @@ is_under_root o = name.is_admin (sent_handle o)
 
 unfoldable pub refusal : (List ℕ → Bool) → Content → Option ℕ
 refusal hosts r = first
-    ((is_unused r.operation, 5)
-    ∷ (is_none (handle_in (sent_handle r.operation)), 102)
-    ∷ (is_list r.operation && not (is_under_root r.operation), 102)
-    ∷ (makes_or_ends r.operation && is_under_root r.operation, 5)
-    ∷ (not (hosts (name.prefix (sent_handle r.operation))), 302)
-    ∷ (is_bad_write r.operation, 202)
+    ((is_unused r.operation, response_number OperationDenied)
+    ∷ (is_none (handle_in (sent_handle r.operation)), response_number InvalidHandle)
+    ∷ (is_list r.operation && not (is_under_root r.operation), response_number InvalidHandle)
+    ∷ (makes_or_ends r.operation && is_under_root r.operation, response_number OperationDenied)
+    ∷ (not (hosts (name.prefix (sent_handle r.operation))), response_number ServiceReferral)
+    ∷ (is_bad_write r.operation, response_number ValueInvalid)
     ∷ [])

@@ -5,6 +5,8 @@ use Rattle.hdl_value.specs.declared.value.Value.{Value}
 use Rattle.hdl_value.specs.declared.permission.Permission.TheVariants.{PublicWrite}
 use Rattle.hdl_value.specs.Permission.{permits, is_public, is_kept}
 use Rattle.hdl_value.specs.Refs.{is_admin}
+use Rattle.hdl_msg.specs.Codes.{response_number}
+use Rattle.hdl_msg.specs.declared.codes.ResponseCode.TheVariants.{Success, HandleNotFound, HandleAlreadyExists, ValueNotFound, AuthenticationNeeded}
 use Rattle.hdl_msg.specs.Message.{Content, Operation, remove, modify}
 use Rattle.hdl_ops.specs.First.{first, or_code}
 use Rattle.hdl_ops.specs.Requests.{resolves, creates, is_public_only}
@@ -27,10 +29,10 @@ is_open_write _ vs = false
 -- where no row holds, a proof is needed
 unfoldable pub code_for_anyone : Sight → Content → ℕ
 code_for_anyone s r = or_code (first
-    ((creates r.operation && s.there, 101)
-    ∷ (not (creates r.operation) && not s.there, 100)
-    ∷ (resolves r.operation && not (list_any (is_left r) s.values), 200)
-    ∷ (resolves r.operation && list_any (λ v. is_left r v && is_kept v) s.values, 402)
-    ∷ (resolves r.operation, 1)
-    ∷ (is_open_write r.operation s.values, 1)
-    ∷ [])) 402
+    ((creates r.operation && s.there, response_number HandleAlreadyExists)
+    ∷ (not (creates r.operation) && not s.there, response_number HandleNotFound)
+    ∷ (resolves r.operation && not (list_any (is_left r) s.values), response_number ValueNotFound)
+    ∷ (resolves r.operation && list_any (λ v. is_left r v && is_kept v) s.values, response_number AuthenticationNeeded)
+    ∷ (resolves r.operation, response_number Success)
+    ∷ (is_open_write r.operation s.values, response_number Success)
+    ∷ [])) (response_number AuthenticationNeeded)

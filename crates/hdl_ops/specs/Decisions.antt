@@ -6,6 +6,8 @@ use Rattle.hdl_value.specs.declared.value.Value.{Value}
 use Rattle.hdl_value.specs.Permission.{is_public, is_kept}
 use Rattle.hdl_auth.specs.declared.algorithm.Algorithm.{Algorithm}
 use Rattle.hdl_rows.specs.Table.{Table}
+use Rattle.hdl_msg.specs.Codes.{response_number}
+use Rattle.hdl_msg.specs.declared.codes.ResponseCode.TheVariants.{Success, Error, ServiceReferral}
 use Rattle.hdl_msg.specs.Message.{Content, Operation, resolution, create, delete, add, remove, modify, list}
 use Rattle.hdl_msg.specs.declared.replies.ReplyContent.{ReplyContent}
 use Rattle.hdl_msg.specs.declared.replies.ReplyContent.TheVariants.{Values, Handles, Nothing, Referral, Empty}
@@ -23,7 +25,7 @@ pub data Level : Type 0 where
   Anyone : Level
   Proven : Proof → Level
 
--- by its code, what the reply carries, and what changes; a challenge, code 402, gets its nonce from who sends it
+-- by its code, what the reply carries, and what changes; a challenge (AuthenticationNeeded) gets its nonce from who sends it
 pub record Decision : Type 0 where
   pub code : ℕ
   pub content : ReplyContent
@@ -57,21 +59,21 @@ change_of (modify handle values) = Some (Modify handle values)
 change_of _ = None
 
 abbrev pub success : Sight → Content → Level → Decision
-success s r level = record { code = 1; content = carried_content s r level; change = change_of r.operation }
+success s r level = record { code = response_number Success; content = carried_content s r level; change = change_of r.operation }
 
 -- ---- the decision
 
 abbrev pub failure : ℕ → ReplyContent → Decision
 failure code content = record { code = code; content = content; change = None }
 
--- by the code of the table of decision; where code 1 would need too long a message, the code is 2
+-- by the code of the table of decision; where Success would need too long a message, the code is Error
 unfoldable pub decision : Algorithm → Sight → Content → Level → ℕ → Decision
 decision a s r level code =
-    if code == 1 then (if fits a r (carried_content s r level) then success s r level else failure 2 Empty)
+    if code == response_number Success then (if fits a r (carried_content s r level) then success s r level else failure (response_number Error) Empty)
     else failure code Empty
 
 unfoldable pub refused : Content → ℕ → Decision
-refused r code = failure code (if code == 302 then Referral (name.sent_prefix (sent_handle r.operation)) else Empty)
+refused r code = failure code (if code == response_number ServiceReferral then Referral (name.sent_prefix (sent_handle r.operation)) else Empty)
 
 abbrev pub DecidesBy : Algorithm → Table → Content → Level → Option ℕ → Decision → Type 0
 DecidesBy a t r level (Some code) d = d ≡ refused r code

@@ -3,6 +3,8 @@ use Rattle.std.specs.Prelude.{◌≡◌, ℕ, ◌==◌, List, Bool, IsTrue, if�
 use Rattle.hdl_name.specs.Name.{sent_prefix}
 use Rattle.hdl_auth.specs.declared.algorithm.Algorithm.{Algorithm}
 use Rattle.hdl_rows.specs.Table.{Table}
+use Rattle.hdl_msg.specs.Codes.{response_number}
+use Rattle.hdl_msg.specs.declared.codes.ResponseCode.TheVariants.{Success, ServiceReferral}
 use Rattle.hdl_msg.specs.Message.{Content}
 use Rattle.hdl_msg.specs.declared.replies.ReplyContent.{ReplyContent}
 use Rattle.hdl_msg.specs.declared.replies.ReplyContent.TheVariants.{Referral, Empty}
@@ -15,12 +17,12 @@ use Rattle.hdl_ops.specs.Sights.{sight}
 abbrev pub OneDecision : Type 0
 OneDecision = (hosts : List ℕ → Bool) (a : Algorithm) (t : Table) (r : Content) (level : Level) (d d' : Decision) → Decides hosts a t r level d → Decides hosts a t r level d' → d ≡ d'
 
--- what is told with a code: with 1 the values that are asked for and that the level may read, or the handles of the prefix that is
--- listed; with 302 the prefix that was named; nothing with another
+-- what is told with a code: with Success the values that are asked for and that the level may read, or the handles of the prefix
+-- that is listed; with ServiceReferral the prefix that was named; nothing with another
 abbrev pub told : Table → Content → Level → ℕ → ReplyContent
 told t r level code =
-    if code == 1 then carried_content (sight t r) r level
-    else (if code == 302 then Referral (sent_prefix (sent_handle r.operation)) else Empty)
+    if code == response_number Success then carried_content (sight t r) r level
+    else (if code == response_number ServiceReferral then Referral (sent_prefix (sent_handle r.operation)) else Empty)
 
 -- a decision tells what its code says, and no more
 abbrev pub TellsByCode : Type 0

@@ -16,6 +16,8 @@ use Rattle.hdl_reach.specs.Reach.{IsMask}
 use Rattle.hdl_auth.specs.declared.algorithm.Digest.{Digest}
 use Rattle.hdl_auth.specs.Digest.{algorithm_of}
 use Rattle.hdl_auth.specs.Mac.{has_response_form, is_right_response}
+use Rattle.hdl_msg.specs.Codes.{response_number}
+use Rattle.hdl_msg.specs.declared.codes.ResponseCode.TheVariants.{Success, HandleNotFound, HandleAlreadyExists, ValueNotFound, ValueAlreadyExists, ValueInvalid, NotAuthorized, AccessDenied, AuthenticationFailed, InvalidCredential, UnableToAuthenticate}
 use Rattle.hdl_msg.specs.Message.{Content, Operation, resolution, create, delete, add, remove, modify, list}
 use Rattle.hdl_ops.specs.First.{first, or_code}
 use Rattle.hdl_ops.specs.Admission.{handle_in}
@@ -32,10 +34,10 @@ pub record Proof : Type 0 where
 
 unfoldable pub code_before_key : Sight → Content → Proof → Option ℕ
 code_before_key s r p = first
-    ((not (bytes_eq p.response.kind secret_key_kind), 406)
-    ∷ (not (has_response_form (algorithm_of p.digest) p.response.answer), 404)
-    ∷ (creates r.operation && s.there, 101)
-    ∷ (not (creates r.operation) && not s.there, 100)
+    ((not (bytes_eq p.response.kind secret_key_kind), response_number UnableToAuthenticate)
+    ∷ (not (has_response_form (algorithm_of p.digest) p.response.answer), response_number InvalidCredential)
+    ∷ (creates r.operation && s.there, response_number HandleAlreadyExists)
+    ∷ (not (creates r.operation) && not s.there, response_number HandleNotFound)
     ∷ [])
 
 -- ---- the administrators
@@ -128,18 +130,18 @@ is_asked r v = asks r.operation v && (is_public v || is_kept v)
 -- with this mask, and this value at the key's place
 unfoldable pub code_behind_key : Sight → Content → Proof → ℕ → Option Value → ℕ
 code_behind_key s r p mask key = or_code (first
-    ((not (passes is_secret_key key), 406)
-    ∷ (not (is_right key p), 403)
-    ∷ (misses r.operation s.values, 200)
-    ∷ (takes r.operation s.values, 201)
-    ∷ (not (is_allowed r.operation s.values mask) || is_locked r.operation s.values, 401)
-    ∷ (overfills r.operation s.values, 202)
-    ∷ (resolves r.operation && not (list_any (is_asked r) s.values), 200)
-    ∷ [])) 1
+    ((not (passes is_secret_key key), response_number UnableToAuthenticate)
+    ∷ (not (is_right key p), response_number AuthenticationFailed)
+    ∷ (misses r.operation s.values, response_number ValueNotFound)
+    ∷ (takes r.operation s.values, response_number ValueAlreadyExists)
+    ∷ (not (is_allowed r.operation s.values mask) || is_locked r.operation s.values, response_number AccessDenied)
+    ∷ (overfills r.operation s.values, response_number ValueInvalid)
+    ∷ (resolves r.operation && not (list_any (is_asked r) s.values), response_number ValueNotFound)
+    ∷ [])) (response_number Success)
 
 -- the key's value is looked at only behind a mask
 abbrev pub code_for_key : Sight → Content → Proof → Option ℕ → Option Value → ℕ
-code_for_key s r p None key = 400
+code_for_key s r p None key = response_number NotAuthorized
 code_for_key s r p (Some mask) key = code_behind_key s r p mask key
 
 abbrev pub IsCodeForKey : Table → Sight → Content → Proof → ℕ → Type 0

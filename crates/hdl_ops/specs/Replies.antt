@@ -3,6 +3,8 @@ use Rattle.std.specs.Prelude.{ℕ, List, Bool, Option, Some, None, if◌then◌e
 use Rattle.hdl_auth.specs.declared.algorithm.Algorithm.{Algorithm}
 use Rattle.hdl_auth.specs.declared.algorithm.Digest.{Digest}
 use Rattle.hdl_auth.specs.Digest as auth
+use Rattle.hdl_msg.specs.Codes.{response_number}
+use Rattle.hdl_msg.specs.declared.codes.ResponseCode.TheVariants.{AuthenticationNeeded}
 use Rattle.hdl_msg.specs.Message.{Content, signed_octets}
 use Rattle.hdl_msg.specs.declared.replies.Reply.{Reply}
 use Rattle.hdl_msg.specs.declared.replies.ReplyContent.{ReplyContent}
@@ -33,7 +35,7 @@ unfoldable pub challenge_to : Algorithm → ℕ → ℕ → Content → List ℕ
 challenge_to a session number r nonce = record {
   session = session;
   request = number;
-  header = answer_header r.header 402;
+  header = answer_header r.header (response_number AuthenticationNeeded);
   digest = Some (digest_of a r);
   content = Nonce nonce;
 }

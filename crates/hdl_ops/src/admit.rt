@@ -132,9 +132,7 @@ pub(crate) fn admit(owner: &Owner<'_>, request: NamedRequest<'_>) -> Result<Admi
         return Ok(refusal_with(ResponseCode::OperationDenied, ReplyContent::Empty));
     }
     if !owner.tenants.hosts(owner.publisher, &name) {
-        let Ok(prefix) = sent_prefix(owner.alloc, &name) else {
-            return Err(Refused);
-        };
+        let prefix = sent_prefix(owner.alloc, &name)?;
         let referral = ReplyContent::Referral { prefix };
         return Ok(refusal_with(ResponseCode::ServiceReferral, referral));
     }

@@ -51,9 +51,7 @@ fn admin_octets(alloc: Global, prefix: &[u8]) -> Result<Vec<u8>, AllocError>
 fn admin_handle(alloc: Global, name: &Name) -> Result<Option<Name>, Refused>
     ensures { IfOk result (λ admin. option_map canonical admin ≡ handle_in (admin_octets (prefix name.now))) }
 {
-    let Ok(octets) = admin_octets(alloc, name.prefix()) else {
-        return Err(Refused);
-    };
+    let octets = admin_octets(alloc, name.prefix())?;
     read_name(alloc, &octets)
 }
 

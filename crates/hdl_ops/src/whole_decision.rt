@@ -143,9 +143,7 @@ pub(crate) fn whole_decision(
     let Some(content) = fitting(asked, content) else {
         return Ok(failure(ResponseCode::Error));
     };
-    let Ok(change) = change_of(alloc, asked.request.body(), name) else {
-        return Err(Refused);
-    };
+    let change = change_of(alloc, asked.request.body(), name)?;
     Ok(Decision {
         code,
         content,
