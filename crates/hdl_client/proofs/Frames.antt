@@ -1,10 +1,13 @@
 -- A frame that is taken in two parts.
-use Rattle.std.proofs.Common.{◌≡◌, ℕ, List, ◌++◌, length, Option, Some, None, sym, ap, ◌∙◌, arith}
+use Rattle.std.proofs.Common.{◌≡◌, ℕ, List, ◌++◌, length, drop, Option, Some, None, sym, ap, subst, ◌∙◌, arith}
+use Rattle.std.proofs.Math.Seq.{drop-append_seam}
 use Rattle.std.proofs.lemmas.List.{length-append, append_assoc}
 use Rattle.std.specs.Io.KnownBytes.{Consumes}
 use Rattle.hdl_frame.specs.Envelope.{envelope_at, fault_of, payload_len}
 use Rattle.hdl_frame.specs.Frames.{IsFrame}
 use Rattle.hdl_frame.proofs.FrameLemmas.{envelope_at-append}
+use Rattle.hdl_client.specs.declared.exchange.OwnedFrame.{OwnedFrame}
+use Rattle.hdl_client.specs.Exchange.{TakesFrame}
 
 -- an accepted envelope, and as many octets as follow it
 pub whole_is_frame : (front payload : List ℕ) → length front ≡ 20 → fault_of (envelope_at front) ≡ None → length payload ≡ payload_len (envelope_at front) → IsFrame (front ++ payload)
@@ -18,3 +21,18 @@ consumed_in_turn None mid rest front payload c d = tt
 consumed_in_turn (Some xs) None rest front payload c d = elim c [ ]
 consumed_in_turn (Some xs) (Some ys) None front payload c d = d
 consumed_in_turn (Some xs) (Some ys) (Some zs) front payload c d = c ∙ ap (λ t. front ++ t) d ∙ sym (append_assoc front payload zs)
+
+-- an accepted envelope and its payload, taken one after the other, are a frame
+pub takes_frame : (all mid rest : Option (List ℕ)) (front payload : List ℕ) (found : OwnedFrame) → Consumes all mid front → Consumes mid rest payload → length front ≡ 20 → found.envelope ≡ envelope_at front → fault_of found.envelope ≡ None → length payload ≡ payload_len found.envelope → found.payload.items ≡ payload → TakesFrame all rest found
+takes_frame all mid rest front payload found first second twenty read accepted len same =
+    let accepted_front : fault_of (envelope_at front) ≡ None = subst (λ e. fault_of e ≡ None) read accepted in
+    let whole : length payload ≡ payload_len (envelope_at front) = subst (λ e. length payload ≡ payload_len e) read len in
+    let at : envelope_at (front ++ payload) ≡ envelope_at front = envelope_at-append front payload (omega (arith, twenty)) in
+    let behind : drop 20 (front ++ payload) ≡ payload = subst (λ (n : ℕ). drop n (front ++ payload) ≡ payload) twenty (drop-append_seam front payload) in
+    record {
+      octets = front ++ payload;
+      taken = consumed_in_turn all mid rest front payload first second;
+      frame = whole_is_frame front payload twenty accepted_front whole;
+      envelope = read ∙ sym at;
+      payload = same ∙ sym behind;
+    }

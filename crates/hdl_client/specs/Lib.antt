@@ -1,3 +1,4 @@
 pub mod Batch
 pub mod Exchange
+pub mod Reply
 pub mod Challenge

@@ -7,9 +7,10 @@ ghost use Rattle.hdl_client.specs.Batch.{OrderMatters, IsApart, AreApart, key_of
 use crate::challenge::{Key, challenge_answer};
 use crate::exchange::receive;
 use crate::fault::ClientFault;
-use crate::session::{Session, whole};
+use crate::reply::Reply;
+use crate::session::Session;
 use hdl_limits::CHALLENGES_MAX;
-use hdl_msg::{ReplyView, read_reply};
+use hdl_msg::ReplyView;
 use std::alloc::Global;
 use std::io::{Read, Write};
 
@@ -174,19 +175,17 @@ impl<S: Read + Write> Session<S> {
         requires { AreApart flights.old.items }
         ensures apart { AreApart flights.new.items }
     {
-        let octets = receive(self.alloc, &mut self.stream)?;
-        let frame = whole(&octets)?;
+        let frame = receive(self.alloc, &mut self.stream)?;
         let flight = take_flight(flights, frame.envelope.request)?;
-        let Ok(reply) = read_reply(frame.payload()) else {
-            return Err(ClientFault::NoReply);
-        };
-        match land_reply(self.alloc, &batch.keys, &flight, &reply)? {
+        let reply = Reply::of_frame(frame, flight.request)?;
+        let view = reply.view();
+        match land_reply(self.alloc, &batch.keys, &flight, &view)? {
             Landing::Done(code) => {
-                outcomes.done(flight.task, code, &reply);
+                outcomes.done(flight.task, code, &view);
                 Ok(())
             }
             Landing::Challenge(answer) => {
-                let session = frame.envelope.session;
+                let session = reply.envelope().session;
                 self.launch(flights, flight.task, session, &answer, true)
             }
         }

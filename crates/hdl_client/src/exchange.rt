@@ -1,9 +1,8 @@
 //! One frame there, and one back.
 
 ghost use Rattle.std.specs.Prelude.{◌≡◌, ◌≤◌, ◌<◌, length, IfOk, IfErr, OnOk};
-ghost use Rattle.std.specs.Io.KnownBytes.{Appends, Consumes};
-ghost use Rattle.hdl_frame.specs.Frames.{IsFrame};
-ghost use Rattle.hdl_client.specs.Exchange.{frame_octets};
+ghost use Rattle.std.specs.Io.KnownBytes.{Appends};
+ghost use Rattle.hdl_client.specs.Exchange.{frame_octets, TakesFrame};
 ghost use Rattle.hdl_client.specs.declared.fault.ClientFault.TheVariants.{TooLong};
 
 use crate::fault::ClientFault;
@@ -49,11 +48,16 @@ pub fn send<S: Write>(
     Ok(())
 }
 
+/// A frame with memory of its own: its envelope, which is accepted, and its payload.
+#[derive(Drop)]
+pub struct OwnedFrame {
+    pub envelope: Envelope,
+    pub payload: Vec<u8>,
+}
+
 /// Takes the next frame from the stream, whole and nothing behind it. Where the envelope is refused only its 20 octets were taken.
-#[tactic(auto, using(crate::proofs::Frames::whole_is_frame, crate::proofs::Frames::consumed_in_turn))]
-pub fn receive<S: Read>(alloc: Global, stream: &mut S) -> Result<Vec<u8>, ClientFault>
-    ensures frame { IfOk result (λ v. IsFrame v.items) }
-    ensures taken { IfOk result (λ v. Consumes (S.remaining stream.old) (S.remaining stream.new) v.items) }
+pub fn receive<S: Read>(alloc: Global, stream: &mut S) -> Result<OwnedFrame, ClientFault>
+    ensures taken { IfOk result (TakesFrame (S.remaining stream.old) (S.remaining stream.new)) }
 {
     let mut front = [0u8; ENVELOPE_LEN];
     stream.read_exact(&mut front)?;
@@ -63,7 +67,5 @@ pub fn receive<S: Read>(alloc: Global, stream: &mut S) -> Result<Vec<u8>, Client
     }
     let mut payload = Vec::from_elem(alloc, 0u8, envelope.payload_len())?;
     stream.read_exact(&mut payload)?;
-    let mut octets = Vec::from_slice(alloc, &front)?;
-    octets.extend_from_slice(&payload)?;
-    Ok(octets)
+    Ok(OwnedFrame { envelope, payload })
 }

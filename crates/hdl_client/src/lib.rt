@@ -1,7 +1,7 @@
 //! A client of a handle service, over any stream of octets; [`connect`] opens one over TCP.
 //!
 //! ```text
-//! RequestBody -> Session::ask -> a frame to the stream, a frame from it; with a key, the answer to its challenge -> the reply's frame
+//! RequestBody -> Session::ask -> a frame to the stream, a frame from it; with a key, the answer to its challenge -> Reply
 //! Batch -> Session::run_batch -> several requests in flight, and the code of each reply as it comes
 //! ```
 //!
@@ -15,11 +15,13 @@ mod challenge;
 mod connecting;
 mod exchange;
 mod fault;
+mod reply;
 mod session;
 
 pub use batch::{Batch, Outcomes, Task};
 pub use challenge::{Key, challenge_answer, challenge_response, request_message, signed_part};
 pub use connecting::{Connection, connect, connect_within};
-pub use exchange::{framed, receive, send};
+pub use exchange::{OwnedFrame, framed, receive, send};
 pub use fault::ClientFault;
+pub use reply::Reply;
 pub use session::Session;

@@ -4,9 +4,9 @@ use crate::fault::WordFault;
 use crate::key::key_of;
 use crate::request::{Details, request_of, takes_values};
 use crate::words::{Page, code_name, push_reply, push_short_reply};
-use hdl_client::{ClientFault, Key, connect};
-use hdl_frame::{Envelope, one_datagram};
-use hdl_msg::{OpCode, ReplyView, RequestBody, ResponseCode, read_reply};
+use hdl_client::{ClientFault, Key, Reply, connect};
+use hdl_frame::Envelope;
+use hdl_msg::{OpCode, ReplyView, RequestBody, ResponseCode};
 use hdl_name::is_name;
 use std::alloc::{AllocError, Global};
 use std::io;
@@ -119,8 +119,8 @@ fn print_reply(
 }
 
 /// What to do where one reply can't say all that was asked for.
-fn way_on(operation: OpCode, code: u32) -> &'static str {
-    if code != ResponseCode::Error.number() {
+fn way_on(operation: OpCode, code: Option<ResponseCode>) -> &'static str {
+    if code != Some(ResponseCode::Error) {
         return "";
     }
     match operation {
@@ -134,20 +134,15 @@ fn way_on(operation: OpCode, code: u32) -> &'static str {
     }
 }
 
-/// Prints the reply that a frame carries; answers 0 where its code is 1, and else 1 with the code's name on standard error.
-fn show(rt: &HostRuntime, question: &Question, octets: &[u8]) -> Result<u8, AskFault> {
-    let Ok(frame) = one_datagram(octets) else {
-        return Err(AskFault::Client(ClientFault::NoReply));
-    };
-    let Ok(reply) = read_reply(frame.payload()) else {
-        return Err(AskFault::Client(ClientFault::NoReply));
-    };
-    print_reply(rt, question, &frame.envelope, &reply)?;
-    let code = reply.header.response_code;
-    if code == ResponseCode::Success.number() {
+/// Prints a reply; answers 0 where its code is that of success, and else 1 with the code's name on standard error.
+fn show(rt: &HostRuntime, question: &Question, reply: &Reply) -> Result<u8, AskFault> {
+    let view = reply.view();
+    print_reply(rt, question, &reply.envelope(), &view)?;
+    if view.code() == Some(ResponseCode::Success) {
         return Ok(0);
     }
-    let more = way_on(question.operation, code);
+    let code = view.header.response_code;
+    let more = way_on(question.operation, view.code());
     let _ = eprintln!(rt; "hdl: {code} {}{more}", code_name(code));
     Ok(1)
 }
@@ -157,15 +152,15 @@ fn reply_to(
     question: &Question,
     body: &RequestBody,
     key: Option<&Key>,
-) -> Result<Vec<u8>, ClientFault> {
+) -> Result<Reply, ClientFault> {
     let mut session = connect(rt, &question.server)?;
     session.ask(body, key)
 }
 
 fn asked(rt: &HostRuntime, question: &Question, key: Option<&Key>) -> Result<u8, AskFault> {
     let body = body_of(rt.alloc(), question)?;
-    let octets = reply_to(rt, question, &body, key)?;
-    show(rt, question, &octets)
+    let reply = reply_to(rt, question, &body, key)?;
+    show(rt, question, &reply)
 }
 
 fn answered(rt: &HostRuntime, question: &Question) -> Result<u8, AskFault> {

@@ -6,7 +6,7 @@
 //! ```
 //!
 //! This crate has no sockets and no clock. It stands on the codecs of `hdl_msg`, `hdl_value` and `hdl_name`: what is asked is in
-//! their grammar, and what is shown was read by it. [`Resolver`] is who is asked.
+//! their grammar, and what is shown was read by it. Who asks a server is the caller's, and [`NoAnswer`] what came where no reply did.
 //!
 //! What it promises: a question asks for what anybody may read, and for nothing else; a reply shows values that are public, and
 //! never a key; a handle's address leads to its URL value of the lowest index, where that is one to be followed
@@ -48,7 +48,7 @@ pub use names::{read_name, unescaped};
 pub use proxy::{Next, begin, finish, options};
 pub use query::{Pair, has_pair, indexes_of, last_named, read_pairs, types_of, values_named};
 pub use question::{Form, Question};
-pub use resolver::{NoAnswer, Resolver};
+pub use resolver::NoAnswer;
 pub use site::Site;
 pub use step::{HOPS_MOST, next_step};
 pub use tag::tagged;

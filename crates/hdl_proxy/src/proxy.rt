@@ -449,7 +449,7 @@ pub(crate) fn answer_found(
     }
 }
 
-/// What is answered to a question where no alias is followed: `answered` is the message of the reply, as a [`Resolver`](crate::Resolver) gave it,
+/// What is answered to a question where no alias is followed: `answered` is the message of the reply, as a server gave it,
 /// and `chance` any number, by which one of several locations is chosen.
 pub fn finish(
     alloc: Global,

@@ -107,7 +107,7 @@ fn follow(alloc: Global, question: Question, hop: Hop) -> Result<Next, AllocErro
     }))
 }
 
-/// What is next for a question, now that a [`Resolver`](crate::Resolver) gave this. Where aliases are followed and the handle has one, the handle that it names is
+/// What is next for a question, now that a server gave this. Where aliases are followed and the handle has one, the handle that it names is
 /// asked for, unless that was asked for already or ten aliases were followed; else the answer is there. So at most ten questions come of one. `chance`
 /// is any number, by which one of several locations is chosen.
 pub fn next_step(

@@ -6,12 +6,13 @@ use crate::holders::Holders;
 use crate::lifetime::lifetime;
 use crate::log::Visit;
 use crate::metrics::Counts;
-use crate::servers::code_of;
+use crate::servers::Resolver;
 use crate::worker::Errand;
 use crossbeam_channel::Sender;
 use futures::channel::oneshot;
+use hdl_client::Reply;
 use hdl_msg::ResponseCode;
-use hdl_proxy::{Answer, HOPS_MOST, Next, NoAnswer, Question, Resolver, Site, finish, next_step};
+use hdl_proxy::{Answer, HOPS_MOST, Next, NoAnswer, Question, Site, finish, next_step};
 use hdl_routes::{Kept, Miss, Route, Standing, places_for, worst};
 use std::alloc::{AllocError, Global};
 use std::sync::atomic::{AtomicU64, Ordering};
@@ -66,13 +67,11 @@ enum Known {
 }
 
 /// Whether a reply with this code shows that its server has the prefix.
-fn is_holder(code: Option<u32>) -> bool {
-    let Some(code) = code else {
-        return false;
-    };
-    code == ResponseCode::Success.number()
-        || code == ResponseCode::HandleNotFound.number()
-        || code == ResponseCode::ValueNotFound.number()
+fn is_holder(code: Option<ResponseCode>) -> bool {
+    matches!(
+        code,
+        Some(ResponseCode::Success | ResponseCode::HandleNotFound | ResponseCode::ValueNotFound,)
+    )
 }
 
 impl<R: Wait + Clock> Board<R> {
@@ -112,16 +111,17 @@ impl<R: Wait + Clock> Board<R> {
     }
 
     /// Keeps a reply, for as long as it may be kept.
-    fn keep(&self, message: &[u8], reply: &[u8]) {
+    fn keep(&self, message: &[u8], reply: &Reply) {
         let Some(kept) = &self.kept else {
             return;
         };
-        let Some(seconds) = lifetime(self.alloc, reply) else {
+        let Some(seconds) = lifetime(self.alloc, &reply.view()) else {
             return;
         };
         let now = self.now();
         let time = seconds.saturating_mul(1000).min(self.keeps);
-        kept.lock(&self.rt).keep(message, reply, now, time);
+        kept.lock(&self.rt)
+            .keep(message, reply.message(), now, time);
     }
 
     /// A question as far as what is kept answers it, and the handles that its aliases name.
@@ -243,9 +243,9 @@ impl<R: Wait + Clock> Board<R> {
     }
 
     /// Answers with the reply of the server at this place, unless that refers elsewhere.
-    fn heard(&self, place: usize, mut ask: Ask, reply: &[u8]) {
-        let code = code_of(reply);
-        if code == Some(ResponseCode::ServiceReferral.number()) {
+    fn heard(&self, place: usize, mut ask: Ask, reply: &Reply) {
+        let code = reply.view().code();
+        if code == Some(ResponseCode::ServiceReferral) {
             ask.miss(Miss::Elsewhere);
             return self.forward(ask);
         }
@@ -254,7 +254,7 @@ impl<R: Wait + Clock> Board<R> {
             self.holders.lock(&self.rt).note(prefix, place, self.now());
         }
         self.keep(&ask.message, reply);
-        let (next, answer) = ask.next(reply, self.chance());
+        let (next, answer) = ask.next(reply.message(), self.chance());
         match next {
             Ok(Next::Ask(question)) => self.resume(question, answer),
             Ok(Next::Answer(made)) => drop(answer.send(Ok(made))),

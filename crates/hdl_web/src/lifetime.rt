@@ -1,6 +1,6 @@
 //! For how long a reply may be kept.
 
-use hdl_msg::{ContentView, ResponseCode, Values, read_reply};
+use hdl_msg::{ContentView, ReplyView, ResponseCode, Values};
 use std::alloc::Global;
 
 /// The kind of a TTL that is a moment.
@@ -23,14 +23,10 @@ fn least_ttl(alloc: Global, values: Values<'_>) -> Option<u64> {
 
 /// For how many seconds a reply may be kept: for the least TTL of its values, and where it says that the handle isn't there without a limit. None: it isn't
 /// kept, as any other refusal.
-pub(crate) fn lifetime(alloc: Global, message: &[u8]) -> Option<u64> {
-    let Ok(reply) = read_reply(message) else {
-        return None;
-    };
-    let code = reply.header.response_code;
+pub(crate) fn lifetime(alloc: Global, reply: &ReplyView<'_>) -> Option<u64> {
     match reply.content {
         ContentView::Values { values, .. } => least_ttl(alloc, values),
-        ContentView::Empty if code == ResponseCode::HandleNotFound.number() => Some(u64::MAX),
+        ContentView::Empty if reply.code() == Some(ResponseCode::HandleNotFound) => Some(u64::MAX),
         _ => None,
     }
 }

@@ -1,9 +1,8 @@
 //! Servers, and the connections to them.
 
-use hdl_client::{ClientFault, Connection, Key, Session, connect_within};
-use hdl_frame::one_datagram;
-use hdl_msg::{RequestBody, ResponseCode, read_reply};
-use hdl_proxy::{NoAnswer, Resolver};
+use hdl_client::{ClientFault, Connection, Key, Reply, Session, connect_within};
+use hdl_msg::{RequestBody, ResponseCode};
+use hdl_proxy::NoAnswer;
 use hdl_writes::Service;
 use std::alloc::AllocError;
 use std::time::{Duration, Instant};
@@ -19,17 +18,9 @@ pub struct Server {
     session: Option<Session<Connection>>,
 }
 
-/// The code of a reply, if the message is one.
-pub(crate) fn code_of(message: &[u8]) -> Option<u32> {
-    match read_reply(message) {
-        Ok(reply) => Some(reply.header.response_code),
-        Err(_) => None,
-    }
-}
-
-/// Whether the message is a reply that refers to another service.
-pub(crate) fn refers(message: &[u8]) -> bool {
-    code_of(message) == Some(ResponseCode::ServiceReferral.number())
+/// Whether a reply refers to another service.
+fn refers(reply: &Reply) -> bool {
+    reply.view().code() == Some(ResponseCode::ServiceReferral)
 }
 
 /// Whether a connection that was kept may have failed just because it was old: then a new one may do.
@@ -52,7 +43,7 @@ impl Server {
     }
 
     /// Asks on a new connection, which is kept if it answers.
-    fn ask_anew(&mut self, since: Instant, message: &[u8]) -> Result<Vec<u8>, ClientFault> {
+    fn ask_anew(&mut self, since: Instant, message: &[u8]) -> Result<Reply, ClientFault> {
         let mut session = connect_within(&self.rt, &self.address, since, self.limit)?;
         let reply = session.exchange(message)?;
         self.session = Some(session);
@@ -60,7 +51,7 @@ impl Server {
     }
 
     /// Asks on the connection that was kept, or where that has failed on a new one.
-    fn reply_to(&mut self, message: &[u8]) -> Result<Vec<u8>, ClientFault> {
+    fn reply_to(&mut self, message: &[u8]) -> Result<Reply, ClientFault> {
         let since = Instant::now(&self.rt)?;
         let Some(mut session) = self.session.take() else {
             return self.ask_anew(since, message);
@@ -92,13 +83,10 @@ impl Server {
         mut session: Session<Connection>,
         body: &RequestBody,
         key: &Key,
-    ) -> Result<Vec<u8>, ClientFault> {
-        let octets = session.ask(body, Some(key))?;
+    ) -> Result<Reply, ClientFault> {
+        let reply = session.ask(body, Some(key))?;
         self.session = Some(session);
-        let Ok(frame) = one_datagram(&octets) else {
-            return Err(ClientFault::NoReply);
-        };
-        Ok(Vec::from_slice(self.rt.alloc(), frame.payload())?)
+        Ok(reply)
     }
 }
 
@@ -110,8 +98,14 @@ fn no_answer(fault: ClientFault) -> NoAnswer {
     }
 }
 
+/// A way to ask without a key.
+pub trait Resolver: Drop {
+    /// The reply to a resolution with this message. It may wait, but not for ever.
+    fn ask(&mut self, message: &[u8]) -> Result<Reply, NoAnswer>;
+}
+
 impl Resolver for Server {
-    fn ask(&mut self, message: &[u8]) -> Result<Vec<u8>, NoAnswer> {
+    fn ask(&mut self, message: &[u8]) -> Result<Reply, NoAnswer> {
         match self.reply_to(message) {
             Ok(reply) => Ok(reply),
             Err(fault) => Err(no_answer(fault)),
@@ -134,7 +128,7 @@ impl Writer {
 
     /// The reply of the first server in turn that gives one which is no referral. A server that can't be reached is passed over; where one that was
     /// asked doesn't answer, no other is asked, since it may have done what was asked for.
-    fn reply_with(&mut self, body: &RequestBody, key: &Key) -> Result<Vec<u8>, ClientFault> {
+    fn reply_with(&mut self, body: &RequestBody, key: &Key) -> Result<Reply, ClientFault> {
         let mut last = Err(ClientFault::Connection);
         let mut failed = None;
         for place in &self.turn {
@@ -178,7 +172,7 @@ impl Service for Writer {
         }
     }
 
-    fn ask(&mut self, body: &RequestBody, key: &Key) -> Result<Vec<u8>, NoAnswer> {
+    fn ask(&mut self, body: &RequestBody, key: &Key) -> Result<Reply, NoAnswer> {
         match self.reply_with(body, key) {
             Ok(reply) => Ok(reply),
             Err(fault) => Err(no_answer(fault)),

@@ -2,11 +2,10 @@
 
 use crate::asks::{Ask, Made};
 use crate::board::Board;
-use crate::servers::Clerk;
+use crate::servers::{Clerk, Resolver};
 use bytes::Bytes;
 use crossbeam_channel::Receiver;
 use futures::channel::oneshot;
-use hdl_proxy::Resolver;
 use hdl_writes::{Order, carry_out};
 use std::alloc::Global;
 use std::sync::Wait;

@@ -1,33 +1,59 @@
--- The status and the words of each code that a change may come to.
-use Rattle.std.specs.Prelude.{ℕ, ◌==◌, ◌||◌, List, codes, if◌then◌else◌}
+-- The status and the words of each response that a change may come to.
+use Rattle.std.specs.Prelude.{ℕ, List, codes, Option, Some, None}
+use Rattle.hdl_msg.specs.Codes.{response_code_of}
+use Rattle.hdl_msg.specs.declared.codes.ResponseCode.{ResponseCode}
+use Rattle.hdl_msg.specs.declared.codes.ResponseCode.TheVariants as response
 use Rattle.hdl_proxy.specs.declared.answer.Status.{Status}
 use Rattle.hdl_proxy.specs.declared.answer.Status.TheVariants.{Success, BadRequest, Unauthorized, Forbidden, NotFound, Conflict, BadGateway, Unavailable}
 
+-- by what a server answers to a change, where that is a response
+abbrev pub response_status : Option ResponseCode → Status
+response_status (Some response.Success) = Success
+response_status (Some response.HandleNotFound) = NotFound
+response_status (Some response.ValueNotFound) = NotFound
+response_status (Some response.ServiceReferral) = NotFound
+response_status (Some response.HandleAlreadyExists) = Conflict
+response_status (Some response.ValueAlreadyExists) = Conflict
+response_status (Some response.InvalidHandle) = BadRequest
+response_status (Some response.ValueInvalid) = BadRequest
+response_status (Some response.NotAuthorized) = Unauthorized
+response_status (Some response.AuthenticationNeeded) = Unauthorized
+response_status (Some response.AuthenticationFailed) = Unauthorized
+response_status (Some response.InvalidCredential) = Unauthorized
+response_status (Some response.AuthenticationTimeout) = Unauthorized
+response_status (Some response.UnableToAuthenticate) = Unauthorized
+response_status (Some response.OperationDenied) = Forbidden
+response_status (Some response.AccessDenied) = Forbidden
+response_status (Some response.ServerBusy) = Unavailable
+response_status (Some response.Error) = BadGateway
+response_status (Some response.ProtocolError) = BadGateway
+response_status None = BadGateway
+
+abbrev pub response_words : Option ResponseCode → List ℕ
+response_words (Some response.Error) = codes "The server's answer would be too long."
+response_words (Some response.ServerBusy) = codes "The server is busy. Please try again."
+response_words (Some response.OperationDenied) = codes "The server doesn't do this."
+response_words (Some response.HandleNotFound) = codes "This handle isn't there."
+response_words (Some response.HandleAlreadyExists) = codes "This handle is there already."
+response_words (Some response.InvalidHandle) = codes "The server says that this is no handle."
+response_words (Some response.ValueNotFound) = codes "A value isn't there, or isn't to be read."
+response_words (Some response.ValueAlreadyExists) = codes "A value of such an index is there already."
+response_words (Some response.ValueInvalid) = codes "The server refuses the values: a record has an HS_ADMIN value, and at most 1024 values."
+response_words (Some response.ServiceReferral) = codes "No server that was asked has handles of this prefix."
+response_words (Some response.NotAuthorized) = codes "The key is no administrator of this handle."
+response_words (Some response.AccessDenied) = codes "The key lacks a permission for this."
+response_words (Some response.AuthenticationFailed) = codes "The secret isn't that of the key."
+response_words (Some response.UnableToAuthenticate) = codes "There is no such key."
+response_words (Some response.Success) = codes "The server couldn't answer."
+response_words (Some response.ProtocolError) = codes "The server couldn't answer."
+response_words (Some response.AuthenticationNeeded) = codes "The server couldn't answer."
+response_words (Some response.InvalidCredential) = codes "The server couldn't answer."
+response_words (Some response.AuthenticationTimeout) = codes "The server couldn't answer."
+response_words None = codes "The server couldn't answer."
+
+-- by its number
 abbrev pub status_of_change : ℕ → Status
-status_of_change code =
-    if code == 1 then Success
-    else if (code == 100) || ((code == 200) || (code == 302)) then NotFound
-    else if (code == 101) || (code == 201) then Conflict
-    else if (code == 102) || (code == 202) then BadRequest
-    else if (code == 400) || ((code == 402) || ((code == 403) || ((code == 404) || ((code == 405) || (code == 406))))) then Unauthorized
-    else if (code == 5) || (code == 401) then Forbidden
-    else if code == 3 then Unavailable
-    else BadGateway
+status_of_change code = response_status (response_code_of code)
 
 abbrev pub change_words : ℕ → List ℕ
-change_words code =
-    if code == 2 then codes "The server's answer would be too long."
-    else if code == 3 then codes "The server is busy. Please try again."
-    else if code == 5 then codes "The server doesn't do this."
-    else if code == 100 then codes "This handle isn't there."
-    else if code == 101 then codes "This handle is there already."
-    else if code == 102 then codes "The server says that this is no handle."
-    else if code == 200 then codes "A value isn't there, or isn't to be read."
-    else if code == 201 then codes "A value of such an index is there already."
-    else if code == 202 then codes "The server refuses the values: a record has an HS_ADMIN value, and at most 1024 values."
-    else if code == 302 then codes "No server that was asked has handles of this prefix."
-    else if code == 400 then codes "The key is no administrator of this handle."
-    else if code == 401 then codes "The key lacks a permission for this."
-    else if code == 403 then codes "The secret isn't that of the key."
-    else if code == 406 then codes "There is no such key."
-    else codes "The server couldn't answer."
+change_words code = response_words (response_code_of code)

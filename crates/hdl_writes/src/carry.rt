@@ -7,8 +7,9 @@ use crate::plan::{is_among, merging, replacing};
 use crate::record::read_record;
 use crate::service::Service;
 use crate::told::{change_words, failure, status_of_change, success};
+use hdl_client::Reply;
 use hdl_limits::{Items, MESSAGE_MAX, Octets, WRITTEN_MAX};
-use hdl_msg::{ContentView, RequestBody, ResponseCode, Values, read_reply, request_len};
+use hdl_msg::{ContentView, ReplyView, RequestBody, ResponseCode, Values, request_len};
 use hdl_proxy::{Answer, Keeping, NoAnswer, Status, refusal, values_answer};
 use hdl_value::{Value, ValueFault};
 use std::alloc::{AllocError, Global};
@@ -93,27 +94,26 @@ fn is_short(body: &RequestBody) -> bool {
     request_len(body) <= MESSAGE_MAX as usize
 }
 
-/// The message of the reply to a request, whatever its code is.
+/// The reply to a request, whatever its code is.
 pub(crate) fn reply_to<S: Service>(
     service: &mut S,
     order: &Order,
     body: &RequestBody,
-) -> Result<Vec<u8>, Stop> {
+) -> Result<Reply, Stop> {
     if !is_short(body) {
         return Err(Stop::TooLong);
     }
     Ok(service.ask(body, &order.key)?)
 }
 
-/// Asks for a change. It is done where the reply's code is 1.
+/// Asks for a change. It is done where the reply says so.
 fn done<S: Service>(service: &mut S, order: &Order, body: &RequestBody) -> Result<(), Stop> {
-    let message = reply_to(service, order, body)?;
-    let Ok(reply) = read_reply(&message) else {
-        return Err(Stop::Silent);
-    };
-    match reply.header.response_code {
-        1 => Ok(()),
-        code => Err(Stop::Code(code)),
+    let reply = reply_to(service, order, body)?;
+    let view = reply.view();
+    if view.code() == Some(ResponseCode::Success) {
+        Ok(())
+    } else {
+        Err(Stop::Code(view.header.response_code))
     }
 }
 
@@ -176,19 +176,14 @@ fn indexes_in(alloc: Global, mut values: Values<'_>) -> Result<Vec<u32>, Stop> {
 }
 
 /// The indexes that a reply to the reading of this handle tells.
-fn indexes_told(alloc: Global, handle: &[u8], message: &[u8]) -> Result<Vec<u32>, Stop> {
-    let Ok(reply) = read_reply(message) else {
-        return Err(Stop::Silent);
-    };
+fn indexes_told(alloc: Global, handle: &[u8], reply: &ReplyView<'_>) -> Result<Vec<u32>, Stop> {
     match reply.content {
         ContentView::Values {
             handle: answered,
             values,
         } if answered == handle => indexes_in(alloc, values),
         ContentView::Values { .. } => Err(Stop::Silent),
-        _ if reply.header.response_code == ResponseCode::ValueNotFound.number() => {
-            Ok(Vec::new(alloc))
-        }
+        _ if reply.code() == Some(ResponseCode::ValueNotFound) => Ok(Vec::new(alloc)),
         _ => Err(Stop::Code(reply.header.response_code)),
     }
 }
@@ -205,8 +200,8 @@ fn indexes_there<S: Service>(
         indexes: Items::new(asked),
         types: Items::new(Vec::new(alloc)),
     };
-    let message = reply_to(service, order, &body)?;
-    indexes_told(alloc, order.name.sent(), &message)
+    let reply = reply_to(service, order, &body)?;
+    indexes_told(alloc, order.name.sent(), &reply.view())
 }
 
 fn indexes_of(alloc: Global, values: &[Value]) -> Result<Vec<u32>, AllocError> {
@@ -298,7 +293,9 @@ fn replace<S: Service>(
     };
     match done(service, order, &body) {
         Ok(()) => success(alloc, order.name.sent(), Status::Created),
-        Err(Stop::Code(101)) => overwrite(alloc, service, order, values),
+        Err(Stop::Code(code)) if code == ResponseCode::HandleAlreadyExists.number() => {
+            overwrite(alloc, service, order, values)
+        }
         Err(stop) => stopped(alloc, order.name.sent(), stop, &[]),
     }
 }
@@ -395,10 +392,7 @@ fn whole_values(alloc: Global, mut values: Values<'_>) -> Result<Option<Vec<Valu
 }
 
 /// What the reply to a reading with a key says of this handle.
-fn read_told(alloc: Global, handle: &[u8], message: &[u8]) -> Result<Answer, AllocError> {
-    let Ok(reply) = read_reply(message) else {
-        return stopped(alloc, handle, Stop::Silent, &[]);
-    };
+fn read_told(alloc: Global, handle: &[u8], reply: &ReplyView<'_>) -> Result<Answer, AllocError> {
     match reply.content {
         ContentView::Values {
             handle: answered,
@@ -436,7 +430,7 @@ fn carry_read<S: Service>(
         types: type_copies(alloc, types)?,
     };
     match reply_to(service, order, &body) {
-        Ok(message) => read_told(alloc, order.name.sent(), &message),
+        Ok(reply) => read_told(alloc, order.name.sent(), &reply.view()),
         Err(stop) => stopped(alloc, order.name.sent(), stop, &[]),
     }
 }

@@ -5,7 +5,7 @@ use crate::order::{Order, Window};
 use crate::service::Service;
 use crate::told::{failure, status_of_change};
 use hdl_limits::Octets;
-use hdl_msg::{ContentView, RequestBody, ResponseCode, Strings, read_reply};
+use hdl_msg::{ContentView, ReplyView, RequestBody, ResponseCode, Strings};
 use hdl_proxy::{Answer, Status, json_answer, put_text};
 use serde_json::{Map, Value as Json, put};
 use std::alloc::{AllocError, Global};
@@ -87,15 +87,12 @@ const LONG_LIST: &str =
 fn list_told(
     alloc: Global,
     handle: &[u8],
-    message: &[u8],
+    reply: &ReplyView<'_>,
     window: Option<Window>,
 ) -> Result<Answer, AllocError> {
-    let Ok(reply) = read_reply(message) else {
-        return stopped(alloc, handle, Stop::Silent, &[]);
-    };
     let ContentView::Handles { handles } = reply.content else {
         let code = reply.header.response_code;
-        if code == ResponseCode::Error.number() {
+        if reply.code() == Some(ResponseCode::Error) {
             return failure(alloc, handle, status_of_change(code), code, LONG_LIST, &[]);
         }
         return stopped(alloc, handle, Stop::Code(code), &[]);
@@ -116,7 +113,7 @@ pub(crate) fn list_answer<S: Service>(
     let handle = Octets::new(Vec::from_slice(alloc, order.name.sent())?);
     let body = RequestBody::List { handle };
     match reply_to(service, order, &body) {
-        Ok(message) => list_told(alloc, order.name.sent(), &message, window),
+        Ok(reply) => list_told(alloc, order.name.sent(), &reply.view(), window),
         Err(stop) => stopped(alloc, order.name.sent(), stop, &[]),
     }
 }

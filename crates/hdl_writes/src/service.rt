@@ -1,6 +1,6 @@
 //! Who is asked with a key.
 
-use hdl_client::Key;
+use hdl_client::{Key, Reply};
 use hdl_msg::RequestBody;
 use hdl_proxy::NoAnswer;
 
@@ -10,7 +10,7 @@ pub trait Service: Drop {
     /// because its connection was old, and none is sent twice.
     fn renew(&mut self);
 
-    /// The message of the reply to a request, whose challenge the key answers: all of the octets behind the envelope. The connection,
-    /// time-outs, and whom to ask after a referral (code 302) are the service's. It may wait, but not for ever.
-    fn ask(&mut self, body: &RequestBody, key: &Key) -> Result<Vec<u8>, NoAnswer>;
+    /// The reply to a request, whose challenge the key answers. The connection, time-outs, and whom to ask after a referral are the
+    /// service's. It may wait, but not for ever.
+    fn ask(&mut self, body: &RequestBody, key: &Key) -> Result<Reply, NoAnswer>;
 }

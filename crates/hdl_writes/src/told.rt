@@ -14,15 +14,27 @@ use std::alloc::{AllocError, Global};
 pub(crate) fn status_of_change(code: u32) -> Status
     ensures { result ≡ status_of_change code }
 {
-    match code {
-        1 => Status::Success,
-        100 | 200 | 302 => Status::NotFound,
-        101 | 201 => Status::Conflict,
-        102 | 202 => Status::BadRequest,
-        400 | 402 | 403 | 404 | 405 | 406 => Status::Unauthorized,
-        5 | 401 => Status::Forbidden,
-        3 => Status::Unavailable,
-        _ => Status::BadGateway,
+    match ResponseCode::of(code) {
+        Some(ResponseCode::Success) => Status::Success,
+        Some(
+            ResponseCode::HandleNotFound
+            | ResponseCode::ValueNotFound
+            | ResponseCode::ServiceReferral,
+        ) => Status::NotFound,
+        Some(ResponseCode::HandleAlreadyExists | ResponseCode::ValueAlreadyExists) =>
+            Status::Conflict,
+        Some(ResponseCode::InvalidHandle | ResponseCode::ValueInvalid) => Status::BadRequest,
+        Some(
+            ResponseCode::NotAuthorized
+            | ResponseCode::AuthenticationNeeded
+            | ResponseCode::AuthenticationFailed
+            | ResponseCode::InvalidCredential
+            | ResponseCode::AuthenticationTimeout
+            | ResponseCode::UnableToAuthenticate,
+        ) => Status::Unauthorized,
+        Some(ResponseCode::OperationDenied | ResponseCode::AccessDenied) => Status::Forbidden,
+        Some(ResponseCode::ServerBusy) => Status::Unavailable,
+        Some(ResponseCode::Error | ResponseCode::ProtocolError) | None => Status::BadGateway,
     }
 }
 
@@ -30,23 +42,31 @@ pub(crate) fn status_of_change(code: u32) -> Status
 pub(crate) fn change_words(code: u32) -> &'static str
     ensures { result.now ≡ change_words code }
 {
-    match code {
-        2 => "The server's answer would be too long.",
-        3 => "The server is busy. Please try again.",
-        5 => "The server doesn't do this.",
-        100 => "This handle isn't there.",
-        101 => "This handle is there already.",
-        102 => "The server says that this is no handle.",
-        200 => "A value isn't there, or isn't to be read.",
-        201 => "A value of such an index is there already.",
-        202 =>
+    match ResponseCode::of(code) {
+        Some(ResponseCode::Error) => "The server's answer would be too long.",
+        Some(ResponseCode::ServerBusy) => "The server is busy. Please try again.",
+        Some(ResponseCode::OperationDenied) => "The server doesn't do this.",
+        Some(ResponseCode::HandleNotFound) => "This handle isn't there.",
+        Some(ResponseCode::HandleAlreadyExists) => "This handle is there already.",
+        Some(ResponseCode::InvalidHandle) => "The server says that this is no handle.",
+        Some(ResponseCode::ValueNotFound) => "A value isn't there, or isn't to be read.",
+        Some(ResponseCode::ValueAlreadyExists) => "A value of such an index is there already.",
+        Some(ResponseCode::ValueInvalid) =>
             "The server refuses the values: a record has an HS_ADMIN value, and at most 1024 values.",
-        302 => "No server that was asked has handles of this prefix.",
-        400 => "The key is no administrator of this handle.",
-        401 => "The key lacks a permission for this.",
-        403 => "The secret isn't that of the key.",
-        406 => "There is no such key.",
-        _ => "The server couldn't answer.",
+        Some(ResponseCode::ServiceReferral) =>
+            "No server that was asked has handles of this prefix.",
+        Some(ResponseCode::NotAuthorized) => "The key is no administrator of this handle.",
+        Some(ResponseCode::AccessDenied) => "The key lacks a permission for this.",
+        Some(ResponseCode::AuthenticationFailed) => "The secret isn't that of the key.",
+        Some(ResponseCode::UnableToAuthenticate) => "There is no such key.",
+        Some(
+            ResponseCode::Success
+            | ResponseCode::ProtocolError
+            | ResponseCode::AuthenticationNeeded
+            | ResponseCode::InvalidCredential
+            | ResponseCode::AuthenticationTimeout,
+        )
+        | None => "The server couldn't answer.",
     }
 }
 

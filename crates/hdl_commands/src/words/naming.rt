@@ -1,6 +1,6 @@
 //! The names of operations and response codes.
 
-use hdl_msg::OpCode;
+use hdl_msg::{OpCode, ResponseCode};
 
 /// What an operation is called. Numbers that no operation has are `unknown`.
 pub fn operation_name(number: u32) -> &'static str {
@@ -33,26 +33,26 @@ pub fn operation_in(word: &str) -> Option<OpCode> {
 
 /// What a response code is called, after RFC 3652, section 2.2.2.2, in our profile (docs/PROTOCOL.md, "Message").
 pub fn code_name(code: u32) -> &'static str {
-    match code {
-        1 => "success",
-        2 => "error",
-        3 => "server busy",
-        4 => "protocol error",
-        5 => "operation denied",
-        100 => "handle not found",
-        101 => "handle already exists",
-        102 => "invalid handle",
-        200 => "value not found",
-        201 => "value already exists",
-        202 => "value invalid",
-        302 => "service referral",
-        400 => "not authorized",
-        401 => "access denied",
-        402 => "authentication needed",
-        403 => "authentication failed",
-        404 => "invalid credential",
-        405 => "authentication timeout",
-        406 => "unable to authenticate",
-        _ => "unknown code",
+    match ResponseCode::of(code) {
+        Some(ResponseCode::Success) => "success",
+        Some(ResponseCode::Error) => "error",
+        Some(ResponseCode::ServerBusy) => "server busy",
+        Some(ResponseCode::ProtocolError) => "protocol error",
+        Some(ResponseCode::OperationDenied) => "operation denied",
+        Some(ResponseCode::HandleNotFound) => "handle not found",
+        Some(ResponseCode::HandleAlreadyExists) => "handle already exists",
+        Some(ResponseCode::InvalidHandle) => "invalid handle",
+        Some(ResponseCode::ValueNotFound) => "value not found",
+        Some(ResponseCode::ValueAlreadyExists) => "value already exists",
+        Some(ResponseCode::ValueInvalid) => "value invalid",
+        Some(ResponseCode::ServiceReferral) => "service referral",
+        Some(ResponseCode::NotAuthorized) => "not authorized",
+        Some(ResponseCode::AccessDenied) => "access denied",
+        Some(ResponseCode::AuthenticationNeeded) => "authentication needed",
+        Some(ResponseCode::AuthenticationFailed) => "authentication failed",
+        Some(ResponseCode::InvalidCredential) => "invalid credential",
+        Some(ResponseCode::AuthenticationTimeout) => "authentication timeout",
+        Some(ResponseCode::UnableToAuthenticate) => "unable to authenticate",
+        None => "unknown code",
     }
 }

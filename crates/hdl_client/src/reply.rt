@@ -1,0 +1,78 @@
+//! A reply that came.
+
+ghost use Rattle.std.specs.Prelude.{◌≡◌, IfOk, OnErr};
+ghost use Rattle.hdl_msg.specs.Reply.{SpellsReply, reply_seen};
+ghost use Rattle.hdl_client.specs.Reply.{IsReplyTo, IsNoReplyTo};
+
+use crate::exchange::OwnedFrame;
+use crate::fault::ClientFault;
+use hdl_frame::Envelope;
+use hdl_msg::{ReplyView, read_reply};
+use std::marker::Model;
+
+/// A reply: a message that came whole in one frame and that `read_reply` reads. Contracts see its envelope and its message.
+#[derive(Drop)]
+pub struct Reply {
+    envelope: Envelope,
+    message: Vec<u8>,
+}
+
+impl Model for Reply {
+    ghost use Rattle.hdl_client.specs.Reply.{Delivery, IsReply};
+
+    ghost Value = { Delivery };
+
+    ghost view = { λ r. record { envelope = r.envelope; message = r.message.items } };
+
+    ghost invariant = { λ r. IsReply r.envelope r.message.items };
+}
+
+impl Reply {
+    ghost use Rattle.hdl_client.specs.Reply.{IsReplyTo, IsNoReplyTo};
+
+    /// The reply in this frame to the request with this RequestId, if it is one.
+    pub fn of_frame(frame: OwnedFrame, request: u32) -> Result<Reply, ClientFault>
+        ensures delivered { IfOk result (λ reply. reply ≡ record { envelope = frame.envelope; message = frame.payload.items }) }
+        ensures own { IfOk result (IsReplyTo request) }
+        ensures refused { OnErr result (IsNoReplyTo request frame.envelope frame.payload.items) }
+    {
+        let OwnedFrame { envelope, payload } = frame;
+        if envelope.is_truncated() {
+            return Err(ClientFault::NoReply);
+        }
+        if envelope.request != request {
+            return Err(ClientFault::OtherRequest);
+        }
+        match read_reply(&payload) {
+            Ok(_) => Ok(Reply {
+                envelope,
+                message: payload,
+            }),
+            Err(_) => Err(ClientFault::NoReply),
+        }
+    }
+
+    /// The envelope that it came in.
+    pub fn envelope(&self) -> Envelope
+        ensures { result ≡ self.now.envelope }
+    {
+        self.envelope
+    }
+
+    /// The octets of its message.
+    pub fn message(&self) -> &[u8]
+        ensures { result.now ≡ self.now.message }
+    {
+        &self.message
+    }
+
+    /// What it says, where it stands.
+    pub fn view(&self) -> ReplyView<'_>
+        ensures seen { SpellsReply self.now.message (reply_seen result) }
+    {
+        match read_reply(&self.message) {
+            Ok(reply) => reply,
+            Err(_) => unreachable!(),
+        }
+    }
+}
