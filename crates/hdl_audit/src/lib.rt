@@ -12,6 +12,15 @@
 //!
 //! It stands on frames and on the fields of messages, and knows no sockets and no service.
 //!
+//! ```rust
+//! // crates/hdl_host/src/recorder.rt
+//! let answer = Answer::of(frame)?;
+//! self.counts.count(answer);
+//! if answer.accepts_change() {
+//!     self.counts.set_changed(self.moment());
+//! }
+//! ```
+//!
 //! # Decisions
 //!
 //! - **A handle is named only where it is certain.** A whole frame has just one reply, and replies come in the frames' order. A piece has one or none, as the

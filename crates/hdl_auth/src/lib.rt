@@ -7,6 +7,13 @@
 //!
 //! It stands on no other crate of the service, keeps nothing and takes no memory. Nothing is claimed about the strength of
 //! SHA-1 or SHA-256, nor about how long a comparison takes.
+//!
+//! ```rust
+//! // crates/hdl_codec_tests/src/auth.rt
+//! let mut response = Vec::new(rt.alloc());
+//! response.push(request_digest.algorithm().octet())?;
+//! response.extend_from_slice(mac(b"k1", &NONCE, request_digest).as_slice())?;
+//! ```
 #![tactic(auto)]
 
 ghost use Rattle.std.specs.Prelude.{◌≡◌};

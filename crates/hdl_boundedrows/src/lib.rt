@@ -11,6 +11,14 @@
 //!
 //! It stands on `hdl_rows` and what that speaks of.
 //!
+//! ```rust
+//! // crates/handled/src/tabled.rt
+//! match BoundedRows::new(alloc, rows, Vec::new(alloc), Notices::new(*rt)) {
+//!     Ok(rows) => Ok(rows),
+//!     Err(_) => Err(Fault::StoreRefused),
+//! }
+//! ```
+//!
 //! # Decisions
 //!
 //! - **The count is kept**, and not made anew at each write: that would read all handles of a publisher. It is made once, at the start.

@@ -7,6 +7,15 @@
 //! by [`Masks::forget`] at each change. What is found is then the mask by definition; that nothing is kept says nothing, so want of memory changes
 //! no answer.
 //!
+//! ```rust
+//! // crates/hdl_tests/src/masks.rt
+//! let mut masks = Masks::new(rt.alloc())?;
+//! let mut rows = table(&rt, rt.alloc(), LOOKS)?;
+//! let name = Name::read(rt.alloc(), b"10/c")?;
+//! let last = key(rt.alloc(), LISTED)?;
+//! let first = masks.mask(&mut rows, &name, &last);
+//! ```
+//!
 //! # Decisions
 //!
 //! - **What is kept is in no world.** `Service` has it, and its Model's invariant says that it is the table's (`AreTrue`); `step`, `run` and `open` say

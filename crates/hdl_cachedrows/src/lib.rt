@@ -9,6 +9,13 @@
 //!
 //! It stands on `hdl_rows` and the kit's `lru`. Crates above know it through `Rows`.
 //!
+//! ```rust
+//! // crates/hdl_program_tests/src/cached_rows.rt
+//! let rows = PlainRows::new(rt.alloc());
+//! let mut cached = CachedRows::new(rt.alloc(), rows, LIMIT_DEFAULT, RandomState::new(&rt)?)?;
+//! each_call(&rt, rt.alloc(), &mut cached)
+//! ```
+//!
 //! # Decisions
 //!
 //! - **One bound, in octets, and none for the number of handles**: a handle costs 192 at least, so the bound is one for handles too. The fixed

@@ -8,6 +8,12 @@
 //! It stands on the codecs that the service stands on: what it sends is in the grammar of requests, and what it takes for a reply is
 //! in that of replies. It answers a challenge only where the digest in it is that of the request which it sent. A secret is in a
 //! [`Key`] alone, which nothing prints, and no fault carries octets.
+//!
+//! ```rust
+//! // crates/hdl_commands/src/asking.rt
+//! let mut session = connect(rt, &question.server)?;
+//! session.ask(body, key)
+//! ```
 #![tactic(auto)]
 
 mod batch;

@@ -13,6 +13,13 @@
 //! those of `hdl_lines`. Promised is that everything here is total, that a line of a [`Page`] has no control character, that the
 //! line of a hidden key is a function of its index and the length of its data, and that a handle is imported with just the values that
 //! its rows say (`specs/Rows.antt`); what else is printed is tested.
+//!
+//! ```rust
+//! // crates/hdl/src/main.rt
+//! let mut page = Page::new(rt.alloc(), shows_keys);
+//! explain(&mut page, line.trim_end())?;
+//! print!(rt; "{}", page.as_str())?;
+//! ```
 #![tactic(auto)]
 
 mod asking;

@@ -9,6 +9,14 @@
 //! refused an event is Busy and the world is as it was; where room for a run's outcomes is refused the events come back.
 //!
 //! It knows no threads, sockets or clocks.
+//!
+//! ```rust
+//! // crates/hdl_program_tests/src/two_workers.rt
+//! let Ok(tenants) = Tenants::read(alloc, TENANTS) else {
+//!     return Err(Fail::from(AllocError));
+//! };
+//! Ok(Service::open(alloc, tenants, PlainRows::new(alloc))?)
+//! ```
 #![tactic(auto)]
 
 mod answering;

@@ -19,6 +19,14 @@
 //! It stands on the limits, on frames, on `hdl_msg` for that refusal and on `hdl_trail`, and knows no sockets: it is told what was read and written. That it is told the
 //! truth, hdl_host has to see to.
 //!
+//! ```rust
+//! // crates/hdl_host/src/crowd.rt
+//! Ok(count) => match self.book.heard(place, &octets[..count], self.now) {
+//!     Ok(()) => Next::More,
+//!     Err(_) => Next::End,
+//! },
+//! ```
+//!
 //! # Decisions
 //!
 //! - **A number is of a frame, not of a connection's life.** A connection that waits has none, so a crowd may have any number of connections, and there are 1,024 numbers.

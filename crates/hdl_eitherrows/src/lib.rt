@@ -5,6 +5,15 @@
 //!
 //! It stands on `hdl_rows` and what that speaks of.
 //!
+//! ```rust
+//! // crates/hdl_scripts/src/table.rt
+//! let rows = match table {
+//!     Table::Memory => EitherRows::First(PlainRows::new(alloc)),
+//!     Table::Sql => EitherRows::Second(SqlRows::new(alloc).ok()?),
+//! };
+//! Some(Fuse::new(rows, nth, nth))
+//! ```
+//!
 //! # Decisions
 //!
 //! - **Two kinds are one type**, where a type parameter would do: a program's last proof and its compilers go over the whole machine once for

@@ -5,6 +5,16 @@
 //! machine. What an event brings about is said in `hdl_laws`, and done in `hdl_core`.
 //!
 //! It promises nothing: it has types alone.
+//!
+//! ```rust
+//! // crates/hdl_replay/src/script.rt
+//! Ok(bytes) => Ok(Some(Happening::Frame {
+//!     peer,
+//!     moment,
+//!     nonce,
+//!     bytes: Octets::new(bytes),
+//! })),
+//! ```
 #![tactic(auto)]
 
 use hdl_limits::Octets;

@@ -18,6 +18,13 @@
 //! A text can't say a handle without a value, nor one with a space or a line feed in its name. [`left_out`] and [`left_out_of`] count
 //! these, which no clause says.
 //!
+//! ```rust
+//! // crates/handled/src/exporting.rt
+//! let out = export(rt.alloc(), text, rows)?;
+//! put_all(&mut rt.stdout(), out.as_bytes())?;
+//! Ok(say_left_out(rt, left_out(rt.alloc(), text, rows)?))
+//! ```
+//!
 //! # Decisions
 //!
 //! - **The lines of publishers and prefixes are taken over as they stand**, comments too, since a register keeps what they say and not how

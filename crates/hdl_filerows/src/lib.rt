@@ -8,6 +8,12 @@
 //! `sqlite`), and the store is open. What a crash may leave is what the store says (`may_leave`), whose argument is the kit's.
 //!
 //! It stands on `hdl_sqlrows`, whose functions make the writes, and on `sqlite`.
+//!
+//! ```rust
+//! // crates/hdl_lastingrows/src/opening.rt
+//! let rows = rows_over(&mut conn, alloc, rows, spare, opening, &mut alarm)?;
+//! Ok(LastingRows::new(rows, FileRows::over(alloc, conn), alarm))
+//! ```
 #![tactic(auto)]
 
 mod filerows;

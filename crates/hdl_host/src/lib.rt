@@ -16,6 +16,22 @@
 //! It stands on `hdl_workers`, `hdl_lanes`, `hdl_serve`, `hdl_trail`, `hdl_crowd`, `hdl_core`, `hdl_frame` and `hdl_rows`, on `hdl_msg` and what that speaks of for the reply in
 //! place of one that stays back, and on `hdl_replay` for the faults of the program.
 //!
+//! ```rust
+//! // crates/hdl_program_tests/src/sockets.rt
+//! let limits = Limits {
+//!     turns: 10_000,
+//!     ..Limits::DEFAULT
+//! };
+//! let status = host(
+//!     &rt,
+//!     PlainRows::new(rt.alloc()),
+//!     TENANTS,
+//!     limits,
+//!     &mut output,
+//!     &mut faults,
+//! );
+//! ```
+//!
 //! # Decisions
 //!
 //! - **Calls that wait for a peer wait in the kernel, a second at most**: `accept` and `read` by the sockets' time to receive, a datagram by a `poll` of its

@@ -12,6 +12,15 @@
 //! was taken, followed by what it gives, so each item came once and in order.
 //!
 //! None of the calls waits, and none but [`lane`] takes memory. It stands on the kit's `rtrb`.
+//!
+//! ```rust
+//! // crates/hdl_scripts/src/lanes/rings.rt
+//! let room = self.inlet.has_room();
+//! match self.inlet.put(item) {
+//!     Ok(()) => write!(told, " {room}"),
+//!     Err(full) => write!(told, " {room} {} back", full.0),
+//! }
+//! ```
 #![tactic(auto)]
 
 ghost use Rattle.std.specs.Prelude.{◌≡◌, ◌≤◌, ◌<◌, ◌+◌, ◌++◌, ◌∷◌, ◌↔◌, [], IfOk, IsOk, IfErr, OnOk, IsTrue};

@@ -7,6 +7,13 @@
 //!
 //! It stands on `hdl_rows`, `hdl_filerows` and `hdl_sqlrows`.
 //!
+//! ```rust
+//! // crates/hdl_program_tests/src/lasting_rows.rt
+//! let rows = PlainRows::new(alloc);
+//! let spare = PlainRows::new(alloc);
+//! Ok(table_over(alloc, conn, rows, spare, &[(name, first)], Deaf)?)
+//! ```
+//!
 //! # Decisions
 //!
 //! - **Reads go to memory.** What a disk returns may be wrong, and no clause of `Rows` has a condition on that.

@@ -11,6 +11,12 @@
 //! What an event comes to before the table is looked at is a `Task`, a challenge and its response among them. It stands on
 //! `hdl_ops` and on the definitions of `hdl_pool` and `hdl_slots` of a lane's partial messages and challenges, and has no state:
 //! what is said here is said of any service.
+//!
+//! ```rust
+//! // crates/hdl_core/src/service.rt
+//! restricted();
+//! twin_replies();
+//! ```
 #![tactic(auto)]
 
 pub mod laws;

@@ -6,6 +6,12 @@
 //!
 //! This crate is the lowest of the service and stands on no other. What each layer above shares stands here too: the definition of
 //! octets (`specs/Octets.antt`), and [`Items`], a vector that contracts see as a list, such as [`Octets`].
+//!
+//! ```rust
+//! // crates/hdl_codec_tests/src/name.rt
+//! let octets = Octets::new(Vec::from_slice(rt.alloc(), b"10/a")?);
+//! same(&rt, "octets", octets.as_slice(), b"10/a".as_slice());
+//! ```
 #![tactic(auto)]
 
 mod items;

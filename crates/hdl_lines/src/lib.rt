@@ -25,6 +25,14 @@
 //! timestamp; [`printed_is_line`] that what is printed has no control character, and [`written_is_printed`] that the line of a value is
 //! printed as it is; [`hidden_is_refused`] that the line of a hidden key says no value. An index in words is just the number that its
 //! digits spell, and a reference that is read is one that its words spell.
+//!
+//! ```rust
+//! // crates/hdl_codec_tests/src/lines.rt
+//! let value = read_value_line(rt.alloc(), line.as_bytes())?;
+//! let octets = write_value(rt.alloc(), &value)?;
+//! let text = hex::encode(rt.alloc(), octets)?;
+//! same(&rt, line, text.as_str(), *digits);
+//! ```
 #![tactic(auto)]
 
 mod data;

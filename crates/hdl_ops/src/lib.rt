@@ -11,6 +11,15 @@
 //! the replies. The laws in [`laws`] say that a request is decided in one way, and what a decision tells.
 //!
 //! It knows nothing of lanes, events or time.
+//!
+//! ```rust
+//! // crates/hdl_tests/src/ops.rt
+//! let values = Items::new(Vec::from_array(rt.alloc(), [value(rt.alloc())?])?);
+//! apply(&mut rows, Change::Create { name, values }, 1000)?;
+//! let name = Name::read(rt.alloc(), b"10/b")?;
+//! let found = rows.at(&Reference { name, index: 2 })?;
+//! same(&rt, "stamp", found.map(|value| value.timestamp), Some(1000));
+//! ```
 #![tactic(auto)]
 
 mod admit;

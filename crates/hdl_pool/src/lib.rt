@@ -17,6 +17,20 @@
 //! all lanes is as it was but for the called one, which is a function of what it was (`specs/Taking.antt`). The laws of
 //! `specs/Laws.antt` tie these functions to the message that pieces make.
 //!
+//! ```rust
+//! // crates/hdl_tests/src/pool.rt
+//! match pool.take(lane, peer, &frame)? {
+//!     Taken::Whole(whole) => Ok(if whole.as_slice() == message {
+//!         "whole"
+//!     } else {
+//!         "another message"
+//!     }),
+//!     Taken::Kept => Ok("kept"),
+//!     Taken::Ignored => Ok("ignored"),
+//!     Taken::Displaced => Ok("displaced"),
+//! }
+//! ```
+//!
 //! # Decisions
 //!
 //! - **A one-piece message whose key has a partial message of another length is ignored**, as any other piece of another length.

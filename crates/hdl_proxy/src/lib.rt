@@ -11,6 +11,14 @@
 //! What it promises: a question asks for what anybody may read, and for nothing else; a reply shows values that are public, and
 //! never a key; a handle's address leads to its URL value of the lowest index, where that is one to be followed
 //! ([`is_followed`]); a Location holds graphic ASCII alone; and text in a page is escaped.
+//!
+//! ```rust
+//! // crates/hdl_web/src/desk.rt
+//! match begin(self.alloc, sent.method, sent.path, sent.query)? {
+//!     Next::Answer(answer) => Ok(Turn::Made(Ok(answer))),
+//!     Next::Ask(question) => self.board.take(question),
+//! }
+//! ```
 #![tactic(auto)]
 
 mod alias;

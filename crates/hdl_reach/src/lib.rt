@@ -11,6 +11,13 @@
 //!
 //! It stands on `hdl_name`, `hdl_value` and the contract of `hdl_rows`.
 //!
+//! ```rust
+//! // crates/hdl_tests/src/reach.rt
+//! let key = reference(alloc, key, index)?;
+//! let found = mask(alloc, rows, &name, &key)?;
+//! same(rt, what, (key.index, found), (index, want));
+//! ```
+//!
 //! # Decisions
 //!
 //! - **A mask that is a relation**: it is the union over all HS_ADMIN values from which lists lead to the reference, said over paths in the

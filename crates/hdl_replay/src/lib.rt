@@ -10,6 +10,15 @@
 //! between text and lines, over a table that is there already.
 //!
 //! It stands on `hdl_core`, `hdl_tenants` and the contract of `hdl_rows`.
+//!
+//! ```rust
+//! // crates/hdl_program_tests/src/scripts.rt
+//! let mut input = script;
+//! let mut printed = Vec::new(alloc);
+//! let mut told = Vec::new(alloc);
+//! let rows = PlainRows::new(alloc);
+//! let ended = replay(alloc, rows, &mut input, &mut printed, &mut told);
+//! ```
 #![tactic(auto)]
 
 mod fault;

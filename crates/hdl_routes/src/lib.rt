@@ -12,6 +12,16 @@
 //! asked for at just the servers that were named with it, or where none was at those without prefixes; that what is remembered of
 //! prefixes changes only the order; that a server that failed is tried by one question at a time; and that a kept reply is found by its own
 //! request alone, while it is fresh.
+//!
+//! ```rust
+//! // crates/hdl_web/src/board.rt
+//! let known = if self.routes.len() > 1 {
+//!     self.holders.lock(&self.rt).of(prefix, self.now())
+//! } else {
+//!     None
+//! };
+//! places_for(self.alloc, &self.routes, prefix, known)
+//! ```
 #![tactic(auto)]
 
 mod fault;

@@ -7,7 +7,16 @@
 //! Each call takes a name for its canonical form. That a table's values stand at its handles is no clause of the calls: it
 //! is a word of its own (`IsPlaced`), which every write keeps under its conditions.
 //!
-//! It stands on `hdl_name` and `hdl_value`. The crates above know a table through [`Rows`] alone.
+//! The crates above know a table through [`Rows`] alone.
+//!
+//! ```rust
+//! // crates/hdl_tests/src/ops.rt
+//! let mut rows = PlainRows::new(rt.alloc());
+//! let name = Name::read(rt.alloc(), b"10/b")?;
+//! assert!(rt; !rows.exists(&name)?);
+//! rows.create(&name, &[])?;
+//! assert!(rt; rows.exists(&name)?);
+//! ```
 //!
 //! # Decisions
 //!

@@ -16,6 +16,11 @@
 //! number of turns. It stands on `hdl_core`, `hdl_laws`, `hdl_events`,
 //! `hdl_workers` and `hdl_lanes`.
 //!
+//! ```rust
+//! // crates/hdl_program_tests/src/two_workers.rt
+//! drop(serve(alloc, opened(alloc)?, lanes, &mut clock, TURNS));
+//! ```
+//!
 //! # Decisions
 //!
 //! - **An event is answered before the next one is taken**, by `step`, which needs no room that could be refused: so there is nothing that

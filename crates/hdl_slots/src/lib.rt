@@ -10,6 +10,17 @@
 //! The laws of `specs/Laws.antt` say what follows: what was put is found under its number, what was taken is gone, no lane has
 //! more than eight. Whether a response is right is said by `hdl_auth`.
 //!
+//! ```rust
+//! // crates/hdl_tests/src/slots.rt
+//! let mut slots = Slots::new(rt.alloc())?;
+//! for k in 1..=8u64 {
+//!     slots.put(3, challenge(rt.alloc(), 0, k)?);
+//! }
+//! slots.take(3, 0, 4);
+//! slots.put(3, challenge(rt.alloc(), 0, 9)?);
+//! same(&rt, "the oldest", moment(slots.find(3, 0, 1)), Some(1));
+//! ```
+//!
 //! # Decisions
 //!
 //! - **A challenge's number stands beside it** (`Challenge { number, pending }`), since the lane gives it.

@@ -4,6 +4,15 @@
 //! A program that has words on its command line reads them with `clap`. Where these leave nothing to do, [`status_of_words`] says
 //! with which status it ends (docs/PROTOCOL.md, "The tenants text and scripts"). It stands in a crate of its own, so that its wrong
 //! bodies are tried in seconds: a program's own check takes minutes.
+//!
+//! ```rust
+//! // crates/handled/src/words.rt
+//! let is_help = !error.use_stderr();
+//! match error.print(rt) {
+//!     Err(_) if is_help => Err(Fault::Device),
+//!     _ => Ok(Invocation::Ended(status_of_words(is_help))),
+//! }
+//! ```
 #![tactic(auto)]
 
 ghost use Rattle.std.specs.Prelude.{◌≡◌, if◌then◌else◌};

@@ -13,6 +13,12 @@
 //!
 //! [`decimal`] reads the numbers of scripts too.
 //!
+//! ```rust
+//! // crates/hdl_tests/src/tenants.rt
+//! let tenants = read(&rt, TEXT)?;
+//! same(&rt, "lanes", tenants.lanes(), 4);
+//! ```
+//!
 //! # Decisions
 //!
 //! - **A prefix of several publishers is found by the prefix, with the list of its publishers beside it**, since a look-up takes no memory

@@ -16,6 +16,15 @@
 //! what the service keeps is proved in hdl_follows. Whether a reply is too long for what asked, and whether an address answered a challenge, is what
 //! `specs/Allowance.antt` says.
 //! It stands on the limits and on frames, and knows no sockets: an address is whatever can be compared.
+//!
+//! ```rust
+//! // crates/hdl_host/src/packets.rt
+//! let from = Origin { place, address };
+//! if let Ok(Some(peer)) = self.post.peers.came(from, &buffer[..length]) {
+//!     self.post.came(peer, &buffer[..length]);
+//!     return Ok(Some((peer, length)));
+//! }
+//! ```
 #![tactic(auto)]
 
 mod allowance;

@@ -15,6 +15,13 @@
 //!
 //! `specs/Reading.antt` has readers that are made of readers, with two laws (what is read is spelt there, what is spelt
 //! is read), proved once in `proofs/Codecs.antt`. The layouts above, as those of messages, are terms over these.
+//!
+//! ```rust
+//! // crates/hdl_codec_tests/src/value.rt
+//! let (value, _) = read_value(rt.alloc(), &PRINTED)?;
+//! let written = write_value(rt.alloc(), &value)?;
+//! same(&rt, "written", written.as_slice(), PRINTED.as_slice());
+//! ```
 #![tactic(auto)]
 
 mod admin;

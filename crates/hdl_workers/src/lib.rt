@@ -16,6 +16,13 @@
 //! number of turns. It stands on `hdl_events`, `hdl_frame` and `hdl_lanes`, and has doors, a clock and nonces in memory, of whose calls
 //! a given one fails.
 //!
+//! ```rust
+//! // crates/hdl_program_tests/src/two_workers.rt
+//! let (ends, sides) = lanes_of(alloc, 2, 16)?;
+//! let workers = start_both(&rt, alloc, sides, &left)?;
+//! serve_both(&rt, alloc, ends, &left)?;
+//! ```
+//!
 //! # Decisions
 //!
 //! - **A clock and a source of nonces tell what they have still to give, not what they gave.** With "zeros after the end" a history needs an

@@ -12,6 +12,12 @@
 //! (`record_in`), `specs/Credentials.antt` the key that a field means (`key_in`), and `specs/Plan.antt` which requests put values into a
 //! handle, in which order (`merging`, `replacing`); [`read_record`], [`read_key`], [`merging`] and [`replacing`] do just that, want of
 //! memory aside. Laws: the JSON of a value is read as it ([`written_is_read`]), and a change loses nothing ([`nothing_is_lost`]).
+//!
+//! ```rust
+//! // crates/hdl_web/src/worker.rt
+//! clerk.turn_to(turn);
+//! let _ = answer.send(carry_out(alloc, &mut clerk, &order, &body));
+//! ```
 #![tactic(auto)]
 
 mod carry;
