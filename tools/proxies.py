@@ -60,6 +60,10 @@ value 10/nothing 1 10320/loc 3600 1110 UTF8 <locations><location href="https://o
 value 10/nothing 2 URL 86400 1110 UTF8 https://example.org/own
 value 10/unread 1 10320/loc 3600 1110 UTF8 <locations><location href="https://one.example.org/" weight="heavy"/></locations>
 value 10/unread 2 URL 86400 1110 UTF8 https://example.org/own
+value 10/signed 1 10320/loc 3600 1110 UTF8 <locations><location href="https://one.example.org/" weight="+5"/></locations>
+value 10/longer 1 10320/loc 3600 1110 UTF8 <locationsx="1"><location href="https://one.example.org/"/></locations>
+value 10/behind 1 10320/loc 3600 1110 UTF8 <locations/><location href="https://one.example.org/"/>
+value 10/strict 1 10320/loc 3600 1110 UTF8 <locations><!-- a - b --><!----><location  href = "https://one.example.org/?a=&apos;&lt;&gt;&quot;" weight="007" xml:lang="en" > </location></locations>
 value 10/spread 1 10320/loc 0 1110 UTF8 <locations><location href="https://a.example.org/"/><location href="https://b.example.org/" weight="3"/></locations>
 value 10/circle 1 HS_ALIAS 86400 1110 UTF8 20/circle
 value 10/self 1 HS_ALIAS 86400 1110 UTF8 10/self
@@ -93,8 +97,8 @@ def refusal(asked, why, advice, word="Not found"):
     return "%s: %s - %s" % (word, asked, SITE_TEXT), "%s<h1>%s</h1>\n<p>%s</p>\n<p>%s</p>\n%s" % (HEADER, asked, why, advice, ANOTHER)
 
 
-def values(handle, *parts):
-    return "%s - %s" % (handle, SITE_TEXT), "%s<h1>%s</h1>\n%s%s" % (HEADER, handle, COLUMNS % "".join(parts), ANOTHER)
+def values(handle, *parts, wrong=""):
+    return "%s - %s" % (handle, SITE_TEXT), "%s<h1>%s</h1>\n%s%s%s" % (HEADER, handle, wrong, COLUMNS % "".join(parts), ANOTHER)
 
 
 def empty(handle):
@@ -141,8 +145,18 @@ A_PAGE = values("10/a", value("URL", 1, link(ONE, "https://example.org/one?q=1&a
 SCRIPT_PAGE = values("10/script", value("URL", 1, text("javascript:alert(1)")), value("URL", 2, link("https://example.org/", "https://example.org/")))
 PLACES = html.escape('<locations chooseby="locatt,weighted"> <!-- two places --> <location id="1" href="https://one.example.org/a?b=1&amp;c" weight="1"/> '
                      "<location id='2' href=\"https://two.example.org/\" weight=\"0\"></location> <location id=\"3\" href=\"javascript:alert(1)\" weight=\"0\"/> </locations>")
-PLACES_PAGE = values("10/places", value("URL", 1, link("https://example.org/own", "https://example.org/own")),
-                     value("10320/loc", 2, text(PLACES.replace("&#x27;", "&#39;")), "for an hour"))
+PLACES_VALUES = (value("URL", 1, link("https://example.org/own", "https://example.org/own")),
+                 value("10320/loc", 2, text(PLACES.replace("&#x27;", "&#39;")), "for an hour"))
+UNREAD = ('<p class="note">The locations of this handle (10320/loc) can\'t be read, so its address leads nowhere. Please tell whoever gave it to you. '
+          "These are its values:</p>\n")
+UNFOLLOWED = ('<p class="note">The location that this address asks for, or that was chosen, isn\'t one that is followed here. Please tell whoever gave it to you. '
+              "These are the handle\'s values:</p>\n")
+
+
+def unread(handle, written, *more):
+    return ("GET /" + handle, 200, KEPT % 3600, None, values(handle, value("10320/loc", 1, text(html.escape(written)), "for an hour"), *more, wrong=UNREAD))
+
+
 ADMINISTRATOR = '<p>Whoever has the key <span class="data">300:0.NA/10</span> may</p>\n<ul class="may">%s</ul>\n'
 ALL = "".join("<li>%s</li>" % may for may in ("create handles", "delete them", "list them", "read what isn't public", "add values", "change values", "remove values",
                                              "add administrators", "change administrators", "remove administrators"))
@@ -217,12 +231,15 @@ PAGES = (
     ("GET /10/places?urlappend=d", 302, KEPT % 3600, "https://one.example.org/a?b=1&cd", way("10/places", "https://one.example.org/a?b=1&amp;cd")),
     ("GET /10/places?locatt=id:2", 302, KEPT % 3600, "https://two.example.org/", way("10/places", "https://two.example.org/")),
     ("GET /10/places?locatt=id:4", 302, KEPT % 3600, "https://one.example.org/a?b=1&c", way("10/places", "https://one.example.org/a?b=1&amp;c")),
-    ("GET /10/places?locatt=id:3", 200, KEPT % 3600, None, PLACES_PAGE),
-    ("GET /10/places?noredirect", 200, KEPT % 3600, None, PLACES_PAGE),
+    ("GET /10/places?locatt=id:3", 200, KEPT % 3600, None, values("10/places", *PLACES_VALUES, wrong=UNFOLLOWED)),
+    ("GET /10/places?noredirect", 200, KEPT % 3600, None, values("10/places", *PLACES_VALUES)),
     ("GET /10/nothing", 302, KEPT % 3600, "https://example.org/own", way("10/nothing", "https://example.org/own")),
-    ("GET /10/unread", 200, KEPT % 3600, None,
-     values("10/unread", value("10320/loc", 1, text("&lt;locations&gt;&lt;location href=&quot;https://one.example.org/&quot; weight=&quot;heavy&quot;/&gt;&lt;/locations&gt;"), "for an hour"),
-            value("URL", 2, link("https://example.org/own", "https://example.org/own")))),
+    unread("10/unread", '<locations><location href="https://one.example.org/" weight="heavy"/></locations>',
+           value("URL", 2, link("https://example.org/own", "https://example.org/own"))),
+    unread("10/signed", '<locations><location href="https://one.example.org/" weight="+5"/></locations>'),
+    unread("10/longer", '<locationsx="1"><location href="https://one.example.org/"/></locations>'),
+    unread("10/behind", '<locations/><location href="https://one.example.org/"/>'),
+    ("GET /10/strict?locatt=xml:lang:en", 302, KEPT % 3600, "https://one.example.org/?a='%3C%3E%22", way("10/strict", "https://one.example.org/?a=&#39;%3C%3E%22")),
     ("GET /10/kept", 302, KEPT % 86400, "https://example.org/own", way("10/kept", "https://example.org/own")),
     ("GET /10/odd", 302, KEPT % 86400, "https://example.org/own", way("10/odd", "https://example.org/own")),
     ("GET /10/gone", 404, NEVER, None, refusal("20/none", ABSENT, LOOK)),

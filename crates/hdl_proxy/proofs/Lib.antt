@@ -1,4 +1,5 @@
 pub mod Addresses
+pub mod Asked
 pub mod Behind
 pub mod Firsts
 pub mod Inert
@@ -9,6 +10,7 @@ pub mod NoFloats
 pub mod NoName
 pub mod Pairs
 pub mod Paths
+pub mod Pieces
 pub mod Sections
 pub mod Soonest
 pub mod Texts

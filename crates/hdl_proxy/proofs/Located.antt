@@ -3,7 +3,7 @@ use Rattle.std.proofs.Common.{◌≡◌, ◌≢◌, ℕ, Bool, true, false, cond
 use Rattle.std.specs.Global.{Global}
 use Rattle.std.proofs.lemmas.List.Elements.{All-cons}
 use Rattle.hdl_value.specs.declared.value.Value.{Value}
-use Rattle.hdl_proxy.specs.Answer.{LeadsTo, Tells, IsLocated, IsWayBy, IsWayFrom, IsWayOfValue, IsWayToMeant, Goes, ShowsValues, ShowsFound}
+use Rattle.hdl_proxy.specs.Answer.{LeadsTo, Tells, IsLocated, IsWayAt, IsWayBy, IsWayFrom, IsWayOf, IsWayOfValue, IsWayToMeant, Goes, ShowsValues, ShowsFound}
 use Rattle.hdl_proxy.specs.Link.{IsLink, address_of, path_to}
 use Rattle.hdl_proxy.specs.Status.{status_of_code}
 use Rattle.hdl_proxy.specs.Url.{IsGraphic, extended}
@@ -12,6 +12,9 @@ use Rattle.hdl_proxy.specs.declared.answer.Media.{Media}
 use Rattle.hdl_proxy.specs.declared.answer.Status.{Status}
 use Rattle.hdl_proxy.specs.declared.answer.Status.TheVariants as status
 use Rattle.hdl_proxy.specs.declared.found.Found.{Found}
+use Rattle.hdl_proxy.specs.declared.locations.Location.{Location}
+use Rattle.hdl_proxy.specs.declared.note.Note.{Note}
+use Rattle.std.specs.Borrow.{Bor}
 use Rattle.hdl_proxy.specs.declared.found.Found.TheVariants.{Values, Refused, Nothing}
 use Rattle.hdl_proxy.specs.declared.question.Form.{Form}
 use Rattle.hdl_proxy.specs.declared.question.Form.TheVariants.{Follow, Page, Json, Pretty}
@@ -68,21 +71,32 @@ way_graphic : (append to : List ℕ) (first : Option Value) → IsWayOfValue fir
 way_graphic append to None w = absurd cc
 way_graphic append to (Some v) w = meant_graphic (extended v.bytes append) to w
 
-from_graphic : (values : List Value) (append to : List ℕ) (place : Option Value) → IsWayBy place values append (Some to) → All IsGraphic to
-from_graphic values append to None w = way_graphic append to w.0 w.1.1
-from_graphic values append to (Some place) w = meant_graphic w.0 to w.1
+url_graphic : (values : List Value) (append to : List ℕ) → IsWayOf values append (Some to) → All IsGraphic to
+url_graphic values append to w = way_graphic append to w.0 w.1.1
 
-goes_located : (handle append : List ℕ) (values : List Value) (way : Option (List ℕ)) (a : Answer) → IsWayFrom values append way → Goes handle values way a → IsLocated a
-goes_located handle append values None a w h = tells_located status.Success _ a (λ e. cc) h.told
-goes_located handle append values (Some to) a w h = leads_located handle to a (from_graphic values append to w.0 w.1.1) h.leads
+at_graphic : (chosen : Option (Bor Location)) (values : List Value) (append to : List ℕ) (wrong : Note) → IsWayAt chosen values append (Some to) wrong → All IsGraphic to
+at_graphic None values append to wrong w = url_graphic values append to w.0
+at_graphic (Some chosen) values append to wrong w = meant_graphic (extended chosen.now.href.items append) to w.0
 
-values_located : (form : Form) (handle append : List ℕ) (values : List Value) (a : Answer) → ShowsValues form handle append values a → IsLocated a
-values_located Follow handle append values a h = goes_located handle append values h.0 a h.1.0 h.1.1
-values_located Page handle append values a h = tells_located status.Success _ a (λ e. cc) h.told
-values_located Json handle append values a h = tells_located status.Success _ a (λ e. cc) h.told
-values_located Pretty handle append values a h = tells_located status.Success _ a (λ e. cc) h.told
+place_graphic : (values : List Value) (append locatt to : List ℕ) (place : Value) (wrong : Note) → IsWayBy (Some place) values append locatt (Some to) wrong → All IsGraphic to
+place_graphic values append locatt to place wrong (inl w) = absurd cc
+place_graphic values append locatt to place wrong (inr w) = at_graphic w.1.1.0 values append to wrong w.1.1.1.1
 
-pub found_located : (form : Form) (handle append : List ℕ) (found : Found) (a : Answer) → ShowsFound form handle append found a → IsLocated a
-found_located form handle append (Values values) a h = values_located form handle append values.items a h
-found_located form handle append (Refused code) a h = tells_located (status_of_code code) _ a (no_code_follows code) h.told
-found_located form handle append Nothing a h = tells_located status.BadGateway _ a (λ e. cc) h.told
+from_graphic : (values : List Value) (append locatt to : List ℕ) (place : Option Value) (wrong : Note) → IsWayBy place values append locatt (Some to) wrong → All IsGraphic to
+from_graphic values append locatt to None wrong w = url_graphic values append to w.0
+from_graphic values append locatt to (Some place) wrong w = place_graphic values append locatt to place wrong w
+
+goes_located : (handle append locatt : List ℕ) (values : List Value) (way : Option (List ℕ)) (wrong : Note) (a : Answer) → IsWayFrom values append locatt way wrong → Goes handle values way wrong a → IsLocated a
+goes_located handle append locatt values None wrong a w h = tells_located status.Success _ a (λ e. cc) h.told
+goes_located handle append locatt values (Some to) wrong a w h = leads_located handle to a (from_graphic values append locatt to w.0 wrong w.1.1) h.leads
+
+values_located : (form : Form) (handle append locatt : List ℕ) (values : List Value) (a : Answer) → ShowsValues form handle append locatt values a → IsLocated a
+values_located Follow handle append locatt values a h = goes_located handle append locatt values h.0 h.1 a h.2.0 h.2.1
+values_located Page handle append locatt values a h = tells_located status.Success _ a (λ e. cc) h.told
+values_located Json handle append locatt values a h = tells_located status.Success _ a (λ e. cc) h.told
+values_located Pretty handle append locatt values a h = tells_located status.Success _ a (λ e. cc) h.told
+
+pub found_located : (form : Form) (handle append locatt : List ℕ) (found : Found) (a : Answer) → ShowsFound form handle append locatt found a → IsLocated a
+found_located form handle append locatt (Values values) a h = values_located form handle append locatt values.items a h
+found_located form handle append locatt (Refused code) a h = tells_located (status_of_code code) _ a (no_code_follows code) h.told
+found_located form handle append locatt Nothing a h = tells_located status.BadGateway _ a (λ e. cc) h.told

@@ -5,14 +5,11 @@ use Rattle.std.proofs.lemmas.List.{append-nil, take_more}
 use Rattle.std.proofs.lemmas.Slice.Zip.{all_zipped_more}
 use Rattle.hdl_value.specs.declared.value.Value.{Value}
 use Rattle.hdl_value.specs.Refs.{admin_read, list_read}
+use Rattle.hdl_proxy.proofs.Pieces.{concat_push}
 use Rattle.hdl_proxy.specs.Pages.{IsOctetsPart, IsDataPart, IsSection, IsSections}
 
 pub octets_told : (v : Value) (octets part : List ℕ) → admin_read v ≡ None → list_read v ≡ None → octets ≡ v.bytes → IsOctetsPart octets part → IsDataPart v part
 octets_told v octets part no_admin no_list same h = rw (no_admin, no_list) (subst (λ (o : List ℕ). IsOctetsPart o part) same h)
-
-concat_push : (parts : List (List ℕ)) (part : List ℕ) → concat parts ++ part ≡ concat (parts ++ part ∷ [])
-concat_push [] part = sym (append-nil part)
-concat_push (first ∷ parts) part = append_assoc first (concat parts) part ∙ ap (λ (x : List ℕ). first ++ x) (concat_push parts part)
 
 sections_push : (values : List Value) (v : Value) (part section : List ℕ) → IsSections values part → IsSection v section → IsSections (values ++ v ∷ []) (part ++ section)
 sections_push values v part section h s =

@@ -1,5 +1,5 @@
 -- What is answered.
-use Rattle.std.specs.Prelude.{◌≡◌, ◌≢◌, ℕ, Bool, true, false, List, All, Option, Some, None, MatchOption, Result, codes, option_map, string_bytes}
+use Rattle.std.specs.Prelude.{◌≡◌, ◌≢◌, ◌⊎◌, IfSome, ℕ, Bool, true, false, List, All, Option, Some, None, MatchOption, Result, codes, option_map, string_bytes}
 use Rattle.std.specs.Borrow.{Bor}
 use Rattle.hdl_value.specs.declared.value.Value.{Value}
 use Rattle.serde_json.specs.Written.{compact_text}
@@ -8,6 +8,7 @@ use Rattle.hdl_proxy.specs.Found.{IsFoundOf}
 use Rattle.hdl_proxy.specs.Json.{refusal_json, IsJsonOf, IsPrettyOf}
 use Rattle.hdl_proxy.specs.Keeping.{IsKeepingOf}
 use Rattle.hdl_proxy.specs.Link.{IsWayTo}
+use Rattle.hdl_proxy.specs.Locations.{IsChosenOf, SaysLocations}
 use Rattle.hdl_proxy.specs.Pages.{refusal_page, redirect_page, IsPageOf}
 use Rattle.hdl_proxy.specs.Status.{status_of_code, refused_words}
 use Rattle.hdl_proxy.specs.Url.{IsGraphic, extended}
@@ -19,6 +20,9 @@ use Rattle.hdl_proxy.specs.declared.answer.Status.{Status}
 use Rattle.hdl_proxy.specs.declared.answer.Status.TheVariants as status
 use Rattle.hdl_proxy.specs.declared.found.Found.{Found}
 use Rattle.hdl_proxy.specs.declared.found.Found.TheVariants.{Values, Refused, Nothing}
+use Rattle.hdl_proxy.specs.declared.locations.Location.{Location}
+use Rattle.hdl_proxy.specs.declared.note.Note.{Note}
+use Rattle.hdl_proxy.specs.declared.note.Note.TheVariants as note
 use Rattle.hdl_proxy.specs.declared.question.Form.{Form}
 use Rattle.hdl_proxy.specs.declared.question.Form.TheVariants.{Follow, Page, Json, Pretty}
 use Rattle.hdl_proxy.specs.declared.question.Question.{Question}
@@ -59,17 +63,33 @@ IsWayOfValue (Some value) append way = IsWayToMeant (extended value.bytes append
 abbrev pub IsWayOf : List Value → List ℕ → Option (List ℕ) → Type 0
 IsWayOf values append way = (first : Option Value) × (IsFirstUrl values first × IsWayOfValue first append way)
 
--- some way: a URL's that is one to be followed, or none
-abbrev pub IsSomeWay : Option (List ℕ) → Type 0
-IsSomeWay way = (meant : Option (List ℕ)) × IsWayToMeant meant way
+-- what is wrong where the location that was chosen leads this way
+abbrev pub note_of : Option (List ℕ) → Note
+note_of None = note.Unfollowed
+note_of (Some to) = note.Nothing
 
--- where a handle's own address leads: some way where it has locations, and else to its first URL
-abbrev pub IsWayBy : Option Value → List Value → List ℕ → Option (List ℕ) → Type 0
-IsWayBy None values append way = IsWayOf values append way
-IsWayBy (Some place) values append way = IsSomeWay way
+-- the way to the location that was chosen with this behind it, and where none was to the first URL; and what is wrong
+abbrev pub IsWayAt : Option (Bor Location) → List Value → List ℕ → Option (List ℕ) → Note → Type 0
+IsWayAt None values append way wrong = IsWayOf values append way × (wrong ≡ note.Nothing)
+IsWayAt (Some chosen) values append way wrong = IsWayToMeant (extended chosen.now.href.items append) way × (wrong ≡ note_of way)
 
-abbrev pub IsWayFrom : List Value → List ℕ → Option (List ℕ) → Type 0
-IsWayFrom values append way = (place : Option Value) × (IsFirstOf (codes "10320/loc") values place × IsWayBy place values append way)
+abbrev pub IsWayAmong : List Location → List Value → List ℕ → Option (List ℕ) → Note → Type 0
+IsWayAmong locations values append way wrong =
+    (chosen : Option (Bor Location)) × (IfSome chosen (IsChosenOf locations) × IsWayAt chosen values append way wrong)
+
+-- none, since locations can't be read
+abbrev pub IsUnread : Option (List ℕ) → Note → Type 0
+IsUnread way wrong = (way ≡ None) × (wrong ≡ note.Unread)
+
+-- where a handle's own address leads, and what is wrong: among the locations that it says, where it has some, and else to its first URL
+abbrev pub IsWayBy : Option Value → List Value → List ℕ → List ℕ → Option (List ℕ) → Note → Type 0
+IsWayBy None values append locatt way wrong = IsWayOf values append way × (wrong ≡ note.Nothing)
+IsWayBy (Some place) values append locatt way wrong =
+    IsUnread way wrong ⊎ ((locations : List Location) × (SaysLocations locatt place.bytes locations × IsWayAmong locations values append way wrong))
+
+abbrev pub IsWayFrom : List Value → List ℕ → List ℕ → Option (List ℕ) → Note → Type 0
+IsWayFrom values append locatt way wrong =
+    (place : Option Value) × (IsFirstOf (codes "10320/loc") values place × IsWayBy place values append locatt way wrong)
 
 -- ---- what is answered to a question
 
@@ -86,13 +106,13 @@ is_json Page = false
 is_json Json = true
 is_json Pretty = true
 
--- A page, or JSON without a space or over many lines, of this handle and these values, and of nothing else. Others may keep it as long as
--- each of these values.
-pub record IsPage (handle : List ℕ) (values : List Value) (answer : Answer) : Type 0 where
+-- A page, or JSON without a space or over many lines, of this handle and these values, and of nothing else; a page says what is wrong too. Others may
+-- keep it as long as each of these values.
+pub record IsPage (handle : List ℕ) (wrong : Note) (values : List Value) (answer : Answer) : Type 0 where
   pub told : Tells status.Success media.Page answer
   pub kept : IsKeepingOf values answer.keeping
   pub title : answer.title.items ≡ handle
-  pub body : IsPageOf handle values answer.body.items
+  pub body : IsPageOf handle wrong values answer.body.items
 
 pub record IsJson (handle : List ℕ) (values : List Value) (answer : Answer) : Type 0 where
   pub told : Tells status.Success media.Json answer
@@ -109,17 +129,19 @@ pub record LeadsBy (handle : List ℕ) (values : List Value) (to : List ℕ) (an
   pub leads : LeadsTo handle to answer
   pub kept : IsKeepingOf values answer.keeping
 
--- it goes this way, and where there is none it is a page of the values
-abbrev pub Goes : List ℕ → List Value → Option (List ℕ) → Answer → Type 0
-Goes handle values None answer = IsPage handle values answer
-Goes handle values (Some to) answer = LeadsBy handle values to answer
+-- it goes this way, and where there is none it is a page of the values that says what is wrong
+abbrev pub Goes : List ℕ → List Value → Option (List ℕ) → Note → Answer → Type 0
+Goes handle values None wrong answer = IsPage handle wrong values answer
+Goes handle values (Some to) wrong answer = LeadsBy handle values to answer
 
--- in this form these values: the way from them, with this behind their URL, where they are to be followed and there is one, and else all of them
-abbrev pub ShowsValues : Form → List ℕ → List ℕ → List Value → Answer → Type 0
-ShowsValues Follow handle append values answer = (way : Option (List ℕ)) × (IsWayFrom values append way × Goes handle values way answer)
-ShowsValues Page handle append values answer = IsPage handle values answer
-ShowsValues Json handle append values answer = IsJson handle values answer
-ShowsValues Pretty handle append values answer = IsPretty handle values answer
+-- in this form these values: the way from them, with this behind their URL or to the location with this attribute, where they are to be followed and there
+-- is one, and else all of them
+abbrev pub ShowsValues : Form → List ℕ → List ℕ → List ℕ → List Value → Answer → Type 0
+ShowsValues Follow handle append locatt values answer =
+    (way : Option (List ℕ)) × (wrong : Note) × (IsWayFrom values append locatt way wrong × Goes handle values way wrong answer)
+ShowsValues Page handle append locatt values answer = IsPage handle note.Nothing values answer
+ShowsValues Json handle append locatt values answer = IsJson handle values answer
+ShowsValues Pretty handle append locatt values answer = IsPretty handle values answer
 
 -- the page, or the JSON, that says why there are no values
 abbrev pub refusal_body : Form → List ℕ → ℕ → List ℕ → List ℕ
@@ -135,12 +157,12 @@ pub record Refuses (given : Status) (form : Form) (handle : List ℕ) (code : �
   pub body : answer.body.items ≡ refusal_body form handle code why
 
 -- in this form what was found: values, or the status of a code, or that no server answered
-abbrev pub ShowsFound : Form → List ℕ → List ℕ → Found → Answer → Type 0
-ShowsFound form handle append (Values values) answer = ShowsValues form handle append values.items answer
-ShowsFound form handle append (Refused code) answer = Refuses (status_of_code code) form handle code (refused_words code) answer
-ShowsFound form handle append Nothing answer = Refuses status.BadGateway form handle 2 (codes "No server answered.") answer
+abbrev pub ShowsFound : Form → List ℕ → List ℕ → List ℕ → Found → Answer → Type 0
+ShowsFound form handle append locatt (Values values) answer = ShowsValues form handle append locatt values.items answer
+ShowsFound form handle append locatt (Refused code) answer = Refuses (status_of_code code) form handle code (refused_words code) answer
+ShowsFound form handle append locatt Nothing answer = Refuses status.BadGateway form handle 2 (codes "No server answered.") answer
 
 -- it answers the question by what was found of its handle in what a resolver gave, and by nothing else
 abbrev pub Answers : Question → Result (Bor (List ℕ)) NoAnswer → Answer → Type 0
 Answers question answered answer =
-    (found : Found) × (IsFoundOf question.name answered found × ShowsFound question.form question.name question.append.items found answer)
+    (found : Found) × (IsFoundOf question.name answered found × ShowsFound question.form question.name question.append.items (string_bytes question.locatt) found answer)

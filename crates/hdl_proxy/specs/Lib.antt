@@ -8,6 +8,7 @@ pub mod Json
 pub mod Keeping
 pub mod Link
 pub mod Locations
+pub mod Note
 pub mod Pages
 pub mod Pasted
 pub mod Query
@@ -18,3 +19,4 @@ pub mod Step
 pub mod Tag
 pub mod Url
 pub mod Words
+pub mod Xml

@@ -1,7 +1,61 @@
--- Which location of a handle is chosen.
-use Rattle.std.specs.Prelude.{◌<◌, ℕ, Bool, true, false, List, Contains, max, if◌then◌else◌}
+-- Which locations a value says, and which of them is chosen.
+use Rattle.std.specs.Prelude.{◌≡◌, ◌<◌, ◌⊎◌, ℕ, Bool, true, false, List, [], ◌∷◌, ◌++◌, length, codes, Contains, Option, Some, None, max, if◌then◌else◌}
+use Rattle.std.specs.List.{AllPass, AllZip, concat, list_any}
 use Rattle.std.specs.Borrow.{Bor}
+use Rattle.std.specs.Str.{bytes_eq}
+use Rattle.std.specs.Str.Parse.{IsNumeral, digits_value}
+use Rattle.hdl_proxy.specs.Xml.{IsBetween, IsTag, is_blank, said}
 use Rattle.hdl_proxy.specs.declared.locations.Location.{Location}
+use Rattle.hdl_proxy.specs.declared.xml.Attribute.{Attribute}
+
+-- ---- what a value says
+
+-- what the attribute `weight` says, as decimal digits, and 1 where there is none
+abbrev pub IsWeight : Option (List ℕ) → ℕ → Type 0
+IsWeight None weight = weight ≡ 1
+IsWeight (Some digits) weight = IsNumeral 10 digits × (weight ≡ digits_value 10 digits)
+
+-- there is an attribute whose name, a colon, and what it says are this text
+abbrev pub wanted_text : Attribute → List ℕ
+wanted_text one = one.name.items ++ (codes ":" ++ one.text.items)
+
+abbrev pub is_wanted : List ℕ → List Attribute → Bool
+is_wanted locatt attributes = list_any (λ one. bytes_eq (wanted_text one) locatt) attributes
+
+-- the location of these attributes: where it leads, how much it weighs, and whether it has the attribute that is asked for
+pub record IsLocationOf (locatt : List ℕ) (attributes : List Attribute) (location : Location) : Type 0 where
+  pub href : said (codes "href") attributes ≡ Some location.href.items
+  pub weight : IsWeight (said (codes "weight") attributes) location.weight
+  pub wanted : location.is_wanted ≡ is_wanted locatt attributes
+
+-- a tag ends at once, or another one ends what it began, in which nothing stands
+abbrev pub IsEnd : List ℕ → Type 0
+IsEnd written = (written ≡ codes "/>") ⊎ ((blank : List ℕ) × (AllPass is_blank blank × (written ≡ codes ">" ++ (blank ++ codes "</location>"))))
+
+-- a location, behind blanks and comments
+abbrev pub IsLocation : List ℕ → List ℕ → Location → Type 0
+IsLocation locatt written location =
+    (before tag back : List ℕ) × (attributes : List Attribute) × (IsBetween before × IsTag (codes "<location") tag attributes × IsEnd back
+    × IsLocationOf locatt attributes location × (written ≡ before ++ (tag ++ back)))
+
+-- locations up to the tag that ends them
+abbrev pub AreLocations : List ℕ → List ℕ → List Location → Type 0
+AreLocations locatt written locations =
+    (pieces : List (List ℕ)) × (after : List ℕ) × (AllZip (IsLocation locatt) pieces locations × IsBetween after
+    × (written ≡ concat pieces ++ (after ++ codes "</locations>")))
+
+-- what stands behind the front tag: nothing where that ends at once
+abbrev pub IsInside : List ℕ → List ℕ → List Location → Type 0
+IsInside locatt written locations =
+    ((written ≡ codes "/>") × (locations ≡ [])) ⊎ ((inside : List ℕ) × (AreLocations locatt inside locations × (written ≡ codes ">" ++ inside)))
+
+-- a value says these locations, of which each knows whether it has the attribute that is asked for
+abbrev pub SaysLocations : List ℕ → List ℕ → List Location → Type 0
+SaysLocations locatt value locations =
+    (before tag inside after : List ℕ) × (attributes : List Attribute) × (AllPass is_blank before × IsTag (codes "<locations") tag attributes
+    × IsInside locatt inside locations × AllPass is_blank after × (value ≡ before ++ (tag ++ (inside ++ after))))
+
+-- ---- which one is chosen
 
 -- how much it weighs: where only those with the attribute that is asked for are chosen, such a one at least 1 and any other nothing
 abbrev pub weight_for : Bool → Location → ℕ

@@ -14,6 +14,8 @@ use Rattle.hdl_proxy.specs.declared.words.KeptFor.{KeptFor}
 use Rattle.hdl_proxy.specs.declared.words.KeptFor.TheVariants.{Seconds, Until}
 use Rattle.hdl_proxy.specs.Escape.{escaped}
 use Rattle.hdl_proxy.specs.Link.{address_of}
+use Rattle.hdl_proxy.specs.Note.{note_part}
+use Rattle.hdl_proxy.specs.declared.note.Note.{Note}
 use Rattle.hdl_proxy.specs.Status.{advice}
 use Rattle.hdl_proxy.specs.Url.{IsFollowed}
 use Rattle.hdl_proxy.specs.Words.{span_words, IsKeptFor, IsWritten}
@@ -138,9 +140,9 @@ IsTable values part = (rows : List ℕ) × IsSections values rows × (part ≡ C
 abbrev pub IsValuesPart : List Value → List ℕ → Type 0
 IsValuesPart values part = ((values ≡ []) × (part ≡ NO_VALUES.now)) ⊎ ((0 < length values) × IsTable values part)
 
--- the page of these values of this handle
-abbrev pub IsPageOf : List ℕ → List Value → List ℕ → Type 0
-IsPageOf handle values body = (part : List ℕ) × IsValuesPart values part × (body ≡ top handle ++ (part ++ ANOTHER.now))
+-- the page of these values of this handle, and what is wrong
+abbrev pub IsPageOf : List ℕ → Note → List Value → List ℕ → Type 0
+IsPageOf handle note values body = (part : List ℕ) × IsValuesPart values part × (body ≡ top handle ++ (note_part note ++ (part ++ ANOTHER.now)))
 
 -- ---- a refusal
 

@@ -1,5 +1,5 @@
 -- What is next for a question that was answered.
-use Rattle.std.specs.Prelude.{◌≡◌, ◌≤◌, ◌<◌, ◌⊎◌, ℕ, true, false, List, [], ◌∷◌, ◌++◌, length, Option, Some, None, Result, codes, slice_get, unwrap_or}
+use Rattle.std.specs.Prelude.{◌≡◌, ◌≤◌, ◌<◌, ◌⊎◌, ℕ, true, false, List, [], ◌∷◌, ◌++◌, length, Option, Some, None, Result, codes, slice_get, string_bytes, unwrap_or}
 use Rattle.std.specs.Borrow.{Bor}
 use Rattle.hdl_proxy.specs.Alias.{IsHop, is_among, way_words}
 use Rattle.hdl_proxy.specs.Answer.{Refuses, ShowsFound}
@@ -31,7 +31,7 @@ pub record IsWithin (most : Keeping) (before after : Reply) : Type 0 where
 -- it shows what was found of the question's handle, and others may keep it no longer than what the aliases that led here were told with
 abbrev pub Ends : Question → Found → Reply → Type 0
 Ends question found answer =
-    (shown : Reply) × (ShowsFound question.form question.name question.append.items found shown × IsWithin question.keeping shown answer)
+    (shown : Reply) × (ShowsFound question.form question.name question.append.items (string_bytes question.locatt) found shown × IsWithin question.keeping shown answer)
 
 -- ---- an alias is followed
 

@@ -33,6 +33,7 @@ mod laws;
 mod link;
 mod locations;
 mod names;
+mod note;
 mod page;
 mod pages;
 mod pasted;
@@ -44,6 +45,7 @@ mod site;
 mod step;
 mod tag;
 mod url;
+mod way;
 mod words;
 mod xml;
 

@@ -1,128 +1,193 @@
 //! Where a handle's thing is, by a value of type 10320/loc: one of several locations is chosen.
 
-ghost use Rattle.std.specs.Prelude.{◌≡◌, IfSome};
-ghost use Rattle.hdl_proxy.specs.Locations.{IsChosen, IsChosenOf, weight_for};
+ghost use Rattle.std.specs.Prelude.{◌≡◌, ◌++◌, List, ℕ, IfOk, IfSome, option_copied};
+ghost use Rattle.std.specs.Str.{bytes_eq};
+ghost use Rattle.std.specs.Str.Parse.{IsNumeral, digits_value};
+ghost use Rattle.hdl_proxy.specs.Locations.{AreLocations, IsChosen, IsChosenOf, IsEnd, IsInside, IsLocation, IsLocationOf, IsWeight, SaysLocations, is_wanted, weight_for, wanted_text};
 
-use crate::xml::{Attribute, Tag, read_tag};
+use crate::xml::{Attribute, after, cut_between, cut_blank, read_tag, said};
 use std::alloc::{AllocError, Global};
 
-/// The most locations of a value, comments counted.
+/// The most locations of a value, and one more.
 const LOCATIONS_MOST: usize = 256;
 
 /// One of the places where a thing is.
 #[derive(Drop)]
 pub(crate) struct Location {
-    pub(crate) href: String,
+    pub(crate) href: Vec<u8>,
     /// How often it is chosen, beside the others' weights.
     pub(crate) weight: u32,
     /// Whether it has the attribute that the address asks for.
     pub(crate) is_wanted: bool,
 }
 
-/// What an attribute of this name says, if there is one.
-fn attribute<'a>(attributes: &'a [Attribute], name: &str) -> Option<&'a str> {
-    for one in attributes {
-        if one.name.as_str() == name {
-            return Some(&one.text);
-        }
+/// The number that decimal digits write. None where a text is anything else, or no `u32` is so large.
+fn decimal(text: &[u8]) -> Option<u32>
+    ensures { IfSome result (λ number. IsNumeral 10 text.now × (number ≡ digits_value 10 text.now)) }
+{
+    let Ok(text) = str::from_utf8(text) else {
+        return None;
+    };
+    if text.starts_with('+') {
+        return None;
     }
-    None
+    match text.parse::<u32>() {
+        Ok(number) => Some(number),
+        Err(_) => None,
+    }
+}
+
+/// How much a location weighs whose attribute says this.
+fn weight_of(said: Option<&[u8]>) -> Option<u32>
+    ensures { IfSome result (IsWeight (option_copied said.entry)) }
+{
+    match said {
+        Some(digits) => decimal(digits),
+        None => Some(1),
+    }
+}
+
+/// Whether an attribute's name, a colon, and what it says are this text.
+fn is_asked(one: &Attribute, locatt: &[u8]) -> bool
+    ensures { result ≡ bytes_eq (wanted_text one.now) locatt.now }
+{
+    let Some(rest) = after(locatt, &one.name) else {
+        return false;
+    };
+    match after(rest, b":") {
+        Some(text) => text == one.text.as_slice(),
+        None => false,
+    }
 }
 
 /// Whether there is the attribute that `locatt` asks for, as `NAME:VALUE`.
-fn has_wanted(attributes: &[Attribute], locatt: &str) -> bool {
-    let Some((name, value)) = locatt.split_once(':') else {
-        return false;
-    };
-    attribute(attributes, name) == Some(value)
+fn is_wanted(attributes: &[Attribute], locatt: &[u8]) -> bool
+    ensures { result ≡ is_wanted locatt.now attributes.now }
+{
+    attributes.iter().any(|one| is_asked(one, locatt))
 }
 
 /// The location of a tag. None where it has no `href`, or its weight is no number.
 fn location_of(
     alloc: Global,
     attributes: &[Attribute],
-    locatt: &str,
-) -> Result<Option<Location>, AllocError> {
-    let Some(href) = attribute(attributes, "href") else {
+    locatt: &[u8],
+) -> Result<Option<Location>, AllocError>
+    ensures { IfOk result (λ read. IfSome read (IsLocationOf locatt.now attributes.now)) }
+{
+    let Some(href) = said(attributes, b"href") else {
         return Ok(None);
     };
-    let Ok(weight) = attribute(attributes, "weight")
-        .unwrap_or("1")
-        .parse::<u32>()
-    else {
+    let Some(weight) = weight_of(said(attributes, b"weight")) else {
         return Ok(None);
     };
     Ok(Some(Location {
-        href: String::from_str(alloc, href)?,
+        href: Vec::from_slice(alloc, href)?,
         weight,
-        is_wanted: has_wanted(attributes, locatt),
+        is_wanted: is_wanted(attributes, locatt),
     }))
 }
 
-/// What stands behind a tag of a location, where nothing stands in it.
-fn behind<'a>(tag: &Tag<'a>) -> Option<&'a str> {
-    if tag.is_whole {
-        return Some(tag.behind);
+/// What stands behind the end of a location, in which nothing stands.
+fn cut_end(text: &[u8]) -> Option<&[u8]>
+    ensures { IfSome result (λ rest. (end : List ℕ) × (IsEnd end × (text.now ≡ end ++ rest.now))) }
+{
+    if let Some(rest) = after(text, b"/>") {
+        return Some(rest);
     }
-    tag.behind.trim_start().strip_prefix("</location>")
+    let inside = after(text, b">")?;
+    let (_, rest) = cut_blank(inside);
+    let rest = after(rest, b"</location>")?;
+    Some(rest)
 }
 
-/// The locations of a text, up to its end. None where it can't be read.
-fn read_inside(
+/// The location that is next, and what stands behind it. None where there is none that can be read.
+fn read_location<'a>(
     alloc: Global,
-    text: &str,
-    locatt: &str,
-) -> Result<Option<Vec<Location>>, AllocError> {
+    text: &'a [u8],
+    locatt: &[u8],
+) -> Result<Option<(Location, &'a [u8])>, AllocError>
+    ensures { IfOk result (λ read. IfSome read (λ found. (piece : List ℕ) × (IsLocation locatt.now piece found.0 × (text.now ≡ piece ++ found.1.now)))) }
+{
+    let Some((attributes, rest)) = read_tag(alloc, cut_between(text), b"<location")? else {
+        return Ok(None);
+    };
+    let Some(behind) = cut_end(rest) else {
+        return Ok(None);
+    };
+    match location_of(alloc, &attributes, locatt)? {
+        Some(location) => Ok(Some((location, behind))),
+        None => Ok(None),
+    }
+}
+
+/// The locations up to the tag that ends them, and what stands behind that. None where they can't be read.
+fn read_each<'a>(
+    alloc: Global,
+    text: &'a [u8],
+    locatt: &[u8],
+) -> Result<Option<(Vec<Location>, &'a [u8])>, AllocError>
+    ensures { IfOk result (λ read. IfSome read (λ found. (inside : List ℕ) × (AreLocations locatt.now inside found.0.items × (text.now ≡ inside ++ found.1.now)))) }
+{
     let mut locations = Vec::new(alloc);
-    let mut rest = text.trim_start();
+    let mut rest = text;
     for _ in 0..LOCATIONS_MOST {
-        if rest.trim_end() == "</locations>" {
-            return Ok(Some(locations));
+        if let Some(behind) = after(cut_between(rest), b"</locations>") {
+            return Ok(Some((locations, behind)));
         }
-        if let Some(comment) = rest.strip_prefix("<!--") {
-            let Some((_, behind)) = comment.split_once("-->") else {
-                return Ok(None);
-            };
-            rest = behind.trim_start();
-            continue;
-        }
-        let Some(inside) = rest.strip_prefix("<location ") else {
-            return Ok(None);
-        };
-        let Some(tag) = read_tag(alloc, inside)? else {
-            return Ok(None);
-        };
-        let Some(behind) = behind(&tag) else {
-            return Ok(None);
-        };
-        let Some(location) = location_of(alloc, &tag.attributes, locatt)? else {
+        let Some((location, behind)) = read_location(alloc, rest, locatt)? else {
             return Ok(None);
         };
         locations.push(location)?;
-        rest = behind.trim_start();
+        rest = behind;
     }
     Ok(None)
+}
+
+/// The locations behind the attributes of the front tag, and what stands behind them.
+fn read_inside<'a>(
+    alloc: Global,
+    text: &'a [u8],
+    locatt: &[u8],
+) -> Result<Option<(Vec<Location>, &'a [u8])>, AllocError>
+    ensures { IfOk result (λ read. IfSome read (λ found. (inside : List ℕ) × (IsInside locatt.now inside found.0.items × (text.now ≡ inside ++ found.1.now)))) }
+{
+    if let Some(rest) = after(text, b"/>") {
+        return Ok(Some((Vec::new(alloc), rest)));
+    }
+    let Some(rest) = after(text, b">") else {
+        return Ok(None);
+    };
+    let Some((locations, behind)) = read_each(alloc, rest, locatt)? else {
+        return Ok(None);
+    };
+    Ok(Some((locations, behind)))
 }
 
 /// The locations that a value says: `<locations>` with `<location href=".." weight=".."/>` in it, and comments. None where it can't be read.
 pub(crate) fn read_locations(
     alloc: Global,
-    octets: &[u8],
-    locatt: &str,
-) -> Result<Option<Vec<Location>>, AllocError> {
-    let Ok(text) = str::from_utf8(octets) else {
+    value: &[u8],
+    locatt: &[u8],
+) -> Result<Option<Vec<Location>>, AllocError>
+    ensures { IfOk result (λ read. IfSome read (λ locations. SaysLocations locatt.now value.now locations.items)) }
+{
+    if str::from_utf8(value).is_err() {
         return Ok(None);
-    };
-    let Some(inside) = text.trim_start().strip_prefix("<locations") else {
-        return Ok(None);
-    };
-    let Some(tag) = read_tag(alloc, inside)? else {
-        return Ok(None);
-    };
-    if tag.is_whole {
-        return Ok(Some(Vec::new(alloc)));
     }
-    read_inside(alloc, tag.behind, locatt)
+    let (_, rest) = cut_blank(value);
+    let Some((_attributes, rest)) = read_tag(alloc, rest, b"<locations")? else {
+        return Ok(None);
+    };
+    let Some((locations, rest)) = read_inside(alloc, rest, locatt)? else {
+        return Ok(None);
+    };
+    let (_, rest) = cut_blank(rest);
+    if rest.is_empty() {
+        Ok(Some(locations))
+    } else {
+        Ok(None)
+    }
 }
 
 /// How much a location weighs, where only those with the attribute that is asked for are chosen, or all are.

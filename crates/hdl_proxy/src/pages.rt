@@ -11,6 +11,7 @@ ghost use Rattle.hdl_proxy.specs.Status.{advice, ends_with_slash, look_again};
 use crate::answer::{Answer, Keeping, Media, Status};
 use crate::keeping::keeping_of;
 use crate::link::Link;
+use crate::note::Note;
 use crate::page::Page;
 use crate::words::{KeptFor, kept_for, span_words, written_words};
 use hdl_value::{AdminMask, AdminPermission, Reference, Value, admin_of, vlist_of};
@@ -467,19 +468,21 @@ fn put_values(page: &mut Page, values: &[Value]) -> Result<(), AllocError>
     put_table(page, values)
 }
 
-/// The values of a handle.
+/// The values of a handle, and what is wrong.
 pub(crate) fn values_page(
     alloc: Global,
     handle: &[u8],
+    note: Note,
     values: &[Value],
 ) -> Result<Answer, AllocError>
     ensures told { IfOk result (Tells Status.Success Media.Page) }
     ensures kept { IfOk result (λ a. IsKeepingOf values.now a.keeping) }
     ensures title { IfOk result (λ a. a.title.items ≡ handle.now) }
-    ensures body { IfOk result (λ a. IsPageOf handle.now values.now a.body.items) }
+    ensures body { IfOk result (λ a. IsPageOf handle.now note values.now a.body.items) }
 {
     let title = Vec::from_slice(alloc, handle)?;
     let mut page = Page::new(alloc, handle)?;
+    page.markup(note.markup())?;
     put_values(&mut page, values)?;
     page.markup(ANOTHER)?;
     Ok(page_answer(Status::Success, keeping_of(values), title, page))

@@ -1,27 +1,25 @@
 //! From a request of HTTP to a question, and from its reply to an answer.
 
-ghost use Rattle.std.specs.Prelude.{◌≡◌, ◌≢◌, IfOk, codes};
+ghost use Rattle.std.specs.Prelude.{◌≡◌, ◌≢◌, IfOk, codes, string_bytes};
 ghost use Rattle.percent_encoding.specs.Percent.{percent_decode};
-ghost use Rattle.hdl_proxy.specs.Answer.{Answers, Goes, IsLocated, IsSomeWay, IsWayFrom, IsWayOf, IsWayToMeant, Refuses, ShowsFound, ShowsValues, Tells, is_json, media_of};
+ghost use Rattle.hdl_proxy.specs.Answer.{Answers, Goes, IsLocated, Refuses, ShowsFound, ShowsValues, Tells, is_json, media_of};
 ghost use Rattle.hdl_proxy.specs.Begin.{AsksAddress, AsksFor, IsAnswered, IsFile, IsFront, IsLocatedIfAnswered, IsNoHandle, IsOfFile, IsOfHandle, IsOwn, IsReading, LeadsFromPasted, LeadsToName, RefusesMethod, follows_aliases, is_called_back, json_form, page_form, without_slash};
 ghost use Rattle.hdl_proxy.specs.Query.{pairs_of, texts_of};
 ghost use Rattle.hdl_proxy.specs.Status.{refused_words};
-ghost use Rattle.hdl_proxy.specs.Url.{extended};
 
 use crate::answer::{Answer, Keeping, Media, Status};
-use crate::choice::{first_place, first_url};
 use crate::found::{Found, read_answer};
 use crate::keeping::{DAY, keeping_of};
 use crate::link::Link;
-use crate::locations::{choose, read_locations};
 use crate::names::{decoded, read_name};
+use crate::note::Note;
 use crate::pasted::{pasted, written};
 use crate::query::{
     Pair, appended, has_pair, indexes_of, last_named, location_asked, read_pairs, types_of,
 };
 use crate::question::{Form, Question};
 use crate::resolver::NoAnswer;
-use crate::url::extended;
+use crate::way::{Way, Wish, way_from};
 use crate::{files, json, pages};
 use hdl_msg::ResponseCode;
 use hdl_name::NameFault;
@@ -309,74 +307,14 @@ fn refused_words(code: u32) -> &'static str
     }
 }
 
-/// The way to a URL with this behind it.
-fn way_beyond(alloc: Global, url: &[u8], append: &[u8]) -> Result<Option<Link>, AllocError>
-    ensures { IfOk result (IsWayToMeant (extended url.now append.now)) }
+/// The way, or where there is none the values and what is wrong.
+fn go(alloc: Global, handle: &[u8], way: Way, values: &[Value]) -> Result<Answer, AllocError>
+    ensures { IfOk result (Goes handle.now values.now way.to way.wrong) }
 {
-    match extended(alloc, url, append)? {
-        Some(whole) => Link::followed(alloc, &whole),
-        None => Ok(None),
-    }
-}
-
-/// What a way is chosen by: what is put behind a URL, which location is asked for, and any number, by which one of several is chosen.
-#[derive(Clone, Copy)]
-struct Wish<'a> {
-    append: &'a [u8],
-    locatt: &'a str,
-    chance: u64,
-}
-
-/// The way to the first URL of these values with this behind it, where that is one to be followed.
-fn way_of(alloc: Global, values: &[Value], append: &[u8]) -> Result<Option<Link>, AllocError>
-    ensures { IfOk result (IsWayOf values.now append.now) }
-{
-    match first_url(values) {
-        Some(value) => way_beyond(alloc, value.bytes.as_slice(), append),
-        None => Ok(None),
-    }
-}
-
-/// The way to one of the locations of this value, where it can be read; the way to a URL where none of them is chosen.
-fn way_by(
-    alloc: Global,
-    place: &Value,
-    values: &[Value],
-    wish: &Wish<'_>,
-) -> Result<Option<Link>, AllocError>
-    ensures { IfOk result IsSomeWay }
-{
-    let Some(locations) = read_locations(alloc, place.bytes.as_slice(), wish.locatt)? else {
-        return Ok(None);
-    };
-    match choose(&locations, wish.chance) {
-        Some(location) => way_beyond(alloc, location.href.as_bytes(), wish.append),
-        None => way_of(alloc, values, wish.append),
-    }
-}
-
-/// Where a handle's own address leads: to one of its locations, or where it has none to its first URL.
-fn way_from(alloc: Global, values: &[Value], wish: &Wish<'_>) -> Result<Option<Link>, AllocError>
-    ensures { IfOk result (IsWayFrom values.now wish.now.append.now) }
-{
-    match first_place(values) {
-        Some(place) => way_by(alloc, place, values, wish),
-        None => way_of(alloc, values, wish.append),
-    }
-}
-
-/// The way, or where there is none the values.
-fn go(
-    alloc: Global,
-    handle: &[u8],
-    way: Option<Link>,
-    values: &[Value],
-) -> Result<Answer, AllocError>
-    ensures { IfOk result (Goes handle.now values.now way) }
-{
-    match way {
+    let Way { to, wrong } = way;
+    match to {
         Some(link) => pages::redirect(alloc, handle, link, keeping_of(values)),
-        None => pages::values_page(alloc, handle, values),
+        None => pages::values_page(alloc, handle, wrong, values),
     }
 }
 
@@ -387,14 +325,14 @@ fn answer_values(
     wish: &Wish<'_>,
     values: &[Value],
 ) -> Result<Answer, AllocError>
-    ensures { IfOk result (ShowsValues form handle.now wish.now.append.now values.now) }
+    ensures { IfOk result (ShowsValues form handle.now wish.now.append.now wish.now.locatt.now values.now) }
 {
     match form {
         Form::Follow => {
             let way = way_from(alloc, values, wish)?;
             go(alloc, handle, way, values)
         }
-        Form::Page => pages::values_page(alloc, handle, values),
+        Form::Page => pages::values_page(alloc, handle, Note::Nothing, values),
         Form::Json => json::values_answer(alloc, handle, values, keeping_of(values)),
         Form::Pretty => json::pretty_answer(alloc, handle, values, keeping_of(values)),
     }
@@ -424,7 +362,7 @@ pub(crate) fn answer_found(
     found: &Found,
     chance: u64,
 ) -> Result<Answer, AllocError>
-    ensures { IfOk result (ShowsFound question.now.form question.now.name question.now.append.items found.now) }
+    ensures { IfOk result (ShowsFound question.now.form question.now.name question.now.append.items (string_bytes question.now.locatt) found.now) }
 {
     let form = question.form;
     let handle = question.name.sent();

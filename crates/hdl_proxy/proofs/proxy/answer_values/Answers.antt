@@ -2,6 +2,7 @@ use Rattle.std.proofs.Common.{sym, subst}
 use Rattle.std.specs.Prelude.{IfOk}
 use Rattle.hdl_proxy.specs.Answer.{IsPage, IsJson, IsPretty, ShowsValues}
 use Rattle.hdl_proxy.specs.Keeping.{IsKeepingOf}
+use Rattle.hdl_proxy.specs.declared.note.Note.TheVariants.{Nothing}
 use Rattle.hdl_proxy.proofs.Made.{made_of, made_so}
 use Rattle.hdl_proxy.proofs.proxy.answer_values.Goals as goal
 
@@ -10,8 +11,8 @@ returns-in-Page c =
     let handle = c.args.handle.now in
     let values = c.args.values.now in
     let said = c.values_page.ensures in
-    let page : IfOk c.values_page.result (IsPage handle values) = made_so c.values_page.result _ _ _ _ _ (λ a told kept title body. record { told = told; kept = kept; title = title; body = body }) said.told said.kept said.title said.body in
-    subst (λ form. IfOk c.values_page.result (ShowsValues form handle c.args.wish.now.append.now values)) (sym c.in-Page.is) page
+    let page : IfOk c.values_page.result (IsPage handle Nothing values) = made_so c.values_page.result _ _ _ _ _ (λ a told kept title body. record { told = told; kept = kept; title = title; body = body }) said.told said.kept said.title said.body in
+    subst (λ form. IfOk c.values_page.result (ShowsValues form handle c.args.wish.now.append.now c.args.wish.now.locatt.now values)) (sym c.in-Page.is) page
 
 pub returns-in-Json : goal.returns-in-Json
 returns-in-Json c =
@@ -20,7 +21,7 @@ returns-in-Json c =
     let said = c.values_answer.ensures in
     let json : IfOk c.values_answer.result (IsJson handle values) =
     made_of c.values_answer.result _ _ _ _ (λ a told kept body. record { told = told; kept = subst (IsKeepingOf values) (sym kept) c.keeping_of.ensures; body = body }) said.told said.kept said.body in
-    subst (λ form. IfOk c.values_answer.result (ShowsValues form handle c.args.wish.now.append.now values)) (sym c.in-Json.is) json
+    subst (λ form. IfOk c.values_answer.result (ShowsValues form handle c.args.wish.now.append.now c.args.wish.now.locatt.now values)) (sym c.in-Json.is) json
 
 pub returns-in-Pretty : goal.returns-in-Pretty
 returns-in-Pretty c =
@@ -29,4 +30,4 @@ returns-in-Pretty c =
     let said = c.pretty_answer.ensures in
     let pretty : IfOk c.pretty_answer.result (IsPretty handle values) =
     made_of c.pretty_answer.result _ _ _ _ (λ a told kept body. record { told = told; kept = subst (IsKeepingOf values) (sym kept) c.keeping_of-in-Pretty.ensures; body = body }) said.told said.kept said.body in
-    subst (λ form. IfOk c.pretty_answer.result (ShowsValues form handle c.args.wish.now.append.now values)) (sym c.in-Pretty.is) pretty
+    subst (λ form. IfOk c.pretty_answer.result (ShowsValues form handle c.args.wish.now.append.now c.args.wish.now.locatt.now values)) (sym c.in-Pretty.is) pretty

@@ -11,4 +11,4 @@ returns-clause-answers c =
     IfOk-weaker c.answer_found.result _ (Answers c.args.question.now c.args.answered) (λ a h. (c.in_ok-found.found, (found, h))) c.answer_found.ensures
 
 pub returns-clause-located : goal.returns-clause-located
-returns-clause-located c = IfOk-weaker c.answer_found.result _ IsLocated (found_located _ _ _ _) c.answer_found.ensures
+returns-clause-located c = IfOk-weaker c.answer_found.result _ IsLocated (found_located _ _ _ _ _) c.answer_found.ensures

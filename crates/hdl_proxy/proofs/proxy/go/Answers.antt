@@ -12,12 +12,12 @@ returns-in-Some c =
     let to = c.in-Some.link in
     let leads : IfOk c.redirect.result (LeadsBy handle values to) =
     made c.redirect.result _ _ _ (λ a leads kept. record { leads = leads; kept = subst (IsKeepingOf values) (sym kept) c.keeping_of.ensures }) c.redirect.ensures.leads c.redirect.ensures.kept in
-    subst (λ way. IfOk c.redirect.result (Goes handle values way)) (sym c.in-Some.is) leads
+    subst (λ way. IfOk c.redirect.result (Goes handle values way c.args.way.wrong)) (sym c.in-Some.is) leads
 
 pub returns-in-None : goal.returns-in-None
 returns-in-None c =
     let handle = c.args.handle.now in
     let values = c.args.values.now in
     let said = c.values_page.ensures in
-    let page : IfOk c.values_page.result (IsPage handle values) = made_so c.values_page.result _ _ _ _ _ (λ a told kept title body. record { told = told; kept = kept; title = title; body = body }) said.told said.kept said.title said.body in
-    subst (λ way. IfOk c.values_page.result (Goes handle values way)) (sym c.in-None.is) page
+    let page : IfOk c.values_page.result (IsPage handle c.args.way.wrong values) = made_so c.values_page.result _ _ _ _ _ (λ a told kept title body. record { told = told; kept = kept; title = title; body = body }) said.told said.kept said.title said.body in
+    subst (λ way. IfOk c.values_page.result (Goes handle values way c.args.way.wrong)) (sym c.in-None.is) page

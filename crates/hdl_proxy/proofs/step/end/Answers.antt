@@ -6,4 +6,4 @@ pub returns-clause-ends : goal.returns-clause-ends
 returns-clause-ends c = (c.in_ok-answer.answer, (c.in_ok-answer.ensures, c.within.ensures))
 
 pub returns-clause-located : goal.returns-clause-located
-returns-clause-located c = within_located _ c.in_ok-answer.answer c.within.result (found_located _ _ _ _ _ c.in_ok-answer.ensures) c.within.ensures
+returns-clause-located c = within_located _ c.in_ok-answer.answer c.within.result (found_located _ _ _ _ _ _ c.in_ok-answer.ensures) c.within.ensures

@@ -1,0 +1,7 @@
+use Rattle.std.proofs.Common.{◌≡◌, true, rules}
+use Rattle.std.proofs.lemmas.List.Elements.{All-more}
+use Rattle.hdl_proxy.specs.Xml.{is_in_name}
+use Rattle.hdl_proxy.proofs.xml.count_name.Goals as goal
+
+pub loop-count-preserved : goal.loop-count-preserved
+loop-count-preserved c = All-more (λ byte. is_in_name byte ≡ true) c.args.text.now c.loop-count.count 0 c.loop-count-test.true c.loop-count.invariant cc

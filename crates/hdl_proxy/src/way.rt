@@ -1,0 +1,118 @@
+//! Where a handle's own address leads.
+
+ghost use Rattle.std.specs.Prelude.{◌≡◌, IfOk, Some};
+ghost use Rattle.hdl_proxy.specs.Answer.{IsWayAmong, IsWayBy, IsWayFrom, IsWayOf, IsWayToMeant, note_of};
+ghost use Rattle.hdl_proxy.specs.Url.{extended};
+
+use crate::choice::{first_place, first_url};
+use crate::link::Link;
+use crate::locations::{Location, choose, read_locations};
+use crate::note::Note;
+use crate::url::extended;
+use hdl_value::Value;
+use std::alloc::{AllocError, Global};
+
+/// The way to a URL with this behind it.
+fn way_beyond(alloc: Global, url: &[u8], append: &[u8]) -> Result<Option<Link>, AllocError>
+    ensures { IfOk result (IsWayToMeant (extended url.now append.now)) }
+{
+    match extended(alloc, url, append)? {
+        Some(whole) => Link::followed(alloc, &whole),
+        None => Ok(None),
+    }
+}
+
+/// What a way is chosen by: what is put behind a URL, which location is asked for, and any number, by which one of several is chosen.
+#[derive(Clone, Copy)]
+pub(crate) struct Wish<'a> {
+    pub(crate) append: &'a [u8],
+    pub(crate) locatt: &'a str,
+    pub(crate) chance: u64,
+}
+
+/// The way to the first URL of these values with this behind it, where that is one to be followed.
+fn way_of(alloc: Global, values: &[Value], append: &[u8]) -> Result<Option<Link>, AllocError>
+    ensures { IfOk result (IsWayOf values.now append.now) }
+{
+    match first_url(values) {
+        Some(value) => way_beyond(alloc, value.bytes.as_slice(), append),
+        None => Ok(None),
+    }
+}
+
+/// Where a handle's own address leads, and what is wrong where that is nowhere.
+#[derive(Drop)]
+pub(crate) struct Way {
+    pub(crate) to: Option<Link>,
+    pub(crate) wrong: Note,
+}
+
+/// The way to a location with this behind it.
+fn way_to(alloc: Global, location: &Location, append: &[u8]) -> Result<Way, AllocError>
+    ensures { IfOk result (λ way. IsWayToMeant (extended location.now.href.items append.now) way.to × (way.wrong ≡ note_of way.to)) }
+{
+    match way_beyond(alloc, &location.href, append)? {
+        Some(link) => Ok(Way {
+            to: Some(link),
+            wrong: Note::Nothing,
+        }),
+        None => Ok(Way {
+            to: None,
+            wrong: Note::Unfollowed,
+        }),
+    }
+}
+
+/// The way to the first URL of these values, which nothing is wrong with.
+fn way_to_url(alloc: Global, values: &[Value], append: &[u8]) -> Result<Way, AllocError>
+    ensures { IfOk result (λ way. IsWayOf values.now append.now way.to × (way.wrong ≡ Note.Nothing)) }
+{
+    let to = way_of(alloc, values, append)?;
+    Ok(Way {
+        to,
+        wrong: Note::Nothing,
+    })
+}
+
+/// The way to one of these locations; the way to a URL where none of them is chosen.
+fn way_among(
+    alloc: Global,
+    locations: &[Location],
+    values: &[Value],
+    wish: &Wish<'_>,
+) -> Result<Way, AllocError>
+    ensures { IfOk result (λ way. IsWayAmong locations.now values.now wish.now.append.now way.to way.wrong) }
+{
+    match choose(locations, wish.chance) {
+        Some(location) => way_to(alloc, location, wish.append),
+        None => way_to_url(alloc, values, wish.append),
+    }
+}
+
+/// The way to one of the locations of this value, where it can be read.
+fn way_by(
+    alloc: Global,
+    place: &Value,
+    values: &[Value],
+    wish: &Wish<'_>,
+) -> Result<Way, AllocError>
+    ensures { IfOk result (λ way. IsWayBy (Some place.now) values.now wish.now.append.now wish.now.locatt.now way.to way.wrong) }
+{
+    match read_locations(alloc, place.bytes.as_slice(), wish.locatt.as_bytes())? {
+        Some(locations) => way_among(alloc, &locations, values, wish),
+        None => Ok(Way {
+            to: None,
+            wrong: Note::Unread,
+        }),
+    }
+}
+
+/// Where a handle's own address leads: to one of its locations, or where it has none to its first URL.
+pub(crate) fn way_from(alloc: Global, values: &[Value], wish: &Wish<'_>) -> Result<Way, AllocError>
+    ensures { IfOk result (λ way. IsWayFrom values.now wish.now.append.now wish.now.locatt.now way.to way.wrong) }
+{
+    match first_place(values) {
+        Some(place) => way_by(alloc, place, values, wish),
+        None => way_to_url(alloc, values, wish.append),
+    }
+}
