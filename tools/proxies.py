@@ -101,6 +101,13 @@ def values(handle, *parts, wrong=""):
     return "%s - %s" % (handle, SITE_TEXT), "%s<h1>%s</h1>\n%s%s%s" % (HEADER, handle, wrong, COLUMNS % "".join(parts), ANOTHER)
 
 
+def led_to(asked, page):
+    """A page to which an alias led: it says which handle was asked for."""
+    title, main = page
+    note = '<p class="note">%s is an alias, which leads to this handle:</p>\n' % asked
+    return "%s, an alias: %s" % (asked, title), HEADER + note + main[len(HEADER):]
+
+
 def empty(handle):
     none = "<p>This handle is there, and has no value that anybody may read.</p>\n"
     return "%s - %s" % (handle, SITE_TEXT), "%s<h1>%s</h1>\n%s%s" % (HEADER, handle, none, ANOTHER)
@@ -242,9 +249,9 @@ PAGES = (
     ("GET /10/strict?locatt=xml:lang:en", 302, KEPT % 3600, "https://one.example.org/?a='%3C%3E%22", way("10/strict", "https://one.example.org/?a=&#39;%3C%3E%22")),
     ("GET /10/kept", 302, KEPT % 86400, "https://example.org/own", way("10/kept", "https://example.org/own")),
     ("GET /10/odd", 302, KEPT % 86400, "https://example.org/own", way("10/odd", "https://example.org/own")),
-    ("GET /10/gone", 404, NEVER, None, refusal("20/none", ABSENT, LOOK)),
-    ("GET /10/off", 404, NEVER, None, refusal("30/a", ELSEWHERE, LOOK)),
-    ("GET /10/shown", 200, KEPT % 3600, None, SCRIPT_PAGE),
+    ("GET /10/gone", 404, NEVER, None, led_to("10/gone", refusal("20/none", ABSENT, LOOK))),
+    ("GET /10/off", 404, NEVER, None, led_to("10/off", refusal("30/a", ELSEWHERE, LOOK))),
+    ("GET /10/shown", 200, KEPT % 3600, None, led_to("10/shown", SCRIPT_PAGE)),
     ("GET /10/circle", 404, NEVER, None, refusal("10/circle", CIRCLE % "10/circle, 20/circle, 10/circle", ELSEWHERE_PLEASE, "Leads nowhere")),
     ("GET /10/self", 404, NEVER, None, refusal("10/self", CIRCLE % "10/self, 10/self", ELSEWHERE_PLEASE, "Leads nowhere")),
     ("GET /10/1", 302, KEPT % 86400, "https://example.org/eleven", way("10/11", "https://example.org/eleven")),

@@ -1,8 +1,14 @@
 -- An answer that others may keep for less time leads where it did.
+use Rattle.std.proofs.Common.{ℕ, List, Option, Some, None, inl, inr}
 use Rattle.hdl_proxy.specs.Answer.{IsLocated}
-use Rattle.hdl_proxy.specs.Step.{IsWithin}
+use Rattle.hdl_proxy.specs.Step.{IsNamed, IsWithin}
 use Rattle.hdl_proxy.specs.declared.answer.Answer.{Answer}
 use Rattle.hdl_proxy.specs.declared.answer.Keeping.{Keeping}
 
 pub within_located : (most : Keeping) (before after : Answer) → IsLocated before → IsWithin most before after → IsLocated after
 within_located most before after h w = rw (w.location, w.status) h
+
+pub named_located : (asked : Option (List ℕ)) (before after : Answer) → IsLocated before → IsNamed asked before after → IsLocated after
+named_located None before after h n = rw n h
+named_located (Some asked) before after h (inl n) = rw (n.1.location, n.1.status) h
+named_located (Some asked) before after h (inr n) = rw n.1 h

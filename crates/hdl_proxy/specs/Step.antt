@@ -1,13 +1,15 @@
 -- What is next for a question that was answered.
-use Rattle.std.specs.Prelude.{◌≡◌, ◌≤◌, ◌<◌, ◌⊎◌, ℕ, true, false, List, [], ◌∷◌, ◌++◌, length, Option, Some, None, Result, codes, slice_get, string_bytes, unwrap_or}
+use Rattle.std.specs.Prelude.{◌≡◌, ◌≢◌, ◌≤◌, ◌<◌, ◌⊎◌, ℕ, true, false, List, [], ◌∷◌, ◌++◌, length, Option, Some, None, Result, codes, slice_get, string_bytes, unwrap_or}
 use Rattle.std.specs.Borrow.{Bor}
 use Rattle.hdl_proxy.specs.Alias.{IsHop, is_among, way_words}
 use Rattle.hdl_proxy.specs.Answer.{Refuses, ShowsFound}
 use Rattle.hdl_proxy.specs.Found.{IsFoundOf}
 use Rattle.hdl_proxy.specs.Keeping.{sooner}
+use Rattle.hdl_proxy.specs.Pages.{element}
 use Rattle.hdl_proxy.specs.declared.alias.Hop.{Hop}
 use Rattle.hdl_proxy.specs.declared.answer.Answer.{Answer as Reply}
 use Rattle.hdl_proxy.specs.declared.answer.Keeping.{Keeping}
+use Rattle.hdl_proxy.specs.declared.answer.Media.TheVariants as media
 use Rattle.hdl_proxy.specs.declared.answer.Status.TheVariants as status
 use Rattle.hdl_proxy.specs.declared.found.Found.{Found}
 use Rattle.hdl_proxy.specs.declared.proxy.Next.{Next}
@@ -28,10 +30,34 @@ pub record IsWithin (most : Keeping) (before after : Reply) : Type 0 where
   pub title : after.title ≡ before.title
   pub body : after.body ≡ before.body
 
--- it shows what was found of the question's handle, and others may keep it no longer than what the aliases that led here were told with
+-- the title of a page, and what stands above it, where the alias of another handle led there
+abbrev pub alias_title : List ℕ → List ℕ → List ℕ
+alias_title asked title = asked ++ (codes ", an alias: " ++ title)
+
+abbrev pub alias_part : List ℕ → List ℕ
+alias_part asked = element (codes "<p class=\"note\">") asked (codes " is an alias, which leads to this handle:</p>\n")
+
+-- the same page, which says which handle was asked for
+pub record IsOfAlias (asked : List ℕ) (before after : Reply) : Type 0 where
+  pub keeping : after.keeping ≡ before.keeping
+  pub status : after.status ≡ before.status
+  pub location : after.location ≡ before.location
+  pub media : after.media ≡ before.media
+  pub tag : after.tag ≡ before.tag
+  pub title : after.title.items ≡ alias_title asked before.title.items
+  pub body : after.body.items ≡ alias_part asked ++ before.body.items
+
+-- a page says which handle was asked for, where aliases led on from one; all else is as it was
+abbrev pub IsNamed : Option (List ℕ) → Reply → Reply → Type 0
+IsNamed None before after = after ≡ before
+IsNamed (Some asked) before after = ((before.media ≡ media.Page) × IsOfAlias asked before after) ⊎ ((before.media ≢ media.Page) × (after ≡ before))
+
+-- it shows what was found of the question's handle, others may keep it no longer than what the aliases that led here were told with, and a page says
+-- which handle was asked for
 abbrev pub Ends : Question → Found → Reply → Type 0
 Ends question found answer =
-    (shown : Reply) × (ShowsFound question.form question.name question.append.items (string_bytes question.locatt) found shown × IsWithin question.keeping shown answer)
+    (shown kept : Reply) × (ShowsFound question.form question.name question.append.items (string_bytes question.locatt) found shown
+    × IsWithin question.keeping shown kept × IsNamed (slice_get question.passed.items 0) kept answer)
 
 -- ---- an alias is followed
 

@@ -1,14 +1,15 @@
 //! What is next for a question that was answered: the handle that its alias names, or the answer.
 
-ghost use Rattle.std.specs.Prelude.{◌≡◌, IfOk};
+ghost use Rattle.std.specs.Prelude.{◌≡◌, IfOk, option_copied};
 ghost use Rattle.hdl_proxy.specs.Begin.{IsLocatedIfAnswered};
 ghost use Rattle.hdl_proxy.specs.Answer.{IsLocated};
-ghost use Rattle.hdl_proxy.specs.Step.{Ends, Hops, IsStep, IsWithin, LeadsNowhere, first_of};
+ghost use Rattle.hdl_proxy.specs.Step.{Ends, Hops, IsNamed, IsOfAlias, IsStep, IsWithin, LeadsNowhere, first_of};
 
 use crate::alias::{Hop, hop_in, is_among, way_words};
-use crate::answer::{Answer, Keeping, Status};
+use crate::answer::{Answer, Keeping, Media, Status};
 use crate::found::{Found, read_answer};
 use crate::keeping::sooner;
+use crate::page::Page;
 use crate::proxy::{Next, answer_found, refused};
 use crate::question::{Form, Question};
 use crate::resolver::NoAnswer;
@@ -35,13 +36,42 @@ fn within(keeping: Keeping, answer: Answer) -> Answer
     }
 }
 
+/// The same page, which says which handle was asked for.
+fn of_alias(alloc: Global, asked: &Name, answer: Answer) -> Result<Answer, AllocError>
+    ensures { IfOk result (IsOfAlias asked.now answer) }
+{
+    let mut title = Vec::from_slice(alloc, asked.sent())?;
+    title.extend_from_slice(b", an alias: ")?;
+    title.extend_from_slice(&answer.title)?;
+    let mut page = Page::empty(alloc);
+    let leads = " is an alias, which leads to this handle:</p>\n";
+    page.element("<p class=\"note\">", asked.sent(), leads)?;
+    page.part(&answer.body)?;
+    Ok(Answer {
+        title,
+        body: page.into_octets(),
+        ..answer
+    })
+}
+
+/// The same answer: a page says which handle was asked for, where aliases led on from one.
+fn named(alloc: Global, asked: Option<&Name>, answer: Answer) -> Result<Answer, AllocError>
+    ensures { IfOk result (IsNamed (option_copied asked.entry) answer) }
+{
+    match asked {
+        Some(asked) if answer.media == Media::Page => of_alias(alloc, asked, answer),
+        _ => Ok(answer),
+    }
+}
+
 /// The answer to a question of whose handle this was found, where no alias is followed.
 fn end(alloc: Global, question: &Question, found: &Found, chance: u64) -> Result<Answer, AllocError>
     ensures ends { IfOk result (Ends question.now found.now) }
     ensures located { IfOk result IsLocated }
 {
     let answer = answer_found(alloc, question, found, chance)?;
-    Ok(within(question.keeping, answer))
+    let kept = within(question.keeping, answer);
+    named(alloc, question.passed.first(), kept)
 }
 
 /// The first of these handles.
