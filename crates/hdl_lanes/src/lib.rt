@@ -1,14 +1,14 @@
 //! The lanes between two threads: a ring of fixed capacity, with an inlet on one side and an outlet on the other.
 //!
 //! ```text
-//! one thread     put, has_room -> Inlet ==ring==> Outlet -> take        the other thread
+//! one thread     put, has_room -> Inlet ==ring==> Outlet -> take, front  the other thread
 //!                finish -> Ended ---------------> settle -> what is left
 //! ```
 //!
 //! Contracts see of an inlet what was put (`put_into`) and for how many items more it knows to have room (`known_room`), and
-//! of an outlet what was taken (`taken_from`), each list oldest first. A put that succeeds appends to what was put; a full
+//! of an outlet what was taken (`taken_from`) and which items it has seen (`seen_in`), each list oldest first. A put that succeeds appends to what was put; a full
 //! ring hands the item back and nothing was put; after [`Inlet::has_room`] said yes the next put succeeds. A take that gives
-//! an item appends it to what was taken. Once both ends are on one thread, [`Outlet::settle`] ties them: what was put is what
+//! an item appends it to what was taken. An item that is seen can be read where it stands ([`Outlet::front`]), and be taken later. Once both ends are on one thread, [`Outlet::settle`] ties them: what was put is what
 //! was taken, followed by what it gives, so each item came once and in order.
 //!
 //! None of the calls waits, and none but [`lane`] takes memory. It stands on the kit's `rtrb`.

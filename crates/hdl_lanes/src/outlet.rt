@@ -15,9 +15,9 @@ pub struct Outlet<T> {
 }
 
 impl<T: Drop> Outlet<T> {
-    ghost use Rattle.std.specs.Prelude.{◌≡◌, ◌++◌, ◌∷◌, [], MatchOption};
+    ghost use Rattle.std.specs.Prelude.{◌≡◌, ◌<◌, ◌++◌, ◌∷◌, [], IsTrue, MatchOption, length};
     ghost use Rattle.rtrb.specs.Ring.{IsPair, received, sent, consumer_capacity};
-    ghost use Rattle.hdl_lanes.specs.Lane.{taken_from, all_put, AreEnded, SameOutlet};
+    ghost use Rattle.hdl_lanes.specs.Lane.{taken_from, seen_in, all_put, AreEnded, IsFrontOf, SameOutlet};
 
     /// Takes the oldest item, or nothing where none was seen.
     pub fn take(&mut self) -> Option<T>
@@ -25,6 +25,33 @@ impl<T: Drop> Outlet<T> {
         ensures taken { MatchOption result (taken_from self.new ≡ taken_from self.old) (λ item. taken_from self.new ≡ taken_from self.old ++ item ∷ []) }
     {
         self.consumer.pop().ok()
+    }
+
+    /// Whether an item is seen. Nothing is taken.
+    pub fn sees(&mut self) -> bool
+        ensures lane { SameOutlet self.old self.new }
+        ensures taken { taken_from self.new ≡ taken_from self.old }
+        ensures seen { IsTrue result → 0 < length (seen_in self.new) }
+    {
+        !self.consumer.is_empty()
+    }
+
+    /// The oldest item that is seen. It stays in the ring.
+    pub fn front(&self) -> &T
+        requires { 0 < length (seen_in self.now) }
+        ensures { IsFrontOf result.now self.now }
+    {
+        self.consumer.peek_known()
+    }
+
+    /// Takes the oldest item that is seen.
+    pub fn take_front(&mut self) -> T
+        requires { 0 < length (seen_in self.old) }
+        ensures lane { SameOutlet self.old self.new }
+        ensures front { IsFrontOf result self.old }
+        ensures taken { taken_from self.new ≡ taken_from self.old ++ result ∷ [] }
+    {
+        self.consumer.pop_known()
     }
 
     /// What is left of a lane whose inlet has ended, in order. It takes no memory.
