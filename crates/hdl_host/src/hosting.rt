@@ -14,7 +14,7 @@ use crate::workers::{join_all, start};
 use hdl_boundedrows::BoundedRows;
 use hdl_core::{Rows, Service, Tenants};
 use hdl_replay::{Fault, put_all, tenants_of};
-use hdl_serve::{Clock as Pauses, LaneEnds, WorkerSide, lanes_of, serve};
+use hdl_serve::{AtOnce, Clock as Pauses, LaneEnds, WorkerSide, lanes_of, serve};
 use std::alloc::Global;
 use std::fs;
 use std::fs::Files;
@@ -87,7 +87,7 @@ impl<T: Rows + Drop> Serving for Service<T> {
         clock: &mut C,
         turns: u64,
     ) -> Service<T> {
-        serve(alloc, self, ends, clock, turns).service
+        serve(alloc, self, ends, clock, &mut AtOnce, turns).service
     }
 }
 

@@ -116,7 +116,7 @@ site_stays w t (inl a) = by_owner (owner w.site t.event.lane) a
     by_owner (Some u) e = ap (λ (z : Turn). z.after.site) e.4
 site_stays w t (inr b) = ap (λ (z : Turn). z.after.site) b.busy
 
-answer_calm : (w : World) (t : Turn) → IsAnswer w t → is_busy t.outcome ≡ false
+pub answer_calm : (w : World) (t : Turn) → IsAnswer w t → is_busy t.outcome ≡ false
 answer_calm w t a = by_owner (owner w.site t.event.lane) a
   where
     by_owner : (o : Option ℕ) → IsAnswerFor w o t → is_busy t.outcome ≡ false

@@ -9,8 +9,8 @@ use crate::sockets::{FRAME, REPLY, TENANTS};
 use hdl_core::{Service, Tenants};
 use hdl_rows::PlainRows;
 use hdl_serve::{
-    Clock, Door, DoorFault, LaneEnds, MemoryDoor, MemoryNonces, WorkerSide, lanes_of, serve,
-    stream_worker,
+    AtOnce, Clock, Door, DoorFault, LaneEnds, MemoryDoor, MemoryNonces, WorkerSide, lanes_of,
+    serve, stream_worker,
 };
 use std::alloc::{AllocError, Global};
 use std::collections::VecDeque;
@@ -209,7 +209,7 @@ fn serve_both<R: std::rt::Clock + Copy + Drop>(
         rt: *rt,
         left: Arc::try_clone(left)?,
     };
-    drop(serve(alloc, opened(alloc)?, lanes, &mut clock, TURNS));
+    drop(serve(alloc, opened(alloc)?, lanes, &mut clock, &mut AtOnce, TURNS));
     Ok(())
 }
 

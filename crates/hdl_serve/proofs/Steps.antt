@@ -1,13 +1,16 @@
 -- What one lane gives and is given, event by event.
-use Rattle.std.proofs.Common.{◌≡◌, List, [], ◌∷◌, ◌++◌, Bool, true, false, refl, sym, ap, ◌∙◌, subst}
+use Rattle.std.proofs.Common.{◌≡◌, List, [], ◌∷◌, ◌++◌, Bool, true, false, inl, inr, refl, sym, ap, ◌∙◌, subst, true≢false}
 use Rattle.std.proofs.lemmas.List.{append-nil, append_assoc, map-append}
 use Rattle.std.proofs.lemmas.List.Elements.{filter_map-append}
-use Rattle.hdl_lanes.specs.Lane.{put_into, taken_from, SameInlet, SameOutlet}
+use Rattle.hdl_lanes.specs.Lane.{put_into, taken_from, IsFrontOf, SameInlet, SameOutlet}
+use Rattle.hdl_lanes.specs.declared.outlet.Outlet.{Outlet}
 use Rattle.hdl_events.specs.declared.Happening.{Happening}
 use Rattle.hdl_events.specs.declared.Event.{Event}
 use Rattle.hdl_events.specs.declared.Outcome.{Outcome}
 use Rattle.hdl_laws.specs.Worlds.{World}
-use Rattle.hdl_laws.specs.Runs.{Run, Steps}
+use Rattle.hdl_laws.specs.Steps.{Turn}
+use Rattle.hdl_laws.specs.Runs.{Run, Steps, is_busy}
+use Rattle.hdl_laws.proofs.Restriction.{answer_calm}
 use Rattle.hdl_laws.specs.Laws.{JoinsRuns}
 use Rattle.hdl_workers.specs.declared.item.Item.{Item}
 use Rattle.hdl_workers.specs.declared.ends.LaneEnds.{LaneEnds}
@@ -107,3 +110,56 @@ serves_then joins f g h w mid new a b c p q =
           (joins w mid new (on_lane a.lane p.whats) (on_lane b.lane q.whats) p.outcomes q.outcomes p.run q.run);
       passes = passes_then f g h p.whats q.whats p.outcomes q.outcomes a b c p.passes q.passes;
     }
+
+-- ---- an event that stays
+
+-- a busy step leaves the world as it was
+busy_stays : (w new : World) (e : Event) (o : Outcome) → Steps w e o new → is_busy o ≡ true → w ≡ new
+busy_stays w new e o step busy = elim step.1 [
+  | inl answer ↦ absurd (true≢false (sym busy ∙ sym (ap is_busy step.3) ∙ answer_calm w step.0 answer))
+  | inr is ↦ sym (ap (λ (t : Turn). t.after) is.busy) ∙ step.4
+]
+
+-- a busy step whose event stays
+pub serves_kept : (f : Bool) (w new : World) (e : Event) (o : Outcome) (a : LaneEnds) → Steps w e o new → is_busy o ≡ true → Serves f f w new a a
+serves_kept f w new e o a step busy = subst (λ x. Serves f f w x a a) (busy_stays w new e o step busy) (serves_none f f w a a (passes_nothing f a))
+
+-- what stands first is one
+pub front_is_one : (x y : Item) (items : Outlet Item) → IsFrontOf x items → IsFrontOf y items → x ≡ y
+front_is_one x y items a b = let both : x ∷ a.0 ≡ y ∷ b.0 = sym a.1 ∙ b.1 in cc
+
+-- nothing passed, and then what did
+pub passes_first : (f g : Bool) (whats : List Happening) (outcomes : List Outcome) (a b c : LaneEnds) → Passes f f [] [] a b → Passes f g whats outcomes b c → Passes f g whats outcomes a c
+passes_first f g whats outcomes a b c p q = passes_then f f g [] whats [] outcomes a b c p q
+
+serves_later : (f g : Bool) (w new : World) (a b c : LaneEnds) → Passes f f [] [] a b → Serves f g w new b c → Serves f g w new a c
+serves_later f g w new a b c p s = record {
+  whats = s.whats;
+  outcomes = s.outcomes;
+  run = subst (λ n. Run w (on_lane n s.whats) s.outcomes new) p.lane s.run;
+  passes = passes_first f g s.whats s.outcomes a b c p s.passes;
+}
+
+-- of a lane that hadn't ended
+pub serves_going : (f : Bool) (w new : World) (a b c : LaneEnds) → f ≡ false → Passes false false [] [] a b → Serves false false w new b c → Serves f f w new a c
+serves_going f w new a b c going p s = subst (λ g. Serves g g w new a c) (sym going) (serves_later false false w new a b c p s)
+
+-- the item that stood first was taken
+pub took_front : (a b : LaneEnds) (x item : Item) → IsFrontOf x a.items → IsFrontOf item a.items → b.lane ≡ a.lane → SameOutlet a.items b.items → b.outcomes ≡ a.outcomes → taken_from b.items ≡ taken_from a.items ++ item ∷ []
+    → IsSameLane a b × (put_into b.outcomes ≡ put_into a.outcomes) × (item ≡ x)
+took_front a b x item first front lane same put taken =
+    ((lane, same, subst (SameInlet a.outcomes) (sym put) (itself_inlet a.outcomes)), ap put_into put, front_is_one item x a.items front first)
+
+-- it was an event
+pub took_first : (a b : LaneEnds) (what : Happening) (item : Item) → IsFrontOf (Item.Event what) a.items → IsFrontOf item a.items → b.lane ≡ a.lane → SameOutlet a.items b.items → b.outcomes ≡ a.outcomes
+    → taken_from b.items ≡ taken_from a.items ++ item ∷ [] → Passes false false (what ∷ []) [] a b
+took_first a b what item first front lane same put taken =
+    let it = took_front a b (Item.Event what) item first front lane same put taken in
+    took_event false a b item what refl it.0 it.1 taken it.2
+
+-- it was End
+pub took_last : (was : Bool) (a b : LaneEnds) (item : Item) → was ≡ false → IsFrontOf Item.End a.items → IsFrontOf item a.items → b.lane ≡ a.lane → SameOutlet a.items b.items → b.outcomes ≡ a.outcomes
+    → taken_from b.items ≡ taken_from a.items ++ item ∷ [] → Passes was true [] [] a b
+took_last was a b item going first front lane same put taken =
+    let it = took_front a b Item.End item first front lane same put taken in
+    took_end was a b item going it.0 it.1 taken it.2

@@ -1,6 +1,7 @@
 -- What one round does, lane by lane, by the lanes' places.
-use Rattle.std.specs.Prelude.{◌≡◌, ◌<◌, ℕ, Bool, true, false, List, [], ◌∷◌, ◌++◌, All, length, get_or, map}
-use Rattle.hdl_lanes.specs.Lane.{put_into, taken_from, SameInlet, SameOutlet}
+use Rattle.std.specs.Prelude.{◌≡◌, ◌<◌, ⊤, ℕ, Bool, true, false, List, [], ◌∷◌, ◌++◌, All, length, get_or, map}
+use Rattle.hdl_lanes.specs.Lane.{put_into, taken_from, IsFrontOf, SameInlet, SameOutlet}
+use Rattle.hdl_lanes.specs.declared.outlet.Outlet.{Outlet}
 use Rattle.hdl_events.specs.declared.Happening.{Happening}
 use Rattle.hdl_events.specs.declared.Event.{Event}
 use Rattle.hdl_events.specs.declared.Outcome.{Outcome}
@@ -9,6 +10,7 @@ use Rattle.hdl_laws.specs.Runs.{Run}
 use Rattle.hdl_workers.specs.declared.item.Item.{Item}
 use Rattle.hdl_workers.specs.declared.ends.LaneEnds.{LaneEnds}
 use Rattle.hdl_workers.specs.Ends.{AreDistinct}
+use Rattle.hdl_serve.specs.declared.rounds.Front.{Front}
 use Rattle.hdl_serve.specs.Served.{events_in, items_of, events_on, outcomes_on, IsOnOne}
 
 -- the items are these, and End behind them where the lane has ended
@@ -32,6 +34,12 @@ pub record Answers (outcome : Outcome) (a b : LaneEnds) : Type 0 where
   pub inlet : SameInlet a.outcomes b.outcomes
   pub taken : taken_from b.items ≡ taken_from a.items
   pub put : put_into b.outcomes ≡ put_into a.outcomes ++ outcome ∷ []
+
+-- it is what stands first in the lane, where memory sufficed
+abbrev pub IsCopyOf : Front → Outlet Item → Type 0
+IsCopyOf Front.End items = IsFrontOf Item.End items
+IsCopyOf (Front.Event what) items = IsFrontOf (Item.Event what) items
+IsCopyOf Front.NoMemory items = ⊤
 
 -- events of one lane
 abbrev pub on_lane : ℕ → List Happening → List Event

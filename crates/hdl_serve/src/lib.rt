@@ -6,7 +6,7 @@
 //! ```
 //!
 //! [`serve`] goes round the lanes: of each it takes an event, serves it by `Service::step`, and puts the outcome back before it takes the next,
-//! up to 16 in a row. What stands between a lane and a socket is `hdl_workers`, which knows no service; its names are passed on here.
+//! up to 16 in a row. An event of a write that is under way stays in its lane meanwhile. What stands between a lane and a socket is `hdl_workers`, which knows no service; its names are passed on here.
 //!
 //! Promised of `serve`: what the lanes gave, and nothing else, is a run of the service, in which publishers are isolated and no reply
 //! tells of a value that may not be read, and each lane was given its events' outcomes. [`laws`] joins this with what the workers promise: after the joins
@@ -26,6 +26,11 @@
 //! - **An event is answered before the next one is taken**, by `step`, which needs no room that could be refused: so there is nothing that
 //!   was taken and isn't answered, and no batch to be kept. Served in a row, the events of a lane find what they need in the processor's
 //!   caches, and their outcomes reach the worker together, which then writes them by one call (docs/BENCHMARKS.md, "Serving").
+//! - **An event whose step was answered busy may stay in its lane** ([`Writing`]): such a step leaves the world as it was, so the event is taken up again later,
+//!   without an outcome till then. A table can so make a write on a thread of its own: it refuses the call that hands the write over, and makes the write in memory at the call
+//!   that comes again with it. What is stepped then is a copy of the lane's first event, and the event is taken once its outcome is put: so what was taken is what was
+//!   answered, as ever. Where memory for the copy is refused the event stays too, since no other would come for a write that is under way.
+//! - **Of a table that makes its writes at once no event is copied** ([`AtOnce`]), and none stays.
 //! - **A lane's events in a row cost as many turns**, so of so many turns each lane has at most so many events, in whatever order lanes are asked.
 //! - **A client with many requests in flight has up to 16 answered before the next lane is asked.** Whoever has one at a time waits for that long at
 //!   most, times the lanes; one of each in turn would cost the workers half as much again.
@@ -39,6 +44,7 @@
 pub mod laws;
 mod rounds;
 mod serving;
+mod writing;
 
 pub use hdl_workers::{
     Clock, Datagram, Door, DoorFault, EndReason, Item, LaneEnds, MemoryClock, MemoryConnection,
@@ -46,3 +52,4 @@ pub use hdl_workers::{
     packet_worker, stream_worker,
 };
 pub use serving::{Served, serve};
+pub use writing::{AtOnce, Writing};

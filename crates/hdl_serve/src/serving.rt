@@ -8,6 +8,7 @@ ghost use Rattle.hdl_serve.specs.Served.{IsServed};
 ghost use Rattle.hdl_workers.specs.Ends.{AreDistinct};
 
 use crate::rounds::serve_round;
+use crate::writing::Writing;
 use hdl_core::{Rows, Service};
 use hdl_laws::laws::{restricted, twin_replies};
 use hdl_workers::{Clock, LaneEnds};
@@ -25,10 +26,12 @@ pub struct Served<R: Rows + Drop> {
 }
 
 /// One round, of so many turns at most. How many it took: 0 where nothing was served. Where the memory for it is refused no lane is asked.
-fn round<R: Rows + Drop>(
+fn round<R: Rows + Drop, W: Writing>(
+    alloc: Global,
     service: &mut Service<R>,
     lanes: &mut [LaneEnds],
     ended: &mut Vec<bool>,
+    writing: &mut W,
     turns: u64,
 ) -> u64
     ensures few { result ≤ turns }
@@ -37,24 +40,33 @@ fn round<R: Rows + Drop>(
     if ended.resize(lanes.len(), false).is_err() {
         return 0;
     }
-    serve_round(service, lanes, ended.as_mut_slice(), turns.min(IN_A_ROW))
+    serve_round(
+        alloc,
+        service,
+        lanes,
+        ended.as_mut_slice(),
+        writing,
+        turns.min(IN_A_ROW),
+    )
 }
 
 /// Goes round the lanes by rising number of place until each has given End or the turns are spent. A turn serves at most one event of
 /// each lane whose inlet for outcomes has room, and of none that gave End. A round is up to 16 turns, lane by lane: it serves a
 /// lane's events one after another, and puts each outcome before the next event is taken, so nothing that was taken is without
-/// an outcome. Where the memory for a round is refused nothing is taken. After a round that served nothing it calls `pause`, after any other `worked`.
+/// an outcome. Where a write may be under way, an event whose step was answered busy can stay in its lane, and so does one of which no copy can be had (`writing`).
+/// Where the memory for a round is refused nothing is taken. After a round that served nothing it calls `pause`, after any other `worked`.
 ///
 /// There are one list of events and one list of their outcomes that are a run from the service handed in to the one given back;
 /// each publisher is isolated in it, and no reply tells of a value that may not be read. The lanes' ends come back in their
 /// order. What was taken from each lane is its events in that list, followed by at most one End; what was put into it is these events'
 /// outcomes, in order. Each event of that list bears the number of a lane that was handed in: the list is what was taken from the
 /// lanes, and nothing else. The lanes that come back may be served again.
-pub fn serve<R: Rows + Drop, C: Clock>(
+pub fn serve<R: Rows + Drop, C: Clock, W: Writing>(
     alloc: Global,
     service: Service<R>,
     lanes: Vec<LaneEnds>,
     clock: &mut C,
+    writing: &mut W,
     turns: u64,
 ) -> Served<R>
     requires { AreDistinct lanes.items }
@@ -74,7 +86,14 @@ pub fn serve<R: Rows + Drop, C: Clock>(
         if over && !has_served {
             break;
         }
-        let served = round(&mut service, lanes.as_mut_slice(), &mut ended, turns);
+        let served = round(
+            alloc,
+            &mut service,
+            lanes.as_mut_slice(),
+            &mut ended,
+            writing,
+            turns,
+        );
         has_served = served > 0;
         if has_served {
             clock.worked();

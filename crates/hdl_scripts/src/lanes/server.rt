@@ -8,7 +8,7 @@ ghost use Rattle.hdl_scripts.specs.Same.{IsEach};
 use crate::lanes::words::bad;
 use crate::table::{Table, TableRows, empty_rows};
 use hdl_core::{Service, Tenants};
-use hdl_serve::{Clock, LaneEnds, Served, serve};
+use hdl_serve::{AtOnce, Clock, LaneEnds, Served, serve};
 use std::alloc::Global;
 use std::{io, mem};
 
@@ -67,7 +67,7 @@ fn served(
     ensures same { (firsts : List LaneEnds) → All (IsEach firsts) lanes.items → All (IsEach firsts) result.0.lanes.items }
 {
     let mut clock = Pauses { count: 0 };
-    let served = serve(alloc, service, lanes, &mut clock, turns);
+    let served = serve(alloc, service, lanes, &mut clock, &mut AtOnce, turns);
     (served, clock.count)
 }
 

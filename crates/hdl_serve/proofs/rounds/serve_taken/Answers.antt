@@ -1,5 +1,5 @@
 use Rattle.hdl_serve.proofs.Steps.{serves_one}
-use Rattle.hdl_serve.proofs.rounds.serve_next.Goals as goal
+use Rattle.hdl_serve.proofs.rounds.serve_taken.Goals as goal
 
 pub returns : goal.returns
 returns g c =
