@@ -28,9 +28,9 @@ struct Lanes {
     ghost distinct: { AreDistinct ends.items },
 }
 
-fn sides_of(alloc: Global, sides: Vec<WorkerSide>) -> Result<Vec<Side>, AllocError> {
+fn sides_of(alloc: Global, given: Vec<WorkerSide>) -> Result<Vec<Side>, AllocError> {
     let mut sides = Vec::new(alloc);
-    for one in sides {
+    for one in given {
         let WorkerSide { inlet, outcomes } = one;
         sides.push(Side { inlet, outcomes })?;
     }
