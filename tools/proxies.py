@@ -250,7 +250,7 @@ PAGES = (
     ("GET /10/kept", 302, KEPT % 86400, "https://example.org/own", way("10/kept", "https://example.org/own")),
     ("GET /10/odd", 302, KEPT % 86400, "https://example.org/own", way("10/odd", "https://example.org/own")),
     ("GET /10/gone", 404, NEVER, None, led_to("10/gone", refusal("20/none", ABSENT, LOOK))),
-    ("GET /10/off", 404, NEVER, None, led_to("10/off", refusal("30/a", ELSEWHERE, LOOK))),
+    ("GET /10/off", 404, NEVER, None, refusal("30/a", ELSEWHERE, LOOK)),
     ("GET /10/shown", 200, KEPT % 3600, None, led_to("10/shown", SCRIPT_PAGE)),
     ("GET /10/circle", 404, NEVER, None, refusal("10/circle", CIRCLE % "10/circle, 20/circle, 10/circle", ELSEWHERE_PLEASE, "Leads nowhere")),
     ("GET /10/self", 404, NEVER, None, refusal("10/self", CIRCLE % "10/self, 10/self", ELSEWHERE_PLEASE, "Leads nowhere")),
