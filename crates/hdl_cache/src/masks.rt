@@ -31,7 +31,7 @@ const SEEN: usize = 262_144;
 
 /// Masks by handle and key, and searches by handle.
 #[derive(Drop)]
-pub struct Masks {
+pub(crate) struct Masks {
     alloc: Global,
     kept: KeptMasks,
     /// The one that went on last stands at the end.
@@ -50,7 +50,7 @@ fn found_by(alloc: Global, search: &Search, key: &Reference) -> Result<Option<Ad
 
 impl Masks {
     /// Nothing is known. Refused only for want of memory.
-    pub fn new(alloc: Global) -> Result<Masks, AllocError>
+    pub(crate) fn new(alloc: Global) -> Result<Masks, AllocError>
         ensures { IfOk result (λ masks. (t : Table) → AreTrue t masks) }
     {
         let kept = KeptMasks::new(alloc)?;
@@ -144,7 +144,7 @@ impl Masks {
     ///
     /// Refused: the table refused a look, and its count rose by one; or memory was refused, or the search looked up as many references as
     /// one call may and isn't done, and the count is as it was. The next call goes on from there.
-    pub fn mask<R: Rows>(
+    pub(crate) fn mask<R: Rows>(
         &mut self,
         rows: &mut R,
         name: &Name,
@@ -169,7 +169,7 @@ impl Masks {
 
     /// Forgets what may not be so when values of this handle change: all masks, and each search for this handle, or that saw a reference
     /// of it.
-    pub fn forget(&mut self, name: &Name)
+    pub(crate) fn forget(&mut self, name: &Name)
         ensures { (t u : Table) → AgreeBeside (canonical name.now) t u → AreTrue t self.old → AreTrue u self.new }
     {
         self.kept.clear();

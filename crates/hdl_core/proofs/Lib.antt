@@ -6,4 +6,3 @@ pub mod Places
 pub mod Steps
 pub mod Opened
 pub mod Ordered
-pub mod Forgotten

@@ -4,7 +4,6 @@ ghost use Rattle.std.specs.Prelude.{◌≡◌, IfOk, IfSome, IsTrue, OnErr, OnOk
 ghost use Rattle.hdl_msg.specs.Codes.{response_number};
 ghost use Rattle.hdl_msg.specs.Reply.{short_reply, IsReplyFrame};
 ghost use Rattle.hdl_msg.specs.declared.replies.ReplyContent.TheVariants as content;
-ghost use Rattle.hdl_cache.specs.Truth.{AreTrue};
 ghost use Rattle.hdl_ops.specs.Replies.{fits};
 ghost use Rattle.hdl_ops.specs.Tables.{apply_if, CanApply};
 ghost use Rattle.hdl_laws.specs.Effects.{answer_octets};
@@ -15,27 +14,17 @@ use hdl_frame::Envelope;
 use hdl_limits::Octets;
 use hdl_msg::{ReplyContent, ResponseCode, refuse};
 use hdl_ops::laws::empty_fits;
-use hdl_ops::{Change, Decision, HashedRequest, Masks, Refused, Rows, apply, render};
+use hdl_ops::{Change, Decision, HashedRequest, Refused, Rows, apply, render};
 use std::alloc::Global;
 
-/// Makes the change of a decision, if there is one. What is known of administrators that it may touch is forgotten first.
-fn make<R: Rows>(
-    rows: &mut R,
-    masks: &mut Masks,
-    change: Option<Change>,
-    moment: u64,
-) -> Result<(), Refused>
+/// Makes the change of a decision, if there is one.
+fn make<R: Rows>(rows: &mut R, change: Option<Change>, moment: u64) -> Result<(), Refused>
     requires can_apply { IfSome change (λ change. CanApply (R.content rows.old) change) }
-    requires true_masks { AreTrue (R.content rows.old) masks.old }
     ensures done { OnOk result (R.content rows.new ≡ apply_if (R.content rows.old) moment change) }
     ensures undone { OnErr result (R.content rows.new ≡ R.content rows.old) }
-    ensures true_masks { AreTrue (R.content rows.new) masks.new }
 {
     match change {
-        Some(change) => {
-            masks.forget(change.name());
-            apply(rows, change, moment)
-        }
+        Some(change) => apply(rows, change, moment),
         None => Ok(()),
     }
 }
@@ -45,18 +34,15 @@ pub(crate) fn answer<R: Rows>(
     alloc: Global,
     asked: &HashedRequest<'_>,
     rows: &mut R,
-    masks: &mut Masks,
     origin: &Origin,
     decision: Decision,
 ) -> Result<Octets, Refused>
     requires fits { IsTrue (fits asked.now.algorithm asked.now.request.now decision.content) }
     requires can_apply { IfSome decision.change (λ change. CanApply (R.content rows.old) change) }
-    requires true_masks { AreTrue (R.content rows.old) masks.old }
     ensures reply { IfOk result (λ octets. octets ≡ answer_octets asked.now.algorithm origin.now.envelope asked.now.request.now (response_number decision.code) decision.content) }
     ensures read { IfOk result (λ octets. Announces asked.now.algorithm origin.now.envelope asked.now.request.now (response_number decision.code) decision.content → IsReplyFrame octets) }
     ensures done { OnOk result (R.content rows.new ≡ apply_if (R.content rows.old) origin.now.moment decision.change) }
     ensures undone { OnErr result (R.content rows.new ≡ R.content rows.old) }
-    ensures true_masks { AreTrue (R.content rows.new) masks.new }
 {
     let Decision {
         code,
@@ -64,7 +50,7 @@ pub(crate) fn answer<R: Rows>(
         change,
     } = decision;
     let octets = render(alloc, asked, &origin.envelope, code, content)?;
-    make(rows, masks, change, origin.moment)?;
+    make(rows, change, origin.moment)?;
     Ok(Octets::new(octets))
 }
 

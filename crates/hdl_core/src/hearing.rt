@@ -3,7 +3,6 @@
 ghost use Rattle.std.specs.Prelude.{◌≡◌, ◌==◌, ◌<◌, ℕ, List, length, IfOk, OnErr};
 ghost use Rattle.hdl_msg.specs.Codes.{response_number};
 ghost use Rattle.hdl_msg.specs.Reply.{IsReplyFrame};
-ghost use Rattle.hdl_cache.specs.Truth.{AreTrue};
 ghost use Rattle.hdl_ops.specs.Admission.{request_algorithm};
 ghost use Rattle.hdl_ops.specs.Views.{algorithms_by, hosted_by, response_view};
 ghost use Rattle.hdl_laws.specs.Tasks.{is_late};
@@ -17,8 +16,8 @@ use hdl_frame::Envelope;
 use hdl_limits::{CHALLENGE_LIFE, Octets};
 use hdl_msg::{Request, ResponseCode, read_request};
 use hdl_ops::{
-    Decision, HashedRequest, Level, Masks, NamedRequest, Owner, Proof, Refused, Response, Rows,
-    decide, render_challenge, response_of,
+    Decision, HashedRequest, Level, Masked, NamedRequest, Owner, Proof, Refused, Response, decide,
+    render_challenge, response_of,
 };
 use hdl_slots::Pending;
 use std::alloc::Global;
@@ -56,27 +55,24 @@ fn is_challenged(decision: &Decision) -> bool
 }
 
 /// Decides a request for anyone. A challenge gets the lane's next number.
-fn ask<R: Rows>(
+fn ask<R: Masked>(
     owner: &Owner<'_>,
     rows: &mut R,
-    masks: &mut Masks,
     origin: &Origin,
     next: u32,
     request: &Request<'_>,
 ) -> Result<Heard, Refused>
-    requires true_masks { AreTrue (R.content rows.old) masks.old }
     ensures asked { IfOk result (λ heard. IsAsked (hosted_by owner.now) (request_algorithm (algorithms_by owner.now) request.now) (R.content rows.old) origin.now next request.now heard (R.content rows.new)) }
     ensures read { IfOk result (λ heard. HasItsCode request.now → IsReplyFrame (sent_of heard)) }
     ensures undone { OnErr result (R.content rows.new ≡ R.content rows.old) }
-    ensures true_masks { AreTrue (R.content rows.new) masks.new }
 {
     let named = NamedRequest::of_owner(owner, request)?;
     let asked = named.asked;
-    let decision = decide(owner, named, rows, masks, &Level::Anyone)?;
+    let decision = decide(owner, named, rows, &Level::Anyone)?;
     if is_challenged(&decision) {
         return challenge(owner.alloc, &asked, origin, next);
     }
-    let octets = answer(owner.alloc, &asked, rows, masks, origin, decision)?;
+    let octets = answer(owner.alloc, &asked, rows, origin, decision)?;
     Ok(Heard::Answered(octets))
 }
 
@@ -88,19 +84,16 @@ fn is_late(origin: &Origin, pending: &Pending) -> bool
 }
 
 /// The reply to a challenge response that names this challenge.
-fn redeem<R: Rows>(
+fn redeem<R: Masked>(
     owner: &Owner<'_>,
     rows: &mut R,
-    masks: &mut Masks,
     origin: &Origin,
     response: Response<'_>,
     pending: &Pending,
 ) -> Result<Octets, Refused>
-    requires true_masks { AreTrue (R.content rows.old) masks.old }
     ensures redeemed { IfOk result (λ octets. IsRedeemed (hosted_by owner.now) (algorithms_by owner.now) (R.content rows.old) origin.now (response_view response.entry) pending.now octets (R.content rows.new)) }
     ensures read { IfOk result (λ octets. IsReplyFrame octets) }
     ensures undone { OnErr result (R.content rows.new ≡ R.content rows.old) }
-    ensures true_masks { AreTrue (R.content rows.new) masks.new }
 {
     let Ok(request) = read_request(pending.message.as_slice()) else {
         return malformed(owner.alloc, &origin.envelope);
@@ -123,27 +116,24 @@ fn redeem<R: Rows>(
         digest: &pending.digest,
     };
     let named = NamedRequest::read(owner.alloc, asked)?;
-    let decision = decide(owner, named, rows, masks, &Level::Proven(proof))?;
-    answer(owner.alloc, &asked, rows, masks, origin, decision)
+    let decision = decide(owner, named, rows, &Level::Proven(proof))?;
+    answer(owner.alloc, &asked, rows, origin, decision)
 }
 
 /// The reply to a challenge response. The challenge that it names is spent, unless the reply is refused.
-fn respond<R: Rows>(
+fn respond<R: Masked>(
     owner: &Owner<'_>,
     rows: &mut R,
-    masks: &mut Masks,
     lanes: &mut Lanes,
     origin: &Origin,
     request: &Request<'_>,
     response: Response<'_>,
 ) -> Result<Octets, Refused>
     requires there { origin.now.lane < length lanes.old }
-    requires true_masks { AreTrue (R.content rows.old) masks.old }
     ensures responded { IfOk result (λ octets. RespondsAt (hosted_by owner.now) (algorithms_by owner.now) (R.content rows.old) lanes.old origin.now.lane origin.now request.now (response_view response.entry) octets lanes.new (R.content rows.new)) }
     ensures read { IfOk result (λ octets. IsReplyFrame octets) }
     ensures undone { OnErr result (R.content rows.new ≡ R.content rows.old) }
     ensures kept { OnErr result (lanes.new ≡ lanes.old) }
-    ensures true_masks { AreTrue (R.content rows.new) masks.new }
 {
     let session = origin.envelope.session;
     let Some(pending) = lanes.find(origin.lane, origin.peer, session) else {
@@ -153,36 +143,33 @@ fn respond<R: Rows>(
         };
         return code_reply(owner.alloc, &asked, origin, ResponseCode::ProtocolError);
     };
-    let octets = redeem(owner, rows, masks, origin, response, pending)?;
+    let octets = redeem(owner, rows, origin, response, pending)?;
     lanes.spend(origin.lane, origin.peer, session);
     Ok(octets)
 }
 
 /// Hears a message on a lane. A challenge takes the message with it into the lane's slot, once its reply is written.
-pub(crate) fn hear<R: Rows>(
+pub(crate) fn hear<R: Masked>(
     owner: &Owner<'_>,
     rows: &mut R,
-    masks: &mut Masks,
     lanes: &mut Lanes,
     origin: &Origin,
     message: Vec<u8>,
 ) -> Result<Octets, Refused>
     requires there { origin.now.lane < length lanes.old }
-    requires true_masks { AreTrue (R.content rows.old) masks.old }
     ensures heard { IfOk result (λ octets. HearsAt (hosted_by owner.now) (algorithms_by owner.now) (R.content rows.old) lanes.old origin.now.lane (message_as origin.now message.items) octets lanes.new (R.content rows.new)) }
     ensures read { IfOk result (λ octets. IsReplyFrame octets) }
     ensures undone { OnErr result (R.content rows.new ≡ R.content rows.old) }
     ensures kept { OnErr result (lanes.new ≡ lanes.old) }
-    ensures true_masks { AreTrue (R.content rows.new) masks.new }
 {
     let Ok(request) = read_request(&message) else {
         return malformed(owner.alloc, &origin.envelope);
     };
     if let Some(response) = response_of(request.body()) {
-        return respond(owner, rows, masks, lanes, origin, &request, response);
+        return respond(owner, rows, lanes, origin, &request, response);
     }
     let next = lanes.next_number(origin.lane);
-    match ask(owner, rows, masks, origin, next, &request)? {
+    match ask(owner, rows, origin, next, &request)? {
         Heard::Answered(octets) => Ok(octets),
         Heard::Challenged(octets, digest) => {
             let nonce = origin.nonce;

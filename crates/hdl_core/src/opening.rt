@@ -2,8 +2,7 @@
 
 ghost use Rattle.std.specs.Prelude.{◌≡◌, [], None, map, IfOk, OnOk};
 ghost use Rattle.std.specs.List.Sorted.{IsPermutation};
-ghost use Rattle.hdl_rows.specs.Table.{Table, no_rows, at};
-ghost use Rattle.hdl_cache.specs.Truth.{AreTrue};
+ghost use Rattle.hdl_rows.specs.Table.{no_rows, at};
 ghost use Rattle.hdl_tenants.specs.Register.{lane_count, place, AreDistinct};
 ghost use Rattle.hdl_core.specs.Opening.{IsOpening, IsResumed, closed_lanes as closed, opening_table, with_row, row_at, first_lanes};
 
@@ -11,7 +10,7 @@ use crate::lane::Lane;
 use crate::lanes::Lanes;
 use crate::service::Service;
 use hdl_name::Name;
-use hdl_ops::{Masks, Refused, Rows, Tenants};
+use hdl_ops::{MaskedRows, Refused, Rows, Tenants};
 use hdl_value::Value;
 use std::alloc::{AllocError, Global};
 use std::slice;
@@ -100,10 +99,9 @@ fn load<R: Rows>(alloc: Global, rows: &mut R, opening: &[(Name, Value)]) -> Resu
     }
 }
 
-/// What is kept of all lanes, each closed, and of masks, none.
-fn room_for(alloc: Global, tenants: &Tenants) -> Result<(Lanes, Masks), OpenFault>
-    ensures lanes { IfOk result (λ room. room.0 ≡ closed (first_lanes tenants.now (lane_count tenants.now.publishers))) }
-    ensures masks { IfOk result (λ room. (t : Table) → AreTrue t room.1) }
+/// What is kept of all lanes, each closed.
+fn room_for(alloc: Global, tenants: &Tenants) -> Result<Lanes, OpenFault>
+    ensures { IfOk result (λ lanes. lanes ≡ closed (first_lanes tenants.now (lane_count tenants.now.publishers))) }
 {
     let Ok(lanes) = closed_lanes(alloc, tenants) else {
         return Err(OpenFault::Memory);
@@ -112,10 +110,17 @@ fn room_for(alloc: Global, tenants: &Tenants) -> Result<(Lanes, Masks), OpenFaul
     let Ok(lanes) = Lanes::new(alloc, lanes) else {
         return Err(OpenFault::Memory);
     };
-    let Ok(masks) = Masks::new(alloc) else {
-        return Err(OpenFault::Memory);
-    };
-    Ok((lanes, masks))
+    Ok(lanes)
+}
+
+/// The table, of which no masks are kept yet.
+fn masked<R: Rows + Drop>(alloc: Global, rows: R) -> Result<MaskedRows<R>, OpenFault>
+    ensures { IfOk result (λ masked. masked ≡ rows) }
+{
+    match MaskedRows::new(alloc, rows) {
+        Ok(masked) => Ok(masked),
+        Err(_) => Err(OpenFault::Memory),
+    }
 }
 
 impl<R: Rows + Drop> Service<R> {
@@ -127,15 +132,14 @@ impl<R: Rows + Drop> Service<R> {
         requires empty { R.content rows ≡ no_rows }
         ensures opening { IfOk result (λ service. IsOpening tenants service) }
     {
-        let room = room_for(alloc, &tenants)?;
-        let (lanes, masks) = room;
+        let lanes = room_for(alloc, &tenants)?;
         load(alloc, &mut rows, tenants.opening())?;
+        let rows = masked(alloc, rows)?;
         Ok(Service {
             alloc,
             tenants,
             lanes,
             rows,
-            masks,
         })
     }
 
@@ -146,14 +150,13 @@ impl<R: Rows + Drop> Service<R> {
     pub fn resume(alloc: Global, tenants: Tenants, rows: R) -> Result<Service<R>, OpenFault>
         ensures resumed { IfOk result (λ service. IsResumed tenants (R.content rows) service) }
     {
-        let room = room_for(alloc, &tenants)?;
-        let (lanes, masks) = room;
+        let lanes = room_for(alloc, &tenants)?;
+        let rows = masked(alloc, rows)?;
         Ok(Service {
             alloc,
             tenants,
             lanes,
             rows,
-            masks,
         })
     }
 }

@@ -9,7 +9,7 @@ use crate::lanes::Lanes;
 use crate::serving::serve;
 use hdl_laws::laws::{reply_told, restricted, runs_joined, twin_replies};
 use hdl_laws::{Event, Outcome};
-use hdl_ops::{Masks, Owner, Rows, Tenants};
+use hdl_ops::{MaskedRows, Owner, Rows, Tenants};
 use hdl_tenants::root_is_nobodys;
 use std::alloc::Global;
 use std::marker::Model;
@@ -21,8 +21,7 @@ pub struct Service<R: Rows + Drop> {
     pub(crate) alloc: Global,
     pub(crate) tenants: Tenants,
     pub(crate) lanes: Lanes,
-    pub(crate) rows: R,
-    pub(crate) masks: Masks,
+    pub(crate) rows: MaskedRows<R>,
 }
 
 impl<R: Rows + Drop> Model for Service<R> {
@@ -39,10 +38,6 @@ impl<R: Rows + Drop> Model for Service<R> {
     ghost use Rattle.hdl_core.specs.Worlds.{world_of};
 
     ghost view = { λ s. world_of s.tenants s.lanes (R.content s.rows) };
-
-    ghost use Rattle.hdl_cache.specs.Truth.{AreTrue};
-
-    ghost invariant = { λ s. AreTrue (R.content s.rows) s.masks };
 }
 
 /// Room for a run's outcomes was refused: the events come back as they were, and nothing changed.
@@ -72,27 +67,21 @@ impl<R: Rows + Drop> Service<R> {
             tenants: &self.tenants,
             publisher: self.lanes.publisher(event.lane),
         };
-        serve(
-            &owner,
-            &mut self.rows,
-            &mut self.masks,
-            &mut self.lanes,
-            event,
-        )
+        serve(&owner, &mut self.rows, &mut self.lanes, event)
     }
 
     /// The table. What is said of it beside [`Rows`], as what a crash leaves of a table that lasts, is said of the service's.
     pub fn rows(&self) -> &R
         ensures { R.content result.now ≡ self.now.table }
     {
-        &self.rows
+        self.rows.get_ref()
     }
 
     /// The table, as the run left it.
     pub fn into_rows(self) -> R
         ensures { R.content result ≡ self.table }
     {
-        self.rows
+        self.rows.into_inner()
     }
 
     /// Nobody hosts the prefix of the administrative handles. Whoever joins runs of a service needs it to isolate publishers in the

@@ -4,7 +4,6 @@ ghost use Rattle.std.specs.Prelude.{◌≡◌, ◌<◌, true, drop, length, IfOk
 ghost use Rattle.hdl_frame.specs.Envelope.{envelope_at, is_truncated};
 ghost use Rattle.hdl_frame.specs.Splitting.{IsFrameOf};
 ghost use Rattle.hdl_msg.specs.Reply.{IsReplyFrame};
-ghost use Rattle.hdl_cache.specs.Truth.{AreTrue};
 ghost use Rattle.hdl_ops.specs.Views.{algorithms_by, hosted_by};
 ghost use Rattle.hdl_laws.specs.Reveals.{IsReadable};
 ghost use Rattle.hdl_core.specs.Serving.{AssemblesAt, outcome_of, received_as, received_of, ReceivesAt, ServesAt};
@@ -16,7 +15,7 @@ use hdl_frame::{ENVELOPE_LEN, Envelope, Frame, one_datagram};
 use hdl_laws::{Event, Happening, Outcome};
 use hdl_limits::Octets;
 use hdl_msg::{busy, refuse};
-use hdl_ops::{Masks, Owner, Refused, Rows};
+use hdl_ops::{Masked, Owner, Refused};
 use hdl_pool::Taken;
 
 /// The message behind an envelope, in the octets' own memory.
@@ -32,10 +31,9 @@ fn message_of(octets: Octets) -> Vec<u8>
 
 /// A piece of a message that came on an open lane. What came of its message before is forgotten once the whole message is
 /// answered; where that is refused it stands as it was.
-fn assemble<R: Rows>(
+fn assemble<R: Masked>(
     owner: &Owner<'_>,
     rows: &mut R,
-    masks: &mut Masks,
     lanes: &mut Lanes,
     origin: &Origin,
     frame: &Frame<'_>,
@@ -44,19 +42,17 @@ fn assemble<R: Rows>(
     requires frame { IsFrameOf frame.now.bytes.now frame.now }
     requires piece { is_truncated (envelope_at frame.now.bytes.now) ≡ true }
     requires envelope { origin.now.envelope ≡ envelope_at frame.now.bytes.now }
-    requires true_masks { AreTrue (R.content rows.old) masks.old }
     ensures assembled { IfOk result (λ reply. AssemblesAt (hosted_by owner.now) (algorithms_by owner.now) (R.content rows.old) lanes.old origin.now.lane (received_as origin.now frame.now.bytes.now) reply lanes.new (R.content rows.new)) }
     ensures read { IfOk result (λ reply. IfSome reply IsReplyFrame) }
     ensures undone { OnErr result (R.content rows.new ≡ R.content rows.old) }
     ensures kept { OnErr result (lanes.new ≡ lanes.old) }
-    ensures true_masks { AreTrue (R.content rows.new) masks.new }
 {
     let Ok(taken) = lanes.take_piece(origin.lane, origin.peer, frame) else {
         return Err(Refused);
     };
     match taken {
         Taken::Whole(message) => {
-            let reply = hear(owner, rows, masks, lanes, origin, message)?;
+            let reply = hear(owner, rows, lanes, origin, message)?;
             lanes.free(origin.lane, origin.peer, &origin.envelope);
             Ok(Some(reply))
         }
@@ -78,18 +74,15 @@ fn outcome_of(envelope: &Envelope, reply: Result<Option<Octets>, Refused>) -> Ou
 }
 
 /// Octets that came on an open lane.
-fn receive<R: Rows>(
+fn receive<R: Masked>(
     owner: &Owner<'_>,
     rows: &mut R,
-    masks: &mut Masks,
     lanes: &mut Lanes,
     received: Received,
 ) -> Outcome
     requires there { received.lane < length lanes.old }
-    requires true_masks { AreTrue (R.content rows.old) masks.old }
     ensures received { ReceivesAt (hosted_by owner.now) (algorithms_by owner.now) (R.content rows.old) lanes.old received.lane (received_of received) result lanes.new (R.content rows.new) }
     ensures read { IsReadable result }
-    ensures true_masks { AreTrue (R.content rows.new) masks.new }
 {
     let Received {
         lane,
@@ -110,29 +103,26 @@ fn receive<R: Rows>(
         envelope,
     };
     if envelope.is_truncated() {
-        let reply = assemble(owner, rows, masks, lanes, &origin, &frame);
+        let reply = assemble(owner, rows, lanes, &origin, &frame);
         return outcome_of(&envelope, reply);
     }
     let message = message_of(bytes);
-    match hear(owner, rows, masks, lanes, &origin, message) {
+    match hear(owner, rows, lanes, &origin, message) {
         Ok(reply) => Outcome::Reply(reply),
         Err(_) => Outcome::Busy(busy(&envelope)),
     }
 }
 
 /// Serves an event of a lane that somebody owns.
-pub(crate) fn serve<R: Rows>(
+pub(crate) fn serve<R: Masked>(
     owner: &Owner<'_>,
     rows: &mut R,
-    masks: &mut Masks,
     lanes: &mut Lanes,
     event: Event,
 ) -> Outcome
     requires there { event.lane < length lanes.old }
-    requires true_masks { AreTrue (R.content rows.old) masks.old }
     ensures served { ServesAt (hosted_by owner.now) (algorithms_by owner.now) (R.content rows.old) lanes.old event.lane event.what result lanes.new (R.content rows.new) }
     ensures read { IsReadable result }
-    ensures true_masks { AreTrue (R.content rows.new) masks.new }
 {
     let Event { lane, what } = event;
     match what {
@@ -166,7 +156,7 @@ pub(crate) fn serve<R: Rows>(
                 nonce,
                 bytes,
             };
-            receive(owner, rows, masks, lanes, received)
+            receive(owner, rows, lanes, received)
         }
     }
 }

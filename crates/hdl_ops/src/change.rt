@@ -1,10 +1,8 @@
 //! Changes of the table.
 
 ghost use Rattle.std.specs.Prelude.{◌≡◌, map, OnOk, OnErr};
-ghost use Rattle.hdl_name.specs.Name.{canonical};
 ghost use Rattle.hdl_rows.specs.Table.{indexes, refusals_after};
-ghost use Rattle.hdl_rows.specs.Write.{handle_of};
-ghost use Rattle.hdl_ops.specs.Tables.{apply, stamped, write_of, CanApply};
+ghost use Rattle.hdl_ops.specs.Tables.{apply, stamped, CanApply};
 
 use hdl_limits::Items;
 use hdl_name::Name;
@@ -19,21 +17,6 @@ pub enum Change {
     Add { name: Name, values: Items<Value> },
     Remove { name: Name, indexes: Items<u32> },
     Modify { name: Name, values: Items<Value> },
-}
-
-impl Change {
-    /// The handle whose values it writes.
-    pub fn name(&self) -> &Name
-        ensures { canonical result.now ≡ handle_of (write_of self.now) }
-    {
-        match self {
-            Change::Create { name, .. } => name,
-            Change::Delete { name } => name,
-            Change::Add { name, .. } => name,
-            Change::Remove { name, .. } => name,
-            Change::Modify { name, .. } => name,
-        }
-    }
 }
 
 fn with_moment(mut values: Vec<Value>, moment: u64) -> Vec<Value>

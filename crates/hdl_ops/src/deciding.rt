@@ -3,7 +3,6 @@
 ghost use Rattle.std.specs.Prelude.{◌≡◌, [], None, if◌then◌else◌, IfOk, IfSome, OnOk, IsTrue};
 ghost use Rattle.hdl_name.specs.Name.{prefix};
 ghost use Rattle.hdl_rows.specs.Table.{refusals_after, names_of, values_of, HaveTheirIndexes, AreRefusalsAfter};
-ghost use Rattle.hdl_cache.specs.Truth.{AreTrue};
 ghost use Rattle.hdl_ops.specs.Admission.{refusal};
 ghost use Rattle.hdl_ops.specs.Decisions as decisions;
 ghost use Rattle.hdl_ops.specs.Decisions.{Decides, DecidesBy};
@@ -20,7 +19,7 @@ use crate::keys::code_for_proof;
 use crate::owner::Owner;
 use crate::requests::is_list;
 use crate::whole_decision::whole_decision;
-use hdl_cache::Masks;
+use hdl_cache::Masked;
 use hdl_limits::Octets;
 use hdl_msg::Request;
 use hdl_name::Name;
@@ -95,43 +94,37 @@ fn decide_for_anyone<R: Rows>(
 }
 
 /// The decision about a request that came back with a proof.
-fn decide_with_proof<R: Rows>(
+fn decide_with_proof<R: Masked>(
     alloc: Global,
     asked: &HashedRequest<'_>,
     rows: &mut R,
-    masks: &mut Masks,
     name: Name,
     proof: &Proof<'_>,
 ) -> Result<Decision, Refused>
     requires named { name ≡ sent_handle asked.now.request.now.operation }
-    requires true_masks { AreTrue (R.content rows.old) masks.old }
     ensures unchanged { R.content rows.new ≡ R.content rows.old }
-    ensures true_masks { AreTrue (R.content rows.new) masks.new }
     ensures decided { IfOk result (λ d. DecidesBy asked.now.algorithm (R.content rows.old) asked.now.request.now (decisions.Proven (proof_of proof.now)) None (decision_of d)) }
     ensures carried { IfOk result (λ d. IsTrue (fits asked.now.algorithm asked.now.request.now d.content)) }
     ensures by_index { OnOk result (HaveTheirIndexes (R.content rows.old) (handle_of asked.now.request.now) (sight (R.content rows.old) asked.now.request.now).values) }
     ensures count { AreRefusalsAfter result (R.refused rows.old) (R.refused rows.new) }
 {
     let sight = look(alloc, rows, asked.request, &name)?;
-    let code = code_for_proof(alloc, rows, masks, asked.request, &sight, &name, proof)?;
+    let code = code_for_proof(alloc, rows, asked.request, &sight, &name, proof)?;
     whole_decision(alloc, asked, &Level::Proven(*proof), sight, code, name)
 }
 
-/// The decision about a request on a lane of its owner. The table stays as it is. What is kept is the table's, before and
-/// after; a mask that is kept isn't looked for again.
+/// The decision about a request on a lane of its owner. The table stays as it is, and a mask that is kept of it isn't looked for
+/// again.
 ///
 /// Refused: the table refused a look, and its count rose by one; or memory for the decision was refused, and the count is as
 /// it was. What is carried fits into the message of a reply, and a change meets the conditions of its write.
-pub fn decide<R: Rows>(
+pub fn decide<R: Masked>(
     owner: &Owner<'_>,
     request: NamedRequest<'_>,
     rows: &mut R,
-    masks: &mut Masks,
     level: &Level<'_>,
 ) -> Result<Decision, Refused>
-    requires true_masks { AreTrue (R.content rows.old) masks.old }
     ensures unchanged { R.content rows.new ≡ R.content rows.old }
-    ensures true_masks { AreTrue (R.content rows.new) masks.new }
     ensures decided { IfOk result (λ d. Decides (hosted_by owner.now) request.entry.asked.algorithm (R.content rows.old) request.entry.asked.request.now (level_of level.now) (decision_of d)) }
     ensures carried { IfOk result (λ d. IsTrue (fits request.entry.asked.algorithm request.entry.asked.request.now d.content)) }
     ensures can_apply { IfOk result (λ d. IfSome d.change (λ change. CanApply (R.content rows.old) change)) }
@@ -143,7 +136,7 @@ pub fn decide<R: Rows>(
         Admitted::Refused(decision) => Ok(decision),
         Admitted::Passed(name) => match level {
             Level::Anyone => decide_for_anyone(alloc, &asked, rows, name),
-            Level::Proven(proof) => decide_with_proof(alloc, &asked, rows, masks, name, proof),
+            Level::Proven(proof) => decide_with_proof(alloc, &asked, rows, name, proof),
         },
     }
 }

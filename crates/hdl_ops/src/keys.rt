@@ -5,7 +5,6 @@ ghost use Rattle.hdl_name.specs.Name.{canonical, prefix};
 ghost use Rattle.hdl_value.specs.Refs.{place_of};
 ghost use Rattle.hdl_rows.specs.Table.{AreRefusalsAfter};
 ghost use Rattle.hdl_reach.specs.Views.{mask_of};
-ghost use Rattle.hdl_cache.specs.Truth.{AreTrue};
 ghost use Rattle.hdl_msg.specs.Views.{operation_of};
 ghost use Rattle.hdl_msg.specs.Codes.{response_number};
 ghost use Rattle.hdl_ops.specs.Admission.{handle_in};
@@ -18,10 +17,10 @@ use crate::admit::read_name;
 use crate::decision::{Proof, Sight};
 use crate::proven::{code_before_key, code_behind_key};
 use crate::requests::creates;
-use hdl_cache::Masks;
+use hdl_cache::Masked;
 use hdl_msg::{Body, Request, ResponseCode};
 use hdl_name::Name;
-use hdl_rows::{Refused, Rows};
+use hdl_rows::Refused;
 use hdl_value::{AdminMask, Reference};
 use std::alloc::{AllocError, Global};
 
@@ -57,51 +56,45 @@ fn admin_handle(alloc: Global, name: &Name) -> Result<Option<Name>, Refused>
 
 /// What the key may do as an administrator of the request's target.
 #[tactic(auto, unfolding(crate::specs::Proven::target))]
-fn mask_of<R: Rows>(
+fn mask_of<R: Masked>(
     alloc: Global,
     rows: &mut R,
-    masks: &mut Masks,
     body: &Body<'_>,
     name: &Name,
     key: &Reference,
 ) -> Result<Option<AdminMask>, Refused>
     requires named { name.now ≡ sent_handle (operation_of body.now) }
-    requires true_masks { AreTrue (R.content rows.old) masks.old }
     ensures unchanged { R.content rows.new ≡ R.content rows.old }
-    ensures true_masks { AreTrue (R.content rows.new) masks.new }
     ensures mask { IfOk result (λ mask. MaskOf (R.content rows.old) (target (operation_of body.now)) (Some (place_of key.now)) (mask_of mask)) }
     ensures count { AreRefusalsAfter result (R.refused rows.old) (R.refused rows.new) }
 {
     if !creates(body) {
-        return masks.mask(rows, name, key);
+        return rows.mask(name, key);
     }
     match admin_handle(alloc, name)? {
-        Some(target) => masks.mask(rows, &target, key),
+        Some(target) => rows.mask(&target, key),
         None => Ok(None),
     }
 }
 
 /// The code for the key: its value is looked at only if it is an administrator.
-fn code_for_key<R: Rows>(
+fn code_for_key<R: Masked>(
     alloc: Global,
     rows: &mut R,
-    masks: &mut Masks,
     request: &Request<'_>,
     sight: &Sight,
     name: &Name,
     proof: &Proof<'_>,
 ) -> Result<ResponseCode, Refused>
     requires named { name.now ≡ sent_handle request.now.operation }
-    requires true_masks { AreTrue (R.content rows.old) masks.old }
     ensures unchanged { R.content rows.new ≡ R.content rows.old }
-    ensures true_masks { AreTrue (R.content rows.new) masks.new }
     ensures code { IfOk result (λ code. IsCodeForKey (R.content rows.old) (sight_of sight.now) request.now (proof_of proof.now) (response_number code)) }
     ensures count { AreRefusalsAfter result (R.refused rows.old) (R.refused rows.new) }
 {
     let Some(key) = key_of(alloc, proof)? else {
         return Ok(ResponseCode::NotAuthorized);
     };
-    let Some(mask) = mask_of(alloc, rows, masks, request.body(), name, &key)? else {
+    let Some(mask) = mask_of(alloc, rows, request.body(), name, &key)? else {
         return Ok(ResponseCode::NotAuthorized);
     };
     let value = rows.at(&key)?;
@@ -109,10 +102,9 @@ fn code_for_key<R: Rows>(
 }
 
 /// The code of the table of decision for a request with a proof.
-pub(crate) fn code_for_proof<R: Rows>(
+pub(crate) fn code_for_proof<R: Masked>(
     alloc: Global,
     rows: &mut R,
-    masks: &mut Masks,
     request: &Request<'_>,
     sight: &Sight,
     name: &Name,
@@ -120,14 +112,12 @@ pub(crate) fn code_for_proof<R: Rows>(
 ) -> Result<ResponseCode, Refused>
     requires named { name.now ≡ sent_handle request.now.operation }
     requires sight { sight_of sight.now ≡ sights.sight (R.content rows.old) request.now }
-    requires true_masks { AreTrue (R.content rows.old) masks.old }
     ensures unchanged { R.content rows.new ≡ R.content rows.old }
-    ensures true_masks { AreTrue (R.content rows.new) masks.new }
     ensures code { IfOk result (λ code. IsCodeForProof (R.content rows.old) request.now (proof_of proof.now) (response_number code)) }
     ensures count { AreRefusalsAfter result (R.refused rows.old) (R.refused rows.new) }
 {
     match code_before_key(request, sight, proof) {
         Some(code) => Ok(code),
-        None => code_for_key(alloc, rows, masks, request, sight, name, proof),
+        None => code_for_key(alloc, rows, request, sight, name, proof),
     }
 }

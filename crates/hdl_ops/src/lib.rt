@@ -42,7 +42,7 @@ pub use admit::NamedRequest;
 pub use change::{Change, apply};
 pub use deciding::decide;
 pub use decision::{Decision, HashedRequest, Level, Proof};
-pub use hdl_cache::Masks;
+pub use hdl_cache::{Masked, MaskedRows};
 pub use hdl_msg::{Request, read_request};
 pub use hdl_rows::{Refused, Rows};
 pub use hdl_tenants::Tenants;

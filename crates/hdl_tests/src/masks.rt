@@ -3,7 +3,7 @@
 use crate::assertion::same;
 use crate::made::value;
 use crate::reach::put;
-use hdl_cache::Masks;
+use hdl_cache::{Masked, MaskedRows};
 use hdl_name::Name;
 use hdl_rows::{Fuse, PlainRows, Refused, Rows};
 use hdl_value::{AdminMask, Reference, put_string, put_u32};
@@ -16,6 +16,9 @@ const LISTED: u32 = 3_000;
 
 /// The handle's values, its list, and each reference of the list.
 const LOOKS: u64 = 3_002;
+
+/// The calls by which two handles are made.
+const CREATES: u64 = 4;
 
 fn list(alloc: Global) -> Result<Vec<u8>, AllocError> {
     let mut data = Vec::new(alloc);
@@ -45,19 +48,27 @@ fn key(alloc: Global, index: u32) -> Result<Reference, Fail> {
     })
 }
 
+/// Makes a handle without values, which is absent: two calls.
+fn create(rt: &impl Abort, alloc: Global, rows: &mut impl Rows, handle: &[u8]) -> Result<(), Fail> {
+    let name = Name::read(alloc, handle)?;
+    assert!(rt; !rows.exists(&name)?);
+    rows.create(&name, &[])?;
+    Ok(())
+}
+
 /// One call stops behind the list, since that holds more than 2,048 references, and the next behind 2,048 of these. Both are refused, which no
 /// table counts. The third ends, and each reference was looked up once.
 #[test]
 fn a_search_goes_on(rt: HostRuntime) -> Result<(), Fail> {
-    let mut masks = Masks::new(rt.alloc())?;
-    let mut rows = table(&rt, rt.alloc(), LOOKS)?;
+    let rows = table(&rt, rt.alloc(), LOOKS)?;
+    let mut rows = MaskedRows::new(rt.alloc(), rows)?;
     let name = Name::read(rt.alloc(), b"10/c")?;
     let last = key(rt.alloc(), LISTED)?;
-    let first = masks.mask(&mut rows, &name, &last);
+    let first = rows.mask(&name, &last);
     same(&rt, "first", first, Err(Refused));
-    let second = masks.mask(&mut rows, &name, &last);
+    let second = rows.mask(&name, &last);
     same(&rt, "second", second, Err(Refused));
-    let third = masks.mask(&mut rows, &name, &last);
+    let third = rows.mask(&name, &last);
     same(&rt, "third", third, Ok(Some(AdminMask(0x0fff))));
     same(&rt, "refused", rows.refusals(), 0);
     Ok(())
@@ -66,18 +77,18 @@ fn a_search_goes_on(rt: HostRuntime) -> Result<(), Fail> {
 /// What a search has found serves for every key, those that somebody made up too: the table is asked nothing more.
 #[test]
 fn a_search_serves_every_key(rt: HostRuntime) -> Result<(), Fail> {
-    let mut masks = Masks::new(rt.alloc())?;
-    let mut rows = table(&rt, rt.alloc(), LOOKS)?;
+    let rows = table(&rt, rt.alloc(), LOOKS)?;
+    let mut rows = MaskedRows::new(rt.alloc(), rows)?;
     let name = Name::read(rt.alloc(), b"10/c")?;
     let made_up = key(rt.alloc(), LISTED + 1)?;
-    let first = masks.mask(&mut rows, &name, &made_up);
+    let first = rows.mask(&name, &made_up);
     same(&rt, "first", first, Err(Refused));
-    let second = masks.mask(&mut rows, &name, &made_up);
+    let second = rows.mask(&name, &made_up);
     same(&rt, "second", second, Err(Refused));
-    let third = masks.mask(&mut rows, &name, &made_up);
+    let third = rows.mask(&name, &made_up);
     same(&rt, "made up", third, Ok(None));
     let one = key(rt.alloc(), 1)?;
-    let listed = masks.mask(&mut rows, &name, &one);
+    let listed = rows.mask(&name, &one);
     same(&rt, "listed", listed, Ok(Some(AdminMask(0x0fff))));
     same(&rt, "refused", rows.refusals(), 0);
     Ok(())
@@ -86,21 +97,21 @@ fn a_search_serves_every_key(rt: HostRuntime) -> Result<(), Fail> {
 /// A change of a handle that the search didn't see leaves it; one of a handle in a list ends it.
 #[test]
 fn a_change_ends_what_saw_its_handle(rt: HostRuntime) -> Result<(), Fail> {
-    let mut masks = Masks::new(rt.alloc())?;
-    let mut rows = table(&rt, rt.alloc(), LOOKS)?;
+    let rows = table(&rt, rt.alloc(), LOOKS + CREATES)?;
+    let mut rows = MaskedRows::new(rt.alloc(), rows)?;
     let name = Name::read(rt.alloc(), b"10/c")?;
     let last = key(rt.alloc(), LISTED)?;
-    let first = masks.mask(&mut rows, &name, &last);
+    let first = rows.mask(&name, &last);
     same(&rt, "first", first, Err(Refused));
-    let second = masks.mask(&mut rows, &name, &last);
+    let second = rows.mask(&name, &last);
     same(&rt, "second", second, Err(Refused));
-    let third = masks.mask(&mut rows, &name, &last);
+    let third = rows.mask(&name, &last);
     same(&rt, "third", third, Ok(Some(AdminMask(0x0fff))));
-    masks.forget(&Name::read(rt.alloc(), b"20/key")?);
-    let kept = masks.mask(&mut rows, &name, &last);
+    create(&rt, rt.alloc(), &mut rows, b"20/key")?;
+    let kept = rows.mask(&name, &last);
     same(&rt, "of another handle", kept, Ok(Some(AdminMask(0x0fff))));
-    masks.forget(&Name::read(rt.alloc(), b"20/keys")?);
-    let gone = masks.mask(&mut rows, &name, &last);
+    create(&rt, rt.alloc(), &mut rows, b"20/keys")?;
+    let gone = rows.mask(&name, &last);
     same(&rt, "of a key's handle", gone, Err(Refused));
     same(&rt, "refused", rows.refusals(), 1);
     Ok(())

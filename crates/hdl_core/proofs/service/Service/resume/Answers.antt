@@ -1,8 +1,10 @@
+use Rattle.std.proofs.Common.{ap, subst}
+use Rattle.hdl_core.specs.Opening.{IsResumed}
+use Rattle.hdl_core.specs.Worlds.{world_of}
 use Rattle.hdl_core.proofs.Opened.{resumes}
 use Rattle.hdl_core.proofs.service.Service.resume.Goals as goal
 
 pub returns : goal.returns
-returns g c = record { resumed = resumes c.args.tenants (g.R.Rows.content c.args.rows) c.in_ok-room.room.0 c.in_ok-room.ensures.lanes }
-
-pub invariant_of-result : goal.invariant_of-result
-invariant_of-result g c = c.in_ok-room.ensures.masks (g.R.Rows.content c.args.rows)
+returns g c =
+    let table = g.R.Rows.content c.in_ok-rows.rows in
+    record { resumed = subst (λ t. IsResumed c.args.tenants t (world_of c.args.tenants c.in_ok-lanes.lanes table)) (ap g.R.Rows.content c.in_ok-rows.ensures) (resumes c.args.tenants table c.in_ok-lanes.lanes c.in_ok-lanes.ensures) }

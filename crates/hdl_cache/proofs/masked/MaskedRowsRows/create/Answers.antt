@@ -1,0 +1,10 @@
+use Rattle.hdl_name.specs.Name.{canonical}
+use Rattle.hdl_rows.specs.Write.{Create}
+use Rattle.hdl_cache.proofs.Beside.{beside}
+use Rattle.hdl_cache.proofs.masked.MaskedRowsRows.create.Goals as goal
+
+pub invariant_of-self : goal.invariant_of-self
+invariant_of-self g c =
+    let old = g.R.Rows.content c.self.inside.rows in
+    let new = g.R.Rows.content c.create.new.self in
+    c.forget.ensures old new (beside c.create.result (Create (canonical c.args.name.now) c.args.values.now) old new c.create.ensures.done c.create.ensures.undone) c.self.invariant

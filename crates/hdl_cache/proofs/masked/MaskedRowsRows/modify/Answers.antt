@@ -1,0 +1,10 @@
+use Rattle.hdl_name.specs.Name.{canonical}
+use Rattle.hdl_rows.specs.Write.{Modify}
+use Rattle.hdl_cache.proofs.Beside.{beside}
+use Rattle.hdl_cache.proofs.masked.MaskedRowsRows.modify.Goals as goal
+
+pub invariant_of-self : goal.invariant_of-self
+invariant_of-self g c =
+    let old = g.R.Rows.content c.self.inside.rows in
+    let new = g.R.Rows.content c.modify.new.self in
+    c.forget.ensures old new (beside c.modify.result (Modify (canonical c.args.name.now) c.args.values.now) old new c.modify.ensures.done c.modify.ensures.undone) c.self.invariant

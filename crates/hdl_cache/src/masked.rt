@@ -1,0 +1,132 @@
+//! A table with what is known of its administrators.
+
+ghost use Rattle.std.specs.Prelude.{◌≡◌, IfOk};
+ghost use Rattle.hdl_name.specs.Name.{canonical};
+ghost use Rattle.hdl_value.specs.Refs.{place_of};
+ghost use Rattle.hdl_rows.specs.Table.{AreRefusalsAfter};
+ghost use Rattle.hdl_reach.specs.Reach.{IsMask};
+ghost use Rattle.hdl_reach.specs.Views.{mask_of};
+
+use crate::masks::Masks;
+use hdl_limits::Octets;
+use hdl_name::Name;
+use hdl_rows::{Refused, Rows};
+use hdl_value::{AdminMask, Reference, Value};
+use std::alloc::{AllocError, Global};
+use std::marker::Model;
+
+/// A table that is asked for masks.
+pub trait Masked: Rows {
+    /// What the key may do as an administrator of the handle.
+    ///
+    /// Refused: the table refused a look, and its count rose by one; or memory was refused, or the search looked up as many references as
+    /// one call may and isn't done, and the count is as it was. The next call goes on from there.
+    fn mask(&mut self, name: &Name, key: &Reference) -> Result<Option<AdminMask>, Refused>
+        ensures unchanged { Self.content self.new ≡ Self.content self.old }
+        ensures mask { IfOk result (λ mask. IsMask (Self.content self.old) (canonical name.now) (place_of key.now) (mask_of mask)) }
+        ensures count { AreRefusalsAfter result (Self.refused self.old) (Self.refused self.new) };
+}
+
+/// Any table, with the masks and searches that are kept of it. Contracts see the table.
+#[derive(Drop)]
+pub struct MaskedRows<R: Rows + Drop> {
+    rows: R,
+    masks: Masks,
+}
+
+impl<R: Rows + Drop> Model for MaskedRows<R> {
+    ghost use Rattle.hdl_cache.specs.Truth.{AreTrue};
+
+    ghost Value = { R };
+
+    ghost coded = { R.code };
+
+    ghost view = { λ s. s.rows };
+
+    ghost invariant = { λ s. AreTrue (R.content s.rows) s.masks };
+}
+
+impl<R: Rows + Drop> MaskedRows<R> {
+    /// A table of which nothing is known yet. Refused only for want of memory; the table is dropped then.
+    pub fn new(alloc: Global, rows: R) -> Result<MaskedRows<R>, AllocError>
+        ensures { IfOk result (λ masked. masked ≡ rows) }
+    {
+        let masks = Masks::new(alloc)?;
+        Ok(MaskedRows { rows, masks })
+    }
+
+    /// The table.
+    pub fn get_ref(&self) -> &R
+        ensures { result.now ≡ self.now }
+    {
+        &self.rows
+    }
+
+    /// The table, and nothing that was kept of it.
+    pub fn into_inner(self) -> R
+        ensures { result ≡ self }
+    {
+        self.rows
+    }
+}
+
+impl<R: Rows + Drop> Masked for MaskedRows<R> {
+    fn mask(&mut self, name: &Name, key: &Reference) -> Result<Option<AdminMask>, Refused> {
+        self.masks.mask(&mut self.rows, name, key)
+    }
+}
+
+impl<R: Rows + Drop> Rows for MaskedRows<R> {
+    ghost content = { λ s. R.content s };
+
+    ghost refused = { λ s. R.refused s };
+
+    fn exists(&mut self, name: &Name) -> Result<bool, Refused> {
+        self.rows.exists(name)
+    }
+
+    fn at(&mut self, reference: &Reference) -> Result<Option<Value>, Refused> {
+        self.rows.at(reference)
+    }
+
+    fn values(&mut self, name: &Name) -> Result<Vec<Value>, Refused> {
+        self.rows.values(name)
+    }
+
+    fn look(&mut self, name: &Name) -> Result<Option<Vec<Value>>, Refused> {
+        self.rows.look(name)
+    }
+
+    fn names(&mut self, authority: &[u8]) -> Result<Vec<Octets>, Refused> {
+        self.rows.names(authority)
+    }
+
+    fn create(&mut self, name: &Name, values: &[Value]) -> Result<(), Refused> {
+        self.masks.forget(name);
+        self.rows.create(name, values)
+    }
+
+    fn add(&mut self, name: &Name, values: &[Value]) -> Result<(), Refused> {
+        self.masks.forget(name);
+        self.rows.add(name, values)
+    }
+
+    fn modify(&mut self, name: &Name, values: &[Value]) -> Result<(), Refused> {
+        self.masks.forget(name);
+        self.rows.modify(name, values)
+    }
+
+    fn remove(&mut self, name: &Name, indexes: &[u32]) -> Result<(), Refused> {
+        self.masks.forget(name);
+        self.rows.remove(name, indexes)
+    }
+
+    fn delete(&mut self, name: &Name) -> Result<(), Refused> {
+        self.masks.forget(name);
+        self.rows.delete(name)
+    }
+
+    fn refusals(&self) -> u64 {
+        self.rows.refusals()
+    }
+}
