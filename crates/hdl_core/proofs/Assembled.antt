@@ -25,7 +25,7 @@ use Rattle.hdl_laws.specs.Tasks.{Received, Task, Ignore, Malformed, Unknown, Lat
 use Rattle.hdl_laws.specs.Effects.{Effect, answer_effect, challenge_effect, ask_effect, Does}
 use Rattle.hdl_core.specs.declared.origin.Origin.{Origin}
 use Rattle.hdl_core.specs.Held.{Held, held_at, state_at, with_state}
-use Rattle.hdl_core.specs.Serving.{received_as, message_as, HearsAt, AssemblesAt}
+use Rattle.hdl_core.specs.Serving.{Context, Scene, received_as, message_as, HearsAt, AssemblesAt}
 use Rattle.hdl_core.proofs.HeldLanes as held_lanes
 use Rattle.hdl_ops.specs.Tables.{apply_if}
 
@@ -169,6 +169,12 @@ whole_stays lane key displaced more message is = refl
 -- ---- a piece
 
 module _ (hosts : List ℕ → Bool) (algorithms : List ℕ → Algorithm) (t : Table) (lanes : List Held) (number : ℕ) (m : Origin) (bytes : List ℕ) (envelope : m.envelope ≡ envelope_at bytes) where
+  abbrev context : Context
+  context = record { hosts = hosts; algorithms = algorithms; table = t }
+
+  abbrev scene : Scene
+  scene = record { context = context; lanes = lanes }
+
   abbrev x : Received
   x = received_as m bytes
 
@@ -180,7 +186,7 @@ module _ (hosts : List ℕ → Bool) (algorithms : List ℕ → Algorithm) (t : 
 
   pub waits : (f : Fate) (lanes' : List Held) → whole_message f ≡ None → f ≡ (taken (state_at lanes number).partials (piece_of m.peer bytes)).0
       → lanes' ≡ with_state lanes number (with_partials (state_at lanes number) (taken (state_at lanes number).partials (piece_of m.peer bytes)).1)
-      → AssemblesAt hosts algorithms t lanes number (received_as m bytes) None lanes' t
+      → AssemblesAt scene number (received_as m bytes) None lanes' t
   waits f lanes' none is same = (
     with_partials here after.1,
     same,
@@ -205,9 +211,9 @@ module _ (hosts : List ℕ → Bool) (algorithms : List ℕ → Algorithm) (t : 
       same ∙ ap (λ p. with_state lanes number (with_partials here p)) stays ∙ sym (held_lanes.kept lanes number)
 
   pub whole : (message octets : List ℕ) (lanes' lanes'' : List Held) (t' : Table) → number < length lanes → made_whole message ≡ (taken (state_at lanes number).partials (piece_of m.peer bytes)).0
-      → HearsAt hosts algorithms t lanes number (message_as m message) octets lanes' t'
+      → HearsAt scene number (message_as m message) octets lanes' t'
       → lanes'' ≡ with_state lanes' number (with_partials (state_at lanes' number) (freed (state_at lanes' number).partials (key_of m.peer m.envelope)))
-      → AssemblesAt hosts algorithms t lanes number (received_as m bytes) (Some octets) lanes'' t'
+      → AssemblesAt scene number (received_as m bytes) (Some octets) lanes'' t'
   whole message octets lanes' lanes'' t' there is (s', same, (k, task, (eff, does, out, state, table))) free =
       let key = key_of m.peer (envelope_at bytes) in
       let gone = freed here.partials key in

@@ -24,7 +24,7 @@ use Rattle.hdl_core.specs.declared.origin.Origin.{Origin}
 use Rattle.hdl_core.specs.declared.hearing.Heard.{Heard}
 use Rattle.hdl_core.specs.declared.hearing.Heard.TheVariants.{Answered, Challenged}
 use Rattle.hdl_core.specs.Held.{Held, state_at, with_state}
-use Rattle.hdl_core.specs.Serving.{message_as, IsAsked, Replies, IsRedeemed, RespondsAt, HearsAt}
+use Rattle.hdl_core.specs.Serving.{Context, Scene, message_as, IsAsked, Replies, IsRedeemed, RespondsAt, HearsAt}
 use Rattle.hdl_core.proofs.HeldLanes.{kept}
 
 pub on_ok : {X E : Type 0} (r : Result X E) (P S : X → Type 0) → ((x : X) → P x → S x) → IfOk r P → IfOk r S
@@ -43,44 +43,50 @@ abbrev IsTold : Algorithm → Origin → Content → ℕ → List ℕ → Type 0
 IsTold a m r code octets = octets ≡ answer_octets a m.envelope r code Empty
 
 module _ (hosts : List ℕ → Bool) (algorithms : List ℕ → Algorithm) (t : Table) (m : Origin) where
+  abbrev context : Context
+  context = record { hosts = hosts; algorithms = algorithms; table = t }
+
   told : (k : Task) (a : Algorithm) (r : Content) (code : ℕ) (s : LaneState) (message octets : List ℕ) → Does hosts algorithms t k (answer_effect a s (message_as m message) r (failure code Empty)) → IsTold a m r code octets
-      → Replies hosts algorithms t m.moment k octets s t
+      → Replies context m.moment k octets s t
   told k a r code s message octets does is = (answer_effect a s (message_as m message) r (failure code Empty), does, ap Reply (sym is), refl, refl)
 
-  garbled : (s : LaneState) (message octets : List ℕ) → octets ≡ short_reply 4 m.envelope → Replies hosts algorithms t m.moment (Malformed (message_as m message) s) octets s t
+  garbled : (s : LaneState) (message octets : List ℕ) → octets ≡ short_reply 4 m.envelope → Replies context m.moment (Malformed (message_as m message) s) octets s t
   garbled s message octets is = (record { outcome = Reply (short_reply 4 m.envelope); state = s; change = None }, refl, ap Reply (sym is), refl, refl)
 
   -- ---- a challenge response
 
-  pub unreadable : (a : Response) (p : Pending) (octets : List ℕ) → ((r : Content) → SpellsRequest p.message r → ⊥) → octets ≡ short_reply 4 m.envelope → IsRedeemed hosts algorithms t m a p octets t
+  pub unreadable : (a : Response) (p : Pending) (octets : List ℕ) → ((r : Content) → SpellsRequest p.message r → ⊥) → octets ≡ short_reply 4 m.envelope → IsRedeemed context m a p octets t
   unreadable a p octets none is = λ s message. (None, none, garbled (redeemed s (message_as m message)) message octets is)
 
-  pub late : (a : Response) (p : Pending) (r : Content) (g : Algorithm) (octets : List ℕ) → g ≡ algorithm_of p.digest → SpellsRequest p.message r → ((message : List ℕ) → true ≡ is_late (message_as m message) p) → IsTold g m r 405 octets → IsRedeemed hosts algorithms t m a p octets t
+  pub late : (a : Response) (p : Pending) (r : Content) (g : Algorithm) (octets : List ℕ) → g ≡ algorithm_of p.digest → SpellsRequest p.message r → ((message : List ℕ) → true ≡ is_late (message_as m message) p) → IsTold g m r 405 octets → IsRedeemed context m a p octets t
   late a p r g octets hash spells after is = λ s message.
       let s' = redeemed s (message_as m message) in
       let proof : Proof = record { response = a; nonce = p.nonce; digest = p.digest } in (
         Some r,
         spells,
-        subst (λ b. Replies hosts algorithms t m.moment (cond b (Late (message_as m message) r (algorithm_of p.digest) s') (Redeem (message_as m message) r proof s')) octets s' t) (after message) (told (Late (message_as m message) r (algorithm_of p.digest) s') (algorithm_of p.digest) r 405 s' message octets refl (subst (λ h. IsTold h m r 405 octets) hash is)),
+        subst (λ b. Replies context m.moment (cond b (Late (message_as m message) r (algorithm_of p.digest) s') (Redeem (message_as m message) r proof s')) octets s' t) (after message) (told (Late (message_as m message) r (algorithm_of p.digest) s') (algorithm_of p.digest) r 405 s' message octets refl (subst (λ h. IsTold h m r 405 octets) hash is)),
       )
 
   pub proven : (a : Response) (p : Pending) (r : Content) (g : Algorithm) (d : Decision) (octets : List ℕ) (t' : Table) → g ≡ algorithm_of p.digest → SpellsRequest p.message r → ((message : List ℕ) → false ≡ is_late (message_as m message) p)
       → Decides hosts g t r (Proven (record { response = a; nonce = p.nonce; digest = p.digest })) d → octets ≡ answer_octets g m.envelope r d.code d.content → t' ≡ apply_if t m.moment d.change
-      → IsRedeemed hosts algorithms t m a p octets t'
+      → IsRedeemed context m a p octets t'
   proven a p r g d octets t' hash spells in_time decided is table = λ s message.
       let s' = redeemed s (message_as m message) in
       let proof : Proof = record { response = a; nonce = p.nonce; digest = p.digest } in (
         Some r,
         spells,
-        subst (λ b. Replies hosts algorithms t m.moment (cond b (Late (message_as m message) r (algorithm_of p.digest) s') (Redeem (message_as m message) r proof s')) octets s' t') (in_time message)
+        subst (λ b. Replies context m.moment (cond b (Late (message_as m message) r (algorithm_of p.digest) s') (Redeem (message_as m message) r proof s')) octets s' t') (in_time message)
             (answer_effect (algorithm_of p.digest) s' (message_as m message) r d, (d, subst (λ h. Decides hosts h t r (Proven proof) d) hash decided, refl), ap Reply (sym (subst (λ h. octets ≡ answer_octets h m.envelope r d.code d.content) hash is)), refl, table),
       )
 
   module _ (lanes : List Held) (number : ℕ) where
+    abbrev scene : Scene
+    scene = record { context = context; lanes = lanes }
+
     s : LaneState
     s = state_at lanes number
 
-    pub unknown : (r : Content) (a : Response) (octets : List ℕ) → None ≡ challenge_of (state_at lanes number).challenges.challenges m.peer m.envelope.session → IsTold Sha1 m r 4 octets → RespondsAt hosts algorithms t lanes number m r a octets lanes t
+    pub unknown : (r : Content) (a : Response) (octets : List ℕ) → None ≡ challenge_of (state_at lanes number).challenges.challenges m.peer m.envelope.session → IsTold Sha1 m r 4 octets → RespondsAt scene number (record { origin = m; request = r; response = a }) octets lanes t
     unknown r a octets none is = λ message. (
       state_at lanes number,
       kept lanes number,
@@ -90,7 +96,7 @@ module _ (hosts : List ℕ → Bool) (algorithms : List ℕ → Algorithm) (t : 
     )
 
     pub known : (r : Content) (a : Response) (p : Pending) (octets : List ℕ) (lanes' : List Held) (t' : Table) → Some p ≡ challenge_of (state_at lanes number).challenges.challenges m.peer m.envelope.session
-        → IsRedeemed hosts algorithms t m a p octets t' → lanes' ≡ with_state lanes number (redeemed (state_at lanes number) (message_as m [])) → RespondsAt hosts algorithms t lanes number m r a octets lanes' t'
+        → IsRedeemed context m a p octets t' → lanes' ≡ with_state lanes number (redeemed (state_at lanes number) (message_as m [])) → RespondsAt scene number (record { origin = m; request = r; response = a }) octets lanes' t'
     known r a p octets lanes' t' found redeem spent = λ message.
         let done = redeem (state_at lanes number) message in
         let k = redeem_task (state_at lanes number) (message_as m message) a p done.0 in (
@@ -103,12 +109,12 @@ module _ (hosts : List ℕ → Bool) (algorithms : List ℕ → Algorithm) (t : 
 
     -- ---- a message
 
-    pub no_request : (message octets : List ℕ) → ((r : Content) → SpellsRequest message r → ⊥) → octets ≡ short_reply 4 m.envelope → HearsAt hosts algorithms t lanes number (message_as m message) octets lanes t
+    pub no_request : (message octets : List ℕ) → ((r : Content) → SpellsRequest message r → ⊥) → octets ≡ short_reply 4 m.envelope → HearsAt scene number (message_as m message) octets lanes t
     no_request message octets none is =
         (state_at lanes number, kept lanes number, (Malformed (message_as m message) (state_at lanes number), (None, none, refl), garbled (state_at lanes number) message octets is))
 
     pub responded : (message : List ℕ) (r : Content) (a : Response) (octets : List ℕ) (lanes' : List Held) (t' : Table) → SpellsRequest message r → Some a ≡ response_of r.operation
-        → RespondsAt hosts algorithms t lanes number m r a octets lanes' t' → HearsAt hosts algorithms t lanes number (message_as m message) octets lanes' t'
+        → RespondsAt scene number (record { origin = m; request = r; response = a }) octets lanes' t' → HearsAt scene number (message_as m message) octets lanes' t'
     responded message r a octets lanes' t' spells is responds =
         let done = responds message in
         (done.0, done.1, (done.2, (Some r, spells, subst (λ o. IsRequestTask (state_at lanes number) (message_as m message) r o done.2) is done.3), done.4))
@@ -117,9 +123,9 @@ module _ (hosts : List ℕ → Bool) (algorithms : List ℕ → Algorithm) (t : 
     asking message r spells is = (Some r, spells, subst (λ o. IsRequestTask (state_at lanes number) (message_as m message) r o (Ask (message_as m message) r (state_at lanes number))) is refl)
 
     pub answered : (message : List ℕ) (r : Content) (octets : List ℕ) (t' : Table) (asked : Heard) (next : ℕ) → SpellsRequest message r → None ≡ response_of r.operation → asked ≡ Answered octets
-        → IsAsked hosts (request_algorithm algorithms r) t m next r asked t' → HearsAt hosts algorithms t lanes number (message_as m message) octets lanes t'
+        → IsAsked context m next r asked t' → HearsAt scene number (message_as m message) octets lanes t'
     answered message r octets t' asked next spells is same done =
-        let d = subst (λ (x : Heard). IsAsked hosts (request_algorithm algorithms r) t m next r x t') same done in
+        let d = subst (λ (x : Heard). IsAsked context m next r x t') same done in
         let m' = message_as m message in
         let here = state_at lanes number in (
           here,
@@ -132,11 +138,11 @@ module _ (hosts : List ℕ → Bool) (algorithms : List ℕ → Algorithm) (t : 
         )
 
     pub challenges : (message : List ℕ) (r : Content) (octets : List ℕ) (digest : Digest) (t' : Table) (lanes' : List Held) (asked : Heard) (next : ℕ) → SpellsRequest message r → None ≡ response_of r.operation → asked ≡ Challenged octets digest
-        → next ≡ (state_at lanes number).challenges.next → IsAsked hosts (request_algorithm algorithms r) t m next r asked t'
+        → next ≡ (state_at lanes number).challenges.next → IsAsked context m next r asked t'
         → lanes' ≡ with_state lanes number (record { is_open = (state_at lanes number).is_open; partials = (state_at lanes number).partials; challenges = challenged (state_at lanes number).challenges (record { peer = m.peer; moment = m.moment; nonce = m.nonce; digest = digest; message = message }) })
-        → HearsAt hosts algorithms t lanes number (message_as m message) octets lanes' t'
+        → HearsAt scene number (message_as m message) octets lanes' t'
     challenges message r octets digest t' lanes' asked next spells is same numbered done put =
-        let d = subst (λ (x : Heard). IsAsked hosts (request_algorithm algorithms r) t m next r x t') same done in
+        let d = subst (λ (x : Heard). IsAsked context m next r x t') same done in
         let m' = message_as m message in
         let here = state_at lanes number in
         let sent : LaneState = record { is_open = here.is_open; partials = here.partials; challenges = challenged here.challenges (pending (request_algorithm algorithms r) m' r) } in (

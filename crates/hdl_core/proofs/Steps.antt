@@ -19,7 +19,7 @@ use Rattle.hdl_laws.specs.Effects.{Does}
 use Rattle.hdl_laws.specs.Steps.{Turn, turn, IsAnswerFor}
 use Rattle.hdl_core.specs.Held.{Held, held_at, with_state}
 use Rattle.hdl_core.specs.Worlds.{world_of}
-use Rattle.hdl_core.specs.Serving.{ServesAt}
+use Rattle.hdl_core.specs.Serving.{Scene, ServesAt}
 use Rattle.hdl_core.proofs.HeldLanes.{kept}
 use Rattle.hdl_core.proofs.Places.{owner_of, lane_here, world_after}
 
@@ -45,8 +45,12 @@ steps_alone r lanes t e past =
     let it : Turn = record { event = e; outcome = Silent; change = None; after = w } in
     (it, inl (subst (λ o. IsAnswerFor w o it) (sym (owner_of r lanes t e.lane ∙ ap (option_map (λ (x : Held). x.publisher)) (slice_get_past lanes e.lane past))) refl), refl, refl, refl)
 
+-- what stands before an event of a lane of this publisher
+abbrev pub scene : Register → Table → List Held → ℕ → Scene
+scene r t lanes publisher = record { context = record { hosts = register.hosts r publisher; algorithms = register.algorithm r publisher; table = t }; lanes = lanes }
+
 pub steps_served : (r : Register) (lanes lanes' : List Held) (t t' : Table) (e : Event) (o : Outcome) → e.lane < length lanes
-    → ServesAt (register.hosts r (held_at lanes e.lane).publisher) (register.algorithm r (held_at lanes e.lane).publisher) t lanes e.lane e.what o lanes' t'
+    → ServesAt (scene r t lanes (held_at lanes e.lane).publisher) e.lane e.what o lanes' t'
     → Steps (world_of r lanes t) e o (world_of r lanes' t')
 steps_served r lanes lanes' t t' e o h (s', after, inl a) =
     let w = world_of r lanes t in

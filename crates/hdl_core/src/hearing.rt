@@ -3,10 +3,9 @@
 ghost use Rattle.std.specs.Prelude.{◌≡◌, ◌==◌, ◌<◌, ℕ, List, length, IfOk, OnErr};
 ghost use Rattle.hdl_msg.specs.Codes.{response_number};
 ghost use Rattle.hdl_msg.specs.Reply.{IsReplyFrame};
-ghost use Rattle.hdl_ops.specs.Admission.{request_algorithm};
-ghost use Rattle.hdl_ops.specs.Views.{algorithms_by, hosted_by, response_view};
+ghost use Rattle.hdl_ops.specs.Views.{response_view};
 ghost use Rattle.hdl_laws.specs.Tasks.{is_late};
-ghost use Rattle.hdl_core.specs.Serving.{challenge_of_request, message_as, sent_of, HasItsCode, IsAsked, IsRedeemed, RespondsAt, HearsAt};
+ghost use Rattle.hdl_core.specs.Serving.{challenge_of_request, context, message_as, scene, sent_of, HasItsCode, IsAsked, IsRedeemed, RespondsAt, HearsAt};
 
 use crate::answering::{answer, code_reply, malformed};
 use crate::lanes::Lanes;
@@ -62,7 +61,7 @@ fn ask<R: Masked>(
     next: u32,
     request: &Request<'_>,
 ) -> Result<Heard, Refused>
-    ensures asked { IfOk result (λ heard. IsAsked (hosted_by owner.now) (request_algorithm (algorithms_by owner.now) request.now) (R.content rows.old) origin.now next request.now heard (R.content rows.new)) }
+    ensures asked { IfOk result (λ heard. IsAsked (context owner.now (R.content rows.old)) origin.now next request.now heard (R.content rows.new)) }
     ensures read { IfOk result (λ heard. HasItsCode request.now → IsReplyFrame (sent_of heard)) }
     ensures undone { OnErr result (R.content rows.new ≡ R.content rows.old) }
 {
@@ -91,7 +90,7 @@ fn redeem<R: Masked>(
     response: Response<'_>,
     pending: &Pending,
 ) -> Result<Octets, Refused>
-    ensures redeemed { IfOk result (λ octets. IsRedeemed (hosted_by owner.now) (algorithms_by owner.now) (R.content rows.old) origin.now (response_view response.entry) pending.now octets (R.content rows.new)) }
+    ensures redeemed { IfOk result (λ octets. IsRedeemed (context owner.now (R.content rows.old)) origin.now (response_view response.entry) pending.now octets (R.content rows.new)) }
     ensures read { IfOk result (λ octets. IsReplyFrame octets) }
     ensures undone { OnErr result (R.content rows.new ≡ R.content rows.old) }
 {
@@ -130,7 +129,7 @@ fn respond<R: Masked>(
     response: Response<'_>,
 ) -> Result<Octets, Refused>
     requires there { origin.now.lane < length lanes.old }
-    ensures responded { IfOk result (λ octets. RespondsAt (hosted_by owner.now) (algorithms_by owner.now) (R.content rows.old) lanes.old origin.now.lane origin.now request.now (response_view response.entry) octets lanes.new (R.content rows.new)) }
+    ensures responded { IfOk result (λ octets. RespondsAt (scene owner.now (R.content rows.old) lanes.old) origin.now.lane (record { origin = origin.now; request = request.now; response = response_view response.entry }) octets lanes.new (R.content rows.new)) }
     ensures read { IfOk result (λ octets. IsReplyFrame octets) }
     ensures undone { OnErr result (R.content rows.new ≡ R.content rows.old) }
     ensures kept { OnErr result (lanes.new ≡ lanes.old) }
@@ -157,7 +156,7 @@ pub(crate) fn hear<R: Masked>(
     message: Vec<u8>,
 ) -> Result<Octets, Refused>
     requires there { origin.now.lane < length lanes.old }
-    ensures heard { IfOk result (λ octets. HearsAt (hosted_by owner.now) (algorithms_by owner.now) (R.content rows.old) lanes.old origin.now.lane (message_as origin.now message.items) octets lanes.new (R.content rows.new)) }
+    ensures heard { IfOk result (λ octets. HearsAt (scene owner.now (R.content rows.old) lanes.old) origin.now.lane (message_as origin.now message.items) octets lanes.new (R.content rows.new)) }
     ensures read { IfOk result (λ octets. IsReplyFrame octets) }
     ensures undone { OnErr result (R.content rows.new ≡ R.content rows.old) }
     ensures kept { OnErr result (lanes.new ≡ lanes.old) }

@@ -4,9 +4,8 @@ ghost use Rattle.std.specs.Prelude.{◌≡◌, ◌<◌, true, drop, length, IfOk
 ghost use Rattle.hdl_frame.specs.Envelope.{envelope_at, is_truncated};
 ghost use Rattle.hdl_frame.specs.Splitting.{IsFrameOf};
 ghost use Rattle.hdl_msg.specs.Reply.{IsReplyFrame};
-ghost use Rattle.hdl_ops.specs.Views.{algorithms_by, hosted_by};
 ghost use Rattle.hdl_laws.specs.Reveals.{IsReadable};
-ghost use Rattle.hdl_core.specs.Serving.{AssemblesAt, outcome_of, received_as, received_of, ReceivesAt, ServesAt};
+ghost use Rattle.hdl_core.specs.Serving.{AssemblesAt, outcome_of, received_as, received_of, scene, ReceivesAt, ServesAt};
 
 use crate::hearing::hear;
 use crate::lanes::Lanes;
@@ -42,7 +41,7 @@ fn assemble<R: Masked>(
     requires frame { IsFrameOf frame.now.bytes.now frame.now }
     requires piece { is_truncated (envelope_at frame.now.bytes.now) ≡ true }
     requires envelope { origin.now.envelope ≡ envelope_at frame.now.bytes.now }
-    ensures assembled { IfOk result (λ reply. AssemblesAt (hosted_by owner.now) (algorithms_by owner.now) (R.content rows.old) lanes.old origin.now.lane (received_as origin.now frame.now.bytes.now) reply lanes.new (R.content rows.new)) }
+    ensures assembled { IfOk result (λ reply. AssemblesAt (scene owner.now (R.content rows.old) lanes.old) origin.now.lane (received_as origin.now frame.now.bytes.now) reply lanes.new (R.content rows.new)) }
     ensures read { IfOk result (λ reply. IfSome reply IsReplyFrame) }
     ensures undone { OnErr result (R.content rows.new ≡ R.content rows.old) }
     ensures kept { OnErr result (lanes.new ≡ lanes.old) }
@@ -81,7 +80,7 @@ fn receive<R: Masked>(
     received: Received,
 ) -> Outcome
     requires there { received.lane < length lanes.old }
-    ensures received { ReceivesAt (hosted_by owner.now) (algorithms_by owner.now) (R.content rows.old) lanes.old received.lane (received_of received) result lanes.new (R.content rows.new) }
+    ensures received { ReceivesAt (scene owner.now (R.content rows.old) lanes.old) received.lane (received_of received) result lanes.new (R.content rows.new) }
     ensures read { IsReadable result }
 {
     let Received {
@@ -121,7 +120,7 @@ pub(crate) fn serve<R: Masked>(
     event: Event,
 ) -> Outcome
     requires there { event.lane < length lanes.old }
-    ensures served { ServesAt (hosted_by owner.now) (algorithms_by owner.now) (R.content rows.old) lanes.old event.lane event.what result lanes.new (R.content rows.new) }
+    ensures served { ServesAt (scene owner.now (R.content rows.old) lanes.old) event.lane event.what result lanes.new (R.content rows.new) }
     ensures read { IsReadable result }
 {
     let Event { lane, what } = event;

@@ -4,10 +4,9 @@ use Rattle.hdl_ops.proofs.Announced.{answer_announced_lem}
 use Rattle.hdl_ops.specs.Decisions.{Decides, Anyone}
 use Rattle.hdl_ops.specs.declared.decision.HashedRequest.{HashedRequest}
 use Rattle.hdl_ops.specs.Tables.{apply_if}
-use Rattle.hdl_ops.specs.Admission.{request_algorithm}
-use Rattle.hdl_ops.specs.Views.{algorithms_by, decision_of, hosted_by}
+use Rattle.hdl_ops.specs.Views.{decision_of, hosted_by}
 use Rattle.hdl_laws.specs.Effects.{answer_octets}
-use Rattle.hdl_core.specs.Serving.{challenge_of_request, HasItsCode, IsAsked}
+use Rattle.hdl_core.specs.Serving.{challenge_of_request, context, HasItsCode, IsAsked}
 use Rattle.hdl_core.specs.declared.hearing.Heard.{Heard}
 use Rattle.hdl_core.proofs.Heard.{on_ok}
 use Rattle.hdl_core.proofs.hearing.ask.Goals as goal
@@ -17,12 +16,11 @@ returns-then-is_challenged-clause-asked g c =
     let r = c.args.request.now in
     let m = c.args.origin.now in
     let hosts = hosted_by c.args.owner.now in
-    let a = request_algorithm (algorithms_by c.args.owner.now) r in
     let t = g.R.Rows.content c.args.rows.now in
     let needed : (response_number c.in_ok-decision.decision.code == 402) ≡ true = sym c.is_challenged.ensures ∙ c.if-is_challenged.true in
     let named = c.in_ok-named.ensures.asked in
     on_ok c.challenge.result _ _
-    (λ heard is. subst (λ (h : Heard). IsAsked hosts a t m c.args.next r h (g.R.Rows.content c.decide.new.rows)) (sym (is ∙ ap (λ (x : HashedRequest). challenge_of_request x.algorithm m c.args.next x.request.now) named)) (
+    (λ heard is. subst (λ (h : Heard). IsAsked (context c.args.owner.now t) m c.args.next r h (g.R.Rows.content c.decide.new.rows)) (sym (is ∙ ap (λ (x : HashedRequest). challenge_of_request x.algorithm m c.args.next x.request.now) named)) (
       decision_of c.in_ok-decision.decision,
       subst (λ (x : HashedRequest). Decides hosts x.algorithm t x.request.now Anyone (decision_of c.in_ok-decision.decision)) named c.in_ok-decision.ensures.decided,
       needed,

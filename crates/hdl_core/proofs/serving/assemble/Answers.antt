@@ -2,7 +2,7 @@ use Rattle.std.proofs.Common.{List, refl, sym, ap, ◌∙◌, subst}
 use Rattle.hdl_pool.specs.Taking.{kept, ignored, displaced, fate_of}
 use Rattle.hdl_core.specs.Held.{Held}
 use Rattle.hdl_ops.specs.Views.{algorithms_by, hosted_by}
-use Rattle.hdl_core.specs.Serving.{message_as, HearsAt}
+use Rattle.hdl_core.specs.Serving.{message_as, scene, HearsAt}
 use Rattle.hdl_core.proofs.Assembled.{waits, unchanged, whole}
 use Rattle.hdl_core.proofs.Heard.{on_any_err}
 use Rattle.hdl_core.proofs.serving.assemble.Goals as goal
@@ -16,7 +16,7 @@ pub returns-in_ok-reply-in-Whole-clause-assembled : goal.returns-in_ok-reply-in-
 returns-in_ok-reply-in-Whole-clause-assembled g c =
     let same = unchanged (hosted_by c.args.owner.now) (algorithms_by c.args.owner.now) (g.R.Rows.content c.args.rows.now) c.args.lanes.now c.args.origin.now.lane c.args.origin.now c.args.frame.now.bytes.now c.requires.envelope c.in-Whole.message.items c.take_piece.new.self (sym (ap fate_of c.in-Whole.is) ∙ c.in-Ok.ensures.fate) c.in-Ok.ensures.lanes in
     whole (hosted_by c.args.owner.now) (algorithms_by c.args.owner.now) (g.R.Rows.content c.args.rows.now) c.args.lanes.now c.args.origin.now.lane c.args.origin.now c.args.frame.now.bytes.now c.requires.envelope c.in-Whole.message.items c.in_ok-reply-in-Whole.reply c.hear.new.lanes c.free.new.self (g.R.Rows.content c.hear.new.rows) c.requires.there (sym (ap fate_of c.in-Whole.is) ∙ c.in-Ok.ensures.fate)
-    (subst (λ (ls : List Held). HearsAt (hosted_by c.args.owner.now) (algorithms_by c.args.owner.now) (g.R.Rows.content c.args.rows.now) ls c.args.origin.now.lane (message_as c.args.origin.now c.in-Whole.message.items) c.in_ok-reply-in-Whole.reply c.hear.new.lanes (g.R.Rows.content c.hear.new.rows)) same c.in_ok-reply-in-Whole.ensures.heard)
+    (subst (λ (ls : List Held). HearsAt (scene c.args.owner.now (g.R.Rows.content c.args.rows.now) ls) c.args.origin.now.lane (message_as c.args.origin.now c.in-Whole.message.items) c.in_ok-reply-in-Whole.reply c.hear.new.lanes (g.R.Rows.content c.hear.new.rows)) same c.in_ok-reply-in-Whole.ensures.heard)
     c.free.ensures
 
 pub returns-in-Kept-clause-assembled : goal.returns-in-Kept-clause-assembled

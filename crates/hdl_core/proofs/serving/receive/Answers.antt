@@ -7,7 +7,7 @@ use Rattle.hdl_events.specs.declared.Outcome.TheVariants.{Busy}
 use Rattle.hdl_core.specs.declared.origin.Origin.{Origin}
 use Rattle.std.specs.Prelude.{IfOk}
 use Rattle.hdl_ops.specs.Views.{algorithms_by, hosted_by}
-use Rattle.hdl_core.specs.Serving.{received_of, AssemblesAt}
+use Rattle.hdl_core.specs.Serving.{received_of, scene, AssemblesAt}
 use Rattle.hdl_core.proofs.Received.{no_frame, piece, heard, refused, read_of}
 use Rattle.hdl_core.proofs.serving.receive.Goals as goal
 
@@ -23,7 +23,7 @@ returns-then-is_truncated-clause-received g c =
     let found = subst (λ (b : List ℕ). IsFrameOf b c.in-Ok.frame) c.as_slice.ensures c.in-Ok.ensures.ok in
     let assembled =
     subst
-    (λ (b : List ℕ). IfOk c.assemble-reply.result (λ reply. AssemblesAt (hosted_by c.args.owner.now) (algorithms_by c.args.owner.now) (g.R.Rows.content c.args.rows.now) c.args.lanes.now c.args.received.lane (record { peer = c.args.received.peer; moment = c.args.received.moment; nonce = c.args.received.nonce; bytes = b }) reply c.assemble-reply.new.lanes (g.R.Rows.content c.assemble-reply.new.rows)))
+    (λ (b : List ℕ). IfOk c.assemble-reply.result (λ reply. AssemblesAt (scene c.args.owner.now (g.R.Rows.content c.args.rows.now) c.args.lanes.now) c.args.received.lane (record { peer = c.args.received.peer; moment = c.args.received.moment; nonce = c.args.received.nonce; bytes = b }) reply c.assemble-reply.new.lanes (g.R.Rows.content c.assemble-reply.new.rows)))
     found.bytes c.assemble-reply.ensures.assembled in
     piece (hosted_by c.args.owner.now) (algorithms_by c.args.owner.now) (g.R.Rows.content c.args.rows.now) c.args.lanes.now c.args.received.lane x c.in-Ok.frame c.assemble-reply.result c.outcome_of.result c.assemble-reply.new.lanes (g.R.Rows.content c.assemble-reply.new.rows)
     found (sym c.is_truncated.ensures ∙ c.if-is_truncated.true) c.outcome_of.ensures assembled c.assemble-reply.ensures.undone c.assemble-reply.ensures.kept
