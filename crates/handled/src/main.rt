@@ -21,7 +21,7 @@ use bounds::{BoundWord, bounds_of};
 use checking::check_text;
 use copying::copy_table;
 use hdl_core::Tenants;
-use hdl_host::{Ending, Setting, host_resumed, host_tenants};
+use hdl_host::{Ending, HostFault, Setting, host_resumed, host_tenants};
 use hdl_replay::{Fault, read_input, tenants_of};
 use notices::{Kept, say_begins, say_ends};
 use ports::can_listen;
@@ -40,7 +40,7 @@ use words::{Invocation, TableFile, read_words};
 
 /// What is left to do once the command line and the input were read.
 #[derive(Drop)]
-enum Next {
+enum Next<R: Threads + Drop> {
     /// Nothing: this is the exit status.
     Ended(u8),
     /// Serve these tenants.
@@ -51,7 +51,7 @@ enum Next {
     },
     /// Serve over the table in a file.
     ServeOn {
-        desk: Desk,
+        desk: Desk<R>,
         setting: Setting,
     },
 }
@@ -66,23 +66,20 @@ fn read_text(rt: &HostRuntime) -> Result<String, Fault> {
 }
 
 /// Runs the script over a table in SQL, in memory, and answers the exit status.
-fn replay_script(rt: &HostRuntime) -> Result<u8, Fault> {
-    let rows = empty_table(rt, 0)?;
+fn replay_script<R: Threads + Drop>(rt: &HostRuntime) -> Result<u8, Fault> {
+    let rows = empty_table::<R>(rt, 0)?;
     replay_in(rt, rows)
 }
 
 /// What is asked to be served, once its text was read.
-fn run_serve(
+fn run_serve<R: Threads + Copy + Drop>(
+    machine: &R,
     rt: &HostRuntime,
     mut setting: Setting,
     bounds: Vec<BoundWord>,
-    log: Option<String>,
     row_cache: usize,
     table: Option<TableFile>,
-) -> Result<Next, TabledFault> {
-    if let Some(path) = log {
-        setting.supervision.log = Some(log_at(rt, path.as_str())?);
-    }
+) -> Result<Next<R>, TabledFault> {
     let text = read_text(rt)?;
     let tenants = tenants_of(rt.alloc(), text.as_str())?;
     match bounds_of(rt.alloc(), bounds, text.as_str(), &tenants) {
@@ -103,13 +100,14 @@ fn run_serve(
             if is_new(rt, &file) {
                 can_listen(rt, rt.alloc(), &tenants, setting.addresses.as_slice())?;
             }
-            let desk = open_desk(rt, file, tenants, &setting.supervision.health)?;
+            let desk = open_desk(*machine, rt, file, tenants, &setting.supervision.health)?;
+            setting.signals = Some(Arc::try_clone(&desk.signals).map_err(HostFault::from)?);
             Ok(Next::ServeOn { desk, setting })
         }
     }
 }
 
-fn run(rt: &HostRuntime) -> Result<Next, TabledFault> {
+fn run<R: Threads + Copy + Drop>(machine: &R, rt: &HostRuntime) -> Result<Next<R>, TabledFault> {
     match read_words(rt)? {
         Invocation::Ended(status) => Ok(Next::Ended(status)),
         Invocation::Check => {
@@ -118,12 +116,12 @@ fn run(rt: &HostRuntime) -> Result<Next, TabledFault> {
         }
         Invocation::Export { table, publisher } => {
             let text = read_text(rt)?;
-            Ok(Next::Ended(export_on(rt, &table, text.as_str(), publisher)?))
+            Ok(Next::Ended(export_on(*machine, rt, &table, text.as_str(), publisher)?))
         }
-        Invocation::Replay { table: None } => Ok(Next::Ended(replay_script(rt)?)),
+        Invocation::Replay { table: None } => Ok(Next::Ended(replay_script::<R>(rt)?)),
         Invocation::Replay { table: Some(file) } => {
             let text = read_text(rt)?;
-            replay_on(rt, &file, text.as_str())?;
+            replay_on(*machine, rt, &file, text.as_str())?;
             Ok(Next::Ended(0))
         }
         Invocation::Copy { from, to } => {
@@ -132,12 +130,17 @@ fn run(rt: &HostRuntime) -> Result<Next, TabledFault> {
         }
         Invocation::Stop { control } => Ok(Next::Ended(stop(rt, control.as_str()))),
         Invocation::Serve {
-            setting,
+            mut setting,
             bounds,
             log,
             row_cache,
             table,
-        } => run_serve(rt, setting, bounds, log, row_cache, table),
+        } => {
+            if let Some(path) = log {
+                setting.supervision.log = Some(log_at(rt, path.as_str())?);
+            }
+            run_serve(machine, rt, setting, bounds, row_cache, table)
+        }
     }
 }
 
@@ -171,7 +174,7 @@ fn serve_in_memory<
         + Drop
         + 'static,
 >(machine: &R, rt: &HostRuntime, tenants: Tenants, setting: Setting, row_cache: usize) -> ExitCode {
-    let rows = match empty_table(rt, row_cache) {
+    let rows = match empty_table::<R>(rt, row_cache) {
         Ok(rows) => rows,
         Err(fault) => return report_fault(rt, TabledFault::from(fault)),
     };
@@ -197,11 +200,12 @@ fn serve_on<
         + Send
         + Drop
         + 'static,
->(machine: &R, rt: &HostRuntime, desk: Desk, setting: Setting) -> ExitCode {
+>(machine: &R, rt: &HostRuntime, desk: Desk<R>, setting: Setting) -> ExitCode {
     let Desk {
         tenants,
         table,
         path,
+        ..
     } = desk;
     say_begins(rt, &tenants, Kept::File(path.as_str()), setting.limits);
     let mut output = rt.stdout();
@@ -214,7 +218,7 @@ fn serve_on<
 }
 
 fn main(rt: HostRuntime) -> ExitCode {
-    match run(&rt) {
+    match run(&rt, &rt) {
         Ok(Next::Ended(status)) => ExitCode::from(status),
         Ok(
             Next::Serve {

@@ -12,7 +12,8 @@ use hdl_core::{Event, Rows, Tenants};
 use hdl_eitherrows::EitherRows;
 use hdl_export::ExportFault;
 use hdl_host::{Health, HostFault, Notices};
-use hdl_lastingrows::{Alarm, FileTable, TableFault, open_file, table_over};
+use hdl_lastingrows::{Alarm, LastingRows, TableFault, ThreadedFile, open_file, table_over};
+use hdl_queue::Signals;
 use hdl_replay::{Fault, events_of, lines_of_resumed, parts_of, put_all, replay, tenants_of};
 use hdl_rows::PlainRows;
 use hdl_sqlrows::SqlRows;
@@ -23,6 +24,7 @@ use std::fmt;
 use std::fs::File;
 use std::hash::RandomState;
 use std::sync::Arc;
+use std::thread::Threads;
 
 /// Why a run over a file ends with a fault line.
 #[derive(Clone, Copy, Debug)]
@@ -122,14 +124,17 @@ impl Progress for Said {
 }
 
 /// The table in memory, with the file beside it.
-type FileRows = FileTable<PlainRows, Wary, Said>;
+type FileRows<R> = LastingRows<PlainRows, ThreadedFile<R>, Said>;
 
-/// The table of a run. It is one type, so that the program has one machine.
-pub type Table = EitherRows<CachedRows<SqlRows>, FileRows>;
+/// The table of a run, whose threads `R` starts. It is one type, so that the program has one machine.
+pub type Table<R> = EitherRows<CachedRows<SqlRows>, FileRows<R>>;
 
 /// An empty table in SQL, in memory, of which at most so many octets are kept where they were read last.
-pub fn empty_table(rt: &HostRuntime, row_cache: usize) -> Result<Table, Fault>
-    ensures empty { IfOk result (λ rows. ⟦<Table as Rows>⟧.content rows ≡ no_rows) }
+pub fn empty_table<R: Threads + Drop>(
+    rt: &HostRuntime,
+    row_cache: usize,
+) -> Result<Table<R>, Fault>
+    ensures empty { IfOk result (λ rows. ⟦<Table<R> as Rows>⟧.content rows ≡ no_rows) }
 {
     let Ok(hasher) = RandomState::new(rt) else {
         return Err(Fault::Device);
@@ -141,19 +146,22 @@ pub fn empty_table(rt: &HostRuntime, row_cache: usize) -> Result<Table, Fault>
     Ok(EitherRows::First(rows))
 }
 
-fn opened(
+/// The table in the file. With signals a thread makes its writes.
+fn opened<R: Threads + Drop>(
+    machine: R,
     rt: &HostRuntime,
     file: &TableFile,
     tenants: &Tenants,
     health: Arc<Health>,
-) -> Result<Table, TableFault> {
+    signals: Option<Arc<Signals>>,
+) -> Result<Table<R>, TableFault> {
     let conn = open_file(rt, file.path.as_str(), file.has_sums, Wary)?;
     let alloc = rt.alloc();
     let rows = PlainRows::new(alloc);
     let spare = PlainRows::new(alloc);
     let said = Said { rt: *rt, health };
     let rows = table_over(alloc, conn, rows, spare, tenants.opening(), said)?;
-    Ok(EitherRows::Second(rows))
+    Ok(EitherRows::Second(rows.threaded(machine, alloc, signals)))
 }
 
 /// What has a file, which is closed at the end.
@@ -164,9 +172,12 @@ trait Closing {
     fn close(self) -> Result<(), TabledFault>;
 }
 
-impl Closing for FileRows {
+impl<R: Threads + Drop> Closing for FileRows<R> {
     fn close(self) -> Result<(), TabledFault> {
-        match self.into_connection().close() {
+        let Some(file) = self.into_file().into_file() else {
+            return Err(TabledFault::Table(TableFault::Device));
+        };
+        match file.into_connection().close() {
             Ok(()) => Ok(()),
             Err(fault) => Err(TabledFault::Table(TableFault::from(fault))),
         }
@@ -226,11 +237,16 @@ fn replay_over<T: Rows + Closing + Drop>(
 }
 
 /// Runs the script over the table in the file, prints the outcomes, and closes the file.
-pub fn replay_on(rt: &HostRuntime, file: &TableFile, text: &str) -> Result<(), TabledFault> {
+pub fn replay_on<R: Threads + Drop>(
+    machine: R,
+    rt: &HostRuntime,
+    file: &TableFile,
+    text: &str,
+) -> Result<(), TabledFault> {
     let parts = parts_of(text);
     let tenants = tenants_of(rt.alloc(), parts.tenants)?;
     let events = events_of(rt.alloc(), parts.script, parts.run_line)?;
-    let table = opened(rt, file, &tenants, new_health(rt)?)?;
+    let table = opened(machine, rt, file, &tenants, new_health(rt)?, None)?;
     replay_over(rt, table, tenants, events)
 }
 
@@ -256,7 +272,8 @@ pub fn is_new(rt: &HostRuntime, file: &TableFile) -> bool {
 
 /// Prints the table in the file as a tenants text, or the part of the publisher of this name, and answers the exit status. The file is opened as
 /// a server's start opens it, but none is made.
-pub fn export_on(
+pub fn export_on<R: Threads + Drop>(
+    machine: R,
     rt: &HostRuntime,
     file: &TableFile,
     text: &str,
@@ -269,7 +286,7 @@ pub fn export_on(
     if !has_named(rt, &tenants, &publisher) {
         return Ok(status_of_words(false));
     }
-    let table = opened(rt, file, &tenants, new_health(rt)?)?;
+    let table = opened(machine, rt, file, &tenants, new_health(rt)?, None)?;
     export_over(rt, table, text, publisher)
 }
 
@@ -281,33 +298,39 @@ pub fn close_copy(rt: &HostRuntime, path: &str) -> Result<(), TabledFault> {
     }
 }
 
-/// What is served: the tenants of the text, and the table in the file at this path.
+/// What is served: the tenants of the text, and the table in the file at this path, whose writes threads make.
 #[derive(Drop)]
-pub struct Desk {
+pub struct Desk<R: Threads + Drop> {
     pub tenants: Tenants,
-    pub table: Table,
+    pub table: Table<R>,
     pub path: String,
+    /// What they tell the thread that serves.
+    pub signals: Arc<Signals>,
 }
 
 /// Opens what is served. What becomes of the table's health is said there.
-pub fn open_desk(
+pub fn open_desk<R: Threads + Drop>(
+    machine: R,
     rt: &HostRuntime,
     file: TableFile,
     tenants: Tenants,
     health: &Arc<Health>,
-) -> Result<Desk, TableFault> {
-    let Ok(health) = Arc::try_clone(health) else {
-        return Err(TableFault::Memory);
-    };
-    let table = opened(rt, &file, &tenants, health)?;
+) -> Result<Desk<R>, TableFault> {
+    let health = Arc::try_clone(health)?;
+    let signals = Arc::new(rt.alloc(), Signals::new())?;
+    let theirs = Arc::try_clone(&signals)?;
+    let table = opened(machine, rt, &file, &tenants, health, Some(theirs))?;
     Ok(Desk {
         tenants,
         table,
         path: file.path,
+        signals,
     })
 }
 
 /// Closes the file of a table that was served.
-pub fn ended(served: Result<Table, HostFault>) -> Result<(), TabledFault> {
+pub fn ended<R: Threads + Drop>(
+    served: Result<Table<R>, HostFault>,
+) -> Result<(), TabledFault> {
     served?.close()
 }

@@ -13,22 +13,24 @@ use crate::waking::{Patience, Sleep};
 use crate::workers::{join_all, start};
 use hdl_boundedrows::BoundedRows;
 use hdl_core::{Rows, Service, Tenants};
+use hdl_queue::{Signals, WriteQueue};
 use hdl_replay::{Fault, put_all, tenants_of};
-use hdl_serve::{AtOnce, Clock as Pauses, LaneEnds, WorkerSide, lanes_of, serve};
-use std::alloc::Global;
+use hdl_serve::{Clock as Pauses, LaneEnds, WorkerSide, lanes_of, serve};
+use std::alloc::{AllocError, Global};
 use std::fs;
 use std::fs::Files;
 use std::io::Write;
 use std::net::{Net, TcpListener, TcpStream};
 use std::random::RandomSource;
 use std::rt::Clock;
+use std::sync::Arc;
 use std::thread::Threads;
 
 /// How many items a lane's ring has room for, each way.
 const RING: usize = 16;
 
 /// What is there before anything is served: every lane, every socket, the lines that tell where they are, the sleep of the thread that
-/// serves, how many turns each worker and the service have, and the sockets at which the server is watched.
+/// serves, the queue of lanes whose writes wait, how many turns each worker and the service have, and the sockets at which the server is watched.
 #[derive(Drop)]
 struct Ready {
     ends: Vec<LaneEnds>,
@@ -36,9 +38,23 @@ struct Ready {
     places: Vec<Place>,
     lines: String,
     sleep: Sleep,
+    queue: WriteQueue,
     turns: u64,
     supervised: Supervised,
     ghost distinct: { AreDistinct ends.items },
+}
+
+/// The queue of so many lanes.
+fn queue_for(
+    alloc: Global,
+    signals: &Option<Arc<Signals>>,
+    lanes: usize,
+) -> Result<WriteQueue, AllocError> {
+    let signals = match signals {
+        Some(signals) => Some(Arc::try_clone(signals)?),
+        None => None,
+    };
+    WriteQueue::new(alloc, signals, lanes)
 }
 
 /// Makes the lanes of the tenants and listens for each publisher.
@@ -50,6 +66,7 @@ fn ready_for<R: Net<Listener = TcpListener, Stream = TcpStream> + Clock + Files>
 ) -> Result<Ready, HostFault> {
     let turns = setting.limits.turns;
     let (ends, sides) = lanes_of(alloc, tenants.lanes(), RING)?;
+    let queue = queue_for(alloc, &setting.signals, ends.len())?;
     let (places, lines) = places_of(rt, alloc, tenants, setting)?;
     let sleep = or_device(Sleep::new(rt, alloc, Patience::of(turns).events))?;
     let supervised = supervise(rt, alloc, &setting.supervision, places.as_slice())?;
@@ -59,6 +76,7 @@ fn ready_for<R: Net<Listener = TcpListener, Stream = TcpStream> + Clock + Files>
         places,
         lines,
         sleep,
+        queue,
         turns,
         supervised,
     })
@@ -74,6 +92,7 @@ trait Serving {
         alloc: Global,
         ends: Vec<LaneEnds>,
         clock: &mut C,
+        queue: &mut WriteQueue,
         turns: u64,
     ) -> Self
         requires distinct { AreDistinct ends.items };
@@ -85,9 +104,10 @@ impl<T: Rows + Drop> Serving for Service<T> {
         alloc: Global,
         ends: Vec<LaneEnds>,
         clock: &mut C,
+        queue: &mut WriteQueue,
         turns: u64,
     ) -> Service<T> {
-        serve(alloc, self, ends, clock, &mut AtOnce, turns).service
+        serve(alloc, self, ends, clock, queue, turns).service
     }
 }
 
@@ -101,6 +121,7 @@ fn run_workers<
         sides,
         places,
         sleep,
+        mut queue,
         turns,
         supervised,
         ..
@@ -108,7 +129,7 @@ fn run_workers<
     let ending = supervised.start(rt, alloc)?;
     let workers = start(rt, alloc, places, sides, &sleep, turns)?;
     let mut clock = MachineClock::new(*rt, Part::Serves(sleep));
-    let service = service.serve_lanes(alloc, ends, &mut clock, turns);
+    let service = service.serve_lanes(alloc, ends, &mut clock, &mut queue, turns);
     join_all(rt, workers, &ending)?;
     Ok(service)
 }

@@ -1,1 +1,4 @@
+mod Crashes
+mod Ended
 mod Kept
+mod Sent

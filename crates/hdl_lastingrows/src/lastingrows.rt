@@ -1,20 +1,28 @@
-//! A table in memory, with a database beside it.
+//! A table in memory, with a file beside it.
 
-ghost use Rattle.std.specs.Prelude.{◌≡◌, ◌||◌, ◌+◌, min, not, true, false, IsTrue, MatchResult, IsErr, Ok, OnOk, OnErr, is_err};
-ghost use Rattle.sqlite.specs.State.{HasCleanDisk, Survives};
+ghost use Rattle.std.specs.Prelude.{◌≡◌, ◌||◌, ◌+◌, min, true, false, Bool, MatchResult, is_err};
+ghost use Rattle.sqlite.specs.State.{HasCleanDisk};
 ghost use Rattle.sqlite.specs.Held.{state};
-ghost use Rattle.hdl_rows.specs.Table.{IsPlaced, refusals_after, most};
-ghost use Rattle.hdl_sqlrows.specs.Filed.{IsFiled, CrashLeaves, filed};
+ghost use Rattle.sqlite_trees.specs.Tree.{Trees};
+ghost use Rattle.hdl_rows.specs.Table.{Table, IsPlaced, refusals_after, most};
+ghost use Rattle.hdl_rows.specs.Write.{CanWrite, written};
+ghost use Rattle.hdl_sqlrows.specs.Filed.{IsFiled, CrashLeaves};
 ghost use Rattle.hdl_sqlrows.specs.Kept.{table_in};
 ghost use Rattle.hdl_lastingrows.specs.Lasting.{IsNear};
+ghost use Rattle.hdl_lastingrows.specs.Beside.{MayLeave, IfHere};
+ghost use Rattle.hdl_lastingrows.specs.Writes.{write_of};
 
-use hdl_filerows::{Fault, FileRows};
+use crate::filing::{Filing, WriteState};
+use crate::threaded::ThreadedFile;
+use crate::write::Write;
+use hdl_filerows::FileRows;
 use hdl_limits::Octets;
 use hdl_name::Name;
 use hdl_rows::{Refused, Rows};
 use hdl_value::{Reference, Value};
 use sqlite::{Alter, Connection};
 use std::marker::Model;
+use std::thread::Threads;
 
 /// Who is told, once, that the table takes no more writes.
 pub trait Alarm {
@@ -22,61 +30,32 @@ pub trait Alarm {
     fn ring(&mut self);
 }
 
-/// A table in memory of which each write stands in a database before it is answered. Contracts see what the table holds, how many calls
-/// were refused by it or by the database, whether it is shut for writes, and the database's connection.
+/// A table in memory of which each write stands in a file before it is answered. Contracts see what the table holds, how many calls
+/// were refused by it or by the file, whether it is shut for writes, and the file.
 #[derive(Drop)]
-pub struct LastingRows<R: Rows + Drop, S: Alter + Drop, A: Alarm + Drop> {
+pub struct LastingRows<R: Rows + Drop, F: Filing + Drop, A: Alarm + Drop> {
     rows: R,
-    file: FileRows<S>,
+    file: F,
     is_shut: bool,
     refusals: u64,
     alarm: A,
 }
 
-impl<R: Rows + Drop, S: Alter + Drop, A: Alarm + Drop> Model for LastingRows<R, S, A> {
+impl<R: Rows + Drop, F: Filing + Drop, A: Alarm + Drop> Model for LastingRows<R, F, A> {
     ghost use Rattle.std.specs.Prelude.{◌+◌, min};
-    ghost use Rattle.sqlite.specs.Held.{state};
     ghost use Rattle.hdl_rows.specs.Table.{most};
-    ghost use Rattle.hdl_lastingrows.specs.Lasting.{Lasting, lasting_code, IsKept};
+    ghost use Rattle.hdl_lastingrows.specs.Lasting.{Lasting, lasting_code};
 
-    ghost Value = { Lasting S };
+    ghost Value = { Lasting F };
 
-    ghost coded = { lasting_code S.code };
+    ghost coded = { lasting_code F.code };
 
     ghost view = { λ s. record { table = R.content s.rows; refused = min (R.refused s.rows + s.refusals) most; is_shut = s.is_shut; file = s.file } };
 
-    ghost invariant = { λ s. IsKept (R.content s.rows) s.is_shut (state S.Store s.file) };
+    ghost invariant = { λ s. F.keeps s.file (R.content s.rows) s.is_shut };
 }
 
-/// After a write that the database refused: counts that, and asks whether the store has shut.
-fn conclude_write<S: Alter + Drop, A: Alarm>(
-    file: &mut FileRows<S>,
-    is_shut: &mut bool,
-    refusals: &mut u64,
-    alarm: &mut A,
-    written: Result<(), Fault>,
-) -> Result<(), Refused>
-    ensures same { MatchResult written (λ x. result ≡ Ok x) (λ _. IsErr result) }
-    ensures count { refusals.new ≡ refusals_after written refusals.old }
-    ensures done { OnOk written ((file.new ≡ file.old) × (is_shut.new ≡ is_shut.old)) }
-    ensures open { OnErr written (is_shut.new ≡ false → HasCleanDisk (state S.Store file.new) → IsTrue (state S.Store file.old).is_open × IsFiled (state S.Store file.new) (filed (state S.Store file.old))) }
-    ensures survives { OnErr written (Survives (state S.Store file.old) (state S.Store file.new) (λ _. ⊥)) }
-{
-    match written {
-        Ok(()) => Ok(()),
-        Err(_) => {
-            *refusals = refusals.saturating_add(1);
-            let is_open = file.is_open();
-            *is_shut = !is_open;
-            if !is_open {
-                alarm.ring();
-            }
-            Err(Refused)
-        }
-    }
-}
-
-/// Counts a write that isn't tried.
+/// Counts a write that isn't made.
 fn refuse(refusals: &mut u64) -> Refused
     ensures { refusals.new ≡ min (refusals.old + 1) most }
 {
@@ -84,7 +63,31 @@ fn refuse(refusals: &mut u64) -> Refused
     Refused
 }
 
-/// Shuts the table for writes where memory refused what the database has.
+/// Makes the write in the file. One that isn't made is counted; where nobody can tell whether it is, the table takes no more.
+fn make_in_file<F: Filing, A: Alarm>(
+    file: &mut F,
+    is_shut: &mut bool,
+    refusals: &mut u64,
+    alarm: &mut A,
+    write: &Write<'_>,
+) -> Result<(), Refused>
+    requires open { is_shut.old ≡ false }
+    requires can { (t : Table) × F.keeps file.old t false × CanWrite t (write_of write.now) }
+    ensures kept { (t : Table) → F.keeps file.old t false → CanWrite t (write_of write.now) → MatchResult result (λ _. F.keeps file.new (written t (write_of write.now)) is_shut.new × F.keeps file.new t true) (λ _. F.keeps file.new t is_shut.new) }
+    ensures count { refusals.new ≡ refusals_after result refusals.old }
+{
+    match file.make(write) {
+        WriteState::Made => Ok(()),
+        WriteState::Refused | WriteState::UnderWay => Err(refuse(refusals)),
+        WriteState::Unknown => {
+            *is_shut = true;
+            alarm.ring();
+            Err(refuse(refusals))
+        }
+    }
+}
+
+/// Shuts the table for writes where memory refused what the file has.
 fn note<A: Alarm>(
     is_shut: &mut bool,
     alarm: &mut A,
@@ -100,14 +103,12 @@ fn note<A: Alarm>(
     done
 }
 
-impl<R: Rows + Drop, S: Alter + Drop, A: Alarm + Drop> LastingRows<R, S, A> {
-    /// A table in memory and a database, which have the same rows.
-    pub fn new(rows: R, file: FileRows<S>, alarm: A) -> LastingRows<R, S, A>
-        requires placed { IsPlaced (R.content rows) }
-        requires filed { HasCleanDisk (state S.Store file) → IsFiled (state S.Store file) (R.content rows) }
+impl<R: Rows + Drop, F: Filing + Drop, A: Alarm + Drop> LastingRows<R, F, A> {
+    /// A table in memory and a file, in which it is kept.
+    pub fn over(rows: R, file: F, alarm: A) -> LastingRows<R, F, A>
+        requires kept { F.keeps file (R.content rows) false }
         ensures { result ≡ record { table = R.content rows; refused = min (R.refused rows + 0) most; is_shut = false; file = file } }
     {
-        file.after_a_crash();
         LastingRows {
             rows,
             file,
@@ -115,6 +116,32 @@ impl<R: Rows + Drop, S: Alter + Drop, A: Alarm + Drop> LastingRows<R, S, A> {
             refusals: 0,
             alarm,
         }
+    }
+
+    /// Whether the table takes no more writes: a commit failed, or memory refused what was committed.
+    pub fn is_shut(&self) -> bool
+        ensures { result ≡ self.now.is_shut }
+    {
+        self.is_shut
+    }
+
+    /// The file.
+    pub fn into_file(self) -> F
+        ensures { result ≡ self.file }
+    {
+        self.file
+    }
+}
+
+impl<R: Rows + Drop, S: Alter + Drop, A: Alarm + Drop> LastingRows<R, FileRows<S>, A> {
+    /// A table in memory and a database, which have the same rows.
+    pub fn new(rows: R, file: FileRows<S>, alarm: A) -> LastingRows<R, FileRows<S>, A>
+        requires placed { IsPlaced (R.content rows) }
+        requires filed { HasCleanDisk (state S.Store file) → IsFiled (state S.Store file) (R.content rows) }
+        ensures { result ≡ record { table = R.content rows; refused = min (R.refused rows + 0) most; is_shut = false; file = file } }
+    {
+        file.after_a_crash();
+        LastingRows::over(rows, file, alarm)
     }
 
     /// What a crash leaves between calls: this table, or this table after one write that it allows; and this table alone, unless it is shut.
@@ -125,22 +152,28 @@ impl<R: Rows + Drop, S: Alter + Drop, A: Alarm + Drop> LastingRows<R, S, A> {
         self.file.after_a_crash();
     }
 
-    /// Whether the table takes no more writes: a commit failed, or memory refused what was committed.
-    pub fn is_shut(&self) -> bool
-        ensures { result ≡ self.now.is_shut }
-    {
-        self.is_shut
-    }
-
     /// The connection, for its owner to close.
     pub fn into_connection(self) -> Connection<S>
         ensures { result ≡ self.file }
     {
-        self.file.into_connection()
+        self.into_file().into_connection()
     }
 }
 
-impl<R: Rows + Drop, S: Alter + Drop, A: Alarm + Drop> Rows for LastingRows<R, S, A> {
+impl<R: Rows + Drop, T: Threads + Drop, A: Alarm + Drop>
+    LastingRows<R, ThreadedFile<T>, A>
+{
+    /// What a crash leaves between calls, also while a thread has the file: this table, or this table after one write that it allows; and this table alone, unless it
+    /// is shut or a write is under way.
+    pub fn after_a_crash_beside(&self)
+        ensures near { (db : Trees) → MayLeave self.now.file.place db → IsNear self.now.table (table_in db) }
+        ensures exact { self.now.is_shut ≡ false → IfHere self.now.file.place (λ s. HasCleanDisk s → CrashLeaves s self.now.table) }
+    {
+        self.file.after_a_crash();
+    }
+}
+
+impl<R: Rows + Drop, F: Filing + Drop, A: Alarm + Drop> Rows for LastingRows<R, F, A> {
     ghost content = { λ s. s.table };
 
     ghost refused = { λ s. s.refused };
@@ -169,13 +202,12 @@ impl<R: Rows + Drop, S: Alter + Drop, A: Alarm + Drop> Rows for LastingRows<R, S
         if self.is_shut {
             return Err(refuse(&mut self.refusals));
         }
-        let written = self.file.create(name, values);
-        conclude_write(
+        make_in_file(
             &mut self.file,
             &mut self.is_shut,
             &mut self.refusals,
             &mut self.alarm,
-            written,
+            &Write::Create(name, values),
         )?;
         let done = self.rows.create(name, values);
         note(&mut self.is_shut, &mut self.alarm, done)
@@ -185,13 +217,12 @@ impl<R: Rows + Drop, S: Alter + Drop, A: Alarm + Drop> Rows for LastingRows<R, S
         if self.is_shut {
             return Err(refuse(&mut self.refusals));
         }
-        let written = self.file.add(name, values);
-        conclude_write(
+        make_in_file(
             &mut self.file,
             &mut self.is_shut,
             &mut self.refusals,
             &mut self.alarm,
-            written,
+            &Write::Add(name, values),
         )?;
         let done = self.rows.add(name, values);
         note(&mut self.is_shut, &mut self.alarm, done)
@@ -201,13 +232,12 @@ impl<R: Rows + Drop, S: Alter + Drop, A: Alarm + Drop> Rows for LastingRows<R, S
         if self.is_shut {
             return Err(refuse(&mut self.refusals));
         }
-        let written = self.file.modify(name, values);
-        conclude_write(
+        make_in_file(
             &mut self.file,
             &mut self.is_shut,
             &mut self.refusals,
             &mut self.alarm,
-            written,
+            &Write::Modify(name, values),
         )?;
         let done = self.rows.modify(name, values);
         note(&mut self.is_shut, &mut self.alarm, done)
@@ -217,13 +247,12 @@ impl<R: Rows + Drop, S: Alter + Drop, A: Alarm + Drop> Rows for LastingRows<R, S
         if self.is_shut {
             return Err(refuse(&mut self.refusals));
         }
-        let written = self.file.remove(name, indexes);
-        conclude_write(
+        make_in_file(
             &mut self.file,
             &mut self.is_shut,
             &mut self.refusals,
             &mut self.alarm,
-            written,
+            &Write::Remove(name, indexes),
         )?;
         let done = self.rows.remove(name, indexes);
         note(&mut self.is_shut, &mut self.alarm, done)
@@ -233,13 +262,12 @@ impl<R: Rows + Drop, S: Alter + Drop, A: Alarm + Drop> Rows for LastingRows<R, S
         if self.is_shut {
             return Err(refuse(&mut self.refusals));
         }
-        let written = self.file.delete(name);
-        conclude_write(
+        make_in_file(
             &mut self.file,
             &mut self.is_shut,
             &mut self.refusals,
             &mut self.alarm,
-            written,
+            &Write::Delete(name),
         )?;
         let done = self.rows.delete(name);
         note(&mut self.is_shut, &mut self.alarm, done)

@@ -26,9 +26,15 @@
 #![tactic(auto)]
 
 mod fault;
+mod filing;
 mod lastingrows;
 mod opening;
+mod threaded;
+mod write;
 
 pub use fault::TableFault;
+pub use filing::{Filing, WriteState};
 pub use lastingrows::{Alarm, LastingRows};
 pub use opening::{FileTable, open_file, table_over};
+pub use threaded::{OfWrite, Place, Store, ThreadedFile};
+pub use write::{OwnWrite, Write};

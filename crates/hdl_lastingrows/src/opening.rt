@@ -32,7 +32,7 @@ use std::os::unix::fs::OpenOptionsExt;
 const IN_MEMORY: &str = ":memory:";
 
 /// A table over a file of the operating system.
-pub type FileTable<R, S, A> = LastingRows<R, FileStore<FileFrom<S>>, A>;
+pub type FileTable<R, S, A> = LastingRows<R, FileRows<FileStore<FileFrom<S>>>, A>;
 
 /// Makes a file that isn't there, for its owner alone to read and write, since a table has secret keys. The log beside it gets the same mode.
 fn make_private(rt: &HostRuntime, path: &str) -> io::Result<()> {
@@ -219,7 +219,7 @@ pub fn table_over<R: Rows + Drop, S: Alter + Drop, A: Alarm + Progress + Drop>(
     spare: R,
     opening: &[(Name, Value)],
     mut alarm: A,
-) -> Result<LastingRows<R, S, A>, TableFault>
+) -> Result<LastingRows<R, FileRows<S>, A>, TableFault>
     requires mode { conn.in_transaction ≡ false }
     requires even { WhereOpen (state S.Store conn) ((state S.Store conn).committed ≡ (state S.Store conn).now) }
     requires empty { R.content rows ≡ no_rows }

@@ -141,6 +141,7 @@ fn serve_copy<R: Rows + Drop, W: Writing>(
     }
     drop(ends.items.take_front());
     give_back(ends, outcome);
+    writing.note_outcome(ends.lane);
     true
 }
 
