@@ -12,7 +12,9 @@ use hdl_core::{Event, Rows, Tenants};
 use hdl_eitherrows::EitherRows;
 use hdl_export::ExportFault;
 use hdl_host::{Health, HostFault, Notices};
-use hdl_lastingrows::{Alarm, LastingRows, TableFault, ThreadedFile, open_file, table_over};
+use hdl_lastingrows::{
+    Alarm, LastingRows, TableFault, ThreadedFile, Writer, open_file, table_over,
+};
 use hdl_queue::Signals;
 use hdl_replay::{Fault, events_of, lines_of_resumed, parts_of, put_all, replay, tenants_of};
 use hdl_rows::PlainRows;
@@ -161,7 +163,12 @@ fn opened<R: Threads + Drop>(
     let spare = PlainRows::new(alloc);
     let said = Said { rt: *rt, health };
     let rows = table_over(alloc, conn, rows, spare, tenants.opening(), said)?;
-    Ok(EitherRows::Second(rows.threaded(machine, alloc, signals)))
+    let writer = Writer {
+        rt: machine,
+        alloc,
+        signals,
+    };
+    Ok(EitherRows::Second(rows.kept_by(writer)))
 }
 
 /// What has a file, which is closed at the end.

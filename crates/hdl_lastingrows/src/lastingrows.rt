@@ -12,7 +12,7 @@ ghost use Rattle.hdl_lastingrows.specs.Lasting.{IsNear};
 ghost use Rattle.hdl_lastingrows.specs.Beside.{MayLeave, IfHere};
 ghost use Rattle.hdl_lastingrows.specs.Writes.{write_of};
 
-use crate::filing::{Filing, WriteState};
+use crate::filing::{Filing, Keeper, WriteState};
 use crate::threaded::ThreadedFile;
 use crate::write::Write;
 use hdl_filerows::FileRows;
@@ -150,6 +150,27 @@ impl<R: Rows + Drop, S: Alter + Drop, A: Alarm + Drop> LastingRows<R, FileRows<S
         ensures exact { self.now.is_shut ≡ false → HasCleanDisk (state S.Store self.now.file) → CrashLeaves (state S.Store self.now.file) self.now.table }
     {
         self.file.after_a_crash();
+    }
+
+    /// The same table, of which whoever keeps the database makes the writes.
+    pub fn kept_by<K: Keeper<S> + Drop>(self, keeper: K) -> LastingRows<R, K::File, A>
+        ensures same { (result.table ≡ self.table) × (result.refused ≡ self.refused) × (result.is_shut ≡ self.is_shut) }
+        ensures file { K.has result.file (state S.Store self.file) }
+    {
+        let LastingRows {
+            rows,
+            file,
+            is_shut,
+            refusals,
+            alarm,
+        } = self;
+        LastingRows {
+            rows,
+            file: keeper.keep(file),
+            is_shut,
+            refusals,
+            alarm,
+        }
     }
 
     /// The connection, for its owner to close.

@@ -9,10 +9,10 @@ ghost use Rattle.hdl_lastingrows.specs.Lasting.{IsKept, Leaves, LeavesIn};
 ghost use Rattle.hdl_lastingrows.specs.Writes.{write_of, write_in};
 ghost use Rattle.hdl_lastingrows.specs.Beside.{IsKeptAt, IsHandedOver, IfHere, behind};
 
-use crate::filing::{Filing, WriteState};
-use hdl_queue::Signals;
+use crate::filing::{Filing, Keeper, WriteState};
 use crate::write::{OwnWrite, Write};
 use hdl_filerows::FileRows;
+use hdl_queue::Signals;
 use sqlite::{FileFrom, FileStore, Wary};
 use std::alloc::{AllocError, Global};
 use std::mem;
@@ -56,13 +56,19 @@ pub enum Place {
     Nowhere,
 }
 
+/// What starts the threads that make a file's writes, and what they tell the thread that serves. Without signals each write is made by its call.
+#[derive(Drop)]
+pub struct Writer<T: Threads + Drop> {
+    pub rt: T,
+    pub alloc: Global,
+    pub signals: Option<Arc<Signals>>,
+}
+
 /// A file whose writes a thread makes, one at a time. A call that begins one is refused (`UnderWay`), and so is any other till the thread is done and the
-/// same call comes again. Without signals each write is made by its call.
+/// same call comes again.
 #[derive(Drop)]
 pub struct ThreadedFile<T: Threads + Drop> {
-    rt: T,
-    alloc: Global,
-    signals: Option<Arc<Signals>>,
+    writer: Writer<T>,
     pub place: Place,
 }
 
@@ -134,23 +140,6 @@ fn state_for(own: &OwnWrite, write: &Write<'_>, state: WriteState) -> WriteState
 }
 
 impl<T: Threads + Drop> ThreadedFile<T> {
-    /// A file that is here. With signals its writes are made by threads.
-    pub fn new(
-        rt: T,
-        alloc: Global,
-        file: FileRows<Store>,
-        signals: Option<Arc<Signals>>,
-    ) -> ThreadedFile<T>
-        ensures { (t : Table) → IsKept t false (file_state file) → IsKeptAt result.place t false }
-    {
-        ThreadedFile {
-            rt,
-            alloc,
-            signals,
-            place: Place::Here(file),
-        }
-    }
-
     /// Between calls a crash leaves of a file that is here the rows as they were filed, and nothing else.
     pub(crate) fn after_a_crash(&self)
         ensures { IfHere self.now.place (λ s. WhereOpen s (CrashLeaves s (filed s))) }
@@ -162,17 +151,17 @@ impl<T: Threads + Drop> ThreadedFile<T> {
 
     /// The file, once no thread has it.
     pub fn into_file(self) -> Option<FileRows<Store>> {
-        let ThreadedFile { rt, place, .. } = self;
+        let ThreadedFile { writer, place } = self;
         match place {
             Place::Here(file) => Some(file),
-            Place::Away(_own, thread) => Some(thread.join(&rt).file),
+            Place::Away(_own, thread) => Some(thread.join(&writer.rt).file),
             Place::Nowhere => None,
         }
     }
 
     /// Whether a call shall come again before anything is done for it.
     fn shall_return(&self) -> bool {
-        let Some(signals) = &self.signals else {
+        let Some(signals) = &self.writer.signals else {
             return false;
         };
         let shall_return = !signals.may_write() || signals.is_under_way() && !signals.has_ended();
@@ -192,11 +181,11 @@ impl<T: Threads + Drop> ThreadedFile<T> {
         requires can { (t : Table) × IsKept t false (file_state file) × CanWrite t (write_of write.now) }
         ensures { (t : Table) → IsKept t false (file_state file) → CanWrite t (write_of write.now) → Leaves (IsKeptAt result.0) t (write_of write.now) result.1 }
     {
-        let Ok((stays, goes, theirs)) = copies(self.alloc, write, signals) else {
+        let Ok((stays, goes, theirs)) = copies(self.writer.alloc, write, signals) else {
             return (Place::Here(file), WriteState::Refused);
         };
         signals.begin();
-        match start(&self.rt, file, goes, theirs) {
+        match start(&self.writer.rt, file, goes, theirs) {
             Ok(thread) => {
                 signals.ask_to_return();
                 (Place::Away(stays, thread), WriteState::UnderWay)
@@ -217,8 +206,8 @@ impl<T: Threads + Drop> ThreadedFile<T> {
     ) -> (Place, WriteState)
         ensures { (t : Table) → IsHandedOver own thread t → Leaves (IsKeptAt result.0) t (write_of write.now) result.1 }
     {
-        let Returned { file, state } = thread.join(&self.rt);
-        if let Some(signals) = &self.signals {
+        let Returned { file, state } = thread.join(&self.writer.rt);
+        if let Some(signals) = &self.writer.signals {
             signals.settle();
         }
         let state = state_for(&own, write, state);
@@ -231,12 +220,27 @@ impl<T: Threads + Drop> ThreadedFile<T> {
         ensures { (t : Table) → IsKeptAt place t false → CanWrite t (write_of write.now) → Leaves (IsKeptAt result.0) t (write_of write.now) result.1 }
     {
         match place {
-            Place::Here(file) => match &self.signals {
+            Place::Here(file) => match &self.writer.signals {
                 Some(signals) => self.begin(file, write, signals),
                 None => make_here(file, write),
             },
             Place::Away(own, thread) => self.end(own, thread, write),
             Place::Nowhere => (Place::Nowhere, WriteState::Unknown),
+        }
+    }
+}
+
+impl<T: Threads + Drop> Keeper<Store> for Writer<T> {
+    type File = ThreadedFile<T>;
+
+    ghost use Rattle.hdl_lastingrows.specs.Beside.{IsHere};
+
+    ghost has = { λ s db. IsHere s.place db };
+
+    fn keep(self, file: FileRows<Store>) -> ThreadedFile<T> {
+        ThreadedFile {
+            writer: self,
+            place: Place::Here(file),
         }
     }
 }

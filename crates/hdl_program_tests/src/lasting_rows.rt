@@ -3,6 +3,7 @@
 use crate::assertion::same;
 use crate::rows::are;
 use crate::writes::{add, create, delete, modify, reference, remove};
+use hdl_filerows::FileRows;
 use hdl_lastingrows::{Alarm, LastingRows, TableFault, table_over};
 use hdl_name::Name;
 use hdl_rows::{PlainRows, Rows};
@@ -28,7 +29,7 @@ impl Progress for Deaf {
     fn values(&mut self, _count: u64) {}
 }
 
-type Table = LastingRows<PlainRows, MemStore, Deaf>;
+type Table = LastingRows<PlainRows, FileRows<MemStore>, Deaf>;
 
 /// The table over a database, with one first value of the text.
 fn over(

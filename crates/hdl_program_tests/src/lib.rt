@@ -31,4 +31,6 @@ mod sql_rows;
 mod two_workers;
 pub mod values;
 #[cfg(test)]
+mod write_queue;
+#[cfg(test)]
 mod writes;
