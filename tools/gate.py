@@ -22,6 +22,7 @@ PAGES = ("tools/quotes.py", "tools/map.py", "tools/cites.py", "tools/believed.py
 PARTS = (
     ["./test"],
     ["tools/refuse-memory"],
+    ["tools/refuse-memory-file"],
     ["tools/fuzz.py", "300", "1"],
     [sys.executable, "tools/examples.py"],
     [sys.executable, "tools/asks.py"],

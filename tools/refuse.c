@@ -1,4 +1,4 @@
-/* Preloaded by tools/refuse-memory: refuses the one request for memory whose number is in REFUSE, counted from 1, and says so on
+/* Preloaded by tools/refuse-memory and tools/refuse-memory-file: refuses the one request for memory whose number is in REFUSE, counted from 1, and says so on
  * standard error. What the kit builds asks by malloc and realloc alone. No header is needed, so that any compiler will do. */
 typedef unsigned long size;
 

@@ -25,12 +25,6 @@ IsKeptAt (Here file) t shut = IsKept t shut (file_state file)
 IsKeptAt (Away own thread) t shut = IsHandedOver own thread t
 IsKeptAt Nowhere t shut = ⊥
 
--- the file is here, and has this database
-abbrev pub IsHere : Place → State → Type 0
-IsHere (Here file) s = file_state file ≡ s
-IsHere (Away own thread) s = ⊥
-IsHere Nowhere s = ⊥
-
 -- P, of the database that a file which is here has
 abbrev pub IfHere : Place → (State → Type 0) → Type 0
 IfHere (Here file) P = P (file_state file)

@@ -1,7 +1,7 @@
 //! How the writes of a table come into its file.
 
 ghost use Rattle.std.specs.Prelude.{◌≡◌, Bool, false, OnOk, OnErr};
-ghost use Rattle.sqlite.specs.State.{State, HasCleanDisk};
+ghost use Rattle.sqlite.specs.State.{HasCleanDisk};
 ghost use Rattle.sqlite.specs.Held.{state};
 ghost use Rattle.hdl_rows.specs.Table.{Table};
 ghost use Rattle.hdl_rows.specs.Write.{CanWrite, written};
@@ -41,13 +41,9 @@ pub trait Filing {
 pub trait Keeper<S: Alter + Drop> {
     type File: Filing + Drop;
 
-    /// Whether the file has this database.
-    ghost has: { Self.File → State → Type 0 };
-
-    /// The file of that database.
+    /// A file that keeps the same table.
     fn keep(self, file: FileRows<S>) -> Self::File
-        ensures kept { (t : Table) → (shut : Bool) → IsKept t shut (state S.Store file) → Self.File.keeps result t shut }
-        ensures has { has result (state S.Store file) };
+        ensures { (t : Table) → (shut : Bool) → IsKept t shut (state S.Store file) → Self.File.keeps result t shut };
 }
 
 /// Makes the write in a database that lasts.

@@ -154,8 +154,7 @@ impl<R: Rows + Drop, S: Alter + Drop, A: Alarm + Drop> LastingRows<R, FileRows<S
 
     /// The same table, of which whoever keeps the database makes the writes.
     pub fn kept_by<K: Keeper<S> + Drop>(self, keeper: K) -> LastingRows<R, K::File, A>
-        ensures same { (result.table ≡ self.table) × (result.refused ≡ self.refused) × (result.is_shut ≡ self.is_shut) }
-        ensures file { K.has result.file (state S.Store self.file) }
+        ensures { (result.table ≡ self.table) × (result.refused ≡ self.refused) × (result.is_shut ≡ self.is_shut) }
     {
         let LastingRows {
             rows,

@@ -1,6 +1,6 @@
 //! A file whose writes a thread makes.
 
-ghost use Rattle.std.specs.Prelude.{◌≡◌, ◌⊎◌, false, IfOk, IfErr};
+ghost use Rattle.std.specs.Prelude.{◌≡◌, ◌⊎◌, Bool, false, IfOk, IfErr};
 ghost use Rattle.sqlite.specs.Files.{file_state};
 ghost use Rattle.hdl_rows.specs.Table.{Table};
 ghost use Rattle.hdl_rows.specs.Write.{CanWrite};
@@ -233,11 +233,9 @@ impl<T: Threads + Drop> ThreadedFile<T> {
 impl<T: Threads + Drop> Keeper<Store> for Writer<T> {
     type File = ThreadedFile<T>;
 
-    ghost use Rattle.hdl_lastingrows.specs.Beside.{IsHere};
-
-    ghost has = { λ s db. IsHere s.place db };
-
-    fn keep(self, file: FileRows<Store>) -> ThreadedFile<T> {
+    fn keep(self, file: FileRows<Store>) -> ThreadedFile<T>
+        ensures { (t : Table) → (shut : Bool) → IsKept t shut (file_state file) → IsKeptAt result.place t shut }
+    {
         ThreadedFile {
             writer: self,
             place: Place::Here(file),
