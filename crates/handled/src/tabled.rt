@@ -13,7 +13,7 @@ use hdl_eitherrows::EitherRows;
 use hdl_export::ExportFault;
 use hdl_host::{Health, HostFault, Notices};
 use hdl_lastingrows::{
-    Alarm, LastingRows, TableFault, ThreadedFile, Writer, open_file, table_over,
+    Alarm, LastingRows, TableFault, ThreadedFile, Writer, open_file, table_beside,
 };
 use hdl_queue::Signals;
 use hdl_replay::{Fault, events_of, lines_of_resumed, parts_of, put_all, replay, tenants_of};
@@ -132,10 +132,7 @@ type FileRows<R> = LastingRows<PlainRows, ThreadedFile<R>, Said>;
 pub type Table<R> = EitherRows<CachedRows<SqlRows>, FileRows<R>>;
 
 /// An empty table in SQL, in memory, of which at most so many octets are kept where they were read last.
-pub fn empty_table<R: Threads + Drop>(
-    rt: &HostRuntime,
-    row_cache: usize,
-) -> Result<Table<R>, Fault>
+pub fn empty_table<R: Threads + Drop>(rt: &HostRuntime, row_cache: usize) -> Result<Table<R>, Fault>
     ensures empty { IfOk result (λ rows. ⟦<Table<R> as Rows>⟧.content rows ≡ no_rows) }
 {
     let Ok(hasher) = RandomState::new(rt) else {
@@ -159,16 +156,15 @@ fn opened<R: Threads + Drop>(
 ) -> Result<Table<R>, TableFault> {
     let conn = open_file(rt, file.path.as_str(), file.has_sums, Wary)?;
     let alloc = rt.alloc();
-    let rows = PlainRows::new(alloc);
-    let spare = PlainRows::new(alloc);
+    let memory = (PlainRows::new(alloc), PlainRows::new(alloc));
     let said = Said { rt: *rt, health };
-    let rows = table_over(alloc, conn, rows, spare, tenants.opening(), said)?;
     let writer = Writer {
         rt: machine,
         alloc,
         signals,
     };
-    Ok(EitherRows::Second(rows.kept_by(writer)))
+    let rows = table_beside(conn, memory, tenants.opening(), said, writer)?;
+    Ok(EitherRows::Second(rows))
 }
 
 /// What has a file, which is closed at the end.
@@ -336,8 +332,6 @@ pub fn open_desk<R: Threads + Drop>(
 }
 
 /// Closes the file of a table that was served.
-pub fn ended<R: Threads + Drop>(
-    served: Result<Table<R>, HostFault>,
-) -> Result<(), TabledFault> {
+pub fn ended<R: Threads + Drop>(served: Result<Table<R>, HostFault>) -> Result<(), TabledFault> {
     served?.close()
 }

@@ -1,5 +1,5 @@
 -- What a crash leaves of a file that a thread may have.
-use Rattle.std.proofs.Common.{◌≡◌, ◌∙◌, Bool, true, false, sym, subst}
+use Rattle.std.proofs.Common.{◌≡◌, ◌∙◌, Bool, false, sym, subst}
 use Rattle.sqlite_trees.specs.Tree.{Trees}
 use Rattle.sqlite.specs.State.{State, HasCleanDisk}
 use Rattle.sqlite.specs.Files.{file_state}
@@ -31,3 +31,8 @@ pub kept_exactly : (p : Place) (t : Table) (shut : Bool) → IsKeptAt p t shut �
 kept_exactly (Here file) t shut kept crash writable = λ clean db may. let it = kept.live writable clean in crash clean it.0 db may ∙ it.1
 kept_exactly (Away own thread) t shut kept crash writable = tt
 kept_exactly Nowhere t shut kept crash writable = tt
+
+pub here_map : (p : Place) {P Q : State → Type 0} → ((s : State) → P s → Q s) → IfHere p P → IfHere p Q
+here_map (Here file) f it = f (file_state file) it
+here_map (Away own thread) f it = tt
+here_map Nowhere f it = tt

@@ -1,10 +1,9 @@
 -- What a write leaves of a table and its database.
 use Rattle.std.proofs.Common.{◌≡◌, inl, inr, Bool, true, false, IsTrue, refl, sym, ap, subst, ◌∙◌, arith}
 use Rattle.sqlite.specs.State.{State, HasCleanDisk, Survives}
-use Rattle.hdl_rows.specs.Table.{Table}
+use Rattle.hdl_rows.specs.Table.{Table, IsPlaced}
 use Rattle.hdl_rows.specs.Write.{Write, CanWrite, written}
 use Rattle.hdl_rows.proofs.Writes.{stay_placed_lem}
-use Rattle.hdl_sqlrows.specs.Kept.{table_in}
 use Rattle.hdl_sqlrows.specs.Filed.{WhereOpen, IsFiled, CrashLeaves, filed}
 use Rattle.hdl_lastingrows.specs.Lasting.{Lasting, IsKept, MayMake}
 
@@ -21,19 +20,18 @@ module _ (t : Table) (w : Write) (can : CanWrite t w) (old mid : State) (kept : 
 
   -- the database has made it: with memory, and where memory is one write behind
   pub made : (HasCleanDisk mid → IsFiled mid (written (filed old) w)) → (HasCleanDisk mid → CrashLeaves mid (written (filed old) w)) → IsKept (written t w) false mid × IsKept t true mid
-  made done durable =
-      (
-        record {
-          placed = stay_placed_lem t w kept.placed can;
-          live = λ _ clean. ((done clean).0, (done clean).1 ∙ same clean);
-          near = λ clean db may. inl (durable clean db may ∙ same clean);
-        },
-        record {
-          placed = kept.placed;
-          live = λ shut. absurd cc;
-          near = λ clean db may. inr (w, can, durable clean db may ∙ same clean);
-        },
-      )
+  made done durable = (
+    record {
+      placed = stay_placed_lem t w kept.placed can;
+      live = λ _ clean. ((done clean).0, (done clean).1 ∙ same clean);
+      near = λ clean db may. inl (durable clean db may ∙ same clean);
+    },
+    record {
+      placed = kept.placed;
+      live = λ shut. absurd cc;
+      near = λ clean db may. inr (w, can, durable clean db may ∙ same clean);
+    },
+  )
 
   -- the database refused, and its store may have shut
   pub refused : (last : State) (is_shut : Bool) → WhereOpen mid (filed mid ≡ filed old) → (is_shut ≡ false → HasCleanDisk last → IsTrue mid.is_open × IsFiled last (filed mid)) → Survives mid last (λ _. ⊥) → IsKept t is_shut last
@@ -53,3 +51,11 @@ module _ (t : Table) (w : Write) (can : CanWrite t w) (old mid : State) (kept : 
           | inr none ↦ absurd none
         ];
   }
+
+-- a database that has the rows of a table keeps it
+pub newly : (t : Table) (s : State) → IsPlaced t → (HasCleanDisk s → IsFiled s t) → WhereOpen s (CrashLeaves s (filed s)) → IsKept t false s
+newly t s placed has crash = record {
+  placed = placed;
+  live = λ _ clean. has clean;
+  near = λ clean db may. inl (crash clean (has clean).0 db may ∙ (has clean).1);
+}

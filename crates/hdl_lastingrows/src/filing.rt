@@ -37,15 +37,6 @@ pub trait Filing {
         ensures { (t : Table) → keeps self.old t false → CanWrite t (write_of write.now) → Leaves (keeps self.new) t (write_of write.now) result };
 }
 
-/// What takes the database of a table, once it is open, for the file to which writes go.
-pub trait Keeper<S: Alter + Drop> {
-    type File: Filing + Drop;
-
-    /// A file that keeps the same table.
-    fn keep(self, file: FileRows<S>) -> Self::File
-        ensures { (t : Table) → (shut : Bool) → IsKept t shut (state S.Store file) → Self.File.keeps result t shut };
-}
-
 /// Makes the write in a database that lasts.
 fn try_write<S: Alter + Drop>(file: &mut FileRows<S>, write: &Write<'_>) -> Result<(), Fault>
     requires can { (t : Table) × IsKept t false (state S.Store file.old) × CanWrite t (write_of write.now) }

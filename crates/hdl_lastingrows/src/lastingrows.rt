@@ -12,7 +12,7 @@ ghost use Rattle.hdl_lastingrows.specs.Lasting.{IsNear};
 ghost use Rattle.hdl_lastingrows.specs.Beside.{MayLeave, IfHere};
 ghost use Rattle.hdl_lastingrows.specs.Writes.{write_of};
 
-use crate::filing::{Filing, Keeper, WriteState};
+use crate::filing::{Filing, WriteState};
 use crate::threaded::ThreadedFile;
 use crate::write::Write;
 use hdl_filerows::FileRows;
@@ -152,26 +152,6 @@ impl<R: Rows + Drop, S: Alter + Drop, A: Alarm + Drop> LastingRows<R, FileRows<S
         self.file.after_a_crash();
     }
 
-    /// The same table, of which whoever keeps the database makes the writes.
-    pub fn kept_by<K: Keeper<S> + Drop>(self, keeper: K) -> LastingRows<R, K::File, A>
-        ensures { (result.table ≡ self.table) × (result.refused ≡ self.refused) × (result.is_shut ≡ self.is_shut) }
-    {
-        let LastingRows {
-            rows,
-            file,
-            is_shut,
-            refusals,
-            alarm,
-        } = self;
-        LastingRows {
-            rows,
-            file: keeper.keep(file),
-            is_shut,
-            refusals,
-            alarm,
-        }
-    }
-
     /// The connection, for its owner to close.
     pub fn into_connection(self) -> Connection<S>
         ensures { result ≡ self.file }
@@ -180,9 +160,7 @@ impl<R: Rows + Drop, S: Alter + Drop, A: Alarm + Drop> LastingRows<R, FileRows<S
     }
 }
 
-impl<R: Rows + Drop, T: Threads + Drop, A: Alarm + Drop>
-    LastingRows<R, ThreadedFile<T>, A>
-{
+impl<R: Rows + Drop, T: Threads + Drop, A: Alarm + Drop> LastingRows<R, ThreadedFile<T>, A> {
     /// What a crash leaves between calls, also while a thread has the file: this table, or this table after one write that it allows; and this table alone, unless it
     /// is shut or a write is under way.
     pub fn after_a_crash_beside(&self)

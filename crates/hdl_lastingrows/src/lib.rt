@@ -33,8 +33,8 @@ mod threaded;
 mod write;
 
 pub use fault::TableFault;
-pub use filing::{Filing, Keeper, WriteState};
+pub use filing::{Filing, WriteState};
 pub use lastingrows::{Alarm, LastingRows};
-pub use opening::{FileTable, open_file, table_over};
+pub use opening::{FileTable, open_file, table_beside, table_over};
 pub use threaded::{OfWrite, Place, Store, ThreadedFile, Writer};
 pub use write::{OwnWrite, Write};

@@ -12,9 +12,11 @@ ghost use Rattle.hdl_sqlrows.specs.Layout.{layout, no_schema};
 ghost use Rattle.hdl_sqlrows.specs.Filed.{WhereOpen, IsFiled, filed};
 ghost use Rattle.hdl_sqlrows.specs.Kept.{IsSettled};
 ghost use Rattle.hdl_sqlrows.specs.Opening.{place_of, opened_with, based, no_base};
+ghost use Rattle.hdl_lastingrows.specs.Beside.{IfHere};
 
 use crate::fault::TableFault;
 use crate::lastingrows::{Alarm, LastingRows};
+use crate::threaded::{Store, ThreadedFile, Writer};
 use hdl_filerows::FileRows;
 use hdl_name::Name;
 use hdl_rows::Rows;
@@ -27,6 +29,7 @@ use std::alloc::Global;
 use std::fs::OpenOptions;
 use std::io;
 use std::os::unix::fs::OpenOptionsExt;
+use std::thread::Threads;
 
 /// The path that the kit's SQL takes for a table in memory, and refuses here.
 const IN_MEMORY: &str = ":memory:";
@@ -231,4 +234,48 @@ pub fn table_over<R: Rows + Drop, S: Alter + Drop, A: Alarm + Progress + Drop>(
 {
     let rows = rows_over(&mut conn, alloc, rows, spare, opening, &mut alarm)?;
     Ok(LastingRows::new(rows, FileRows::over(alloc, conn), alarm))
+}
+
+/// A table in memory and a database, which have the same rows, where threads make the writes.
+fn with_threads<R: Rows + Drop, T: Threads + Drop, A: Alarm + Drop>(
+    rows: R,
+    conn: Connection<Store>,
+    alarm: A,
+    writer: Writer<T>,
+) -> LastingRows<R, ThreadedFile<T>, A>
+    requires mode { conn.in_transaction ≡ false }
+    requires settled { HasCleanDisk (file_state conn) → IsSettled (file_state conn) }
+    requires placed { IsPlaced (R.content rows) }
+    requires filed { HasCleanDisk (file_state conn) → IsFiled (file_state conn) (R.content rows) }
+    ensures table { result.table ≡ R.content rows }
+    ensures writable { result.is_shut ≡ false }
+    ensures clean { IfHere result.file.place (λ s. HasCleanDisk s → HasCleanDisk (file_state conn)) }
+{
+    let file = FileRows::over(writer.alloc, conn);
+    file.after_a_crash();
+    LastingRows::over(rows, ThreadedFile::over(file, writer), alarm)
+}
+
+/// As [`table_over`], of a file whose writes threads make. The first of the two tables in memory gets the rows.
+pub fn table_beside<R: Rows + Drop, T: Threads + Drop, A: Alarm + Progress + Drop>(
+    conn: Connection<Store>,
+    memory: (R, R),
+    opening: &[(Name, Value)],
+    alarm: A,
+    writer: Writer<T>,
+) -> Result<LastingRows<R, ThreadedFile<T>, A>, TableFault>
+    requires mode { conn.in_transaction ≡ false }
+    requires even { WhereOpen (file_state conn) ((file_state conn).committed ≡ (file_state conn).now) }
+    requires empty { R.content memory.0 ≡ no_rows }
+    requires spare { R.content memory.1 ≡ no_rows }
+    requires distinct { AllPairs (λ (p q : Place). p ≢ q) (map place_of opening.now) }
+    ensures made { (file_state conn).now.schema ≡ no_schema → IfOk result (λ t. IfHere t.file.place (λ s. HasCleanDisk s → t.table ≡ (opened_with no_base opening.now).table)) }
+    ensures found { (file_state conn).now.schema ≡ layout → IfOk result (λ t. IfHere t.file.place (λ s. HasCleanDisk s → t.table ≡ (opened_with (based (file_state conn)) opening.now).table)) }
+    ensures writable { IfOk result (λ t. t.is_shut ≡ false) }
+{
+    let (rows, spare) = memory;
+    let mut conn = conn;
+    let mut alarm = alarm;
+    let rows = rows_over(&mut conn, writer.alloc, rows, spare, opening, &mut alarm)?;
+    Ok(with_threads(rows, conn, alarm, writer))
 }

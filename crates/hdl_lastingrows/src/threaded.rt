@@ -1,6 +1,7 @@
 //! A file whose writes a thread makes.
 
 ghost use Rattle.std.specs.Prelude.{◌≡◌, ◌⊎◌, Bool, false, IfOk, IfErr};
+ghost use Rattle.sqlite.specs.State.{HasCleanDisk};
 ghost use Rattle.sqlite.specs.Files.{file_state};
 ghost use Rattle.hdl_rows.specs.Table.{Table};
 ghost use Rattle.hdl_rows.specs.Write.{CanWrite};
@@ -9,17 +10,16 @@ ghost use Rattle.hdl_lastingrows.specs.Lasting.{IsKept, Leaves, LeavesIn};
 ghost use Rattle.hdl_lastingrows.specs.Writes.{write_of, write_in};
 ghost use Rattle.hdl_lastingrows.specs.Beside.{IsKeptAt, IsHandedOver, IfHere, behind};
 
-use crate::filing::{Filing, Keeper, WriteState};
+use crate::filing::{Filing, WriteState};
 use crate::write::{OwnWrite, Write};
 use hdl_filerows::FileRows;
 use hdl_queue::Signals;
 use sqlite::{FileFrom, FileStore, Wary};
 use std::alloc::{AllocError, Global};
-use std::mem;
 use std::snapshot::Snapshot;
 use std::sync::Arc;
-use std::thread;
 use std::thread::{Promise, PromisedHandle, Threads};
+use std::{mem, thread};
 
 /// The store of a file that a thread may have.
 pub type Store = FileStore<FileFrom<Wary>>;
@@ -140,6 +140,17 @@ fn state_for(own: &OwnWrite, write: &Write<'_>, state: WriteState) -> WriteState
 }
 
 impl<T: Threads + Drop> ThreadedFile<T> {
+    /// A file that is here.
+    pub fn over(file: FileRows<Store>, writer: Writer<T>) -> ThreadedFile<T>
+        ensures kept { (t : Table) → (shut : Bool) → IsKept t shut (file_state file) → IsKeptAt result.place t shut }
+        ensures clean { IfHere result.place (λ s. HasCleanDisk s → HasCleanDisk (file_state file)) }
+    {
+        ThreadedFile {
+            writer,
+            place: Place::Here(file),
+        }
+    }
+
     /// Between calls a crash leaves of a file that is here the rows as they were filed, and nothing else.
     pub(crate) fn after_a_crash(&self)
         ensures { IfHere self.now.place (λ s. WhereOpen s (CrashLeaves s (filed s))) }
@@ -226,19 +237,6 @@ impl<T: Threads + Drop> ThreadedFile<T> {
             },
             Place::Away(own, thread) => self.end(own, thread, write),
             Place::Nowhere => (Place::Nowhere, WriteState::Unknown),
-        }
-    }
-}
-
-impl<T: Threads + Drop> Keeper<Store> for Writer<T> {
-    type File = ThreadedFile<T>;
-
-    fn keep(self, file: FileRows<Store>) -> ThreadedFile<T>
-        ensures { (t : Table) → (shut : Bool) → IsKept t shut (file_state file) → IsKeptAt result.place t shut }
-    {
-        ThreadedFile {
-            writer: self,
-            place: Place::Here(file),
         }
     }
 }
