@@ -9,3 +9,4 @@ pub mod Mail
 pub mod Memory
 pub mod MemoryPackets
 pub mod Ends
+pub mod Going

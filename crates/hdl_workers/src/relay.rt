@@ -6,6 +6,7 @@ ghost use Rattle.hdl_events.specs.declared.Outcome.{Outcome};
 ghost use Rattle.hdl_workers.specs.declared.worker.Stop.TheVariants.{Broken};
 ghost use Rattle.hdl_workers.specs.Octets.{octets_of};
 ghost use Rattle.hdl_workers.specs.Door.{say};
+ghost use Rattle.hdl_workers.specs.Going.{GoesOn, StaysOpen};
 ghost use Rattle.hdl_workers.specs.Line.{put_by, taken_by, HasPlace, SameLine, Joins, Relayed, RelayedPart};
 
 use crate::line::Line;
@@ -20,9 +21,7 @@ const JOINED: usize = 8192;
 /// Writes the octets to the open connection.
 fn write_all<D: Door>(door: &mut D, octets: &[u8], turns: &mut u64) -> Result<(), Stop>
     ensures turns { turns.new ≤ turns.old }
-    ensures faults { D.fault_count door.old ≤ D.fault_count door.new }
-    ensures still_open { D.is_open door.new ≡ D.is_open door.old }
-    ensures ended { IsTrue D.is_observed → D.ended door.new ≡ D.ended door.old }
+    ensures connection { StaysOpen D.Door door.old door.new }
     ensures whole { IsTrue D.is_observed → OnOk result (D.current door.new ≡ say octets.now (D.current door.old)) }
     ensures part { IsTrue D.is_observed → IsPrefix (D.current door.new).written ((D.current door.old).written ++ octets.now) × ((D.current door.new).read ≡ (D.current door.old).read) }
     ensures broken { IsTrue D.is_observed → IfErr result (λ stop. stop ≡ Broken → (D.current door.new).broken ≡ true) }
@@ -54,9 +53,7 @@ pub(crate) fn octets_of(outcome: &Outcome) -> &[u8]
 /// Writes the octets of an outcome to the open connection.
 fn write_outcome<D: Door>(door: &mut D, outcome: &Outcome, turns: &mut u64) -> Result<(), Stop>
     ensures turns { turns.new ≤ turns.old }
-    ensures faults { D.fault_count door.old ≤ D.fault_count door.new }
-    ensures still_open { D.is_open door.new ≡ D.is_open door.old }
-    ensures ended { IsTrue D.is_observed → D.ended door.new ≡ D.ended door.old }
+    ensures connection { StaysOpen D.Door door.old door.new }
     ensures whole { IsTrue D.is_observed → OnOk result (D.current door.new ≡ say (octets_of outcome.now) (D.current door.old)) }
     ensures part { IsTrue D.is_observed → IsPrefix (D.current door.new).written ((D.current door.old).written ++ octets_of outcome.now) × ((D.current door.new).read ≡ (D.current door.old).read) }
     ensures broken { IsTrue D.is_observed → IfErr result (λ stop. stop ≡ Broken → (D.current door.new).broken ≡ true) }
@@ -115,12 +112,9 @@ fn write_joined<D: Door, C: Clock>(
     turns: &mut u64,
 ) -> Result<(), Stop>
     ensures turns { turns.new ≤ turns.old }
-    ensures faults { D.fault_count door.old ≤ D.fault_count door.new }
-    ensures still_open { D.is_open door.new ≡ D.is_open door.old }
-    ensures line { SameLine line.old line.new }
+    ensures goes_on { GoesOn D.Door door.old line.old door.new line.new }
     ensures put { put_by line.new ≡ put_by line.old }
     ensures answers { IsTrue C.is_observed → C.answers clock.new ≡ C.answers clock.old }
-    ensures ended { IsTrue D.is_observed → D.ended door.new ≡ D.ended door.old }
     ensures whole { IsTrue D.is_observed → OnOk result ((t : List Outcome) → taken_by line.old ≡ t ++ first ∷ [] → Relayed t (D.current door.old) (taken_by line.new) (D.current door.new)) }
     ensures part { IsTrue D.is_observed → (t : List Outcome) → taken_by line.old ≡ t ++ first ∷ [] → RelayedPart t (D.current door.old) (taken_by line.new) (D.current door.new) }
     ensures broken { IsTrue D.is_observed → IfErr result (λ stop. stop ≡ Broken → (D.current door.new).broken ≡ true) }
@@ -147,12 +141,9 @@ fn relay<D: Door, C: Clock>(
     turns: &mut u64,
 ) -> Result<(), Stop>
     ensures turns { (turns.new ≤ turns.old) × OnOk result (turns.new < turns.old) }
-    ensures faults { D.fault_count door.old ≤ D.fault_count door.new }
-    ensures still_open { D.is_open door.new ≡ D.is_open door.old }
-    ensures line { SameLine line.old line.new }
+    ensures goes_on { GoesOn D.Door door.old line.old door.new line.new }
     ensures put { put_by line.new ≡ put_by line.old }
     ensures answers { IsTrue C.is_observed → C.answers clock.new ≡ C.answers clock.old }
-    ensures ended { IsTrue D.is_observed → D.ended door.new ≡ D.ended door.old }
     ensures whole { IsTrue D.is_observed → OnOk result (Relayed (taken_by line.old) (D.current door.old) (taken_by line.new) (D.current door.new)) }
     ensures part { IsTrue D.is_observed → RelayedPart (taken_by line.old) (D.current door.old) (taken_by line.new) (D.current door.new) }
     ensures broken { IsTrue D.is_observed → IfErr result (λ stop. stop ≡ Broken → (D.current door.new).broken ≡ true) }
@@ -182,12 +173,9 @@ pub(crate) fn await_outcomes<D: Door, C: Clock>(
     turns: &mut u64,
 ) -> Result<(), Stop>
     ensures turns { turns.new ≤ turns.old }
-    ensures faults { D.fault_count door.old ≤ D.fault_count door.new }
-    ensures still_open { D.is_open door.new ≡ D.is_open door.old }
-    ensures line { SameLine line.old line.new }
+    ensures goes_on { GoesOn D.Door door.old line.old door.new line.new }
     ensures put { put_by line.new ≡ put_by line.old }
     ensures answers { IsTrue C.is_observed → C.answers clock.new ≡ C.answers clock.old }
-    ensures ended { IsTrue D.is_observed → D.ended door.new ≡ D.ended door.old }
     ensures settled { OnOk result (length (taken_by line.new) ≡ length (put_by line.new)) }
     ensures whole { IsTrue D.is_observed → OnOk result (Relayed (taken_by line.old) (D.current door.old) (taken_by line.new) (D.current door.new)) }
     ensures part { IsTrue D.is_observed → RelayedPart (taken_by line.old) (D.current door.old) (taken_by line.new) (D.current door.new) }
@@ -207,13 +195,10 @@ pub(crate) fn await_room<D: Door, C: Clock>(
     turns: &mut u64,
 ) -> Result<(), Stop>
     ensures turns { (turns.new ≤ turns.old) × OnOk result (turns.new < turns.old) }
-    ensures faults { D.fault_count door.old ≤ D.fault_count door.new }
-    ensures still_open { D.is_open door.new ≡ D.is_open door.old }
-    ensures line { SameLine line.old line.new }
+    ensures goes_on { GoesOn D.Door door.old line.old door.new line.new }
     ensures put { put_by line.new ≡ put_by line.old }
     ensures room { OnOk result (HasPlace line.new) }
     ensures answers { IsTrue C.is_observed → C.answers clock.new ≡ C.answers clock.old }
-    ensures ended { IsTrue D.is_observed → D.ended door.new ≡ D.ended door.old }
     ensures whole { IsTrue D.is_observed → OnOk result (Relayed (taken_by line.old) (D.current door.old) (taken_by line.new) (D.current door.new)) }
     ensures part { IsTrue D.is_observed → RelayedPart (taken_by line.old) (D.current door.old) (taken_by line.new) (D.current door.new) }
     ensures broken { IsTrue D.is_observed → IfErr result (λ stop. stop ≡ Broken → (D.current door.new).broken ≡ true) }

@@ -11,6 +11,7 @@ ghost use Rattle.hdl_events.specs.declared.Happening.TheVariants.{Bad, Close};
 ghost use Rattle.hdl_lanes.specs.Lane.{put_into, taken_from, all_put, SameOutlet};
 ghost use Rattle.hdl_workers.specs.Door.{fresh, hear, Gives};
 ghost use Rattle.hdl_workers.specs.Found.{Finds, fault_found};
+ghost use Rattle.hdl_workers.specs.Going.{GoesOn, StaysOpen};
 ghost use Rattle.hdl_workers.specs.Joined.{EndsLane};
 ghost use Rattle.hdl_workers.specs.Line.{put_by, taken_by, SameLine, Relayed, RelayedPart};
 ghost use Rattle.hdl_workers.specs.Sign.{framed, moments_of, nonces_of, MomentsUsed, NoncesUsed, PutOne, WithEnd};
@@ -93,14 +94,11 @@ fn submit_frame<D: Door, C: Clock, N: Nonces>(
     bytes: Octets,
 ) -> Result<(), Stop>
     ensures turns { (turns.new ≤ turns.old) × OnOk result (turns.new < turns.old) }
-    ensures faults { D.fault_count door.old ≤ D.fault_count door.new }
-    ensures still_open { D.is_open door.new ≡ D.is_open door.old }
-    ensures line { SameLine line.old line.new }
+    ensures goes_on { GoesOn D.Door door.old line.old door.new line.new }
     ensures put { OnOk result (PutOne (framed 0 bytes) (put_by line.old) (put_by line.new)) }
     ensures kept { OnErr result (put_by line.new ≡ put_by line.old) }
     ensures moments { IsTrue C.is_observed → MomentsUsed (C.answers clock.old) (put_by line.old) (C.answers clock.new) (put_by line.new) }
     ensures nonces { IsTrue N.is_observed → NoncesUsed (N.answers nonces.old) (put_by line.old) (N.answers nonces.new) (put_by line.new) }
-    ensures ended { IsTrue D.is_observed → D.ended door.new ≡ D.ended door.old }
     ensures whole { IsTrue D.is_observed → OnOk result (Relayed (taken_by line.old) (D.current door.old) (taken_by line.new) (D.current door.new)) }
     ensures part { IsTrue D.is_observed → RelayedPart (taken_by line.old) (D.current door.old) (taken_by line.new) (D.current door.new) }
     ensures broken { IsTrue D.is_observed → IfErr result (λ stop. stop ≡ Broken → (D.current door.new).broken ≡ true) }
@@ -127,13 +125,10 @@ fn submit_fault<D: Door, C: Clock>(
     request: u32,
 ) -> Result<(), Stop>
     ensures turns { (turns.new ≤ turns.old) × OnOk result (turns.new < turns.old) }
-    ensures faults { D.fault_count door.old ≤ D.fault_count door.new }
-    ensures still_open { D.is_open door.new ≡ D.is_open door.old }
-    ensures line { SameLine line.old line.new }
+    ensures goes_on { GoesOn D.Door door.old line.old door.new line.new }
     ensures put { OnOk result (put_by line.new ≡ put_by line.old ++ Event (Bad session request) ∷ []) }
     ensures kept { OnErr result (put_by line.new ≡ put_by line.old) }
     ensures answers { IsTrue C.is_observed → C.answers clock.new ≡ C.answers clock.old }
-    ensures ended { IsTrue D.is_observed → D.ended door.new ≡ D.ended door.old }
     ensures whole { IsTrue D.is_observed → OnOk result (Relayed (taken_by line.old) (D.current door.old) (taken_by line.new) (D.current door.new)) }
     ensures part { IsTrue D.is_observed → RelayedPart (taken_by line.old) (D.current door.old) (taken_by line.new) (D.current door.new) }
     ensures broken { IsTrue D.is_observed → IfErr result (λ stop. stop ≡ Broken → (D.current door.new).broken ≡ true) }
@@ -157,13 +152,10 @@ fn submit_frames<D: Door, C: Clock, N: Nonces>(
     requires sound { cutter.old.fault ≡ None }
     requires talk { IsTrue D.is_observed → Underway (FramesSoFar cutter.old.rest) (D.ended door.old) (D.current door.old) (put_by line.old) (taken_by line.old) }
     ensures turns { turns.new ≤ turns.old }
-    ensures faults { D.fault_count door.old ≤ D.fault_count door.new }
-    ensures still_open { D.is_open door.new ≡ D.is_open door.old }
-    ensures line { SameLine line.old line.new }
+    ensures goes_on { GoesOn D.Door door.old line.old door.new line.new }
     ensures sound { IfOk result (λ faulty. IsFalse faulty → cutter.new.fault ≡ None) }
     ensures moments { IsTrue C.is_observed → MomentsUsed (C.answers clock.old) (put_by line.old) (C.answers clock.new) (put_by line.new) }
     ensures nonces { IsTrue N.is_observed → NoncesUsed (N.answers nonces.old) (put_by line.old) (N.answers nonces.new) (put_by line.new) }
-    ensures ended { IsTrue D.is_observed → D.ended door.new ≡ D.ended door.old }
     ensures waits { IsTrue D.is_observed → IfOk result (λ faulty. IsFalse faulty → Underway (Waiting cutter.new.rest) (D.ended door.new) (D.current door.new) (put_by line.new) (taken_by line.new)) }
     ensures stops { IsTrue D.is_observed → IfOk result (λ faulty. IsTrue faulty → Underway AllFrames (D.ended door.new) (D.current door.new) (put_by line.new) (taken_by line.new)) }
     ensures cut { IsTrue D.is_observed → CutOff SomeFrames (D.ended door.new) (D.current door.new) (put_by line.new) (taken_by line.new) }
@@ -191,9 +183,7 @@ fn hear<D: Door>(
 ) -> Result<bool, Stop>
     requires sound { cutter.old.fault ≡ None }
     ensures turns { (turns.new ≤ turns.old) × OnOk result (turns.new < turns.old) }
-    ensures faults { D.fault_count door.old ≤ D.fault_count door.new }
-    ensures still_open { D.is_open door.new ≡ D.is_open door.old }
-    ensures ended { IsTrue D.is_observed → D.ended door.new ≡ D.ended door.old }
+    ensures connection { StaysOpen D.Door door.old door.new }
     ensures sound { OnOk result (cutter.new.fault ≡ None) }
     ensures came { IsTrue D.is_observed → IfOk result (λ came. IsTrue came → (octets : List ℕ) × (D.current door.new ≡ hear octets (D.current door.old)) × (cutter.new ≡ record { rest = cutter.old.rest ++ octets; fault = None })) }
     ensures closed { IsTrue D.is_observed → IfOk result (λ came. IsFalse came → (D.current door.new ≡ D.current door.old) × (cutter.new ≡ cutter.old)) }
@@ -229,12 +219,9 @@ fn converse<D: Door, C: Clock, N: Nonces>(
 ) -> Result<(), Stop>
     requires talk { IsTrue D.is_observed → Underway (Waiting []) (D.ended door.old) (D.current door.old) (put_by line.old) (taken_by line.old) }
     ensures turns { turns.new ≤ turns.old }
-    ensures faults { D.fault_count door.old ≤ D.fault_count door.new }
-    ensures still_open { D.is_open door.new ≡ D.is_open door.old }
-    ensures line { SameLine line.old line.new }
+    ensures goes_on { GoesOn D.Door door.old line.old door.new line.new }
     ensures moments { IsTrue C.is_observed → MomentsUsed (C.answers clock.old) (put_by line.old) (C.answers clock.new) (put_by line.new) }
     ensures nonces { IsTrue N.is_observed → NoncesUsed (N.answers nonces.old) (put_by line.old) (N.answers nonces.new) (put_by line.new) }
-    ensures ended { IsTrue D.is_observed → D.ended door.new ≡ D.ended door.old }
     ensures settled { OnOk result (length (taken_by line.new) ≡ length (put_by line.new)) }
     ensures whole { IsTrue D.is_observed → OnOk result (Underway AllFrames (D.ended door.new) (D.current door.new) (put_by line.new) (taken_by line.new)) }
     ensures cut { IsTrue D.is_observed → CutOff SomeFrames (D.ended door.new) (D.current door.new) (put_by line.new) (taken_by line.new) }
@@ -266,12 +253,9 @@ fn converse_to_end<D: Door, C: Clock, N: Nonces>(
 ) -> bool
     requires talk { IsTrue D.is_observed → Underway (Waiting []) (D.ended door.old) (D.current door.old) (put_by line.old) (taken_by line.old) }
     ensures turns { turns.new ≤ turns.old }
-    ensures faults { D.fault_count door.old ≤ D.fault_count door.new }
-    ensures still_open { D.is_open door.new ≡ D.is_open door.old }
-    ensures line { SameLine line.old line.new }
+    ensures goes_on { GoesOn D.Door door.old line.old door.new line.new }
     ensures moments { IsTrue C.is_observed → MomentsUsed (C.answers clock.old) (put_by line.old) (C.answers clock.new) (put_by line.new) }
     ensures nonces { IsTrue N.is_observed → NoncesUsed (N.answers nonces.old) (put_by line.old) (N.answers nonces.new) (put_by line.new) }
-    ensures ended { IsTrue D.is_observed → D.ended door.new ≡ D.ended door.old }
     ensures can_close { IsTrue D.is_observed → IsTrue result → CanClose (D.ended door.new) (D.current door.new) (put_by line.new) (taken_by line.new) }
     ensures cut { IsTrue D.is_observed → CutOff SomeFrames (D.ended door.new) (D.current door.new) (put_by line.new) (taken_by line.new) }
 {
