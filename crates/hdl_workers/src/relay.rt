@@ -109,9 +109,7 @@ fn write_joined<D: Door, C: Clock>(
     line: &mut Line,
     clock: &mut C,
     first: Outcome,
-    turns: &mut u64,
 ) -> Result<(), Stop>
-    ensures turns { turns.new ≤ turns.old }
     ensures goes_on { GoesOn D.Door door.old line.old door.new line.new }
     ensures put { put_by line.new ≡ put_by line.old }
     ensures answers { IsTrue C.is_observed → C.answers clock.new ≡ C.answers clock.old }
@@ -121,12 +119,12 @@ fn write_joined<D: Door, C: Clock>(
 {
     let mut joined = ArrayVec::new();
     match joined.try_extend_from_slice(octets_of(&first)) {
-        Err(_) => write_outcome(door, &first, turns),
+        Err(_) => write_outcome(door, &first, &mut line.turns),
         Ok(()) => {
             let last = join(line, clock, &mut joined);
-            write_all(door, joined.as_slice(), turns)?;
+            write_all(door, joined.as_slice(), &mut line.turns)?;
             match last {
-                Some(outcome) => write_outcome(door, &outcome, turns),
+                Some(outcome) => write_outcome(door, &outcome, &mut line.turns),
                 None => Ok(()),
             }
         }
@@ -134,13 +132,8 @@ fn write_joined<D: Door, C: Clock>(
 }
 
 /// One try to take an outcome, which is then written, and with it those that are there.
-fn relay<D: Door, C: Clock>(
-    door: &mut D,
-    line: &mut Line,
-    clock: &mut C,
-    turns: &mut u64,
-) -> Result<(), Stop>
-    ensures turns { (turns.new ≤ turns.old) × OnOk result (turns.new < turns.old) }
+fn relay<D: Door, C: Clock>(door: &mut D, line: &mut Line, clock: &mut C) -> Result<(), Stop>
+    ensures turns { OnOk result (line.new.turns < line.old.turns) }
     ensures goes_on { GoesOn D.Door door.old line.old door.new line.new }
     ensures put { put_by line.new ≡ put_by line.old }
     ensures answers { IsTrue C.is_observed → C.answers clock.new ≡ C.answers clock.old }
@@ -148,13 +141,13 @@ fn relay<D: Door, C: Clock>(
     ensures part { IsTrue D.is_observed → RelayedPart (taken_by line.old) (D.current door.old) (taken_by line.new) (D.current door.new) }
     ensures broken { IsTrue D.is_observed → IfErr result (λ stop. stop ≡ Broken → (D.current door.new).broken ≡ true) }
 {
-    if !spend(turns) {
+    if !spend(&mut line.turns) {
         return Err(Stop::Turns);
     }
     match line.next() {
         Some(outcome) => {
             clock.worked();
-            let written = write_joined(door, line, clock, outcome, turns);
+            let written = write_joined(door, line, clock, outcome);
             clock.worked();
             written
         }
@@ -170,9 +163,7 @@ pub(crate) fn await_outcomes<D: Door, C: Clock>(
     door: &mut D,
     line: &mut Line,
     clock: &mut C,
-    turns: &mut u64,
 ) -> Result<(), Stop>
-    ensures turns { turns.new ≤ turns.old }
     ensures goes_on { GoesOn D.Door door.old line.old door.new line.new }
     ensures put { put_by line.new ≡ put_by line.old }
     ensures answers { IsTrue C.is_observed → C.answers clock.new ≡ C.answers clock.old }
@@ -182,7 +173,7 @@ pub(crate) fn await_outcomes<D: Door, C: Clock>(
     ensures broken { IsTrue D.is_observed → IfErr result (λ stop. stop ≡ Broken → (D.current door.new).broken ≡ true) }
 {
     while line.waiting > 0 {
-        relay(door, line, clock, turns)?;
+        relay(door, line, clock)?;
     }
     Ok(())
 }
@@ -192,9 +183,8 @@ pub(crate) fn await_room<D: Door, C: Clock>(
     door: &mut D,
     line: &mut Line,
     clock: &mut C,
-    turns: &mut u64,
 ) -> Result<(), Stop>
-    ensures turns { (turns.new ≤ turns.old) × OnOk result (turns.new < turns.old) }
+    ensures turns { OnOk result (line.new.turns < line.old.turns) }
     ensures goes_on { GoesOn D.Door door.old line.old door.new line.new }
     ensures put { put_by line.new ≡ put_by line.old }
     ensures room { OnOk result (HasPlace line.new) }
@@ -203,11 +193,11 @@ pub(crate) fn await_room<D: Door, C: Clock>(
     ensures part { IsTrue D.is_observed → RelayedPart (taken_by line.old) (D.current door.old) (taken_by line.new) (D.current door.new) }
     ensures broken { IsTrue D.is_observed → IfErr result (λ stop. stop ≡ Broken → (D.current door.new).broken ≡ true) }
 {
-    while spend(turns) {
+    while spend(&mut line.turns) {
         if line.has_room() {
             return Ok(());
         }
-        relay(door, line, clock, turns)?;
+        relay(door, line, clock)?;
     }
     Err(Stop::Turns)
 }

@@ -8,7 +8,6 @@ pub loop-packets-preserved : goal.loop-packets-preserved
 loop-packets-preserved g c =
     let put : put_by c.reply_oldest.new.line ≡ put_by c.args.line.now = c.reply_oldest.ensures.put ∙ c.loop-packets.invariant.put in
     record {
-      turns = search rules;
       faults = search rules;
       line = search rules;
       put = put;

@@ -5,7 +5,6 @@ use Rattle.hdl_workers.proofs.packet.reply_all.Given as goal
 
 abbrev pub invariant-loop-packets : goal.invariant-loop-packets
 invariant-loop-packets g l = record {
-  turns : l.turns ≤ l.initial.turns;
   faults : g.P.Packets.fault_count l.initial.packets ≤ g.P.Packets.fault_count l.packets;
   line : SameLine l.initial.line l.line;
   put : put_by l.line ≡ put_by l.initial.line;

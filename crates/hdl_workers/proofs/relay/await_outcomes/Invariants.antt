@@ -1,11 +1,10 @@
-use Rattle.std.proofs.Common.{◌≡◌, ◌≤◌, IsTrue}
+use Rattle.std.proofs.Common.{◌≡◌, IsTrue}
 use Rattle.hdl_workers.specs.Line.{put_by, taken_by, Relayed}
 use Rattle.hdl_workers.specs.Going.{GoesOn}
 use Rattle.hdl_workers.proofs.relay.await_outcomes.Given as goal
 
 abbrev pub invariant-loop-line : goal.invariant-loop-line
 invariant-loop-line g l = record {
-  turns : l.turns ≤ l.initial.turns;
   goes_on : GoesOn g.D.Door l.initial.door l.initial.line l.door l.line;
   put : put_by l.line ≡ put_by l.initial.line;
   answers : IsTrue g.C.Clock.is_observed → g.C.Clock.answers l.clock ≡ g.C.Clock.answers l.initial.clock;
@@ -13,4 +12,4 @@ invariant-loop-line g l = record {
 }
 
 abbrev pub decreases-loop-line : goal.decreases-loop-line
-decreases-loop-line g l = l.turns
+decreases-loop-line g l = l.line.turns

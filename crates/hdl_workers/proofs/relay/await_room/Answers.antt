@@ -11,7 +11,6 @@ returns-in_err-relay-clause-part g c = λ t.
 
 pub loop-line-preserved : goal.loop-line-preserved
 loop-line-preserved g c = record {
-  turns = search rules;
   goes_on = search rules;
   put = search rules;
   answers = search rules;

@@ -10,7 +10,6 @@ returns-in_err-await_outcomes-clause-cut g c = λ t.
 
 pub loop-cutter-init : goal.loop-cutter-init
 loop-cutter-init g c = record {
-  turns = search rules;
   goes_on = search rules;
   sound = search rules;
   moments = λ t. moments_still _ _ _ _ (c.await_outcomes.ensures.answers t) c.await_outcomes.ensures.put;
@@ -48,7 +47,6 @@ returns-then-faulty-clause-cut g c = λ t. all_cut _ (g.D.Door.current c.await_o
 
 pub loop-cutter-preserved : goal.loop-cutter-preserved
 loop-cutter-preserved g c = record {
-  turns = search rules;
   goes_on = search rules;
   sound = search rules;
   moments = λ t. used_both _ _ _ _ _ _ _ (c.loop-cutter.invariant.moments t) (used_both _ _ _ _ _ _ _ (c.submit_frames.ensures.moments t) (moments_still _ _ _ _ (c.await_outcomes-in-loop-cutter.ensures.answers t) c.await_outcomes-in-loop-cutter.ensures.put));

@@ -1,4 +1,4 @@
-use Rattle.std.proofs.Common.{◌≡◌, ◌≤◌, length, IsTrue, None}
+use Rattle.std.proofs.Common.{◌≡◌, length, IsTrue, None}
 use Rattle.hdl_workers.specs.Line.{put_by, taken_by}
 use Rattle.hdl_workers.specs.Sign.{MomentsUsed, NoncesUsed}
 use Rattle.hdl_workers.specs.Talk.{Waiting, Underway}
@@ -7,7 +7,6 @@ use Rattle.hdl_workers.proofs.stream.converse.Given as goal
 
 abbrev pub invariant-loop-cutter : goal.invariant-loop-cutter
 invariant-loop-cutter g l = record {
-  turns : l.turns ≤ l.fn.turns;
   goes_on : GoesOn g.D.Door l.fn.door l.fn.line l.door l.line;
   sound : l.cutter.fault ≡ None;
   moments : IsTrue g.C.Clock.is_observed → MomentsUsed (g.C.Clock.answers l.fn.clock) (put_by l.fn.line) (g.C.Clock.answers l.clock) (put_by l.line);
@@ -17,4 +16,4 @@ invariant-loop-cutter g l = record {
 }
 
 abbrev pub decreases-loop-cutter : goal.decreases-loop-cutter
-decreases-loop-cutter g l = l.turns
+decreases-loop-cutter g l = l.line.turns

@@ -1,13 +1,12 @@
-use Rattle.std.proofs.Common.{◌≡◌, ◌≤◌, IsTrue, None}
+use Rattle.std.proofs.Common.{◌≡◌, IsTrue, None}
 use Rattle.hdl_workers.specs.Line.{put_by, taken_by}
 use Rattle.hdl_workers.specs.Sign.{MomentsUsed, NoncesUsed}
 use Rattle.hdl_workers.specs.Talk.{FramesSoFar, Underway}
 use Rattle.hdl_workers.specs.Going.{GoesOn}
 use Rattle.hdl_workers.proofs.stream.submit_frames.Given as goal
 
-abbrev pub invariant-loop-turns : goal.invariant-loop-turns
-invariant-loop-turns g l = record {
-  turns : l.turns ≤ l.initial.turns;
+abbrev pub invariant-loop-line : goal.invariant-loop-line
+invariant-loop-line g l = record {
   goes_on : GoesOn g.D.Door l.initial.door l.initial.line l.door l.line;
   sound : l.cutter.fault ≡ None;
   moments : IsTrue g.C.Clock.is_observed → MomentsUsed (g.C.Clock.answers l.initial.clock) (put_by l.initial.line) (g.C.Clock.answers l.clock) (put_by l.line);
@@ -15,5 +14,5 @@ invariant-loop-turns g l = record {
   talk : IsTrue g.D.Door.is_observed → Underway (FramesSoFar l.cutter.rest) (g.D.Door.ended l.door) (g.D.Door.current l.door) (put_by l.line) (taken_by l.line);
 }
 
-abbrev pub decreases-loop-turns : goal.decreases-loop-turns
-decreases-loop-turns g l = l.turns
+abbrev pub decreases-loop-line : goal.decreases-loop-line
+decreases-loop-line g l = l.line.turns
