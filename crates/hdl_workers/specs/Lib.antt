@@ -10,3 +10,4 @@ pub mod Memory
 pub mod MemoryPackets
 pub mod Ends
 pub mod Going
+pub mod Replying

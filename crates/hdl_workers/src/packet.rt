@@ -9,6 +9,7 @@ ghost use Rattle.hdl_workers.specs.Door.{Counts, Gives};
 ghost use Rattle.hdl_workers.specs.Joined.{EndsLane};
 ghost use Rattle.hdl_workers.specs.Line.{put_by, taken_by, SameLine};
 ghost use Rattle.hdl_workers.specs.Sign.{framed, moments_of, nonces_of, MomentsUsed, NoncesUsed, PutOne, WithEnd};
+ghost use Rattle.hdl_workers.specs.Replying.{OnlyReplies};
 ghost use Rattle.hdl_workers.specs.Mail.{to_peer, SendsReply, BeginsReply, Sends, Traded, Trades, TakesIn, MayTakeIn, Replies, MayReply};
 
 use crate::line::Line;
@@ -187,11 +188,8 @@ fn reply_oldest<P: Packets, C: Clock>(
 ) -> bool
     requires some { 0 < length peers.old.items }
     ensures fewer { length peers.new.items < length peers.old.items }
-    ensures faults { P.fault_count packets.old ≤ P.fault_count packets.new }
-    ensures line { SameLine line.old line.new }
-    ensures put { put_by line.new ≡ put_by line.old }
+    ensures only_replies { OnlyReplies P.Packets packets.old line.old packets.new line.new }
     ensures answers { IsTrue C.is_observed → C.answers clock.new ≡ C.answers clock.old }
-    ensures received { IsTrue P.is_observed → P.received packets.new ≡ P.received packets.old }
     ensures replied { IsTrue P.is_observed → IsTrue result → Replies peers.old.items (put_by line.new)
         (P.sent packets.old) (P.fault_count packets.old) (taken_by line.old) peers.new.items (P.sent packets.new) (P.fault_count packets.new) (taken_by line.new) }
     ensures cut { IsTrue P.is_observed → IsFalse result → MayReply peers.old.items (put_by line.new)
@@ -215,11 +213,8 @@ fn reply_all<P: Packets, C: Clock>(
     peers: &mut ArrayVec<u16, UNDER_WAY_MAX>,
     clock: &mut C,
 ) -> bool
-    ensures faults { P.fault_count packets.old ≤ P.fault_count packets.new }
-    ensures line { SameLine line.old line.new }
-    ensures put { put_by line.new ≡ put_by line.old }
+    ensures only_replies { OnlyReplies P.Packets packets.old line.old packets.new line.new }
     ensures answers { IsTrue C.is_observed → C.answers clock.new ≡ C.answers clock.old }
-    ensures received { IsTrue P.is_observed → P.received packets.new ≡ P.received packets.old }
     ensures replied { IsTrue P.is_observed → IsTrue result → Replies peers.old.items (put_by line.new)
         (P.sent packets.old) (P.fault_count packets.old) (taken_by line.old) [] (P.sent packets.new) (P.fault_count packets.new) (taken_by line.new) }
     ensures cut { IsTrue P.is_observed → IsFalse result → MayReply peers.old.items (put_by line.new)
@@ -261,11 +256,8 @@ fn go_on<P: Packets, C: Clock>(
     peers: &mut ArrayVec<u16, UNDER_WAY_MAX>,
     clock: &mut C,
 ) -> bool
-    ensures faults { P.fault_count packets.old ≤ P.fault_count packets.new }
-    ensures line { SameLine line.old line.new }
-    ensures put { put_by line.new ≡ put_by line.old }
+    ensures only_replies { OnlyReplies P.Packets packets.old line.old packets.new line.new }
     ensures answers { IsTrue C.is_observed → C.answers clock.new ≡ C.answers clock.old }
-    ensures received { IsTrue P.is_observed → P.received packets.new ≡ P.received packets.old }
     ensures replied { IsTrue P.is_observed → IsTrue result → Replies peers.old.items (put_by line.new)
         (P.sent packets.old) (P.fault_count packets.old) (taken_by line.old) peers.new.items (P.sent packets.new) (P.fault_count packets.new) (taken_by line.new) }
     ensures cut { IsTrue P.is_observed → IsFalse result → MayReply peers.old.items (put_by line.new)

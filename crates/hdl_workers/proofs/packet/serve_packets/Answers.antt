@@ -34,8 +34,8 @@ returns-then-not-begin-clause-trades g c = λ t. rw ((c.requires.first t).0, (c.
 pub returns-then-reply_all-clause-whole : goal.returns-then-reply_all-clause-whole
 returns-then-reply_all-clause-whole g c = λ t _.
     let before = trading_later _ _ (g.P.Packets.received c.reply_all.new.packets) _ (g.P.Packets.sent c.receive_next.new.packets) _ _ (g.P.Packets.fault_count c.receive_next.new.packets) _ _ (c.loop-buffer.invariant.trading t)
-    (c.reply_all.ensures.received t ∙ c.in-Err.ensures.received t) (c.receive_next.ensures.sent t) (later_by _ _ _ refl c.in-Err.ensures.faults) in
-    traded_of _ _ _ _ _ _ (c.reply_all.ensures.replied t c.if-reply_all.true _ _ (rw c.reply_all.ensures.put before))
+    (c.reply_all.ensures.only_replies.received t ∙ c.in-Err.ensures.received t) (c.receive_next.ensures.sent t) (later_by _ _ _ refl c.in-Err.ensures.faults) in
+    traded_of _ _ _ _ _ _ (c.reply_all.ensures.replied t c.if-reply_all.true _ _ (rw c.reply_all.ensures.only_replies.put before))
 
 pub returns-then-reply_all-clause-trades : goal.returns-then-reply_all-clause-trades
 returns-then-reply_all-clause-trades g c = λ t. most_of [] _ _ _ _ _ _ (trading_of _ _ _ _ _ _ (returns-then-reply_all-clause-whole g c t refl))
@@ -43,8 +43,8 @@ returns-then-reply_all-clause-trades g c = λ t. most_of [] _ _ _ _ _ _ (trading
 pub returns-in-Err-clause-trades : goal.returns-in-Err-clause-trades
 returns-in-Err-clause-trades g c = λ t.
     let before = trading_later _ _ (g.P.Packets.received c.reply_all.new.packets) _ (g.P.Packets.sent c.receive_next.new.packets) _ _ (g.P.Packets.fault_count c.receive_next.new.packets) _ _ (c.loop-buffer.invariant.trading t)
-    (c.reply_all.ensures.received t ∙ c.in-Err.ensures.received t) (c.receive_next.ensures.sent t) (later_by _ _ _ refl c.in-Err.ensures.faults) in
-    inr (c.reply_all.ensures.cut t c.if-reply_all.false _ _ (rw c.reply_all.ensures.put before))
+    (c.reply_all.ensures.only_replies.received t ∙ c.in-Err.ensures.received t) (c.receive_next.ensures.sent t) (later_by _ _ _ refl c.in-Err.ensures.faults) in
+    inr (c.reply_all.ensures.cut t c.if-reply_all.false _ _ (rw c.reply_all.ensures.only_replies.put before))
 
 pub returns-then-not-take_in-clause-moments : goal.returns-then-not-take_in-clause-moments
 returns-then-not-take_in-clause-moments g c = λ t. used_both _ _ _ _ _ _ _ (c.loop-buffer.invariant.moments t) (c.take_in.ensures.moments t)
