@@ -9,3 +9,5 @@ pub mod Mail
 pub mod Memory
 pub mod MemoryPackets
 pub mod Ends
+pub mod Going
+pub mod Replying

@@ -1,5 +1,5 @@
 -- Words on a worker's side of its lane.
-use Rattle.std.specs.Prelude.{◌≡◌, ◌<◌, ◌^◌, ◌-◌, ℕ, List, ◌++◌}
+use Rattle.std.specs.Prelude.{◌≡◌, ◌≤◌, ◌<◌, ◌^◌, ◌-◌, ℕ, List, ◌++◌}
 use Rattle.std.specs.List.{flat_map}
 use mathlib.Core.List.{IsPrefix}
 use Rattle.hdl_events.specs.declared.Outcome.{Outcome}
@@ -20,8 +20,9 @@ taken_by line = taken_from line.outcomes
 abbrev pub HasPlace : Line → Type 0
 HasPlace line = (0 < known_room line.inlet) × (line.waiting < 2 ^ 64 - 1)
 
+-- the lane's ends are the same, and no turn came back
 abbrev pub SameLine : Line → Line → Type 0
-SameLine a b = SameInlet a.inlet b.inlet × SameOutlet a.outcomes b.outcomes
+SameLine a b = SameInlet a.inlet b.inlet × SameOutlet a.outcomes b.outcomes × (b.turns ≤ a.turns)
 
 -- more outcomes were taken, and all their octets were written
 abbrev pub Relayed : List Outcome → Connection → List Outcome → Connection → Type 0

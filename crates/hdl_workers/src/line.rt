@@ -1,4 +1,4 @@
-//! A worker's side of its lane: events go in, and each has one outcome.
+//! A worker's side of its lane: events go in, and each has one outcome. The worker's turns and its allocator go with it.
 
 ghost use Rattle.std.specs.Prelude.{◌≡◌, ◌+◌, length};
 ghost use Rattle.hdl_lanes.specs.Lane.{put_into, taken_from};
@@ -6,6 +6,7 @@ ghost use Rattle.hdl_lanes.specs.Lane.{put_into, taken_from};
 use crate::Item;
 use hdl_events::{Happening, Outcome};
 use hdl_lanes::{Inlet, Outlet};
+use std::alloc::Global;
 
 #[derive(Drop)]
 pub(crate) struct Line {
@@ -13,6 +14,10 @@ pub(crate) struct Line {
     pub(crate) outcomes: Outlet<Outcome>,
     /// How many events have no outcome yet.
     pub(crate) waiting: u64,
+    /// How many turns are left.
+    pub(crate) turns: u64,
+    /// Where copies of frames are made.
+    pub(crate) alloc: Global,
     ghost balanced: { length (taken_from outcomes) + waiting ≡ length (put_into inlet) },
 }
 

@@ -9,6 +9,7 @@ ghost use Rattle.hdl_workers.specs.Door.{Counts, Gives};
 ghost use Rattle.hdl_workers.specs.Joined.{EndsLane};
 ghost use Rattle.hdl_workers.specs.Line.{put_by, taken_by, SameLine};
 ghost use Rattle.hdl_workers.specs.Sign.{framed, moments_of, nonces_of, MomentsUsed, NoncesUsed, PutOne, WithEnd};
+ghost use Rattle.hdl_workers.specs.Replying.{OnlyReplies};
 ghost use Rattle.hdl_workers.specs.Mail.{to_peer, SendsReply, BeginsReply, Sends, Traded, Trades, TakesIn, MayTakeIn, Replies, MayReply};
 
 use crate::line::Line;
@@ -83,11 +84,9 @@ fn put_frame<C: Clock, N: Nonces>(
     line: &mut Line,
     clock: &mut C,
     nonces: &mut N,
-    turns: &mut u64,
     peer: u16,
     bytes: Octets,
 ) -> bool
-    ensures turns { turns.new ≤ turns.old }
     ensures line { SameLine line.old line.new }
     ensures taken { taken_by line.new ≡ taken_by line.old }
     ensures put { IsTrue result → PutOne (framed peer bytes) (put_by line.old) (put_by line.new) }
@@ -95,7 +94,7 @@ fn put_frame<C: Clock, N: Nonces>(
     ensures moments { IsTrue C.is_observed → MomentsUsed (C.answers clock.old) (put_by line.old) (C.answers clock.new) (put_by line.new) }
     ensures nonces { IsTrue N.is_observed → NoncesUsed (N.answers nonces.old) (put_by line.old) (N.answers nonces.new) (put_by line.new) }
 {
-    while spend(turns) {
+    while spend(&mut line.turns) {
         if line.has_room() {
             let moment = clock.now();
             let nonce = nonces.next();
@@ -114,14 +113,13 @@ fn put_frame<C: Clock, N: Nonces>(
 }
 
 /// Takes the next outcome.
-fn await_outcome<C: Clock>(line: &mut Line, clock: &mut C, turns: &mut u64) -> Option<Outcome>
-    ensures turns { turns.new ≤ turns.old }
+fn await_outcome<C: Clock>(line: &mut Line, clock: &mut C) -> Option<Outcome>
     ensures line { SameLine line.old line.new }
     ensures put { put_by line.new ≡ put_by line.old }
     ensures taken { MatchOption result (taken_by line.new ≡ taken_by line.old) (λ outcome. taken_by line.new ≡ taken_by line.old ++ outcome ∷ []) }
     ensures answers { IsTrue C.is_observed → C.answers clock.new ≡ C.answers clock.old }
 {
-    while spend(turns) {
+    while spend(&mut line.turns) {
         if let Some(outcome) = line.next() {
             clock.worked();
             return Some(outcome);
@@ -133,15 +131,12 @@ fn await_outcome<C: Clock>(line: &mut Line, clock: &mut C, turns: &mut u64) -> O
 
 /// Puts the frame that came last. Whether the turns sufficed.
 fn submit<C: Clock, N: Nonces>(
-    alloc: Global,
     line: &mut Line,
     clock: &mut C,
     nonces: &mut N,
-    turns: &mut u64,
     peer: u16,
     octets: &[u8],
 ) -> bool
-    ensures turns { turns.new ≤ turns.old }
     ensures line { SameLine line.old line.new }
     ensures taken { taken_by line.new ≡ taken_by line.old }
     ensures put { IsTrue result → PutOne (framed peer octets.now) (put_by line.old) (put_by line.new) }
@@ -149,25 +144,22 @@ fn submit<C: Clock, N: Nonces>(
     ensures moments { IsTrue C.is_observed → MomentsUsed (C.answers clock.old) (put_by line.old) (C.answers clock.new) (put_by line.new) }
     ensures nonces { IsTrue N.is_observed → NoncesUsed (N.answers nonces.old) (put_by line.old) (N.answers nonces.new) (put_by line.new) }
 {
-    match copy(alloc, octets, turns) {
+    match copy(line.alloc, octets, &mut line.turns) {
         Err(_) => false,
-        Ok(bytes) => put_frame(line, clock, nonces, turns, peer, bytes),
+        Ok(bytes) => put_frame(line, clock, nonces, peer, bytes),
     }
 }
 
 /// Puts the datagram that came last where it is a frame, whose peer then waits for a reply behind the others. Whether the turns sufficed.
 fn take_in<C: Clock, N: Nonces>(
-    alloc: Global,
     line: &mut Line,
     peers: &mut ArrayVec<u16, UNDER_WAY_MAX>,
     clock: &mut C,
     nonces: &mut N,
-    turns: &mut u64,
     peer: u16,
     octets: &[u8],
 ) -> bool
     requires room { length peers.old.items < UNDER_WAY_MAX }
-    ensures turns { turns.new ≤ turns.old }
     ensures line { SameLine line.old line.new }
     ensures taken { taken_by line.new ≡ taken_by line.old }
     ensures moments { IsTrue C.is_observed → MomentsUsed (C.answers clock.old) (put_by line.old) (C.answers clock.new) (put_by line.new) }
@@ -178,7 +170,7 @@ fn take_in<C: Clock, N: Nonces>(
     match one_datagram(octets) {
         Err(_) => true,
         Ok(_) => {
-            if !submit(alloc, line, clock, nonces, turns, peer, octets) {
+            if !submit(line, clock, nonces, peer, octets) {
                 return false;
             }
             peers.push(peer);
@@ -193,26 +185,21 @@ fn reply_oldest<P: Packets, C: Clock>(
     line: &mut Line,
     peers: &mut ArrayVec<u16, UNDER_WAY_MAX>,
     clock: &mut C,
-    turns: &mut u64,
 ) -> bool
     requires some { 0 < length peers.old.items }
-    ensures turns { turns.new ≤ turns.old }
     ensures fewer { length peers.new.items < length peers.old.items }
-    ensures faults { P.fault_count packets.old ≤ P.fault_count packets.new }
-    ensures line { SameLine line.old line.new }
-    ensures put { put_by line.new ≡ put_by line.old }
+    ensures only_replies { OnlyReplies P.Packets packets.old line.old packets.new line.new }
     ensures answers { IsTrue C.is_observed → C.answers clock.new ≡ C.answers clock.old }
-    ensures received { IsTrue P.is_observed → P.received packets.new ≡ P.received packets.old }
     ensures replied { IsTrue P.is_observed → IsTrue result → Replies peers.old.items (put_by line.new)
         (P.sent packets.old) (P.fault_count packets.old) (taken_by line.old) peers.new.items (P.sent packets.new) (P.fault_count packets.new) (taken_by line.new) }
     ensures cut { IsTrue P.is_observed → IsFalse result → MayReply peers.old.items (put_by line.new)
         (P.sent packets.old) (P.fault_count packets.old) (taken_by line.old) (P.sent packets.new) (P.fault_count packets.new) (taken_by line.new) }
 {
     let peer = peers.remove(0);
-    match await_outcome(line, clock, turns) {
+    match await_outcome(line, clock) {
         None => false,
         Some(outcome) => {
-            let sufficed = send_reply(packets, peer, octets_of(&outcome), turns);
+            let sufficed = send_reply(packets, peer, octets_of(&outcome), &mut line.turns);
             packets.replied();
             sufficed
         }
@@ -225,21 +212,16 @@ fn reply_all<P: Packets, C: Clock>(
     line: &mut Line,
     peers: &mut ArrayVec<u16, UNDER_WAY_MAX>,
     clock: &mut C,
-    turns: &mut u64,
 ) -> bool
-    ensures turns { turns.new ≤ turns.old }
-    ensures faults { P.fault_count packets.old ≤ P.fault_count packets.new }
-    ensures line { SameLine line.old line.new }
-    ensures put { put_by line.new ≡ put_by line.old }
+    ensures only_replies { OnlyReplies P.Packets packets.old line.old packets.new line.new }
     ensures answers { IsTrue C.is_observed → C.answers clock.new ≡ C.answers clock.old }
-    ensures received { IsTrue P.is_observed → P.received packets.new ≡ P.received packets.old }
     ensures replied { IsTrue P.is_observed → IsTrue result → Replies peers.old.items (put_by line.new)
         (P.sent packets.old) (P.fault_count packets.old) (taken_by line.old) [] (P.sent packets.new) (P.fault_count packets.new) (taken_by line.new) }
     ensures cut { IsTrue P.is_observed → IsFalse result → MayReply peers.old.items (put_by line.new)
         (P.sent packets.old) (P.fault_count packets.old) (taken_by line.old) (P.sent packets.new) (P.fault_count packets.new) (taken_by line.new) }
 {
     while !peers.is_empty() {
-        if !reply_oldest(packets, line, peers, clock, turns) {
+        if !reply_oldest(packets, line, peers, clock) {
             return false;
         }
     }
@@ -273,14 +255,9 @@ fn go_on<P: Packets, C: Clock>(
     line: &mut Line,
     peers: &mut ArrayVec<u16, UNDER_WAY_MAX>,
     clock: &mut C,
-    turns: &mut u64,
 ) -> bool
-    ensures turns { turns.new ≤ turns.old }
-    ensures faults { P.fault_count packets.old ≤ P.fault_count packets.new }
-    ensures line { SameLine line.old line.new }
-    ensures put { put_by line.new ≡ put_by line.old }
+    ensures only_replies { OnlyReplies P.Packets packets.old line.old packets.new line.new }
     ensures answers { IsTrue C.is_observed → C.answers clock.new ≡ C.answers clock.old }
-    ensures received { IsTrue P.is_observed → P.received packets.new ≡ P.received packets.old }
     ensures replied { IsTrue P.is_observed → IsTrue result → Replies peers.old.items (put_by line.new)
         (P.sent packets.old) (P.fault_count packets.old) (taken_by line.old) peers.new.items (P.sent packets.new) (P.fault_count packets.new) (taken_by line.new) }
     ensures cut { IsTrue P.is_observed → IsFalse result → MayReply peers.old.items (put_by line.new)
@@ -290,23 +267,22 @@ fn go_on<P: Packets, C: Clock>(
         clock.pause();
         return true;
     }
-    reply_oldest(packets, line, peers, clock, turns)
+    reply_oldest(packets, line, peers, clock)
 }
 
 /// Puts Open and takes its outcome. Whether the turns sufficed.
-fn begin<C: Clock>(line: &mut Line, clock: &mut C, turns: &mut u64) -> bool
+fn begin<C: Clock>(line: &mut Line, clock: &mut C) -> bool
     requires empty { (put_by line.old ≡ []) × (taken_by line.old ≡ []) }
-    ensures turns { turns.new ≤ turns.old }
     ensures line { SameLine line.old line.new }
     ensures traded { IsTrue result → (n : ℕ) → Traded [] [] n n (put_by line.new) (taken_by line.new) }
     ensures cut { IsFalse result → (n : ℕ) → Trades [] [] n n (put_by line.new) (taken_by line.new) }
     ensures moments { IsTrue C.is_observed → MomentsUsed (C.answers clock.old) (put_by line.old) (C.answers clock.new) (put_by line.new) }
     ensures nonces { nonces_of (put_by line.new) ≡ nonces_of (put_by line.old) }
 {
-    if !open(line, clock, turns) {
+    if !open(line, clock) {
         return false;
     }
-    match await_outcome(line, clock, turns) {
+    match await_outcome(line, clock) {
         Some(outcome) => {
             drop(outcome);
             true
@@ -317,12 +293,10 @@ fn begin<C: Clock>(line: &mut Line, clock: &mut C, turns: &mut u64) -> bool
 
 /// One datagram after the other, of which some are under way.
 fn serve_packets<P: Packets, C: Clock, N: Nonces>(
-    alloc: Global,
     packets: &mut P,
     line: &mut Line,
     clock: &mut C,
     nonces: &mut N,
-    turns: &mut u64,
 ) -> EndReason
     requires empty { (put_by line.old ≡ []) × (taken_by line.old ≡ []) }
     requires first { IsTrue P.is_observed → (P.received packets.old ≡ []) × (P.sent packets.old ≡ []) }
@@ -333,27 +307,27 @@ fn serve_packets<P: Packets, C: Clock, N: Nonces>(
     ensures whole { IsTrue P.is_observed → result ≡ Device → Traded (P.received packets.new) (P.sent packets.new) (P.fault_count packets.old) (P.fault_count packets.new) (put_by line.new) (taken_by line.new) }
     ensures trades { IsTrue P.is_observed → Trades (P.received packets.new) (P.sent packets.new) (P.fault_count packets.old) (P.fault_count packets.new) (put_by line.new) (taken_by line.new) }
 {
-    if !begin(line, clock, turns) {
+    if !begin(line, clock) {
         return EndReason::Turns;
     }
     let mut buffer = [0u8; RECEIVED_MAX];
     let mut peers = ArrayVec::new();
-    while spend(turns) {
+    while spend(&mut line.turns) {
         match receive_next(packets, &peers, &mut buffer) {
             Err(_) => {
-                if reply_all(packets, line, &mut peers, clock, turns) {
+                if reply_all(packets, line, &mut peers, clock) {
                     return EndReason::Device;
                 }
                 return EndReason::Turns;
             }
             Ok(None) => {
-                if !go_on(packets, line, &mut peers, clock, turns) {
+                if !go_on(packets, line, &mut peers, clock) {
                     return EndReason::Turns;
                 }
             }
             Ok(Some((peer, length))) => {
                 let octets = &buffer[..length];
-                if !take_in(alloc, line, &mut peers, clock, nonces, turns, peer, octets) {
+                if !take_in(line, &mut peers, clock, nonces, peer, octets) {
                     return EndReason::Turns;
                 }
             }
@@ -389,17 +363,20 @@ pub fn packet_worker<P: Packets, C: Clock, N: Nonces>(
     ensures trades { IsTrue P.is_observed → (events : List Item) × WithEnd events (all_put result.ended)
         × Trades (P.received packets.new) (P.sent packets.new) (P.fault_count packets.old) (P.fault_count packets.new) events (taken_from result.outlet) }
 {
-    let mut turns = turns;
     let mut line = Line {
         inlet,
         outcomes,
         waiting: 0,
+        turns,
+        alloc,
     };
-    let reason = serve_packets(alloc, packets, &mut line, clock, nonces, &mut turns);
+    let reason = serve_packets(packets, &mut line, clock, nonces);
     let Line {
         mut inlet,
         outcomes,
         waiting: _,
+        mut turns,
+        alloc: _,
     } = line;
     if reason == EndReason::Device {
         put_end(&mut inlet, clock, &mut turns);

@@ -6,6 +6,7 @@ ghost use Rattle.hdl_events.specs.declared.Outcome.{Outcome};
 ghost use Rattle.hdl_workers.specs.declared.worker.Stop.TheVariants.{Broken};
 ghost use Rattle.hdl_workers.specs.Octets.{octets_of};
 ghost use Rattle.hdl_workers.specs.Door.{say};
+ghost use Rattle.hdl_workers.specs.Going.{GoesOn, StaysOpen};
 ghost use Rattle.hdl_workers.specs.Line.{put_by, taken_by, HasPlace, SameLine, Joins, Relayed, RelayedPart};
 
 use crate::line::Line;
@@ -20,9 +21,7 @@ const JOINED: usize = 8192;
 /// Writes the octets to the open connection.
 fn write_all<D: Door>(door: &mut D, octets: &[u8], turns: &mut u64) -> Result<(), Stop>
     ensures turns { turns.new ≤ turns.old }
-    ensures faults { D.fault_count door.old ≤ D.fault_count door.new }
-    ensures still_open { D.is_open door.new ≡ D.is_open door.old }
-    ensures ended { IsTrue D.is_observed → D.ended door.new ≡ D.ended door.old }
+    ensures connection { StaysOpen D.Door door.old door.new }
     ensures whole { IsTrue D.is_observed → OnOk result (D.current door.new ≡ say octets.now (D.current door.old)) }
     ensures part { IsTrue D.is_observed → IsPrefix (D.current door.new).written ((D.current door.old).written ++ octets.now) × ((D.current door.new).read ≡ (D.current door.old).read) }
     ensures broken { IsTrue D.is_observed → IfErr result (λ stop. stop ≡ Broken → (D.current door.new).broken ≡ true) }
@@ -54,9 +53,7 @@ pub(crate) fn octets_of(outcome: &Outcome) -> &[u8]
 /// Writes the octets of an outcome to the open connection.
 fn write_outcome<D: Door>(door: &mut D, outcome: &Outcome, turns: &mut u64) -> Result<(), Stop>
     ensures turns { turns.new ≤ turns.old }
-    ensures faults { D.fault_count door.old ≤ D.fault_count door.new }
-    ensures still_open { D.is_open door.new ≡ D.is_open door.old }
-    ensures ended { IsTrue D.is_observed → D.ended door.new ≡ D.ended door.old }
+    ensures connection { StaysOpen D.Door door.old door.new }
     ensures whole { IsTrue D.is_observed → OnOk result (D.current door.new ≡ say (octets_of outcome.now) (D.current door.old)) }
     ensures part { IsTrue D.is_observed → IsPrefix (D.current door.new).written ((D.current door.old).written ++ octets_of outcome.now) × ((D.current door.new).read ≡ (D.current door.old).read) }
     ensures broken { IsTrue D.is_observed → IfErr result (λ stop. stop ≡ Broken → (D.current door.new).broken ≡ true) }
@@ -112,27 +109,22 @@ fn write_joined<D: Door, C: Clock>(
     line: &mut Line,
     clock: &mut C,
     first: Outcome,
-    turns: &mut u64,
 ) -> Result<(), Stop>
-    ensures turns { turns.new ≤ turns.old }
-    ensures faults { D.fault_count door.old ≤ D.fault_count door.new }
-    ensures still_open { D.is_open door.new ≡ D.is_open door.old }
-    ensures line { SameLine line.old line.new }
+    ensures goes_on { GoesOn D.Door door.old line.old door.new line.new }
     ensures put { put_by line.new ≡ put_by line.old }
     ensures answers { IsTrue C.is_observed → C.answers clock.new ≡ C.answers clock.old }
-    ensures ended { IsTrue D.is_observed → D.ended door.new ≡ D.ended door.old }
     ensures whole { IsTrue D.is_observed → OnOk result ((t : List Outcome) → taken_by line.old ≡ t ++ first ∷ [] → Relayed t (D.current door.old) (taken_by line.new) (D.current door.new)) }
     ensures part { IsTrue D.is_observed → (t : List Outcome) → taken_by line.old ≡ t ++ first ∷ [] → RelayedPart t (D.current door.old) (taken_by line.new) (D.current door.new) }
     ensures broken { IsTrue D.is_observed → IfErr result (λ stop. stop ≡ Broken → (D.current door.new).broken ≡ true) }
 {
     let mut joined = ArrayVec::new();
     match joined.try_extend_from_slice(octets_of(&first)) {
-        Err(_) => write_outcome(door, &first, turns),
+        Err(_) => write_outcome(door, &first, &mut line.turns),
         Ok(()) => {
             let last = join(line, clock, &mut joined);
-            write_all(door, joined.as_slice(), turns)?;
+            write_all(door, joined.as_slice(), &mut line.turns)?;
             match last {
-                Some(outcome) => write_outcome(door, &outcome, turns),
+                Some(outcome) => write_outcome(door, &outcome, &mut line.turns),
                 None => Ok(()),
             }
         }
@@ -140,30 +132,22 @@ fn write_joined<D: Door, C: Clock>(
 }
 
 /// One try to take an outcome, which is then written, and with it those that are there.
-fn relay<D: Door, C: Clock>(
-    door: &mut D,
-    line: &mut Line,
-    clock: &mut C,
-    turns: &mut u64,
-) -> Result<(), Stop>
-    ensures turns { (turns.new ≤ turns.old) × OnOk result (turns.new < turns.old) }
-    ensures faults { D.fault_count door.old ≤ D.fault_count door.new }
-    ensures still_open { D.is_open door.new ≡ D.is_open door.old }
-    ensures line { SameLine line.old line.new }
+fn relay<D: Door, C: Clock>(door: &mut D, line: &mut Line, clock: &mut C) -> Result<(), Stop>
+    ensures turns { OnOk result (line.new.turns < line.old.turns) }
+    ensures goes_on { GoesOn D.Door door.old line.old door.new line.new }
     ensures put { put_by line.new ≡ put_by line.old }
     ensures answers { IsTrue C.is_observed → C.answers clock.new ≡ C.answers clock.old }
-    ensures ended { IsTrue D.is_observed → D.ended door.new ≡ D.ended door.old }
     ensures whole { IsTrue D.is_observed → OnOk result (Relayed (taken_by line.old) (D.current door.old) (taken_by line.new) (D.current door.new)) }
     ensures part { IsTrue D.is_observed → RelayedPart (taken_by line.old) (D.current door.old) (taken_by line.new) (D.current door.new) }
     ensures broken { IsTrue D.is_observed → IfErr result (λ stop. stop ≡ Broken → (D.current door.new).broken ≡ true) }
 {
-    if !spend(turns) {
+    if !spend(&mut line.turns) {
         return Err(Stop::Turns);
     }
     match line.next() {
         Some(outcome) => {
             clock.worked();
-            let written = write_joined(door, line, clock, outcome, turns);
+            let written = write_joined(door, line, clock, outcome);
             clock.worked();
             written
         }
@@ -179,22 +163,17 @@ pub(crate) fn await_outcomes<D: Door, C: Clock>(
     door: &mut D,
     line: &mut Line,
     clock: &mut C,
-    turns: &mut u64,
 ) -> Result<(), Stop>
-    ensures turns { turns.new ≤ turns.old }
-    ensures faults { D.fault_count door.old ≤ D.fault_count door.new }
-    ensures still_open { D.is_open door.new ≡ D.is_open door.old }
-    ensures line { SameLine line.old line.new }
+    ensures goes_on { GoesOn D.Door door.old line.old door.new line.new }
     ensures put { put_by line.new ≡ put_by line.old }
     ensures answers { IsTrue C.is_observed → C.answers clock.new ≡ C.answers clock.old }
-    ensures ended { IsTrue D.is_observed → D.ended door.new ≡ D.ended door.old }
     ensures settled { OnOk result (length (taken_by line.new) ≡ length (put_by line.new)) }
     ensures whole { IsTrue D.is_observed → OnOk result (Relayed (taken_by line.old) (D.current door.old) (taken_by line.new) (D.current door.new)) }
     ensures part { IsTrue D.is_observed → RelayedPart (taken_by line.old) (D.current door.old) (taken_by line.new) (D.current door.new) }
     ensures broken { IsTrue D.is_observed → IfErr result (λ stop. stop ≡ Broken → (D.current door.new).broken ≡ true) }
 {
     while line.waiting > 0 {
-        relay(door, line, clock, turns)?;
+        relay(door, line, clock)?;
     }
     Ok(())
 }
@@ -204,25 +183,21 @@ pub(crate) fn await_room<D: Door, C: Clock>(
     door: &mut D,
     line: &mut Line,
     clock: &mut C,
-    turns: &mut u64,
 ) -> Result<(), Stop>
-    ensures turns { (turns.new ≤ turns.old) × OnOk result (turns.new < turns.old) }
-    ensures faults { D.fault_count door.old ≤ D.fault_count door.new }
-    ensures still_open { D.is_open door.new ≡ D.is_open door.old }
-    ensures line { SameLine line.old line.new }
+    ensures turns { OnOk result (line.new.turns < line.old.turns) }
+    ensures goes_on { GoesOn D.Door door.old line.old door.new line.new }
     ensures put { put_by line.new ≡ put_by line.old }
     ensures room { OnOk result (HasPlace line.new) }
     ensures answers { IsTrue C.is_observed → C.answers clock.new ≡ C.answers clock.old }
-    ensures ended { IsTrue D.is_observed → D.ended door.new ≡ D.ended door.old }
     ensures whole { IsTrue D.is_observed → OnOk result (Relayed (taken_by line.old) (D.current door.old) (taken_by line.new) (D.current door.new)) }
     ensures part { IsTrue D.is_observed → RelayedPart (taken_by line.old) (D.current door.old) (taken_by line.new) (D.current door.new) }
     ensures broken { IsTrue D.is_observed → IfErr result (λ stop. stop ≡ Broken → (D.current door.new).broken ≡ true) }
 {
-    while spend(turns) {
+    while spend(&mut line.turns) {
         if line.has_room() {
             return Ok(());
         }
-        relay(door, line, clock, turns)?;
+        relay(door, line, clock)?;
     }
     Err(Stop::Turns)
 }

@@ -11,6 +11,7 @@ ghost use Rattle.hdl_events.specs.declared.Happening.TheVariants.{Bad, Close};
 ghost use Rattle.hdl_lanes.specs.Lane.{put_into, taken_from, all_put, SameOutlet};
 ghost use Rattle.hdl_workers.specs.Door.{fresh, hear, Gives};
 ghost use Rattle.hdl_workers.specs.Found.{Finds, fault_found};
+ghost use Rattle.hdl_workers.specs.Going.{GoesOn, StaysOpen};
 ghost use Rattle.hdl_workers.specs.Joined.{EndsLane};
 ghost use Rattle.hdl_workers.specs.Line.{put_by, taken_by, SameLine, Relayed, RelayedPart};
 ghost use Rattle.hdl_workers.specs.Sign.{framed, moments_of, nonces_of, MomentsUsed, NoncesUsed, PutOne, WithEnd};
@@ -89,23 +90,19 @@ fn submit_frame<D: Door, C: Clock, N: Nonces>(
     line: &mut Line,
     clock: &mut C,
     nonces: &mut N,
-    turns: &mut u64,
     bytes: Octets,
 ) -> Result<(), Stop>
-    ensures turns { (turns.new ≤ turns.old) × OnOk result (turns.new < turns.old) }
-    ensures faults { D.fault_count door.old ≤ D.fault_count door.new }
-    ensures still_open { D.is_open door.new ≡ D.is_open door.old }
-    ensures line { SameLine line.old line.new }
+    ensures turns { OnOk result (line.new.turns < line.old.turns) }
+    ensures goes_on { GoesOn D.Door door.old line.old door.new line.new }
     ensures put { OnOk result (PutOne (framed 0 bytes) (put_by line.old) (put_by line.new)) }
     ensures kept { OnErr result (put_by line.new ≡ put_by line.old) }
     ensures moments { IsTrue C.is_observed → MomentsUsed (C.answers clock.old) (put_by line.old) (C.answers clock.new) (put_by line.new) }
     ensures nonces { IsTrue N.is_observed → NoncesUsed (N.answers nonces.old) (put_by line.old) (N.answers nonces.new) (put_by line.new) }
-    ensures ended { IsTrue D.is_observed → D.ended door.new ≡ D.ended door.old }
     ensures whole { IsTrue D.is_observed → OnOk result (Relayed (taken_by line.old) (D.current door.old) (taken_by line.new) (D.current door.new)) }
     ensures part { IsTrue D.is_observed → RelayedPart (taken_by line.old) (D.current door.old) (taken_by line.new) (D.current door.new) }
     ensures broken { IsTrue D.is_observed → IfErr result (λ stop. stop ≡ Broken → (D.current door.new).broken ≡ true) }
 {
-    await_room(door, line, clock, turns)?;
+    await_room(door, line, clock)?;
     let moment = clock.now();
     let nonce = nonces.next();
     line.put(Happening::Frame {
@@ -122,23 +119,19 @@ fn submit_fault<D: Door, C: Clock>(
     door: &mut D,
     line: &mut Line,
     clock: &mut C,
-    turns: &mut u64,
     session: u32,
     request: u32,
 ) -> Result<(), Stop>
-    ensures turns { (turns.new ≤ turns.old) × OnOk result (turns.new < turns.old) }
-    ensures faults { D.fault_count door.old ≤ D.fault_count door.new }
-    ensures still_open { D.is_open door.new ≡ D.is_open door.old }
-    ensures line { SameLine line.old line.new }
+    ensures turns { OnOk result (line.new.turns < line.old.turns) }
+    ensures goes_on { GoesOn D.Door door.old line.old door.new line.new }
     ensures put { OnOk result (put_by line.new ≡ put_by line.old ++ Event (Bad session request) ∷ []) }
     ensures kept { OnErr result (put_by line.new ≡ put_by line.old) }
     ensures answers { IsTrue C.is_observed → C.answers clock.new ≡ C.answers clock.old }
-    ensures ended { IsTrue D.is_observed → D.ended door.new ≡ D.ended door.old }
     ensures whole { IsTrue D.is_observed → OnOk result (Relayed (taken_by line.old) (D.current door.old) (taken_by line.new) (D.current door.new)) }
     ensures part { IsTrue D.is_observed → RelayedPart (taken_by line.old) (D.current door.old) (taken_by line.new) (D.current door.new) }
     ensures broken { IsTrue D.is_observed → IfErr result (λ stop. stop ≡ Broken → (D.current door.new).broken ≡ true) }
 {
-    await_room(door, line, clock, turns)?;
+    await_room(door, line, clock)?;
     line.put(Happening::Bad { session, request });
     Ok(())
 }
@@ -146,35 +139,29 @@ fn submit_fault<D: Door, C: Clock>(
 /// Puts every frame that is there, and the fault behind them. Whether there was a fault.
 #[tactic(auto, using(crate::proofs::Used::used_rules))]
 fn submit_frames<D: Door, C: Clock, N: Nonces>(
-    alloc: Global,
     door: &mut D,
     line: &mut Line,
     clock: &mut C,
     nonces: &mut N,
-    turns: &mut u64,
     cutter: &mut Cutter,
 ) -> Result<bool, Stop>
     requires sound { cutter.old.fault ≡ None }
     requires talk { IsTrue D.is_observed → Underway (FramesSoFar cutter.old.rest) (D.ended door.old) (D.current door.old) (put_by line.old) (taken_by line.old) }
-    ensures turns { turns.new ≤ turns.old }
-    ensures faults { D.fault_count door.old ≤ D.fault_count door.new }
-    ensures still_open { D.is_open door.new ≡ D.is_open door.old }
-    ensures line { SameLine line.old line.new }
+    ensures goes_on { GoesOn D.Door door.old line.old door.new line.new }
     ensures sound { IfOk result (λ faulty. IsFalse faulty → cutter.new.fault ≡ None) }
     ensures moments { IsTrue C.is_observed → MomentsUsed (C.answers clock.old) (put_by line.old) (C.answers clock.new) (put_by line.new) }
     ensures nonces { IsTrue N.is_observed → NoncesUsed (N.answers nonces.old) (put_by line.old) (N.answers nonces.new) (put_by line.new) }
-    ensures ended { IsTrue D.is_observed → D.ended door.new ≡ D.ended door.old }
     ensures waits { IsTrue D.is_observed → IfOk result (λ faulty. IsFalse faulty → Underway (Waiting cutter.new.rest) (D.ended door.new) (D.current door.new) (put_by line.new) (taken_by line.new)) }
     ensures stops { IsTrue D.is_observed → IfOk result (λ faulty. IsTrue faulty → Underway AllFrames (D.ended door.new) (D.current door.new) (put_by line.new) (taken_by line.new)) }
     ensures cut { IsTrue D.is_observed → CutOff SomeFrames (D.ended door.new) (D.current door.new) (put_by line.new) (taken_by line.new) }
     ensures broken { IsTrue D.is_observed → IfErr result (λ stop. stop ≡ Broken → (D.current door.new).broken ≡ true) }
 {
-    while *turns > 0 {
-        match find(alloc, cutter, turns)? {
-            Found::Whole(bytes) => submit_frame(door, line, clock, nonces, turns, bytes)?,
+    while line.turns > 0 {
+        match find(line.alloc, cutter, &mut line.turns)? {
+            Found::Whole(bytes) => submit_frame(door, line, clock, nonces, bytes)?,
             Found::Nothing => return Ok(false),
             Found::Fault { session, request } => {
-                submit_fault(door, line, clock, turns, session, request)?;
+                submit_fault(door, line, clock, session, request)?;
                 return Ok(true);
             }
         }
@@ -191,9 +178,7 @@ fn hear<D: Door>(
 ) -> Result<bool, Stop>
     requires sound { cutter.old.fault ≡ None }
     ensures turns { (turns.new ≤ turns.old) × OnOk result (turns.new < turns.old) }
-    ensures faults { D.fault_count door.old ≤ D.fault_count door.new }
-    ensures still_open { D.is_open door.new ≡ D.is_open door.old }
-    ensures ended { IsTrue D.is_observed → D.ended door.new ≡ D.ended door.old }
+    ensures connection { StaysOpen D.Door door.old door.new }
     ensures sound { OnOk result (cutter.new.fault ≡ None) }
     ensures came { IsTrue D.is_observed → IfOk result (λ came. IsTrue came → (octets : List ℕ) × (D.current door.new ≡ hear octets (D.current door.old)) × (cutter.new ≡ record { rest = cutter.old.rest ++ octets; fault = None })) }
     ensures closed { IsTrue D.is_observed → IfOk result (λ came. IsFalse came → (D.current door.new ≡ D.current door.old) × (cutter.new ≡ cutter.old)) }
@@ -219,36 +204,30 @@ fn hear<D: Door>(
 /// Serves the open connection until its peer closes it, a frame is faulty or a call of the door fails.
 #[tactic(auto, using(crate::proofs::Used::used_rules))]
 fn converse<D: Door, C: Clock, N: Nonces>(
-    alloc: Global,
     door: &mut D,
     line: &mut Line,
     clock: &mut C,
     nonces: &mut N,
-    turns: &mut u64,
     buffer: &mut [u8],
 ) -> Result<(), Stop>
     requires talk { IsTrue D.is_observed → Underway (Waiting []) (D.ended door.old) (D.current door.old) (put_by line.old) (taken_by line.old) }
-    ensures turns { turns.new ≤ turns.old }
-    ensures faults { D.fault_count door.old ≤ D.fault_count door.new }
-    ensures still_open { D.is_open door.new ≡ D.is_open door.old }
-    ensures line { SameLine line.old line.new }
+    ensures goes_on { GoesOn D.Door door.old line.old door.new line.new }
     ensures moments { IsTrue C.is_observed → MomentsUsed (C.answers clock.old) (put_by line.old) (C.answers clock.new) (put_by line.new) }
     ensures nonces { IsTrue N.is_observed → NoncesUsed (N.answers nonces.old) (put_by line.old) (N.answers nonces.new) (put_by line.new) }
-    ensures ended { IsTrue D.is_observed → D.ended door.new ≡ D.ended door.old }
     ensures settled { OnOk result (length (taken_by line.new) ≡ length (put_by line.new)) }
     ensures whole { IsTrue D.is_observed → OnOk result (Underway AllFrames (D.ended door.new) (D.current door.new) (put_by line.new) (taken_by line.new)) }
     ensures cut { IsTrue D.is_observed → CutOff SomeFrames (D.ended door.new) (D.current door.new) (put_by line.new) (taken_by line.new) }
     ensures broken { IsTrue D.is_observed → IfErr result (λ stop. stop ≡ Broken → (D.current door.new).broken ≡ true) }
 {
-    let mut cutter = Cutter::new(alloc);
-    await_outcomes(door, line, clock, turns)?;
-    while hear(door, turns, &mut cutter, buffer)? {
-        let faulty = submit_frames(alloc, door, line, clock, nonces, turns, &mut cutter)?;
+    let mut cutter = Cutter::new(line.alloc);
+    await_outcomes(door, line, clock)?;
+    while hear(door, &mut line.turns, &mut cutter, buffer)? {
+        let faulty = submit_frames(door, line, clock, nonces, &mut cutter)?;
         if faulty {
-            await_outcomes(door, line, clock, turns)?;
+            await_outcomes(door, line, clock)?;
             return Ok(());
         }
-        await_outcomes(door, line, clock, turns)?;
+        await_outcomes(door, line, clock)?;
     }
     Ok(())
 }
@@ -256,26 +235,20 @@ fn converse<D: Door, C: Clock, N: Nonces>(
 /// As `converse`. Whether nothing more is owed to the peer, and not merely the turns were spent.
 #[tactic(auto, using(crate::proofs::Used::used_rules))]
 fn converse_to_end<D: Door, C: Clock, N: Nonces>(
-    alloc: Global,
     door: &mut D,
     line: &mut Line,
     clock: &mut C,
     nonces: &mut N,
-    turns: &mut u64,
     buffer: &mut [u8],
 ) -> bool
     requires talk { IsTrue D.is_observed → Underway (Waiting []) (D.ended door.old) (D.current door.old) (put_by line.old) (taken_by line.old) }
-    ensures turns { turns.new ≤ turns.old }
-    ensures faults { D.fault_count door.old ≤ D.fault_count door.new }
-    ensures still_open { D.is_open door.new ≡ D.is_open door.old }
-    ensures line { SameLine line.old line.new }
+    ensures goes_on { GoesOn D.Door door.old line.old door.new line.new }
     ensures moments { IsTrue C.is_observed → MomentsUsed (C.answers clock.old) (put_by line.old) (C.answers clock.new) (put_by line.new) }
     ensures nonces { IsTrue N.is_observed → NoncesUsed (N.answers nonces.old) (put_by line.old) (N.answers nonces.new) (put_by line.new) }
-    ensures ended { IsTrue D.is_observed → D.ended door.new ≡ D.ended door.old }
     ensures can_close { IsTrue D.is_observed → IsTrue result → CanClose (D.ended door.new) (D.current door.new) (put_by line.new) (taken_by line.new) }
     ensures cut { IsTrue D.is_observed → CutOff SomeFrames (D.ended door.new) (D.current door.new) (put_by line.new) (taken_by line.new) }
 {
-    match converse(alloc, door, line, clock, nonces, turns, buffer) {
+    match converse(door, line, clock, nonces, buffer) {
         Ok(()) => true,
         Err(Stop::Broken) => true,
         Err(Stop::Turns) => false,
@@ -283,15 +256,14 @@ fn converse_to_end<D: Door, C: Clock, N: Nonces>(
 }
 
 /// Puts Close. Outcomes that are taken meanwhile go nowhere.
-fn put_close<C: Clock>(line: &mut Line, clock: &mut C, turns: &mut u64) -> bool
-    ensures turns { turns.new ≤ turns.old }
+fn put_close<C: Clock>(line: &mut Line, clock: &mut C) -> bool
     ensures line { SameLine line.old line.new }
     ensures taken { (more : List Outcome) × (taken_by line.new ≡ taken_by line.old ++ more) }
     ensures put { IsTrue result → put_by line.new ≡ put_by line.old ++ Event Close ∷ [] }
     ensures kept { IsFalse result → put_by line.new ≡ put_by line.old }
     ensures answers { IsTrue C.is_observed → C.answers clock.new ≡ C.answers clock.old }
 {
-    while spend(turns) {
+    while spend(&mut line.turns) {
         if line.has_room() {
             line.put(Happening::Close);
             return true;
@@ -306,8 +278,7 @@ fn put_close<C: Clock>(line: &mut Line, clock: &mut C, turns: &mut u64) -> bool
 }
 
 /// Takes the outcomes that are left, which go nowhere.
-fn drop_outcomes<C: Clock>(line: &mut Line, clock: &mut C, turns: &mut u64) -> bool
-    ensures turns { turns.new ≤ turns.old }
+fn drop_outcomes<C: Clock>(line: &mut Line, clock: &mut C) -> bool
     ensures line { SameLine line.old line.new }
     ensures taken { (more : List Outcome) × (taken_by line.new ≡ taken_by line.old ++ more) }
     ensures put { put_by line.new ≡ put_by line.old }
@@ -315,7 +286,7 @@ fn drop_outcomes<C: Clock>(line: &mut Line, clock: &mut C, turns: &mut u64) -> b
     ensures settled { IsTrue result → length (taken_by line.new) ≡ length (put_by line.new) }
 {
     while line.waiting > 0 {
-        if !spend(turns) {
+        if !spend(&mut line.turns) {
             return false;
         }
         if line.next().is_some() {
@@ -330,19 +301,16 @@ fn drop_outcomes<C: Clock>(line: &mut Line, clock: &mut C, turns: &mut u64) -> b
 /// Serves the connection that was accepted, and leaves it. Whether the turns sufficed.
 #[tactic(auto, using(crate::proofs::Used::used_rules))]
 fn serve_connection<D: Door, C: Clock, N: Nonces>(
-    alloc: Global,
     door: &mut D,
     line: &mut Line,
     clock: &mut C,
     nonces: &mut N,
-    turns: &mut u64,
     buffer: &mut [u8],
 ) -> bool
     requires ready { D.is_open door.old ≡ true }
     requires fresh { IsTrue D.is_observed → D.current door.old ≡ fresh }
     requires history { IsTrue D.is_observed → History (D.ended door.old) (put_by line.old) (taken_by line.old) }
     requires settled { length (taken_by line.old) ≡ length (put_by line.old) }
-    ensures turns { turns.new ≤ turns.old }
     ensures faults { D.fault_count door.old ≤ D.fault_count door.new }
     ensures line { SameLine line.old line.new }
     ensures moments { IsTrue C.is_observed → MomentsUsed (C.answers clock.old) (put_by line.old) (C.answers clock.new) (put_by line.new) }
@@ -351,19 +319,19 @@ fn serve_connection<D: Door, C: Clock, N: Nonces>(
     ensures history { IsTrue D.is_observed → IsTrue result → History (D.ended door.new) (put_by line.new) (taken_by line.new) }
     ensures cut { IsTrue D.is_observed → IsFalse result → CutOff AnyBeginning (D.ended door.new) (D.current door.new) (put_by line.new) (taken_by line.new) }
 {
-    if !open(line, clock, turns) {
+    if !open(line, clock) {
         return false;
     }
-    if !converse_to_end(alloc, door, line, clock, nonces, turns, buffer) {
+    if !converse_to_end(door, line, clock, nonces, buffer) {
         return false;
     }
-    if !put_close(line, clock, turns) {
+    if !put_close(line, clock) {
         return false;
     }
-    if !drop_outcomes(line, clock, turns) {
+    if !drop_outcomes(line, clock) {
         return false;
     }
-    if !spend(turns) {
+    if !spend(&mut line.turns) {
         return false;
     }
     door.leave();
@@ -373,12 +341,10 @@ fn serve_connection<D: Door, C: Clock, N: Nonces>(
 /// One connection after the other.
 #[tactic(auto, using(crate::proofs::Used::used_rules))]
 fn serve_door<D: Door, C: Clock, N: Nonces>(
-    alloc: Global,
     door: &mut D,
     line: &mut Line,
     clock: &mut C,
     nonces: &mut N,
-    turns: &mut u64,
 ) -> EndReason
     requires history { IsTrue D.is_observed → History (D.ended door.old) (put_by line.old) (taken_by line.old) }
     requires settled { length (taken_by line.old) ≡ length (put_by line.old) }
@@ -390,12 +356,12 @@ fn serve_door<D: Door, C: Clock, N: Nonces>(
     ensures serves { IsTrue D.is_observed → Serves (D.ended door.new) (D.current door.new) (put_by line.new) (taken_by line.new) }
 {
     let mut buffer = [0u8; READ_AT_ONCE];
-    while spend(turns) {
+    while spend(&mut line.turns) {
         match door.accept() {
             Err(_) => return EndReason::Device,
             Ok(false) => clock.pause(),
             Ok(true) => {
-                if !serve_connection(alloc, door, line, clock, nonces, turns, &mut buffer) {
+                if !serve_connection(door, line, clock, nonces, &mut buffer) {
                     return EndReason::Turns;
                 }
             }
@@ -430,17 +396,20 @@ pub fn stream_worker<D: Door, C: Clock, N: Nonces>(
     ensures whole { IsTrue D.is_observed → result.reason ≡ Device → (events : List Item) × WithEnd events (all_put result.ended) × History (D.ended door.new) events (taken_from result.outlet) }
     ensures serves { IsTrue D.is_observed → (events : List Item) × WithEnd events (all_put result.ended) × Serves (D.ended door.new) (D.current door.new) events (taken_from result.outlet) }
 {
-    let mut turns = turns;
     let mut line = Line {
         inlet,
         outcomes,
         waiting: 0,
+        turns,
+        alloc,
     };
-    let reason = serve_door(alloc, door, &mut line, clock, nonces, &mut turns);
+    let reason = serve_door(door, &mut line, clock, nonces);
     let Line {
         mut inlet,
         outcomes,
         waiting: _,
+        mut turns,
+        alloc: _,
     } = line;
     if reason == EndReason::Device {
         put_end(&mut inlet, clock, &mut turns);

@@ -49,15 +49,14 @@ pub(crate) fn spend(turns: &mut u64) -> bool
 }
 
 /// Puts Open, when no outcome is waited for.
-pub(crate) fn open<C: Clock>(line: &mut Line, clock: &mut C, turns: &mut u64) -> bool
-    ensures turns { turns.new ≤ turns.old }
+pub(crate) fn open<C: Clock>(line: &mut Line, clock: &mut C) -> bool
     ensures line { SameLine line.old line.new }
     ensures taken { taken_by line.new ≡ taken_by line.old }
     ensures put { IsTrue result → put_by line.new ≡ put_by line.old ++ Event Open ∷ [] }
     ensures kept { IsFalse result → put_by line.new ≡ put_by line.old }
     ensures answers { IsTrue C.is_observed → C.answers clock.new ≡ C.answers clock.old }
 {
-    while spend(turns) {
+    while spend(&mut line.turns) {
         if line.has_room() {
             line.put(Happening::Open);
             clock.worked();

@@ -1,10 +1,9 @@
-use Rattle.std.proofs.Common.{◌≡◌, ◌≤◌, IsTrue}
+use Rattle.std.proofs.Common.{◌≡◌, IsTrue}
 use Rattle.hdl_workers.specs.Line.{put_by, taken_by, SameLine}
 use Rattle.hdl_workers.proofs.packet.await_outcome.Given as goal
 
 abbrev pub invariant-loop-line : goal.invariant-loop-line
 invariant-loop-line g l = record {
-  turns : l.turns ≤ l.initial.turns;
   line : SameLine l.initial.line l.line;
   taken : taken_by l.line ≡ taken_by l.initial.line;
   put : put_by l.line ≡ put_by l.initial.line;
@@ -12,4 +11,4 @@ invariant-loop-line g l = record {
 }
 
 abbrev pub decreases-loop-line : goal.decreases-loop-line
-decreases-loop-line g l = l.turns
+decreases-loop-line g l = l.line.turns

@@ -6,14 +6,10 @@ use Rattle.hdl_workers.proofs.packet.reply_all.Goals as goal
 
 pub loop-packets-preserved : goal.loop-packets-preserved
 loop-packets-preserved g c =
-    let put : put_by c.reply_oldest.new.line ≡ put_by c.args.line.now = c.reply_oldest.ensures.put ∙ c.loop-packets.invariant.put in
+    let put : put_by c.reply_oldest.new.line ≡ put_by c.args.line.now = c.reply_oldest.ensures.only_replies.put ∙ c.loop-packets.invariant.only_replies.put in
     record {
-      turns = search rules;
-      faults = search rules;
-      line = search rules;
-      put = put;
+      only_replies = search rules;
       answers = search rules;
-      received = search rules;
       replied = λ t.
           let next : Replies c.loop-packets.peers.items (put_by c.args.line.now) (g.P.Packets.sent c.loop-packets.packets) (g.P.Packets.fault_count c.loop-packets.packets) (taken_by c.loop-packets.line)
           c.reply_oldest.new.peers.items (g.P.Packets.sent c.reply_oldest.new.packets) (g.P.Packets.fault_count c.reply_oldest.new.packets) (taken_by c.reply_oldest.new.line) =
@@ -23,7 +19,7 @@ loop-packets-preserved g c =
 
 pub returns-then-not-reply_oldest-clause-cut : goal.returns-then-not-reply_oldest-clause-cut
 returns-then-not-reply_oldest-clause-cut g c = λ t _.
-    let put : put_by c.reply_oldest.new.line ≡ put_by c.args.line.now = c.reply_oldest.ensures.put ∙ c.loop-packets.invariant.put in
+    let put : put_by c.reply_oldest.new.line ≡ put_by c.args.line.now = c.reply_oldest.ensures.only_replies.put ∙ c.loop-packets.invariant.only_replies.put in
     let before : Replies c.args.peers.now.items (put_by c.reply_oldest.new.line) (g.P.Packets.sent c.args.packets.now) (g.P.Packets.fault_count c.args.packets.now) (taken_by c.args.line.now)
     c.loop-packets.peers.items (g.P.Packets.sent c.loop-packets.packets) (g.P.Packets.fault_count c.loop-packets.packets) (taken_by c.loop-packets.line) =
     rw put (c.loop-packets.invariant.replied t) in
@@ -35,4 +31,4 @@ returns-clause-replied g c = λ t _.
     let all : Replies c.args.peers.now.items (put_by c.args.line.now) (g.P.Packets.sent c.args.packets.now) (g.P.Packets.fault_count c.args.packets.now) (taken_by c.args.line.now)
     [] (g.P.Packets.sent c.loop-packets.packets) (g.P.Packets.fault_count c.loop-packets.packets) (taken_by c.loop-packets.line) =
     rw none at (c.loop-packets.invariant.replied t) in
-    rw c.loop-packets.invariant.put all
+    rw c.loop-packets.invariant.only_replies.put all

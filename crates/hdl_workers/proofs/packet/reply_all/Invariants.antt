@@ -1,16 +1,13 @@
-use Rattle.std.proofs.Common.{◌≡◌, ◌≤◌, IsTrue, length}
-use Rattle.hdl_workers.specs.Line.{put_by, taken_by, SameLine}
+use Rattle.std.proofs.Common.{◌≡◌, IsTrue, length}
+use Rattle.hdl_workers.specs.Line.{put_by, taken_by}
+use Rattle.hdl_workers.specs.Replying.{OnlyReplies}
 use Rattle.hdl_workers.specs.Mail.{Replies}
 use Rattle.hdl_workers.proofs.packet.reply_all.Given as goal
 
 abbrev pub invariant-loop-packets : goal.invariant-loop-packets
 invariant-loop-packets g l = record {
-  turns : l.turns ≤ l.initial.turns;
-  faults : g.P.Packets.fault_count l.initial.packets ≤ g.P.Packets.fault_count l.packets;
-  line : SameLine l.initial.line l.line;
-  put : put_by l.line ≡ put_by l.initial.line;
+  only_replies : OnlyReplies g.P.Packets l.initial.packets l.initial.line l.packets l.line;
   answers : IsTrue g.C.Clock.is_observed → g.C.Clock.answers l.clock ≡ g.C.Clock.answers l.initial.clock;
-  received : IsTrue g.P.Packets.is_observed → g.P.Packets.received l.packets ≡ g.P.Packets.received l.initial.packets;
   replied : IsTrue g.P.Packets.is_observed → Replies l.initial.peers.items (put_by l.initial.line) (g.P.Packets.sent l.initial.packets) (g.P.Packets.fault_count l.initial.packets) (taken_by l.initial.line)
       l.peers.items (g.P.Packets.sent l.packets) (g.P.Packets.fault_count l.packets) (taken_by l.line);
 }

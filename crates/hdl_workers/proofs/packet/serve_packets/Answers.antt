@@ -5,8 +5,8 @@ use Rattle.hdl_workers.proofs.Used.{used_both, used_still}
 use Rattle.hdl_workers.proofs.Mails.{trading_of, traded_of, trading_later, most_of, later_by}
 use Rattle.hdl_workers.proofs.packet.serve_packets.Goals as goal
 
-pub loop-alloc-init : goal.loop-alloc-init
-loop-alloc-init g c = record {
+pub loop-buffer-init : goal.loop-buffer-init
+loop-buffer-init g c = record {
   faults = search rules;
   line = search rules;
   moments = λ t. c.begin.ensures.moments t;
@@ -14,17 +14,17 @@ loop-alloc-init g c = record {
   trading = λ t. rw ((c.requires.first t).0, (c.requires.first t).1, c.new-peers.ensures) (trading_of [] [] _ _ _ _ (c.begin.ensures.traded c.if-not-begin.false _));
 }
 
-pub loop-alloc-preserved : goal.loop-alloc-preserved
-loop-alloc-preserved g c = record {
+pub loop-buffer-preserved : goal.loop-buffer-preserved
+loop-buffer-preserved g c = record {
   faults = search rules;
   line = search rules;
-  moments = λ t. used_both _ _ _ _ _ _ _ (c.loop-alloc.invariant.moments t) (c.take_in.ensures.moments t);
-  nonces = λ t. used_both _ _ _ _ _ _ _ (c.loop-alloc.invariant.nonces t) (c.take_in.ensures.nonces t);
+  moments = λ t. used_both _ _ _ _ _ _ _ (c.loop-buffer.invariant.moments t) (c.take_in.ensures.moments t);
+  nonces = λ t. used_both _ _ _ _ _ _ _ (c.loop-buffer.invariant.nonces t) (c.take_in.ensures.nonces t);
   trading = λ t.
-      let fc : g.P.Packets.fault_count c.loop-alloc.packets ≤ g.P.Packets.fault_count c.receive_next.new.packets = omega (arith, c.in-Ok-Some.ensures.faults) in
-      let came : g.P.Packets.received c.receive_next.new.packets ≡ g.P.Packets.received c.loop-alloc.packets ++ (c.in-Ok-Some.peer, take c.in-Ok-Some.length c.receive_next.new.buffer) ∷ [] = rw c.in-Ok-Some.field-0-is at (c.in-Ok-Some.ensures.received t) in
-      let before : Trading c.loop-alloc.peers.items (g.P.Packets.received c.loop-alloc.packets) (g.P.Packets.sent c.receive_next.new.packets) _ _ (put_by c.loop-alloc.line) (taken_by c.take_in.new.line) =
-      rw c.take_in.ensures.taken (trading_later _ _ (g.P.Packets.received c.loop-alloc.packets) _ (g.P.Packets.sent c.receive_next.new.packets) _ _ (g.P.Packets.fault_count c.receive_next.new.packets) _ _ (c.loop-alloc.invariant.trading t) refl (c.receive_next.ensures.sent t) fc) in
+      let fc : g.P.Packets.fault_count c.loop-buffer.packets ≤ g.P.Packets.fault_count c.receive_next.new.packets = omega (arith, c.in-Ok-Some.ensures.faults) in
+      let came : g.P.Packets.received c.receive_next.new.packets ≡ g.P.Packets.received c.loop-buffer.packets ++ (c.in-Ok-Some.peer, take c.in-Ok-Some.length c.receive_next.new.buffer) ∷ [] = rw c.in-Ok-Some.field-0-is at (c.in-Ok-Some.ensures.received t) in
+      let before : Trading c.loop-buffer.peers.items (g.P.Packets.received c.loop-buffer.packets) (g.P.Packets.sent c.receive_next.new.packets) _ _ (put_by c.loop-buffer.line) (taken_by c.take_in.new.line) =
+      rw c.take_in.ensures.taken (trading_later _ _ (g.P.Packets.received c.loop-buffer.packets) _ (g.P.Packets.sent c.receive_next.new.packets) _ _ (g.P.Packets.fault_count c.receive_next.new.packets) _ _ (c.loop-buffer.invariant.trading t) refl (c.receive_next.ensures.sent t) fc) in
       rw came (c.take_in.ensures.took c.if-not-take_in.false _ _ _ _ before);
 }
 
@@ -33,29 +33,29 @@ returns-then-not-begin-clause-trades g c = λ t. rw ((c.requires.first t).0, (c.
 
 pub returns-then-reply_all-clause-whole : goal.returns-then-reply_all-clause-whole
 returns-then-reply_all-clause-whole g c = λ t _.
-    let before = trading_later _ _ (g.P.Packets.received c.reply_all.new.packets) _ (g.P.Packets.sent c.receive_next.new.packets) _ _ (g.P.Packets.fault_count c.receive_next.new.packets) _ _ (c.loop-alloc.invariant.trading t)
-    (c.reply_all.ensures.received t ∙ c.in-Err.ensures.received t) (c.receive_next.ensures.sent t) (later_by _ _ _ refl c.in-Err.ensures.faults) in
-    traded_of _ _ _ _ _ _ (c.reply_all.ensures.replied t c.if-reply_all.true _ _ (rw c.reply_all.ensures.put before))
+    let before = trading_later _ _ (g.P.Packets.received c.reply_all.new.packets) _ (g.P.Packets.sent c.receive_next.new.packets) _ _ (g.P.Packets.fault_count c.receive_next.new.packets) _ _ (c.loop-buffer.invariant.trading t)
+    (c.reply_all.ensures.only_replies.received t ∙ c.in-Err.ensures.received t) (c.receive_next.ensures.sent t) (later_by _ _ _ refl c.in-Err.ensures.faults) in
+    traded_of _ _ _ _ _ _ (c.reply_all.ensures.replied t c.if-reply_all.true _ _ (rw c.reply_all.ensures.only_replies.put before))
 
 pub returns-then-reply_all-clause-trades : goal.returns-then-reply_all-clause-trades
 returns-then-reply_all-clause-trades g c = λ t. most_of [] _ _ _ _ _ _ (trading_of _ _ _ _ _ _ (returns-then-reply_all-clause-whole g c t refl))
 
 pub returns-in-Err-clause-trades : goal.returns-in-Err-clause-trades
 returns-in-Err-clause-trades g c = λ t.
-    let before = trading_later _ _ (g.P.Packets.received c.reply_all.new.packets) _ (g.P.Packets.sent c.receive_next.new.packets) _ _ (g.P.Packets.fault_count c.receive_next.new.packets) _ _ (c.loop-alloc.invariant.trading t)
-    (c.reply_all.ensures.received t ∙ c.in-Err.ensures.received t) (c.receive_next.ensures.sent t) (later_by _ _ _ refl c.in-Err.ensures.faults) in
-    inr (c.reply_all.ensures.cut t c.if-reply_all.false _ _ (rw c.reply_all.ensures.put before))
+    let before = trading_later _ _ (g.P.Packets.received c.reply_all.new.packets) _ (g.P.Packets.sent c.receive_next.new.packets) _ _ (g.P.Packets.fault_count c.receive_next.new.packets) _ _ (c.loop-buffer.invariant.trading t)
+    (c.reply_all.ensures.only_replies.received t ∙ c.in-Err.ensures.received t) (c.receive_next.ensures.sent t) (later_by _ _ _ refl c.in-Err.ensures.faults) in
+    inr (c.reply_all.ensures.cut t c.if-reply_all.false _ _ (rw c.reply_all.ensures.only_replies.put before))
 
 pub returns-then-not-take_in-clause-moments : goal.returns-then-not-take_in-clause-moments
-returns-then-not-take_in-clause-moments g c = λ t. used_both _ _ _ _ _ _ _ (c.loop-alloc.invariant.moments t) (c.take_in.ensures.moments t)
+returns-then-not-take_in-clause-moments g c = λ t. used_both _ _ _ _ _ _ _ (c.loop-buffer.invariant.moments t) (c.take_in.ensures.moments t)
 
 pub returns-then-not-take_in-clause-nonces : goal.returns-then-not-take_in-clause-nonces
-returns-then-not-take_in-clause-nonces g c = λ t. used_both _ _ _ _ _ _ _ (c.loop-alloc.invariant.nonces t) (c.take_in.ensures.nonces t)
+returns-then-not-take_in-clause-nonces g c = λ t. used_both _ _ _ _ _ _ _ (c.loop-buffer.invariant.nonces t) (c.take_in.ensures.nonces t)
 
 pub returns-then-not-take_in-clause-trades : goal.returns-then-not-take_in-clause-trades
 returns-then-not-take_in-clause-trades g c = λ t.
-    let fc : g.P.Packets.fault_count c.loop-alloc.packets ≤ g.P.Packets.fault_count c.receive_next.new.packets = omega (arith, c.in-Ok-Some.ensures.faults) in
-    let came : g.P.Packets.received c.receive_next.new.packets ≡ g.P.Packets.received c.loop-alloc.packets ++ (c.in-Ok-Some.peer, take c.in-Ok-Some.length c.receive_next.new.buffer) ∷ [] = rw c.in-Ok-Some.field-0-is at (c.in-Ok-Some.ensures.received t) in
-    let before : Trading c.loop-alloc.peers.items (g.P.Packets.received c.loop-alloc.packets) (g.P.Packets.sent c.receive_next.new.packets) _ _ (put_by c.loop-alloc.line) (taken_by c.take_in.new.line) =
-    rw c.take_in.ensures.taken (trading_later _ _ (g.P.Packets.received c.loop-alloc.packets) _ (g.P.Packets.sent c.receive_next.new.packets) _ _ (g.P.Packets.fault_count c.receive_next.new.packets) _ _ (c.loop-alloc.invariant.trading t) refl (c.receive_next.ensures.sent t) fc) in
+    let fc : g.P.Packets.fault_count c.loop-buffer.packets ≤ g.P.Packets.fault_count c.receive_next.new.packets = omega (arith, c.in-Ok-Some.ensures.faults) in
+    let came : g.P.Packets.received c.receive_next.new.packets ≡ g.P.Packets.received c.loop-buffer.packets ++ (c.in-Ok-Some.peer, take c.in-Ok-Some.length c.receive_next.new.buffer) ∷ [] = rw c.in-Ok-Some.field-0-is at (c.in-Ok-Some.ensures.received t) in
+    let before : Trading c.loop-buffer.peers.items (g.P.Packets.received c.loop-buffer.packets) (g.P.Packets.sent c.receive_next.new.packets) _ _ (put_by c.loop-buffer.line) (taken_by c.take_in.new.line) =
+    rw c.take_in.ensures.taken (trading_later _ _ (g.P.Packets.received c.loop-buffer.packets) _ (g.P.Packets.sent c.receive_next.new.packets) _ _ (g.P.Packets.fault_count c.receive_next.new.packets) _ _ (c.loop-buffer.invariant.trading t) refl (c.receive_next.ensures.sent t) fc) in
     rw came (inr (c.take_in.ensures.cut c.if-not-take_in.true _ _ _ _ before))

@@ -4,8 +4,8 @@ use Rattle.hdl_workers.specs.Sign.{MomentsUsed, NoncesUsed}
 use Rattle.hdl_workers.specs.Mail.{Trading}
 use Rattle.hdl_workers.proofs.packet.serve_packets.Given as goal
 
-abbrev pub invariant-loop-alloc : goal.invariant-loop-alloc
-invariant-loop-alloc g l = record {
+abbrev pub invariant-loop-buffer : goal.invariant-loop-buffer
+invariant-loop-buffer g l = record {
   faults : g.P.Packets.fault_count l.fn.packets ≤ g.P.Packets.fault_count l.packets;
   line : SameLine l.fn.line l.line;
   moments : IsTrue g.C.Clock.is_observed → MomentsUsed (g.C.Clock.answers l.fn.clock) (put_by l.fn.line) (g.C.Clock.answers l.clock) (put_by l.line);
@@ -13,5 +13,5 @@ invariant-loop-alloc g l = record {
   trading : IsTrue g.P.Packets.is_observed → Trading l.peers.items (g.P.Packets.received l.packets) (g.P.Packets.sent l.packets) (g.P.Packets.fault_count l.fn.packets) (g.P.Packets.fault_count l.packets) (put_by l.line) (taken_by l.line);
 }
 
-abbrev pub decreases-loop-alloc : goal.decreases-loop-alloc
-decreases-loop-alloc g l = l.turns
+abbrev pub decreases-loop-buffer : goal.decreases-loop-buffer
+decreases-loop-buffer g l = l.line.turns

@@ -9,13 +9,9 @@ returns-in_err-relay-clause-part g c = λ t.
 
 pub loop-line-preserved : goal.loop-line-preserved
 loop-line-preserved g c = record {
-  turns = search rules;
-  faults = search rules;
-  still_open = search rules;
-  line = search rules;
+  goes_on = search rules;
   put = search rules;
   answers = search rules;
-  ended = search rules;
   whole = λ t.
       relayed_both _ (taken_by c.loop-line.line) _ (g.D.Door.current c.args.door.now) (g.D.Door.current c.loop-line.door) (g.D.Door.current c.relay.new.door) (c.loop-line.invariant.whole t) (c.in_ok-relay.ensures.whole t);
 }

@@ -11,13 +11,9 @@ returns-in_err-relay-clause-part g c = λ t.
 
 pub loop-line-preserved : goal.loop-line-preserved
 loop-line-preserved g c = record {
-  turns = search rules;
-  faults = search rules;
-  still_open = search rules;
-  line = search rules;
+  goes_on = search rules;
   put = search rules;
   answers = search rules;
-  ended = search rules;
   whole = λ t.
       let step : Relayed (taken_by c.loop-line.line) (g.D.Door.current c.loop-line.door) (taken_by c.relay.new.line) (g.D.Door.current c.relay.new.door) =
       rw (← c.has_room.ensures.taken) (c.in_ok-relay.ensures.whole t) in

@@ -9,9 +9,7 @@ loop-at-preserved g c =
     record {
       within = search rules;
       turns = search rules;
-      faults = search rules;
-      still_open = search rules;
-      ended = search rules;
+      connection = search rules;
       said = λ t.
           c.in-Ok.ensures.said t
           ∙ ap (λ d. say (take c.in-Ok.written (take (length s - c.loop-at.at) (drop c.loop-at.at s))) d) (c.loop-at.invariant.said t)

@@ -1,22 +1,19 @@
-use Rattle.std.proofs.Common.{◌≡◌, ◌≤◌, length, IsTrue, None}
-use Rattle.hdl_workers.specs.Line.{put_by, taken_by, SameLine}
+use Rattle.std.proofs.Common.{◌≡◌, length, IsTrue, None}
+use Rattle.hdl_workers.specs.Line.{put_by, taken_by}
 use Rattle.hdl_workers.specs.Sign.{MomentsUsed, NoncesUsed}
 use Rattle.hdl_workers.specs.Talk.{Waiting, Underway}
+use Rattle.hdl_workers.specs.Going.{GoesOn}
 use Rattle.hdl_workers.proofs.stream.converse.Given as goal
 
 abbrev pub invariant-loop-cutter : goal.invariant-loop-cutter
 invariant-loop-cutter g l = record {
-  turns : l.turns ≤ l.fn.turns;
-  faults : g.D.Door.fault_count l.fn.door ≤ g.D.Door.fault_count l.door;
-  still_open : g.D.Door.is_open l.door ≡ g.D.Door.is_open l.fn.door;
-  line : SameLine l.fn.line l.line;
+  goes_on : GoesOn g.D.Door l.fn.door l.fn.line l.door l.line;
   sound : l.cutter.fault ≡ None;
   moments : IsTrue g.C.Clock.is_observed → MomentsUsed (g.C.Clock.answers l.fn.clock) (put_by l.fn.line) (g.C.Clock.answers l.clock) (put_by l.line);
   nonces : IsTrue g.N.Nonces.is_observed → NoncesUsed (g.N.Nonces.answers l.fn.nonces) (put_by l.fn.line) (g.N.Nonces.answers l.nonces) (put_by l.line);
-  ended : IsTrue g.D.Door.is_observed → g.D.Door.ended l.door ≡ g.D.Door.ended l.fn.door;
   settled : length (taken_by l.line) ≡ length (put_by l.line);
   talk : IsTrue g.D.Door.is_observed → Underway (Waiting l.cutter.rest) (g.D.Door.ended l.door) (g.D.Door.current l.door) (put_by l.line) (taken_by l.line);
 }
 
 abbrev pub decreases-loop-cutter : goal.decreases-loop-cutter
-decreases-loop-cutter g l = l.turns
+decreases-loop-cutter g l = l.line.turns

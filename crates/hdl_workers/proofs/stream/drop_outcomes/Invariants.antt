@@ -1,11 +1,10 @@
-use Rattle.std.proofs.Common.{List, ◌≡◌, IsTrue, ◌≤◌, ◌++◌}
+use Rattle.std.proofs.Common.{List, ◌≡◌, IsTrue, ◌++◌}
 use Rattle.hdl_events.specs.declared.Outcome.{Outcome}
 use Rattle.hdl_workers.specs.Line.{put_by, taken_by, SameLine}
 use Rattle.hdl_workers.proofs.stream.drop_outcomes.Given as goal
 
 abbrev pub invariant-loop-line : goal.invariant-loop-line
 invariant-loop-line g l = record {
-  turns : l.turns ≤ l.initial.turns;
   line : SameLine l.initial.line l.line;
   taken : (more : List Outcome) × (taken_by l.line ≡ taken_by l.initial.line ++ more);
   put : put_by l.line ≡ put_by l.initial.line;
@@ -13,4 +12,4 @@ invariant-loop-line g l = record {
 }
 
 abbrev pub decreases-loop-line : goal.decreases-loop-line
-decreases-loop-line g l = l.turns
+decreases-loop-line g l = l.line.turns

@@ -4,8 +4,8 @@ use Rattle.hdl_workers.specs.Sign.{MomentsUsed, NoncesUsed}
 use Rattle.hdl_workers.specs.Talk.{History}
 use Rattle.hdl_workers.proofs.stream.serve_door.Given as goal
 
-abbrev pub invariant-loop-alloc : goal.invariant-loop-alloc
-invariant-loop-alloc g l = record {
+abbrev pub invariant-loop-buffer : goal.invariant-loop-buffer
+invariant-loop-buffer g l = record {
   faults : g.D.Door.fault_count l.fn.door ≤ g.D.Door.fault_count l.door;
   line : SameLine l.fn.line l.line;
   moments : IsTrue g.C.Clock.is_observed → MomentsUsed (g.C.Clock.answers l.fn.clock) (put_by l.fn.line) (g.C.Clock.answers l.clock) (put_by l.line);
@@ -14,5 +14,5 @@ invariant-loop-alloc g l = record {
   history : IsTrue g.D.Door.is_observed → History (g.D.Door.ended l.door) (put_by l.line) (taken_by l.line);
 }
 
-abbrev pub decreases-loop-alloc : goal.decreases-loop-alloc
-decreases-loop-alloc g l = l.turns
+abbrev pub decreases-loop-buffer : goal.decreases-loop-buffer
+decreases-loop-buffer g l = l.line.turns

@@ -5,44 +5,40 @@ use Rattle.hdl_workers.specs.Found.{Finds}
 use Rattle.hdl_workers.specs.declared.stream.Found.TheVariants.{Whole, Fault}
 use Rattle.hdl_workers.proofs.stream.submit_frames.Goals as goal
 
-pub loop-turns-preserved : goal.loop-turns-preserved
-loop-turns-preserved g c =
-    let f : Finds c.loop-turns.cutter (Whole c.in-Whole.bytes) c.find.new.cutter = rw c.in-Whole.is at c.in_ok-bytes.ensures.found in
+pub loop-line-preserved : goal.loop-line-preserved
+loop-line-preserved g c =
+    let f : Finds c.loop-line.cutter (Whole c.in-Whole.bytes) c.find.new.cutter = rw c.in-Whole.is at c.in_ok-bytes.ensures.found in
     record {
-      turns = search rules;
-      faults = search rules;
-      still_open = search rules;
-      line = search rules;
+      goes_on = search rules;
       sound = f.2;
-      moments = λ t. used_both _ _ _ _ _ _ _ (c.loop-turns.invariant.moments t) (c.submit_frame.ensures.moments t);
-      nonces = λ t. used_both _ _ _ _ _ _ _ (c.loop-turns.invariant.nonces t) (c.submit_frame.ensures.nonces t);
-      ended = search rules;
+      moments = λ t. used_both _ _ _ _ _ _ _ (c.loop-line.invariant.moments t) (c.submit_frame.ensures.moments t);
+      nonces = λ t. used_both _ _ _ _ _ _ _ (c.loop-line.invariant.nonces t) (c.submit_frame.ensures.nonces t);
       talk = λ t.
-          framed_on _ _ (g.D.Door.current c.loop-turns.door) (g.D.Door.current c.submit_frame.new.door) _ _ _ _ _ _ _
-          (c.loop-turns.invariant.talk t) f.1 f.0 c.in_ok-submit_frame-in-Whole.ensures.put (c.in_ok-submit_frame-in-Whole.ensures.whole t) (c.submit_frame.ensures.ended t);
+          framed_on _ _ (g.D.Door.current c.loop-line.door) (g.D.Door.current c.submit_frame.new.door) _ _ _ _ _ _ _
+          (c.loop-line.invariant.talk t) f.1 f.0 c.in_ok-submit_frame-in-Whole.ensures.put (c.in_ok-submit_frame-in-Whole.ensures.whole t) (c.submit_frame.ensures.goes_on.connection.ended t);
     }
 
 pub returns-in_err-bytes-clause-cut : goal.returns-in_err-bytes-clause-cut
-returns-in_err-bytes-clause-cut g c = λ t. far_cut _ (g.D.Door.current c.loop-turns.door) _ _ _ (c.loop-turns.invariant.talk t)
+returns-in_err-bytes-clause-cut g c = λ t. far_cut _ (g.D.Door.current c.loop-line.door) _ _ _ (c.loop-line.invariant.talk t)
 
 pub returns-in-Nothing-clause-cut : goal.returns-in-Nothing-clause-cut
-returns-in-Nothing-clause-cut g c = λ t. far_cut _ (g.D.Door.current c.loop-turns.door) _ _ _ (c.loop-turns.invariant.talk t)
+returns-in-Nothing-clause-cut g c = λ t. far_cut _ (g.D.Door.current c.loop-line.door) _ _ _ (c.loop-line.invariant.talk t)
 
 pub returns-in_err-submit_frame-in-Whole-clause-cut : goal.returns-in_err-submit_frame-in-Whole-clause-cut
 returns-in_err-submit_frame-in-Whole-clause-cut g c = λ t.
-    some_cut _ _ (g.D.Door.current c.loop-turns.door) (g.D.Door.current c.submit_frame.new.door) _ _ _ _ _
-    (c.loop-turns.invariant.talk t) (c.in_err-submit_frame-in-Whole.ensures.kept) (c.submit_frame.ensures.part t) (c.submit_frame.ensures.ended t)
+    some_cut _ _ (g.D.Door.current c.loop-line.door) (g.D.Door.current c.submit_frame.new.door) _ _ _ _ _
+    (c.loop-line.invariant.talk t) (c.in_err-submit_frame-in-Whole.ensures.kept) (c.submit_frame.ensures.part t) (c.submit_frame.ensures.goes_on.connection.ended t)
 
 pub returns-in_err-submit_fault-in-Fault-clause-cut : goal.returns-in_err-submit_fault-in-Fault-clause-cut
 returns-in_err-submit_fault-in-Fault-clause-cut g c = λ t.
-    some_cut _ _ (g.D.Door.current c.loop-turns.door) (g.D.Door.current c.submit_fault.new.door) _ _ _ _ _
-    (c.loop-turns.invariant.talk t) (c.in_err-submit_fault-in-Fault.ensures.kept) (c.submit_fault.ensures.part t) (c.submit_fault.ensures.ended t)
+    some_cut _ _ (g.D.Door.current c.loop-line.door) (g.D.Door.current c.submit_fault.new.door) _ _ _ _ _
+    (c.loop-line.invariant.talk t) (c.in_err-submit_fault-in-Fault.ensures.kept) (c.submit_fault.ensures.part t) (c.submit_fault.ensures.goes_on.connection.ended t)
 
 pub returns-in-Fault-clause-stops : goal.returns-in-Fault-clause-stops
 returns-in-Fault-clause-stops g c = λ t _.
-    let f : Finds c.loop-turns.cutter (Fault c.in-Fault.session c.in-Fault.request) c.find.new.cutter = rw c.in-Fault.is at c.in_ok-bytes.ensures.found in
-    fault_on _ _ (g.D.Door.current c.loop-turns.door) (g.D.Door.current c.submit_fault.new.door) _ _ _ _ _ c.in-Fault.session c.in-Fault.request
-    (c.loop-turns.invariant.talk t) f.0 f.1 c.in_ok-submit_fault-in-Fault.ensures.put (c.in_ok-submit_fault-in-Fault.ensures.whole t) (c.submit_fault.ensures.ended t)
+    let f : Finds c.loop-line.cutter (Fault c.in-Fault.session c.in-Fault.request) c.find.new.cutter = rw c.in-Fault.is at c.in_ok-bytes.ensures.found in
+    fault_on _ _ (g.D.Door.current c.loop-line.door) (g.D.Door.current c.submit_fault.new.door) _ _ _ _ _ c.in-Fault.session c.in-Fault.request
+    (c.loop-line.invariant.talk t) f.0 f.1 c.in_ok-submit_fault-in-Fault.ensures.put (c.in_ok-submit_fault-in-Fault.ensures.whole t) (c.submit_fault.ensures.goes_on.connection.ended t)
 
 pub returns-in-Fault-clause-cut : goal.returns-in-Fault-clause-cut
 returns-in-Fault-clause-cut g c = λ t. all_cut _ (g.D.Door.current c.submit_fault.new.door) _ _ (returns-in-Fault-clause-stops g c t refl)
