@@ -1,12 +1,12 @@
 //! The program `hdl proxy`, over HTTP/1.1: sockets, threads and time around `hdl_proxy`, which has what is asked and answered.
 //!
 //! ```text
-//! hyper, one event loop -> Desk: begin -> at once, or a channel -> a thread for each asker: ask, finish -> Answering -> hyper
+//! hyper, event loops -> Desk: begin -> at once, or a channel -> a thread for each asker: ask, finish -> Answering -> hyper
 //!                      with --writes: begin_with_key, the body -> a channel -> one thread: carry_out -> Answering -> hyper
 //! ```
 //!
-//! One thread has all connections, and never waits for a server: each asker (`Servers`) has a thread of its own, and connections to
-//! its servers that it keeps. A head has at most 8 KiB, and ten seconds to come whole, also where a connection is idle. It promises
+//! A thread that serves, one or as many as are asked for, never waits for a server: each asker (`Servers`) has a thread of its own, and
+//! connections to its servers that it keeps. A head has at most 8 KiB, and ten seconds to come whole, also where a connection is idle. It promises
 //! that it is safe, whatever comes, and that a response has its answer's status; what is read and written is `hyper`'s. Nothing of
 //! `hdl` but this program needs `hyper`, so asking in words is proved without it.
 #![tactic(auto)]
@@ -15,6 +15,7 @@ mod answering;
 mod asks;
 mod board;
 mod desk;
+mod event_loop;
 mod gathering;
 mod holders;
 mod lifetime;
@@ -31,11 +32,12 @@ mod visitors;
 mod words;
 mod worker;
 
+use event_loop::listen_at;
 use hdl_proxy::Site;
 use hdl_routes::{Route, read_route};
 use log::Log;
 use servers::{Server, Writer};
-use serving::serve_http;
+use serving::{Listening, serve_http};
 use staff::{Crew, Plan, Staff};
 use std::alloc::AllocError;
 use std::fs::OpenOptions;
@@ -140,16 +142,27 @@ fn lines_to(rt: &HostRuntime, words: &ProxyWords) -> io::Result<Option<Log>> {
     Ok(Some(Log::File(how.open(rt, path.as_str())?)))
 }
 
-/// What is served: where, and who asks.
+/// What listens at the addresses that the words name.
+fn listening(rt: &HostRuntime, words: &ProxyWords) -> io::Result<Listening> {
+    let mut addresses = Vec::new(rt.alloc());
+    let mut loops = Vec::new(rt.alloc());
+    for word in &words.listen {
+        let Ok(address) = word.parse::<SocketAddr>() else {
+            return Err(io::Error::other("--listen wants an IP address and a port"));
+        };
+        listen_at(rt, &mut loops, address, words.threads)?;
+        addresses.push(address)?;
+    }
+    Ok(Listening { addresses, loops })
+}
+
+/// What is served: what listens, and who asks.
 fn opened(
     rt: &HostRuntime,
     words: &ProxyWords,
     routes: Vec<Route>,
-) -> io::Result<(SocketAddr, Staff<Server, Writer>)> {
-    let Ok(listen) = words.listen.parse::<SocketAddr>() else {
-        return Err(io::Error::other("--listen wants an IP address and a port"));
-    };
-    Ok((listen, hired(rt, words, routes)?))
+) -> io::Result<(Listening, Staff<Server, Writer>)> {
+    Ok((listening(rt, words)?, hired(rt, words, routes)?))
 }
 
 fn main(rt: HostRuntime) -> ExitCode {
@@ -168,7 +181,7 @@ fn main(rt: HostRuntime) -> ExitCode {
         }
     };
     let served = match opened(&rt, &words, routes) {
-        Ok((listen, staff)) => serve_http(&rt, listen, staff, log, &mut rt.stdout()),
+        Ok((listening, staff)) => serve_http(&rt, listening, staff, log, &mut rt.stdout()),
         Err(fault) => Err(fault),
     };
     if let Err(fault) = served {
