@@ -29,6 +29,7 @@ mod serving;
 mod staff;
 mod text;
 mod visitors;
+mod ways;
 mod words;
 mod worker;
 
