@@ -408,7 +408,7 @@ def listeners():
         yield "all are counted", 'hdl_proxy_answers_total{kind="redirect",code="302"} 86' in body_of(second, "/metrics")[1]
     same = ["--listen", "127.0.0.1:%d" % first]
     done = subprocess.run([PROGRAM, *same, *same, "--server", "h:1"], stdin=subprocess.DEVNULL, capture_output=True, text=True, timeout=20, check=False)
-    yield "an address that is taken is told", (done.returncode, done.stdout) == (1, "") and done.stderr.startswith("hdl: ")
+    yield "an address that is taken is told", (done.returncode, done.stdout) == (1, "") and done.stderr.startswith("hdl: --listen 127.0.0.1:%d: " % first)
 
 
 def faults():

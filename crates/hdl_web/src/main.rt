@@ -143,27 +143,34 @@ fn lines_to(rt: &HostRuntime, words: &ProxyWords) -> io::Result<Option<Log>> {
     Ok(Some(Log::File(how.open(rt, path.as_str())?)))
 }
 
-/// What listens at the addresses that the words name.
-fn listening(rt: &HostRuntime, words: &ProxyWords) -> io::Result<Listening> {
-    let mut addresses = Vec::new(rt.alloc());
-    let mut loops = Vec::new(rt.alloc());
-    for word in &words.listen {
-        let Ok(address) = word.parse::<SocketAddr>() else {
-            return Err(io::Error::other("--listen wants an IP address and a port"));
-        };
-        listen_at(rt, &mut loops, address, words.threads)?;
-        addresses.push(address)?;
-    }
-    Ok(Listening { addresses, loops })
-}
-
-/// What is served: what listens, and who asks.
-fn opened(
+/// Adds what listens at the address that this word names.
+fn listen(
     rt: &HostRuntime,
     words: &ProxyWords,
-    routes: Vec<Route>,
-) -> io::Result<(Listening, Staff<Server, Writer>)> {
-    Ok((listening(rt, words)?, hired(rt, words, routes)?))
+    word: &str,
+    listening: &mut Listening,
+) -> io::Result<()> {
+    let Ok(address) = word.parse::<SocketAddr>() else {
+        return Err(io::Error::other("it wants an IP address and a port, as 127.0.0.1:8080"));
+    };
+    listen_at(rt, &mut listening.loops, address, words.threads)?;
+    listening.addresses.push(address)?;
+    Ok(())
+}
+
+/// What listens at the addresses that the words name. None where one of them can't be had, which is told.
+fn listening(rt: &HostRuntime, words: &ProxyWords) -> Option<Listening> {
+    let mut listening = Listening {
+        addresses: Vec::new(rt.alloc()),
+        loops: Vec::new(rt.alloc()),
+    };
+    for word in &words.listen {
+        if let Err(fault) = listen(rt, words, word, &mut listening) {
+            let _ = eprintln!(rt; "hdl: --listen {word}: {fault}");
+            return None;
+        }
+    }
+    Some(listening)
 }
 
 fn main(rt: HostRuntime) -> ExitCode {
@@ -181,8 +188,11 @@ fn main(rt: HostRuntime) -> ExitCode {
             return ExitCode::from(1);
         }
     };
-    let served = match opened(&rt, &words, routes) {
-        Ok((listening, staff)) => serve_http(&rt, listening, staff, log, &mut rt.stdout()),
+    let Some(listening) = listening(&rt, &words) else {
+        return ExitCode::from(1);
+    };
+    let served = match hired(&rt, &words, routes) {
+        Ok(staff) => serve_http(&rt, listening, staff, log, &mut rt.stdout()),
         Err(fault) => Err(fault),
     };
     if let Err(fault) = served {
