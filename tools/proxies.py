@@ -5,7 +5,6 @@ slow, and a thousand that are idle.
 It takes some 12 seconds, of which most is waiting. Its last line is 'N passed, M failed', a case counting one."""
 
 import contextlib
-import hashlib
 import html
 import os
 import resource
@@ -18,6 +17,7 @@ import time
 
 # nothing is left beside the tools
 sys.dont_write_bytecode = True
+import answers
 import repository
 import servers
 import wire
@@ -75,15 +75,10 @@ value 20/host 1 URL 60 1110 UTF8 https://example.org
 # ten aliases lead from 10/1 to 10/11, and eleven from 10/0
 CHAIN = "".join("value 10/%d 1 HS_ALIAS 86400 1110 UTF8 10/%d\n" % (hop, hop + 1) for hop in range(11))
 
-POLICY = "default-src 'none'; style-src 'unsafe-inline'; img-src 'self'; base-uri 'none'; frame-ancestors 'none'"
-WAY = [("content-security-policy", POLICY), ("content-type", "text/html; charset=utf-8"), ("x-content-type-options", "nosniff")]
-PAGE = WAY + [("referrer-policy", "no-referrer")]
-JSON = [("access-control-allow-origin", "*"), ("content-type", "application/json"), ("x-content-type-options", "nosniff")]
-OPTIONS = [("access-control-allow-headers", "*, Authorization"), ("access-control-allow-methods", "GET, HEAD, OPTIONS"), ("access-control-max-age", "86400"),
-           ("allow", "GET, HEAD, OPTIONS")]
-# How long others may keep an answer, where they may: the least TTL of the values, a day at most.
-KEPT = "max-age=%d"
-NEVER = "no-store"
+# What browsers are told that ask whether another page may send such a request.
+OPTIONS = answers.JSON + [("allow", "GET, HEAD, OPTIONS"), ("access-control-allow-methods", "GET, HEAD, OPTIONS"), ("access-control-allow-headers", "*, Authorization"),
+                          ("access-control-max-age", "86400"), ("cache-control", answers.NEVER)]
+KEPT, NEVER, DAY = answers.KEPT, answers.NEVER, 86400
 SITE, CONTACT = "Tom & Jerry's <handles>", "help@example.org"
 SITE_TEXT = "Tom &amp; Jerry&#39;s &lt;handles&gt;"
 HEADER = '<header><a href="/">%s</a></header>\n<main>\n' % SITE_TEXT
@@ -382,45 +377,16 @@ def request(line, close=True, more=""):
     return ("%s HTTP/1.1\r\nhost: h\r\n%s%s\r\n" % (line, more, "connection: close\r\n" if close else "")).encode()
 
 
-def parts(answer):
-    """The status, the headers without `date` and `connection`, in order of names, and the body."""
-    head, _, body = answer.partition(b"\r\n\r\n")
-    lines = head.decode("latin-1").split("\r\n")
-    fields = sorted(tuple(line.split(": ", 1)) for line in lines[1:] if not line.startswith(("date: ", "connection: ")))
-    return int(lines[0].split(" ")[1]) if " " in lines[0] else 0, fields, body.decode("utf-8", "replace")
+def answered(port, line, more=""):
+    """The whole answer to a request, without its moment."""
+    return answers.undated(said(port, request(line, more=more)))
 
 
-def seen(body):
-    """A page's title, and the page from its head on; one without a head is whole."""
-    found = body.find("<header>")
-    return html_title(body), body[found:] if found >= 0 else body
-
-
-def html_title(body):
-    return body.partition("<title>")[2].partition("</title>")[0]
-
-
-def tag(body):
-    return '"%s"' % hashlib.sha256(body.encode()).hexdigest()
-
-
-def more(status, kept, body):
-    """The fields of an answer that say whether it may be kept and when to come again."""
-    fields = [("cache-control", kept), ("content-length", str(len(body.encode())))]
-    fields += [("etag", tag(body))] if status == 200 and kept != NEVER else []
-    return fields + ([("retry-after", "30")] if status in (502, 503) else [])
-
-
-def is_page(answer, status, kept, location, body):
-    found, fields, whole = parts(answer)
-    wanted = (WAY + [("location", location)] if location else PAGE) + more(status, kept, whole)
-    wanted += [("allow", "GET, HEAD")] if status == 405 else []
-    return found == status and fields == sorted(wanted) and seen(whole) == body and SECRET not in answer
-
-
-def is_json(answer, status, kept, body):
-    wanted = JSON + more(status, kept, body) + ([("allow", "GET, HEAD, OPTIONS")] if status == 405 else [])
-    return parts(answer) == (status, sorted(wanted), body)
+def wanted(status, kept, location, body, **how):
+    """The whole answer that a page or a redirect is."""
+    if location:
+        return answers.way(kept, location, body[1], **how)
+    return answers.page(status, kept, *body, **how)
 
 
 def asked(line, path):
@@ -429,59 +395,83 @@ def asked(line, path):
     return "%s %s" % (method, (path + rest).replace("/handles/..", ""))
 
 
+FRONT = "Find a handle - " + SITE_TEXT, HEADER + """<h1>Find a handle</h1>
+<form action="/" method="get">
+<p><label for="handle">A handle, as you found it:</label></p>
+<p class="find"><input id="handle" name="handle" placeholder="10/a" autocapitalize="off" autocomplete="off" spellcheck="false" required> <button>Go to it</button></p>
+</form>
+<p>A handle such as <code>10/a</code> is a lasting name of a text, a picture or data, which may move. Its address here leads to where that is now.</p>
+<p><small>With <code>?noredirect</code> behind a handle its values are shown. <code>/api/handles/</code> and a handle gives them as JSON.</small></p>
+</main>
+""" + FOOTER
+ROBOTS = "User-agent: *\nDisallow: /api/\n"
+ICON = ('<svg xmlns="http://www.w3.org/2000/svg" viewBox="0 0 16 16"><rect width="16" height="16" rx="3" fill="#1d6b57"/>'
+        '<path d="M5 3.5v9M11 3.5v9M5 8h6" stroke="#fff" stroke-width="2"/></svg>\n')
+
+
 def pages(port):
-    for line, status, kept, location, body in PAGES:
-        yield line, is_page(said(port, request(line)), status, kept, location, body)
+    for line, *answer in PAGES:
+        yield line, answered(port, line) == wanted(*answer)
     for line, status, kept, body in JSONS:
-        yield line, is_json(said(port, request(asked(line, "/api/handles"))), status, kept, body)
-    front = parts(said(port, request("GET /")))
-    yield "the front page", front[0] == 200 and '<form action="/" method="get">' in front[2] and "<script" not in front[2] and "<title>Find a handle - %s</title>" % SITE_TEXT in front[2]
+        yield line, answered(port, asked(line, "/api/handles")) == answers.json(status, kept, body)
+    yield "the front page", answered(port, "GET /") == answers.page(200, KEPT % 0, *FRONT)
     both = said(port, request("GET /10/none", False) + request("GET /20/archive"))
-    yield "two requests on a connection", both.count(b"HTTP/1.1 ") == 2 and both.index(b" 404 ") < both.index(b" 302 ")
-    status, fields, body = parts(said(port, request("HEAD /10/a")))
-    yield "HEAD", (status, body) == (302, "") and ("location", A_WAY[2]) in fields
-    status, _, _ = parts(said(port, b"GET /10/a HTTP/1.1\r\n\r\n"))
-    yield "no host", status == 400
+    none = wanted(404, NEVER, None, refusal("10/none", ABSENT, LOOK), ends=False)
+    yield "two requests on a connection", answers.undated(both) == none + wanted(*ARCHIVE_WAY)
+    yield "HEAD", answered(port, "HEAD /10/a") == wanted(*A_WAY, has_body=False)
+    yield "no host", answers.undated(said(port, b"GET /10/a HTTP/1.1\r\n\r\n")) == answers.unread(400)
 
 
 def files(port):
-    status, fields, body = parts(said(port, request("GET /robots.txt")))
-    yield "robots.txt", (status, body) == (200, "User-agent: *\nDisallow: /api/\n") and ("content-type", "text/plain; charset=utf-8") in fields
-    status, fields, body = parts(said(port, request("GET /favicon.ico")))
-    yield "the icon", status == 200 and body.startswith("<svg ") and ("content-type", "image/svg+xml") in fields and "script" not in body
-    status, fields, body = parts(said(port, request("OPTIONS /api/handles/10/a")))
-    yield "OPTIONS", (status, body) == (204, "") and set(OPTIONS + JSON[:1]) <= set(fields)
+    yield "robots.txt", answered(port, "GET /robots.txt") == answers.file(answers.TEXT, KEPT % DAY, ROBOTS)
+    yield "the icon", answered(port, "GET /favicon.ico") == answers.file(answers.ICON, KEPT % DAY, ICON)
+    yield "OPTIONS", answered(port, "OPTIONS /api/handles/10/a") == answers.whole(204, OPTIONS, "")
+
+
+# Answers that may be kept, each with its body.
+TAGGED = (
+    ("GET /10/a?noredirect", answers.page(200, KEPT % 3600, *A_PAGE)),
+    ("GET /10/script", answers.page(200, KEPT % 86400, *SCRIPT_PAGE)),
+    ("GET /api/handles/10/a", answers.json(200, KEPT % 3600, json_values("10/a", A_ONE, A_TWO, A_THREE))),
+    ("GET /api/handles/10/a?index=3&pretty", answers.json(200, KEPT % 86400, PRETTY)),
+    ("GET /", answers.page(200, KEPT % 0, *FRONT)),
+    ("GET /robots.txt", answers.file(answers.TEXT, KEPT % DAY, ROBOTS)),
+)
+UNTAGGED = (
+    ("GET /10/a", wanted(*A_WAY)),
+    ("GET /10/none", answers.page(404, NEVER, *refusal("10/none", ABSENT, LOOK))),
+    ("GET /api/handles/10/none", answers.json(404, NEVER, json_refusal("10/none", "This handle isn't there.", 100))),
+)
 
 
 def again(port):
     """Each answer that may be kept is asked for once more, by a client that has it, and by one that has another one."""
-    for line in ("GET /10/a?noredirect", "GET /10/script", "GET /api/handles/10/a", "GET /api/handles/10/a?pretty", "GET /", "GET /robots.txt"):
-        whole = parts(said(port, request(line)))
-        for known, status in ((tag(whole[2]), 304), ('"x", W/' + tag(whole[2]), 304), ("*", 304), (tag(whole[2] + " "), 200)):
-            answer = parts(said(port, request(line, more="if-none-match: %s\r\n" % known)))
-            kept = [field for field in whole[1] if field[0] in ("etag", "cache-control")]
-            yield "%s with %s" % (line, known), answer == whole if status == 200 else answer[0] == 304 and answer[2] == "" and set(kept) <= set(answer[1])
-    for line, status in (("GET /10/a", 302), ("GET /10/none", 404), ("GET /api/handles/10/none", 404)):
-        answer = parts(said(port, request(line, more="if-none-match: *\r\n")))
-        yield line + " has no tag", answer[0] == status and not any(name == "etag" for name, _ in answer[1])
+    for line, whole in TAGGED:
+        own = answers.tag(whole.partition(b"\r\n\r\n")[2].decode())
+        for known, answer in ((own, answers.unchanged(whole)), ('"x", W/' + own, answers.unchanged(whole)), ("*", answers.unchanged(whole)), (own[:-1] + '0"', whole)):
+            yield "%s with %s" % (line, known), answered(port, line, "if-none-match: %s\r\n" % known) == answer
+    for line, whole in UNTAGGED:
+        yield line + " has no tag", answered(port, line, "if-none-match: *\r\n") == whole
 
 
 def spread(port):
     """Which of two locations is led to, 400 times, over one connection: one weighs three times what the other does."""
     with socket.create_connection(("127.0.0.1", port)) as stream:
         stream.sendall(b"".join(request("GET /10/spread", False) for _ in range(399)) + request("GET /10/spread"))
-        answers = heard(stream)
-    first, second = answers.count(b"location: https://a.example.org/\r\n"), answers.count(b"location: https://b.example.org/\r\n")
-    yield "locations by weight", first + second == 400 and 50 <= first <= 150
+        came = answers.undated(heard(stream))
+    each = [b"HTTP/1.1 " + one for one in came.split(b"HTTP/1.1 ")[1:]]
+    ways = [[wanted(302, KEPT % 0, to, way("10/spread", to), ends=ends) for to in ("https://a.example.org/", "https://b.example.org/")] for ends in (False, True)]
+    yield "each is one of two locations", len(each) == 400 and set(each[:-1]) == set(ways[0]) and each[-1] in ways[1]
+    yield "locations by weight", 50 <= each.count(ways[0][0]) + each.count(ways[1][0]) <= 150
 
 
 def too_long(port):
     line = "GET /10/%s" % ("a" * 9000)
-    yield "a first line of 9,000 octets", parts(said(port, request(line)))[0] == 414
+    yield "a first line of 9,000 octets", answered(port, line) == answers.unread(414)
     head = b"GET /10/a HTTP/1.1\r\nhost: h\r\n" + b"x: %s\r\n" % (b"a" * 9000) + b"\r\n"
-    yield "a field of 9,000 octets", parts(said(port, head))[0] == 431
+    yield "a field of 9,000 octets", said(port, head) == answers.unread(431)
     head = b"GET /10/a HTTP/1.1\r\nhost: h\r\n" + b"x: y\r\n" * 200 + b"\r\n"
-    yield "200 fields", parts(said(port, head))[0] == 431
+    yield "200 fields", said(port, head) == answers.unread(431)
 
 
 def slow(port, ended):
@@ -516,8 +506,8 @@ def idle(port):
     with contextlib.ExitStack() as stack:
         streams = [stack.enter_context(socket.create_connection(("127.0.0.1", port))) for _ in range(IDLE)]
         began = time.monotonic()
-        answer = said(port, request("GET /20/archive"))
-        yield "%d idle clients, and one that is answered" % IDLE, parts(answer)[0] == 302 and time.monotonic() - began < 5
+        answer = answered(port, "GET /20/archive")
+        yield "%d idle clients, and one that is answered" % IDLE, answer == wanted(*ARCHIVE_WAY) and time.monotonic() - began < 5
         for stream in streams:
             stream.setblocking(False)
         yield "idle clients are left alone", not any(is_ended(stream) for stream in streams)
@@ -527,7 +517,7 @@ def idle(port):
         yield "idle clients are dropped behind 10 seconds", not streams and time.monotonic() - began > 9
     client.join(PATIENCE)
     yield "a slow client is dropped behind 10 seconds", len(ended) == 1 and 9 < ended[0] < PATIENCE
-    yield "others are answered behind them", parts(said(port, request("GET /20/archive")))[0] == 302
+    yield "others are answered behind them", answered(port, "GET /20/archive") == wanted(*ARCHIVE_WAY)
 
 
 def serve_badly(listener, reply, came):
@@ -550,8 +540,7 @@ def replies():
             threading.Thread(target=serve_badly, args=(listener, reply, came), daemon=True).start()
             with proxy([listener.getsockname()[1]]) as port:
                 for _ in range(4):
-                    answer = said(port, request("GET /10/a"))
-                    yield name, is_page(answer, status, kept, LOCATIONS.get(name), body)
+                    yield name, answered(port, "GET /10/a") == wanted(status, kept, LOCATIONS.get(name), body)
             yield name + ": what is asked", {asked[20:] for asked in came} == {ASKED}
 
 
@@ -567,8 +556,8 @@ def main():
             cases += part(port)
     cases += replies()
     with proxy(servers.free_ports(2)) as port:
-        cases.append(("nobody listens", is_page(said(port, request("GET /10/a")), 502, NEVER, None, refusal("10/a", UNANSWERED, LATER, "No answer"))))
-        cases.append(("nobody listens: JSON", is_json(said(port, request("GET /api/handles/10/a")), 502, NEVER, json_refusal("10/a", UNANSWERED, 2))))
+        cases.append(("nobody listens", answered(port, "GET /10/a") == answers.page(502, NEVER, *refusal("10/a", UNANSWERED, LATER, "No answer"))))
+        cases.append(("nobody listens: JSON", answered(port, "GET /api/handles/10/a") == answers.json(502, NEVER, json_refusal("10/a", UNANSWERED, 2))))
     for name, good in cases:
         if not good:
             print("%s: another answer than the one that should be" % name)

@@ -17,6 +17,7 @@ import time
 
 # nothing is left beside the tools
 sys.dont_write_bytecode = True
+import answers
 import repository
 import servers
 import wire
@@ -216,14 +217,20 @@ def changes():
             stream.close()
 
 
-def body_of(port, path):
-    """The status and the body of what is answered."""
+def whole_of(port, path):
+    """The whole answer, without its moment."""
     with socket.create_connection(("127.0.0.1", port)) as stream:
         stream.settimeout(30)
         stream.sendall(("GET %s HTTP/1.1\r\nhost: h\r\nconnection: close\r\n\r\n" % path).encode())
         octets = b""
         while piece := stream.recv(65536):
             octets += piece
+    return answers.undated(octets)
+
+
+def body_of(port, path):
+    """The status and the body of what is answered."""
+    octets = whole_of(port, path)
     return int(octets[9:12] or 0), octets.partition(b"\r\n\r\n")[2].decode()
 
 
@@ -245,6 +252,42 @@ def kept():
         yield "for its TTL", ask(port, "10/short")[0] == 503 and ask(port, "10/a")[0] == 302
         time.sleep(1)
         yield "for as long as is said", ask(port, "10/a")[0] == 503 and ask(port, "10/none")[0] == 503
+
+
+def redirect(handle, to, seconds):
+    """The whole answer that leads from this handle to this URL, and may be kept for so long."""
+    body = '<!DOCTYPE html>\n<meta charset="utf-8">\n<title>%s</title>\n<a href="%s">%s</a>\n' % (handle, to, to)
+    return answers.way(answers.KEPT % seconds, to, body)
+
+
+def led(to):
+    """Leads to this URL for a day; 10/spread to one of two places, and 10/alias to 10/a."""
+    places = b'<locations><location href="https://one.example.org/"/><location href="https://two.example.org/"/></locations>'
+    others = {b"10/spread": wire.value(1, b"10320/loc", places, READABLE, 86400), b"10/alias": wire.value(1, b"HS_ALIAS", b"10/a", READABLE, 600)}
+    return lambda handle: wire.values_reply(handle, others.get(handle, wire.value(1, b"URL", to, READABLE, 86400)))
+
+
+def ways():
+    """A redirect is given again as it was, octet for octet, for as long as its reply is kept; one that isn't of its reply alone is made anew."""
+    server = Server(led(b"https://example.org/first"))
+    with proxy((server, ""), options=["--cache", "2"]) as port:
+        began = time.monotonic()
+        first = redirect("10/a", "https://example.org/first", 86400)
+        found = [whole_of(port, "/10/a") for _ in range(4)]
+        server.answer = led(b"https://example.org/second")
+        found += [whole_of(port, path) for path in ("/10/a", "/hdl:10/a", "/hdl:10/a", "/hdl:10/a", "/10/a?", "/10/a?other")]
+        yield "a redirect is given again as it was", found == [first] * 10 and server.asked == [b"10/a"]
+        yield "a query is answered by itself", whole_of(port, "/10/a?urlappend=/1") == redirect("10/a", "https://example.org/first/1", 86400)
+        yield "a page is another answer", body_of(port, "/10/a?noredirect")[0] == body_of(port, "/api/handles/10/a")[0] == 200 and whole_of(port, "/10/a") == first
+        yield "what aliases lead to may be kept for less", [whole_of(port, "/10/alias") for _ in range(3)] == [redirect("10/a", "https://example.org/first", 600)] * 3
+        found = {whole_of(port, "/10/spread") for _ in range(40)}
+        yield "a location is drawn each time", found == {redirect("10/spread", "https://%s.example.org/" % one, 86400) for one in ("one", "two")}
+        yield "all were kept meanwhile", time.monotonic() - began < 2 and server.asked == [b"10/a", b"10/alias", b"10/spread"]
+        time.sleep(2.1)
+        second = redirect("10/a", "https://example.org/second", 86400)
+        yield "no longer than its reply", [whole_of(port, "/10/a") for _ in range(3)] == [second] * 3 and server.asked[3:] == [b"10/a"]
+        text = body_of(port, "/metrics")[1]
+        yield "each is counted", 'hdl_proxy_answers_total{kind="redirect",code="302"} %d' % (10 + 1 + 1 + 3 + 40 + 3) in text
 
 
 def alias(leads):
@@ -352,6 +395,22 @@ def full():
     yield "a full disk, by IPv6", answers == [b"HTTP/1.1 302"] * 3 and said.count("\n") == 1 and "log" in said
 
 
+def listeners():
+    """Threads at two addresses are one proxy: what it keeps and counts is the same for all."""
+    server = Server()
+    first, second = servers.free_ports(2)
+    words = [PROGRAM, "--listen", "127.0.0.1:%d" % first, "--listen", "127.0.0.1:%d" % second, "--threads", "3", "--cache", "60", "--server", "127.0.0.1:%d" % server.port]
+    with servers.running(words, 2):
+        wanted = redirect("10/a", "https://example.org/10/a", 86400)
+        yield "a handle is asked for once", [whole_of(port, "/10/a") for port in (first, second) * 3] == [wanted] * 6 and server.asked == [b"10/a"]
+        found = [at_once(port, ["10/%d" % (one % 8) for one in range(40)])[0] for port in (first, second)]
+        yield "many at once", found == [[302] * 40] * 2 and set(server.asked[1:]) == {b"10/%d" % one for one in range(8)}
+        yield "all are counted", 'hdl_proxy_answers_total{kind="redirect",code="302"} 86' in body_of(second, "/metrics")[1]
+    same = ["--listen", "127.0.0.1:%d" % first]
+    done = subprocess.run([PROGRAM, *same, *same, "--server", "h:1"], stdin=subprocess.DEVNULL, capture_output=True, text=True, timeout=20, check=False)
+    yield "an address that is taken is told", (done.returncode, done.stdout) == (1, "") and done.stderr.startswith("hdl: --listen 127.0.0.1:%d: " % first)
+
+
 def faults():
     for named, words in FAULTS:
         given = [word for name in named for word in ("--server", name)]
@@ -360,7 +419,7 @@ def faults():
 
 
 def main():
-    parts = (prefixes, referrals, silence, slowness, changes, kept, aliases, told, unread, full, faults)
+    parts = (prefixes, referrals, silence, slowness, changes, kept, ways, aliases, told, unread, full, listeners, faults)
     with concurrent.futures.ThreadPoolExecutor(len(parts)) as pool:
         cases = [case for found in pool.map(lambda part: list(part()), parts) for case in found]
     # its hundreds of threads would hold the other parts up

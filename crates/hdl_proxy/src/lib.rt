@@ -16,7 +16,7 @@
 //! // crates/hdl_web/src/desk.rt
 //! match begin(self.alloc, sent.method, sent.path, sent.query)? {
 //!     Next::Answer(answer) => Ok(Turn::Made(Ok(answer))),
-//!     Next::Ask(question) => self.board.take(question),
+//!     Next::Ask(question) => self.board.take(question, plain_path(sent)),
 //! }
 //! ```
 #![tactic(auto)]

@@ -1,5 +1,5 @@
 -- What is kept of replies.
-use Rattle.std.specs.Prelude.{◌≡◌, ◌<◌, ◌⊎◌, ℕ, Bool, Vec, List, Some}
+use Rattle.std.specs.Prelude.{◌≡◌, ◌<◌, ◌&&◌, ◌⊎◌, ℕ, Bool, false, Vec, List, Option, Some, None, nat_lt}
 use Rattle.std.specs.Str.{bytes_eq}
 use Rattle.std.specs.Map.{lookup}
 use Rattle.std.specs.declared.alloc.Global.{Global}
@@ -21,6 +21,11 @@ same_request one other = bytes_eq one.items other.items
 abbrev pub IsKept : Replies → List ℕ → ℕ → List ℕ → Type 0
 IsKept replies request now reply =
     (fresh : Fresh) × (lookup (is_request request) replies.entries ≡ Some fresh) × (fresh.reply.items ≡ reply) × (now < fresh.until)
+
+-- just this reply is the one that is kept, and it is fresh at this moment
+abbrev pub is_held : List ℕ → ℕ → Option Fresh → Bool
+is_held reply now None = false
+is_held reply now (Some fresh) = nat_lt now fresh.until && bytes_eq fresh.reply.items reply
 
 -- this reply is kept under this request for so long from this moment on, or nothing changes
 abbrev pub Keeps : Replies → Replies → List ℕ → List ℕ → ℕ → ℕ → Type 0

@@ -1,7 +1,8 @@
 //! Replies that are kept.
 
-ghost use Rattle.std.specs.Prelude.{◌≡◌, [], IfOk, IfSome};
-ghost use Rattle.hdl_routes.specs.Kept.{IsKept, Keeps};
+ghost use Rattle.std.specs.Prelude.{◌≡◌, [], IfOk, IfSome, option_copied};
+ghost use Rattle.std.specs.Map.{lookup};
+ghost use Rattle.hdl_routes.specs.Kept.{IsKept, Keeps, is_held, is_request};
 
 use lru::LruCache;
 use std::alloc::{AllocError, Global};
@@ -19,6 +20,16 @@ pub const REPLY_MOST: usize = 4096;
 pub struct Fresh {
     pub reply: Vec<u8>,
     pub until: u64,
+}
+
+/// Whether just this reply is the one that is kept, if one is, and fresh at this moment.
+fn is_held(kept: Option<&Fresh>, reply: &[u8], now: u64) -> bool
+    ensures { result ≡ is_held reply.now now (option_copied kept.entry) }
+{
+    match kept {
+        Some(fresh) => now < fresh.until && fresh.reply.as_slice() == reply,
+        None => false,
+    }
 }
 
 /// Replies by the requests that they answer, the ones that were used last.
@@ -46,6 +57,13 @@ impl Kept {
             Some(fresh) if now < fresh.until => Vec::from_slice(self.alloc, &fresh.reply).ok(),
             _ => None,
         }
+    }
+
+    /// Whether just this reply to this request is kept and fresh at this moment, so that what was made of it may be given again.
+    pub fn holds(&mut self, request: &[u8], reply: &[u8], now: u64) -> bool
+        ensures { result ≡ is_held reply.now now (lookup (is_request request.now) self.old.replies.entries) }
+    {
+        is_held(self.replies.get(request), reply, now)
     }
 
     /// Keeps the reply to a request for so many milliseconds from this moment on, unless it is too long. Want of memory keeps nothing.

@@ -8,6 +8,7 @@ use crate::gathering::{Gathered, Gathering, Turn};
 use crate::log::Open;
 use crate::response::response_of;
 use crate::text::text_response;
+use crate::ways::Way;
 use bytes::Bytes;
 use futures::channel::oneshot;
 use futures::task::{Context, Poll};
@@ -56,6 +57,7 @@ pub struct Answering<R, B> {
     gathering: Option<Gathering<R, B>>,
     made: Option<Made>,
     told: Option<(u16, String)>,
+    led: Option<Arc<Way>>,
     coming: Option<oneshot::Receiver<Made>>,
 }
 
@@ -64,10 +66,11 @@ impl<R: Wait + Clock + Drop, B: Drop> Answering<R, B> {
     pub(crate) fn next(alloc: Global, guest: Guest<R>, turn: Turn) -> Answering<R, B>
         ensures { result.gathering ≡ None }
     {
-        let (made, told, coming) = match turn {
-            Turn::Made(answer) => (Some(answer), None, None),
-            Turn::Told(status, text) => (None, Some((status, text)), None),
-            Turn::Coming(from) => (None, None, Some(from)),
+        let (made, told, led, coming) = match turn {
+            Turn::Made(answer) => (Some(answer), None, None, None),
+            Turn::Told(status, text) => (None, Some((status, text)), None, None),
+            Turn::Led(way) => (None, None, Some(way), None),
+            Turn::Coming(from) => (None, None, None, Some(from)),
         };
         Answering {
             alloc,
@@ -75,6 +78,7 @@ impl<R: Wait + Clock + Drop, B: Drop> Answering<R, B> {
             gathering: None,
             made,
             told,
+            led,
             coming,
         }
     }
@@ -93,6 +97,7 @@ impl<R: Wait + Clock + Drop, B: Drop> Answering<R, B> {
             gathering: Some(gathering),
             made: None,
             told: None,
+            led: None,
             coming: None,
         }
     }
@@ -107,6 +112,7 @@ impl<R: Wait + Clock + Drop, B: Drop> Answering<R, B> {
         match gathering.end(gathered) {
             Turn::Made(answer) => self.made = Some(answer),
             Turn::Told(status, text) => self.told = Some((status, text)),
+            Turn::Led(way) => self.led = Some(way),
             Turn::Coming(from) => self.coming = Some(from),
         }
     }
@@ -141,6 +147,18 @@ fn response_of_text<R: Wait + Clock>(
     text_response(alloc, status, text)
 }
 
+/// The response of a redirect that was kept, with which the visit is over.
+fn response_of_way<R: Wait + Clock>(
+    alloc: Global,
+    guest: &mut Guest<R>,
+    way: &Way,
+) -> Result<Response<Full<Bytes>>, AllocError> {
+    if let Some(visit) = &mut guest.visit {
+        visit.led(way.octets());
+    }
+    way.response(alloc)
+}
+
 impl<R: Wait + Clock + Drop, B: Future<Output = Gathered>> Future for Answering<R, B> {
     type Output = Result<Response<Full<Bytes>>, AllocError>;
 
@@ -160,6 +178,9 @@ impl<R: Wait + Clock + Drop, B: Future<Output = Gathered>> Future for Answering<
         if let Some((status, text)) = self.told.take() {
             let response = response_of_text(self.alloc, &mut self.guest, status, &text);
             return Poll::Ready(response);
+        }
+        if let Some(way) = self.led.take() {
+            return Poll::Ready(response_of_way(self.alloc, &mut self.guest, &way));
         }
         let Some(from) = &mut self.coming else {
             return Poll::Ready(Err(AllocError));

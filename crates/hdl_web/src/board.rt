@@ -7,13 +7,14 @@ use crate::lifetime::lifetime;
 use crate::log::Visit;
 use crate::metrics::Counts;
 use crate::servers::Resolver;
+use crate::ways::{Shelf, Way};
 use crate::worker::Errand;
 use crossbeam_channel::Sender;
 use futures::channel::oneshot;
 use hdl_client::Reply;
 use hdl_msg::ResponseCode;
 use hdl_proxy::{Answer, HOPS_MOST, Next, NoAnswer, Question, Site, finish, next_step};
-use hdl_routes::{Kept, Miss, Route, Standing, places_for, worst};
+use hdl_routes::{Miss, Route, Standing, places_for, worst};
 use std::alloc::{AllocError, Global};
 use std::sync::atomic::{AtomicU64, Ordering};
 use std::sync::{Arc, Mutex, Wait};
@@ -49,8 +50,8 @@ pub struct Board<R> {
     pub(crate) limit: u64,
     /// Whether handles are changed.
     pub(crate) writes: bool,
-    /// Replies that are kept, and for how many milliseconds at most, where any are.
-    pub(crate) kept: Option<Mutex<Kept>>,
+    /// What is kept, and replies for how many milliseconds at most, where any are.
+    pub(crate) shelf: Option<Mutex<Shelf>>,
     pub(crate) keeps: u64,
     pub(crate) counts: Counts,
     /// How many numbers were drawn, from a random one on, in steps that are odd.
@@ -105,14 +106,30 @@ impl<R: Wait + Clock> Board<R> {
 
     /// The reply to this message that is kept, if one is.
     fn kept_reply(&self, message: &[u8]) -> Option<Vec<u8>> {
-        let kept = self.kept.as_ref()?;
+        let shelf = self.shelf.as_ref()?;
         let now = self.now();
-        kept.lock(&self.rt).find(message, now)
+        shelf.lock(&self.rt).kept.find(message, now)
+    }
+
+    /// The redirect that answers a request of this path alone, if one is kept.
+    pub(crate) fn way(&self, path: &str) -> Option<Arc<Way>> {
+        let shelf = self.shelf.as_ref()?;
+        let now = self.now();
+        let way = shelf.lock(&self.rt).way(path, now)?;
+        self.counts.kept.fetch_add(1, Ordering::Relaxed);
+        Some(way)
+    }
+
+    /// Keeps what a request of this path alone was answered by, as its question's reply says.
+    fn keep_way(&self, path: &str, message: Vec<u8>, reply: Vec<u8>, answer: &Answer) {
+        if let Some(shelf) = &self.shelf {
+            shelf.lock(&self.rt).keep_way(path, message, reply, answer);
+        }
     }
 
     /// Keeps a reply, for as long as it may be kept.
     fn keep(&self, message: &[u8], reply: &Reply) {
-        let Some(kept) = &self.kept else {
+        let Some(shelf) = &self.shelf else {
             return;
         };
         let Some(seconds) = lifetime(self.alloc, &reply.view()) else {
@@ -120,13 +137,16 @@ impl<R: Wait + Clock> Board<R> {
         };
         let now = self.now();
         let time = seconds.saturating_mul(1000).min(self.keeps);
-        kept.lock(&self.rt)
+        shelf
+            .lock(&self.rt)
+            .kept
             .keep(message, reply.message(), now, time);
     }
 
-    /// A question as far as what is kept answers it, and the handles that its aliases name.
-    fn known(&self, question: Question) -> Result<Known, AllocError> {
+    /// A question as far as what is kept answers it, and the handles that its aliases name. `path` is that of its request, where nothing else is asked by it.
+    fn known(&self, question: Question, path: Option<&str>) -> Result<Known, AllocError> {
         let mut question = question;
+        let mut path = path;
         for _ in 0..=HOPS_MOST {
             // a question has no message where it is longer than a message may be, which no head of 8 KiB comes to
             let Some(message) = question.message(self.alloc)? else {
@@ -140,18 +160,25 @@ impl<R: Wait + Clock> Board<R> {
             match next_step(self.alloc, question, Ok(&reply), self.chance())? {
                 Next::Answer(answer) => {
                     self.counts.kept.fetch_add(1, Ordering::Relaxed);
+                    if let Some(path) = path {
+                        self.keep_way(path, message, reply, &answer);
+                    }
                     return Ok(Known::Answer(answer));
                 }
-                Next::Ask(next) => question = next,
+                Next::Ask(next) => {
+                    question = next;
+                    // what aliases lead to is made of several replies
+                    path = None;
+                }
             }
         }
         // so many aliases aren't followed, so none is left here
         Err(AllocError)
     }
 
-    /// Takes a question: it is answered by what is kept, or its answer comes.
-    pub(crate) fn take(&self, question: Question) -> Result<Turn, AllocError> {
-        match self.known(question)? {
+    /// Takes a question: it is answered by what is kept, or its answer comes. `path` is that of its request, where nothing else is asked by it.
+    pub(crate) fn take(&self, question: Question, path: Option<&str>) -> Result<Turn, AllocError> {
+        match self.known(question, path)? {
             Known::Answer(answer) => Ok(Turn::Made(Ok(answer))),
             Known::Open(question, message, turn) => {
                 let (answer, from) = oneshot::channel(self.alloc)?;
@@ -182,7 +209,7 @@ impl<R: Wait + Clock> Board<R> {
 
     /// Goes on with the question that an alias led to.
     fn resume(&self, question: Question, answer: oneshot::Sender<Made>) {
-        match self.known(question) {
+        match self.known(question, None) {
             Ok(Known::Open(question, message, turn)) => {
                 self.send(question, message, turn, answer);
             }

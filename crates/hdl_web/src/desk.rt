@@ -4,6 +4,7 @@ use crate::answering::{Answering, Guest, Seen};
 use crate::board::Board;
 use crate::gathering::{BODY_MOST, BODY_SECONDS, Counter, Gathering, Turn};
 use crate::log::Open;
+use crate::ways::Way;
 use bytes::Bytes;
 use hdl_proxy::{Next, begin};
 use hdl_writes::{Begun, Order, Sent, begin_with_key};
@@ -35,6 +36,29 @@ enum Start<R> {
     Order(Order, Counter<R>),
 }
 
+/// What a request says in its head.
+fn sent_by<B>(req: &Request<B>) -> Sent<'_> {
+    let authorization = match req.headers().get(AUTHORIZATION) {
+        Some(value) => Some(value.as_bytes()),
+        None => None,
+    };
+    Sent {
+        method: req.method().as_str(),
+        path: req.uri().path(),
+        query: req.uri().query().unwrap_or(""),
+        authorization,
+    }
+}
+
+/// The path of a request that is answered by its path alone.
+fn plain_path(sent: Sent<'_>) -> Option<&str> {
+    if sent.method == "GET" && sent.query.is_empty() {
+        Some(sent.path)
+    } else {
+        None
+    }
+}
+
 impl<R: Wait + Clock + Copy + Drop> Desk<R> {
     pub(crate) fn new(rt: R, alloc: Global, timers: Handle, board: Arc<Board<R>>) -> Desk<R> {
         Desk {
@@ -55,7 +79,7 @@ impl<R: Wait + Clock + Copy + Drop> Desk<R> {
     fn take(&self, sent: Sent<'_>) -> Result<Turn, AllocError> {
         match begin(self.alloc, sent.method, sent.path, sent.query)? {
             Next::Answer(answer) => Ok(Turn::Made(Ok(answer))),
-            Next::Ask(question) => self.board.take(question),
+            Next::Ask(question) => self.board.take(question, plain_path(sent)),
         }
     }
 
@@ -101,6 +125,11 @@ impl<R: Wait + Clock + Copy + Drop> Desk<R> {
         }
     }
 
+    /// The redirect that is kept for a request, if one is. No path under `/api/` has one, so a key that came along says nothing.
+    fn way(&self, sent: Sent<'_>) -> Option<Arc<Way>> {
+        self.board.way(plain_path(sent)?)
+    }
+
     /// What is told of the proxy itself, where that is asked for.
     fn told(&self, path: &str) -> Result<Option<Turn>, AllocError> {
         match path {
@@ -118,19 +147,14 @@ impl<R: Wait + Clock + Copy + Drop> Desk<R> {
 
     /// What a request is, by its head.
     fn start<B>(&self, req: &Request<B>) -> Result<Start<R>, AllocError> {
-        if let Some(told) = self.told(req.uri().path())? {
+        let sent = sent_by(req);
+        if let Some(way) = self.way(sent) {
+            return Ok(Start::Turn(Turn::Led(way)));
+        }
+        if let Some(told) = self.told(sent.path)? {
             return Ok(Start::Turn(told));
         }
-        let authorization = match req.headers().get(AUTHORIZATION) {
-            Some(value) => Some(value.as_bytes()),
-            None => None,
-        };
-        self.begun(Sent {
-            method: req.method().as_str(),
-            path: req.uri().path(),
-            query: req.uri().query().unwrap_or(""),
-            authorization,
-        })
+        self.begun(sent)
     }
 }
 

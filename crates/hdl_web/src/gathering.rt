@@ -4,6 +4,7 @@ ghost use Rattle.std.specs.Prelude.{◌≡◌};
 
 use crate::asks::Made;
 use crate::board::{Board, WAITING_MOST};
+use crate::ways::Way;
 use crate::worker::Errand;
 use crossbeam_channel::Sender;
 use futures::channel::oneshot;
@@ -32,6 +33,8 @@ pub(crate) enum Turn {
     Coming(oneshot::Receiver<Made>),
     /// A text with this status.
     Told(u16, String),
+    /// A redirect that was kept.
+    Led(Arc<Way>),
 }
 
 /// The way to who carries out orders.

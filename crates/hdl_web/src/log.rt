@@ -1,9 +1,9 @@
 //! A line for each visit.
 
 use crate::board::Board;
-use crate::metrics::kind_of;
+use crate::metrics::{Kind, kind_of};
 use crossbeam_channel::{Receiver, Sender};
-use hdl_proxy::Answer;
+use hdl_proxy::{Answer, Status};
 use jiff_core::Timestamp;
 use jiff_fmt::temporal::DateTimePrinter;
 use percent_encoding::{AsciiSet, CONTROLS, ascii_set, percent_encode};
@@ -142,6 +142,15 @@ impl<R: Wait + Clock> Open<R> {
             .counts
             .answered(&self.board.rt, kind_of(answer), status);
         self.told(status, answer.body.len());
+    }
+
+    /// It is over, with a redirect whose body has so many octets.
+    pub(crate) fn led(&mut self, octets: usize) {
+        let status = Status::Found.number();
+        self.board
+            .counts
+            .answered(&self.board.rt, Kind::Redirect, status);
+        self.told(status, octets);
     }
 
     /// Its line is written, where any are.

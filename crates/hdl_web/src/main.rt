@@ -1,12 +1,12 @@
 //! The program `hdl proxy`, over HTTP/1.1: sockets, threads and time around `hdl_proxy`, which has what is asked and answered.
 //!
 //! ```text
-//! hyper, one event loop -> Desk: begin -> at once, or a channel -> a thread for each asker: ask, finish -> Answering -> hyper
+//! hyper, event loops -> Desk: begin -> at once, or a channel -> a thread for each asker: ask, finish -> Answering -> hyper
 //!                      with --writes: begin_with_key, the body -> a channel -> one thread: carry_out -> Answering -> hyper
 //! ```
 //!
-//! One thread has all connections, and never waits for a server: each asker (`Servers`) has a thread of its own, and connections to
-//! its servers that it keeps. A head has at most 8 KiB, and ten seconds to come whole, also where a connection is idle. It promises
+//! A thread that serves, one or as many as are asked for, never waits for a server: each asker (`Servers`) has a thread of its own, and
+//! connections to its servers that it keeps. A head has at most 8 KiB, and ten seconds to come whole, also where a connection is idle. It promises
 //! that it is safe, whatever comes, and that a response has its answer's status; what is read and written is `hyper`'s. Nothing of
 //! `hdl` but this program needs `hyper`, so asking in words is proved without it.
 #![tactic(auto)]
@@ -15,6 +15,7 @@ mod answering;
 mod asks;
 mod board;
 mod desk;
+mod event_loop;
 mod gathering;
 mod holders;
 mod lifetime;
@@ -28,14 +29,16 @@ mod serving;
 mod staff;
 mod text;
 mod visitors;
+mod ways;
 mod words;
 mod worker;
 
+use event_loop::listen_at;
 use hdl_proxy::Site;
 use hdl_routes::{Route, read_route};
 use log::Log;
 use servers::{Server, Writer};
-use serving::serve_http;
+use serving::{Listening, serve_http};
 use staff::{Crew, Plan, Staff};
 use std::alloc::AllocError;
 use std::fs::OpenOptions;
@@ -140,16 +143,34 @@ fn lines_to(rt: &HostRuntime, words: &ProxyWords) -> io::Result<Option<Log>> {
     Ok(Some(Log::File(how.open(rt, path.as_str())?)))
 }
 
-/// What is served: where, and who asks.
-fn opened(
+/// Adds what listens at the address that this word names.
+fn listen(
     rt: &HostRuntime,
     words: &ProxyWords,
-    routes: Vec<Route>,
-) -> io::Result<(SocketAddr, Staff<Server, Writer>)> {
-    let Ok(listen) = words.listen.parse::<SocketAddr>() else {
-        return Err(io::Error::other("--listen wants an IP address and a port"));
+    word: &str,
+    listening: &mut Listening,
+) -> io::Result<()> {
+    let Ok(address) = word.parse::<SocketAddr>() else {
+        return Err(io::Error::other("it wants an IP address and a port, as 127.0.0.1:8080"));
     };
-    Ok((listen, hired(rt, words, routes)?))
+    listen_at(rt, &mut listening.loops, address, words.threads)?;
+    listening.addresses.push(address)?;
+    Ok(())
+}
+
+/// What listens at the addresses that the words name. None where one of them can't be had, which is told.
+fn listening(rt: &HostRuntime, words: &ProxyWords) -> Option<Listening> {
+    let mut listening = Listening {
+        addresses: Vec::new(rt.alloc()),
+        loops: Vec::new(rt.alloc()),
+    };
+    for word in &words.listen {
+        if let Err(fault) = listen(rt, words, word, &mut listening) {
+            let _ = eprintln!(rt; "hdl: --listen {word}: {fault}");
+            return None;
+        }
+    }
+    Some(listening)
 }
 
 fn main(rt: HostRuntime) -> ExitCode {
@@ -167,8 +188,11 @@ fn main(rt: HostRuntime) -> ExitCode {
             return ExitCode::from(1);
         }
     };
-    let served = match opened(&rt, &words, routes) {
-        Ok((listen, staff)) => serve_http(&rt, listen, staff, log, &mut rt.stdout()),
+    let Some(listening) = listening(&rt, &words) else {
+        return ExitCode::from(1);
+    };
+    let served = match hired(&rt, &words, routes) {
+        Ok(staff) => serve_http(&rt, listening, staff, log, &mut rt.stdout()),
         Err(fault) => Err(fault),
     };
     if let Err(fault) = served {

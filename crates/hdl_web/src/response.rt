@@ -164,22 +164,23 @@ fn put_keeping(
     }
 }
 
-fn put_headers(
+/// The fields of an answer's response. `changes` says whether handles are changed here.
+pub(crate) fn headers_of(
     alloc: Global,
-    headers: &mut HeaderMap<HeaderValue>,
     answer: &Answer,
     changes: bool,
-) -> Result<(), AllocError> {
-    put_media(headers, answer.media)?;
-    put_status(headers, answer, changes)?;
-    put_keeping(alloc, headers, answer.keeping)?;
+) -> Result<HeaderMap<HeaderValue>, AllocError> {
+    let mut headers = HeaderMap::new(alloc);
+    put_media(&mut headers, answer.media)?;
+    put_status(&mut headers, answer, changes)?;
+    put_keeping(alloc, &mut headers, answer.keeping)?;
     if let Some(tag) = &answer.tag {
-        put_text(alloc, headers, ETAG, tag.as_str())?;
+        put_text(alloc, &mut headers, ETAG, tag.as_str())?;
     }
     if let Some(location) = &answer.location {
-        put_text(alloc, headers, LOCATION, location.as_str())?;
+        put_text(alloc, &mut headers, LOCATION, location.as_str())?;
     }
-    Ok(())
+    Ok(headers)
 }
 
 /// The response of an answer: its status, its headers and its body. `changes` says whether handles are changed here.
@@ -195,7 +196,7 @@ pub fn response_of(
     };
     let mut head = Parts::new(alloc);
     head.status = status;
-    put_headers(alloc, &mut head.headers, answer, changes)?;
+    head.headers = headers_of(alloc, answer, changes)?;
     let body = Bytes::copy_from_slice(alloc, &answer.body)?;
     Ok(Response::from_parts(head, Full::new(body)))
 }

@@ -2,6 +2,7 @@
 
 use crate::board::Board;
 use crate::desk::Desk;
+use crate::event_loop::EventLoop;
 use crate::log::{Visit, write_lines};
 use crate::parting::Parting;
 use crate::patient::Patient;
@@ -16,12 +17,12 @@ use hyper::server::conn::http1::{Builder, Connection};
 use std::alloc::{AllocGlobal, Global};
 use std::hash::RandomState;
 use std::io::{self, Eprint, Write};
-use std::net::{Net, SocketAddr};
+use std::net::SocketAddr;
 use std::random::RandomSource;
 use std::sync::{Arc, Wait};
 use std::thread::{self, Threads};
 use std::time::{Clock, Duration};
-use tokio::net::{TcpListener, TcpStream};
+use tokio::net::TcpStream;
 use tokio::runtime::LocalRuntime;
 use tokio::time::{Handle, Sleep};
 
@@ -96,32 +97,48 @@ where
     runtime.run_all(rt, visitors)
 }
 
-/// Serves the connections of a listener, whose questions and orders go to this board.
-fn serve_listener<R>(
-    rt: &R,
-    runtime: &mut LocalRuntime,
-    listener: TcpListener,
-    board: Arc<Board<R>>,
-) -> io::Result<()>
+/// Serves the connections of an event loop's listener, whose questions and orders go to this board.
+fn serve_loop<R>(rt: &R, event_loop: EventLoop, board: Arc<Board<R>>) -> io::Result<()>
 where
     R: Wait + Clock + RandomSource + AllocGlobal + Copy + Drop,
 {
-    let reception = opened(rt, runtime, board)?;
-    serve_all(rt, runtime, Visitors::new(listener.incoming(), reception))
+    let EventLoop {
+        mut runtime,
+        listener,
+    } = event_loop;
+    let reception = opened(rt, &runtime, board)?;
+    serve_all(
+        rt,
+        &mut runtime,
+        Visitors::new(listener.incoming(), reception),
+    )
 }
 
-/// A runtime, and a listener in it.
-fn listening<R>(rt: &R, listen: SocketAddr) -> io::Result<(LocalRuntime, TcpListener)>
+/// Serves each event loop on a thread of its own. Where one of them ends, all do, with its fault.
+fn serve_loops<R>(rt: &R, loops: Vec<EventLoop>, board: Arc<Board<R>>) -> io::Result<()>
 where
-    R: Net + Clock + RandomSource + AllocGlobal,
+    R: Wait + Threads + Clock + RandomSource + AllocGlobal + Copy + Send + Sync + Drop + 'static,
 {
-    let runtime = LocalRuntime::new(rt)?;
-    let listener = TcpListener::bind(rt, listen, runtime.handle().reactor())?;
-    Ok((runtime, listener))
+    let (ended, ends) = unbounded(rt.alloc())?;
+    for event_loop in loops {
+        let theirs = *rt;
+        let board = Arc::try_clone(&board)?;
+        let ended = ended.clone()?;
+        drop(thread::spawn(rt, move || {
+            let end = serve_loop(&theirs, event_loop, board);
+            let _ = ended.send(&theirs, end);
+        })?);
+    }
+    match ends.recv(rt) {
+        Ok(end) => end,
+        Err(_) => Err(io::Error::other("nothing is served")),
+    }
 }
 
-fn say_address(output: &mut impl Write, listen: SocketAddr) -> io::Result<()> {
-    writeln!(output, "http://{listen}/")?;
+fn say_addresses(output: &mut impl Write, addresses: &[SocketAddr]) -> io::Result<()> {
+    for address in addresses {
+        writeln!(output, "http://{address}/")?;
+    }
     output.flush()
 }
 
@@ -141,34 +158,24 @@ where
     Ok(Some(visits))
 }
 
-/// Serves the connections of a listener, whose address is told once servers can be asked.
-fn serve_with<R>(
-    rt: &R,
-    runtime: &mut LocalRuntime,
-    listener: TcpListener,
-    listen: SocketAddr,
-    board: Arc<Board<R>>,
-    output: &mut impl Write,
-) -> io::Result<()>
-where
-    R: Wait + Clock + RandomSource + AllocGlobal + Copy + Drop,
-{
-    say_address(output, listen)?;
-    serve_listener(rt, runtime, listener, board)
+/// What listens: event loops, and the addresses of their listeners.
+#[derive(Drop)]
+pub struct Listening {
+    pub addresses: Vec<SocketAddr>,
+    pub loops: Vec<EventLoop>,
 }
 
-/// Serves HTTP at this address until the process ends. Each asker has a thread of its own, so as many questions are asked at once. A line of each visit is
-/// written to the log, if there is one.
+/// Serves HTTP on these event loops until the process ends. Each has a thread of its own, and so has each asker, so as many questions are asked at once. A line
+/// of each visit is written to the log, if there is one. The addresses are told once servers can be asked.
 pub fn serve_http<R, S, C, L>(
     rt: &R,
-    listen: SocketAddr,
+    listening: Listening,
     staff: Staff<S, C>,
     log: Option<L>,
     output: &mut impl Write,
 ) -> io::Result<()>
 where
-    R: Net
-        + Wait
+    R: Wait
         + Threads
         + Clock
         + RandomSource
@@ -183,8 +190,9 @@ where
     C: Clerk + Send + 'static,
     L: Write + Send + Drop + 'static,
 {
-    let (mut runtime, listener) = listening(rt, listen)?;
+    let Listening { addresses, loops } = listening;
     let visits = start_log(rt, log)?;
     let board = start_asking(rt, staff, visits)?;
-    serve_with(rt, &mut runtime, listener, listen, board, output)
+    say_addresses(output, &addresses)?;
+    serve_loops(rt, loops, board)
 }

@@ -6,10 +6,11 @@ use crate::holders::Holders;
 use crate::log::Visit;
 use crate::metrics::Counts;
 use crate::servers::{Clerk, Resolver};
+use crate::ways::Shelf;
 use crate::worker::{Errand, work, work_on_orders};
 use crossbeam_channel::{Receiver, Sender, unbounded};
 use hdl_proxy::Site;
-use hdl_routes::{Kept, Route, Standing};
+use hdl_routes::{Route, Standing};
 use std::alloc::{AllocGlobal, Global};
 use std::hash::RandomState;
 use std::io;
@@ -123,12 +124,12 @@ where
 }
 
 /// What replies are kept in, if any are.
-fn keeping<R: RandomSource + AllocGlobal>(rt: &R, keeps: u64) -> io::Result<Option<Mutex<Kept>>> {
+fn shelf<R: RandomSource + AllocGlobal>(rt: &R, keeps: u64) -> io::Result<Option<Mutex<Shelf>>> {
     if keeps == 0 {
         return Ok(None);
     }
-    let kept = Kept::new(rt.alloc(), RandomState::new(rt)?)?;
-    Ok(Some(Mutex::new(kept)))
+    let shelf = Shelf::new(rt.alloc(), RandomState::new(rt)?, RandomState::new(rt)?)?;
+    Ok(Some(Mutex::new(shelf)))
 }
 
 fn random<R: RandomSource>(rt: &R) -> io::Result<u64> {
@@ -157,7 +158,7 @@ where
         began: Instant::now(rt)?,
         limit: plan.limit,
         writes: plan.writes,
-        kept: keeping(rt, plan.keeps)?,
+        shelf: shelf(rt, plan.keeps)?,
         keeps: plan.keeps,
         counts: Counts::new(alloc),
         drawn: AtomicU64::new(random(rt)?),

@@ -13,6 +13,9 @@ const LISTEN: &str = "127.0.0.1:8080";
 /// What the site of the pages is called, where it has no other name.
 const SITE: &str = "Handles";
 
+/// How many threads serve the connections of an address, where no other number is named.
+const THREADS: u64 = 1;
+
 /// How many questions a server is asked at once, where no other number is named.
 const ASKERS: u64 = 2;
 
@@ -23,7 +26,9 @@ const TIMEOUT: u64 = 5;
 #[derive(Drop)]
 pub struct ProxyWords {
     /// Where it listens.
-    pub listen: String,
+    pub listen: Vec<String>,
+    /// How many threads serve the connections of each address: 1 to 64.
+    pub threads: u64,
     /// Whom it asks, in this order.
     pub servers: Vec<String>,
     /// How many questions it asks each at once: 1 to 64.
@@ -60,8 +65,16 @@ fn command<'a>(alloc: Global) -> Result<Command<'a>, AllocError> {
             Arg::new(alloc, "listen")
                 .long("listen")
                 .value_name("ADDRESS:PORT")
-                .help("Where it listens; without it on 127.0.0.1:8080")
-                .action(ArgAction::Set),
+                .help("Where it listens, repeated for more; without it on 127.0.0.1:8080")
+                .action(ArgAction::Append),
+        )?
+        .arg(
+            Arg::new(alloc, "threads")
+                .long("threads")
+                .value_name("N")
+                .help("How many threads serve the connections of each address, 1 without it")
+                .action(ArgAction::Set)
+                .value_parser(value_parser!(u64).range(1..65)),
         )?
         .arg(
             Arg::new(alloc, "server")
@@ -140,6 +153,10 @@ fn proxy_words(alloc: Global, found: &ArgMatches<'_>) -> Result<ProxyWords, Allo
     for server in found.get_strs("server").unwrap_or(&[]) {
         servers.push(String::from_str(alloc, server)?)?;
     }
+    let mut listen = Vec::new(alloc);
+    for address in found.get_strs("listen").unwrap_or(&[LISTEN]) {
+        listen.push(String::from_str(alloc, address)?)?;
+    }
     let contact = match found.get_str("contact") {
         Some(contact) => Some(String::from_str(alloc, contact)?),
         None => None,
@@ -149,7 +166,8 @@ fn proxy_words(alloc: Global, found: &ArgMatches<'_>) -> Result<ProxyWords, Allo
         None => None,
     };
     Ok(ProxyWords {
-        listen: String::from_str(alloc, found.get_str("listen").unwrap_or(LISTEN))?,
+        listen,
+        threads: found.get_one::<u64>("threads").unwrap_or(THREADS),
         servers,
         askers: found.get_one::<u64>("askers").unwrap_or(ASKERS),
         timeout: found.get_one::<u64>("timeout").unwrap_or(TIMEOUT),

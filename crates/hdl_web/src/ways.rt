@@ -1,0 +1,166 @@
+//! Redirects that are kept beside the replies that they were made of.
+
+ghost use Rattle.std.specs.Prelude.{◌≡◌, IfOk};
+ghost use Rattle.http.specs.Response.{head_of};
+
+use crate::response::headers_of;
+use bytes::Bytes;
+use hdl_msg::{ContentView, read_reply};
+use hdl_proxy::{Answer, Status};
+use hdl_routes::Kept;
+use http::StatusCode;
+use http::header::{HeaderMap, HeaderValue};
+use http::response::{Parts, Response};
+use http_body_util::Full;
+use lru::LruCache;
+use std::alloc::{AllocError, Global};
+use std::hash::RandomState;
+use std::num::NonZeroUsize;
+use std::sync::Arc;
+
+/// The most redirects that are kept.
+const WAYS_MOST: usize = 4096;
+
+/// The most octets of the path, the question and the reply of a redirect that is kept, together.
+const WAY_MOST: usize = 4096;
+
+/// The type of a value that says several locations.
+const LOCATIONS: &[u8] = b"10320/loc";
+
+/// A redirect as it was answered, and of which reply to which question it was made.
+#[derive(Drop)]
+pub(crate) struct Way {
+    message: Vec<u8>,
+    reply: Vec<u8>,
+    headers: HeaderMap<HeaderValue>,
+    body: Bytes,
+}
+
+impl Way {
+    /// How many octets its body has.
+    pub(crate) fn octets(&self) -> usize {
+        self.body.len()
+    }
+
+    /// The response that it is: the one that was answered.
+    pub(crate) fn response(&self, alloc: Global) -> Result<Response<Full<Bytes>>, AllocError>
+        ensures status { IfOk result (λ response. (head_of response).status ≡ 302) }
+    {
+        let mut head = Parts::new(alloc);
+        head.status = StatusCode::FOUND;
+        head.headers = self.headers.clone()?;
+        let body = self.body.clone()?;
+        Ok(Response::from_parts(head, Full::new(body)))
+    }
+}
+
+/// Whether what is answered by a reply isn't always the same: where it says locations, each answer draws one. What can't be read counts as if it did.
+fn is_drawn(alloc: Global, reply: &[u8]) -> bool {
+    let Ok(read) = read_reply(reply) else {
+        return true;
+    };
+    let ContentView::Values { values, .. } = read.content else {
+        return true;
+    };
+    for cut in values {
+        match cut.read(alloc) {
+            Ok(value) if value.kind.as_slice() != LOCATIONS => {}
+            _ => return true,
+        }
+    }
+    false
+}
+
+/// What a question's reply was answered by, as it may be given again: a redirect that any such question has. None where it is anything else, or
+/// memory was refused.
+fn way_of(alloc: Global, message: Vec<u8>, reply: Vec<u8>, answer: &Answer) -> Option<Way> {
+    if answer.status != Status::Found || is_drawn(alloc, &reply) {
+        return None;
+    }
+    Some(Way {
+        message,
+        reply,
+        headers: headers_of(alloc, answer, false).ok()?,
+        body: Bytes::copy_from_slice(alloc, &answer.body).ok()?,
+    })
+}
+
+/// Redirects by the paths that they answer, the ones that were used last.
+#[derive(Drop)]
+struct Ways {
+    alloc: Global,
+    ways: LruCache<Vec<u8>, Arc<Way>, RandomState>,
+}
+
+impl Ways {
+    fn new(alloc: Global, hasher: RandomState) -> Result<Ways, AllocError> {
+        let most = NonZeroUsize::new(WAYS_MOST).unwrap_or(NonZeroUsize::MIN);
+        let ways = LruCache::with_hasher(alloc, most, hasher)?;
+        Ok(Ways { alloc, ways })
+    }
+
+    fn find(&mut self, path: &str) -> Option<Arc<Way>> {
+        let way = self.ways.get(path.as_bytes())?;
+        Arc::try_clone(way).ok()
+    }
+
+    /// Keeps a redirect. Want of memory keeps nothing.
+    fn keep(&mut self, path: &str, way: Way) {
+        let Ok(key) = Vec::from_slice(self.alloc, path.as_bytes()) else {
+            return;
+        };
+        if let Ok(way) = Arc::new(self.alloc, way) {
+            let _ = self.ways.put(key, way);
+        }
+    }
+}
+
+/// What is kept: replies, and the redirects that were made of them.
+#[derive(Drop)]
+pub(crate) struct Shelf {
+    pub(crate) kept: Kept,
+    ways: Ways,
+}
+
+impl Shelf {
+    pub(crate) fn new(
+        alloc: Global,
+        hasher: RandomState,
+        other: RandomState,
+    ) -> Result<Shelf, AllocError> {
+        Ok(Shelf {
+            kept: Kept::new(alloc, hasher)?,
+            ways: Ways::new(alloc, other)?,
+        })
+    }
+
+    /// The redirect that answers this path, if one is kept, and just the reply that it was made of is kept too, and fresh at this moment.
+    pub(crate) fn way(&mut self, path: &str, now: u64) -> Option<Arc<Way>> {
+        let way = self.ways.find(path)?;
+        if self.kept.holds(&way.message, &way.reply, now) {
+            Some(way)
+        } else {
+            None
+        }
+    }
+
+    /// Keeps what this path was answered by, where that is a redirect that may be given again, and isn't too long.
+    pub(crate) fn keep_way(
+        &mut self,
+        path: &str,
+        message: Vec<u8>,
+        reply: Vec<u8>,
+        answer: &Answer,
+    ) {
+        let octets = path
+            .len()
+            .saturating_add(message.len())
+            .saturating_add(reply.len());
+        if octets > WAY_MOST {
+            return;
+        }
+        if let Some(way) = way_of(self.ways.alloc, message, reply, answer) {
+            self.ways.keep(path, way);
+        }
+    }
+}
