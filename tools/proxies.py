@@ -558,12 +558,7 @@ def main():
     with proxy(servers.free_ports(2)) as port:
         cases.append(("nobody listens", answered(port, "GET /10/a") == answers.page(502, NEVER, *refusal("10/a", UNANSWERED, LATER, "No answer"))))
         cases.append(("nobody listens: JSON", answered(port, "GET /api/handles/10/a") == answers.json(502, NEVER, json_refusal("10/a", UNANSWERED, 2))))
-    for name, good in cases:
-        if not good:
-            print("%s: another answer than the one that should be" % name)
-    failed = sum(not good for _, good in cases)
-    print("%d passed, %d failed" % (len(cases) - failed, failed))
-    return 1 if failed else 0
+    return servers.tally(cases, "another answer than the one that should be")
 
 
 sys.exit(main())

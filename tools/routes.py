@@ -424,12 +424,7 @@ def main():
         cases = [case for found in pool.map(lambda part: list(part()), parts) for case in found]
     # its hundreds of threads would hold the other parts up
     cases += crowds()
-    for name, good in cases:
-        if not good:
-            print("%s: otherwise than it should be" % name)
-    failed = sum(not good for _, good in cases)
-    print("%d passed, %d failed" % (len(cases) - failed, failed))
-    return 1 if failed else 0
+    return servers.tally(cases, "otherwise than it should be")
 
 
 sys.exit(main())
