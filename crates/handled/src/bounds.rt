@@ -131,7 +131,7 @@ pub fn bounds_of(
             return Err(BoundFault::Unknown(word.publisher));
         }
         let bound = bound_of(alloc, word, text)?;
-        let opened = bound.opened(alloc, tenants.opening())?;
+        let opened = bound.amount_of_rows(alloc, tenants.opening())?;
         if !opened.fits(bound.most) {
             return Err(BoundFault::Beyond {
                 publisher: bound.publisher,

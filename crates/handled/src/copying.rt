@@ -76,7 +76,7 @@ fn header_of(rt: &HostRuntime, log: &str) -> io::Result<Option<[u8; HEADER]>> {
 }
 
 /// A file to be written anew, which wasn't there or is one that this copy made.
-fn made(rt: &HostRuntime, path: &str, is_first: bool) -> Result<File, CopyFault> {
+fn make_copy(rt: &HostRuntime, path: &str, is_first: bool) -> Result<File, CopyFault> {
     let mut options = OpenOptions::new();
     options.write(true).mode(MODE);
     if is_first {
@@ -119,7 +119,7 @@ fn copy_file(
     is_first: bool,
     may_miss: bool,
 ) -> Result<(), CopyFault> {
-    let mut written = made(rt, to, is_first)?;
+    let mut written = make_copy(rt, to, is_first)?;
     match File::open(rt, from) {
         Ok(mut file) => copy_octets(&mut file, &mut written),
         Err(e) if may_miss && e.kind() == ErrorKind::NotFound => Ok(()),

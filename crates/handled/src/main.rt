@@ -214,7 +214,7 @@ fn serve_on<
         Err(_) => return report_fault(rt, TabledFault::from(Fault::NoMemory)),
     };
     let served = host_resumed(machine, rt.alloc(), table, tenants, setting, &mut output);
-    report_end(rt, ended(served), &ending)
+    report_end(rt, close_served(served), &ending)
 }
 
 fn main(rt: HostRuntime) -> ExitCode {

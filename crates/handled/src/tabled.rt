@@ -146,7 +146,7 @@ pub fn empty_table<R: Threads + Drop>(rt: &HostRuntime, row_cache: usize) -> Res
 }
 
 /// The table in the file. With signals a thread makes its writes.
-fn opened<R: Threads + Drop>(
+fn open_served<R: Threads + Drop>(
     machine: R,
     rt: &HostRuntime,
     file: &TableFile,
@@ -197,7 +197,7 @@ impl<A: Drop, B: Closing + Drop> Closing for EitherRows<A, B> {
 }
 
 /// A table behind no bounds, as one that is served is behind its own.
-fn unbounded<T: Rows + Drop>(
+fn without_bounds<T: Rows + Drop>(
     rt: &HostRuntime,
     rows: T,
 ) -> Result<BoundedRows<T, Notices<HostRuntime>>, Fault>
@@ -219,7 +219,7 @@ fn new_health(rt: &HostRuntime) -> Result<Arc<Health>, Fault> {
 pub fn replay_in<T: Rows + Drop>(rt: &HostRuntime, rows: T) -> Result<u8, Fault>
     requires empty { T.content rows ≡ no_rows }
 {
-    let rows = unbounded(rt, rows)?;
+    let rows = without_bounds(rt, rows)?;
     let mut input = rt.stdin();
     let mut output = rt.stdout();
     let mut faults = rt.stderr();
@@ -233,7 +233,7 @@ fn replay_over<T: Rows + Closing + Drop>(
     tenants: Tenants,
     events: Vec<Event>,
 ) -> Result<(), TabledFault> {
-    let rows = unbounded(rt, table)?;
+    let rows = without_bounds(rt, table)?;
     let (lines, rows) = lines_of_resumed(rt.alloc(), rows, tenants, events)?;
     put_all(&mut rt.stdout(), lines.as_bytes())?;
     rows.into_rows().close()
@@ -249,7 +249,7 @@ pub fn replay_on<R: Threads + Drop>(
     let parts = parts_of(text);
     let tenants = tenants_of(rt.alloc(), parts.tenants)?;
     let events = events_of(rt.alloc(), parts.script, parts.run_line)?;
-    let table = opened(machine, rt, file, &tenants, new_health(rt)?, None)?;
+    let table = open_served(machine, rt, file, &tenants, new_health(rt)?, None)?;
     replay_over(rt, table, tenants, events)
 }
 
@@ -289,7 +289,7 @@ pub fn export_on<R: Threads + Drop>(
     if !has_named(rt, &tenants, &publisher) {
         return Ok(status_of_words(false));
     }
-    let table = opened(machine, rt, file, &tenants, new_health(rt)?, None)?;
+    let table = open_served(machine, rt, file, &tenants, new_health(rt)?, None)?;
     export_over(rt, table, text, publisher)
 }
 
@@ -322,7 +322,7 @@ pub fn open_desk<R: Threads + Drop>(
     let health = Arc::try_clone(health)?;
     let signals = Arc::new(rt.alloc(), Signals::new())?;
     let theirs = Arc::try_clone(&signals)?;
-    let table = opened(machine, rt, &file, &tenants, health, Some(theirs))?;
+    let table = open_served(machine, rt, &file, &tenants, health, Some(theirs))?;
     Ok(Desk {
         tenants,
         table,
@@ -332,6 +332,8 @@ pub fn open_desk<R: Threads + Drop>(
 }
 
 /// Closes the file of a table that was served.
-pub fn ended<R: Threads + Drop>(served: Result<Table<R>, HostFault>) -> Result<(), TabledFault> {
+pub fn close_served<R: Threads + Drop>(
+    served: Result<Table<R>, HostFault>,
+) -> Result<(), TabledFault> {
     served?.close()
 }

@@ -191,13 +191,13 @@ fn serve_words(alloc: Global, found: &ArgMatches) -> Result<Invocation, Unclear>
             supervision: supervision(alloc, found)?,
         },
         bounds: bound_words(alloc, found.get_strs("bound").unwrap_or(&[]))?,
-        log: owned(alloc, found.get_str("log"))?,
+        log: copy_of(alloc, found.get_str("log"))?,
         row_cache: row_cache(found),
         table: table_file(alloc, found)?,
     })
 }
 
-fn owned(alloc: Global, word: Option<&str>) -> Result<Option<String>, AllocError> {
+fn copy_of(alloc: Global, word: Option<&str>) -> Result<Option<String>, AllocError> {
     match word {
         Some(word) => Ok(Some(String::from_str(alloc, word)?)),
         None => Ok(None),
@@ -213,7 +213,7 @@ fn supervision(alloc: Global, found: &ArgMatches) -> Result<Supervision, Unclear
             Err(_) => return Err(Unclear::Status(String::from_str(alloc, word)?)),
         }
     }
-    supervision.control = owned(alloc, found.get_str("control"))?;
+    supervision.control = copy_of(alloc, found.get_str("control"))?;
     Ok(supervision)
 }
 
@@ -257,7 +257,7 @@ fn exported_table(alloc: Global, found: &ArgMatches) -> Result<Invocation, Uncle
     })
 }
 
-fn parsed(alloc: Global, words: &[String]) -> Result<Invocation, Unclear> {
+fn parse(alloc: Global, words: &[String]) -> Result<Invocation, Unclear> {
     let matches = command(alloc)?.try_get_matches_from(words)?;
     if matches.subcommand_matches("check").is_some() {
         return Ok(Invocation::Check);
@@ -298,7 +298,7 @@ fn print_help(rt: &HostRuntime, error: Error) -> Result<Invocation, Fault> {
 const BOUND: &str = "--bound <NAME=VALUES,OCTETS>";
 
 /// Says what is wrong with the value of an option.
-fn refused(rt: &HostRuntime, word: &str, option: &str, reason: &str) -> Invocation {
+fn refuse_value(rt: &HostRuntime, word: &str, option: &str, reason: &str) -> Invocation {
     let _ = eprintln!(rt;
         "error: invalid value '{word}' for '{option}': {reason}\n\nFor more information, try '--help'."
     );
@@ -312,28 +312,28 @@ pub fn read_words(rt: &HostRuntime) -> Result<Invocation, Fault> {
         let _ = eprintln!(rt; "error: the command line cannot be read");
         return Ok(Invocation::Ended(status_of_words(false)));
     };
-    match parsed(rt.alloc(), words.as_slice()) {
+    match parse(rt.alloc(), words.as_slice()) {
         Ok(asked) => Ok(asked),
         Err(Unclear::Words(error)) => print_help(rt, error),
-        Err(Unclear::Address(word)) => Ok(refused(
+        Err(Unclear::Address(word)) => Ok(refuse_value(
             rt,
             word.as_str(),
             "--listen <ADDRESS>",
             "no IPv4 or IPv6 address, such as 192.0.2.1 or 2001:db8::1",
         )),
-        Err(Unclear::Bound(word)) => Ok(refused(
+        Err(Unclear::Bound(word)) => Ok(refuse_value(
             rt,
             word.as_str(),
             BOUND,
             "write a publisher's name and two numbers, such as acme=10000,5000000",
         )),
-        Err(Unclear::Status(word)) => Ok(refused(
+        Err(Unclear::Status(word)) => Ok(refuse_value(
             rt,
             word.as_str(),
             "--status <ADDRESS:PORT>",
             "no IPv4 or IPv6 address with a port, such as 127.0.0.1:9100 or [::1]:9100",
         )),
-        Err(Unclear::BoundTwice(word)) => Ok(refused(
+        Err(Unclear::BoundTwice(word)) => Ok(refuse_value(
             rt,
             word.as_str(),
             BOUND,

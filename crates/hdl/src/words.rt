@@ -318,7 +318,7 @@ fn asked_of(alloc: Global, name: &str, matches: &ArgMatches<'_>) -> Result<Invoc
     }
 }
 
-fn parsed(alloc: Global, words: &[String]) -> Result<Invocation, Error> {
+fn parse(alloc: Global, words: &[String]) -> Result<Invocation, Error> {
     let matches = command(alloc)?.try_get_matches_from(words)?;
     match matches.subcommand() {
         Some((name, found)) => Ok(asked_of(alloc, name, found)?),
@@ -332,7 +332,7 @@ pub fn read_words(rt: &HostRuntime) -> Invocation {
         let _ = eprintln!(rt; "error: the command line cannot be read");
         return Invocation::Ended(2);
     };
-    match parsed(rt.alloc(), words.as_slice()) {
+    match parse(rt.alloc(), words.as_slice()) {
         Ok(found) => found,
         Err(error) => {
             let is_help = !error.use_stderr();

@@ -5,7 +5,7 @@ ghost use Rattle.hdl_audit.specs.Answer.{answer_of, ends_change};
 
 use crate::answer::Answer;
 use crate::entry::{Entry, Key};
-use crate::question::{Matter, Question, owned};
+use crate::question::{Matter, Question, copy_of};
 use std::alloc::{AllocError, Global};
 use std::collections::VecDeque;
 
@@ -57,7 +57,7 @@ impl Follower {
     }
 
     /// A frame came from a peer.
-    pub fn asked(&mut self, peer: u16, frame: &[u8]) {
+    pub fn note_request(&mut self, peer: u16, frame: &[u8]) {
         if self.note(peer, frame).is_err() {
             self.is_lost = true;
         }
@@ -130,7 +130,7 @@ impl Follower {
     }
 
     /// The change whose challenge was answered by this reply's request. It stays where the reply says busy.
-    fn challenged(&mut self, peer: u16, session: u32, answer: Answer) -> Option<Challenged> {
+    fn take_challenged(&mut self, peer: u16, session: u32, answer: Answer) -> Option<Challenged> {
         let mut all = self.challenged.iter();
         let place = all.position(|one| one.peer == peer && one.session == session)?;
         if !answer.is_busy() {
@@ -141,7 +141,7 @@ impl Follower {
             peer,
             session,
             operation: kept.operation,
-            handle: owned(self.alloc, &kept.handle).ok()?,
+            handle: copy_of(self.alloc, &kept.handle).ok()?,
         })
     }
 
@@ -156,19 +156,19 @@ impl Follower {
         ensures told { IsTrue (ends_change answer) → IsSome result }
         ensures code { IfSome result (λ entry. entry.code ≡ answer.code) }
     {
-        match self.challenged(peer, challenge, answer) {
+        match self.take_challenged(peer, challenge, answer) {
             Some(challenged) => Some(Entry {
                 operation: challenged.operation,
                 handle: Some(challenged.handle),
                 key: Some(key),
                 code: answer.code,
             }),
-            None => unnamed(answer),
+            None => entry_without_name(answer),
         }
     }
 
     /// A frame goes to a peer. The entry of the change that was accepted or refused by it, where its front says so.
-    pub fn answered(&mut self, peer: u16, frame: &[u8]) -> Option<Entry>
+    pub fn note_reply(&mut self, peer: u16, frame: &[u8]) -> Option<Entry>
         ensures told { IfSome (answer_of frame.now) (λ answer. IsTrue (ends_change answer) → IsSome result) }
         ensures code { IfSome result (λ entry. option_map (λ answer. answer.code) (answer_of frame.now) ≡ Some entry.code) }
     {
@@ -192,13 +192,13 @@ impl Follower {
             Matter::Response { challenge, key } => {
                 self.entry_of_response(peer, challenge, key, answer)
             }
-            Matter::Piece | Matter::Other => unnamed(answer),
+            Matter::Piece | Matter::Other => entry_without_name(answer),
         }
     }
 }
 
 /// The entry of a reply of which nothing else is certain.
-fn unnamed(answer: Answer) -> Option<Entry>
+fn entry_without_name(answer: Answer) -> Option<Entry>
     ensures told { IsTrue (ends_change answer) → IsSome result }
     ensures code { IfSome result (λ entry. entry.code ≡ answer.code) }
 {

@@ -2,7 +2,7 @@
 //!
 //! ```text
 //! a frame from the client -> Follower::asked
-//! a frame to the client   -> Follower::answered -> Entry: operation, handle, key, code    (where a change was accepted or refused)
+//! a frame to the client   -> Follower::note_reply -> Entry: operation, handle, key, code    (where a change was accepted or refused)
 //! a frame to the client   -> Answer::of         -> operation and code, to be counted
 //! ```
 //!

@@ -32,7 +32,7 @@ pub struct Question {
 }
 
 /// A copy on the heap.
-pub fn owned(alloc: Global, octets: &[u8]) -> Result<Vec<u8>, AllocError> {
+pub fn copy_of(alloc: Global, octets: &[u8]) -> Result<Vec<u8>, AllocError> {
     let mut all = Vec::new(alloc);
     all.extend_from_slice(octets)?;
     Ok(all)
@@ -43,7 +43,7 @@ fn change_of(alloc: Global, operation: u32, body: &[u8]) -> Result<Matter, Alloc
     match string_at(body) {
         Some((handle, _)) => Ok(Matter::Change {
             operation,
-            handle: owned(alloc, handle)?,
+            handle: copy_of(alloc, handle)?,
         }),
         None => Ok(Matter::Other),
     }
@@ -63,7 +63,7 @@ fn response_of(alloc: Global, challenge: u32, body: &[u8]) -> Result<Matter, All
             challenge,
             key: Key {
                 index,
-                handle: owned(alloc, handle)?,
+                handle: copy_of(alloc, handle)?,
             },
         }),
         None => Ok(Matter::Other),

@@ -49,8 +49,8 @@ abbrev pub capped : ℕ → ℕ
 capped n = min n most
 
 -- A count once this was given back and that was gained. The greatest stays: nobody knows for how much it stands.
-abbrev pub moved : ℕ → ℕ → ℕ → ℕ
-moved held gain back = if held == most then most else capped (held - back + gain)
+abbrev pub moved_count : ℕ → ℕ → ℕ → ℕ
+moved_count held gain back = if held == most then most else capped (held - back + gain)
 
 -- whether a count may become another one: it is known then, and within the bound or no more than before
 abbrev pub may_become : ℕ → ℕ → ℕ → Bool

@@ -8,7 +8,7 @@ use Rattle.hdl_rows.specs.Table.{Table, table_code}
 use Rattle.hdl_boundedrows.specs.declared.amount.Amount.{Amount}
 use Rattle.hdl_boundedrows.specs.declared.account.Account.{Account}
 use Rattle.hdl_boundedrows.specs.declared.account.Change.{Change}
-use Rattle.hdl_boundedrows.specs.Amount.{Measure, in_values, in_octets, capped, moved, may_become}
+use Rattle.hdl_boundedrows.specs.Amount.{Measure, in_values, in_octets, capped, moved_count, may_become}
 
 -- ---- what is kept
 
@@ -25,7 +25,7 @@ is_counted accounts p = list_any (λ a. has_prefix a p) accounts
 
 -- what is held after a change
 abbrev pub held_after : Change → Amount → Amount
-held_after c held = record { values = moved held.values c.gain.values c.back.values; octets = moved held.octets c.gain.octets c.back.octets }
+held_after c held = record { values = moved_count held.values c.gain.values c.back.values; octets = moved_count held.octets c.gain.octets c.back.octets }
 
 -- whether the publisher may hold that
 abbrev pub may_change : Account → Change → Bool
@@ -63,11 +63,11 @@ pub record Bounded : Type 0 where
 
 -- what is counted once so much was gained and so much given back
 abbrev pub moved_by : (Measure → ℕ) → (Measure → ℕ) → Holding → Holding
-moved_by gain back h = record h { values = moved h.values (capped (gain in_values)) (capped (back in_values)); octets = moved h.octets (capped (gain in_octets)) (capped (back in_octets)) }
+moved_by gain back h = record h { values = moved_count h.values (capped (gain in_values)) (capped (back in_values)); octets = moved_count h.octets (capped (gain in_octets)) (capped (back in_octets)) }
 
 -- What a write of a handle of this prefix makes of it, by what it gains and what it gives back: nothing where they don't count.
-abbrev pub settled : List ℕ → (Measure → ℕ) → (Measure → ℕ) → Holding → Holding
-settled p gain back h = if is_among h.roots p then moved_by gain back h else h
+abbrev pub settle : List ℕ → (Measure → ℕ) → (Measure → ℕ) → Holding → Holding
+settle p gain back h = if is_among h.roots p then moved_by gain back h else h
 
 -- nothing
 abbrev pub none : Measure → ℕ

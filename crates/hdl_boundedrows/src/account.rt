@@ -56,7 +56,11 @@ impl Bound {
     }
 
     /// What the rows of a text count, each handle once.
-    pub fn opened(&self, alloc: Global, rows: &[(Name, Value)]) -> Result<Amount, AllocError> {
+    pub fn amount_of_rows(
+        &self,
+        alloc: Global,
+        rows: &[(Name, Value)],
+    ) -> Result<Amount, AllocError> {
         let mut handles = Vec::new(alloc);
         let mut sum = Amount::NONE;
         for row in rows {
@@ -92,8 +96,8 @@ pub(crate) struct Account {
 }
 
 /// A count once some was given back and some gained. The greatest stays.
-fn moved(held: u64, gain: u64, back: u64) -> u64
-    ensures { result ≡ spec.moved held gain back }
+fn moved_count(held: u64, gain: u64, back: u64) -> u64
+    ensures { result ≡ spec.moved_count held gain back }
 {
     if held == u64::MAX {
         return held;
@@ -111,12 +115,12 @@ fn may_become(bound: u64, held: u64, next: u64) -> bool
 impl Amount {
     /// What is held after a change.
     fn after(self, change: Change) -> Amount
-        ensures values { result.values ≡ spec.moved self.values change.gain.values change.back.values }
-        ensures octets { result.octets ≡ spec.moved self.octets change.gain.octets change.back.octets }
+        ensures values { result.values ≡ spec.moved_count self.values change.gain.values change.back.values }
+        ensures octets { result.octets ≡ spec.moved_count self.octets change.gain.octets change.back.octets }
     {
         Amount {
-            values: moved(self.values, change.gain.values, change.back.values),
-            octets: moved(self.octets, change.gain.octets, change.back.octets),
+            values: moved_count(self.values, change.gain.values, change.back.values),
+            octets: moved_count(self.octets, change.gain.octets, change.back.octets),
         }
     }
 }

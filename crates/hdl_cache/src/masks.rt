@@ -128,7 +128,7 @@ impl Masks {
     }
 
     /// The same, gone on by one call's references.
-    fn searched<R: Rows>(&mut self, rows: &mut R, name: &Name) -> Result<Search, Refused>
+    fn search_on<R: Rows>(&mut self, rows: &mut R, name: &Name) -> Result<Search, Refused>
         requires of_table { AreTrue (R.content rows.old) self.old }
         ensures unchanged { R.content rows.new ≡ R.content rows.old }
         ensures of_table { AreTrue (R.content rows.old) self.new }
@@ -159,7 +159,7 @@ impl Masks {
         if let Ok(Some(mask)) = self.kept.find(name, key) {
             return Ok(mask);
         }
-        let search = self.searched(rows, name)?;
+        let search = self.search_on(rows, name)?;
         let found = found_by(self.alloc, &search, key);
         self.hold(search);
         let mask = found?;

@@ -40,7 +40,7 @@ pub struct Batch {
 /// Who is told what came of each request, as it comes.
 pub trait Outcomes {
     /// The reply to this task came, with this code.
-    fn done(&mut self, task: &Task, code: u32, reply: &ReplyView<'_>);
+    fn note_reply(&mut self, task: &Task, code: u32, reply: &ReplyView<'_>);
 }
 
 /// A request that waits for its reply: its task, the RequestId of what was sent last for it, and whether that answers a challenge.
@@ -181,7 +181,7 @@ impl<S: Read + Write> Session<S> {
         let view = reply.view();
         match land_reply(self.alloc, &batch.keys, &flight, &view)? {
             Landing::Done(code) => {
-                outcomes.done(flight.task, code, &view);
+                outcomes.note_reply(flight.task, code, &view);
                 Ok(())
             }
             Landing::Challenge(answer) => {

@@ -25,7 +25,7 @@ pub struct Connection {
 }
 
 /// What is left of a time that began then.
-fn left(rt: &HostRuntime, since: Instant, limit: Duration) -> io::Result<Duration> {
+fn time_left(rt: &HostRuntime, since: Instant, limit: Duration) -> io::Result<Duration> {
     let left = limit.saturating_sub(since.elapsed(rt)?);
     if left.is_zero() {
         return Err(io::ErrorKind::TimedOut.into());
@@ -47,8 +47,8 @@ impl Connection {
     }
 
     /// The time that is left.
-    fn left(&self) -> io::Result<Duration> {
-        left(&self.rt, self.since, self.limit)
+    fn time_left(&self) -> io::Result<Duration> {
+        time_left(&self.rt, self.since, self.limit)
     }
 
     fn begin(&mut self) -> io::Result<()> {
@@ -60,7 +60,7 @@ impl Connection {
 impl Read for Connection {
     fn read(&mut self, buffer: &mut [u8]) -> io::Result<usize> {
         self.has_read = true;
-        self.stream.set_read_timeout(Some(self.left()?))?;
+        self.stream.set_read_timeout(Some(self.time_left()?))?;
         self.stream.read(buffer)
     }
 }
@@ -71,7 +71,7 @@ impl Write for Connection {
             self.has_read = false;
             self.begin()?;
         }
-        self.stream.set_write_timeout(Some(self.left()?))?;
+        self.stream.set_write_timeout(Some(self.time_left()?))?;
         self.stream.write(octets)
     }
 
@@ -105,7 +105,7 @@ pub fn connect_within(
     limit: Duration,
 ) -> Result<Session<Connection>, ClientFault> {
     for address in server.to_socket_addrs(rt)? {
-        let time = left(rt, since, limit)?;
+        let time = time_left(rt, since, limit)?;
         if let Ok(stream) = TcpStream::connect_timeout(rt, &address, time) {
             let mut connection = Connection::new(*rt, stream)?;
             connection.limit = limit;

@@ -12,7 +12,7 @@ use std::alloc::{AllocError, Global};
 use std::io::{Read, Write};
 
 /// The frame of a message, with the SessionId and RequestId of its envelope.
-pub fn framed(
+pub fn frame_of(
     alloc: Global,
     session: u32,
     request: u32,
@@ -42,7 +42,7 @@ pub fn send<S: Write>(
     if message.len() > MESSAGE_MAX as usize {
         return Err(ClientFault::TooLong);
     }
-    let octets = framed(alloc, session, request, message)?;
+    let octets = frame_of(alloc, session, request, message)?;
     stream.write_all(&octets)?;
     stream.flush()?;
     Ok(())

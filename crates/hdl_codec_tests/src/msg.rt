@@ -225,7 +225,7 @@ fn answers_echo_one_flag(rt: HostRuntime) {
 }
 
 /// What the octets read as: the operation, its handle's length, and how many items its lists have.
-fn told(message: &[u8]) -> Option<(OpCode, usize, usize)> {
+fn reading_of(message: &[u8]) -> Option<(OpCode, usize, usize)> {
     let request = read_request(message).ok()?;
     let (operation, handle, items) = match *request.body() {
         Body::Resolution {
@@ -251,7 +251,7 @@ fn told(message: &[u8]) -> Option<(OpCode, usize, usize)> {
 /// What the message that these digits spell reads as.
 fn reads(alloc: Global, digits: &str) -> Result<Option<(OpCode, usize, usize)>, AllocError> {
     let message = hex(alloc, digits)?;
-    Ok(told(&message))
+    Ok(reading_of(&message))
 }
 
 /// The message of this operation with this body, which has so many octets.
@@ -328,7 +328,7 @@ const BODIES: [(&str, &str, &str, (OpCode, usize, usize)); 6] = [
 fn reads_each_operation(rt: HostRuntime) -> Result<(), Fail> {
     for &(op_code, len, body, expected) in &BODIES {
         let octets = message(rt.alloc(), op_code, len, body)?;
-        same(&rt, op_code, told(&octets), Some(expected));
+        same(&rt, op_code, reading_of(&octets), Some(expected));
     }
     Ok(())
 }

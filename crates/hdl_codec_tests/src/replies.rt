@@ -8,7 +8,7 @@ use std::test::Fail;
 
 /// What the reply of these octets tells: its code, its digest, and of its content the form, the handle, prefix or nonce, and how
 /// many values or handles it has.
-fn told(message: &[u8]) -> Option<(u32, Option<Digest>, ReplyForm, &[u8], usize)> {
+fn reading_of(message: &[u8]) -> Option<(u32, Option<Digest>, ReplyForm, &[u8], usize)> {
     let reply = read_reply(message).ok()?;
     let (form, octets, items) = match reply.content {
         ContentView::Values { handle, values } => (ReplyForm::Values, handle, values.count()),
@@ -28,7 +28,7 @@ fn told(message: &[u8]) -> Option<(u32, Option<Digest>, ReplyForm, &[u8], usize)
 }
 
 /// A digest behind the octet of its hash function; no octets where there is none.
-fn spelt(alloc: Global, digest: Option<Digest>) -> Result<Vec<u8>, AllocError> {
+fn spelling_of(alloc: Global, digest: Option<Digest>) -> Result<Vec<u8>, AllocError> {
     let mut out = Vec::new(alloc);
     if let Some(digest) = digest {
         out.push(digest.algorithm().octet())?;
@@ -51,10 +51,10 @@ fn is_read(
     let Some((_, message)) = frame.split_at_checked(20) else {
         return Ok(false);
     };
-    let Some((read_code, read_digest, form, octets, items)) = told(message) else {
+    let Some((read_code, read_digest, form, octets, items)) = reading_of(message) else {
         return Ok(false);
     };
-    let read_digest = spelt(alloc, read_digest)?;
+    let read_digest = spelling_of(alloc, read_digest)?;
     Ok(
         read_code == code
             && read_digest.as_slice() == digest.as_slice()

@@ -7,7 +7,7 @@ use std::alloc::{AllocError, Global};
 use std::test::Fail;
 
 /// The value with this index, type, data and permission, a TTL of a day, and no timestamp and no references.
-fn spelt(
+fn spelling_of(
     alloc: Global,
     index: u8,
     kind: &[u8],
@@ -28,7 +28,7 @@ fn spelt(
 
 /// The value of index 1 whose references are so many of `10/a`, index 1.
 fn spelt_with(alloc: Global, count: u8) -> Result<Vec<u8>, AllocError> {
-    let mut out = spelt(alloc, 1, b"URL", b"", 2)?;
+    let mut out = spelling_of(alloc, 1, b"URL", b"", 2)?;
     out.pop();
     out.push(count)?;
     for _ in 0..count {
@@ -43,7 +43,7 @@ fn fault(alloc: Global, octets: &[u8]) -> Option<ValueFault> {
 
 /// The fault of a value with index 1 in these parts.
 fn fault_of(alloc: Global, kind: &[u8], data: &[u8]) -> Result<Option<ValueFault>, AllocError> {
-    let octets = spelt(alloc, 1, kind, data, 2)?;
+    let octets = spelling_of(alloc, 1, kind, data, 2)?;
     Ok(fault(alloc, &octets))
 }
 
@@ -111,7 +111,7 @@ fn copies(rt: HostRuntime) -> Result<(), Fail> {
 
 #[test]
 fn octets_may_stand_behind(rt: HostRuntime) -> Result<(), Fail> {
-    let mut octets = spelt(rt.alloc(), 1, b"URL", b"http://a/", 6)?;
+    let mut octets = spelling_of(rt.alloc(), 1, b"URL", b"http://a/", 6)?;
     octets.push(0xff)?;
     let (_, count) = read_value(rt.alloc(), &octets)?;
     same(&rt, "count", count, 42);
@@ -127,7 +127,7 @@ fn octets_may_stand_behind(rt: HostRuntime) -> Result<(), Fail> {
 
 #[test]
 fn cuts_where_it_stands(rt: HostRuntime) -> Result<(), Fail> {
-    let octets = spelt(rt.alloc(), 0, b"HS_ADMIN", b"", 6)?;
+    let octets = spelling_of(rt.alloc(), 0, b"HS_ADMIN", b"", 6)?;
     let (cut, behind) = cut_value(&octets).ok_or("a value by its layout")?;
     same(&rt, "index, len", (cut.index(), behind.len()), (0, 0));
     same(&rt, "kind", cut.kind(), b"HS_ADMIN".as_slice());
@@ -152,7 +152,7 @@ fn reads_what_was_cut(rt: HostRuntime) -> Result<(), Fail> {
 
 #[test]
 fn index_zero_comes_first(rt: HostRuntime) -> Result<(), Fail> {
-    let octets = spelt(rt.alloc(), 0, &[0; 256], b"", 2)?;
+    let octets = spelling_of(rt.alloc(), 0, &[0; 256], b"", 2)?;
     same(
         &rt,
         "fault",
@@ -308,7 +308,7 @@ fn bad_administrators_and_lists(rt: HostRuntime) -> Result<(), Fail> {
 #[test]
 fn administrators(rt: HostRuntime) -> Result<(), Fail> {
     let data = b"\x0f\xff\0\0\0\x0410/g\0\0\0\x01";
-    let octets = spelt(rt.alloc(), 1, b"HS_ADMIN", data, 2)?;
+    let octets = spelling_of(rt.alloc(), 1, b"HS_ADMIN", data, 2)?;
     let (value, _) = read_value(rt.alloc(), &octets)?;
     let (mask, reference) = admin_of(rt.alloc(), &value)?.ok_or("an administrator")?;
     same(
@@ -324,7 +324,7 @@ fn administrators(rt: HostRuntime) -> Result<(), Fail> {
 
 #[test]
 fn empty_lists(rt: HostRuntime) -> Result<(), Fail> {
-    let octets = spelt(rt.alloc(), 1, b"HS_VLIST", b"\0\0\0\0", 2)?;
+    let octets = spelling_of(rt.alloc(), 1, b"HS_VLIST", b"\0\0\0\0", 2)?;
     let (value, _) = read_value(rt.alloc(), &octets)?;
     let listed = vlist_of(rt.alloc(), &value)?.ok_or("a list")?;
     assert!(rt; listed.is_empty());
@@ -335,7 +335,7 @@ fn empty_lists(rt: HostRuntime) -> Result<(), Fail> {
 #[test]
 fn lists_keep_index_zero(rt: HostRuntime) -> Result<(), Fail> {
     let data = b"\0\0\0\x01\0\0\0\x0410/G\0\0\0\0";
-    let octets = spelt(rt.alloc(), 1, b"HS_VLIST", data, 2)?;
+    let octets = spelling_of(rt.alloc(), 1, b"HS_VLIST", data, 2)?;
     let (value, _) = read_value(rt.alloc(), &octets)?;
     let listed = vlist_of(rt.alloc(), &value)?.ok_or("a list")?;
     assert!(rt; listed.len() == 1);
@@ -346,7 +346,7 @@ fn lists_keep_index_zero(rt: HostRuntime) -> Result<(), Fail> {
 
 /// The class of a value with this permission octet.
 fn class(alloc: Global, permissions: u8) -> Result<Class, Fail> {
-    let octets = spelt(alloc, 1, b"URL", b"", permissions)?;
+    let octets = spelling_of(alloc, 1, b"URL", b"", permissions)?;
     let (value, _) = read_value(alloc, &octets)?;
     Ok(value.class())
 }

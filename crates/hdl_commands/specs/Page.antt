@@ -1,6 +1,6 @@
 -- A page: lines for people to read.
 use Rattle.std.specs.Prelude.{ℕ, Bool, List, [], ◌∷◌, ◌++◌}
-use Rattle.hdl_lines.specs.Printed.{printed}
+use Rattle.hdl_lines.specs.Printed.{printed_octets}
 
 -- its lines so far, and whether the data of keys is shown in them
 pub record PageText : Type 0 where
@@ -9,4 +9,4 @@ pub record PageText : Type 0 where
 
 -- the page with one line more, as it is printed: without a control character but the line end
 abbrev pub with_line : PageText → List ℕ → PageText
-with_line page line = record page { text = page.text ++ (printed line ++ 10 ∷ []) }
+with_line page line = record page { text = page.text ++ (printed_octets line ++ 10 ∷ []) }

@@ -157,26 +157,26 @@ fn reply_to(
     session.ask(body, key)
 }
 
-fn asked(rt: &HostRuntime, question: &Question, key: Option<&Key>) -> Result<u8, AskFault> {
+fn ask_and_show(rt: &HostRuntime, question: &Question, key: Option<&Key>) -> Result<u8, AskFault> {
     let body = body_of(rt.alloc(), question)?;
     let reply = reply_to(rt, question, &body, key)?;
     show(rt, question, &reply)
 }
 
-fn answered(rt: &HostRuntime, question: &Question) -> Result<u8, AskFault> {
+fn ask_with_key(rt: &HostRuntime, question: &Question) -> Result<u8, AskFault> {
     match &question.key {
         Some(words) => {
             let key = key_of(rt, words)?;
-            asked(rt, question, Some(&key))
+            ask_and_show(rt, question, Some(&key))
         }
-        None => asked(rt, question, None),
+        None => ask_and_show(rt, question, None),
     }
 }
 
 /// Asks, and prints the answer in words. Answers the exit status: 0 for code 1, 1 for another code, whose name is then on standard
 /// error, 2 for words that are no request, 3 where the server can't be reached or says nothing that can be read.
 pub fn ask(rt: &HostRuntime, question: &Question) -> u8 {
-    match answered(rt, question) {
+    match ask_with_key(rt, question) {
         Ok(status) => status,
         Err(fault) => {
             let _ = eprintln!(rt; "hdl: {fault}");

@@ -193,7 +193,7 @@ impl Reader {
     }
 
     /// The line at which the request that may go on began.
-    fn begun(&self) -> Option<usize> {
+    fn first_line(&self) -> Option<usize> {
         self.block.as_ref().map(|block| block.task.line)
     }
 
@@ -202,7 +202,7 @@ impl Reader {
         let mut number = 0usize;
         for line in text.lines() {
             number = number.saturating_add(1);
-            let begun = self.begun();
+            let begun = self.first_line();
             if let Err(fault) = self.line(number, line) {
                 return Err(self.line_of(number, begun, fault));
             }
@@ -210,7 +210,7 @@ impl Reader {
         if self.reference.is_some() {
             return Err((number, WordFault::NoSecret));
         }
-        let begun = self.begun();
+        let begun = self.first_line();
         match self.finish() {
             Ok(()) => Ok(()),
             Err(fault) => Err(self.line_of(number, begun, fault)),

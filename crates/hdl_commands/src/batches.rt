@@ -3,7 +3,7 @@
 use crate::batch_text::read_batch;
 use crate::words::code_name;
 use hdl_client::{Batch, ClientFault, Outcomes, Task, connect};
-use hdl_lines::printed;
+use hdl_lines::printed_octets;
 use hdl_msg::{ReplyView, ResponseCode};
 use std::io::IsTerminal;
 
@@ -30,7 +30,7 @@ impl Tally<'_> {
 }
 
 impl Outcomes for Tally<'_> {
-    fn done(&mut self, task: &Task, code: u32, _reply: &ReplyView<'_>) {
+    fn note_reply(&mut self, task: &Task, code: u32, _reply: &ReplyView<'_>) {
         self.done = self.done.saturating_add(1);
         if code != ResponseCode::Success.number() {
             // without memory for it the line is missing from the last one
@@ -38,7 +38,9 @@ impl Outcomes for Tally<'_> {
         }
         // likewise the title
         let alloc = self.rt.alloc();
-        let title = printed(alloc, task.title.as_bytes()).unwrap_or_else(|_| String::new(alloc));
+        let title = printed_octets(alloc, task.title.as_bytes()).unwrap_or_else(|_| String::new(
+            alloc,
+        ));
         let _ = println!(self.rt; "line {}: {title}: {code} {}", task.line, code_name(code));
         self.show_progress();
     }
@@ -49,7 +51,7 @@ pub(crate) fn is_watched(rt: &HostRuntime) -> bool {
     rt.stderr().is_terminal() && !rt.stdout().is_terminal()
 }
 
-fn asked(
+fn run_batch(
     rt: &HostRuntime,
     server: &str,
     batch: &Batch,
@@ -86,7 +88,7 @@ pub fn run_batch_text(rt: &HostRuntime, server: &str, text: &str) -> u8 {
         failed: Vec::new(rt.alloc()),
         shown_of: Some(batch.tasks.len()).filter(|_| is_watched(rt)),
     };
-    let ended = asked(rt, server, &batch, &mut tally);
+    let ended = run_batch(rt, server, &batch, &mut tally);
     print_end(&tally);
     match ended {
         Ok(()) => u8::from(!tally.failed.is_empty()),

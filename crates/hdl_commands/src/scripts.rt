@@ -5,9 +5,9 @@ use crate::fault::WordFault;
 use crate::tenants::write_tenants;
 use hdl_auth::algorithm::Algorithm;
 use hdl_auth::digest;
-use hdl_client::{Batch, Key, Task, challenge_response, framed, request_message, signed_part};
+use hdl_client::{Batch, Key, Task, challenge_response, frame_of, request_message, signed_part};
 use hdl_limits::MESSAGE_MAX;
-use hdl_lines::printed;
+use hdl_lines::printed_octets;
 use hdl_msg::{Body, read_request};
 use hdl_name::Name;
 use hdl_tenants::{TenantFault, Tenants};
@@ -56,7 +56,7 @@ fn push_frame(
     if message.len() > MESSAGE_MAX as usize {
         return Err(WordFault::TooLong);
     }
-    let digits = hex::encode(alloc, &framed(alloc, session, request, message)?)?;
+    let digits = hex::encode(alloc, &frame_of(alloc, session, request, message)?)?;
     let line = format!(in alloc; "frame {lane} 0 1000 {NONCE_DIGITS} {digits}\n")?;
     script.push_str(&line)?;
     Ok(())
@@ -105,7 +105,7 @@ fn task_key<'b>(batch: &'b Batch, task: &Task) -> Option<&'b Key> {
 
 /// Adds a comment that says what is asked.
 fn push_title(script: &mut String, alloc: Global, title: &str) -> Result<(), AllocError> {
-    let title = printed(alloc, title.as_bytes())?;
+    let title = printed_octets(alloc, title.as_bytes())?;
     let line = format!(in alloc; "# {title}\n")?;
     script.push_str(&line)
 }
@@ -159,7 +159,7 @@ fn parts_of(text: &str) -> Option<(&str, usize, &str)> {
 }
 
 /// A batch's fault, where the batch begins behind so many lines.
-fn moved(fault: BatchFault, lines: usize) -> ScriptFault {
+fn fault_in_script(fault: BatchFault, lines: usize) -> ScriptFault {
     ScriptFault::Words(BatchFault {
         line: fault.line.saturating_add(lines),
         fault: fault.fault,
@@ -199,6 +199,6 @@ pub fn write_script(alloc: Global, text: &str) -> Result<String, ScriptFault> {
     let tenants = tenants_of(alloc, &script)?;
     match push_events(&mut script, alloc, &tenants, batch_text) {
         Ok(()) => Ok(script),
-        Err(fault) => Err(moved(fault, lines)),
+        Err(fault) => Err(fault_in_script(fault, lines)),
     }
 }

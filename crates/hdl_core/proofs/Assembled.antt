@@ -10,7 +10,7 @@ use Rattle.hdl_msg.specs.Message.{Content, SpellsRequest}
 use Rattle.hdl_msg.specs.Reply.{short_reply}
 use Rattle.hdl_pool.specs.declared.piece.Key.{Key}
 use Rattle.hdl_pool.specs.Partial.{Partial, key_of, piece_of, is_of}
-use Rattle.hdl_pool.specs.Taking.{Fate, made_whole, kept, ignored, displaced, so_far, grown, replaced, stored, begun, settled, taken, whole_message, freed}
+use Rattle.hdl_pool.specs.Taking.{Fate, made_whole, kept, ignored, displaced, so_far, grown, replace_partial, store_partial, begin_partial, settle_partial, take_piece, whole_message, free_partial}
 use Rattle.hdl_rows.specs.Table.{Table}
 use Rattle.hdl_ops.specs.Admission.{request_algorithm}
 use Rattle.hdl_ops.specs.Decisions.{Decision, failure}
@@ -156,12 +156,12 @@ pick : (b : Bool) (x y : Fate × List Partial) → whole_message x.0 ≡ None �
 pick true x y h g = h
 pick false x y h g = g
 
-stored_kept : (lane : List Partial) (key : Key) (more : Partial) → whole_message (stored lane key more).0 ≡ None
+stored_kept : (lane : List Partial) (key : Key) (more : Partial) → whole_message (store_partial lane key more).0 ≡ None
 stored_kept lane key more =
-    pick (is_some (find (is_of key) lane)) (kept, replaced key more lane) (begun lane more) refl (pick (nat_lt (length lane) 4) (kept, lane ++ more ∷ []) (displaced, drop 1 lane ++ more ∷ []) refl refl)
+    pick (is_some (find (is_of key) lane)) (kept, replace_partial key more lane) (begin_partial lane more) refl (pick (nat_lt (length lane) 4) (kept, lane ++ more ∷ []) (displaced, drop 1 lane ++ more ∷ []) refl refl)
 
-whole_stays : (lane : List Partial) (key : Key) (f : Fate) (more : Partial) (message : List ℕ) → (settled lane key f more).0 ≡ made_whole message → (settled lane key f more).1 ≡ lane
-whole_stays lane key kept more message is = absurd (not_whole (stored lane key more).0 message (stored_kept lane key more) is)
+whole_stays : (lane : List Partial) (key : Key) (f : Fate) (more : Partial) (message : List ℕ) → (settle_partial lane key f more).0 ≡ made_whole message → (settle_partial lane key f more).1 ≡ lane
+whole_stays lane key kept more message is = absurd (not_whole (store_partial lane key more).0 message (stored_kept lane key more) is)
 whole_stays lane key (made_whole other) more message is = refl
 whole_stays lane key ignored more message is = refl
 whole_stays lane key displaced more message is = refl
@@ -182,10 +182,10 @@ module _ (hosts : List ℕ → Bool) (algorithms : List ℕ → Algorithm) (t : 
   here = state_at lanes number
 
   abbrev after : Fate × List Partial
-  after = taken (state_at lanes number).partials (piece_of m.peer bytes)
+  after = take_piece (state_at lanes number).partials (piece_of m.peer bytes)
 
-  pub waits : (f : Fate) (lanes' : List Held) → whole_message f ≡ None → f ≡ (taken (state_at lanes number).partials (piece_of m.peer bytes)).0
-      → lanes' ≡ with_state lanes number (with_partials (state_at lanes number) (taken (state_at lanes number).partials (piece_of m.peer bytes)).1)
+  pub waits : (f : Fate) (lanes' : List Held) → whole_message f ≡ None → f ≡ (take_piece (state_at lanes number).partials (piece_of m.peer bytes)).0
+      → lanes' ≡ with_state lanes number (with_partials (state_at lanes number) (take_piece (state_at lanes number).partials (piece_of m.peer bytes)).1)
       → AssemblesAt scene number (received_as m bytes) None lanes' t
   waits f lanes' none is same = (
     with_partials here after.1,
@@ -193,7 +193,7 @@ module _ (hosts : List ℕ → Bool) (algorithms : List ℕ → Algorithm) (t : 
     (
       record { outcome = Silent; state = with_partials here after.1; change = None },
       Ignore (with_partials here after.1),
-      subst (λ o. IsWholeTask (with_partials here after.1) (with_partials here (freed here.partials (key_of m.peer (envelope_at bytes)))) x o (Ignore (with_partials here after.1))) (sym none ∙ ap whole_message is) refl,
+      subst (λ o. IsWholeTask (with_partials here after.1) (with_partials here (free_partial here.partials (key_of m.peer (envelope_at bytes)))) x o (Ignore (with_partials here after.1))) (sym none ∙ ap whole_message is) refl,
       refl,
       refl,
       refl,
@@ -202,26 +202,26 @@ module _ (hosts : List ℕ → Bool) (algorithms : List ℕ → Algorithm) (t : 
   )
 
   -- the lanes are as they were where the piece made its message whole
-  pub unchanged : (message : List ℕ) (lanes' : List Held) → made_whole message ≡ (taken (state_at lanes number).partials (piece_of m.peer bytes)).0
-      → lanes' ≡ with_state lanes number (with_partials (state_at lanes number) (taken (state_at lanes number).partials (piece_of m.peer bytes)).1) → lanes' ≡ lanes
+  pub unchanged : (message : List ℕ) (lanes' : List Held) → made_whole message ≡ (take_piece (state_at lanes number).partials (piece_of m.peer bytes)).0
+      → lanes' ≡ with_state lanes number (with_partials (state_at lanes number) (take_piece (state_at lanes number).partials (piece_of m.peer bytes)).1) → lanes' ≡ lanes
   unchanged message lanes' is same =
       let piece = piece_of m.peer bytes in
       let grew = grown (so_far here.partials piece) piece in
       let stays : after.1 ≡ here.partials = whole_stays here.partials piece.key grew.0 grew.1 message (sym is) in
       same ∙ ap (λ p. with_state lanes number (with_partials here p)) stays ∙ sym (held_lanes.kept lanes number)
 
-  pub whole : (message octets : List ℕ) (lanes' lanes'' : List Held) (t' : Table) → number < length lanes → made_whole message ≡ (taken (state_at lanes number).partials (piece_of m.peer bytes)).0
+  pub whole : (message octets : List ℕ) (lanes' lanes'' : List Held) (t' : Table) → number < length lanes → made_whole message ≡ (take_piece (state_at lanes number).partials (piece_of m.peer bytes)).0
       → HearsAt scene number (message_as m message) octets lanes' t'
-      → lanes'' ≡ with_state lanes' number (with_partials (state_at lanes' number) (freed (state_at lanes' number).partials (key_of m.peer m.envelope)))
+      → lanes'' ≡ with_state lanes' number (with_partials (state_at lanes' number) (free_partial (state_at lanes' number).partials (key_of m.peer m.envelope)))
       → AssemblesAt scene number (received_as m bytes) (Some octets) lanes'' t'
   whole message octets lanes' lanes'' t' there is (s', same, (k, task, (eff, does, out, state, table))) free =
       let key = key_of m.peer (envelope_at bytes) in
-      let gone = freed here.partials key in
+      let gone = free_partial here.partials key in
       let mv = moved hosts algorithms t here gone (message_as m message) k task eff does in
       let now : state_at lanes' number ≡ s' = ap (λ (ls : List Held). state_at ls number) same ∙ ap (λ (h : Held). h.state) (get_or-set_same lanes number (record { publisher = (held_at lanes number).publisher; state = s' }) (record { publisher = 0; state = fresh false }) there) in
       let kept_partials : (state_at lanes' number).partials ≡ here.partials = ap (λ (s : LaneState). s.partials) (now ∙ sym state) ∙ mv.same in
-      let freed_now : with_partials (state_at lanes' number) (freed (state_at lanes' number).partials (key_of m.peer m.envelope)) ≡ with_partials s' gone =
-      λ i. with_partials (now i) (freed (kept_partials i) (key_of m.peer (envelope i))) in
+      let freed_now : with_partials (state_at lanes' number) (free_partial (state_at lanes' number).partials (key_of m.peer m.envelope)) ≡ with_partials s' gone =
+      λ i. with_partials (now i) (free_partial (kept_partials i) (key_of m.peer (envelope i))) in
       let owner : (held_at lanes' number).publisher ≡ (held_at lanes number).publisher =
       ap (λ (ls : List Held). (held_at ls number).publisher) same ∙ ap (λ (h : Held). h.publisher) (get_or-set_same lanes number (record { publisher = (held_at lanes number).publisher; state = s' }) (record { publisher = 0; state = fresh false }) there) in (
         with_partials s' gone,

@@ -10,7 +10,7 @@ use Rattle.hdl_msg.specs.Reply.{short_reply}
 use Rattle.hdl_msg.specs.declared.replies.ReplyContent.TheVariants.{Empty}
 use Rattle.hdl_rows.specs.Table.{Table}
 use Rattle.hdl_slots.specs.declared.pending.Pending.{Pending}
-use Rattle.hdl_slots.specs.Lanes.{challenge_of, challenged}
+use Rattle.hdl_slots.specs.Lanes.{challenge_of, add_challenge}
 use Rattle.hdl_ops.specs.Admission.{request_algorithm}
 use Rattle.hdl_ops.specs.Decisions.{Decision, Decides, Proven, failure}
 use Rattle.hdl_ops.specs.Proven.{Proof}
@@ -139,15 +139,15 @@ module _ (hosts : List ℕ → Bool) (algorithms : List ℕ → Algorithm) (t : 
 
     pub challenges : (message : List ℕ) (r : Content) (octets : List ℕ) (digest : Digest) (t' : Table) (lanes' : List Held) (asked : Heard) (next : ℕ) → SpellsRequest message r → None ≡ response_of r.operation → asked ≡ Challenged octets digest
         → next ≡ (state_at lanes number).challenges.next → IsAsked context m next r asked t'
-        → lanes' ≡ with_state lanes number (record { is_open = (state_at lanes number).is_open; partials = (state_at lanes number).partials; challenges = challenged (state_at lanes number).challenges (record { peer = m.peer; moment = m.moment; nonce = m.nonce; digest = digest; message = message }) })
+        → lanes' ≡ with_state lanes number (record { is_open = (state_at lanes number).is_open; partials = (state_at lanes number).partials; challenges = add_challenge (state_at lanes number).challenges (record { peer = m.peer; moment = m.moment; nonce = m.nonce; digest = digest; message = message }) })
         → HearsAt scene number (message_as m message) octets lanes' t'
     challenges message r octets digest t' lanes' asked next spells is same numbered done put =
         let d = subst (λ (x : Heard). IsAsked context m next r x t') same done in
         let m' = message_as m message in
         let here = state_at lanes number in
-        let sent : LaneState = record { is_open = here.is_open; partials = here.partials; challenges = challenged here.challenges (pending (request_algorithm algorithms r) m' r) } in (
+        let sent : LaneState = record { is_open = here.is_open; partials = here.partials; challenges = add_challenge here.challenges (pending (request_algorithm algorithms r) m' r) } in (
           sent,
-          put ∙ ap (λ (x : Digest). with_state lanes number (record { is_open = here.is_open; partials = here.partials; challenges = challenged here.challenges (record { peer = m.peer; moment = m.moment; nonce = m.nonce; digest = x; message = message }) })) d.4,
+          put ∙ ap (λ (x : Digest). with_state lanes number (record { is_open = here.is_open; partials = here.partials; challenges = add_challenge here.challenges (record { peer = m.peer; moment = m.moment; nonce = m.nonce; digest = x; message = message }) })) d.4,
           (
             Ask m' r here,
             asking message r spells is,

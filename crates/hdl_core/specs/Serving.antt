@@ -11,7 +11,7 @@ use Rattle.hdl_msg.specs.declared.codes.ResponseCode.TheVariants.{ServerBusy, Au
 use Rattle.hdl_msg.specs.Message.{Content, SpellsRequest, code_of}
 use Rattle.hdl_msg.specs.Reply.{short_reply, reply_parts, IsAnnounced}
 use Rattle.hdl_pool.specs.Partial.{piece_of}
-use Rattle.hdl_pool.specs.Taking.{taken}
+use Rattle.hdl_pool.specs.Taking.{take_piece}
 use Rattle.hdl_rows.specs.Table.{Table}
 use Rattle.hdl_rows.specs.declared.rows.Refused.{Refused}
 use Rattle.hdl_ops.specs.Decisions.{Anyone, Decision, Decides}
@@ -146,7 +146,7 @@ outcome_of e (Err refused) = Busy (short_reply (response_number ServerBusy) e)
 -- a piece that came on an open lane has this reply, or none yet
 abbrev pub IsAssembled : Context → LaneState → Received → Option (List ℕ) → LaneState → Table → Type 0
 IsAssembled x s piece reply s' t' =
-    (eff : Effect) × (k : Task) × IsPieceTask s piece (taken s.partials (piece_of piece.peer piece.bytes)) k × HasEffect x k eff
+    (eff : Effect) × (k : Task) × IsPieceTask s piece (take_piece s.partials (piece_of piece.peer piece.bytes)) k × HasEffect x k eff
     × (eff.outcome ≡ option_map_or Reply reply Silent) × (eff.state ≡ s') × (t' ≡ apply_if x.table piece.moment eff.change)
 
 abbrev pub AssemblesAt : Scene → ℕ → Received → Option (List ℕ) → List Held → Table → Type 0

@@ -71,7 +71,7 @@ pub(crate) fn code_reply(
 }
 
 /// The short reply to a message that isn't in the grammar.
-pub(crate) fn malformed(alloc: Global, envelope: &Envelope) -> Result<Octets, Refused>
+pub(crate) fn malformed_reply(alloc: Global, envelope: &Envelope) -> Result<Octets, Refused>
     ensures octets { IfOk result (λ octets. octets ≡ short_reply (response_number ResponseCode.ProtocolError) envelope.now) }
     ensures read { IfOk result (λ octets. IsReplyFrame octets) }
 {

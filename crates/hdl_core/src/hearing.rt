@@ -7,7 +7,7 @@ ghost use Rattle.hdl_ops.specs.Views.{response_view};
 ghost use Rattle.hdl_laws.specs.Tasks.{is_late};
 ghost use Rattle.hdl_core.specs.Serving.{challenge_of_request, context, message_as, scene, sent_of, HasItsCode, IsAsked, IsRedeemed, RespondsAt, HearsAt};
 
-use crate::answering::{answer, code_reply, malformed};
+use crate::answering::{answer, code_reply, malformed_reply};
 use crate::lanes::Lanes;
 use crate::origin::Origin;
 use hdl_auth::algorithm::{Algorithm, Digest};
@@ -95,7 +95,7 @@ fn redeem<R: Masked>(
     ensures undone { OnErr result (R.content rows.new ≡ R.content rows.old) }
 {
     let Ok(request) = read_request(pending.message.as_slice()) else {
-        return malformed(owner.alloc, &origin.envelope);
+        return malformed_reply(owner.alloc, &origin.envelope);
     };
     let asked = HashedRequest {
         algorithm: pending.digest.algorithm(),
@@ -162,7 +162,7 @@ pub(crate) fn hear<R: Masked>(
     ensures kept { OnErr result (lanes.new ≡ lanes.old) }
 {
     let Ok(request) = read_request(&message) else {
-        return malformed(owner.alloc, &origin.envelope);
+        return malformed_reply(owner.alloc, &origin.envelope);
     };
     if let Some(response) = response_of(request.body()) {
         return respond(owner, rows, lanes, origin, &request, response);

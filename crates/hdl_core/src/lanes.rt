@@ -4,8 +4,8 @@ ghost use Rattle.std.specs.Prelude.{◌≡◌, ◌≤◌, ◌<◌, true, length,
 ghost use Rattle.hdl_frame.specs.Envelope.{envelope_at, is_truncated};
 ghost use Rattle.hdl_frame.specs.Splitting.{IsFrameOf};
 ghost use Rattle.hdl_pool.specs.Partial.{key_of, piece_of};
-ghost use Rattle.hdl_pool.specs.Taking.{taken, freed, fate_of};
-ghost use Rattle.hdl_slots.specs.Lanes.{challenged, challenge_of, spent};
+ghost use Rattle.hdl_pool.specs.Taking.{take_piece, free_partial, fate_of};
+ghost use Rattle.hdl_slots.specs.Lanes.{add_challenge, challenge_of, spend_challenge};
 ghost use Rattle.hdl_laws.specs.Lanes.{fresh, with_partials};
 ghost use Rattle.hdl_core.specs.Held.{held_at, state_at, with_state};
 
@@ -94,8 +94,8 @@ impl Lanes {
         requires there { lane < length self.old }
         requires frame { IsFrameOf frame.now.bytes.now frame.now }
         requires piece { is_truncated (envelope_at frame.now.bytes.now) ≡ true }
-        ensures fate { IfOk result (λ t. fate_of t ≡ (taken (state_at self.old lane).partials (piece_of peer frame.now.bytes.now)).0) }
-        ensures lanes { OnOk result (self.new ≡ with_state self.old lane (with_partials (state_at self.old lane) (taken (state_at self.old lane).partials (piece_of peer frame.now.bytes.now)).1)) }
+        ensures fate { IfOk result (λ t. fate_of t ≡ (take_piece (state_at self.old lane).partials (piece_of peer frame.now.bytes.now)).0) }
+        ensures lanes { OnOk result (self.new ≡ with_state self.old lane (with_partials (state_at self.old lane) (take_piece (state_at self.old lane).partials (piece_of peer frame.now.bytes.now)).1)) }
         ensures unchanged { OnErr result (self.new ≡ self.old) }
     {
         self.pool.take(lane, peer, frame)
@@ -104,7 +104,7 @@ impl Lanes {
     /// Forgets what came of the message with this peer's envelope.
     pub(crate) fn free(&mut self, lane: u16, peer: u16, envelope: &Envelope)
         requires there { lane < length self.old }
-        ensures { self.new ≡ with_state self.old lane (with_partials (state_at self.old lane) (freed (state_at self.old lane).partials (key_of peer envelope.now))) }
+        ensures { self.new ≡ with_state self.old lane (with_partials (state_at self.old lane) (free_partial (state_at self.old lane).partials (key_of peer envelope.now))) }
     {
         self.pool.free(lane, peer, envelope);
     }
@@ -120,7 +120,7 @@ impl Lanes {
     /// Puts a challenge under the lane's next number.
     pub(crate) fn challenge(&mut self, lane: u16, pending: Pending)
         requires there { lane < length self.old }
-        ensures { self.new ≡ with_state self.old lane (record (state_at self.old lane) { challenges = challenged (state_at self.old lane).challenges pending }) }
+        ensures { self.new ≡ with_state self.old lane (record (state_at self.old lane) { challenges = add_challenge (state_at self.old lane).challenges pending }) }
     {
         self.slots.put(lane, pending);
     }
@@ -136,7 +136,7 @@ impl Lanes {
     /// Forgets what was sent on the lane to this peer under this number.
     pub(crate) fn spend(&mut self, lane: u16, peer: u16, number: u32)
         requires there { lane < length self.old }
-        ensures { self.new ≡ with_state self.old lane (record (state_at self.old lane) { challenges = spent (state_at self.old lane).challenges peer number }) }
+        ensures { self.new ≡ with_state self.old lane (record (state_at self.old lane) { challenges = spend_challenge (state_at self.old lane).challenges peer number }) }
     {
         self.slots.take(lane, peer, number);
     }

@@ -114,7 +114,7 @@ fn room_for(alloc: Global, tenants: &Tenants) -> Result<Lanes, OpenFault>
 }
 
 /// The table, of which no masks are kept yet.
-fn masked<R: Rows + Drop>(alloc: Global, rows: R) -> Result<MaskedRows<R>, OpenFault>
+fn with_masks<R: Rows + Drop>(alloc: Global, rows: R) -> Result<MaskedRows<R>, OpenFault>
     ensures { IfOk result (λ masked. masked ≡ rows) }
 {
     match MaskedRows::new(alloc, rows) {
@@ -134,7 +134,7 @@ impl<R: Rows + Drop> Service<R> {
     {
         let lanes = room_for(alloc, &tenants)?;
         load(alloc, &mut rows, tenants.opening())?;
-        let rows = masked(alloc, rows)?;
+        let rows = with_masks(alloc, rows)?;
         Ok(Service {
             alloc,
             tenants,
@@ -151,7 +151,7 @@ impl<R: Rows + Drop> Service<R> {
         ensures resumed { IfOk result (λ service. IsResumed tenants (R.content rows) service) }
     {
         let lanes = room_for(alloc, &tenants)?;
-        let rows = masked(alloc, rows)?;
+        let rows = with_masks(alloc, rows)?;
         Ok(Service {
             alloc,
             tenants,

@@ -80,7 +80,7 @@ impl Book {
     }
 
     /// Octets were read on the connection at this place. An `Err` changes nothing.
-    pub fn heard(&mut self, place: usize, octets: &[u8], now: u64) -> Result<(), Left>
+    pub fn note_octets(&mut self, place: usize, octets: &[u8], now: u64) -> Result<(), Left>
         ensures ok { OnOk result (Goes self.old.entries self.new.entries place (reads octets.now ∷ [])) }
         ensures unchanged { OnErr result (SameValues self.old.entries self.new.entries) }
         ensures last { self.new.last ≡ self.old.last }
@@ -89,7 +89,7 @@ impl Book {
         let Some(entry) = self.entries.get_mut(place) else {
             return Err(Left);
         };
-        match entry.heard(octets, now) {
+        match entry.note_octets(octets, now) {
             Ok(()) => Ok(()),
             Err(_) => Err(Left),
         }
@@ -127,14 +127,14 @@ impl Book {
         ensures entries { self.new.entries ≡ self.old.entries }
         ensures last { self.new.last ≡ self.old.last }
     {
-        match self.peers.came(member, frame) {
+        match self.peers.note_octets(member, frame) {
             Ok(Some(number)) => Ok(number),
             Ok(None) | Err(_) => Err(Left),
         }
     }
 
     /// The frame that stands next on the connection at this place, copied to the front of the buffer: its number among the lane's peers, and its length. The
-    /// number is this connection's until the reply is whole ([`replied`](Book::replied)), and longer while something is followed under it. None where no whole frame stands there; a faulty
+    /// number is this connection's until the reply is whole ([`end_reply`](Book::end_reply)), and longer while something is followed under it. None where no whole frame stands there; a faulty
     /// envelope is refused when it is met, and nothing is handed out behind it. What is an `Err` is for the caller to leave.
     pub fn next_frame(
         &mut self,
@@ -160,7 +160,7 @@ impl Book {
 
     /// A datagram of the reply to the oldest frame without a whole one, which had this number: it is said to the connection that has the number, whose place
     /// is answered. None where that is left, or memory is refused; then nothing is said.
-    pub fn answered(&mut self, number: u16, datagram: &[u8]) -> Option<usize>
+    pub fn put_datagram(&mut self, number: u16, datagram: &[u8]) -> Option<usize>
         ensures said { IfSome result (λ place. IsNumberAt self.old.peers.known self.old.entries number place × Goes self.old.entries self.new.entries place (says (said_of datagram.now) ∷ [])) }
         ensures unsaid { IfNone result (SameValues self.old.entries self.new.entries) }
         ensures known { self.new.peers.known ≡ self.old.peers.known }
@@ -168,18 +168,18 @@ impl Book {
         ensures under_way { self.new.peers.under_way ≡ reply_seen datagram.now self.old.peers.under_way }
         ensures last { self.new.last ≡ self.old.last }
     {
-        self.peers.answered(datagram);
+        self.peers.note_reply(datagram);
         let member = self.peers.address(number)?;
         self.say(member, datagram)
     }
 
     /// The reply to the oldest frame is whole, or there is none.
-    pub fn replied(&mut self)
+    pub fn end_reply(&mut self)
         ensures peers { self.new.peers ≡ settle_oldest self.old.peers }
         ensures entries { self.new.entries ≡ self.old.entries }
         ensures last { self.new.last ≡ self.old.last }
     {
-        self.peers.replied();
+        self.peers.end_reply();
     }
 
     /// Says a datagram to this connection, if it is there.

@@ -27,13 +27,13 @@ pub(crate) struct Entry {
 
 impl Entry {
     /// Octets were read. An `Err` changes nothing.
-    pub(crate) fn heard(&mut self, octets: &[u8], now: u64) -> Result<(), FrameFault>
+    pub(crate) fn note_octets(&mut self, octets: &[u8], now: u64) -> Result<(), FrameFault>
         ensures ok { OnOk result (Takes self.old.talk (reads octets.now) self.new.talk) }
         ensures unchanged { OnErr result (self.new ≡ self.old) }
         ensures serial { self.new.serial ≡ self.old.serial }
     {
-        self.talk.heard(octets)?;
-        self.pace = self.pace.came(now);
+        self.talk.note_octets(octets)?;
+        self.pace = self.pace.after_octets(now);
         Ok(())
     }
 
@@ -50,7 +50,7 @@ impl Entry {
         }
         match self.talk.next_frame(buffer) {
             Ok(Some(len)) => {
-                self.pace = self.pace.framed();
+                self.pace = self.pace.after_frame();
                 Ok(Some(len))
             }
             Ok(None) => Ok(None),
@@ -80,7 +80,7 @@ impl Entry {
         self.pace = if count < owed {
             self.pace.took(now)
         } else {
-            self.pace.taken(now)
+            self.pace.after_answer(now)
         };
     }
 

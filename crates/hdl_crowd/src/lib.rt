@@ -1,9 +1,9 @@
 //! What a lane with many connections keeps of them, without sockets.
 //!
 //! ```text
-//! octets read on a connection -> Book::heard      -> its Cutter
+//! octets read on a connection -> Book::note_octets      -> its Cutter
 //!                                Book::next_frame -> a frame of it, and the number of its peer  -> the lane
-//! a datagram of the reply     -> Book::answered   -> what is owed to the connection of that number
+//! a datagram of the reply     -> Book::put_datagram   -> what is owed to the connection of that number
 //!                                Book::owed, wrote -> octets written on the connection
 //! ```
 //!
@@ -21,7 +21,7 @@
 //!
 //! ```rust
 //! // crates/hdl_host/src/crowd.rt
-//! Ok(count) => match self.book.heard(place, &octets[..count], self.now) {
+//! Ok(count) => match self.book.note_octets(place, &octets[..count], self.now) {
 //!     Ok(()) => Next::More,
 //!     Err(_) => Next::End,
 //! },

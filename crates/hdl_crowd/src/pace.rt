@@ -48,7 +48,7 @@ impl Pace {
     }
 
     /// Octets came.
-    pub fn came(self, now: u64) -> Pace
+    pub fn after_octets(self, now: u64) -> Pace
         ensures { result ≡ record self { silent = now } }
     {
         Pace {
@@ -58,7 +58,7 @@ impl Pace {
     }
 
     /// A frame became whole.
-    pub fn framed(self) -> Pace
+    pub fn after_frame(self) -> Pace
         ensures { result ≡ record self { begun = None } }
     {
         Pace {
@@ -78,7 +78,7 @@ impl Pace {
     }
 
     /// An answer was taken to its end.
-    pub fn taken(self, now: u64) -> Pace
+    pub fn after_answer(self, now: u64) -> Pace
         ensures { result ≡ record self { silent = now; untaken = None } }
     {
         Pace {

@@ -52,7 +52,7 @@ impl Talk {
     }
 
     /// Octets were read. An `Err` is the fault that was told before or, where a growth was refused, Memory; either changes nothing.
-    pub fn heard(&mut self, octets: &[u8]) -> Result<(), FrameFault>
+    pub fn note_octets(&mut self, octets: &[u8]) -> Result<(), FrameFault>
         ensures ok { OnOk result (Takes self.old (reads octets.now) self.new) }
         ensures unchanged { OnErr result (self.new ≡ self.old) }
     {

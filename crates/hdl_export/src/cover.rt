@@ -95,7 +95,7 @@ impl Cover {
     }
 
     /// The same places, and with each what is listed there.
-    pub(crate) fn closed<R: Rows>(
+    pub(crate) fn close<R: Rows>(
         mut self,
         alloc: Global,
         rows: &mut R,

@@ -29,7 +29,7 @@ fn is_read(alloc: Global, text: &str) -> Result<(), (usize, TenantFault)>
 }
 
 /// The text with the lines of the rows that have these prefixes, not yet read.
-fn written<R: Rows>(
+fn write_unread<R: Rows>(
     alloc: Global,
     text: &str,
     prefixes: &[&str],
@@ -69,10 +69,10 @@ pub fn export<R: Rows>(alloc: Global, text: &str, rows: &mut R) -> Result<String
     ensures export { IfOk result (λ out. IsExport (lines text.now) (R.content rows.old) (string_bytes out)) }
 {
     if let Err((line, fault)) = is_read(alloc, text) {
-        return Err(given(line, fault));
+        return Err(fault_of_text(line, fault));
     }
     let prefixes = prefixes_of(alloc, text)?;
-    let out = written(alloc, text, prefixes.as_slice(), rows)?;
+    let out = write_unread(alloc, text, prefixes.as_slice(), rows)?;
     sound(alloc, out)
 }
 
@@ -109,11 +109,11 @@ pub fn export_publisher<R: Rows>(
     ensures export { IfOk result (λ out. IsPublisherExport (lines text.now) publisher.now (R.content rows.old) (string_bytes out)) }
 {
     if let Err((line, fault)) = is_read(alloc, text) {
-        return Err(given(line, fault));
+        return Err(fault_of_text(line, fault));
     }
     let prefixes = prefixes_for(alloc, text, publisher)?;
-    let mut out = written(alloc, text, prefixes.as_slice(), rows)?;
-    let cover = cover_of(alloc, out.as_slice())?.closed(alloc, rows)?;
+    let mut out = write_unread(alloc, text, prefixes.as_slice(), rows)?;
+    let cover = cover_of(alloc, out.as_slice())?.close(alloc, rows)?;
     put_foreign(
         alloc,
         rows,
@@ -125,7 +125,7 @@ pub fn export_publisher<R: Rows>(
 }
 
 /// Why the text that was given isn't read.
-fn given(line: usize, fault: TenantFault) -> ExportFault {
+fn fault_of_text(line: usize, fault: TenantFault) -> ExportFault {
     match fault {
         TenantFault::Memory => ExportFault::Memory,
         _ => ExportFault::Given { line, fault },

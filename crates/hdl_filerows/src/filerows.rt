@@ -5,9 +5,9 @@ ghost use Rattle.sqlite.specs.State.{HasCleanDisk, Survives};
 ghost use Rattle.sqlite.specs.Held.{state};
 ghost use Rattle.hdl_name.specs.Name.{canonical};
 ghost use Rattle.hdl_rows.specs.Table.{no_rows, has, created, with_values, without_values, without_handle, AreDistinct, AreAbsent, ArePresent, indexes};
-ghost use Rattle.hdl_sqlrows.specs.Filed.{WhereOpen, IsFiled, CrashLeaves, filed};
+ghost use Rattle.hdl_sqlrows.specs.Filed.{WhereOpen, IsFiled, CrashLeaves, filed_table};
 ghost use Rattle.hdl_sqlrows.specs.Kept.{IsBlank, IsSettled, table_in};
-ghost use Rattle.hdl_sqlrows.specs.Opening.{base_in, based};
+ghost use Rattle.hdl_sqlrows.specs.Opening.{base_in, filed_base};
 
 use hdl_name::Name;
 use hdl_sqlrows::{Fault, layout, writes};
@@ -62,7 +62,7 @@ impl<S: Alter + Drop> FileRows<S> {
 
     /// Whether the store still takes writes. Once the disk failed to commit one, nobody can tell what it has, and the store has shut for good.
     pub fn is_open(&mut self) -> bool
-        ensures open { IsTrue result → HasCleanDisk (state S.Store self.new) → IsFiled (state S.Store self.new) (filed (state S.Store self.old)) }
+        ensures open { IsTrue result → HasCleanDisk (state S.Store self.new) → IsFiled (state S.Store self.new) (filed_table (state S.Store self.old)) }
         ensures was_open { IsTrue result → HasCleanDisk (state S.Store self.new) → IsTrue (state S.Store self.old).is_open }
         ensures survives { Survives (state S.Store self.old) (state S.Store self.new) (λ _. ⊥) }
     {
@@ -71,7 +71,7 @@ impl<S: Alter + Drop> FileRows<S> {
 
     /// Between calls a crash leaves the rows as they were filed, and nothing else.
     pub fn after_a_crash(&self)
-        ensures { WhereOpen (state S.Store self.now) (CrashLeaves (state S.Store self.now) (filed (state S.Store self.now))) }
+        ensures { WhereOpen (state S.Store self.now) (CrashLeaves (state S.Store self.now) (filed_table (state S.Store self.now))) }
     {}
 
     /// The connection, for its owner to close.
@@ -83,16 +83,16 @@ impl<S: Alter + Drop> FileRows<S> {
 
     /// Makes an absent handle, with these values.
     pub fn create(&mut self, name: &Name, values: &[Value]) -> Result<(), Fault>
-        requires none { WhereOpen (state S.Store self.old) (has (filed (state S.Store self.old)) (canonical name.now) ≡ false) }
-        requires absent { WhereOpen (state S.Store self.old) (AreAbsent (filed (state S.Store self.old)) (canonical name.now) (indexes values.now)) }
+        requires none { WhereOpen (state S.Store self.old) (has (filed_table (state S.Store self.old)) (canonical name.now) ≡ false) }
+        requires absent { WhereOpen (state S.Store self.old) (AreAbsent (filed_table (state S.Store self.old)) (canonical name.now) (indexes values.now)) }
         requires distinct { AreDistinct (indexes values.now) }
-        ensures done { OnOk result (HasCleanDisk (state S.Store self.new) → IsFiled (state S.Store self.new) (created (filed (state S.Store self.old)) (canonical name.now) values.now)) }
-        ensures undone { OnErr result (WhereOpen (state S.Store self.new) (filed (state S.Store self.new) ≡ filed (state S.Store self.old))) }
-        ensures durable { OnOk result (HasCleanDisk (state S.Store self.new) → CrashLeaves (state S.Store self.new) (created (filed (state S.Store self.old)) (canonical name.now) values.now)) }
-        ensures restored { OnErr result (WhereOpen (state S.Store self.new) (CrashLeaves (state S.Store self.new) (filed (state S.Store self.old)))) }
-        ensures survives { Survives (state S.Store self.old) (state S.Store self.new) (λ db. table_in db ≡ created (filed (state S.Store self.old)) (canonical name.now) values.now) }
-        ensures beside { WhereOpen (state S.Store self.new) ((based (state S.Store self.new)).opened ≡ (based (state S.Store self.old)).opened) }
-        ensures beside_survives { Survives (state S.Store self.old) (state S.Store self.new) (λ db. IsTrue (state S.Store self.old).is_open → (base_in db).opened ≡ (based (state S.Store self.old)).opened) }
+        ensures done { OnOk result (HasCleanDisk (state S.Store self.new) → IsFiled (state S.Store self.new) (created (filed_table (state S.Store self.old)) (canonical name.now) values.now)) }
+        ensures undone { OnErr result (WhereOpen (state S.Store self.new) (filed_table (state S.Store self.new) ≡ filed_table (state S.Store self.old))) }
+        ensures durable { OnOk result (HasCleanDisk (state S.Store self.new) → CrashLeaves (state S.Store self.new) (created (filed_table (state S.Store self.old)) (canonical name.now) values.now)) }
+        ensures restored { OnErr result (WhereOpen (state S.Store self.new) (CrashLeaves (state S.Store self.new) (filed_table (state S.Store self.old)))) }
+        ensures survives { Survives (state S.Store self.old) (state S.Store self.new) (λ db. table_in db ≡ created (filed_table (state S.Store self.old)) (canonical name.now) values.now) }
+        ensures beside { WhereOpen (state S.Store self.new) ((filed_base (state S.Store self.new)).opened ≡ (filed_base (state S.Store self.old)).opened) }
+        ensures beside_survives { Survives (state S.Store self.old) (state S.Store self.new) (λ db. IsTrue (state S.Store self.old).is_open → (base_in db).opened ≡ (filed_base (state S.Store self.old)).opened) }
     {
         let authority = name.authority();
         writes::create(&mut self.conn, self.alloc, name.canon(), authority, values)
@@ -100,56 +100,56 @@ impl<S: Alter + Drop> FileRows<S> {
 
     /// Puts values at indexes of a handle where none stands.
     pub fn add(&mut self, name: &Name, values: &[Value]) -> Result<(), Fault>
-        requires absent { WhereOpen (state S.Store self.old) (AreAbsent (filed (state S.Store self.old)) (canonical name.now) (indexes values.now)) }
+        requires absent { WhereOpen (state S.Store self.old) (AreAbsent (filed_table (state S.Store self.old)) (canonical name.now) (indexes values.now)) }
         requires distinct { AreDistinct (indexes values.now) }
-        ensures done { OnOk result (HasCleanDisk (state S.Store self.new) → IsFiled (state S.Store self.new) (with_values (filed (state S.Store self.old)) (canonical name.now) values.now)) }
-        ensures undone { OnErr result (WhereOpen (state S.Store self.new) (filed (state S.Store self.new) ≡ filed (state S.Store self.old))) }
-        ensures durable { OnOk result (HasCleanDisk (state S.Store self.new) → CrashLeaves (state S.Store self.new) (with_values (filed (state S.Store self.old)) (canonical name.now) values.now)) }
-        ensures restored { OnErr result (WhereOpen (state S.Store self.new) (CrashLeaves (state S.Store self.new) (filed (state S.Store self.old)))) }
-        ensures survives { Survives (state S.Store self.old) (state S.Store self.new) (λ db. IsTrue (state S.Store self.old).is_open → table_in db ≡ with_values (filed (state S.Store self.old)) (canonical name.now) values.now) }
-        ensures beside { WhereOpen (state S.Store self.new) ((based (state S.Store self.new)).opened ≡ (based (state S.Store self.old)).opened) }
-        ensures beside_survives { Survives (state S.Store self.old) (state S.Store self.new) (λ db. IsTrue (state S.Store self.old).is_open → (base_in db).opened ≡ (based (state S.Store self.old)).opened) }
+        ensures done { OnOk result (HasCleanDisk (state S.Store self.new) → IsFiled (state S.Store self.new) (with_values (filed_table (state S.Store self.old)) (canonical name.now) values.now)) }
+        ensures undone { OnErr result (WhereOpen (state S.Store self.new) (filed_table (state S.Store self.new) ≡ filed_table (state S.Store self.old))) }
+        ensures durable { OnOk result (HasCleanDisk (state S.Store self.new) → CrashLeaves (state S.Store self.new) (with_values (filed_table (state S.Store self.old)) (canonical name.now) values.now)) }
+        ensures restored { OnErr result (WhereOpen (state S.Store self.new) (CrashLeaves (state S.Store self.new) (filed_table (state S.Store self.old)))) }
+        ensures survives { Survives (state S.Store self.old) (state S.Store self.new) (λ db. IsTrue (state S.Store self.old).is_open → table_in db ≡ with_values (filed_table (state S.Store self.old)) (canonical name.now) values.now) }
+        ensures beside { WhereOpen (state S.Store self.new) ((filed_base (state S.Store self.new)).opened ≡ (filed_base (state S.Store self.old)).opened) }
+        ensures beside_survives { Survives (state S.Store self.old) (state S.Store self.new) (λ db. IsTrue (state S.Store self.old).is_open → (base_in db).opened ≡ (filed_base (state S.Store self.old)).opened) }
     {
         writes::add(&mut self.conn, self.alloc, name.canon(), values)
     }
 
     /// Replaces the values at indexes of a handle, each whole.
     pub fn modify(&mut self, name: &Name, values: &[Value]) -> Result<(), Fault>
-        requires there { WhereOpen (state S.Store self.old) (ArePresent (filed (state S.Store self.old)) (canonical name.now) (indexes values.now)) }
-        ensures done { OnOk result (HasCleanDisk (state S.Store self.new) → IsFiled (state S.Store self.new) (with_values (filed (state S.Store self.old)) (canonical name.now) values.now)) }
-        ensures undone { OnErr result (WhereOpen (state S.Store self.new) (filed (state S.Store self.new) ≡ filed (state S.Store self.old))) }
-        ensures durable { OnOk result (HasCleanDisk (state S.Store self.new) → CrashLeaves (state S.Store self.new) (with_values (filed (state S.Store self.old)) (canonical name.now) values.now)) }
-        ensures restored { OnErr result (WhereOpen (state S.Store self.new) (CrashLeaves (state S.Store self.new) (filed (state S.Store self.old)))) }
-        ensures survives { Survives (state S.Store self.old) (state S.Store self.new) (λ db. IsTrue (state S.Store self.old).is_open → table_in db ≡ with_values (filed (state S.Store self.old)) (canonical name.now) values.now) }
-        ensures beside { WhereOpen (state S.Store self.new) ((based (state S.Store self.new)).opened ≡ (based (state S.Store self.old)).opened) }
-        ensures beside_survives { Survives (state S.Store self.old) (state S.Store self.new) (λ db. IsTrue (state S.Store self.old).is_open → (base_in db).opened ≡ (based (state S.Store self.old)).opened) }
+        requires there { WhereOpen (state S.Store self.old) (ArePresent (filed_table (state S.Store self.old)) (canonical name.now) (indexes values.now)) }
+        ensures done { OnOk result (HasCleanDisk (state S.Store self.new) → IsFiled (state S.Store self.new) (with_values (filed_table (state S.Store self.old)) (canonical name.now) values.now)) }
+        ensures undone { OnErr result (WhereOpen (state S.Store self.new) (filed_table (state S.Store self.new) ≡ filed_table (state S.Store self.old))) }
+        ensures durable { OnOk result (HasCleanDisk (state S.Store self.new) → CrashLeaves (state S.Store self.new) (with_values (filed_table (state S.Store self.old)) (canonical name.now) values.now)) }
+        ensures restored { OnErr result (WhereOpen (state S.Store self.new) (CrashLeaves (state S.Store self.new) (filed_table (state S.Store self.old)))) }
+        ensures survives { Survives (state S.Store self.old) (state S.Store self.new) (λ db. IsTrue (state S.Store self.old).is_open → table_in db ≡ with_values (filed_table (state S.Store self.old)) (canonical name.now) values.now) }
+        ensures beside { WhereOpen (state S.Store self.new) ((filed_base (state S.Store self.new)).opened ≡ (filed_base (state S.Store self.old)).opened) }
+        ensures beside_survives { Survives (state S.Store self.old) (state S.Store self.new) (λ db. IsTrue (state S.Store self.old).is_open → (base_in db).opened ≡ (filed_base (state S.Store self.old)).opened) }
     {
         writes::modify(&mut self.conn, self.alloc, name.canon(), values)
     }
 
     /// Takes away what stands at these indexes of a handle, which stays.
     pub fn remove(&mut self, name: &Name, indexes: &[u32]) -> Result<(), Fault>
-        ensures done { OnOk result (HasCleanDisk (state S.Store self.new) → IsFiled (state S.Store self.new) (without_values (filed (state S.Store self.old)) (canonical name.now) indexes.now)) }
-        ensures undone { OnErr result (WhereOpen (state S.Store self.new) (filed (state S.Store self.new) ≡ filed (state S.Store self.old))) }
-        ensures durable { OnOk result (HasCleanDisk (state S.Store self.new) → CrashLeaves (state S.Store self.new) (without_values (filed (state S.Store self.old)) (canonical name.now) indexes.now)) }
-        ensures restored { OnErr result (WhereOpen (state S.Store self.new) (CrashLeaves (state S.Store self.new) (filed (state S.Store self.old)))) }
-        ensures survives { Survives (state S.Store self.old) (state S.Store self.new) (λ db. IsTrue (state S.Store self.old).is_open → table_in db ≡ without_values (filed (state S.Store self.old)) (canonical name.now) indexes.now) }
-        ensures beside { WhereOpen (state S.Store self.new) ((based (state S.Store self.new)).opened ≡ (based (state S.Store self.old)).opened) }
-        ensures beside_survives { Survives (state S.Store self.old) (state S.Store self.new) (λ db. IsTrue (state S.Store self.old).is_open → (base_in db).opened ≡ (based (state S.Store self.old)).opened) }
+        ensures done { OnOk result (HasCleanDisk (state S.Store self.new) → IsFiled (state S.Store self.new) (without_values (filed_table (state S.Store self.old)) (canonical name.now) indexes.now)) }
+        ensures undone { OnErr result (WhereOpen (state S.Store self.new) (filed_table (state S.Store self.new) ≡ filed_table (state S.Store self.old))) }
+        ensures durable { OnOk result (HasCleanDisk (state S.Store self.new) → CrashLeaves (state S.Store self.new) (without_values (filed_table (state S.Store self.old)) (canonical name.now) indexes.now)) }
+        ensures restored { OnErr result (WhereOpen (state S.Store self.new) (CrashLeaves (state S.Store self.new) (filed_table (state S.Store self.old)))) }
+        ensures survives { Survives (state S.Store self.old) (state S.Store self.new) (λ db. IsTrue (state S.Store self.old).is_open → table_in db ≡ without_values (filed_table (state S.Store self.old)) (canonical name.now) indexes.now) }
+        ensures beside { WhereOpen (state S.Store self.new) ((filed_base (state S.Store self.new)).opened ≡ (filed_base (state S.Store self.old)).opened) }
+        ensures beside_survives { Survives (state S.Store self.old) (state S.Store self.new) (λ db. IsTrue (state S.Store self.old).is_open → (base_in db).opened ≡ (filed_base (state S.Store self.old)).opened) }
     {
         writes::remove(&mut self.conn, name.canon(), indexes)
     }
 
     /// Takes a handle away with all its values.
     pub fn delete(&mut self, name: &Name) -> Result<(), Fault>
-        requires there { WhereOpen (state S.Store self.old) (has (filed (state S.Store self.old)) (canonical name.now) ≡ true) }
-        ensures done { OnOk result (HasCleanDisk (state S.Store self.new) → IsFiled (state S.Store self.new) (without_handle (filed (state S.Store self.old)) (canonical name.now))) }
-        ensures undone { OnErr result (WhereOpen (state S.Store self.new) (filed (state S.Store self.new) ≡ filed (state S.Store self.old))) }
-        ensures durable { OnOk result (HasCleanDisk (state S.Store self.new) → CrashLeaves (state S.Store self.new) (without_handle (filed (state S.Store self.old)) (canonical name.now))) }
-        ensures restored { OnErr result (WhereOpen (state S.Store self.new) (CrashLeaves (state S.Store self.new) (filed (state S.Store self.old)))) }
-        ensures survives { Survives (state S.Store self.old) (state S.Store self.new) (λ db. table_in db ≡ without_handle (filed (state S.Store self.old)) (canonical name.now)) }
-        ensures beside { WhereOpen (state S.Store self.new) ((based (state S.Store self.new)).opened ≡ (based (state S.Store self.old)).opened) }
-        ensures beside_survives { Survives (state S.Store self.old) (state S.Store self.new) (λ db. IsTrue (state S.Store self.old).is_open → (base_in db).opened ≡ (based (state S.Store self.old)).opened) }
+        requires there { WhereOpen (state S.Store self.old) (has (filed_table (state S.Store self.old)) (canonical name.now) ≡ true) }
+        ensures done { OnOk result (HasCleanDisk (state S.Store self.new) → IsFiled (state S.Store self.new) (without_handle (filed_table (state S.Store self.old)) (canonical name.now))) }
+        ensures undone { OnErr result (WhereOpen (state S.Store self.new) (filed_table (state S.Store self.new) ≡ filed_table (state S.Store self.old))) }
+        ensures durable { OnOk result (HasCleanDisk (state S.Store self.new) → CrashLeaves (state S.Store self.new) (without_handle (filed_table (state S.Store self.old)) (canonical name.now))) }
+        ensures restored { OnErr result (WhereOpen (state S.Store self.new) (CrashLeaves (state S.Store self.new) (filed_table (state S.Store self.old)))) }
+        ensures survives { Survives (state S.Store self.old) (state S.Store self.new) (λ db. table_in db ≡ without_handle (filed_table (state S.Store self.old)) (canonical name.now)) }
+        ensures beside { WhereOpen (state S.Store self.new) ((filed_base (state S.Store self.new)).opened ≡ (filed_base (state S.Store self.old)).opened) }
+        ensures beside_survives { Survives (state S.Store self.old) (state S.Store self.new) (λ db. IsTrue (state S.Store self.old).is_open → (base_in db).opened ≡ (filed_base (state S.Store self.old)).opened) }
     {
         writes::delete(&mut self.conn, name.canon())
     }

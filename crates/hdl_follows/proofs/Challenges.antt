@@ -10,7 +10,7 @@ use Rattle.hdl_slots.specs.Lanes.{next_after, last_eight, without}
 use Rattle.hdl_slots.proofs.LawLemmas.{at_most_eight_lem}
 use Rattle.hdl_trail.specs.declared.kept.Key.{Key}
 use Rattle.hdl_trail.specs.declared.kept.Sent.{Sent}
-use Rattle.hdl_trail.specs.Kept.{put_behind, is_from, is_response, redeemed, challenged}
+use Rattle.hdl_trail.specs.Kept.{put_behind, is_from, is_response, redeem, add_challenge}
 use Rattle.hdl_follows.specs.Follows.{sent_of, CanBeRead}
 use Rattle.hdl_follows.proofs.Lists.{filter_seen, map_push, map_drop, each_filter, each_drop, each_push, length_filter}
 
@@ -39,7 +39,7 @@ pushed_seen cs c few =
 
 -- the trail puts a challenge as the lane does
 pub put_seen : (s : slots.LaneState) (p : Pending) → length s.challenges ≤ 8
-    → put_behind 8 (filter (λ t. not (eqb t.session s.next)) (map sent_of s.challenges)) (record { number = p.peer; session = s.next }) ≡ map sent_of (slots.challenged s p).challenges
+    → put_behind 8 (filter (λ t. not (eqb t.session s.next)) (map sent_of s.challenges)) (record { number = p.peer; session = s.next }) ≡ map sent_of (slots.add_challenge s p).challenges
 put_seen s p few =
     let left = filter_seen sent_of (λ t. not (eqb t.session s.next)) s.challenges in
     let fewer = length_filter (λ (c : Challenge). not (eqb c.number s.next)) s.challenges in
@@ -53,10 +53,10 @@ next_fits n fits = by_test (eqb n 4294967295) refl
     by_test true is = omega arith
     by_test false is = let other = eqb-false n 4294967295 is in omega arith
 
-pub put_few : (s : slots.LaneState) (p : Pending) → length (slots.challenged s p).challenges ≤ 8
+pub put_few : (s : slots.LaneState) (p : Pending) → length (slots.add_challenge s p).challenges ≤ 8
 put_few s p = at_most_eight_lem s p
 
-pub put_read : (s : slots.LaneState) (p : Pending) → AllByRecursion CanBeRead s.challenges → CanBeRead (record { number = s.next; pending = p }) → AllByRecursion CanBeRead (slots.challenged s p).challenges
+pub put_read : (s : slots.LaneState) (p : Pending) → AllByRecursion CanBeRead s.challenges → CanBeRead (record { number = s.next; pending = p }) → AllByRecursion CanBeRead (slots.add_challenge s p).challenges
 put_read s p each here =
     let kept = without s.next s.challenges in
     let newest : Challenge = record { number = s.next; pending = p } in
@@ -66,15 +66,15 @@ put_read s p each here =
 
 -- a reply that is no challenge, and answers no response or is out of the grammar, changes nothing
 pub unchanged : (key : Key) (operation : Option ℕ) (code session : ℕ) (ts : List Sent) → eqb code 402 ≡ false → is_response operation && not (eqb code 4) ≡ false
-    → challenged key.number code session (redeemed key operation code ts) ≡ ts
+    → add_challenge key.number code session (redeem key operation code ts) ≡ ts
 unchanged key operation code session ts none other = rw (none, other) refl
 
 -- one that answers a response spends its challenge
 pub spends : (key : Key) (operation : Option ℕ) (code session : ℕ) (ts : List Sent) → eqb code 402 ≡ false → is_response operation && not (eqb code 4) ≡ true
-    → challenged key.number code session (redeemed key operation code ts) ≡ filter (λ t. not (is_from key.number key.session t)) ts
+    → add_challenge key.number code session (redeem key operation code ts) ≡ filter (λ t. not (is_from key.number key.session t)) ts
 spends key operation code session ts none answers = rw (none, answers) refl
 
 -- a challenge is put
 pub puts : (key : Key) (operation : Option ℕ) (session : ℕ) (ts : List Sent) → is_response operation ≡ false
-    → challenged key.number 402 session (redeemed key operation 402 ts) ≡ put_behind 8 (filter (λ t. not (eqb t.session session)) ts) (record { number = key.number; session = session })
+    → add_challenge key.number 402 session (redeem key operation 402 ts) ≡ put_behind 8 (filter (λ t. not (eqb t.session session)) ts) (record { number = key.number; session = session })
 puts key operation session ts other = rw other refl

@@ -5,7 +5,7 @@ use Rattle.std.proofs.lemmas.List.Folds.{list_any-append}
 use Rattle.hdl_trail.specs.declared.kept.Mark.{Mark}
 use Rattle.hdl_trail.specs.declared.kept.Sent.{Sent}
 use Rattle.hdl_trail.specs.declared.exchange.Exchange.{Exchange}
-use Rattle.hdl_trail.specs.Kept.{Followed, is_of, is_from, is_held, put_behind, begun, grown, grown_among, with_piece, unanswered, operation_of, ended, is_response, redeemed, challenged, answered, settled_by, settled}
+use Rattle.hdl_trail.specs.Kept.{Followed, is_of, is_from, is_held, put_behind, first_mark, grown, grown_among, with_piece, leave_unanswered, operation_of, end_message, is_response, redeem, add_challenge, leave_answered, settle_by, settle}
 use Rattle.hdl_trail.specs.Peers.{is_under_way}
 use Rattle.hdl_follows.specs.Laws.{HoldsWhatComes}
 
@@ -95,11 +95,11 @@ module _ (n : ℕ) where
   piece_any : (e : Exchange) (ms : List Mark) → list_any of_mark (with_piece e ms) ≡ true → (list_any of_mark ms ≡ true) ⊎ (e.key.number == n ≡ true)
   piece_any e ms is = by_test (list_any (is_of e.key) ms) is
     where
-      by_test : (b : Bool) → list_any of_mark (cond b (grown_among e ms) (put_behind 4 ms (begun e))) ≡ true → (list_any of_mark ms ≡ true) ⊎ (e.key.number == n ≡ true)
+      by_test : (b : Bool) → list_any of_mark (cond b (grown_among e ms) (put_behind 4 ms (first_mark e))) ≡ true → (list_any of_mark ms ≡ true) ⊎ (e.key.number == n ≡ true)
       by_test true is = inl (sym (grown_any e ms) ∙ is)
-      by_test false is = any_behind of_mark 4 ms (begun e) is
+      by_test false is = any_behind of_mark 4 ms (first_mark e) is
 
-  challenge_any : (number code session : ℕ) (ss : List Sent) → list_any of_sent (challenged number code session ss) ≡ true → (list_any of_sent ss ≡ true) ⊎ (number == n ≡ true)
+  challenge_any : (number code session : ℕ) (ss : List Sent) → list_any of_sent (add_challenge number code session ss) ≡ true → (list_any of_sent ss ≡ true) ⊎ (number == n ≡ true)
   challenge_any number code session ss is = by_test (code == 402) is
     where
       others : List Sent
@@ -124,7 +124,7 @@ module _ (n : ℕ) where
   with_challenges f e (inl is) = inl (on_right (list_any of_mark f.partials) (list_any of_sent f.challenges) is)
   with_challenges f e (inr is) = inr is
 
-  unanswered_held : (f : Followed) (e : Exchange) → is_held (unanswered f e) n ≡ true → Held f e
+  unanswered_held : (f : Followed) (e : Exchange) → is_held (leave_unanswered f e) n ≡ true → Held f e
   unanswered_held f e is = by_piece e.is_piece is
     where
       by_side : (list_any of_mark (with_piece e f.partials) ≡ true) ⊎ (list_any of_sent f.challenges ≡ true) → Held f e
@@ -135,40 +135,40 @@ module _ (n : ℕ) where
       by_piece true is = by_side (either (list_any of_mark (with_piece e f.partials)) (list_any of_sent f.challenges) is)
       by_piece false is = inl is
 
-  answered_held : (f : Followed) (e : Exchange) (code session : ℕ) → is_held (answered f e code session) n ≡ true → Held f e
-  answered_held f e code session is = by_side (either (list_any of_mark (ended e f.partials)) (list_any of_sent (challenged e.key.number code session left)) is)
+  answered_held : (f : Followed) (e : Exchange) (code session : ℕ) → is_held (leave_answered f e code session) n ≡ true → Held f e
+  answered_held f e code session is = by_side (either (list_any of_mark (end_message e f.partials)) (list_any of_sent (add_challenge e.key.number code session left)) is)
     where
       left : List Sent
-      left = redeemed e.key (operation_of e f.partials) code f.challenges
+      left = redeem e.key (operation_of e f.partials) code f.challenges
 
       by_left : (list_any of_sent left ≡ true) ⊎ (e.key.number == n ≡ true) → Held f e
       by_left (inl before) =
           with_challenges f e (inl (any_if of_sent (is_response (operation_of e f.partials) && not (code == 4)) (λ s. not (is_from e.key.number e.key.session s)) f.challenges before))
       by_left (inr here) = inr here
 
-      by_side : (list_any of_mark (ended e f.partials) ≡ true) ⊎ (list_any of_sent (challenged e.key.number code session left) ≡ true) → Held f e
+      by_side : (list_any of_mark (end_message e f.partials) ≡ true) ⊎ (list_any of_sent (add_challenge e.key.number code session left) ≡ true) → Held f e
       by_side (inl marks) = with_partials f e (inl (any_if of_mark e.is_piece (λ m. not (is_of e.key m)) f.partials marks))
       by_side (inr sent) = by_left (challenge_any e.key.number code session left sent)
 
-  settled_held : (f : Followed) (e : Exchange) → is_held (settled f (Some e)) n ≡ true → Held f e
+  settled_held : (f : Followed) (e : Exchange) → is_held (settle f (Some e)) n ≡ true → Held f e
   settled_held f e is = by_reply e.reply is
     where
-      by_busy : (b : Bool) (code session : ℕ) → is_held (cond b f (answered f e code session)) n ≡ true → Held f e
+      by_busy : (b : Bool) (code session : ℕ) → is_held (cond b f (leave_answered f e code session)) n ≡ true → Held f e
       by_busy true code session is = inl is
       by_busy false code session is = answered_held f e code session is
 
-      by_reply : (reply : Option (ℕ × ℕ)) → is_held (settled_by f e reply) n ≡ true → Held f e
+      by_reply : (reply : Option (ℕ × ℕ)) → is_held (settle_by f e reply) n ≡ true → Held f e
       by_reply None is = unanswered_held f e is
       by_reply (Some reply) is = by_busy (reply.0 == 3) reply.0 reply.1 is
 
 pub holds_what_comes : HoldsWhatComes
 holds_what_comes f [] n is = on_left (is_held f n) false is
-holds_what_comes f (e ∷ es) n is = by_rest (either (is_held (settled f (Some e)) n) (is_under_way es n) (holds_what_comes (settled f (Some e)) es n is))
+holds_what_comes f (e ∷ es) n is = by_rest (either (is_held (settle f (Some e)) n) (is_under_way es n) (holds_what_comes (settle f (Some e)) es n is))
   where
     by_first : (is_held f n ≡ true) ⊎ (e.key.number == n ≡ true) → is_held f n || (e.key.number == n || is_under_way es n) ≡ true
     by_first (inl before) = on_left (is_held f n) (e.key.number == n || is_under_way es n) before
     by_first (inr here) = on_right (is_held f n) (e.key.number == n || is_under_way es n) (on_left (e.key.number == n) (is_under_way es n) here)
 
-    by_rest : (is_held (settled f (Some e)) n ≡ true) ⊎ (is_under_way es n ≡ true) → is_held f n || (e.key.number == n || is_under_way es n) ≡ true
+    by_rest : (is_held (settle f (Some e)) n ≡ true) ⊎ (is_under_way es n ≡ true) → is_held f n || (e.key.number == n || is_under_way es n) ≡ true
     by_rest (inl first) = by_first (settled_held n f e first)
     by_rest (inr later) = on_right (is_held f n) (e.key.number == n || is_under_way es n) (on_right (e.key.number == n) (is_under_way es n) later)

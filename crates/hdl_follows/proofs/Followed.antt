@@ -11,7 +11,7 @@ use Rattle.hdl_rows.specs.Table.{Table}
 use Rattle.hdl_msg.specs.Reply.{short_reply}
 use Rattle.hdl_pool.specs.Partial as pool
 use Rattle.hdl_pool.specs.Partial.{Partial, piece_of}
-use Rattle.hdl_pool.specs.Taking.{taken, whole_message, freed}
+use Rattle.hdl_pool.specs.Taking.{take_piece, whole_message, free_partial}
 use Rattle.hdl_events.specs.declared.Happening.{Happening}
 use Rattle.hdl_events.specs.declared.Event.{Event}
 use Rattle.hdl_events.specs.declared.Outcome.{Outcome}
@@ -25,7 +25,7 @@ use Rattle.hdl_trail.specs.declared.kept.Mark.{Mark}
 use Rattle.hdl_trail.specs.declared.kept.Sent.{Sent}
 use Rattle.hdl_trail.specs.declared.exchange.Exchange.{Exchange}
 use Rattle.hdl_trail.specs.Exchange.{number_at, reply_of}
-use Rattle.hdl_trail.specs.Kept.{Followed, is_held, settled, answered, unanswered, with_piece, ended, operation_of, redeemed, challenged}
+use Rattle.hdl_trail.specs.Kept.{Followed, is_held, settle, leave_answered, leave_unanswered, with_piece, end_message, operation_of, redeem, add_challenge}
 use Rattle.hdl_trail.specs.Kept as trail
 use Rattle.hdl_trail.specs.Peers.{arrival}
 use Rattle.hdl_follows.specs.Follows.{Follows, IsInUse, IsPartial, mark_of, sent_of, datagrams_of, sent, answered_by}
@@ -57,17 +57,17 @@ holds f s number follows =
 
 -- the trail follows the lane after the effect
 abbrev FollowsOn : Followed → Exchange → Effect → Type 0
-FollowsOn f e eff = Follows (settled f (Some (answered_by (sent eff.outcome) e))) eff.state × IsInUse eff.state
+FollowsOn f e eff = Follows (settle f (Some (answered_by (sent eff.outcome) e))) eff.state × IsInUse eff.state
 
 -- ---- a frame that is answered
 
 -- with this code and session
 answered_with : (f : Followed) (e : Exchange) (octets : List ℕ) (o : Outcome) (code session : ℕ) → e.reply ≡ None → o ≡ Reply octets → reply_of (front octets) ≡ Some (code, session) → eqb code 3 ≡ false
-    → settled f (Some (answered_by (sent o) e)) ≡ answered f e code session
+    → settle f (Some (answered_by (sent o) e)) ≡ leave_answered f e code session
 answered_with f e octets o code session none is seen calm =
-    ap (λ (z : Outcome). settled f (Some (answered_by (sent z) e))) is
-    ∙ ap (λ (z : Exchange). settled f (Some z)) (answered_is octets e (code, session) none seen)
-    ∙ ap (λ (b : Bool). cond b f (answered f e code session)) calm
+    ap (λ (z : Outcome). settle f (Some (answered_by (sent z) e))) is
+    ∙ ap (λ (z : Exchange). settle f (Some z)) (answered_is octets e (code, session) none seen)
+    ∙ ap (λ (b : Bool). cond b f (leave_answered f e code session)) calm
 
 module _ (hosted : List ℕ → Bool) (algorithms : List ℕ → Algorithm) (t : Table) (s : LaneState) (u : IsInUse s) (x : Received) (frame : IsFrame x.bytes) where
   abbrev e : Exchange
@@ -77,18 +77,18 @@ module _ (hosted : List ℕ → Bool) (algorithms : List ℕ → Algorithm) (t :
   marks = map mark_of s.partials
 
   -- a message that is answered on a lane: the trail has its partial messages as the lane has, and knows the message's operation
-  message_followed : (gone : LaneState) (message : List ℕ) (k : Task) (eff : Effect) → IsInUse gone → gone.challenges ≡ s.challenges → ended e marks ≡ map mark_of gone.partials → operation_of e marks ≡ number_at message 0
+  message_followed : (gone : LaneState) (message : List ℕ) (k : Task) (eff : Effect) → IsInUse gone → gone.challenges ≡ s.challenges → end_message e marks ≡ map mark_of gone.partials → operation_of e marks ≡ number_at message 0
       → IsMessageTask gone (message_from x message) k → Does hosted algorithms t k eff → FollowsOn (view s) e eff
   message_followed gone message k eff used same ends knows task does =
       let ans : Answered gone (message_from x message) eff = message_answered hosted algorithms t gone used (message_from x message) k eff task does in
-      let settles : settled (view s) (Some (answered_by (sent eff.outcome) e)) ≡ answered (view s) e ans.code ans.session =
+      let settles : settle (view s) (Some (answered_by (sent eff.outcome) e)) ≡ leave_answered (view s) e ans.code ans.session =
       answered_with (view s) e ans.octets eff.outcome ans.code ans.session refl ans.outcome ans.seen ans.calm in (
         record {
           partials = ap (λ (g : Followed). g.partials) settles ∙ ends ∙ ap (map mark_of) (sym ans.partials);
           challenges =
               ap (λ (g : Followed). g.challenges) settles
-              ∙ ap (λ (o : Option ℕ). challenged x.peer ans.code ans.session (redeemed e.key o ans.code (map sent_of s.challenges.challenges))) knows
-              ∙ sym (ap (λ c. challenged x.peer ans.code ans.session (redeemed e.key (number_at message 0) ans.code (map sent_of c.challenges))) same)
+              ∙ ap (λ (o : Option ℕ). add_challenge x.peer ans.code ans.session (redeem e.key o ans.code (map sent_of s.challenges.challenges))) knows
+              ∙ sym (ap (λ c. add_challenge x.peer ans.code ans.session (redeem e.key (number_at message 0) ans.code (map sent_of c.challenges))) same)
               ∙ ans.challenges;
         },
         ans.in_use,
@@ -104,10 +104,10 @@ module _ (hosted : List ℕ → Bool) (algorithms : List ℕ → Algorithm) (t :
       task does
 
   -- a piece that isn't answered
-  piece_followed : is_truncated (envelope_at x.bytes) ≡ true → whole_message (taken s.partials (piece_of x.peer x.bytes)).0 ≡ None → (k : Task) (eff : Effect) → k ≡ Ignore (with_partials s (taken s.partials (piece_of x.peer x.bytes)).1) → Does hosted algorithms t k eff → FollowsOn (view s) e eff
+  piece_followed : is_truncated (envelope_at x.bytes) ≡ true → whole_message (take_piece s.partials (piece_of x.peer x.bytes)).0 ≡ None → (k : Task) (eff : Effect) → k ≡ Ignore (with_partials s (take_piece s.partials (piece_of x.peer x.bytes)).1) → Does hosted algorithms t k eff → FollowsOn (view s) e eff
   piece_followed truncated none k eff task does =
       let left = piece_left x.peer x.bytes frame truncated s.partials u.partials none in
-      let done : Does hosted algorithms t (Ignore (with_partials s (taken s.partials (piece_of x.peer x.bytes)).1)) eff = subst (λ (j : Task). Does hosted algorithms t j eff) task does in
+      let done : Does hosted algorithms t (Ignore (with_partials s (take_piece s.partials (piece_of x.peer x.bytes)).1)) eff = subst (λ (j : Task). Does hosted algorithms t j eff) task does in
       subst (FollowsOn (view s) e) (sym done) ((
         record {
           partials = ap (λ (b : Bool). (cond {A = Followed} b (record (view s) { partials = with_piece e marks }) (view s)).partials) truncated ∙ left.0;
@@ -117,11 +117,11 @@ module _ (hosted : List ℕ → Bool) (algorithms : List ℕ → Algorithm) (t :
       ))
 
   -- a piece that makes its message whole
-  whole_followed : is_truncated (envelope_at x.bytes) ≡ true → (message : List ℕ) → whole_message (taken s.partials (piece_of x.peer x.bytes)).0 ≡ Some message → (k : Task) (eff : Effect)
-      → IsMessageTask (with_partials s (freed s.partials (pool.key_of x.peer (envelope_at x.bytes)))) (message_from x message) k → Does hosted algorithms t k eff → FollowsOn (view s) e eff
+  whole_followed : is_truncated (envelope_at x.bytes) ≡ true → (message : List ℕ) → whole_message (take_piece s.partials (piece_of x.peer x.bytes)).0 ≡ Some message → (k : Task) (eff : Effect)
+      → IsMessageTask (with_partials s (free_partial s.partials (pool.key_of x.peer (envelope_at x.bytes)))) (message_from x message) k → Does hosted algorithms t k eff → FollowsOn (view s) e eff
   whole_followed truncated message made k eff task does =
       let key = pool.key_of x.peer (envelope_at x.bytes) in
-      message_followed (with_partials s (freed s.partials key)) message k eff
+      message_followed (with_partials s (free_partial s.partials key)) message k eff
       (record { is_open = u.is_open; partials = each_filter IsPartial (λ (p : Partial). not (pool.is_of key p)) s.partials u.partials; next = u.next; few = u.few; challenges = u.challenges })
       refl
       (ap (λ (b : Bool). cond b (filter (λ m. not (trail.is_of e.key m)) marks) marks) truncated ∙ freed_seen x.peer x.bytes s.partials)
@@ -131,14 +131,14 @@ module _ (hosted : List ℕ → Bool) (algorithms : List ℕ → Algorithm) (t :
   frame_followed : (k : Task) (eff : Effect) → IsFrameTask s x k → Does hosted algorithms t k eff → FollowsOn (view s) e eff
   frame_followed k eff task does = by_flag (is_truncated (envelope_at x.bytes)) refl task
     where
-      by_whole : is_truncated (envelope_at x.bytes) ≡ true → (o : Option (List ℕ)) → whole_message (taken s.partials (piece_of x.peer x.bytes)).0 ≡ o
-          → IsWholeTask (with_partials s (taken s.partials (piece_of x.peer x.bytes)).1) (with_partials s (freed s.partials (pool.key_of x.peer (envelope_at x.bytes)))) x o k → FollowsOn (view s) e eff
+      by_whole : is_truncated (envelope_at x.bytes) ≡ true → (o : Option (List ℕ)) → whole_message (take_piece s.partials (piece_of x.peer x.bytes)).0 ≡ o
+          → IsWholeTask (with_partials s (take_piece s.partials (piece_of x.peer x.bytes)).1) (with_partials s (free_partial s.partials (pool.key_of x.peer (envelope_at x.bytes)))) x o k → FollowsOn (view s) e eff
       by_whole truncated None none task = piece_followed truncated none k eff task does
       by_whole truncated (Some message) made task = whole_followed truncated message made k eff task does
 
       by_flag : (b : Bool) → is_truncated (envelope_at x.bytes) ≡ b
-          → MatchBool b (IsPieceTask s x (taken s.partials (piece_of x.peer x.bytes)) k) (IsMessageTask s (message_from x (drop 20 x.bytes)) k) → FollowsOn (view s) e eff
-      by_flag true truncated task = by_whole truncated (whole_message (taken s.partials (piece_of x.peer x.bytes)).0) refl task
+          → MatchBool b (IsPieceTask s x (take_piece s.partials (piece_of x.peer x.bytes)) k) (IsMessageTask s (message_from x (drop 20 x.bytes)) k) → FollowsOn (view s) e eff
+      by_flag true truncated task = by_whole truncated (whole_message (take_piece s.partials (piece_of x.peer x.bytes)).0) refl task
       by_flag false plain task = single_followed plain k eff task does
 
   pub event_followed : (k : Task) (eff : Effect) → IsTask s (Happening.Frame x.peer x.moment x.nonce x.bytes) k → Does hosted algorithms t k eff → FollowsOn (view s) e eff
@@ -163,7 +163,7 @@ module _ (w : World) (lane peer moment : ℕ) (nonce octets : List ℕ) (f : Fol
 
   -- the trail follows the lane of this world once the outcome is seen
   abbrev FollowsAfter : Outcome → World → Type 0
-  FollowsAfter o new = Follows (settled f (Some (answered_by (sent o) (arrival octets peer)))) (lane_of new lane) × IsInUse (lane_of new lane)
+  FollowsAfter o new = Follows (settle f (Some (answered_by (sent o) (arrival octets peer)))) (lane_of new lane) × IsInUse (lane_of new lane)
 
   answer_followed : (t : Turn) → t.event ≡ event → (o : Option ℕ) → owner w.site lane ≡ o → IsAnswerFor w o t → FollowsAfter t.outcome t.after
   answer_followed t same None none is = absurd (owned none)
@@ -176,15 +176,15 @@ module _ (w : World) (lane peer moment : ℕ) (nonce octets : List ℕ) (f : Fol
       let state : lane_of t.after lane ≡ eff.state =
       ap (λ (z : Turn). lane_of z.after lane) is.4 ∙ ap (λ (z : Event). unwrap_or (map.get (map.insert w.lanes z.lane eff.state) lane) (fresh false)) same ∙ after_is w lane eff.state in
       let outcome : t.outcome ≡ eff.outcome = ap (λ (z : Turn). z.outcome) is.4 in
-      subst (λ (o : Outcome). Follows (settled f (Some (answered_by (sent o) (arrival octets peer)))) (lane_of t.after lane) × IsInUse (lane_of t.after lane)) (sym outcome)
-      (subst (λ (z : LaneState). Follows (settled f (Some (answered_by (sent eff.outcome) (arrival octets peer)))) z × IsInUse z) (sym state) here)
+      subst (λ (o : Outcome). Follows (settle f (Some (answered_by (sent o) (arrival octets peer)))) (lane_of t.after lane) × IsInUse (lane_of t.after lane)) (sym outcome)
+      (subst (λ (z : LaneState). Follows (settle f (Some (answered_by (sent eff.outcome) (arrival octets peer)))) z × IsInUse z) (sym state) here)
 
   busy_followed : (t : Turn) → IsBusy w t → FollowsAfter t.outcome t.after
   busy_followed t is =
       let short : List ℕ = short_reply 3 (envelope_at is.received.bytes) in
       let e : Exchange = arrival octets peer in
       let seen = short_seen 3 (envelope_at is.received.bytes) (code_fits_busy) in
-      let settles : settled f (Some (answered_by (datagrams_of short) e)) ≡ f = ap (λ (z : Exchange). settled f (Some z)) (answered_is short e _ refl seen) in
+      let settles : settle f (Some (answered_by (datagrams_of short) e)) ≡ f = ap (λ (z : Exchange). settle f (Some z)) (answered_is short e _ refl seen) in
       let outcome : t.outcome ≡ Busy short = ap (λ (z : Turn). z.outcome) is.busy in
       let after : t.after ≡ w = ap (λ (z : Turn). z.after) is.busy in
       subst (λ (o : Outcome). FollowsAfter o t.after) (sym outcome)

@@ -32,7 +32,7 @@ use Rattle.hdl_laws.proofs.Codes.{reply_code, challenge_code}
 use Rattle.hdl_trail.specs.declared.kept.Key.{Key}
 use Rattle.hdl_trail.specs.declared.kept.Sent.{Sent}
 use Rattle.hdl_trail.specs.Exchange.{key_of, number_at, reply_of}
-use Rattle.hdl_trail.specs.Kept.{is_response, redeemed, challenged}
+use Rattle.hdl_trail.specs.Kept.{is_response, redeem, add_challenge}
 use Rattle.hdl_follows.specs.Follows.{sent_of, IsInUse, CanBeRead}
 use Rattle.hdl_follows.proofs.Lists.{each_filter, each_found, length_filter}
 use Rattle.hdl_follows.proofs.Replies.{front, reply_read, session_seen}
@@ -78,7 +78,7 @@ pub record Answered (s : LaneState) (m : Message) (eff : Effect) : Type 0 where
   pub seen : reply_of (front octets) ≡ Some (code, session)
   pub calm : eqb code 3 ≡ false
   pub partials : eff.state.partials ≡ s.partials
-  pub challenges : challenged m.peer code session (redeemed (key_of m.peer m.envelope) (number_at m.message 0) code (map sent_of s.challenges.challenges)) ≡ map sent_of eff.state.challenges.challenges
+  pub challenges : add_challenge m.peer code session (redeem (key_of m.peer m.envelope) (number_at m.message 0) code (map sent_of s.challenges.challenges)) ≡ map sent_of eff.state.challenges.challenges
   pub in_use : IsInUse eff.state
 
 no_change : (b : Bool) → b && false ≡ false

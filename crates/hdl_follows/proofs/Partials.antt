@@ -14,12 +14,12 @@ use Rattle.hdl_pool.specs.declared.piece.Key.{Key}
 use Rattle.hdl_pool.specs.Partial as pool
 use Rattle.hdl_pool.specs.Partial.{Partial, Piece, piece_of, nothing_of, payload_at, whole}
 use Rattle.hdl_pool.specs.Taking as taking
-use Rattle.hdl_pool.specs.Taking.{Fate, made_whole, kept, ignored, displaced, so_far, is_ignored, replaced, stored, settled, taken, whole_message, freed}
+use Rattle.hdl_pool.specs.Taking.{Fate, made_whole, kept, ignored, displaced, so_far, is_ignored, replace_partial, store_partial, settle_partial, take_piece, whole_message, free_partial}
 use Rattle.hdl_trail.specs.declared.kept.Mark.{Mark}
 use Rattle.hdl_trail.specs.declared.exchange.Exchange.{Exchange}
 use Rattle.hdl_trail.specs.Exchange.{number_at}
 use Rattle.hdl_trail.specs.Kept as trail
-use Rattle.hdl_trail.specs.Kept.{grown_among, put_behind, operation_of, ended}
+use Rattle.hdl_trail.specs.Kept.{grown_among, put_behind, operation_of, end_message}
 use Rattle.hdl_trail.specs.Peers.{arrival}
 use Rattle.hdl_follows.specs.Follows.{mark_of, IsPartial}
 use Rattle.hdl_follows.proofs.Lists.{filter_seen, find_seen, any_seen, map_push, map_drop, each_push, each_drop, each_found}
@@ -68,30 +68,30 @@ front_set len [] n x first sized = tt
 front_set len (q ∷ qs) zero x first sized = sized refl
 front_set len (q ∷ qs) (suc n) x first sized = first
 
-replaced_same : (key : Key) (p : Partial) (lane : List Partial) → find (pool.is_of key) lane ≡ Some p → replaced key p lane ≡ lane
+replaced_same : (key : Key) (p : Partial) (lane : List Partial) → find (pool.is_of key) lane ≡ Some p → replace_partial key p lane ≡ lane
 replaced_same key p [] found = refl
 replaced_same key p (q ∷ qs) found = by_test (pool.is_of key q) refl found (λ below. replaced_same key p qs below)
   where
-    by_test : (t : Bool) → pool.is_of key q ≡ t → cond t (Some q) (find (pool.is_of key) qs) ≡ Some p → (find (pool.is_of key) qs ≡ Some p → replaced key p qs ≡ qs) → replaced key p (q ∷ qs) ≡ q ∷ qs
+    by_test : (t : Bool) → pool.is_of key q ≡ t → cond t (Some q) (find (pool.is_of key) qs) ≡ Some p → (find (pool.is_of key) qs ≡ Some p → replace_partial key p qs ≡ qs) → replace_partial key p (q ∷ qs) ≡ q ∷ qs
     by_test true e found below = let same : q ≡ p = cc in rw e (ap (λ (r : Partial). r ∷ qs) (sym same))
     by_test false e found below = rw e (ap (λ (t : List Partial). q ∷ t) (below found))
 
-each_replaced : (key : Key) (more : Partial) (lane : List Partial) → AllByRecursion IsPartial lane → IsPartial more → AllByRecursion IsPartial (replaced key more lane)
+each_replaced : (key : Key) (more : Partial) (lane : List Partial) → AllByRecursion IsPartial lane → IsPartial more → AllByRecursion IsPartial (replace_partial key more lane)
 each_replaced key more [] ps p = tt
 each_replaced key more (q ∷ qs) ps p = by_test (pool.is_of key q) (each_replaced key more qs ps.1 p)
   where
-    by_test : (t : Bool) → AllByRecursion IsPartial (replaced key more qs) → AllByRecursion IsPartial (cond t (more ∷ qs) (q ∷ replaced key more qs))
+    by_test : (t : Bool) → AllByRecursion IsPartial (replace_partial key more qs) → AllByRecursion IsPartial (cond t (more ∷ qs) (q ∷ replace_partial key more qs))
     by_test true below = (p, ps.1)
     by_test false below = (ps.0, below)
 
-each_begun : (lane : List Partial) (first : Partial) → AllByRecursion IsPartial lane → IsPartial first → AllByRecursion IsPartial (taking.begun lane first).1
+each_begun : (lane : List Partial) (first : Partial) → AllByRecursion IsPartial lane → IsPartial first → AllByRecursion IsPartial (taking.begin_partial lane first).1
 each_begun lane first ps p = by_test (ltb (length lane) 4)
   where
     by_test : (t : Bool) → AllByRecursion IsPartial (cond {A = Fate × List Partial} t (kept, lane ++ first ∷ []) (displaced, drop 1 lane ++ first ∷ [])).1
     by_test true = each_push IsPartial lane first ps p
     by_test false = each_push IsPartial (drop 1 lane) first (each_drop IsPartial 1 lane ps) p
 
-begun_seen : (lane : List Partial) (first : Partial) → put_behind 4 (map mark_of lane) (mark_of first) ≡ map mark_of (taking.begun lane first).1
+begun_seen : (lane : List Partial) (first : Partial) → put_behind 4 (map mark_of lane) (mark_of first) ≡ map mark_of (taking.begin_partial lane first).1
 begun_seen lane first =
     ap (λ (n : ℕ). cond (ltb n 4) (map mark_of lane ++ mark_of first ∷ []) (drop 1 (map mark_of lane) ++ mark_of first ∷ [])) (length-map lane mark_of)
     ∙ by_test (ltb (length lane) 4)
@@ -119,16 +119,16 @@ module _ (peer : ℕ) (bytes : List ℕ) where
   abbrev mark : Partial → Option ℕ → Mark
   mark p o = record { key = record { number = p.key.peer; session = p.key.session; request = p.key.request }; length = p.length; operation = o }
 
-  pub freed_seen : (lane : List Partial) → filter (λ m. not (trail.is_of e.key m)) (map mark_of lane) ≡ map mark_of (freed lane k)
+  pub freed_seen : (lane : List Partial) → filter (λ m. not (trail.is_of e.key m)) (map mark_of lane) ≡ map mark_of (free_partial lane k)
   freed_seen lane = filter_seen mark_of (λ m. not (trail.is_of e.key m)) lane
 
-  grown_replaced : (lane : List Partial) (p more : Partial) → find (pool.is_of k) lane ≡ Some p → trail.grown e (mark_of p) ≡ mark_of more → grown_among e (map mark_of lane) ≡ map mark_of (replaced k more lane)
+  grown_replaced : (lane : List Partial) (p more : Partial) → find (pool.is_of k) lane ≡ Some p → trail.grown e (mark_of p) ≡ mark_of more → grown_among e (map mark_of lane) ≡ map mark_of (replace_partial k more lane)
   grown_replaced [] p more found is = absurd (cc)
   grown_replaced (q ∷ qs) p more found is = by_test (pool.is_of k q) found (λ later. grown_replaced qs p more later is)
     where
       by_test : (t : Bool) → cond t (Some q) (find (pool.is_of k) qs) ≡ Some p
-          → (find (pool.is_of k) qs ≡ Some p → grown_among e (map mark_of qs) ≡ map mark_of (replaced k more qs))
-          → cond t (trail.grown e (mark_of q) ∷ map mark_of qs) (mark_of q ∷ grown_among e (map mark_of qs)) ≡ map mark_of (cond t (more ∷ qs) (q ∷ replaced k more qs))
+          → (find (pool.is_of k) qs ≡ Some p → grown_among e (map mark_of qs) ≡ map mark_of (replace_partial k more qs))
+          → cond t (trail.grown e (mark_of q) ∷ map mark_of qs) (mark_of q ∷ grown_among e (map mark_of qs)) ≡ map mark_of (cond t (more ∷ qs) (q ∷ replace_partial k more qs))
       by_test true found below = let same : q ≡ p = cc in ap (λ (m : Mark). m ∷ map mark_of qs) (ap (λ (r : Partial). trail.grown e (mark_of r)) same ∙ is)
       by_test false found below = ap (λ (t : List Mark). mark_of q ∷ t) (below found)
 
@@ -199,13 +199,13 @@ module _ (peer : ℕ) (bytes : List ℕ) where
       Left t = whole_message t.0 ≡ None → (trail.with_piece e marks ≡ map mark_of t.1) × AllByRecursion IsPartial t.1
 
       abbrev step : Fate × Partial → Fate × List Partial
-      step g = settled lane k g.0 g.1
+      step g = settle_partial lane k g.0 g.1
 
       abbrev after : Partial → Bool → Option (List ℕ) → Fate × Partial
       after p b w = cond b (ignored, p) (option_map_or (λ message. (made_whole message, p)) w (kept, taking.with_piece p piece))
 
       by_fate : (p : Partial) → (is_ignored p piece ≡ true → trail.with_piece e marks ≡ marks)
-          → (is_ignored p piece ≡ false → (trail.with_piece e marks ≡ map mark_of (stored lane k (taking.with_piece p piece)).1) × AllByRecursion IsPartial (stored lane k (taking.with_piece p piece)).1)
+          → (is_ignored p piece ≡ false → (trail.with_piece e marks ≡ map mark_of (store_partial lane k (taking.with_piece p piece)).1) × AllByRecursion IsPartial (store_partial lane k (taking.with_piece p piece)).1)
           → (b : Bool) (w : Option (List ℕ)) → is_ignored p piece ≡ b → Left (step (after p b w))
       by_fate p same more true w ignores none = (same ignores, each)
       by_fate p same more false (Some message) ignores none = absurd (cc)
@@ -214,8 +214,8 @@ module _ (peer : ℕ) (bytes : List ℕ) where
       any_is : list_any (trail.is_of e.key) marks ≡ is_some (find (pool.is_of k) lane)
       any_is = any_seen mark_of (trail.is_of e.key) lane
 
-      with_any : (b : Bool) → is_some (find (pool.is_of k) lane) ≡ b → trail.with_piece e marks ≡ cond b (grown_among e marks) (put_behind 4 marks (trail.begun e))
-      with_any b is = ap (λ (t : Bool). cond t (grown_among e marks) (put_behind 4 marks (trail.begun e))) (any_is ∙ is)
+      with_any : (b : Bool) → is_some (find (pool.is_of k) lane) ≡ b → trail.with_piece e marks ≡ cond b (grown_among e marks) (put_behind 4 marks (trail.first_mark e))
+      with_any b is = ap (λ (t : Bool). cond t (grown_among e marks) (put_behind 4 marks (trail.first_mark e))) (any_is ∙ is)
 
       found_left : (p : Partial) → find (pool.is_of k) lane ≡ Some p → Left (step (taking.grown p piece))
       found_left p found =
@@ -225,10 +225,10 @@ module _ (peer : ℕ) (bytes : List ℕ) where
           (λ counts. kept_found is counts)
           (is_ignored p piece) (whole (taking.with_piece p piece)) refl
         where
-          kept_found : IsPartial p → is_ignored p piece ≡ false → (trail.with_piece e marks ≡ map mark_of (stored lane k (taking.with_piece p piece)).1) × AllByRecursion IsPartial (stored lane k (taking.with_piece p piece)).1
+          kept_found : IsPartial p → is_ignored p piece ≡ false → (trail.with_piece e marks ≡ map mark_of (store_partial lane k (taking.with_piece p piece)).1) × AllByRecursion IsPartial (store_partial lane k (taking.with_piece p piece)).1
           kept_found is counts =
               let more : Partial = taking.with_piece p piece in
-              let kept_there : stored lane k more ≡ (kept, replaced k more lane) = ap (λ (o : Option Partial). cond {A = Fate × List Partial} (is_some o) (kept, replaced k more lane) (taking.begun lane more)) found in
+              let kept_there : store_partial lane k more ≡ (kept, replace_partial k more lane) = ap (λ (o : Option Partial). cond {A = Fate × List Partial} (is_some o) (kept, replace_partial k more lane) (taking.begin_partial lane more)) found in
               rw kept_there ((
                 with_any true (ap is_some found) ∙ grown_replaced lane p more found (grows p is counts),
                 each_replaced k more lane each (partial_after p is counts),
@@ -239,23 +239,23 @@ module _ (peer : ℕ) (bytes : List ℕ) where
           let p : Partial = nothing_of k v.length in
           by_fate p (λ ignores. absurd (let counts = nothing_counts piece in cc)) (λ counts. kept_new counts) (is_ignored p piece) (whole (taking.with_piece p piece)) refl
         where
-          kept_new : is_ignored (nothing_of k v.length) piece ≡ false → (trail.with_piece e marks ≡ map mark_of (stored lane k (taking.with_piece (nothing_of k v.length) piece)).1) × AllByRecursion IsPartial (stored lane k (taking.with_piece (nothing_of k v.length) piece)).1
+          kept_new : is_ignored (nothing_of k v.length) piece ≡ false → (trail.with_piece e marks ≡ map mark_of (store_partial lane k (taking.with_piece (nothing_of k v.length) piece)).1) × AllByRecursion IsPartial (store_partial lane k (taking.with_piece (nothing_of k v.length) piece)).1
           kept_new counts =
               let p : Partial = nothing_of k v.length in
               let is : IsPartial p = nothing_partial k v.length in
               let more : Partial = taking.with_piece p piece in
-              let begins : trail.begun e ≡ mark_of more =
+              let begins : trail.first_mark e ≡ mark_of more =
               sym (ap (λ (o : Option (List ℕ)). mark p (cond (is_none (option_and_then (λ y. number_at y 0) o)) e.operation (option_and_then (λ y. number_at y 0) o))) (no_front (piece_count v.length) 0))
               ∙ ap (λ (o : Option ℕ). mark p (cond (is_none (front_operation p.pieces)) o (front_operation p.pieces))) operation_brought
               ∙ ap (mark p) (sym (front_after p.pieces v.sequence x (places_some p is counts) (missing p is counts))) in
-              let kept_there : stored lane k more ≡ taking.begun lane more = ap (λ (o : Option Partial). cond {A = Fate × List Partial} (is_some o) (kept, replaced k more lane) (taking.begun lane more)) missed in
+              let kept_there : store_partial lane k more ≡ taking.begin_partial lane more = ap (λ (o : Option Partial). cond {A = Fate × List Partial} (is_some o) (kept, replace_partial k more lane) (taking.begin_partial lane more)) missed in
               rw kept_there ((
                 with_any false (ap is_some missed) ∙ ap (put_behind 4 marks) begins ∙ begun_seen lane more,
                 each_begun lane more each (partial_after p is counts),
               ))
 
       -- a piece that makes no message whole leaves the trail and the lane alike
-      pub piece_left : whole_message (taken lane piece).0 ≡ None → (trail.with_piece e marks ≡ map mark_of (taken lane piece).1) × AllByRecursion IsPartial (taken lane piece).1
+      pub piece_left : whole_message (take_piece lane piece).0 ≡ None → (trail.with_piece e marks ≡ map mark_of (take_piece lane piece).1) × AllByRecursion IsPartial (take_piece lane piece).1
       piece_left none = by_found (find (pool.is_of k) lane) refl none
         where
           by_found : (o : Option Partial) → find (pool.is_of k) lane ≡ o → Left (step (taking.grown (unwrap_or o (nothing_of k v.length)) piece))
@@ -264,10 +264,10 @@ module _ (peer : ℕ) (bytes : List ℕ) where
 
       -- ---- the whole
 
-      stored_none : (more : Partial) → whole_message (stored lane k more).0 ≡ None
+      stored_none : (more : Partial) → whole_message (store_partial lane k more).0 ≡ None
       stored_none more = by_tests (is_some (find (pool.is_of k) lane)) (ltb (length lane) 4)
         where
-          by_tests : (a b : Bool) → whole_message (cond {A = Fate × List Partial} a (kept, replaced k more lane) (cond {A = Fate × List Partial} b (kept, lane ++ more ∷ []) (displaced, drop 1 lane ++ more ∷ []))).0 ≡ None
+          by_tests : (a b : Bool) → whole_message (cond {A = Fate × List Partial} a (kept, replace_partial k more lane) (cond {A = Fate × List Partial} b (kept, lane ++ more ∷ []) (displaced, drop 1 lane ++ more ∷ []))).0 ≡ None
           by_tests true b = refl
           by_tests false true = refl
           by_tests false false = refl
@@ -278,7 +278,7 @@ module _ (peer : ℕ) (bytes : List ℕ) where
       whole_by p message false (Some other) is = (refl, cc)
 
       -- the trail knows the operation of a message that is made whole
-      pub whole_left : (message : List ℕ) → whole_message (taken lane piece).0 ≡ Some message → operation_of e marks ≡ number_at message 0
+      pub whole_left : (message : List ℕ) → whole_message (take_piece lane piece).0 ≡ Some message → operation_of e marks ≡ number_at message 0
       whole_left message made =
           ap (λ (b : Bool). option_or e.operation (cond b (option_and_then (λ (m : Mark). m.operation) (find (trail.is_of e.key) marks)) None)) truncated
           ∙ ap (λ (o : Option Mark). option_or e.operation (option_and_then (λ (m : Mark). m.operation) o)) (find_seen mark_of (trail.is_of e.key) lane)

@@ -15,7 +15,7 @@ use Rattle.hdl_trail.specs.declared.kept.Mark.{Mark}
 use Rattle.hdl_trail.specs.declared.kept.Sent.{Sent}
 use Rattle.hdl_trail.specs.declared.exchange.Exchange.{Exchange}
 use Rattle.hdl_trail.specs.Exchange.{number_at, with_reply}
-use Rattle.hdl_trail.specs.Kept.{Followed, settled}
+use Rattle.hdl_trail.specs.Kept.{Followed, settle}
 
 -- ---- the relation
 
@@ -77,4 +77,4 @@ answered_by (d ∷ ds) e = answered_by ds (with_reply d e)
 -- what is followed once these frames are settled in their order, each with what its reply says
 abbrev pub settled_all : Followed → List Exchange → Followed
 settled_all f [] = f
-settled_all f (e ∷ es) = settled_all (settled f (Some e)) es
+settled_all f (e ∷ es) = settled_all (settle f (Some e)) es

@@ -6,7 +6,7 @@ use Rattle.hdl_events.specs.declared.Outcome.{Outcome}
 use Rattle.hdl_laws.specs.Lanes.{LaneState, fresh}
 use Rattle.hdl_laws.specs.Worlds.{World, owner, lane_of}
 use Rattle.hdl_laws.specs.Runs.{Steps}
-use Rattle.hdl_trail.specs.Kept.{Followed, is_held, settled}
+use Rattle.hdl_trail.specs.Kept.{Followed, is_held, settle}
 use Rattle.hdl_trail.specs.declared.exchange.Exchange.{Exchange}
 use Rattle.hdl_trail.specs.Peers.{arrival, is_under_way}
 use Rattle.hdl_follows.specs.Follows.{Follows, IsInUse, answered_by, keeps, sent, settled_all}
@@ -23,7 +23,7 @@ StepsFollowed =
     (w new : World) (lane peer moment : ℕ) (nonce octets : List ℕ) (o : Outcome) (f : Followed)
     → IsFrame octets → owner w.site lane ≢ None → IsInUse (lane_of w lane) → Follows f (lane_of w lane)
     → Steps w (record { lane = lane; what = Happening.Frame peer moment nonce octets }) o new
-    → Follows (settled f (Some (answered_by (sent o) (arrival octets peer)))) (lane_of new lane) × IsInUse (lane_of new lane)
+    → Follows (settle f (Some (answered_by (sent o) (arrival octets peer)))) (lane_of new lane) × IsInUse (lane_of new lane)
 
 -- a trail that follows a lane holds the numbers under which the lane keeps something, and no others
 abbrev pub HoldsWhatIsKept : Type 0

@@ -137,7 +137,7 @@ impl<R: std::rt::Clock> Clock for MachineClock<R> {
         }
     }
 
-    fn worked(&mut self) {
+    fn note_work(&mut self) {
         self.began = None;
     }
 }

@@ -206,7 +206,7 @@ impl Crowd {
         let mut octets = [0; READ_AT_ONCE];
         match stream.read(&mut octets) {
             Ok(0) => Next::End,
-            Ok(count) => match self.book.heard(place, &octets[..count], self.now) {
+            Ok(count) => match self.book.note_octets(place, &octets[..count], self.now) {
                 Ok(()) => Next::More,
                 Err(_) => Next::End,
             },
@@ -351,7 +351,7 @@ impl Crowd {
 
     /// Says a datagram of an answer. False: its client is left.
     fn say(&mut self, number: u16, datagram: &[u8]) -> bool {
-        if self.book.answered(number, datagram).is_some() {
+        if self.book.put_datagram(number, datagram).is_some() {
             return true;
         }
         if let Some(place) = self.asked {
@@ -434,8 +434,8 @@ impl<R: std::rt::Clock + Eprint + Drop> Packets for SocketCrowd<R> {
         }
     }
 
-    fn replied(&mut self) {
-        self.crowd.book.replied();
+    fn end_reply(&mut self) {
+        self.crowd.book.end_reply();
     }
 
     fn most_under_way(&self) -> usize {
@@ -444,7 +444,7 @@ impl<R: std::rt::Clock + Eprint + Drop> Packets for SocketCrowd<R> {
 
     fn send(&mut self, peer: u16, octets: &[u8]) -> Result<(), DoorFault> {
         if let Some(recorder) = &mut self.recorder {
-            if let Some(entry) = recorder.answered(peer, octets) {
+            if let Some(entry) = recorder.note_reply(peer, octets) {
                 recorder.put(self.crowd.asker(), &entry);
             }
         }

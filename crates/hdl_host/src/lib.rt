@@ -52,7 +52,7 @@
 //!   ticks, so it was seen to take eight.
 //! - **A pause is short first.** A thread that found nothing lets others run for 30 microseconds; then the thread that serves sleeps, and a worker
 //!   that waits for its outcome sleeps 100 at a time, of which the shortest takes 160 on this machine. Waits that needed the sleep make
-//!   the next ones begin with it, seven of eight times. A wait ends when something was done (`worked`), which the clock is told: it can't see it.
+//!   the next ones begin with it, seven of eight times. A wait ends when something was done (`note_work`), which the clock is told: it can't see it.
 //!   A sleep that begins ten milliseconds behind its wait isn't counted, since nobody asked then. The first pause of any wait is short: a worker
 //!   that has outcomes in hand pauses once before it writes them, and shall not sleep over them.
 //! - **A crowd takes whom no other lane takes** (`entrance`): the last lane for connections of a publisher with four lanes or more has many, and accepts only while each other one has its

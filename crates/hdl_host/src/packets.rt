@@ -49,18 +49,18 @@ struct Post<R> {
 
 impl<R: std::rt::Clock + Eprint + Drop> Post<R> {
     /// A frame came from the peer with this number.
-    fn came(&mut self, peer: u16, frame: &[u8]) {
+    fn note_request(&mut self, peer: u16, frame: &[u8]) {
         if let Some(recorder) = &mut self.recorder {
-            recorder.came(peer, frame);
+            recorder.note_request(peer, frame);
         }
     }
 
     /// The reply to the oldest frame is whole, or there is none.
-    fn replied(&mut self) {
-        self.peers.replied();
+    fn end_reply(&mut self) {
+        self.peers.end_reply();
         self.course = Course::Begins;
         if let Some(recorder) = &mut self.recorder {
-            recorder.replied();
+            recorder.end_reply();
         }
     }
 
@@ -80,7 +80,7 @@ impl<R: std::rt::Clock + Eprint + Drop> Post<R> {
     /// The next datagram of a reply is recorded.
     fn record(&mut self, peer: u16, datagram: &[u8]) {
         if let Some(recorder) = &mut self.recorder {
-            if let Some(entry) = recorder.answered(peer, datagram) {
+            if let Some(entry) = recorder.note_reply(peer, datagram) {
                 let from = self.peers.address(peer);
                 recorder.put(from.map(|origin| origin.address), &entry);
             }
@@ -145,7 +145,7 @@ impl<R: std::rt::Clock + Eprint + Drop> Post<R> {
     /// The next datagram of a reply is due to a peer. Whether what is sent of it went.
     fn send(&mut self, peer: u16, octets: &[u8]) -> bool {
         self.record(peer, octets);
-        self.peers.answered(octets);
+        self.peers.note_reply(octets);
         match self.peers.address(peer) {
             Some(to) => self.send_next(to, octets),
             None => false,
@@ -210,8 +210,8 @@ impl<R: std::rt::Clock + Eprint + Drop> Packets for SocketPackets<R> {
                 Ok((place, (length, address))) => {
                     let length = length.min(buffer.len());
                     let from = Origin { place, address };
-                    if let Ok(Some(peer)) = self.post.peers.came(from, &buffer[..length]) {
-                        self.post.came(peer, &buffer[..length]);
+                    if let Ok(Some(peer)) = self.post.peers.note_octets(from, &buffer[..length]) {
+                        self.post.note_request(peer, &buffer[..length]);
                         return Ok(Some((peer, length)));
                     }
                 }
@@ -225,8 +225,8 @@ impl<R: std::rt::Clock + Eprint + Drop> Packets for SocketPackets<R> {
         Ok(None)
     }
 
-    fn replied(&mut self) {
-        self.post.replied();
+    fn end_reply(&mut self) {
+        self.post.end_reply();
     }
 
     fn most_under_way(&self) -> usize {

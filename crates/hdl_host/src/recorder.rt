@@ -59,16 +59,16 @@ impl<R: Clock + Eprint + Drop> Recorder<R> {
     }
 
     /// A frame came.
-    fn asked(&mut self, peer: u16, frame: &[u8]) {
+    fn note_request(&mut self, peer: u16, frame: &[u8]) {
         if self.log.is_some() {
-            self.follower.asked(peer, frame);
+            self.follower.note_request(peer, frame);
         }
     }
 
     /// A frame came on a lane that has one at a time.
     pub fn asked_alone(&mut self, peer: u16, frame: &[u8]) {
         self.follower.forget_unanswered();
-        self.asked(peer, frame);
+        self.note_request(peer, frame);
     }
 
     /// The moment, in milliseconds since the beginning of 1970; 0 where the clock fails.
@@ -83,7 +83,7 @@ impl<R: Clock + Eprint + Drop> Recorder<R> {
     }
 
     /// A frame of a reply goes. The entry of the change that it ends, where there is a log.
-    pub fn answered(&mut self, peer: u16, frame: &[u8]) -> Option<Entry> {
+    pub fn note_reply(&mut self, peer: u16, frame: &[u8]) -> Option<Entry> {
         let answer = Answer::of(frame)?;
         self.counts.count(answer);
         if answer.accepts_change() {
@@ -92,7 +92,7 @@ impl<R: Clock + Eprint + Drop> Recorder<R> {
         if self.log.is_none() {
             return None;
         }
-        self.follower.answered(peer, frame)
+        self.follower.note_reply(peer, frame)
     }
 
     /// The line of an entry: moment, publisher, lane, address, and what the entry says.
@@ -147,7 +147,7 @@ impl<R: Clock + Eprint + Drop> PacketRecorder<R> {
     }
 
     /// A frame came.
-    pub fn came(&mut self, peer: u16, frame: &[u8]) {
+    pub fn note_request(&mut self, peer: u16, frame: &[u8]) {
         if self.recorder.log.is_none() {
             return;
         }
@@ -166,7 +166,7 @@ impl<R: Clock + Eprint + Drop> PacketRecorder<R> {
     }
 
     /// The reply to the oldest frame is whole, or there is none.
-    pub fn replied(&mut self) {
+    pub fn end_reply(&mut self) {
         match self.waiting.pop_front() {
             Some(next) => self.recorder.asked_alone(next.peer, next.frame.as_slice()),
             None => self.is_busy = false,
@@ -174,8 +174,8 @@ impl<R: Clock + Eprint + Drop> PacketRecorder<R> {
     }
 
     /// A datagram of the reply to the oldest frame goes. The entry of the change that it ends, where there is a log.
-    pub fn answered(&mut self, peer: u16, datagram: &[u8]) -> Option<Entry> {
-        self.recorder.answered(peer, datagram)
+    pub fn note_reply(&mut self, peer: u16, datagram: &[u8]) -> Option<Entry> {
+        self.recorder.note_reply(peer, datagram)
     }
 
     /// Writes the line of an entry. Where memory for it is refused it is lost.
@@ -221,7 +221,7 @@ impl<R: Clock + Eprint + Drop> StreamRecorder<R> {
     }
 
     /// Octets came. Where they can't be cut nothing is known of what comes behind them.
-    pub fn heard(&mut self, octets: &[u8]) {
+    pub fn note_octets(&mut self, octets: &[u8]) {
         let Some(cutter) = &mut self.heard else {
             return;
         };
@@ -232,14 +232,14 @@ impl<R: Clock + Eprint + Drop> StreamRecorder<R> {
         // each frame ends with one of these octets or behind it
         for _ in 0..octets.len() {
             match cutter.next_frame() {
-                Ok(Some(frame)) => self.recorder.asked(0, frame.bytes),
+                Ok(Some(frame)) => self.recorder.note_request(0, frame.bytes),
                 _ => break,
             }
         }
     }
 
     /// Octets went.
-    pub fn said(&mut self, octets: &[u8]) {
+    pub fn note_written(&mut self, octets: &[u8]) {
         let Some(cutter) = &mut self.said else {
             return;
         };
@@ -250,7 +250,7 @@ impl<R: Clock + Eprint + Drop> StreamRecorder<R> {
         for _ in 0..octets.len() {
             match cutter.next_frame() {
                 Ok(Some(frame)) => {
-                    if let Some(entry) = self.recorder.answered(0, frame.bytes) {
+                    if let Some(entry) = self.recorder.note_reply(0, frame.bytes) {
                         self.recorder.put(self.from, &entry);
                     }
                 }

@@ -155,7 +155,7 @@ impl Seat {
 }
 
 /// Other owners of the same listeners.
-fn shared(alloc: Global, listeners: &[TcpListener]) -> io::Result<Vec<TcpListener>> {
+fn share(alloc: Global, listeners: &[TcpListener]) -> io::Result<Vec<TcpListener>> {
     let mut owned = Vec::with_capacity(alloc, listeners.len())?;
     for listener in listeners {
         owned.push(listener.try_clone()?)?;
@@ -186,7 +186,7 @@ pub fn seats_at<R: Net + std::rt::Clock>(
     let mut seats = Vec::with_capacity(alloc, lanes)?;
     for place in 0..lanes {
         seats.push(Seat {
-            listeners: Sockets::new(rt, alloc, shared(alloc, listeners)?, waits.door)?,
+            listeners: Sockets::new(rt, alloc, share(alloc, listeners)?, waits.door)?,
             silences: Arc::try_clone(&silences)?,
             place,
             start,

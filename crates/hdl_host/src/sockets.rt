@@ -142,7 +142,7 @@ impl<S: Source + Drop> Sockets<S> {
     }
 
     /// Sockets from which one thread alone takes. Their calls don't wait; a look at them all does, for so long at most.
-    pub fn watched<R: Net>(
+    pub fn with_watch<R: Net>(
         rt: &R,
         alloc: Global,
         sockets: Vec<S>,

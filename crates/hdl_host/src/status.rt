@@ -128,7 +128,7 @@ impl StatusPage {
     }
 
     /// Reads the head of a request, and answers its page. None: it is none, or too long, or came too slowly.
-    fn asked<S: Read>(&self, alloc: Global, stream: &mut S) -> io::Result<Option<Page>> {
+    fn read_question<S: Read>(&self, alloc: Global, stream: &mut S) -> io::Result<Option<Page>> {
         let mut octets = [0; HEAD];
         let mut count = 0usize;
         for _ in 0..READS {
@@ -153,7 +153,7 @@ impl StatusPage {
 
     /// Answers one request.
     fn answer<S: Read + Write>(&self, alloc: Global, stream: &mut S) -> io::Result<()> {
-        let Some(page) = self.asked(alloc, stream)? else {
+        let Some(page) = self.read_question(alloc, stream)? else {
             return Ok(());
         };
         let Page { status, kind, body } = page;

@@ -86,7 +86,7 @@ impl<R: std::rt::Clock + Eprint + Drop> Watch<R> {
     /// Octets came after so many milliseconds. Whether the frame that goes on with them isn't late.
     fn hears(&mut self, octets: &[u8], waited: u64) -> bool {
         if let Some(recorder) = &mut self.recorder {
-            recorder.heard(octets);
+            recorder.note_octets(octets);
         }
         let was_begun = self.progress.is_begun();
         let is_whole = self.progress.follow(octets);
@@ -144,7 +144,7 @@ impl<R: std::rt::Clock + Eprint + Drop> Watch<R> {
                 Ok(count) => {
                     let count = count.min(octets.len());
                     if let Some(recorder) = &mut self.recorder {
-                        recorder.said(&octets[..count]);
+                        recorder.note_written(&octets[..count]);
                     }
                     return Ok(count);
                 }

@@ -6,7 +6,7 @@ use Rattle.sqlite.specs.Files.{file_state}
 use Rattle.hdl_rows.specs.Table.{Table}
 use Rattle.hdl_rows.specs.Write.{Write, CanWrite}
 use Rattle.hdl_sqlrows.specs.Kept.{table_in}
-use Rattle.hdl_sqlrows.specs.Filed.{WhereOpen, CrashLeaves, filed}
+use Rattle.hdl_sqlrows.specs.Filed.{WhereOpen, CrashLeaves, filed_table}
 use Rattle.hdl_lastingrows.specs.Lasting.{IsKept, IsNear, Leaves}
 use Rattle.hdl_lastingrows.specs.Writes.{write_in}
 use Rattle.hdl_lastingrows.specs.Beside.{IsKeptAt, IfHere, MayLeave}
@@ -27,7 +27,7 @@ near (Away own thread) t shut handed db may =
     near_by (file_state may.0) t (write_in thread.promise.write.value) may.1.0 (may.1.1 t handed.0 (subst (λ w. CanWrite t w) (sym handed.2) handed.1)) may.1.2 db may.1.3
 near Nowhere t shut kept db may = absurd kept
 
-pub kept_exactly : (p : Place) (t : Table) (shut : Bool) → IsKeptAt p t shut → IfHere p (λ s. WhereOpen s (CrashLeaves s (filed s))) → shut ≡ false → IfHere p (λ s. HasCleanDisk s → CrashLeaves s t)
+pub kept_exactly : (p : Place) (t : Table) (shut : Bool) → IsKeptAt p t shut → IfHere p (λ s. WhereOpen s (CrashLeaves s (filed_table s))) → shut ≡ false → IfHere p (λ s. HasCleanDisk s → CrashLeaves s t)
 kept_exactly (Here file) t shut kept crash writable = λ clean db may. let it = kept.live writable clean in crash clean it.0 db may ∙ it.1
 kept_exactly (Away own thread) t shut kept crash writable = tt
 kept_exactly Nowhere t shut kept crash writable = tt

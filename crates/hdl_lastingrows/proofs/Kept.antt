@@ -4,7 +4,7 @@ use Rattle.sqlite.specs.State.{State, HasCleanDisk, Survives}
 use Rattle.hdl_rows.specs.Table.{Table, IsPlaced}
 use Rattle.hdl_rows.specs.Write.{Write, CanWrite, written}
 use Rattle.hdl_rows.proofs.Writes.{stay_placed_lem}
-use Rattle.hdl_sqlrows.specs.Filed.{WhereOpen, IsFiled, CrashLeaves, filed}
+use Rattle.hdl_sqlrows.specs.Filed.{WhereOpen, IsFiled, CrashLeaves, filed_table}
 use Rattle.hdl_lastingrows.specs.Lasting.{Lasting, IsKept, MayMake}
 
 -- what a write asks of the table that a caller sees
@@ -15,11 +15,11 @@ module _ (t : Table) (w : Write) (can : CanWrite t w) (old mid : State) (kept : 
   before : HasCleanDisk mid → HasCleanDisk old
   before clean = omega (arith, clean, survives.clean)
 
-  same : HasCleanDisk mid → written (filed old) w ≡ written t w
+  same : HasCleanDisk mid → written (filed_table old) w ≡ written t w
   same clean = ap (λ u. written u w) (kept.live refl (before clean)).1
 
   -- the database has made it: with memory, and where memory is one write behind
-  pub made : (HasCleanDisk mid → IsFiled mid (written (filed old) w)) → (HasCleanDisk mid → CrashLeaves mid (written (filed old) w)) → IsKept (written t w) false mid × IsKept t true mid
+  pub made : (HasCleanDisk mid → IsFiled mid (written (filed_table old) w)) → (HasCleanDisk mid → CrashLeaves mid (written (filed_table old) w)) → IsKept (written t w) false mid × IsKept t true mid
   made done durable = (
     record {
       placed = stay_placed_lem t w kept.placed can;
@@ -34,7 +34,7 @@ module _ (t : Table) (w : Write) (can : CanWrite t w) (old mid : State) (kept : 
   )
 
   -- the database refused, and its store may have shut
-  pub refused : (last : State) (is_shut : Bool) → WhereOpen mid (filed mid ≡ filed old) → (is_shut ≡ false → HasCleanDisk last → IsTrue mid.is_open × IsFiled last (filed mid)) → Survives mid last (λ _. ⊥) → IsKept t is_shut last
+  pub refused : (last : State) (is_shut : Bool) → WhereOpen mid (filed_table mid ≡ filed_table old) → (is_shut ≡ false → HasCleanDisk last → IsTrue mid.is_open × IsFiled last (filed_table mid)) → Survives mid last (λ _. ⊥) → IsKept t is_shut last
   refused last is_shut undone opened later = record {
     placed = kept.placed;
     live = λ shut clean.
@@ -53,7 +53,7 @@ module _ (t : Table) (w : Write) (can : CanWrite t w) (old mid : State) (kept : 
   }
 
 -- a database that has the rows of a table keeps it
-pub newly : (t : Table) (s : State) → IsPlaced t → (HasCleanDisk s → IsFiled s t) → WhereOpen s (CrashLeaves s (filed s)) → IsKept t false s
+pub newly : (t : Table) (s : State) → IsPlaced t → (HasCleanDisk s → IsFiled s t) → WhereOpen s (CrashLeaves s (filed_table s)) → IsKept t false s
 newly t s placed has crash = record {
   placed = placed;
   live = λ _ clean. has clean;

@@ -6,7 +6,7 @@ use Rattle.sqlite.specs.State.{State, HasCleanDisk, Survives}
 use Rattle.hdl_rows.specs.Table.{Table, table_code, IsPlaced}
 use Rattle.hdl_rows.specs.Write.{Write, CanWrite, written}
 use Rattle.hdl_sqlrows.specs.Kept.{table_in}
-use Rattle.hdl_sqlrows.specs.Filed.{IsFiled, filed}
+use Rattle.hdl_sqlrows.specs.Filed.{IsFiled, filed_table}
 use Rattle.hdl_lastingrows.specs.declared.filing.WriteState.{WriteState}
 use Rattle.hdl_lastingrows.specs.declared.filing.WriteState.TheVariants.{Made, Refused, Unknown, UnderWay}
 
@@ -22,7 +22,7 @@ pub record IsKept (t : Table) (is_shut : Bool) (s : State) : Type 0 where
 
 -- a crash within a write leaves what one left before, or the table with the whole write
 abbrev pub MayMake : State → State → Write → Type 0
-MayMake old new w = Survives old new (λ db. IsTrue old.is_open → table_in db ≡ written (filed old) w)
+MayMake old new w = Survives old new (λ db. IsTrue old.is_open → table_in db ≡ written (filed_table old) w)
 
 -- What a write leaves, by what is known of it. `keeps u shut` says that the table u is kept, and whether no more writes are taken.
 abbrev pub Leaves : (Table → Bool → Type 0) → Table → Write → WriteState → Type 0

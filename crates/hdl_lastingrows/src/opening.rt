@@ -9,9 +9,9 @@ ghost use Rattle.sqlite_wal.specs.Files.{image_at};
 ghost use Rattle.hdl_value.specs.Place.{Place};
 ghost use Rattle.hdl_rows.specs.Table.{no_rows, IsPlaced};
 ghost use Rattle.hdl_sqlrows.specs.Layout.{layout, no_schema};
-ghost use Rattle.hdl_sqlrows.specs.Filed.{WhereOpen, IsFiled, filed};
+ghost use Rattle.hdl_sqlrows.specs.Filed.{WhereOpen, IsFiled, filed_table};
 ghost use Rattle.hdl_sqlrows.specs.Kept.{IsSettled};
-ghost use Rattle.hdl_sqlrows.specs.Opening.{place_of, opened_with, based, no_base};
+ghost use Rattle.hdl_sqlrows.specs.Opening.{place_of, opened_with, filed_base, no_base};
 ghost use Rattle.hdl_lastingrows.specs.Beside.{IfHere};
 
 use crate::fault::TableFault;
@@ -103,7 +103,7 @@ fn open_rest<R: Rows + Drop, S: Alter, P: Progress>(
 ) -> Result<R, TableFault>
     requires mode { conn.old.in_transaction ≡ false }
     requires settled { WhereOpen (state S.Store conn.old) (IsSettled (state S.Store conn.old)) }
-    requires placed { WhereOpen (state S.Store conn.old) (IsPlaced (filed (state S.Store conn.old))) }
+    requires placed { WhereOpen (state S.Store conn.old) (IsPlaced (filed_table (state S.Store conn.old))) }
     requires empty { R.content rows ≡ no_rows }
     requires distinct { AllPairs (λ (p q : Place). p ≢ q) (map place_of opening.now) }
     ensures clean { OnOk result (HasCleanDisk (state S.Store conn.new) → HasCleanDisk (state S.Store conn.old)) }
@@ -111,7 +111,7 @@ fn open_rest<R: Rows + Drop, S: Alter, P: Progress>(
     ensures settled { OnOk result (HasCleanDisk (state S.Store conn.new) → IsSettled (state S.Store conn.new)) }
     ensures filed { IfOk result (λ r. HasCleanDisk (state S.Store conn.new) → IsFiled (state S.Store conn.new) (R.content r)) }
     ensures placed { IfOk result (λ r. IsPlaced (R.content r)) }
-    ensures opened { IfOk result (λ r. HasCleanDisk (state S.Store conn.new) → R.content r ≡ (opened_with (based (state S.Store conn.old)) opening.now).table) }
+    ensures opened { IfOk result (λ r. HasCleanDisk (state S.Store conn.new) → R.content r ≡ (opened_with (filed_base (state S.Store conn.old)) opening.now).table) }
 {
     open_more(conn, alloc, opening)?;
     let mut rows = rows;
@@ -139,7 +139,7 @@ fn reopen<R: Rows + Drop, S: Alter, P: Progress>(
     ensures settled { OnOk result (HasCleanDisk (state S.Store conn.new) → IsSettled (state S.Store conn.new)) }
     ensures filed { IfOk result (λ r. HasCleanDisk (state S.Store conn.new) → IsFiled (state S.Store conn.new) (R.content r)) }
     ensures placed { IfOk result (λ r. IsPlaced (R.content r)) }
-    ensures opened { IfOk result (λ r. HasCleanDisk (state S.Store conn.new) → R.content r ≡ (opened_with (based (state S.Store conn.old)) opening.now).table) }
+    ensures opened { IfOk result (λ r. HasCleanDisk (state S.Store conn.new) → R.content r ≡ (opened_with (filed_base (state S.Store conn.old)) opening.now).table) }
 {
     let are_opened = are_opened(conn, alloc, opening)?;
     // A store that has shut since would refuse it.
@@ -171,7 +171,7 @@ fn resume<R: Rows + Drop, S: Alter, P: Progress>(
     ensures settled { OnOk result (HasCleanDisk (state S.Store conn.new) → IsSettled (state S.Store conn.new)) }
     ensures filed { IfOk result (λ r. HasCleanDisk (state S.Store conn.new) → IsFiled (state S.Store conn.new) (R.content r)) }
     ensures placed { IfOk result (λ r. IsPlaced (R.content r)) }
-    ensures opened { IfOk result (λ r. HasCleanDisk (state S.Store conn.new) → R.content r ≡ (opened_with (based (state S.Store conn.old)) opening.now).table) }
+    ensures opened { IfOk result (λ r. HasCleanDisk (state S.Store conn.new) → R.content r ≡ (opened_with (filed_base (state S.Store conn.old)) opening.now).table) }
 {
     let mut found = rows;
     load(conn, alloc, &mut found, progress)?;
@@ -197,7 +197,7 @@ fn rows_over<R: Rows + Drop, S: Alter, P: Progress>(
     ensures filed { IfOk result (λ r. HasCleanDisk (state S.Store conn.new) → IsFiled (state S.Store conn.new) (R.content r)) }
     ensures placed { IfOk result (λ r. IsPlaced (R.content r)) }
     ensures made { (state S.Store conn.old).now.schema ≡ no_schema → IfOk result (λ r. HasCleanDisk (state S.Store conn.new) → R.content r ≡ (opened_with no_base opening.now).table) }
-    ensures found { (state S.Store conn.old).now.schema ≡ layout → IfOk result (λ r. HasCleanDisk (state S.Store conn.new) → R.content r ≡ (opened_with (based (state S.Store conn.old)) opening.now).table) }
+    ensures found { (state S.Store conn.old).now.schema ≡ layout → IfOk result (λ r. HasCleanDisk (state S.Store conn.new) → R.content r ≡ (opened_with (filed_base (state S.Store conn.old)) opening.now).table) }
 {
     match tables_of(conn) {
         Found::Nothing => {
@@ -229,7 +229,7 @@ pub fn table_over<R: Rows + Drop, S: Alter + Drop, A: Alarm + Progress + Drop>(
     requires spare { R.content spare ≡ no_rows }
     requires distinct { AllPairs (λ (p q : Place). p ≢ q) (map place_of opening.now) }
     ensures made { (state S.Store conn).now.schema ≡ no_schema → IfOk result (λ t. HasCleanDisk (state S.Store t.file) → t.table ≡ (opened_with no_base opening.now).table) }
-    ensures found { (state S.Store conn).now.schema ≡ layout → IfOk result (λ t. HasCleanDisk (state S.Store t.file) → t.table ≡ (opened_with (based (state S.Store conn)) opening.now).table) }
+    ensures found { (state S.Store conn).now.schema ≡ layout → IfOk result (λ t. HasCleanDisk (state S.Store t.file) → t.table ≡ (opened_with (filed_base (state S.Store conn)) opening.now).table) }
     ensures writable { IfOk result (λ t. t.is_shut ≡ false) }
 {
     let rows = rows_over(&mut conn, alloc, rows, spare, opening, &mut alarm)?;
@@ -270,7 +270,7 @@ pub fn table_beside<R: Rows + Drop, T: Threads + Drop, A: Alarm + Progress + Dro
     requires spare { R.content memory.1 ≡ no_rows }
     requires distinct { AllPairs (λ (p q : Place). p ≢ q) (map place_of opening.now) }
     ensures made { (file_state conn).now.schema ≡ no_schema → IfOk result (λ t. IfHere t.file.place (λ s. HasCleanDisk s → t.table ≡ (opened_with no_base opening.now).table)) }
-    ensures found { (file_state conn).now.schema ≡ layout → IfOk result (λ t. IfHere t.file.place (λ s. HasCleanDisk s → t.table ≡ (opened_with (based (file_state conn)) opening.now).table)) }
+    ensures found { (file_state conn).now.schema ≡ layout → IfOk result (λ t. IfHere t.file.place (λ s. HasCleanDisk s → t.table ≡ (opened_with (filed_base (file_state conn)) opening.now).table)) }
     ensures writable { IfOk result (λ t. t.is_shut ≡ false) }
 {
     let (rows, spare) = memory;

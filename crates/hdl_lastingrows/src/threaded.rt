@@ -5,7 +5,7 @@ ghost use Rattle.sqlite.specs.State.{HasCleanDisk};
 ghost use Rattle.sqlite.specs.Files.{file_state};
 ghost use Rattle.hdl_rows.specs.Table.{Table};
 ghost use Rattle.hdl_rows.specs.Write.{CanWrite};
-ghost use Rattle.hdl_sqlrows.specs.Filed.{WhereOpen, CrashLeaves, filed};
+ghost use Rattle.hdl_sqlrows.specs.Filed.{WhereOpen, CrashLeaves, filed_table};
 ghost use Rattle.hdl_lastingrows.specs.Lasting.{IsKept, Leaves, LeavesIn};
 ghost use Rattle.hdl_lastingrows.specs.Writes.{write_of, write_in};
 ghost use Rattle.hdl_lastingrows.specs.Beside.{IsKeptAt, IsHandedOver, IfHere, behind};
@@ -153,7 +153,7 @@ impl<T: Threads + Drop> ThreadedFile<T> {
 
     /// Between calls a crash leaves of a file that is here the rows as they were filed, and nothing else.
     pub(crate) fn after_a_crash(&self)
-        ensures { IfHere self.now.place (λ s. WhereOpen s (CrashLeaves s (filed s))) }
+        ensures { IfHere self.now.place (λ s. WhereOpen s (CrashLeaves s (filed_table s))) }
     {
         if let Place::Here(file) = &self.place {
             file.after_a_crash();

@@ -14,7 +14,7 @@ use Rattle.hdl_msg.specs.Laws.{short_parts}
 use Rattle.hdl_msg.specs.Message.{Content, code_of, SpellsRequest}
 use Rattle.hdl_msg.specs.Reply.{reply_body, reply_message, reply_octets, short_reply, ReplyParts, reply_parts, IsAnnounced, parts_message}
 use Rattle.hdl_msg.proofs.ReplyReadings.{reply_again, short_reply_spelt_lem}
-use Rattle.hdl_pool.specs.Taking.{taken, freed, whole_message}
+use Rattle.hdl_pool.specs.Taking.{take_piece, free_partial, whole_message}
 use Rattle.hdl_pool.specs.Partial.{key_of, piece_of}
 use Rattle.hdl_slots.specs.declared.pending.Pending.{Pending}
 use Rattle.hdl_slots.specs.Lanes.{challenge_of}
@@ -97,7 +97,7 @@ whole_coded kept gone x (Some bytes) k is = message_coded gone (message_from x b
 frame_coded : (s : LaneState) (x : Received) (k : Task) → IsFrameTask s x k → CodedTask k
 frame_coded s x k is =
     either (is_truncated (envelope_at x.bytes))
-    (λ piece. whole_coded _ (with_partials s (freed s.partials (key_of x.peer (envelope_at x.bytes)))) x (whole_message (taken s.partials (piece_of x.peer x.bytes)).0) k piece)
+    (λ piece. whole_coded _ (with_partials s (free_partial s.partials (key_of x.peer (envelope_at x.bytes)))) x (whole_message (take_piece s.partials (piece_of x.peer x.bytes)).0) k piece)
     (λ whole. message_coded s _ k whole) is
 
 octets_coded : (s : LaneState) (x : Received) (k : Task) → IsOctetsTask s x k → CodedTask k

@@ -26,7 +26,7 @@ use Rattle.hdl_ops.proofs.Decided.{one_decision_lem}
 use Rattle.hdl_events.specs.declared.Happening.{Happening}
 use Rattle.hdl_pool.specs.Partial as partial
 use Rattle.hdl_pool.specs.Partial.{piece_of}
-use Rattle.hdl_pool.specs.Taking.{taken, whole_message, freed}
+use Rattle.hdl_pool.specs.Taking.{take_piece, whole_message, free_partial}
 use Rattle.hdl_laws.specs.Lanes.{LaneState, with_partials}
 use Rattle.hdl_laws.specs.Tasks.{Received, Message, message_from, Task, Ignore, Break, Malformed, Unknown, Late, Ask, Redeem, IsReading, IsTask, IsResponseTask, IsRequestTask, IsContentTask, IsMessageTask, IsWholeTask, IsPieceTask, IsFrameTask, IsOctetsTask, redeem_task}
 use Rattle.hdl_laws.specs.Effects.{Effect, Does, ask_effect, answer_effect, challenge_effect}
@@ -74,8 +74,8 @@ whole_task_one kept gone x (Some message) k k' a b = message_task_one gone (mess
 
 frame_task_one : (s : LaneState) (x : Received) (k k' : Task) → IsFrameTask s x k → IsFrameTask s x k' → k ≡ k'
 frame_task_one s x k k' a b =
-    let after = taken s.partials (piece_of x.peer x.bytes) in
-    let gone = with_partials s (freed s.partials (partial.key_of x.peer (envelope_at x.bytes))) in
+    let after = take_piece s.partials (piece_of x.peer x.bytes) in
+    let gone = with_partials s (free_partial s.partials (partial.key_of x.peer (envelope_at x.bytes))) in
     either_one (is_truncated (envelope_at x.bytes)) (λ j. IsPieceTask s x after j) (λ j. IsMessageTask s (message_from x (drop 20 x.bytes)) j)
     (whole_task_one (with_partials s after.1) gone x (whole_message after.0)) (message_task_one s (message_from x (drop 20 x.bytes))) k k' a b
 

@@ -13,7 +13,7 @@ use Rattle.hdl_frame.specs.Envelope.{message_envelope}
 use Rattle.hdl_msg.specs.Reply.{reply_octets, short_reply}
 use Rattle.hdl_rows.specs.Table.{Table}
 use Rattle.hdl_slots.specs.declared.pending.Pending.{Pending}
-use Rattle.hdl_slots.specs.Lanes.{challenged}
+use Rattle.hdl_slots.specs.Lanes.{add_challenge}
 use Rattle.hdl_ops.specs.declared.change.Change.{Change}
 use Rattle.hdl_ops.specs.Admission.{request_algorithm}
 use Rattle.hdl_ops.specs.Decisions.{Decision, Anyone, Proven, failure, Decides}
@@ -46,7 +46,7 @@ pending algorithm arrival request = record { peer = arrival.peer; moment = arriv
 abbrev pub challenge_effect : Algorithm → LaneState → Message → Content → Effect
 challenge_effect algorithm state arrival request = record {
   outcome = Reply (challenge_octets algorithm state.challenges.next arrival.envelope request arrival.nonce);
-  state = record state { challenges = challenged state.challenges (pending algorithm arrival request) };
+  state = record state { challenges = add_challenge state.challenges (pending algorithm arrival request) };
   change = None;
 }
 

@@ -8,9 +8,9 @@ use Rattle.hdl_frame.specs.Envelope.{envelope_at, is_truncated}
 use Rattle.hdl_frame.specs.Frames.{IsFrame}
 use Rattle.hdl_msg.specs.Message.{Content, SpellsRequest}
 use Rattle.hdl_pool.specs.Partial.{Partial, key_of, piece_of}
-use Rattle.hdl_pool.specs.Taking.{Fate, taken, whole_message, freed}
+use Rattle.hdl_pool.specs.Taking.{Fate, take_piece, whole_message, free_partial}
 use Rattle.hdl_slots.specs.declared.pending.Pending.{Pending}
-use Rattle.hdl_slots.specs.Lanes.{challenge_of, spent}
+use Rattle.hdl_slots.specs.Lanes.{challenge_of, spend_challenge}
 use Rattle.hdl_ops.specs.Proven.{Proof}
 use Rattle.hdl_ops.specs.Requests.{Response, response_of}
 use Rattle.hdl_events.specs.declared.Happening.{Happening}
@@ -56,7 +56,7 @@ is_late arrival challenge = nat_lt CHALLENGE_LIFE (arrival.moment - challenge.mo
 
 -- the lane without the challenge that the message names
 abbrev pub redeemed : LaneState → Message → LaneState
-redeemed state arrival = record state { challenges = spent state.challenges arrival.peer arrival.envelope.session }
+redeemed state arrival = record state { challenges = spend_challenge state.challenges arrival.peer arrival.envelope.session }
 
 -- the challenged request, by the reading of its message; its challenge is spent
 abbrev pub redeem_task : LaneState → Message → Response → Pending → Option Content → Task
@@ -95,14 +95,14 @@ IsWholeTask kept gone received (Some message) task = IsMessageTask gone (message
 -- a piece, by what becomes of it
 abbrev pub IsPieceTask : LaneState → Received → Fate × List Partial → Task → Type 0
 IsPieceTask state received after task =
-    IsWholeTask (with_partials state after.1) (with_partials state (freed state.partials (key_of received.peer (envelope_at received.bytes)))) received
+    IsWholeTask (with_partials state after.1) (with_partials state (free_partial state.partials (key_of received.peer (envelope_at received.bytes)))) received
     (whole_message after.0) task
 
 -- a frame, by its message or by the piece of one that it is
 abbrev pub IsFrameTask : LaneState → Received → Task → Type 0
 IsFrameTask state received task =
     MatchBool (is_truncated (envelope_at received.bytes))
-    (IsPieceTask state received (taken state.partials (piece_of received.peer received.bytes)) task)
+    (IsPieceTask state received (take_piece state.partials (piece_of received.peer received.bytes)) task)
     (IsMessageTask state (message_from received (drop 20 received.bytes)) task)
 
 -- octets, by the frame that they are or are not

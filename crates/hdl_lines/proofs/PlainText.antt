@@ -14,7 +14,7 @@ use Rattle.hex.specs.Hex.{encode_with, encode_lower, lower_digits}
 use Rattle.hdl_limits.specs.Octets.{AreOctets}
 use Rattle.hdl_lines.specs.Fields.{is_printed, is_line}
 use Rattle.hdl_lines.proofs.Readings.{either}
-use Rattle.hdl_lines.specs.Printed.{escape, printed_char, printed_text, printed}
+use Rattle.hdl_lines.specs.Printed.{escape, printed_char, printed_text, printed_octets}
 
 -- ---- graphic ASCII and spaces, from 32 to 126
 
@@ -138,7 +138,7 @@ encoded_graphic (octet ∷ octets) h =
     let digits : Graphic lower_digits = graphic_from lower_digits refl in
     (graphic_at lower_digits (octet / 16) digits (omega (arith, h 0)), (graphic_at lower_digits (octet % 16) digits (omega arith), encoded_graphic octets (λ i. h (suc i))))
 
-pub printed_line : (octets : List ℕ) → AreOctets octets → is_line (printed octets) ≡ true
+pub printed_line : (octets : List ℕ) → AreOctets octets → is_line (printed_octets octets) ≡ true
 unfolding printed_text
 printed_line octets h = elim (either (is_utf8 octets)) [
   | inl text ↦ rw text (chars_line (chars octets) (scalars-chars octets (IsUtf8-from_is_utf8 octets text)))
@@ -165,7 +165,7 @@ chars_same (c ∷ cs) h =
     rw (not_true (is_control c) both.0, chars_same cs both.1) refl
 
 -- text without a control character is printed as it is
-pub printed_same : (text : List ℕ) → is_line text ≡ true → printed text ≡ text
+pub printed_same : (text : List ℕ) → is_line text ≡ true → printed_octets text ≡ text
 unfolding printed_text
 printed_same text h =
     let p = line_plain text h in

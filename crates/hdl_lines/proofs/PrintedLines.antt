@@ -19,7 +19,7 @@ use Rattle.hdl_lines.specs.declared.fault.LineFault.TheVariants as fault
 use Rattle.hdl_lines.specs.Data.{admin_words, reference_text, list_words, list_text, plain_text, data_text}
 use Rattle.hdl_lines.specs.Lines.{value_in, value_in_fields, has_fields, field, fields_text, line_of, ttl_fault}
 use Rattle.hdl_lines.specs.Hiding.{hidden_data, hidden_text}
-use Rattle.hdl_lines.specs.Printed.{printed}
+use Rattle.hdl_lines.specs.Printed.{printed_octets}
 use Rattle.hdl_lines.specs.Laws.{IsHiddenText}
 use Rattle.hdl_lines.proofs.Readings.{either, cut_again, word_again, decimal_digits, decimal_lacks_space, number_again, no_number}
 use Rattle.hdl_lines.proofs.RoundTrip.{spelling_octets, Worded, worded_from, if_some, Plain, plain_from, number_no_octets, ttl_number}
@@ -146,7 +146,7 @@ line_of_line v fits = elim (either (has_fields v)) [
   | inr other ↦ rw other (octets_line v fits)
 ]
 
-pub written_is_printed_lem : (v : Value) → Fits v → printed (line_of v) ≡ line_of v
+pub written_is_printed_lem : (v : Value) → Fits v → printed_octets (line_of v) ≡ line_of v
 written_is_printed_lem v fits = printed_same (line_of v) (line_of_line v fits)
 
 -- ---- hidden keys

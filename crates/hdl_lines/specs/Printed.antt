@@ -19,5 +19,5 @@ unfoldable pub printed_text : List ℕ → List ℕ
 printed_text text = flat_map printed_char (chars text)
 
 -- octets that are no text by their digits
-abbrev pub printed : List ℕ → List ℕ
-printed octets = if is_utf8 octets then printed_text octets else encode_lower octets
+abbrev pub printed_octets : List ℕ → List ℕ
+printed_octets octets = if is_utf8 octets then printed_text octets else encode_lower octets

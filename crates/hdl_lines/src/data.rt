@@ -26,7 +26,7 @@ pub(crate) enum Format {
 
 impl Format {
     /// The format of this name.
-    fn named(word: &[u8]) -> Option<Format>
+    fn of_name(word: &[u8]) -> Option<Format>
         ensures { result ≡ format_named word.now }
     {
         if word == b"UTF8".as_slice() {
@@ -182,7 +182,7 @@ pub(crate) fn data_in(alloc: Global, text: &[u8]) -> Result<Vec<u8>, LineFault>
     ensures fault { IfErr result (λ e. (e ≡ LineFault.Memory) ⊎ (data_in text.now ≡ Err e)) }
 {
     let (format, text) = cut_at(text, b' ').unwrap_or((text, b""));
-    match Format::named(format) {
+    match Format::of_name(format) {
         Some(format) => data_by(alloc, format, text),
         None => Err(LineFault::Format),
     }

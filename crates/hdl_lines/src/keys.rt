@@ -20,7 +20,7 @@ pub fn index_in(digits: &str) -> Option<u32>
 }
 
 /// The reference, where its handle is a name.
-fn named(index: u32, handle: &str) -> Option<(u32, &str)>
+fn reference_named(index: u32, handle: &str) -> Option<(u32, &str)>
     ensures reference { IfSome result (λ r. (r.0 ≡ index) × (r.1.now ≡ handle.now) × IsHandle handle.now) }
 {
     if !is_name(handle.as_bytes()) {
@@ -36,9 +36,9 @@ pub fn read_reference(words: &str) -> Option<(u32, &str)>
 {
     if let Some((index, handle)) = words.split_once(':') {
         if let Some(index) = index_in(index) {
-            return named(index, handle);
+            return reference_named(index, handle);
         }
     }
     let (handle, index) = words.rsplit_once(':')?;
-    named(index_in(index)?, handle)
+    reference_named(index_in(index)?, handle)
 }

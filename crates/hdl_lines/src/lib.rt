@@ -14,7 +14,7 @@
 //!
 //! [`value_line`] writes the line of a value, [`read_value_line`] reads a line. The timestamp isn't part of a line, so a value that
 //! was read has timestamp 0. [`shown_line`] and [`shown_data`] write what of a value is shown: where the data of keys isn't asked for
-//! that of a key is a function of its index, its type and the length of its data. [`printed`] escapes control characters, so that no
+//! that of a key is a function of its index, its type and the length of its data. [`printed_octets`] escapes control characters, so that no
 //! octets of a stranger drive a terminal. A reference to a key stands in words as [`read_reference`] reads it. The fields that other
 //! forms of a value share ([`number_in`], [`mask_in`], [`permissions_in`]) stand by themselves, and [`value_by_type`] makes a value whose
 //! fields stand apart, as those of a table do.
@@ -50,6 +50,6 @@ pub use fields::{cut_at, mask_in, number_in, permission_digits, permissions_in};
 pub use hiding::{is_hidden, shown_data, shown_line};
 pub use keys::{index_in, read_reference};
 pub use laws::{hidden_is_refused, printed_is_line, written_is_printed, written_is_read};
-pub use printing::printed;
+pub use printing::printed_octets;
 pub use read::{read_value_line, value_by_type};
 pub use write::value_line;

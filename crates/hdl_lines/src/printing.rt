@@ -2,7 +2,7 @@
 
 ghost use Rattle.std.specs.Prelude.{◌≡◌, ◌++◌, IfOk, OnOk};
 ghost use Rattle.std.specs.String.{string_bytes};
-ghost use Rattle.hdl_lines.specs.Printed.{escape, printed_char, printed_text, printed};
+ghost use Rattle.hdl_lines.specs.Printed.{escape, printed_char, printed_text, printed_octets};
 
 use std::alloc::{AllocError, Global};
 
@@ -37,8 +37,8 @@ fn printed_text(alloc: Global, text: &str) -> Result<String, AllocError>
 
 /// Octets as they are printed: the characters of a text, control characters by their escapes as `\u{1b}`, and the digits of what is no
 /// text. No control character is in it. A value's line is printed as it is.
-pub fn printed(alloc: Global, octets: &[u8]) -> Result<String, AllocError>
-    ensures { IfOk result (λ text. string_bytes text ≡ printed octets.now) }
+pub fn printed_octets(alloc: Global, octets: &[u8]) -> Result<String, AllocError>
+    ensures { IfOk result (λ text. string_bytes text ≡ printed_octets octets.now) }
 {
     let Ok(text) = str::from_utf8(octets) else {
         return hex::encode(alloc, octets);

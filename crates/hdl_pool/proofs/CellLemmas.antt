@@ -7,7 +7,7 @@ use Rattle.std.proofs.lemmas.List.Elements.{filter_map-append}
 use Rattle.std.proofs.lemmas.List.Sums.{position_or_len_is}
 use Rattle.hdl_pool.specs.declared.piece.Key.{Key}
 use Rattle.hdl_pool.specs.Partial.{Partial, is_of}
-use Rattle.hdl_pool.specs.Taking.{lane_at, begun, freed, kept, displaced}
+use Rattle.hdl_pool.specs.Taking.{lane_at, begin_partial, free_partial, kept, displaced}
 use Rattle.hdl_pool.specs.Cells.{cells_at, cell_at, contents, lanes_of, AreFours, holds}
 
 abbrev pub Cell : Type 0
@@ -124,12 +124,12 @@ pub contents_none : (b : List Cell) → contents (map none_of b) ≡ []
 contents_none [] = refl
 contents_none (content ∷ b) = contents_none b
 
-pub contents_freed : (key : Key) (b : List Cell) → contents (map (freed_of key) b) ≡ freed (contents b) key
+pub contents_freed : (key : Key) (b : List Cell) → contents (map (freed_of key) b) ≡ free_partial (contents b) key
 contents_freed key [] = refl
 contents_freed key (None ∷ b) = contents_freed key b
 contents_freed key (Some p ∷ b) = by_test (is_of key p) refl (contents_freed key b)
   where
-    by_test : (t : Bool) → is_of key p ≡ t → contents (map (freed_of key) b) ≡ freed (contents b) key → contents (map (freed_of key) (Some p ∷ b)) ≡ freed (p ∷ contents b) key
+    by_test : (t : Bool) → is_of key p ≡ t → contents (map (freed_of key) b) ≡ free_partial (contents b) key → contents (map (freed_of key) (Some p ∷ b)) ≡ free_partial (p ∷ contents b) key
     by_test true e below = rw e below
     by_test false e below = rw e (ap (λ (t : List Partial). p ∷ t) below)
 
@@ -146,11 +146,11 @@ freed_same key c lane i now t lt within fours was test failed =
     IsWrittenTo-same (freed_of key) c lane i now lt within fours was (rw here refl)
 
 pub freed_all : (key : Key) (c : Lanes) (lane i : ℕ) (now : Lanes) → lane < 64 → 4 ≤ i → AreFours c → IsWrittenTo (freed_of key) c lane i now
-    → (lanes_of now ≡ set (lanes_of c) lane (freed (lane_at (lanes_of c) lane) key)) × AreFours now
+    → (lanes_of now ≡ set (lanes_of c) lane (free_partial (lane_at (lanes_of c) lane) key)) × AreFours now
 freed_all key c lane i now lt past fours was =
     let all = IsWrittenTo-all (freed_of key) c lane i now lt past fours was in
-    let here : contents (map (freed_of key) (cells_at c lane)) ≡ freed (lane_at (lanes_of c) lane) key =
-    contents_freed key (cells_at c lane) ∙ ap (λ (t : List Partial). freed t key) (sym (lane-lanes_of c lane (omega (arith, fours.lanes)))) in
+    let here : contents (map (freed_of key) (cells_at c lane)) ≡ free_partial (lane_at (lanes_of c) lane) key =
+    contents_freed key (cells_at c lane) ∙ ap (λ (t : List Partial). free_partial t key) (sym (lane-lanes_of c lane (omega (arith, fours.lanes)))) in
     (all.0 ∙ ap (λ (t : List Partial). set (lanes_of c) lane t) here, all.1)
 
 pub none_all : (c : Lanes) (lane i : ℕ) (now : Lanes) → lane < 64 → 4 ≤ i → AreFours c → IsWrittenTo none_of c lane i now
@@ -223,10 +223,10 @@ IsStoring-more old lane first now new place q carried was lt fours s next some a
       full = λ _. rw (here, drop-set (cells_at now lane) q carried inside) (omega (arith, one_more carried (drop (q + 1) (cells_at now lane)) some));
     }
 
-begun_kept : (lane : List Partial) (first : Partial) → length lane < 4 → begun lane first ≡ (kept, lane ++ first ∷ [])
+begun_kept : (lane : List Partial) (first : Partial) → length lane < 4 → begin_partial lane first ≡ (kept, lane ++ first ∷ [])
 begun_kept lane first lt = rw (lt-ltb (length lane) 4 lt) refl
 
-begun_displaced : (lane : List Partial) (first : Partial) → 4 ≤ length lane → begun lane first ≡ (displaced, drop 1 lane ++ first ∷ [])
+begun_displaced : (lane : List Partial) (first : Partial) → 4 ≤ length lane → begin_partial lane first ≡ (displaced, drop 1 lane ++ first ∷ [])
 begun_displaced lane first le = rw (le-ltb (length lane) 4 le) refl
 
 stored_lanes : (old now : Lanes) (lane : ℕ) (b : List Partial) → lane < 64 → AreFours old → now ≡ set old lane (cells_at now lane) → length (cells_at now lane) ≡ 4 → contents (cells_at now lane) ≡ b
@@ -236,7 +236,7 @@ stored_lanes old now lane b lt fours only four is =
 
 -- an empty cell took the last that moved
 pub storing_kept : (old now : Lanes) (lane place : ℕ) (first : Partial) (carried : Cell) → lane < 64 → AreFours old → IsStoring old lane first now place carried → is_some carried ≡ false
-    → (kept ≡ (begun (lane_at (lanes_of old) lane) first).0) × (lanes_of now ≡ set (lanes_of old) lane (begun (lane_at (lanes_of old) lane) first).1) × AreFours now
+    → (kept ≡ (begin_partial (lane_at (lanes_of old) lane) first).0) × (lanes_of now ≡ set (lanes_of old) lane (begin_partial (lane_at (lanes_of old) lane) first).1) × AreFours now
 storing_kept old now lane place first (Some p) lt fours s none = absurd (cc)
 storing_kept old now lane place first None lt fours s none =
     let b = cells_at now lane in
@@ -251,7 +251,7 @@ storing_kept old now lane place first None lt fours s none =
 
 -- the oldest fell out
 pub storing_displaced : (old now : Lanes) (lane place : ℕ) (first : Partial) (carried : Cell) → lane < 64 → AreFours old → IsStoring old lane first now place carried → is_some carried ≡ true → place ≡ 0
-    → (displaced ≡ (begun (lane_at (lanes_of old) lane) first).0) × (lanes_of now ≡ set (lanes_of old) lane (begun (lane_at (lanes_of old) lane) first).1) × AreFours now
+    → (displaced ≡ (begin_partial (lane_at (lanes_of old) lane) first).0) × (lanes_of now ≡ set (lanes_of old) lane (begin_partial (lane_at (lanes_of old) lane) first).1) × AreFours now
 storing_displaced old now lane place first None lt fours s some last = absurd (cc)
 storing_displaced old now lane place first (Some p) lt fours s some last =
     let all : p ∷ contents (cells_at now lane) ≡ contents (cells_at old lane) ++ first ∷ [] = rw last at s.each in

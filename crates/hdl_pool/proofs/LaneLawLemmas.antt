@@ -6,7 +6,7 @@ use Rattle.std.proofs.lemmas.Bool.{cases_Bool, eqb-true, eq-eqb}
 use Rattle.std.proofs.lemmas.List.Folds.{find-append}
 use Rattle.hdl_pool.specs.declared.piece.Key.{Key}
 use Rattle.hdl_pool.specs.Partial.{Piece, Partial, is_of, nothing_of, whole}
-use Rattle.hdl_pool.specs.Taking.{Fate, made_whole, kept, ignored, displaced, so_far, is_ignored, with_piece, grown, replaced, begun, settled, taken}
+use Rattle.hdl_pool.specs.Taking.{Fate, made_whole, kept, ignored, displaced, so_far, is_ignored, with_piece, grown, replace_partial, begin_partial, settle_partial, take_piece}
 use Rattle.hdl_pool.specs.Laws.{TakenIsSoFar, OthersStay}
 use Rattle.hdl_pool.proofs.TakenLemmas.{grown_stays, taken_found, taken_missed, stored_missed}
 
@@ -62,11 +62,11 @@ find_passes test (q ∷ qs) p found = by_test (test q) refl found (λ below. fin
     by_test true e found below = let same : q ≡ p = cc in rw (← same) e
     by_test false e found below = below found
 
-find_replaced : (key : Key) (more : Partial) (lane : List Partial) (p : Partial) → find (is_of key) lane ≡ Some p → is_of key more ≡ true → find (is_of key) (replaced key more lane) ≡ Some more
+find_replaced : (key : Key) (more : Partial) (lane : List Partial) (p : Partial) → find (is_of key) lane ≡ Some p → is_of key more ≡ true → find (is_of key) (replace_partial key more lane) ≡ Some more
 find_replaced key more [] p found own = absurd (cc)
 find_replaced key more (q ∷ qs) p found own = by_test (is_of key q) refl found (λ below. find_replaced key more qs p below own)
   where
-    by_test : (t : Bool) → is_of key q ≡ t → cond t (Some q) (find (is_of key) qs) ≡ Some p → (find (is_of key) qs ≡ Some p → find (is_of key) (replaced key more qs) ≡ Some more) → find (is_of key) (replaced key more (q ∷ qs)) ≡ Some more
+    by_test : (t : Bool) → is_of key q ≡ t → cond t (Some q) (find (is_of key) qs) ≡ Some p → (find (is_of key) qs ≡ Some p → find (is_of key) (replace_partial key more qs) ≡ Some more) → find (is_of key) (replace_partial key more (q ∷ qs)) ≡ Some more
     by_test true e found below = rw (e, own) refl
     by_test false e found below = rw (e, e) (below found)
 
@@ -92,17 +92,17 @@ found_or : (o : Option Partial) (d : Partial) (p : Partial) → o ≡ Some p →
 found_or o d p e = rw e refl
 
 settled_new : (lane : List Partial) (key : Key) (fate : Fate) (more d : Partial) → find (is_of key) lane ≡ None → is_of key more ≡ true → (fate ≢ kept → more ≡ d)
-    → unwrap_or (find (is_of key) (settled lane key fate more).1) d ≡ more
+    → unwrap_or (find (is_of key) (settle_partial lane key fate more).1) d ≡ more
 settled_new lane key kept more d missed own stays =
-    rw (stored_missed lane key more missed) (found_or (find (is_of key) (begun lane more).1) d more (find_begun (ltb (length lane) 4) (is_of key) lane more missed own))
+    rw (stored_missed lane key more missed) (found_or (find (is_of key) (begin_partial lane more).1) d more (find_begun (ltb (length lane) 4) (is_of key) lane more missed own))
 settled_new lane key (made_whole message) more d missed own stays = rw missed (sym (stays (λ e. cc)))
 settled_new lane key ignored more d missed own stays = rw missed (sym (stays (λ e. cc)))
 settled_new lane key displaced more d missed own stays = rw missed (sym (stays (λ e. cc)))
 
-taken_so_far : (lane : List Partial) (piece : Piece) (o : Option Partial) → find (is_of piece.key) lane ≡ o → so_far (taken lane piece).1 piece ≡ (grown (unwrap_or o (nothing_of piece.key piece.length)) piece).1
+taken_so_far : (lane : List Partial) (piece : Piece) (o : Option Partial) → find (is_of piece.key) lane ≡ o → so_far (take_piece lane piece).1 piece ≡ (grown (unwrap_or o (nothing_of piece.key piece.length)) piece).1
 taken_so_far lane piece (Some p) found =
     let own : is_of piece.key (grown p piece).1 ≡ true = is_of-own piece.key (grown p piece).1 (key-grown p piece ∙ own-is_of piece.key p (find_passes (is_of piece.key) lane p found)) in
-    rw (taken_found lane piece p found) (found_or (find (is_of piece.key) (replaced piece.key (grown p piece).1 lane)) (nothing_of piece.key piece.length) (grown p piece).1 (find_replaced piece.key (grown p piece).1 lane p found own))
+    rw (taken_found lane piece p found) (found_or (find (is_of piece.key) (replace_partial piece.key (grown p piece).1 lane)) (nothing_of piece.key piece.length) (grown p piece).1 (find_replaced piece.key (grown p piece).1 lane p found own))
 taken_so_far lane piece None missed =
     let first = nothing_of piece.key piece.length in
     let own : is_of piece.key (grown (nothing_of piece.key piece.length) piece).1 ≡ true = is_of-own piece.key (grown (nothing_of piece.key piece.length) piece).1 (key-grown (nothing_of piece.key piece.length) piece) in
@@ -114,11 +114,11 @@ taken_is_so_far_lem lane piece = taken_so_far lane piece (find (is_of piece.key)
 
 -- ---- the others
 
-find_other : (key other : Key) (more : Partial) (lane : List Partial) → other ≢ key → is_of other more ≡ false → find (is_of other) (replaced key more lane) ≡ find (is_of other) lane
+find_other : (key other : Key) (more : Partial) (lane : List Partial) → other ≢ key → is_of other more ≡ false → find (is_of other) (replace_partial key more lane) ≡ find (is_of other) lane
 find_other key other more [] apart absent = refl
 find_other key other more (q ∷ qs) apart absent = by_test (is_of key q) refl (find_other key other more qs apart absent)
   where
-    by_test : (t : Bool) → is_of key q ≡ t → find (is_of other) (replaced key more qs) ≡ find (is_of other) qs → find (is_of other) (replaced key more (q ∷ qs)) ≡ find (is_of other) (q ∷ qs)
+    by_test : (t : Bool) → is_of key q ≡ t → find (is_of other) (replace_partial key more qs) ≡ find (is_of other) qs → find (is_of other) (replace_partial key more (q ∷ qs)) ≡ find (is_of other) (q ∷ qs)
     by_test true e below =
         let foreign : is_of other q ≡ false = not_of other q (λ same. apart (sym same ∙ own-is_of key q e)) in
         rw (e, absent, foreign) refl
@@ -132,13 +132,13 @@ begun_other : (b : Bool) (test : Partial → Bool) (lane : List Partial) (more :
 begun_other true test lane more absent stays = find-append test lane (more ∷ []) ∙ rw absent (or_none (find test lane))
 begun_other false test lane more absent stays = absurd (stays refl)
 
-stored_other : (b : Bool) (lane : List Partial) (key other : Key) (more : Partial) → other ≢ key → is_of other more ≡ false → (cond b (kept, replaced key more lane) (begun lane more)).0 ≢ displaced
-    → find (is_of other) (cond b (kept, replaced key more lane) (begun lane more)).1 ≡ find (is_of other) lane
+stored_other : (b : Bool) (lane : List Partial) (key other : Key) (more : Partial) → other ≢ key → is_of other more ≡ false → (cond b (kept, replace_partial key more lane) (begin_partial lane more)).0 ≢ displaced
+    → find (is_of other) (cond b (kept, replace_partial key more lane) (begin_partial lane more)).1 ≡ find (is_of other) lane
 stored_other true lane key other more apart absent stays = find_other key other more lane apart absent
 stored_other false lane key other more apart absent stays = begun_other (ltb (length lane) 4) (is_of other) lane more absent stays
 
-settled_others : (lane : List Partial) (key other : Key) (fate : Fate) (more : Partial) → other ≢ key → is_of other more ≡ false → (settled lane key fate more).0 ≢ displaced
-    → find (is_of other) (settled lane key fate more).1 ≡ find (is_of other) lane
+settled_others : (lane : List Partial) (key other : Key) (fate : Fate) (more : Partial) → other ≢ key → is_of other more ≡ false → (settle_partial lane key fate more).0 ≢ displaced
+    → find (is_of other) (settle_partial lane key fate more).1 ≡ find (is_of other) lane
 settled_others lane key other kept more apart absent stays = stored_other (is_some (find (is_of key) lane)) lane key other more apart absent stays
 settled_others lane key other (made_whole message) more apart absent stays = refl
 settled_others lane key other ignored more apart absent stays = refl

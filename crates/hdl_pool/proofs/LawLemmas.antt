@@ -11,8 +11,8 @@ use Rattle.hdl_frame.specs.Whole.{Piece as Numbered, payload_of, payloads_of, me
 use Rattle.hdl_frame.proofs.WholeLemmas.{message_is_joined_lem, joined_is_message_lem}
 use Rattle.hdl_pool.specs.declared.piece.Key.{Key}
 use Rattle.hdl_pool.specs.Partial.{Piece, Partial, IsPiece, is_of, payload_at, whole}
-use Rattle.hdl_pool.specs.Taking.{Fate, made_whole, kept, ignored, displaced, so_far, is_ignored, with_piece, grown, replaced, begun, settled}
-use Rattle.hdl_pool.specs.Laws.{numbered, collected, NothingCame, KeptIsCollected, RepeatedIsIgnored, WholeIsMessage, MessageIsWhole, FreedIsGone, AtMostFour}
+use Rattle.hdl_pool.specs.Taking.{Fate, made_whole, kept, ignored, displaced, so_far, is_ignored, with_piece, grown, replace_partial, begin_partial, settle_partial}
+use Rattle.hdl_pool.specs.Laws.{numbered_piece, collect, NothingCame, KeptIsCollected, RepeatedIsIgnored, WholeIsMessage, MessageIsWhole, FreedIsGone, AtMostFour}
 
 -- ---- one more piece
 
@@ -124,15 +124,15 @@ number_within : (piece : Piece) → IsPiece piece → piece.number < piece_count
 number_within piece fits = omega (arith, fits.begins)
 
 abbrev so : List Numbered → Piece → Partial
-so pieces piece = collected piece.key piece.length pieces
+so pieces piece = collect piece.key piece.length pieces
 
 new_of : (pieces : List Numbered) (piece : Piece) → IsPiece piece → is_ignored (so pieces piece) piece ≡ false → payload_of pieces piece.number ≡ None
 new_of pieces piece fits counted =
     sym (payloads_at pieces piece.length piece.number (number_within piece fits)) ∙ not_some (payload_at (so pieces piece) piece.number) (or_false (not (eqb piece.length piece.length)) (is_some (payload_at (so pieces piece) piece.number)) counted)
 
-with_new : (pieces : List Numbered) (piece : Piece) → IsPiece piece → payload_of pieces piece.number ≡ None → with_piece (so pieces piece) piece ≡ so (pieces ++ numbered piece ∷ []) piece
+with_new : (pieces : List Numbered) (piece : Piece) → IsPiece piece → payload_of pieces piece.number ≡ None → with_piece (so pieces piece) piece ≡ so (pieces ++ numbered_piece piece ∷ []) piece
 with_new pieces piece fits new =
-    ap (λ (t : List (Option (List ℕ))). record { key = piece.key; length = piece.length; pieces = t }) (payloads_of-new pieces (numbered piece) piece.length (number_within piece fits) new)
+    ap (λ (t : List (Option (List ℕ))). record { key = piece.key; length = piece.length; pieces = t }) (payloads_of-new pieces (numbered_piece piece) piece.length (number_within piece fits) new)
 
 pub kept_is_collected_lem : KeptIsCollected
 kept_is_collected_lem pieces piece fits is =
@@ -142,8 +142,8 @@ kept_is_collected_lem pieces piece fits is =
 pub whole_is_message_lem : WholeIsMessage
 whole_is_message_lem pieces piece message fits sized is =
     let both = whole_counts (is_ignored (so pieces piece) piece) (so pieces piece) (with_piece (so pieces piece) piece) (whole (with_piece (so pieces piece) piece)) message is in
-    let came : message_of (pieces ++ numbered piece ∷ []) piece.length ≡ Some message = sym (ap whole (with_new pieces piece fits (new_of pieces piece fits both.0))) ∙ both.1 in
-    joined_is_message_lem (pieces ++ numbered piece ∷ []) piece.length message sized came
+    let came : message_of (pieces ++ numbered_piece piece ∷ []) piece.length ≡ Some message = sym (ap whole (with_new pieces piece fits (new_of pieces piece fits both.0))) ∙ both.1 in
+    joined_is_message_lem (pieces ++ numbered_piece piece ∷ []) piece.length message sized came
 
 not_ignored : (pieces : List Numbered) (piece : Piece) → IsPiece piece → payload_of pieces piece.number ≡ None → is_ignored (so pieces piece) piece ≡ false
 not_ignored pieces piece fits new =
@@ -151,7 +151,7 @@ not_ignored pieces piece fits new =
 
 pub message_is_whole_lem : MessageIsWhole
 message_is_whole_lem pieces piece message fits new made =
-    let came : whole (with_piece (so pieces piece) piece) ≡ Some message = ap whole (with_new pieces piece fits new) ∙ message_is_joined_lem (pieces ++ numbered piece ∷ []) piece.length message made in
+    let came : whole (with_piece (so pieces piece) piece) ≡ Some message = ap whole (with_new pieces piece fits new) ∙ message_is_joined_lem (pieces ++ numbered_piece piece ∷ []) piece.length message made in
     ap (λ (b : Bool). (counts b (so pieces piece) (with_piece (so pieces piece) piece) (whole (with_piece (so pieces piece) piece))).0) (not_ignored pieces piece fits new)
     ∙ ap (λ (o : Option (List ℕ)). (ends (so pieces piece) (with_piece (so pieces piece) piece) o).0) came
 
@@ -159,7 +159,7 @@ pub repeated_is_ignored_lem : RepeatedIsIgnored
 repeated_is_ignored_lem pieces piece payload fits came =
     let repeated : is_ignored (so pieces piece) piece ≡ true = rw (eq-eqb piece.length piece.length refl, payloads_at pieces piece.length piece.number (number_within piece fits), came) refl in
     ap (λ (b : Bool). counts b (so pieces piece) (with_piece (so pieces piece) piece) (whole (with_piece (so pieces piece) piece))) repeated
-    ∙ ap (λ (t : List (Option (List ℕ))). (ignored, record { key = piece.key; length = piece.length; pieces = t })) (payloads_of-repeated pieces (numbered piece) piece.length payload came)
+    ∙ ap (λ (t : List (Option (List ℕ))). (ignored, record { key = piece.key; length = piece.length; pieces = t })) (payloads_of-repeated pieces (numbered_piece piece) piece.length payload came)
 
 -- ---- a lane
 
@@ -174,26 +174,26 @@ none_left test (p ∷ ps) = left_step test p (filter (λ q. not (test q)) ps) (t
 pub freed_is_gone_lem : FreedIsGone
 freed_is_gone_lem lane key = none_left (is_of key) lane
 
-length-replaced : (key : Key) (more : Partial) (lane : List Partial) → length (replaced key more lane) ≡ length lane
+length-replaced : (key : Key) (more : Partial) (lane : List Partial) → length (replace_partial key more lane) ≡ length lane
 length-replaced key more [] = refl
 length-replaced key more (p ∷ ps) = by_test (is_of key p) refl (length-replaced key more ps)
   where
-    by_test : (t : Bool) → is_of key p ≡ t → length (replaced key more ps) ≡ length ps → length (replaced key more (p ∷ ps)) ≡ suc (length ps)
+    by_test : (t : Bool) → is_of key p ≡ t → length (replace_partial key more ps) ≡ length ps → length (replace_partial key more (p ∷ ps)) ≡ suc (length ps)
     by_test true e below = rw e refl
     by_test false e below = rw e (ap suc below)
 
-begun_four : (lane : List Partial) (first : Partial) → length lane ≤ 4 → length (begun lane first).1 ≤ 4
+begun_four : (lane : List Partial) (first : Partial) → length lane ≤ 4 → length (begin_partial lane first).1 ≤ 4
 begun_four lane first le =
     elim (cases_lt (length lane) 4) [
       | inl lt ↦ rw (lt-ltb (length lane) 4 lt) (omega (arith, length_push lane first))
       | inr ge ↦ rw (le-ltb (length lane) 4 ge) (omega (arith, length_push (drop 1 lane) first, length-drop 1 lane))
     ]
 
-stored_if : (b : Bool) (lane : List Partial) (key : Key) (more : Partial) → length lane ≤ 4 → length (cond b (kept, replaced key more lane) (begun lane more)).1 ≤ 4
+stored_if : (b : Bool) (lane : List Partial) (key : Key) (more : Partial) → length lane ≤ 4 → length (cond b (kept, replace_partial key more lane) (begin_partial lane more)).1 ≤ 4
 stored_if true lane key more le = omega (arith, length-replaced key more lane)
 stored_if false lane key more le = begun_four lane more le
 
-settled_four : (lane : List Partial) (key : Key) (fate : Fate) (more : Partial) → length lane ≤ 4 → length (settled lane key fate more).1 ≤ 4
+settled_four : (lane : List Partial) (key : Key) (fate : Fate) (more : Partial) → length lane ≤ 4 → length (settle_partial lane key fate more).1 ≤ 4
 settled_four lane key kept more le = stored_if (is_some (find (is_of key) lane)) lane key more le
 settled_four lane key (made_whole message) more le = le
 settled_four lane key ignored more le = le

@@ -10,7 +10,7 @@ use Rattle.hdl_pool.specs.declared.piece.Key.{Key}
 use Rattle.hdl_pool.specs.declared.taken.Taken.{Taken}
 use Rattle.hdl_pool.specs.declared.taken.Taken.TheVariants.{Whole, Kept, Ignored, Displaced}
 use Rattle.hdl_pool.specs.Partial.{Piece, Partial, IsPiece, is_of, nothing_of, whole}
-use Rattle.hdl_pool.specs.Taking.{Fate, made_whole, kept, ignored, displaced, lane_at, is_ignored, with_piece, grown, replaced, begun, stored, settled, taken, fate_of}
+use Rattle.hdl_pool.specs.Taking.{Fate, made_whole, kept, ignored, displaced, lane_at, is_ignored, with_piece, grown, replace_partial, begin_partial, store_partial, settle_partial, take_piece, fate_of}
 use Rattle.hdl_pool.specs.Cells.{cells_at, cell_at, contents, lanes_of, AreFours, holds}
 use Rattle.hdl_pool.proofs.CellLemmas.{Cell, Lanes, lane-lanes_of, lanes_of-set, fours_set}
 
@@ -18,7 +18,7 @@ use Rattle.hdl_pool.proofs.CellLemmas.{Cell, Lanes, lane-lanes_of, lanes_of-set,
 
 -- the first cell of the key has the message that is found, and what is put there takes its place
 first_is : (key : Key) (b : List Cell) (i : ℕ) (p : Partial) → get_or b i None ≡ Some p → is_of key p ≡ true → ((k : ℕ) → k < i → holds key (get_or b k None) ≡ false)
-    → (find (is_of key) (contents b) ≡ Some p) × ((more : Partial) → contents (set b i (Some more)) ≡ replaced key more (contents b))
+    → (find (is_of key) (contents b) ≡ Some p) × ((more : Partial) → contents (set b i (Some more)) ≡ replace_partial key more (contents b))
 first_is key [] i p at here before = absurd (cc)
 first_is key (content ∷ b) zero p at here before = rw (at, here) (refl, λ more. refl)
 first_is key (None ∷ b) (suc i) p at here before = first_is key b i p at here (λ k lt. before (suc k) (omega arith))
@@ -31,7 +31,7 @@ holds_some : (key : Key) (content : Cell) (p : Partial) → content ≡ Some p �
 holds_some key content p e test = rw e at test
 
 pub found_is : (key : Key) (b : List Cell) (i : ℕ) (p : Partial) → Some i ≡ position (holds key) b → Some p ≡ get_or b i None
-    → (find (is_of key) (contents b) ≡ Some p) × ((more : Partial) → contents (set b i (Some more)) ≡ replaced key more (contents b))
+    → (find (is_of key) (contents b) ≡ Some p) × ((more : Partial) → contents (set b i (Some more)) ≡ replace_partial key more (contents b))
 found_is key b i p first at =
     let some = position-Some (holds key) b i None (sym first) in
     first_is key b i p (sym at) (holds_some key (get_or b i None) p (sym at) some.1) some.2
@@ -81,19 +81,19 @@ grown_stays p piece other = grown_if (is_ignored p piece) p (with_piece p piece)
 
 -- ---- a piece of a message that is there
 
-replaced_same : (key : Key) (p : Partial) (lane : List Partial) → find (is_of key) lane ≡ Some p → replaced key p lane ≡ lane
+replaced_same : (key : Key) (p : Partial) (lane : List Partial) → find (is_of key) lane ≡ Some p → replace_partial key p lane ≡ lane
 replaced_same key p [] found = refl
 replaced_same key p (q ∷ qs) found = by_test (is_of key q) refl found (λ below. replaced_same key p qs below)
   where
-    by_test : (t : Bool) → is_of key q ≡ t → cond t (Some q) (find (is_of key) qs) ≡ Some p → (find (is_of key) qs ≡ Some p → replaced key p qs ≡ qs) → replaced key p (q ∷ qs) ≡ q ∷ qs
+    by_test : (t : Bool) → is_of key q ≡ t → cond t (Some q) (find (is_of key) qs) ≡ Some p → (find (is_of key) qs ≡ Some p → replace_partial key p qs ≡ qs) → replace_partial key p (q ∷ qs) ≡ q ∷ qs
     by_test true e found below = let same : q ≡ p = cc in rw e (ap (λ (r : Partial). r ∷ qs) (sym same))
     by_test false e found below = rw e (ap (λ (t : List Partial). q ∷ t) (below found))
 
-stored_found : (lane : List Partial) (key : Key) (p more : Partial) → find (is_of key) lane ≡ Some p → stored lane key more ≡ (kept, replaced key more lane)
+stored_found : (lane : List Partial) (key : Key) (p more : Partial) → find (is_of key) lane ≡ Some p → store_partial lane key more ≡ (kept, replace_partial key more lane)
 stored_found lane key p more found = rw found refl
 
 -- the lane has the message as the piece leaves it
-settled_found : (lane : List Partial) (key : Key) (p more : Partial) (fate : Fate) → find (is_of key) lane ≡ Some p → (fate ≢ kept → more ≡ p) → settled lane key fate more ≡ (fate, replaced key more lane)
+settled_found : (lane : List Partial) (key : Key) (p more : Partial) (fate : Fate) → find (is_of key) lane ≡ Some p → (fate ≢ kept → more ≡ p) → settle_partial lane key fate more ≡ (fate, replace_partial key more lane)
 settled_found lane key p more kept found stays = stored_found lane key p more found
 settled_found lane key p more (made_whole message) found stays =
     let same = stays (λ e. cc) in rw same (ap (λ (t : List Partial). (made_whole message, t)) (sym (replaced_same key p lane found)))
@@ -102,7 +102,7 @@ settled_found lane key p more ignored found stays =
 settled_found lane key p more displaced found stays =
     let same = stays (λ e. cc) in rw same (ap (λ (t : List Partial). (displaced, t)) (sym (replaced_same key p lane found)))
 
-pub taken_found : (lane : List Partial) (piece : Piece) (p : Partial) → find (is_of piece.key) lane ≡ Some p → taken lane piece ≡ ((grown p piece).0, replaced piece.key (grown p piece).1 lane)
+pub taken_found : (lane : List Partial) (piece : Piece) (p : Partial) → find (is_of piece.key) lane ≡ Some p → take_piece lane piece ≡ ((grown p piece).0, replace_partial piece.key (grown p piece).1 lane)
 taken_found lane piece p found = rw found (settled_found lane piece.key p (grown p piece).1 (grown p piece).0 found (λ other. grown_stays p piece other))
 
 refilled : (c mid new : Lanes) (lane place : ℕ) (content : Cell) → lane < 64 → AreFours c → mid ≡ set c lane (set (cells_at c lane) place None)
@@ -122,7 +122,7 @@ refilled_same c mid new lane place p more lt fours out back was same =
     refilled c mid new lane place (Some more) lt fours out back ∙ rw (same, was, set-get_or (cells_at c lane) place None) (set-get_or c lane [])
 
 pub found_fate : (c : Lanes) (lane place : ℕ) (piece : Piece) (p : Partial) → lane < 64 → AreFours c → Some place ≡ position (holds piece.key) (cells_at c lane) → Some p ≡ cell_at c lane place
-    → (grown p piece).0 ≡ (taken (lane_at (lanes_of c) lane) piece).0
+    → (grown p piece).0 ≡ (take_piece (lane_at (lanes_of c) lane) piece).0
 found_fate c lane place piece p lt fours first was =
     let start = lane-lanes_of c lane (omega (arith, fours.lanes)) in
     let found = (found_is piece.key (cells_at c lane) place p first was).0 in
@@ -130,41 +130,41 @@ found_fate c lane place piece p lt fours first was =
 
 pub found_lanes : (c mid new : Lanes) (lane place : ℕ) (piece : Piece) (p more : Partial) → lane < 64 → AreFours c → Some place ≡ position (holds piece.key) (cells_at c lane) → Some p ≡ cell_at c lane place
     → mid ≡ set c lane (set (cells_at c lane) place None) → new ≡ set mid lane (set (cells_at mid lane) place (Some more)) → more ≡ (grown p piece).1
-    → lanes_of new ≡ set (lanes_of c) lane (taken (lane_at (lanes_of c) lane) piece).1
+    → lanes_of new ≡ set (lanes_of c) lane (take_piece (lane_at (lanes_of c) lane) piece).1
 found_lanes c mid new lane place piece p more lt fours first was out back is =
     let start = lane-lanes_of c lane (omega (arith, fours.lanes)) in
     let found = found_is piece.key (cells_at c lane) place p first was in
-    let after : contents (set (cells_at c lane) place (Some more)) ≡ replaced piece.key (grown p piece).1 (contents (cells_at c lane)) = rw (← is) (found.1 more) in
+    let after : contents (set (cells_at c lane) place (Some more)) ≡ replace_partial piece.key (grown p piece).1 (contents (cells_at c lane)) = rw (← is) (found.1 more) in
     ap lanes_of (refilled c mid new lane place (Some more) lt fours out back) ∙ lanes_of-set c lane (set (cells_at c lane) place (Some more))
     ∙ rw (after, start, taken_found (contents (cells_at c lane)) piece p found.0) refl
 
 -- ---- a piece of a message that isn't there
 
-pub stored_missed : (lane : List Partial) (key : Key) (more : Partial) → find (is_of key) lane ≡ None → stored lane key more ≡ begun lane more
+pub stored_missed : (lane : List Partial) (key : Key) (more : Partial) → find (is_of key) lane ≡ None → store_partial lane key more ≡ begin_partial lane more
 stored_missed lane key more missed = rw missed refl
 
-pub taken_missed : (lane : List Partial) (piece : Piece) (first : Partial) → find (is_of piece.key) lane ≡ None → first ≡ nothing_of piece.key piece.length → taken lane piece ≡ settled lane piece.key (grown first piece).0 (grown first piece).1
+pub taken_missed : (lane : List Partial) (piece : Piece) (first : Partial) → find (is_of piece.key) lane ≡ None → first ≡ nothing_of piece.key piece.length → take_piece lane piece ≡ settle_partial lane piece.key (grown first piece).0 (grown first piece).1
 taken_missed lane piece first missed new = rw (missed, new) refl
 
 pub missed_kept : (c : Lanes) (lane : ℕ) (piece : Piece) (first more : Partial) → lane < 64 → AreFours c → None ≡ position (holds piece.key) (cells_at c lane) → first ≡ nothing_of piece.key piece.length
-    → kept ≡ (grown first piece).0 → more ≡ (grown first piece).1 → taken (lane_at (lanes_of c) lane) piece ≡ begun (lane_at (lanes_of c) lane) more
+    → kept ≡ (grown first piece).0 → more ≡ (grown first piece).1 → take_piece (lane_at (lanes_of c) lane) piece ≡ begin_partial (lane_at (lanes_of c) lane) more
 missed_kept c lane piece first more lt fours none new is left =
     let start = lane-lanes_of c lane (omega (arith, fours.lanes)) in
     let missed : find (is_of piece.key) (lane_at (lanes_of c) lane) ≡ None = rw start (missed_is piece.key (cells_at c lane) none) in
     taken_missed (lane_at (lanes_of c) lane) piece first missed new ∙ rw (← is, ← left) (stored_missed (lane_at (lanes_of c) lane) piece.key more missed)
 
-settled_other : (lane : List Partial) (key : Key) (fate : Fate) (more : Partial) → fate ≢ kept → settled lane key fate more ≡ (fate, lane)
+settled_other : (lane : List Partial) (key : Key) (fate : Fate) (more : Partial) → fate ≢ kept → settle_partial lane key fate more ≡ (fate, lane)
 settled_other lane key kept more other = absurd (other refl)
 settled_other lane key (made_whole message) more other = refl
 settled_other lane key ignored more other = refl
 settled_other lane key displaced more other = refl
 
 pub missed_other : (c : Lanes) (lane : ℕ) (piece : Piece) (first : Partial) (fate : Fate) → lane < 64 → AreFours c → None ≡ position (holds piece.key) (cells_at c lane) → first ≡ nothing_of piece.key piece.length
-    → fate ≡ (grown first piece).0 → fate ≢ kept → (fate ≡ (taken (lane_at (lanes_of c) lane) piece).0) × (lanes_of c ≡ set (lanes_of c) lane (taken (lane_at (lanes_of c) lane) piece).1)
+    → fate ≡ (grown first piece).0 → fate ≢ kept → (fate ≡ (take_piece (lane_at (lanes_of c) lane) piece).0) × (lanes_of c ≡ set (lanes_of c) lane (take_piece (lane_at (lanes_of c) lane) piece).1)
 missed_other c lane piece first fate lt fours none new is other =
     let start = lane-lanes_of c lane (omega (arith, fours.lanes)) in
     let missed : find (is_of piece.key) (lane_at (lanes_of c) lane) ≡ None = rw start (missed_is piece.key (cells_at c lane) none) in
-    let same : taken (lane_at (lanes_of c) lane) piece ≡ (fate, lane_at (lanes_of c) lane) =
+    let same : take_piece (lane_at (lanes_of c) lane) piece ≡ (fate, lane_at (lanes_of c) lane) =
     taken_missed (lane_at (lanes_of c) lane) piece first missed new ∙ rw (← is) (settled_other (lane_at (lanes_of c) lane) piece.key fate (grown first piece).1 other) in
     rw same (refl, sym (set-get_or (lanes_of c) lane []))
 
@@ -176,7 +176,7 @@ one_grown piece fits short =
     rw (eq-eqb piece.length piece.length refl, count, first, append-nil piece.payload) refl
 
 pub missed_one : (c : Lanes) (lane : ℕ) (piece : Piece) → lane < 64 → AreFours c → None ≡ position (holds piece.key) (cells_at c lane) → IsPiece piece → piece.length ≤ 492
-    → (made_whole piece.payload ≡ (taken (lane_at (lanes_of c) lane) piece).0) × (lanes_of c ≡ set (lanes_of c) lane (taken (lane_at (lanes_of c) lane) piece).1)
+    → (made_whole piece.payload ≡ (take_piece (lane_at (lanes_of c) lane) piece).0) × (lanes_of c ≡ set (lanes_of c) lane (take_piece (lane_at (lanes_of c) lane) piece).1)
 missed_one c lane piece lt fours none fits short =
     missed_other c lane piece (nothing_of piece.key piece.length) (made_whole piece.payload) lt fours none refl (one_grown piece fits short) (λ e. cc)
 

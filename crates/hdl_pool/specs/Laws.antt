@@ -5,52 +5,52 @@ use Rattle.hdl_frame.specs.Whole.{Piece as Numbered, payload_of, payloads_of, Ma
 use Rattle.hdl_limits.specs.declared.TheConstants.{PARTIALS_MAX}
 use Rattle.hdl_pool.specs.declared.piece.Key.{Key}
 use Rattle.hdl_pool.specs.Partial.{Piece, Partial, IsPiece, is_of, nothing_of}
-use Rattle.hdl_pool.specs.Taking.{made_whole, kept, ignored, displaced, so_far, grown, taken, freed}
+use Rattle.hdl_pool.specs.Taking.{made_whole, kept, ignored, displaced, so_far, grown, take_piece, free_partial}
 
 -- a piece among those of its message
-abbrev pub numbered : Piece → Numbered
-numbered piece = record { number = piece.number; payload = piece.payload }
+abbrev pub numbered_piece : Piece → Numbered
+numbered_piece piece = record { number = piece.number; payload = piece.payload }
 
 -- the partial message of which these pieces came, in this order
-abbrev pub collected : Key → ℕ → List Numbered → Partial
-collected key len pieces = record { key = key; length = len; pieces = payloads_of pieces len }
+abbrev pub collect : Key → ℕ → List Numbered → Partial
+collect key len pieces = record { key = key; length = len; pieces = payloads_of pieces len }
 
 -- before the first piece nothing came
 abbrev pub NothingCame : Type 0
-NothingCame = (key : Key) (len : ℕ) → nothing_of key len ≡ collected key len []
+NothingCame = (key : Key) (len : ℕ) → nothing_of key len ≡ collect key len []
 
 -- a kept piece is the last that came
 abbrev pub KeptIsCollected : Type 0
-KeptIsCollected = (pieces : List Numbered) (piece : Piece) → IsPiece piece → (grown (collected piece.key piece.length pieces) piece).0 ≡ kept
-    → (grown (collected piece.key piece.length pieces) piece).1 ≡ collected piece.key piece.length (pieces ++ numbered piece ∷ [])
+KeptIsCollected = (pieces : List Numbered) (piece : Piece) → IsPiece piece → (grown (collect piece.key piece.length pieces) piece).0 ≡ kept
+    → (grown (collect piece.key piece.length pieces) piece).1 ≡ collect piece.key piece.length (pieces ++ numbered_piece piece ∷ [])
 
 -- a piece whose number came is ignored, and says nothing new
 abbrev pub RepeatedIsIgnored : Type 0
 RepeatedIsIgnored = (pieces : List Numbered) (piece : Piece) (payload : List ℕ) → IsPiece piece → payload_of pieces piece.number ≡ Some payload
-    → grown (collected piece.key piece.length pieces) piece ≡ (ignored, collected piece.key piece.length (pieces ++ numbered piece ∷ []))
+    → grown (collect piece.key piece.length pieces) piece ≡ (ignored, collect piece.key piece.length (pieces ++ numbered_piece piece ∷ []))
 
 -- a whole message is the one that the pieces make
 abbrev pub WholeIsMessage : Type 0
-WholeIsMessage = (pieces : List Numbered) (piece : Piece) (message : List ℕ) → IsPiece piece → HaveTheirLength (pieces ++ numbered piece ∷ []) piece.length
-    → (grown (collected piece.key piece.length pieces) piece).0 ≡ made_whole message → MakeMessage (pieces ++ numbered piece ∷ []) piece.length message
+WholeIsMessage = (pieces : List Numbered) (piece : Piece) (message : List ℕ) → IsPiece piece → HaveTheirLength (pieces ++ numbered_piece piece ∷ []) piece.length
+    → (grown (collect piece.key piece.length pieces) piece).0 ≡ made_whole message → MakeMessage (pieces ++ numbered_piece piece ∷ []) piece.length message
 
 -- a message that the pieces make with one whose number didn't come is whole
 abbrev pub MessageIsWhole : Type 0
 MessageIsWhole = (pieces : List Numbered) (piece : Piece) (message : List ℕ) → IsPiece piece → payload_of pieces piece.number ≡ None
-    → MakeMessage (pieces ++ numbered piece ∷ []) piece.length message → (grown (collected piece.key piece.length pieces) piece).0 ≡ made_whole message
+    → MakeMessage (pieces ++ numbered_piece piece ∷ []) piece.length message → (grown (collect piece.key piece.length pieces) piece).0 ≡ made_whole message
 
 -- what came of a message is what came before the piece, grown by the piece
 abbrev pub TakenIsSoFar : Type 0
-TakenIsSoFar = (lane : List Partial) (piece : Piece) → so_far (taken lane piece).1 piece ≡ (grown (so_far lane piece) piece).1
+TakenIsSoFar = (lane : List Partial) (piece : Piece) → so_far (take_piece lane piece).1 piece ≡ (grown (so_far lane piece) piece).1
 
 -- a piece that displaces nothing changes no other message of its lane
 abbrev pub OthersStay : Type 0
-OthersStay = (lane : List Partial) (piece : Piece) (key : Key) → key ≢ piece.key → (taken lane piece).0 ≢ displaced → find (is_of key) (taken lane piece).1 ≡ find (is_of key) lane
+OthersStay = (lane : List Partial) (piece : Piece) (key : Key) → key ≢ piece.key → (take_piece lane piece).0 ≢ displaced → find (is_of key) (take_piece lane piece).1 ≡ find (is_of key) lane
 
 -- what was freed isn't found
 abbrev pub FreedIsGone : Type 0
-FreedIsGone = (lane : List Partial) (key : Key) → find (is_of key) (freed lane key) ≡ None
+FreedIsGone = (lane : List Partial) (key : Key) → find (is_of key) (free_partial lane key) ≡ None
 
 -- a lane keeps to four
 abbrev pub AtMostFour : Type 0
-AtMostFour = (lane : List Partial) (piece : Piece) → length lane ≤ PARTIALS_MAX → length (taken lane piece).1 ≤ PARTIALS_MAX
+AtMostFour = (lane : List Partial) (piece : Piece) → length lane ≤ PARTIALS_MAX → length (take_piece lane piece).1 ≤ PARTIALS_MAX

@@ -38,28 +38,28 @@ grown p piece =
     else option_map_or (λ message. (made_whole message, p)) (whole (with_piece p piece)) (kept, with_piece p piece)
 
 -- the lane with this partial message in the place of the one with this key
-abbrev pub replaced : Key → Partial → List Partial → List Partial
-replaced key more [] = []
-replaced key more (p ∷ ps) = if is_of key p then more ∷ ps else p ∷ replaced key more ps
+abbrev pub replace_partial : Key → Partial → List Partial → List Partial
+replace_partial key more [] = []
+replace_partial key more (p ∷ ps) = if is_of key p then more ∷ ps else p ∷ replace_partial key more ps
 
 -- the lane with a partial message of a new key, which displaces the oldest of four
-abbrev pub begun : List Partial → Partial → Fate × List Partial
-begun lane first = if nat_lt (length lane) PARTIALS_MAX then (kept, lane ++ first ∷ []) else (displaced, drop 1 lane ++ first ∷ [])
+abbrev pub begin_partial : List Partial → Partial → Fate × List Partial
+begin_partial lane first = if nat_lt (length lane) PARTIALS_MAX then (kept, lane ++ first ∷ []) else (displaced, drop 1 lane ++ first ∷ [])
 
 -- the lane with a partial message that has one more piece
-abbrev pub stored : List Partial → Key → Partial → Fate × List Partial
-stored lane key more = if is_some (find (is_of key) lane) then (kept, replaced key more lane) else begun lane more
+abbrev pub store_partial : List Partial → Key → Partial → Fate × List Partial
+store_partial lane key more = if is_some (find (is_of key) lane) then (kept, replace_partial key more lane) else begin_partial lane more
 
 -- only a piece that is kept changes the lane
-abbrev pub settled : List Partial → Key → Fate → Partial → Fate × List Partial
-settled lane key kept more = stored lane key more
-settled lane key (made_whole message) more = (made_whole message, lane)
-settled lane key ignored more = (ignored, lane)
-settled lane key displaced more = (displaced, lane)
+abbrev pub settle_partial : List Partial → Key → Fate → Partial → Fate × List Partial
+settle_partial lane key kept more = store_partial lane key more
+settle_partial lane key (made_whole message) more = (made_whole message, lane)
+settle_partial lane key ignored more = (ignored, lane)
+settle_partial lane key displaced more = (displaced, lane)
 
 -- what becomes of a piece, and of its lane
-abbrev pub taken : List Partial → Piece → Fate × List Partial
-taken lane piece = let after = grown (so_far lane piece) piece in settled lane piece.key after.0 after.1
+abbrev pub take_piece : List Partial → Piece → Fate × List Partial
+take_piece lane piece = let after = grown (so_far lane piece) piece in settle_partial lane piece.key after.0 after.1
 
 -- the whole message, if the piece makes it whole
 abbrev pub whole_message : Fate → Option (List ℕ)
@@ -69,8 +69,8 @@ whole_message ignored = None
 whole_message displaced = None
 
 -- the lane without the partial message of this key
-abbrev pub freed : List Partial → Key → List Partial
-freed lane key = filter (λ p. not (is_of key p)) lane
+abbrev pub free_partial : List Partial → Key → List Partial
+free_partial lane key = filter (λ p. not (is_of key p)) lane
 
 -- the answer of `take`
 abbrev pub fate_of : Taken → Fate

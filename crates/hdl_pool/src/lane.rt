@@ -2,8 +2,8 @@
 
 ghost use Rattle.std.specs.Prelude.{◌≡◌, ◌<◌, [], position, slice_set, Some, None, OnOk, OnErr, IfOk, IfSome};
 ghost use Rattle.hdl_pool.specs.Partial.{IsPiece};
-ghost use Rattle.hdl_pool.specs.Taking.{lane_at, begun, taken, freed, fate_of};
-ghost use Rattle.hdl_pool.specs.Arrival.{arrived};
+ghost use Rattle.hdl_pool.specs.Taking.{lane_at, begin_partial, take_piece, free_partial, fate_of};
+ghost use Rattle.hdl_pool.specs.Arrival.{piece_in};
 ghost use Rattle.hdl_pool.specs.Cells.{AreFours, cells_at, cell_at, lanes_of, holds};
 
 use crate::assembly::Assembly;
@@ -52,7 +52,7 @@ impl Cells {
     pub(crate) fn free(&mut self, lane: usize, key: Key)
         requires lane { lane < LANES }
         requires fours { AreFours self.old }
-        ensures lanes { lanes_of self.new ≡ slice_set (lanes_of self.old) lane (freed (lane_at (lanes_of self.old) lane) key) }
+        ensures lanes { lanes_of self.new ≡ slice_set (lanes_of self.old) lane (free_partial (lane_at (lanes_of self.old) lane) key) }
         ensures fours { AreFours self.new }
     {
         for place in 0..PARTIALS_MAX {
@@ -78,8 +78,8 @@ impl Cells {
     fn store(&mut self, lane: usize, first: Assembly) -> Taken
         requires lane { lane < LANES }
         requires fours { AreFours self.old }
-        ensures fate { fate_of result ≡ (begun (lane_at (lanes_of self.old) lane) first).0 }
-        ensures lanes { lanes_of self.new ≡ slice_set (lanes_of self.old) lane (begun (lane_at (lanes_of self.old) lane) first).1 }
+        ensures fate { fate_of result ≡ (begin_partial (lane_at (lanes_of self.old) lane) first).0 }
+        ensures lanes { lanes_of self.new ≡ slice_set (lanes_of self.old) lane (begin_partial (lane_at (lanes_of self.old) lane) first).1 }
         ensures fours { AreFours self.new }
     {
         let mut carried = Some(first);
@@ -106,11 +106,11 @@ impl Cells {
         requires lane { lane < LANES }
         requires place { place < PARTIALS_MAX }
         requires fours { AreFours self.old }
-        requires piece { IsPiece (arrived piece) }
+        requires piece { IsPiece (piece_in piece) }
         requires found { Some place ≡ position (holds piece.key) (cells_at self.old lane) }
-        ensures fate { IfOk result (λ t. fate_of t ≡ (taken (lane_at (lanes_of self.old) lane) (arrived piece.entry)).0) }
+        ensures fate { IfOk result (λ t. fate_of t ≡ (take_piece (lane_at (lanes_of self.old) lane) (piece_in piece.entry)).0) }
         ensures lanes { OnOk result (lanes_of self.new ≡ slice_set (lanes_of self.old) lane
-            (taken (lane_at (lanes_of self.old) lane) (arrived piece.entry)).1) }
+            (take_piece (lane_at (lanes_of self.old) lane) (piece_in piece.entry)).1) }
         ensures unchanged { OnErr result (self.new ≡ self.old) }
         ensures fours { AreFours self.new }
     {
@@ -126,11 +126,11 @@ impl Cells {
     fn begin(&mut self, alloc: Global, lane: usize, piece: Arrival<'_>) -> Result<Taken, AllocError>
         requires lane { lane < LANES }
         requires fours { AreFours self.old }
-        requires piece { IsPiece (arrived piece) }
+        requires piece { IsPiece (piece_in piece) }
         requires new { None ≡ position (holds piece.key) (cells_at self.old lane) }
-        ensures fate { IfOk result (λ t. fate_of t ≡ (taken (lane_at (lanes_of self.old) lane) (arrived piece.entry)).0) }
+        ensures fate { IfOk result (λ t. fate_of t ≡ (take_piece (lane_at (lanes_of self.old) lane) (piece_in piece.entry)).0) }
         ensures lanes { OnOk result (lanes_of self.new ≡ slice_set (lanes_of self.old) lane
-            (taken (lane_at (lanes_of self.old) lane) (arrived piece.entry)).1) }
+            (take_piece (lane_at (lanes_of self.old) lane) (piece_in piece.entry)).1) }
         ensures unchanged { OnErr result (self.new ≡ self.old) }
         ensures fours { AreFours self.new }
     {
@@ -153,10 +153,10 @@ impl Cells {
     ) -> Result<Taken, AllocError>
         requires lane { lane < LANES }
         requires fours { AreFours self.old }
-        requires piece { IsPiece (arrived piece) }
-        ensures fate { IfOk result (λ t. fate_of t ≡ (taken (lane_at (lanes_of self.old) lane) (arrived piece.entry)).0) }
+        requires piece { IsPiece (piece_in piece) }
+        ensures fate { IfOk result (λ t. fate_of t ≡ (take_piece (lane_at (lanes_of self.old) lane) (piece_in piece.entry)).0) }
         ensures lanes { OnOk result (lanes_of self.new ≡ slice_set (lanes_of self.old) lane
-            (taken (lane_at (lanes_of self.old) lane) (arrived piece.entry)).1) }
+            (take_piece (lane_at (lanes_of self.old) lane) (piece_in piece.entry)).1) }
         ensures unchanged { OnErr result (self.new ≡ self.old) }
         ensures fours { AreFours self.new }
     {

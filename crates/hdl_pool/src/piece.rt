@@ -43,15 +43,15 @@ pub(crate) struct Arrival<'a> {
 
 impl<'a> Arrival<'a> {
     ghost use Rattle.hdl_pool.specs.Partial.{piece_of, IsPiece};
-    ghost use Rattle.hdl_pool.specs.Arrival.{arrived};
+    ghost use Rattle.hdl_pool.specs.Arrival.{piece_in};
 
     /// The piece that a frame from this peer is.
     #[tactic(auto, using(crate::proofs::PieceLemmas::piece_fits))]
     pub(crate) fn of(peer: u16, frame: &Frame<'a>) -> Arrival<'a>
         requires frame { IsFrameOf frame.now.bytes.now frame.now }
         requires piece { is_truncated (envelope_at frame.now.bytes.now) ≡ true }
-        ensures piece { arrived result ≡ piece_of peer frame.now.bytes.now }
-        ensures fits { IsPiece (arrived result) }
+        ensures piece { piece_in result ≡ piece_of peer frame.now.bytes.now }
+        ensures fits { IsPiece (piece_in result) }
     {
         let envelope = frame.envelope;
         Arrival {

@@ -4,7 +4,7 @@ ghost use Rattle.std.specs.Prelude.{◌≡◌, ◌<◌, [], true, replicate, sli
 ghost use Rattle.hdl_frame.specs.Envelope.{envelope_at, is_truncated};
 ghost use Rattle.hdl_frame.specs.Splitting.{IsFrameOf};
 ghost use Rattle.hdl_pool.specs.Partial.{key_of, piece_of};
-ghost use Rattle.hdl_pool.specs.Taking.{lane_at, taken, freed, fate_of};
+ghost use Rattle.hdl_pool.specs.Taking.{lane_at, take_piece, free_partial, fate_of};
 
 use crate::cells::Cells;
 use crate::piece::{Arrival, Key};
@@ -54,8 +54,8 @@ impl Pool {
         requires lane { lane < LANES }
         requires frame { IsFrameOf frame.now.bytes.now frame.now }
         requires piece { is_truncated (envelope_at frame.now.bytes.now) ≡ true }
-        ensures fate { IfOk result (λ t. fate_of t ≡ (taken (lane_at self.old lane) (piece_of peer frame.now.bytes.now)).0) }
-        ensures lanes { OnOk result (self.new ≡ slice_set self.old lane (taken (lane_at self.old lane) (piece_of peer frame.now.bytes.now)).1) }
+        ensures fate { IfOk result (λ t. fate_of t ≡ (take_piece (lane_at self.old lane) (piece_of peer frame.now.bytes.now)).0) }
+        ensures lanes { OnOk result (self.new ≡ slice_set self.old lane (take_piece (lane_at self.old lane) (piece_of peer frame.now.bytes.now)).1) }
         ensures unchanged { OnErr result (self.new ≡ self.old) }
     {
         let piece = Arrival::of(peer, frame);
@@ -65,7 +65,7 @@ impl Pool {
     /// Drops what came of the message with this peer's envelope, if anything did. It takes no memory.
     pub fn free(&mut self, lane: u16, peer: u16, envelope: &Envelope)
         requires { lane < LANES }
-        ensures lanes { self.new ≡ slice_set self.old lane (freed (lane_at self.old lane) (key_of peer envelope.now)) }
+        ensures lanes { self.new ≡ slice_set self.old lane (free_partial (lane_at self.old lane) (key_of peer envelope.now)) }
     {
         self.cells.free(lane as usize, Key::of(peer, envelope));
     }

@@ -88,7 +88,7 @@ fn stand(rt: &impl Abort, alloc: Global, table: &mut Table, handles: &[u8]) -> R
 }
 
 /// Each of the five writes, of which the last deletes the handle of the text.
-fn written(rt: &impl Abort, alloc: Global) -> Result<Connection<MemStore>, Fail> {
+fn make_writes(rt: &impl Abort, alloc: Global) -> Result<Connection<MemStore>, Fail> {
     let mut table = over_text(alloc, Connection::open_in_memory(alloc)?)?;
     let text = Name::read(alloc, b"10.abc/text")?;
     assert!(rt; are(&table.values(&text)?, &[(1, b"one")]));
@@ -105,7 +105,7 @@ fn written(rt: &impl Abort, alloc: Global) -> Result<Connection<MemStore>, Fail>
 #[test]
 fn writes_last(rt: HostRuntime) -> Result<(), Fail> {
     let alloc = rt.alloc();
-    let conn = written(&rt, alloc)?;
+    let conn = make_writes(&rt, alloc)?;
     let mut table = over_text(alloc, conn)?;
     stand(&rt, alloc, &mut table, b"10.abc/x ")
 }
@@ -114,7 +114,7 @@ fn writes_last(rt: HostRuntime) -> Result<(), Fail> {
 #[test]
 fn late_handle_is_opened(rt: HostRuntime) -> Result<(), Fail> {
     let alloc = rt.alloc();
-    let conn = written(&rt, alloc)?;
+    let conn = make_writes(&rt, alloc)?;
     let name = Name::read(alloc, b"10.ABC/late")?;
     let mut table = over(alloc, conn, name, value(alloc, 9, b"URL", b"nine")?)?;
     let late = Name::read(alloc, b"10.abc/late")?;

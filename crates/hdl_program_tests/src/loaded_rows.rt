@@ -76,7 +76,7 @@ const UNSOUND: [(&str, &str, LoadFault); 9] = [
 ];
 
 /// The rows of a database, in a table in memory.
-fn loaded(alloc: Global, conn: &mut Connection<MemStore>) -> Result<PlainRows, LoadFault> {
+fn load_rows(alloc: Global, conn: &mut Connection<MemStore>) -> Result<PlainRows, LoadFault> {
     let mut rows = PlainRows::new(alloc);
     if tables_of(conn) != Found::Tables || !conn.is_autocommit() {
         return Err(LoadFault::Store);
@@ -97,7 +97,7 @@ fn with_sound_rows(alloc: Global) -> Result<Connection<MemStore>, Fail> {
 fn sound_rows_are_loaded(rt: HostRuntime) -> Result<(), Fail> {
     let alloc = rt.alloc();
     let mut conn = with_sound_rows(alloc)?;
-    let mut rows = loaded(alloc, &mut conn)?;
+    let mut rows = load_rows(alloc, &mut conn)?;
     let x = Name::read(alloc, b"10.abc/x")?;
     assert!(&rt; are(&rows.values(&x)?, &[(2, b"two"), (7, b"seven")]));
     let names = rows.names(b"10.abc")?;
@@ -115,7 +115,7 @@ fn is_refused(
 ) -> Result<(), Fail> {
     let mut conn = with_sound_rows(alloc)?;
     conn.execute_batch(statement)?;
-    same(rt, what, loaded(alloc, &mut conn).err(), Some(fault));
+    same(rt, what, load_rows(alloc, &mut conn).err(), Some(fault));
     Ok(())
 }
 

@@ -125,7 +125,7 @@ fn each_call_behind_a_fuse(rt: HostRuntime) -> Result<(), Fail> {
 }
 
 /// The handles of an authority, with a space behind each.
-fn listed<R: Rows>(alloc: Global, rows: &mut R, authority: &[u8]) -> Result<Vec<u8>, Fail> {
+fn list_handles<R: Rows>(alloc: Global, rows: &mut R, authority: &[u8]) -> Result<Vec<u8>, Fail> {
     let mut all = vec![in alloc]?;
     for name in &rows.names(authority)? {
         all.extend_from_slice(name.as_slice())?;
@@ -146,7 +146,7 @@ pub(crate) fn lists<R: Rows>(rt: &impl Abort, alloc: Global, rows: &mut R) -> Re
     for text in texts {
         create(rt, rows, &Name::read(alloc, text)?, &[])?;
     }
-    let all = listed(alloc, rows, b"10.abc")?;
+    let all = list_handles(alloc, rows, b"10.abc")?;
     same(
         rt,
         "all",

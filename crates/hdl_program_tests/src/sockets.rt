@@ -80,8 +80,8 @@ fn exchange(rt: &HostRuntime, alloc: Global, frame: &[u8]) -> io::Result<Vec<u8>
 /// How many whole answers came over TCP, connection after connection, and how many of them were another than the reply. It ends
 /// with the first answer that is cut short, or a call that fails.
 fn ask_streams(rt: &HostRuntime, alloc: Global, told: &AtomicBool) -> io::Result<(u64, u64)> {
-    let frame = decoded(alloc, FRAME)?;
-    let reply = decoded(alloc, REPLY)?;
+    let frame = decode(alloc, FRAME)?;
+    let reply = decode(alloc, REPLY)?;
     let mut whole = 0u64;
     let mut others = 0u64;
     for _ in 0..60_000 {
@@ -102,7 +102,7 @@ fn ask_streams(rt: &HostRuntime, alloc: Global, told: &AtomicBool) -> io::Result
     Ok((whole, others))
 }
 
-fn decoded(alloc: Global, digits: &str) -> io::Result<Vec<u8>> {
+fn decode(alloc: Global, digits: &str) -> io::Result<Vec<u8>> {
     match hex::decode(alloc, digits) {
         Ok(octets) => Ok(octets),
         Err(_) => Err(io::Error::from(io::ErrorKind::InvalidData)),
@@ -111,7 +111,7 @@ fn decoded(alloc: Global, digits: &str) -> io::Result<Vec<u8>> {
 
 /// The resolution of the long handle.
 fn long_message(alloc: Global) -> io::Result<Vec<u8>> {
-    let mut message = decoded(
+    let mut message = decode(
         alloc,
         "0000000100000000000000000000000000000000000003bd000003b1",
     )?;
@@ -128,7 +128,7 @@ fn pieces(alloc: Global) -> io::Result<Vec<Vec<u8>>> {
     let message = long_message(alloc)?;
     let mut pieces = Vec::new(alloc);
     for (number, payload) in (0u32..).zip(message.chunks(492)) {
-        let mut piece = decoded(alloc, PIECE)?;
+        let mut piece = decode(alloc, PIECE)?;
         piece.extend_from_slice(&number.to_be_bytes())?;
         piece.extend_from_slice(&LONG_MESSAGE.to_be_bytes())?;
         piece.extend_from_slice(payload)?;
@@ -153,7 +153,7 @@ fn first_datagram(alloc: Global, socket: &UdpSocket) -> io::Result<Vec<u8>> {
 
 /// The frame with RequestId 2.
 fn second_frame(alloc: Global) -> io::Result<Vec<u8>> {
-    let mut frame = decoded(alloc, FRAME)?;
+    let mut frame = decode(alloc, FRAME)?;
     if let Some(last) = frame.get_mut(11) {
         *last = 2;
     }

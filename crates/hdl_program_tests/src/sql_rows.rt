@@ -199,7 +199,7 @@ fn holds_long<R: Rows>(rt: &impl Abort, alloc: Global, rows: &mut R) -> Result<(
 const AUTHORITIES: [&[u8]; 5] = [b"10.a", b"10.a%", b"10.a_", b"10.ab", b"10.ab\0"];
 
 /// A name of the authority.
-fn named(alloc: Global, authority: &[u8]) -> Result<Vec<u8>, AllocError> {
+fn name_of(alloc: Global, authority: &[u8]) -> Result<Vec<u8>, AllocError> {
     let mut text = Vec::from_slice(alloc, authority)?;
     text.extend_from_slice(b"/x")?;
     Ok(text)
@@ -207,11 +207,11 @@ fn named(alloc: Global, authority: &[u8]) -> Result<Vec<u8>, AllocError> {
 
 fn parts_authorities<R: Rows>(rt: &impl Abort, alloc: Global, rows: &mut R) -> Result<(), Fail> {
     for &authority in &AUTHORITIES {
-        let text = named(alloc, authority)?;
+        let text = name_of(alloc, authority)?;
         create(rt, rows, &Name::read(alloc, &text)?, &[])?;
     }
     for &authority in &AUTHORITIES {
-        let text = named(alloc, authority)?;
+        let text = name_of(alloc, authority)?;
         assert!(rt; lists_just(rows, authority, &[&text])?);
     }
     Ok(())

@@ -108,7 +108,7 @@ impl<R: std::rt::Clock> Clock for Sleeping<R> {
         }
     }
 
-    fn worked(&mut self) {}
+    fn note_work(&mut self) {}
 }
 
 /// A door at which two peers ask, one after the other.
@@ -188,8 +188,8 @@ fn start_both<R: Threads + std::rt::Clock + Copy + Send + Drop + 'static>(
     Ok(workers)
 }
 
-/// The service of the tenants text, over an empty table.
-fn opened(alloc: Global) -> Result<Service<PlainRows>, Fail> {
+/// Opens the service of the tenants text, over an empty table.
+fn open(alloc: Global) -> Result<Service<PlainRows>, Fail> {
     let Ok(tenants) = Tenants::read(alloc, TENANTS) else {
         return Err(Fail::from(AllocError));
     };
@@ -209,7 +209,7 @@ fn serve_both<R: std::rt::Clock + Copy + Drop>(
         rt: *rt,
         left: Arc::try_clone(left)?,
     };
-    drop(serve(alloc, opened(alloc)?, lanes, &mut clock, &mut AtOnce, TURNS));
+    drop(serve(alloc, open(alloc)?, lanes, &mut clock, &mut AtOnce, TURNS));
     Ok(())
 }
 

@@ -6,7 +6,7 @@ use Rattle.hdl_value.specs.declared.value.Value.{Value}
 use Rattle.hdl_proxy.specs.Answer.{LeadsTo, Tells, IsLocated, IsWayAt, IsWayBy, IsWayFrom, IsWayOf, IsWayOfValue, IsWayToMeant, Goes, ShowsValues, ShowsFound}
 use Rattle.hdl_proxy.specs.Link.{IsLink, address_of, path_to}
 use Rattle.hdl_proxy.specs.Status.{status_of_code}
-use Rattle.hdl_proxy.specs.Url.{IsGraphic, extended}
+use Rattle.hdl_proxy.specs.Url.{IsGraphic, extend}
 use Rattle.hdl_proxy.specs.declared.answer.Answer.{Answer}
 use Rattle.hdl_proxy.specs.declared.answer.Media.{Media}
 use Rattle.hdl_proxy.specs.declared.answer.Status.{Status}
@@ -69,14 +69,14 @@ meant_graphic (Some url) to w = subst (All IsGraphic) (sym w.1) (address_graphic
 
 way_graphic : (append to : List ℕ) (first : Option Value) → IsWayOfValue first append (Some to) → All IsGraphic to
 way_graphic append to None w = absurd cc
-way_graphic append to (Some v) w = meant_graphic (extended v.bytes append) to w
+way_graphic append to (Some v) w = meant_graphic (extend v.bytes append) to w
 
 url_graphic : (values : List Value) (append to : List ℕ) → IsWayOf values append (Some to) → All IsGraphic to
 url_graphic values append to w = way_graphic append to w.0 w.1.1
 
 at_graphic : (chosen : Option (Bor Location)) (values : List Value) (append to : List ℕ) (wrong : Note) → IsWayAt chosen values append (Some to) wrong → All IsGraphic to
 at_graphic None values append to wrong w = url_graphic values append to w.0
-at_graphic (Some chosen) values append to wrong w = meant_graphic (extended chosen.now.href.items append) to w.0
+at_graphic (Some chosen) values append to wrong w = meant_graphic (extend chosen.now.href.items append) to w.0
 
 place_graphic : (values : List Value) (append locatt to : List ℕ) (place : Value) (wrong : Note) → IsWayBy (Some place) values append locatt (Some to) wrong → All IsGraphic to
 place_graphic values append locatt to place wrong (inl w) = absurd cc

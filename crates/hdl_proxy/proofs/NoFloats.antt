@@ -17,7 +17,7 @@ use Rattle.hdl_value.specs.Refs.{admin_read, list_read}
 use Rattle.hdl_proxy.specs.declared.words.KeptFor.{KeptFor}
 use Rattle.hdl_proxy.specs.declared.words.KeptFor.TheVariants.{Seconds, Until}
 use Rattle.hdl_proxy.specs.Words.{text_of, permission_digits, value_digits, usual_permissions}
-use Rattle.hdl_proxy.specs.Json.{put_text, formatted, reference_members, reference_json, admin_json, list_json, is_text, base64_json, text_json, octets_json, data_json, kept_json, put_written, written_json, put_permissions, value_json, answer_json, refusal_json, IsValueJson}
+use Rattle.hdl_proxy.specs.Json.{put_text, with_format, reference_members, reference_json, admin_json, list_json, is_text, base64_json, text_json, octets_json, data_json, kept_json, put_written, written_json, put_permissions, value_json, answer_json, refusal_json, IsValueJson}
 
 by_ordering : (o : Ordering) (a b c : Members) → members_have_float a ≡ false → members_have_float b ≡ false → members_have_float c ≡ false → members_have_float (match_ordering o a b c) ≡ false
 by_ordering Less a b c ha hb hc = ha
@@ -33,8 +33,8 @@ put_none k d (member l e ms) hd hms =
     (or_from (has_float d) _ hd parts.1)
     (or_from (has_float e) _ parts.0 (put_none k d ms hd parts.1))
 
-formatted_none : (format : List ℕ) (d : Data) → has_float d ≡ false → has_float (formatted format d) ≡ false
-unfolding formatted
+formatted_none : (format : List ℕ) (d : Data) → has_float d ≡ false → has_float (with_format format d) ≡ false
+unfolding with_format
 formatted_none format d h =
     put_none (codes "value") d (put (codes "format") (string format) no_members) h
     (put_none (codes "format") (string format) no_members refl refl)
@@ -65,7 +65,7 @@ base64_none octets = formatted_none (codes "base64") (string (encode_of standard
 text_none : (octets : List ℕ) → has_float (text_json octets) ≡ false
 unfolding text_json
 text_none octets =
-    cond_both (is_utf8 octets) (formatted (codes "string") (string octets)) (base64_json octets) (λ d. has_float d ≡ false)
+    cond_both (is_utf8 octets) (with_format (codes "string") (string octets)) (base64_json octets) (λ d. has_float d ≡ false)
     (λ _. formatted_none (codes "string") (string octets) refl) (λ _. base64_none octets)
 
 octets_none : (kind octets : List ℕ) → has_float (octets_json kind octets) ≡ false

@@ -11,7 +11,7 @@ use Rattle.hdl_proxy.specs.Link.{IsWayTo}
 use Rattle.hdl_proxy.specs.Locations.{IsChosenOf, SaysLocations}
 use Rattle.hdl_proxy.specs.Pages.{refusal_page, redirect_page, IsPageOf}
 use Rattle.hdl_proxy.specs.Status.{status_of_code, refused_words}
-use Rattle.hdl_proxy.specs.Url.{IsGraphic, extended}
+use Rattle.hdl_proxy.specs.Url.{IsGraphic, extend}
 use Rattle.hdl_proxy.specs.declared.answer.Answer.{Answer}
 use Rattle.hdl_proxy.specs.declared.answer.Keeping.TheVariants.{Never}
 use Rattle.hdl_proxy.specs.declared.answer.Media.{Media}
@@ -57,7 +57,7 @@ IsWayToMeant (Some url) way = IsWayTo url way
 -- the way to the URL of this value with this behind it, where there is one
 abbrev pub IsWayOfValue : Option Value → List ℕ → Option (List ℕ) → Type 0
 IsWayOfValue None append way = way ≡ None
-IsWayOfValue (Some value) append way = IsWayToMeant (extended value.bytes append) way
+IsWayOfValue (Some value) append way = IsWayToMeant (extend value.bytes append) way
 
 -- the way to the first URL of these values with this behind it: its address where it is one to be followed, and none otherwise
 abbrev pub IsWayOf : List Value → List ℕ → Option (List ℕ) → Type 0
@@ -71,7 +71,7 @@ note_of (Some to) = note.Nothing
 -- the way to the location that was chosen with this behind it, and where none was to the first URL; and what is wrong
 abbrev pub IsWayAt : Option (Bor Location) → List Value → List ℕ → Option (List ℕ) → Note → Type 0
 IsWayAt None values append way wrong = IsWayOf values append way × (wrong ≡ note.Nothing)
-IsWayAt (Some chosen) values append way wrong = IsWayToMeant (extended chosen.now.href.items append) way × (wrong ≡ note_of way)
+IsWayAt (Some chosen) values append way wrong = IsWayToMeant (extend chosen.now.href.items append) way × (wrong ≡ note_of way)
 
 abbrev pub IsWayAmong : List Location → List Value → List ℕ → Option (List ℕ) → Note → Type 0
 IsWayAmong locations values append way wrong =

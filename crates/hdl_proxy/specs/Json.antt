@@ -22,8 +22,8 @@ put_text key octets members = put key (string (text_of octets)) members
 -- ---- the data of a value
 
 -- data, and how it is told
-unfoldable pub formatted : List ℕ → Data → Data
-formatted format data' = object (put (codes "value") data' (put (codes "format") (string format) no_members))
+unfoldable pub with_format : List ℕ → Data → Data
+with_format format data' = object (put (codes "value") data' (put (codes "format") (string format) no_members))
 
 unfoldable pub reference_members : RawRef → Members
 reference_members r = put (codes "index") (number (unsigned r.index)) (put_text (codes "handle") r.handle no_members)
@@ -33,11 +33,11 @@ reference_json r = object (reference_members r)
 
 -- an administrator: its key and its permissions
 abbrev pub admin_json : ℕ × RawRef → Data
-admin_json x = formatted (codes "admin") (object (put (codes "permissions") (string (permission_digits x.0)) (reference_members x.1)))
+admin_json x = with_format (codes "admin") (object (put (codes "permissions") (string (permission_digits x.0)) (reference_members x.1)))
 
 -- a list of references
 abbrev pub list_json : List RawRef → Data
-list_json rs = formatted (codes "vlist") (array (items_of (map reference_json rs)))
+list_json rs = with_format (codes "vlist") (array (items_of (map reference_json rs)))
 
 -- data of a type is text, unless the type's octets have a layout (RFC 3651, section 3.2)
 abbrev pub is_text : List ℕ → Bool
@@ -45,11 +45,11 @@ is_text kind =
     not (bytes_eq kind admin_kind) && (not (bytes_eq kind list_kind) && (not (bytes_eq kind (codes "HS_SITE")) && not (bytes_eq kind (codes "HS_PUBKEY"))))
 
 abbrev pub base64_json : List ℕ → Data
-base64_json octets = formatted (codes "base64") (string (encode_of standard octets))
+base64_json octets = with_format (codes "base64") (string (encode_of standard octets))
 
 -- octets that may be text: as they are where they are
 unfoldable pub text_json : List ℕ → Data
-text_json octets = if is_utf8 octets then formatted (codes "string") (string octets) else base64_json octets
+text_json octets = if is_utf8 octets then with_format (codes "string") (string octets) else base64_json octets
 
 -- octets of this type
 abbrev pub octets_json : List ℕ → List ℕ → Data

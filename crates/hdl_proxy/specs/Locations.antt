@@ -4,7 +4,7 @@ use Rattle.std.specs.List.{AllPass, AllZip, concat, list_any}
 use Rattle.std.specs.Borrow.{Bor}
 use Rattle.std.specs.Str.{bytes_eq}
 use Rattle.std.specs.Str.Parse.{IsNumeral, digits_value}
-use Rattle.hdl_proxy.specs.Xml.{IsBetween, IsTag, is_blank, said}
+use Rattle.hdl_proxy.specs.Xml.{IsBetween, IsTag, is_blank, attribute_value}
 use Rattle.hdl_proxy.specs.declared.locations.Location.{Location}
 use Rattle.hdl_proxy.specs.declared.xml.Attribute.{Attribute}
 
@@ -24,8 +24,8 @@ is_wanted locatt attributes = list_any (λ one. bytes_eq (wanted_text one) locat
 
 -- the location of these attributes: where it leads, how much it weighs, and whether it has the attribute that is asked for
 pub record IsLocationOf (locatt : List ℕ) (attributes : List Attribute) (location : Location) : Type 0 where
-  pub href : said (codes "href") attributes ≡ Some location.href.items
-  pub weight : IsWeight (said (codes "weight") attributes) location.weight
+  pub href : attribute_value (codes "href") attributes ≡ Some location.href.items
+  pub weight : IsWeight (attribute_value (codes "weight") attributes) location.weight
   pub wanted : location.is_wanted ≡ is_wanted locatt attributes
 
 -- a tag ends at once, or another one ends what it began, in which nothing stands

@@ -29,8 +29,8 @@ abbrev pub has_path : List ℕ → Bool
 has_path url = list_any (λ octet. octet == 47) (drop 8 url)
 
 -- the URL with this behind it, unless that could change its host
-abbrev pub extended : List ℕ → List ℕ → Option (List ℕ)
-extended url append = if not (bytes_eq append []) && not (has_path url) then None else Some (url ++ append)
+abbrev pub extend : List ℕ → List ℕ → Option (List ℕ)
+extend url append = if not (bytes_eq append []) && not (has_path url) then None else Some (url ++ append)
 
 -- graphic ASCII: no control octet, no space, no line end
 abbrev pub IsGraphic : ℕ → Type 0

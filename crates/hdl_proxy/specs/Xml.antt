@@ -48,9 +48,9 @@ IsAttribute written attribute =
     (named quoted : List ℕ) × (IsNamed named attribute.name.items × IsQuoted quoted attribute.text.items × (written ≡ named ++ quoted))
 
 -- what the attribute of this name says, the first one where there are several, if there is one
-abbrev pub said : List ℕ → List Attribute → Option (List ℕ)
-said name [] = None
-said name (first ∷ attributes) = if bytes_eq first.name.items name then Some first.text.items else said name attributes
+abbrev pub attribute_value : List ℕ → List Attribute → Option (List ℕ)
+attribute_value name [] = None
+attribute_value name (first ∷ attributes) = if bytes_eq first.name.items name then Some first.text.items else attribute_value name attributes
 
 -- a tag up to its end: its front, attributes, and blanks
 abbrev pub IsTag : List ℕ → List ℕ → List Attribute → Type 0

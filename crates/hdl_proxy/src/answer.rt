@@ -80,11 +80,11 @@ pub struct Answer {
     pub location: Option<String>,
     pub media: Media,
     pub keeping: Keeping,
-    /// Its entity tag, which [`tagged`](crate::tagged) gives it.
+    /// Its entity tag, which [`with_tag`](crate::with_tag) gives it.
     pub tag: Option<String>,
     /// What a page is called. Nothing else has a title.
     pub title: Vec<u8>,
-    /// Of a page its main part, which [`Site::dressed`](crate::Site::dressed) puts between head and foot.
+    /// Of a page its main part, which [`Site::dress`](crate::Site::dress) puts between head and foot.
     pub body: Vec<u8>,
 }
 

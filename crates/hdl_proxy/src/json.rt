@@ -6,7 +6,7 @@ ghost use Rattle.serde_json.specs.Data.{Data, array, object, no_members};
 ghost use Rattle.serde_json.specs.View.{view, items_of, members_view};
 ghost use Rattle.serde_json.specs.Written.{IsInOrder, compact_text, has_float};
 ghost use Rattle.hdl_value.specs.Refs.{raw, raws};
-ghost use Rattle.hdl_proxy.specs.Json.{put_text as with_text, formatted, reference_members, reference_json, admin_json, list_json, base64_json, text_json, octets_json, data_json, is_text, kept_json, put_written, written_json, put_permissions, value_json, answer_json, refusal_json, IsValueJson, IsJsonOf, IsPrettyOf};
+ghost use Rattle.hdl_proxy.specs.Json.{put_text as with_text, with_format, reference_members, reference_json, admin_json, list_json, base64_json, text_json, octets_json, data_json, is_text, kept_json, put_written, written_json, put_permissions, value_json, answer_json, refusal_json, IsValueJson, IsJsonOf, IsPrettyOf};
 ghost use Rattle.hdl_proxy.specs.Answer.{Tells};
 
 use crate::answer::{Answer, Keeping, Media, Status};
@@ -110,9 +110,9 @@ fn reference_json(alloc: Global, reference: &Reference) -> Result<Json, AllocErr
 }
 
 /// Data, and how it is told.
-#[tactic(auto, unfolding(crate::specs::Json::formatted))]
-fn formatted(alloc: Global, format: &str, told: Json) -> Result<Json, AllocError>
-    ensures { IfOk result (λ json. view json ≡ formatted format.now (view told)) }
+#[tactic(auto, unfolding(crate::specs::Json::with_format))]
+fn with_format(alloc: Global, format: &str, told: Json) -> Result<Json, AllocError>
+    ensures { IfOk result (λ json. view json ≡ with_format format.now (view told)) }
 {
     let mut object = Map::new(alloc);
     let format = String::from_str(alloc, format)?;
@@ -128,7 +128,7 @@ fn admin_json(alloc: Global, mask: AdminMask, key: &Reference) -> Result<Json, A
     put_reference(alloc, &mut object, key)?;
     let permissions = permission_digits(alloc, mask)?;
     put(&mut object, alloc, "permissions", Json::from(permissions))?;
-    formatted(alloc, "admin", Json::from(object))
+    with_format(alloc, "admin", Json::from(object))
 }
 
 fn list_json(alloc: Global, references: &[Reference]) -> Result<Json, AllocError>
@@ -138,7 +138,7 @@ fn list_json(alloc: Global, references: &[Reference]) -> Result<Json, AllocError
     for reference in references {
         list.push(reference_json(alloc, reference)?)?;
     }
-    formatted(alloc, "vlist", Json::from(list))
+    with_format(alloc, "vlist", Json::from(list))
 }
 
 /// Whether data of this type is text: all but those whose octets have a layout (RFC 3651, section 3.2).
@@ -151,7 +151,7 @@ fn is_text(kind: &[u8]) -> bool
 fn base64_json(alloc: Global, octets: &[u8]) -> Result<Json, AllocError>
     ensures { IfOk result (λ json. view json ≡ base64_json octets.now) }
 {
-    formatted(alloc, "base64", Json::from(STANDARD.encode(alloc, octets)?))
+    with_format(alloc, "base64", Json::from(STANDARD.encode(alloc, octets)?))
 }
 
 /// Octets that may be text.
@@ -160,7 +160,7 @@ fn text_json(alloc: Global, octets: &[u8]) -> Result<Json, AllocError>
     ensures { IfOk result (λ json. view json ≡ text_json octets.now) }
 {
     match str::from_utf8(octets) {
-        Ok(text) => formatted(alloc, "string", Json::from(String::from_str(alloc, text)?)),
+        Ok(text) => with_format(alloc, "string", Json::from(String::from_str(alloc, text)?)),
         Err(_) => base64_json(alloc, octets),
     }
 }

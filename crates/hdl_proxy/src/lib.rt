@@ -61,6 +61,6 @@ pub use question::{Form, Question};
 pub use resolver::NoAnswer;
 pub use site::Site;
 pub use step::{HOPS_MOST, next_step};
-pub use tag::tagged;
+pub use tag::with_tag;
 pub use url::is_followed;
 pub use words::{KeptFor, usual_permissions};

@@ -31,7 +31,7 @@ impl Model for Link {
 
 impl Link {
     /// The way to a URL. None just where that isn't followed.
-    pub(crate) fn followed(alloc: Global, url: &[u8]) -> Result<Option<Link>, AllocError>
+    pub(crate) fn of_url(alloc: Global, url: &[u8]) -> Result<Option<Link>, AllocError>
         ensures { IfOk result (IsWayTo url.now) }
     {
         if !is_followed(url) {

@@ -5,7 +5,7 @@ ghost use Rattle.std.specs.Str.{bytes_eq};
 ghost use Rattle.std.specs.Str.Parse.{IsNumeral, digits_value};
 ghost use Rattle.hdl_proxy.specs.Locations.{AreLocations, IsChosen, IsChosenOf, IsEnd, IsInside, IsLocation, IsLocationOf, IsWeight, SaysLocations, is_wanted, weight_for, wanted_text};
 
-use crate::xml::{Attribute, after, cut_between, cut_blank, read_tag, said};
+use crate::xml::{Attribute, after, attribute_value, cut_between, cut_blank, read_tag};
 use std::alloc::{AllocError, Global};
 
 /// The most locations of a value, and one more.
@@ -75,10 +75,10 @@ fn location_of(
 ) -> Result<Option<Location>, AllocError>
     ensures { IfOk result (λ read. IfSome read (IsLocationOf locatt.now attributes.now)) }
 {
-    let Some(href) = said(attributes, b"href") else {
+    let Some(href) = attribute_value(attributes, b"href") else {
         return Ok(None);
     };
-    let Some(weight) = weight_of(said(attributes, b"weight")) else {
+    let Some(weight) = weight_of(attribute_value(attributes, b"weight")) else {
         return Ok(None);
     };
     Ok(Some(Location {

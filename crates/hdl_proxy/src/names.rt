@@ -21,7 +21,7 @@ pub fn read_name(alloc: Global, octets: &[u8]) -> Result<Result<Name, NameFault>
 }
 
 /// The octets that these stand for: their escapes are read once.
-pub(crate) fn decoded(alloc: Global, text: &[u8]) -> Result<Vec<u8>, AllocError>
+pub(crate) fn decode(alloc: Global, text: &[u8]) -> Result<Vec<u8>, AllocError>
     ensures { IfOk result (λ octets. octets.items ≡ percent_decode text.now) }
 {
     let mut octets = Vec::new(alloc);
@@ -30,10 +30,10 @@ pub(crate) fn decoded(alloc: Global, text: &[u8]) -> Result<Vec<u8>, AllocError>
 }
 
 /// The octets that a part of a path stands for: its escapes are read once.
-pub fn unescaped(alloc: Global, text: &str) -> Result<Vec<u8>, AllocError>
+pub fn unescape(alloc: Global, text: &str) -> Result<Vec<u8>, AllocError>
     ensures { IfOk result (λ octets. octets.items ≡ percent_decode text.now) }
 {
-    decoded(alloc, text.as_bytes())
+    decode(alloc, text.as_bytes())
 }
 
 /// Octets as text: as they are where they are text, and else their hexadecimal digits.

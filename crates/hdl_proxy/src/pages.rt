@@ -364,7 +364,7 @@ fn put_octets(page: &mut Page, octets: &[u8]) -> Result<(), AllocError>
     if !is_plain(octets) {
         return put_digits(page, octets);
     }
-    match Link::followed(page.alloc, octets)? {
+    match Link::of_url(page.alloc, octets)? {
         Some(link) => put_link(page, &link, octets),
         None => page.element("<p class=\"data\">", octets, "</p>\n"),
     }

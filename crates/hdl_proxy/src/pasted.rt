@@ -3,7 +3,7 @@
 ghost use Rattle.std.specs.Prelude.{IfOk, MatchOption};
 ghost use Rattle.hdl_proxy.specs.Pasted.{IsBehind, IsBehindAddress, IsBehindDoi, IsBehindEither, IsBehindScheme, IsPasted, IsWritten, Lacks};
 
-use crate::names::decoded;
+use crate::names::decode;
 use std::alloc::{AllocError, Global};
 
 /// What stands behind this front, in any case of letters.
@@ -56,7 +56,7 @@ fn behind_address(text: &[u8]) -> Option<&[u8]>
 
 /// The name in a part of a path, with its escapes: what stands behind a scheme or a proxy's address, or where it has none all of it. A name
 /// that itself begins so has its colon escaped, as every path that this crate writes has.
-pub(crate) fn written(text: &[u8]) -> &[u8]
+pub(crate) fn name_within(text: &[u8]) -> &[u8]
     ensures { IsWritten text.now result.now }
 {
     if let Some(rest) = behind_scheme(text) {
@@ -70,14 +70,14 @@ pub(crate) fn written(text: &[u8]) -> &[u8]
 
 /// The name in a text that was pasted: what stands behind a scheme; of a proxy's address the rest, its escapes read once; or where it has
 /// neither all of it.
-pub(crate) fn pasted(alloc: Global, text: &[u8]) -> Result<Vec<u8>, AllocError>
+pub(crate) fn pasted_name(alloc: Global, text: &[u8]) -> Result<Vec<u8>, AllocError>
     ensures { IfOk result (λ name. IsPasted text.now name.items) }
 {
     if let Some(rest) = behind_scheme(text) {
         return Vec::from_slice(alloc, rest);
     }
     match behind_address(text) {
-        Some(rest) => decoded(alloc, rest),
+        Some(rest) => decode(alloc, rest),
         None => Vec::from_slice(alloc, text),
     }
 }

@@ -11,11 +11,11 @@ use crate::answer::{Answer, Keeping, Media, Status};
 use crate::found::{Found, read_answer};
 use crate::keeping::{DAY, keeping_of};
 use crate::link::Link;
-use crate::names::{decoded, read_name};
+use crate::names::{decode, read_name};
 use crate::note::Note;
-use crate::pasted::{pasted, written};
+use crate::pasted::{name_within, pasted_name};
 use crate::query::{
-    Pair, appended, has_pair, indexes_of, last_named, location_asked, read_pairs, types_of,
+    Pair, has_pair, indexes_of, last_named, location_asked, read_pairs, text_to_append, types_of,
 };
 use crate::question::{Form, Question};
 use crate::resolver::NoAnswer;
@@ -60,7 +60,7 @@ fn lead_from(alloc: Global, sent: &str) -> Result<Answer, AllocError>
     ensures leads { IfOk result (LeadsFromPasted sent.now) }
     ensures located { IfOk result IsLocated }
 {
-    let name = pasted(alloc, sent.trim().as_bytes())?;
+    let name = pasted_name(alloc, sent.trim().as_bytes())?;
     lead(alloc, &name)
 }
 
@@ -135,7 +135,7 @@ fn begin_handle(
     ensures asks { IfOk result (AsksFor (percent_decode text.now) form (texts_of pairs.now)) }
     ensures located { IfOk result IsLocatedIfAnswered }
 {
-    let octets = decoded(alloc, text)?;
+    let octets = decode(alloc, text)?;
     if is_called_back(form, pairs) {
         let why = "The word callback isn't taken: pages of any site may read this JSON.";
         let asked = asked_text(&octets, sent);
@@ -147,7 +147,7 @@ fn begin_handle(
         return Ok(Next::Answer(bad_request(alloc, asked, form, why)?));
     };
     let types = types_of(alloc, pairs)?;
-    let append = appended(alloc, pairs)?;
+    let append = text_to_append(alloc, pairs)?;
     let locatt = location_asked(alloc, pairs)?;
     match read_name(alloc, &octets)? {
         Ok(name) => Ok(Next::Ask(Question {
@@ -235,7 +235,7 @@ fn begin_address(alloc: Global, path: &str, query: &str) -> Result<Next, AllocEr
     begin_handle(
         alloc,
         sent,
-        written(sent.as_bytes()),
+        name_within(sent.as_bytes()),
         page_form(&pairs),
         &pairs,
     )
@@ -339,7 +339,7 @@ fn answer_values(
 }
 
 /// That there are no values of this handle, by code and reason.
-pub(crate) fn refused(
+pub(crate) fn refusal_of(
     alloc: Global,
     form: Form,
     handle: &[u8],
@@ -377,12 +377,12 @@ pub(crate) fn answer_found(
         }
         Found::Refused(code) => {
             let status = Status::of_code(*code);
-            refused(alloc, form, handle, status, *code, refused_words(*code))
+            refusal_of(alloc, form, handle, status, *code, refused_words(*code))
         }
         Found::Nothing => {
             let why = "No server answered.";
             let code = ResponseCode::Error.number();
-            refused(alloc, form, handle, Status::BadGateway, code, why)
+            refusal_of(alloc, form, handle, Status::BadGateway, code, why)
         }
     }
 }

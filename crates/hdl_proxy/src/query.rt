@@ -62,7 +62,7 @@ pub fn last_named<'a>(
 }
 
 /// What is to be put behind the URL that is followed: nothing where the query doesn't say.
-pub(crate) fn appended(alloc: Global, pairs: &[Pair]) -> Result<Vec<u8>, AllocError>
+pub(crate) fn text_to_append(alloc: Global, pairs: &[Pair]) -> Result<Vec<u8>, AllocError>
     ensures { IfOk result (λ append. IsAppended (texts_of pairs.now) append.items) }
 {
     match last_named(alloc, pairs, "urlappend")? {

@@ -80,11 +80,11 @@ pub struct Site {
 
 /// The way to a contact: to a URL that is followed, and else by mail. None where it has a control octet.
 fn way_to(alloc: Global, contact: &str) -> Result<Option<Link>, AllocError> {
-    if let Some(link) = Link::followed(alloc, contact.as_bytes())? {
+    if let Some(link) = Link::of_url(alloc, contact.as_bytes())? {
         return Ok(Some(link));
     }
     let mail = format!(in alloc; "mailto:{contact}")?;
-    Link::followed(alloc, mail.as_bytes())
+    Link::of_url(alloc, mail.as_bytes())
 }
 
 fn contact_of(alloc: Global, contact: &str) -> Result<Option<Contact>, AllocError> {
@@ -154,7 +154,7 @@ impl Site {
     }
 
     /// The answer as this site gives it: a page between the head and the foot of the site, and all else as it is.
-    pub fn dressed(&self, alloc: Global, answer: Answer) -> Result<Answer, AllocError>
+    pub fn dress(&self, alloc: Global, answer: Answer) -> Result<Answer, AllocError>
         ensures { IfOk result (IsDressed self.now answer) }
     {
         if answer.media != Media::Page {

@@ -10,7 +10,7 @@ use crate::answer::{Answer, Keeping, Media, Status};
 use crate::found::{Found, read_answer};
 use crate::keeping::sooner;
 use crate::page::Page;
-use crate::proxy::{Next, answer_found, refused};
+use crate::proxy::{Next, answer_found, refusal_of};
 use crate::question::{Form, Question};
 use crate::resolver::NoAnswer;
 use hdl_name::Name;
@@ -55,7 +55,11 @@ fn of_alias(alloc: Global, asked: &Name, answer: Answer) -> Result<Answer, Alloc
 }
 
 /// The same answer: a page says which handle was asked for, where aliases led on from one.
-fn named(alloc: Global, asked: Option<&Name>, answer: Answer) -> Result<Answer, AllocError>
+fn with_asked_name(
+    alloc: Global,
+    asked: Option<&Name>,
+    answer: Answer,
+) -> Result<Answer, AllocError>
     ensures { IfOk result (IsNamed (option_copied asked.entry) answer) }
 {
     match asked {
@@ -71,7 +75,7 @@ fn end(alloc: Global, question: &Question, found: &Found, chance: u64) -> Result
 {
     let answer = answer_found(alloc, question, found, chance)?;
     let kept = within(question.keeping, answer);
-    named(alloc, question.passed.first(), kept)
+    with_asked_name(alloc, question.passed.first(), kept)
 }
 
 /// The first of these handles.
@@ -96,7 +100,7 @@ fn nowhere(
 {
     let why = way_words(alloc, front, asked, target)?;
     let handle = first_of(asked);
-    refused(alloc, form, handle, Status::NotFound, TOO_FAR, why.as_str())
+    refusal_of(alloc, form, handle, Status::NotFound, TOO_FAR, why.as_str())
 }
 
 /// What is next where this alias is followed.

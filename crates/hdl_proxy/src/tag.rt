@@ -44,7 +44,7 @@ fn is_named_by(known: Option<&str>, tag: &str) -> bool
 }
 
 /// That a client has it already.
-fn unchanged(alloc: Global, answer: Answer, tag: String) -> Answer
+fn not_modified(alloc: Global, answer: Answer, tag: String) -> Answer
     ensures { IsUnchanged answer (string_bytes tag) result }
 {
     Answer {
@@ -74,7 +74,7 @@ fn carrying(answer: Answer, tag: String) -> Answer
 
 /// The answer with its tag, where others may keep it. Where the field `If-None-Match` of the request names this tag, just that it is
 /// unchanged.
-pub fn tagged(alloc: Global, answer: Answer, known: Option<&str>) -> Result<Answer, AllocError>
+pub fn with_tag(alloc: Global, answer: Answer, known: Option<&str>) -> Result<Answer, AllocError>
     ensures { IfOk result (IsTagged answer known.entry) }
 {
     if !is_taggable(&answer) {
@@ -82,7 +82,7 @@ pub fn tagged(alloc: Global, answer: Answer, known: Option<&str>) -> Result<Answ
     }
     let tag = tag_of(alloc, &answer.body)?;
     if is_named_by(known, tag.as_str()) {
-        return Ok(unchanged(alloc, answer, tag));
+        return Ok(not_modified(alloc, answer, tag));
     }
     Ok(carrying(answer, tag))
 }

@@ -3,7 +3,7 @@
 ghost use Rattle.std.specs.Prelude.{◌≡◌, ◌↔◌, ◌∷◌, IsTrue, IfOk, All, option_map};
 ghost use Rattle.std.specs.String.{string_bytes};
 ghost use Rattle.percent_encoding.specs.Percent.{percent_encode};
-ghost use Rattle.hdl_proxy.specs.Url.{Begins, HasFollowedScheme, IsFollowed, IsGraphic, extended, has_path};
+ghost use Rattle.hdl_proxy.specs.Url.{Begins, HasFollowedScheme, IsFollowed, IsGraphic, extend, has_path};
 
 use percent_encoding::{AsciiSet, CONTROLS, NON_ALPHANUMERIC, ascii_set, percent_encode};
 use std::alloc::{AllocError, Global};
@@ -72,12 +72,12 @@ fn has_path(url: &[u8]) -> bool
 }
 
 /// The URL with this behind it. None where that could change its host.
-pub(crate) fn extended(
+pub(crate) fn extend(
     alloc: Global,
     url: &[u8],
     append: &[u8],
 ) -> Result<Option<Vec<u8>>, AllocError>
-    ensures { IfOk result (λ o. option_map (λ v. v.items) o ≡ extended url.now append.now) }
+    ensures { IfOk result (λ o. option_map (λ v. v.items) o ≡ extend url.now append.now) }
 {
     if !append.is_empty() && !has_path(url) {
         return Ok(None);

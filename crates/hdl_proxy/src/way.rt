@@ -2,22 +2,22 @@
 
 ghost use Rattle.std.specs.Prelude.{◌≡◌, IfOk, Some};
 ghost use Rattle.hdl_proxy.specs.Answer.{IsWayAmong, IsWayBy, IsWayFrom, IsWayOf, IsWayToMeant, note_of};
-ghost use Rattle.hdl_proxy.specs.Url.{extended};
+ghost use Rattle.hdl_proxy.specs.Url.{extend};
 
 use crate::choice::{first_place, first_url};
 use crate::link::Link;
 use crate::locations::{Location, choose, read_locations};
 use crate::note::Note;
-use crate::url::extended;
+use crate::url::extend;
 use hdl_value::Value;
 use std::alloc::{AllocError, Global};
 
 /// The way to a URL with this behind it.
 fn way_beyond(alloc: Global, url: &[u8], append: &[u8]) -> Result<Option<Link>, AllocError>
-    ensures { IfOk result (IsWayToMeant (extended url.now append.now)) }
+    ensures { IfOk result (IsWayToMeant (extend url.now append.now)) }
 {
-    match extended(alloc, url, append)? {
-        Some(whole) => Link::followed(alloc, &whole),
+    match extend(alloc, url, append)? {
+        Some(whole) => Link::of_url(alloc, &whole),
         None => Ok(None),
     }
 }
@@ -49,7 +49,7 @@ pub(crate) struct Way {
 
 /// The way to a location with this behind it.
 fn way_to(alloc: Global, location: &Location, append: &[u8]) -> Result<Way, AllocError>
-    ensures { IfOk result (λ way. IsWayToMeant (extended location.now.href.items append.now) way.to × (way.wrong ≡ note_of way.to)) }
+    ensures { IfOk result (λ way. IsWayToMeant (extend location.now.href.items append.now) way.to × (way.wrong ≡ note_of way.to)) }
 {
     match way_beyond(alloc, &location.href, append)? {
         Some(link) => Ok(Way {

@@ -2,7 +2,7 @@
 
 ghost use Rattle.std.specs.Prelude.{◌≡◌, ◌≢◌, ◌<◌, ◌≤◌, take, ℕ, List, [], ◌∷◌, ◌++◌, length, All, IfOk, IfNone, IfSome, option_copied};
 ghost use Rattle.std.specs.List.{AllPass, AllZip, concat};
-ghost use Rattle.hdl_proxy.specs.Xml.{is_blank, is_in_name, StandsFor, Says, IsQuoted, IsNamed, IsAttribute, IsTag, IsInComment, IsComment, IsBetween, said};
+ghost use Rattle.hdl_proxy.specs.Xml.{is_blank, is_in_name, StandsFor, Says, IsQuoted, IsNamed, IsAttribute, IsTag, IsInComment, IsComment, IsBetween, attribute_value};
 
 use std::alloc::{AllocError, Global};
 
@@ -225,8 +225,8 @@ fn read_attributes(alloc: Global, text: &[u8]) -> Result<(Vec<Attribute>, &[u8])
 }
 
 /// What an attribute of this name says, the first one where there are several, if there is one.
-pub(crate) fn said<'a>(attributes: &'a [Attribute], name: &[u8]) -> Option<&'a [u8]>
-    ensures { option_copied result ≡ said name.now attributes.now }
+pub(crate) fn attribute_value<'a>(attributes: &'a [Attribute], name: &[u8]) -> Option<&'a [u8]>
+    ensures { option_copied result ≡ attribute_value name.now attributes.now }
 {
     for one in attributes {
         if one.name.as_slice() == name {

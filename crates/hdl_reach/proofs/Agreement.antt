@@ -8,7 +8,7 @@ use Rattle.hdl_value.specs.declared.references.RawRef.{RawRef}
 use Rattle.hdl_value.specs.declared.value.Value.{Value}
 use Rattle.hdl_value.proofs.Places.{places_equal}
 use Rattle.hdl_rows.specs.Table.{Table, at, values_of}
-use Rattle.hdl_reach.specs.Reach.{is_among, listed_in, lists, IsPath, grants, joined, IsUnion, IsMask}
+use Rattle.hdl_reach.specs.Reach.{is_among, listed_in, lists, IsPath, grants, join_masks, IsUnion, IsMask}
 use Rattle.hdl_reach.specs.Laws.{IsOnward, AgreeAt, GrantsAmong}
 use Rattle.hdl_reach.proofs.Members.{same_laws, all_append}
 
@@ -16,7 +16,7 @@ use Rattle.hdl_reach.proofs.Members.{same_laws, all_append}
 
 pub one_union : (t : Table) (k : Place) (so_far : Option ℕ) (gs : List (ℕ × Place)) (m n : Option ℕ) → IsUnion t k so_far gs m → IsUnion t k so_far gs n → m ≡ n
 one_union t k so_far [] m n a b = a ∙ sym b
-one_union t k so_far (g ∷ gs) m n (inl a) (inl b) = one_union t k (Some (joined so_far g.0)) gs m n a.1 b.1
+one_union t k so_far (g ∷ gs) m n (inl a) (inl b) = one_union t k (Some (join_masks so_far g.0)) gs m n a.1 b.1
 one_union t k so_far (g ∷ gs) m n (inl a) (inr b) = absurd (b.0 a.0)
 one_union t k so_far (g ∷ gs) m n (inr a) (inl b) = absurd (a.0 b.0)
 one_union t k so_far (g ∷ gs) m n (inr a) (inr b) = one_union t k so_far gs m n a.1 b.1
@@ -96,13 +96,13 @@ module _ (t u : Table) (ps : List Place) (onward : IsOnward t ps) where
     pub union_agrees : (k : Place) (so_far : Option ℕ) (gs : List (ℕ × Place)) (m : Option ℕ) → GrantsAmong ps gs → IsUnion t k so_far gs m → IsUnion u k so_far gs m
     union_agrees k so_far [] m all is = is
     union_agrees k so_far (g ∷ gs) m all (inl is) =
-        inl ((is.0.0, path_agrees g.1 is.0.0 k all.0 is.0.1), union_agrees k (Some (joined so_far g.0)) gs m all.1 is.1)
+        inl ((is.0.0, path_agrees g.1 is.0.0 k all.0 is.0.1), union_agrees k (Some (join_masks so_far g.0)) gs m all.1 is.1)
     union_agrees k so_far (g ∷ gs) m all (inr is) =
         inr ((λ chain. is.0 (chain.0, path_agreed g.1 chain.0 k all.0 chain.1)), union_agrees k so_far gs m all.1 is.1)
 
     pub union_agreed : (k : Place) (so_far : Option ℕ) (gs : List (ℕ × Place)) (m : Option ℕ) → GrantsAmong ps gs → IsUnion u k so_far gs m → IsUnion t k so_far gs m
     union_agreed k so_far [] m all is = is
     union_agreed k so_far (g ∷ gs) m all (inl is) =
-        inl ((is.0.0, path_agreed g.1 is.0.0 k all.0 is.0.1), union_agreed k (Some (joined so_far g.0)) gs m all.1 is.1)
+        inl ((is.0.0, path_agreed g.1 is.0.0 k all.0 is.0.1), union_agreed k (Some (join_masks so_far g.0)) gs m all.1 is.1)
     union_agreed k so_far (g ∷ gs) m all (inr is) =
         inr ((λ chain. is.0 (chain.0, path_agrees g.1 chain.0 k all.0 chain.1)), union_agreed k so_far gs m all.1 is.1)

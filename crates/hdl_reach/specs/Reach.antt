@@ -32,15 +32,15 @@ IsChain t r k = (ps : List Place) × IsPath t r ps k
 abbrev pub grants : List Value → List (ℕ × Place)
 grants vs = flat_map granted vs
 
-abbrev pub joined : Option ℕ → ℕ → ℕ
-joined None m = m
-joined (Some n) m = bit_or n m
+abbrev pub join_masks : Option ℕ → ℕ → ℕ
+join_masks None m = m
+join_masks (Some n) m = bit_or n m
 
 -- the union so far, and the masks of those grants whose place leads to k
 abbrev pub IsUnion : Table → Place → Option ℕ → List (ℕ × Place) → Option ℕ → Type 0
 IsUnion t k so_far [] m = m ≡ so_far
 IsUnion t k so_far (g ∷ gs) m =
-    (IsChain t g.1 k × IsUnion t k (Some (joined so_far g.0)) gs m) ⊎ ((IsChain t g.1 k → ⊥) × IsUnion t k so_far gs m)
+    (IsChain t g.1 k × IsUnion t k (Some (join_masks so_far g.0)) gs m) ⊎ ((IsChain t g.1 k → ⊥) × IsUnion t k so_far gs m)
 
 -- the mask of k for the handle: the union of all that lead to k, and none where there is none
 abbrev pub IsMask : Table → List ℕ → Place → Option ℕ → Type 0

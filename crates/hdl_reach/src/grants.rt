@@ -44,8 +44,8 @@ pub(crate) fn grants_of(alloc: Global, values: &[Value]) -> Result<Vec<Grant>, A
     Ok(all)
 }
 
-fn joined(so_far: Option<AdminMask>, mask: AdminMask) -> AdminMask
-    ensures { result.0 ≡ union.joined (mask_of so_far) mask.0 }
+fn join_masks(so_far: Option<AdminMask>, mask: AdminMask) -> AdminMask
+    ensures { result.0 ≡ union.join_masks (mask_of so_far) mask.0 }
 {
     match so_far {
         Some(others) => others.union(mask),
@@ -65,7 +65,7 @@ pub(crate) fn union_of(
     let mut mask = None;
     for grant in grants {
         if leading.has(alloc, &grant.reference)? {
-            mask = Some(joined(mask, grant.mask));
+            mask = Some(join_masks(mask, grant.mask));
         }
     }
     Ok(mask)

@@ -36,7 +36,7 @@ pub struct Search {
 }
 
 /// Where a search starts.
-fn started(alloc: Global, grants: &[Grant]) -> Result<Seen, AllocError>
+fn start_of(alloc: Global, grants: &[Grant]) -> Result<Seen, AllocError>
     ensures seen { IfOk result (λ seen. Extends [] (starts grants.now) (places seen.references.items)) }
     ensures kept { IfOk result AreKept }
 {
@@ -53,7 +53,7 @@ fn search_from(alloc: Global, name: &Name, values: &[Value]) -> Result<Search, A
     ensures handle { IfOk result (λ search. handle_of search ≡ canonical name.now) }
 {
     let grants = grants_of(alloc, values)?;
-    let seen = started(alloc, &grants)?;
+    let seen = start_of(alloc, &grants)?;
     Ok(Search {
         handle: Vec::from_slice(alloc, name.canon())?,
         grants,

@@ -44,14 +44,14 @@ impl Standing {
     }
 
     /// It answered.
-    pub fn answered(&mut self)
+    pub fn note_answer(&mut self)
         ensures { self.new ≡ Standing.Fit }
     {
         *self = Standing::Fit;
     }
 
     /// It failed at this moment.
-    pub fn failed(&mut self, now: u64)
+    pub fn note_failure(&mut self, now: u64)
         ensures { self.new ≡ Standing.Out (later now LEFT_OUT) }
     {
         *self = Standing::Out(now.saturating_add(LEFT_OUT));

@@ -58,7 +58,7 @@ fn tally<T>(refusals: &mut u64, outcome: Result<T, AllocError>) -> Result<T, Ref
 }
 
 /// A copy of what was found.
-fn copied(alloc: Global, value: Option<&Value>) -> Result<Option<Value>, AllocError>
+fn copy_of(alloc: Global, value: Option<&Value>) -> Result<Option<Value>, AllocError>
     ensures { IfOk result (λ copy. copy ≡ option_copied value.entry) }
 {
     match value {
@@ -78,7 +78,7 @@ impl Rows for PlainRows {
 
     fn at(&mut self, reference: &Reference) -> Result<Option<Value>, Refused> {
         let value = self.shelf.value(reference.name.canon(), reference.index);
-        let found = copied(self.alloc, value);
+        let found = copy_of(self.alloc, value);
         tally(&mut self.refusals, found)
     }
 

@@ -72,7 +72,7 @@ fn is_of(handle: &[u8], prefix: &[u8]) -> bool
 }
 
 /// Copies of values by rising index; of two with one index the later one.
-fn shelved(alloc: Global, values: &[Value]) -> Result<Vec<Value>, AllocError>
+fn shelf_of(alloc: Global, values: &[Value]) -> Result<Vec<Value>, AllocError>
     ensures { IfOk result (λ all. by_index all.items ≡ put_all [] values.now) }
 {
     let mut all = Vec::new(alloc);
@@ -152,7 +152,7 @@ impl Shelf {
         ensures done { OnOk result (self.new ≡ created self.old name.now values.now) }
         ensures undone { OnErr result (self.new ≡ self.old) }
     {
-        let all = shelved(alloc, values)?;
+        let all = shelf_of(alloc, values)?;
         let key = Vec::from_slice(alloc, name)?;
         self.rows.insert(key, all)?;
         Ok(())

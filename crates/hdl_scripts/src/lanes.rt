@@ -23,7 +23,7 @@ use std::fs;
 use std::io::{self, Write};
 
 /// A service that isn't opened yet.
-fn unopened(alloc: Global) -> Held {
+fn without_service(alloc: Global) -> Held {
     Held {
         alloc,
         service: None,
@@ -33,7 +33,13 @@ fn unopened(alloc: Global) -> Held {
 /// Tells what a script tells.
 fn tell_script(rt: &HostRuntime, stem: &str, text: &str, told: &mut Vec<u8>) -> io::Result<()> {
     let expected = fs::read(rt, format!(in rt.alloc(); "{stem}.expected")?)?;
-    hand::compare(rt.alloc(), &mut unopened(rt.alloc()), text, &expected, told)
+    hand::compare(
+        rt.alloc(),
+        &mut without_service(rt.alloc()),
+        text,
+        &expected,
+        told,
+    )
 }
 
 /// Tells what a text tells.
@@ -43,9 +49,9 @@ fn tell(rt: &HostRuntime, name: &str, told: &mut Vec<u8>) -> io::Result<()> {
     if let Some(stem) = name.strip_suffix(".script") {
         tell_script(rt, stem, text.as_str(), told)
     } else if name.ends_with(".lanes") {
-        hand::run(alloc, &mut unopened(alloc), text.as_str(), told)
+        hand::run(alloc, &mut without_service(alloc), text.as_str(), told)
     } else {
-        doors::run(alloc, unopened(alloc), text.as_str(), told)
+        doors::run(alloc, without_service(alloc), text.as_str(), told)
     }
 }
 

@@ -54,7 +54,7 @@ fn files(rt: &HostRuntime, endings: &[&str]) -> io::Result<Vec<String>> {
 }
 
 /// What a script tells over an empty table.
-fn told<R: Rows + Drop>(alloc: Global, rows: R, script: &[u8]) -> io::Result<Vec<u8>>
+fn tell_over<R: Rows + Drop>(alloc: Global, rows: R, script: &[u8]) -> io::Result<Vec<u8>>
     requires empty { R.content rows ≡ no_rows }
 {
     let mut input = script;
@@ -92,13 +92,13 @@ fn difference_over(
     expected: &[u8],
 ) -> io::Result<Option<usize>> {
     match empty_rows(rt.alloc(), table, 0) {
-        Some(rows) => Ok(first_difference(&told(rt.alloc(), rows, script)?, expected)),
+        Some(rows) => Ok(first_difference(&tell_over(rt.alloc(), rows, script)?, expected)),
         None => Err(io::Error::from(io::ErrorKind::OutOfMemory)),
     }
 }
 
 /// Runs one script over a table in memory and over one in SQL, and prints whether both told what was expected.
-fn compared(rt: &HostRuntime, name: &str) -> io::Result<bool> {
+fn compare_tables(rt: &HostRuntime, name: &str) -> io::Result<bool> {
     let script = fs::read(rt, format!(in rt.alloc(); "{name}.script")?)?;
     let expected = fs::read(rt, format!(in rt.alloc(); "{name}.expected")?)?;
     let in_sql = difference_over(rt, Table::Sql, &script, &expected)?;
@@ -126,7 +126,7 @@ fn played_as(rt: &HostRuntime, way: &str, name: &str) -> Option<Ending> {
 }
 
 /// Plays what the line names, and prints whether each event came to its outcome.
-fn printed(rt: &HostRuntime, line: &str) -> io::Result<bool> {
+fn print_play(rt: &HostRuntime, line: &str) -> io::Result<bool> {
     let played = match line.split_once(' ') {
         Some((way, name)) => played_as(rt, way, name),
         None => None,
@@ -166,7 +166,7 @@ fn all_compared(rt: &HostRuntime) -> io::Result<bool> {
     let mut all = true;
     for file in &files(rt, &[".script"])? {
         if let Some(name) = file.strip_suffix(".script") {
-            all &= compared(rt, name)?;
+            all &= compare_tables(rt, name)?;
         }
     }
     Ok(all)
@@ -193,7 +193,7 @@ fn run_line(rt: &HostRuntime, line: &str) -> io::Result<bool> {
             print_text(rt, name)?;
             Ok(true)
         }
-        _ => printed(rt, line),
+        _ => print_play(rt, line),
     }
 }
 

@@ -24,7 +24,7 @@ pub(crate) enum Ending {
 }
 
 /// The outcome of one event that wasn't answered Busy.
-fn settled(mut outcomes: Vec<Outcome>) -> Option<Outcome>
+fn only_outcome(mut outcomes: Vec<Outcome>) -> Option<Outcome>
     ensures never_busy { IfSome result (λ outcome. is_busy outcome ≡ false) }
 {
     match outcomes.pop() {
@@ -65,7 +65,7 @@ fn is_answered<R: Rows + Drop>(
             return false;
         };
         let refusal = match service.run(events) {
-            Ok(outcomes) => match settled(outcomes) {
+            Ok(outcomes) => match only_outcome(outcomes) {
                 Some(outcome) => return is_line(rt, lane, &outcome, wanted),
                 None => "busy",
             },
@@ -81,7 +81,7 @@ fn is_answered<R: Rows + Drop>(
 }
 
 /// Opens a service of a tenants text over an empty table.
-fn opened<R: Rows + Drop>(rt: &HostRuntime, tenants: &str, rows: R) -> Option<Service<R>>
+fn open_service<R: Rows + Drop>(rt: &HostRuntime, tenants: &str, rows: R) -> Option<Service<R>>
     requires empty { R.content rows ≡ no_rows }
 {
     let Ok(tenants) = Tenants::read(rt.alloc(), tenants) else {
@@ -124,7 +124,7 @@ fn play_over<R: Rows + Drop>(rt: &HostRuntime, row: &Row, rows: R) -> Ending
     requires empty { R.content rows ≡ no_rows }
 {
     let parts = parts_of(&row.script);
-    match opened(rt, parts.tenants, rows) {
+    match open_service(rt, parts.tenants, rows) {
         Some(mut service) => play_events(rt, &mut service, parts.script, &row.expected),
         None => Ending::Unopened,
     }

@@ -18,7 +18,7 @@
 //!
 //! ```rust
 //! // crates/hdl_program_tests/src/two_workers.rt
-//! drop(serve(alloc, opened(alloc)?, lanes, &mut clock, &mut AtOnce, TURNS));
+//! drop(serve(alloc, open(alloc)?, lanes, &mut clock, &mut AtOnce, TURNS));
 //! ```
 //!
 //! # Decisions

@@ -54,7 +54,7 @@ fn round<R: Rows + Drop, W: Writing>(
 /// each lane whose inlet for outcomes has room, and of none that gave End. A round is up to 16 turns, lane by lane: it serves a
 /// lane's events one after another, and puts each outcome before the next event is taken, so nothing that was taken is without
 /// an outcome. Where a write may be under way, an event whose step was answered busy can stay in its lane, and so does one of which no copy can be had (`writing`).
-/// Where the memory for a round is refused nothing is taken. After a round that served nothing it calls `pause`, after any other `worked`.
+/// Where the memory for a round is refused nothing is taken. After a round that served nothing it calls `pause`, after any other `note_work`.
 ///
 /// There are one list of events and one list of their outcomes that are a run from the service handed in to the one given back;
 /// each publisher is isolated in it, and no reply tells of a value that may not be read. The lanes' ends come back in their
@@ -96,7 +96,7 @@ pub fn serve<R: Rows + Drop, C: Clock, W: Writing>(
         );
         has_served = served > 0;
         if has_served {
-            clock.worked();
+            clock.note_work();
             turns -= served;
         } else {
             clock.pause();

@@ -8,7 +8,7 @@ use Rattle.slab.proofs.SlabLemmas.{Updates-with_value}
 use Rattle.hdl_slots.specs.declared.cells.Cell.{Cell}
 use Rattle.hdl_slots.specs.declared.pending.Challenge.{Challenge}
 use Rattle.hdl_slots.specs.Places.{places_of}
-use Rattle.hdl_slots.specs.Cells.{held, lanes_held, key_at, owner, empty_cell, IsTable}
+use Rattle.hdl_slots.specs.Cells.{challenge_in, lanes_held, key_at, owner, empty_cell, IsTable}
 
 module _ {X Y : Type 0} where
   same_map : (f g : X → Y) (xs : List X) (d : X) → ((k : ℕ) → k < length xs → g (get_or xs k d) ≡ f (get_or xs k d)) → map g xs ≡ map f xs
@@ -44,24 +44,24 @@ module _ (slab : Slab Cell) (keys : List (List ℕ)) (lane place key : ℕ) (was
   updates : Updates slab (rewritten slab key was challenge) key (Some record { lane = was.lane; place = was.place; challenge = challenge })
   updates = Updates-with_value slab key _ (ap is_some was_there)
 
-  held_other : (l p : ℕ) → l < 64 → p < 8 → ((l ≡ lane) × (p ≡ place) → ⊥) → held (rewritten slab key was challenge) (key_at keys l p) ≡ held slab (key_at keys l p)
+  held_other : (l p : ℕ) → l < 64 → p < 8 → ((l ≡ lane) × (p ≡ place) → ⊥) → challenge_in (rewritten slab key was challenge) (key_at keys l p) ≡ challenge_in slab (key_at keys l p)
   held_other l p hl hp other =
       rw (updates.others (key_at keys l p) (λ same. other (one_place slab keys table l p lane place hl hp hlane hplace (same ∙ key_is)))) refl
 
-  held_here : held (rewritten slab key was challenge) (key_at keys lane place) ≡ challenge
+  held_here : challenge_in (rewritten slab key was challenge) (key_at keys lane place) ≡ challenge
   held_here = rw (← key_is, updates.changed) refl
 
   pub lanes_written : lanes_held (rewritten slab key was challenge) keys ≡ set (lanes_held slab keys) lane (set (places_of (lanes_held slab keys) lane) place challenge)
   lanes_written =
       let inside : lane < length keys = omega (arith, table.lanes) in
-      let read : places_of (lanes_held slab keys) lane ≡ map (held slab) (get_or keys lane []) = get_or-map (map (held slab)) keys lane [] [] inside in
-      let here : map (held (rewritten slab key was challenge)) (get_or keys lane []) ≡ set (map (held slab) (get_or keys lane [])) place challenge =
-      written_map (held slab) (held (rewritten slab key was challenge)) (get_or keys lane []) place 0 challenge (omega (arith, table.places lane hlane)) held_here
+      let read : places_of (lanes_held slab keys) lane ≡ map (challenge_in slab) (get_or keys lane []) = get_or-map (map (challenge_in slab)) keys lane [] [] inside in
+      let here : map (challenge_in (rewritten slab key was challenge)) (get_or keys lane []) ≡ set (map (challenge_in slab) (get_or keys lane [])) place challenge =
+      written_map (challenge_in slab) (challenge_in (rewritten slab key was challenge)) (get_or keys lane []) place 0 challenge (omega (arith, table.places lane hlane)) held_here
       (λ p h n. held_other lane p hlane (omega (arith, table.places lane hlane)) (λ both. n both.1)) in
       rw read
-      (written_map (map (held slab)) (map (held (rewritten slab key was challenge))) keys lane [] _ inside here
+      (written_map (map (challenge_in slab)) (map (challenge_in (rewritten slab key was challenge))) keys lane [] _ inside here
       (λ l h n. let hl : l < 64 = omega (arith, table.lanes) in
-      same_map (held slab) (held (rewritten slab key was challenge)) (get_or keys l []) 0 (λ p k. held_other l p hl (omega (arith, table.places l hl)) (λ both. n both.0))))
+      same_map (challenge_in slab) (challenge_in (rewritten slab key was challenge)) (get_or keys l []) 0 (λ p k. held_other l p hl (omega (arith, table.places l hl)) (λ both. n both.0))))
 
   owner_kept : (k : ℕ) → owner (rewritten slab key was challenge) k ≡ owner slab k
   owner_kept k = elim (cases_eq k key) [
@@ -106,5 +106,5 @@ new_is_table slab keys table = record {
 
 pub new_is_empty : (slab : Slab Cell) (keys : List (List ℕ)) → IsNewTable slab keys 64 → lanes_held slab keys ≡ replicate 64 (replicate 8 None)
 new_is_empty slab keys table =
-    all_same (map (held slab)) keys 64 [] (replicate 8 None) table.lanes
-    (λ l h. all_same (held slab) (get_or keys l []) 8 0 None (table.places l h) (λ p k. rw (table.empty l p h k) refl))
+    all_same (map (challenge_in slab)) keys 64 [] (replicate 8 None) table.lanes
+    (λ l h. all_same (challenge_in slab) (get_or keys l []) 8 0 None (table.places l h) (λ p k. rw (table.empty l p h k) refl))

@@ -7,12 +7,12 @@ use Rattle.hdl_slots.specs.declared.cells.Cell.{Cell}
 use Rattle.hdl_slots.specs.declared.pending.Challenge.{Challenge}
 
 -- the challenge that stands in the cell of this key
-abbrev pub held : Slab Cell → ℕ → Option Challenge
-held slab key = option_and_then (λ c. c.challenge) (get slab key)
+abbrev pub challenge_in : Slab Cell → ℕ → Option Challenge
+challenge_in slab key = option_and_then (λ c. c.challenge) (get slab key)
 
 -- what stands in the cells of these keys
 abbrev pub lanes_held : Slab Cell → List (List ℕ) → List (List (Option Challenge))
-lanes_held slab = map (map (held slab))
+lanes_held slab = map (map (challenge_in slab))
 
 -- the key of this place of this lane
 abbrev pub key_at : List (List ℕ) → ℕ → ℕ → ℕ

@@ -35,8 +35,8 @@ abbrev pub has_number : ℕ → Challenge → Bool
 has_number number c = nat_eq c.number number
 
 -- a challenge is put under the lane's next number: one that has this number already is dropped first, and then a ninth displaces the oldest
-abbrev pub challenged : LaneState → Pending → LaneState
-challenged lane p = record { next = next_after lane.next; challenges = last_eight (without lane.next lane.challenges ++ (record { number = lane.next; pending = p } ∷ [])) }
+abbrev pub add_challenge : LaneState → Pending → LaneState
+add_challenge lane p = record { next = next_after lane.next; challenges = last_eight (without lane.next lane.challenges ++ (record { number = lane.next; pending = p } ∷ [])) }
 
 -- a challenge of this peer under this number
 abbrev pub is_of : ℕ → ℕ → Challenge → Bool
@@ -47,8 +47,8 @@ abbrev pub challenge_of : List Challenge → ℕ → ℕ → Option Pending
 challenge_of cs peer number = option_map (λ c. c.pending) (find (is_of peer number) cs)
 
 -- the lane without what was sent to this peer under this number
-abbrev pub spent : LaneState → ℕ → ℕ → LaneState
-spent lane peer number = record { next = lane.next; challenges = filter (λ c. not (is_of peer number c)) lane.challenges }
+abbrev pub spend_challenge : LaneState → ℕ → ℕ → LaneState
+spend_challenge lane peer number = record { next = lane.next; challenges = filter (λ c. not (is_of peer number c)) lane.challenges }
 
 -- no two challenges have the same number
 abbrev pub NumbersDiffer : List Challenge → Type 0

@@ -2,16 +2,16 @@
 use Rattle.std.specs.Prelude.{◌≡◌, ℕ, ◌≤◌, length, Some, None}
 use Rattle.hdl_limits.specs.declared.TheConstants.{CHALLENGES_MAX}
 use Rattle.hdl_slots.specs.declared.pending.Pending.{Pending}
-use Rattle.hdl_slots.specs.Lanes.{LaneState, challenged, challenge_of, spent}
+use Rattle.hdl_slots.specs.Lanes.{LaneState, add_challenge, challenge_of, spend_challenge}
 
 -- what was put is found by its peer under the number that it got
 abbrev pub PutIsFound : Type 0
-PutIsFound = (lane : LaneState) (p : Pending) → challenge_of (challenged lane p).challenges p.peer lane.next ≡ Some p
+PutIsFound = (lane : LaneState) (p : Pending) → challenge_of (add_challenge lane p).challenges p.peer lane.next ≡ Some p
 
 -- what was taken is not found again
 abbrev pub TakenIsGone : Type 0
-TakenIsGone = (lane : LaneState) (peer number : ℕ) → challenge_of (spent lane peer number).challenges peer number ≡ None
+TakenIsGone = (lane : LaneState) (peer number : ℕ) → challenge_of (spend_challenge lane peer number).challenges peer number ≡ None
 
 -- a lane that got a challenge has at most eight
 abbrev pub AtMostEight : Type 0
-AtMostEight = (lane : LaneState) (p : Pending) → length (challenged lane p).challenges ≤ CHALLENGES_MAX
+AtMostEight = (lane : LaneState) (p : Pending) → length (add_challenge lane p).challenges ≤ CHALLENGES_MAX

@@ -1,7 +1,7 @@
 //! The pending challenges of all lanes.
 
 ghost use Rattle.std.specs.Prelude.{◌≡◌, ◌<◌, option_copied, replicate, slice_set, IfOk};
-ghost use Rattle.hdl_slots.specs.Lanes.{fresh, lane_at, challenged, challenge_of, spent};
+ghost use Rattle.hdl_slots.specs.Lanes.{fresh, lane_at, add_challenge, challenge_of, spend_challenge};
 
 use crate::cells::Cells;
 use crate::lane;
@@ -54,7 +54,7 @@ impl Slots {
     pub fn put(&mut self, lane: u16, pending: Pending) -> u32
         requires { lane < LANES }
         ensures number { result ≡ (lane_at self.old lane).next }
-        ensures slots { self.new ≡ slice_set self.old lane (challenged (lane_at self.old lane) pending) }
+        ensures slots { self.new ≡ slice_set self.old lane (add_challenge (lane_at self.old lane) pending) }
     {
         let lane = lane as usize;
         let number = self.numbers[lane];
@@ -76,7 +76,7 @@ impl Slots {
     pub fn take(&mut self, lane: u16, peer: u16, number: u32) -> Option<Pending>
         requires { lane < LANES }
         ensures found { result ≡ challenge_of (lane_at self.old lane).challenges peer number }
-        ensures slots { self.new ≡ slice_set self.old lane (spent (lane_at self.old lane) peer number) }
+        ensures slots { self.new ≡ slice_set self.old lane (spend_challenge (lane_at self.old lane) peer number) }
     {
         lane::take(&mut self.cells, lane as usize, peer, number)
     }

@@ -32,7 +32,7 @@ use Rattle.hdl_value.proofs.Places.{handle_total, handle_antisymmetric, place_to
 use Rattle.hdl_rows.specs.Table.{has, at, without_handle}
 use Rattle.hdl_sqlrows.specs.Layout.{layout, handles}
 use Rattle.hdl_sqlrows.specs.Kept.{IsWhole, IsInside, AreKept, IsHandleRow, IsEntryRow, place_in, entry_in, value_in, handle_in, table_in, has_place, has_handle}
-use Rattle.hdl_sqlrows.specs.Filed.{IsDraft, drafted}
+use Rattle.hdl_sqlrows.specs.Filed.{IsDraft, draft_table}
 use Rattle.hdl_sqlrows.proofs.Texts.{delete_handle, delete_handle_is, plain, is_param, rows_where}
 use Rattle.hdl_sqlrows.proofs.Found.{times-filter, short_permutation, found_kept}
 use Rattle.hdl_sqlrows.proofs.Listed.{keeps, listed, tests_name, swapped, same_blob}
@@ -225,12 +225,12 @@ without_rows db next h kept first last =
       (λ i. record { handles = (ap (λ rows. set.from_list (map handle_in rows)) first ∙ handles) i; values = (ap (λ rows. map.from_entries (map entry_in rows)) last ∙ values) i }),
     )
 
-pub drops_handle : (old new : State) (h : List ℕ) (count : ℕ) → IsInside old → has (drafted old) h ≡ true → ExecutesInside 0 delete_handle (Blob h ∷ []) old new (Ok count)
-    → IsDraft new (without_handle (drafted old) h)
+pub drops_handle : (old new : State) (h : List ℕ) (count : ℕ) → IsInside old → has (draft_table old) h ≡ true → ExecutesInside 0 delete_handle (Blob h ∷ []) old new (Ok count)
+    → IsDraft new (without_handle (draft_table old) h)
 drops_handle old new h count inside there ran =
     let did = deletes_handle old new h count inside.whole there ran.0 in
     let made = without_rows old.now.trees new.now.trees h inside.whole.kept did.1 did.2 in
     (ran.1.is_open, record { whole = record { layout = did.0; kept = made.0 }; inside = ran.1.mode }, made.1)
 
-pub cascade_beside : (old new : State) (h : List ℕ) (count : ℕ) → IsInside old → has (drafted old) h ≡ true → ExecutesInside 0 delete_handle (Blob h ∷ []) old new (Ok count) → new.now.trees 4 ≡ old.now.trees 4
+pub cascade_beside : (old new : State) (h : List ℕ) (count : ℕ) → IsInside old → has (draft_table old) h ≡ true → ExecutesInside 0 delete_handle (Blob h ∷ []) old new (Ok count) → new.now.trees 4 ≡ old.now.trees 4
 cascade_beside old new h count inside there ran = (deletes_handle old new h count inside.whole there ran.0).3

@@ -16,8 +16,8 @@ use Rattle.sqlite.proofs.Callers.{survives_begin}
 use Rattle.hdl_value.specs.Place.{handle_cmp}
 use Rattle.hdl_rows.specs.Table.{Table}
 use Rattle.hdl_sqlrows.specs.Kept.{IsInside, IsSettled, IsWhole, handle_in, table_in}
-use Rattle.hdl_sqlrows.specs.Opening.{base_in, based}
-use Rattle.hdl_sqlrows.specs.Filed.{WhereOpen, KeepsCommitted, IsDraft, IsFiled, drafted, filed}
+use Rattle.hdl_sqlrows.specs.Opening.{base_in, filed_base}
+use Rattle.hdl_sqlrows.specs.Filed.{WhereOpen, KeepsCommitted, IsDraft, IsFiled, draft_table, filed_table}
 use Rattle.hdl_sqlrows.proofs.States.{kept_commit}
 
 -- the handles that are noted in rows of `opened`
@@ -93,17 +93,17 @@ inside_first g old first is settled clean up =
     record { whole = it.0; inside = it.1 }
 
 -- what a table allows as it is filed, it allows as the transaction begins
-pub at_first : {S : Type 0} (g : Ghosts S) (old first : Held S) (P : Table → Type 0) → first ≡ record old { in_transaction = true } → IsEven (state g old) → WhereOpen (state g old) (P (filed (state g old))) → WhereOpen (state g first) (P (drafted (state g first)))
+pub at_first : {S : Type 0} (g : Ghosts S) (old first : Held S) (P : Table → Type 0) → first ≡ record old { in_transaction = true } → IsEven (state g old) → WhereOpen (state g old) (P (filed_table (state g old))) → WhereOpen (state g first) (P (draft_table (state g first)))
 at_first g old first P is same allowed clean up = (of_now g old first (λ (d : Database). P (table_in d.trees)) is (λ c u. subst (λ (d : Database). P (table_in d.trees)) (same c u) (allowed c u)) clean up).0
 
 -- ---- a whole transaction
 
 -- what the statements made of the table, where the store was open, and that it was
 abbrev pub Drafts : {S E : Type 0} → Ghosts S → Held S → Held S → (Table → Table) → Result (Unit {0}) E → Type 0
-Drafts g first mid F w = OnOk w (HasCleanDisk (state g mid) → IsTrue (state g first).is_open → IsDraft (state g mid) (F (drafted (state g first))))
+Drafts g first mid F w = OnOk w (HasCleanDisk (state g mid) → IsTrue (state g first).is_open → IsDraft (state g mid) (F (draft_table (state g first))))
 
 abbrev pub Surely : {S E : Type 0} → Ghosts S → Held S → Held S → (Table → Table) → Result (Unit {0}) E → Type 0
-Surely g first mid F w = OnOk w (HasCleanDisk (state g mid) → IsTrue (state g first).is_open × IsDraft (state g mid) (F (drafted (state g first))))
+Surely g first mid F w = OnOk w (HasCleanDisk (state g mid) → IsTrue (state g first).is_open × IsDraft (state g mid) (F (draft_table (state g first))))
 
 pub surely : {S E : Type 0} (g : Ghosts S) (first mid : Held S) (F : Table → Table) (w : Result (Unit {0}) E) → Surely g first mid F w → Drafts g first mid F w
 surely g first mid F w put = on_ok w _ _ (λ p clean up. (p clean).1) put
@@ -119,11 +119,11 @@ module _ {S E D : Type 0} (g : Ghosts S) (old first mid last : Held S) (F : Tabl
   late : HasCleanDisk (state g last) → HasCleanDisk (state g first)
   late clean = omega (arith, clean, outside.clean, inside.clean)
 
-  began : WhereOpen (state g first) (drafted (state g first) ≡ filed (state g old))
-  began clean up = (of_now g old first (λ (d : Database). table_in d.trees ≡ filed (state g old)) is (λ c u. ap (λ (d : Database). table_in d.trees) (sym (same c u))) clean up).0
+  began : WhereOpen (state g first) (draft_table (state g first) ≡ filed_table (state g old))
+  began clean up = (of_now g old first (λ (d : Database). table_in d.trees ≡ filed_table (state g old)) is (λ c u. ap (λ (d : Database). table_in d.trees) (sym (same c u))) clean up).0
 
   pub done_by : Drafts g first mid F w → OnOk r (IsOk w × (HasCleanDisk (state g last) → IsTrue (state g last).is_open × IsTrue (state g mid).is_open × ((state g last).committed ≡ (state g mid).now)))
-      → OnOk r (HasCleanDisk (state g last) → IsFiled (state g last) (F (filed (state g old))))
+      → OnOk r (HasCleanDisk (state g last) → IsFiled (state g last) (F (filed_table (state g old))))
   done_by put done = on_ok r _ _ (λ d clean.
       let it = d.1 clean in
       let up = (kept (later clean) it.1).0 in
@@ -139,7 +139,7 @@ module _ {S E D : Type 0} (g : Ghosts S) (old first mid last : Held S) (F : Tabl
   pub kept_by : OnErr r (KeepsCommitted (state g mid) (state g last)) → OnErr r (KeepsCommitted (state g old) (state g last))
   kept_by undone = on_err r _ _ back undone
 
-  pub undone_by : OnErr r (KeepsCommitted (state g mid) (state g last)) → OnErr r (WhereOpen (state g last) (filed (state g last) ≡ filed (state g old)))
+  pub undone_by : OnErr r (KeepsCommitted (state g mid) (state g last)) → OnErr r (WhereOpen (state g last) (filed_table (state g last) ≡ filed_table (state g old)))
   undone_by undone = on_err r _ _ (λ u clean up. ap (λ (x : Database). table_in x.trees) (back u clean up).1) undone
 
   from_first : Survives (state g old) (state g mid) (λ _. ⊥)
@@ -169,11 +169,11 @@ module _ {S E D : Type 0} (g : Ghosts S) (old first mid last : Held S) (F : Tabl
   -- statements that leave the noted handles alone, and so the whole transaction, however it ends
   pub beside_by : OnOk w (HasCleanDisk (state g mid) → (state g mid).now.trees 4 ≡ (state g first).now.trees 4)
       → OnOk r (IsOk w × (HasCleanDisk (state g last) → IsTrue (state g last).is_open × IsTrue (state g mid).is_open × ((state g last).committed ≡ (state g mid).now))) → OnErr r (KeepsCommitted (state g mid) (state g last))
-      → WhereOpen (state g last) ((based (state g last)).opened ≡ (based (state g old)).opened)
+      → WhereOpen (state g last) ((filed_base (state g last)).opened ≡ (filed_base (state g old)).opened)
   beside_by rows done undone = by r done undone
     where
       by : (k : Result (Unit {0}) D) → OnOk k (IsOk w × (HasCleanDisk (state g last) → IsTrue (state g last).is_open × IsTrue (state g mid).is_open × ((state g last).committed ≡ (state g mid).now))) → OnErr k (KeepsCommitted (state g mid) (state g last))
-          → WhereOpen (state g last) ((based (state g last)).opened ≡ (based (state g old)).opened)
+          → WhereOpen (state g last) ((filed_base (state g last)).opened ≡ (filed_base (state g old)).opened)
       by (Ok u) d n clean up =
           let it = d.1 clean in
           let was = (kept (later clean) it.1).0 in
@@ -181,20 +181,20 @@ module _ {S E D : Type 0} (g : Ghosts S) (old first mid last : Held S) (F : Tabl
       by (Err e) d n clean up = ap (λ (x : Database). opened_in (x.trees 4)) (back n clean up).1
 
   pub beside_if_open : OnOk w (HasCleanDisk (state g mid) → (state g mid).now.trees 4 ≡ (state g first).now.trees 4)
-      → Survives (state g old) (state g last) (λ db. IsTrue (state g old).is_open → (base_in db).opened ≡ (based (state g old)).opened)
-  beside_if_open rows = leaves_if_open (λ db. (base_in db).opened ≡ (based (state g old)).opened) (on_ok w _ _ (λ stay clean was.
+      → Survives (state g old) (state g last) (λ db. IsTrue (state g old).is_open → (base_in db).opened ≡ (filed_base (state g old)).opened)
+  beside_if_open rows = leaves_if_open (λ db. (base_in db).opened ≡ (filed_base (state g old)).opened) (on_ok w _ _ (λ stay clean was.
       let before : HasCleanDisk (state g first) = omega (arith, clean, inside.clean) in
       ap opened_in (stay clean ∙ began_rows before was)) rows)
 
-  pub crash_if_open : Drafts g first mid F w → Survives (state g old) (state g last) (λ db. IsTrue (state g old).is_open → table_in db ≡ F (filed (state g old)))
-  crash_if_open put = survives_then (state g old) (state g mid) (state g last) (λ _. ⊥) (λ db. IsOk w × (db ≡ (state g mid).now.trees)) (λ db. IsTrue (state g old).is_open → table_in db ≡ F (filed (state g old))) (λ _ db none. absurd none)
+  pub crash_if_open : Drafts g first mid F w → Survives (state g old) (state g last) (λ db. IsTrue (state g old).is_open → table_in db ≡ F (filed_table (state g old)))
+  crash_if_open put = survives_then (state g old) (state g mid) (state g last) (λ _. ⊥) (λ db. IsOk w × (db ≡ (state g mid).now.trees)) (λ db. IsTrue (state g old).is_open → table_in db ≡ F (filed_table (state g old))) (λ _ db none. absurd none)
       (λ clean db made was.
       let up = at_begin old first (λ h. IsTrue (state g h).is_open) is was in
       let p = from_ok w _ made.0 put (later clean) up in
       ap table_in made.1 ∙ p.2 ∙ ap F (began (late clean) up)) from_first outside
 
-  pub crash_surely : Surely g first mid F w → Survives (state g old) (state g last) (λ db. table_in db ≡ F (filed (state g old)))
-  crash_surely put = survives_then (state g old) (state g mid) (state g last) (λ _. ⊥) (λ db. IsOk w × (db ≡ (state g mid).now.trees)) (λ db. table_in db ≡ F (filed (state g old))) (λ _ db none. absurd none)
+  pub crash_surely : Surely g first mid F w → Survives (state g old) (state g last) (λ db. table_in db ≡ F (filed_table (state g old)))
+  crash_surely put = survives_then (state g old) (state g mid) (state g last) (λ _. ⊥) (λ db. IsOk w × (db ≡ (state g mid).now.trees)) (λ db. table_in db ≡ F (filed_table (state g old))) (λ _ db none. absurd none)
       (λ clean db made.
       let p = from_ok w _ made.0 put (later clean) in
       ap table_in made.1 ∙ p.1.2 ∙ ap F (began (late clean) p.0)) from_first outside

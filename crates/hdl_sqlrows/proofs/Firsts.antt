@@ -17,9 +17,9 @@ use Rattle.hdl_value.proofs.Places.{place_total, places_equal}
 use Rattle.hdl_rows.specs.Table.{Table, no_rows, has, at, IsPlaced}
 use Rattle.hdl_rows.proofs.Writes.{some_none}
 use Rattle.hdl_sqlrows.specs.Kept.{handle_in, table_in}
-use Rattle.hdl_sqlrows.specs.Filed.{WhereOpen, IsDraft, drafted}
+use Rattle.hdl_sqlrows.specs.Filed.{WhereOpen, IsDraft, draft_table}
 use Rattle.hdl_sqlrows.proofs.Filed.{IsEven, of_now}
-use Rattle.hdl_sqlrows.specs.Opening.{First, first_at, handle, place_of, with_first, noted_with, opened_with, unopened, absent, Base, base_in, based, AreFree, OnlyLooks}
+use Rattle.hdl_sqlrows.specs.Opening.{First, first_at, handle, place_of, with_first, noted_with, opened_with, left_to_open, absent, Base, base_in, filed_base, AreFree, OnlyLooks}
 
 -- the one at a place, and those behind it
 pub first_of : (firsts : List (Bor First)) (i : ℕ) (r : Bor First) → r ≡ get_or firsts i r → i < length firsts → drop i (map first_at firsts) ≡ first_at r ∷ drop (i + 1) (map first_at firsts)
@@ -100,33 +100,33 @@ pairs_of firsts distinct = λ i j d less within same.
     let len = length-map firsts place_of in
     distinct i j (place_of d) less (omega (arith, within, len)) (get_or-map place_of firsts i d (place_of d) (omega (arith, less, within)) ∙ same ∙ sym (get_or-map place_of firsts j d (place_of d) within))
 
-free_all : (t : Table) (opened : set.FinSet handle_cmp) (firsts : List First) → IsPlaced t → AllPairs (λ (p q : Place). p ≢ q) (map place_of firsts) → AreFree t (absent t (unopened opened firsts))
+free_all : (t : Table) (opened : set.FinSet handle_cmp) (firsts : List First) → IsPlaced t → AllPairs (λ (p q : Place). p ≢ q) (map place_of firsts) → AreFree t (absent t (left_to_open opened firsts))
 free_all t opened firsts placed distinct =
-    all_free t _ (AllPairs-filter Apart _ _ (AllPairs-filter Apart _ firsts (pairs_of firsts distinct))) (absent_free t placed (unopened opened firsts))
+    all_free t _ (AllPairs-filter Apart _ _ (AllPairs-filter Apart _ firsts (pairs_of firsts distinct))) (absent_free t placed (left_to_open opened firsts))
 
 pub nothing_placed : IsPlaced no_rows
 nothing_placed p v is = absurd (some_none v (sym is ∙ map.get-empty place_cmp p))
 
 -- ---- after the looks, and after the writes
 
-module _ (s0 s1 s2 : State) (all new fresh : List First) (one : OnlyLooks s0 s1) (two : OnlyLooks s1 s2) (new_is : new ≡ unopened (base_in s0.now.trees).opened all) (fresh_is : fresh ≡ absent (drafted s1) new) where
-  fresh_first : fresh ≡ absent (drafted s0) (unopened (base_in s0.now.trees).opened all)
+module _ (s0 s1 s2 : State) (all new fresh : List First) (one : OnlyLooks s0 s1) (two : OnlyLooks s1 s2) (new_is : new ≡ left_to_open (base_in s0.now.trees).opened all) (fresh_is : fresh ≡ absent (draft_table s1) new) where
+  fresh_first : fresh ≡ absent (draft_table s0) (left_to_open (base_in s0.now.trees).opened all)
   fresh_first = fresh_is ∙ (λ k. absent (table_in (one.now k).trees) (new_is k))
 
-  drafted_first : drafted s2 ≡ drafted s0
+  drafted_first : draft_table s2 ≡ draft_table s0
   drafted_first = ap (λ (d : Database). table_in d.trees) (two.now ∙ one.now)
 
-  pub free_then : IsPlaced (drafted s0) → AllPairs (λ (p q : Place). p ≢ q) (map place_of all) → AreFree (drafted s2) fresh
+  pub free_then : IsPlaced (draft_table s0) → AllPairs (λ (p q : Place). p ≢ q) (map place_of all) → AreFree (draft_table s2) fresh
   free_then placed distinct =
-      subst (AreFree (drafted s2)) (sym fresh_first) (subst (λ (t : Table). AreFree t (absent (drafted s0) (unopened (base_in s0.now.trees).opened all))) (sym drafted_first) (free_all (drafted s0) (base_in s0.now.trees).opened all placed distinct))
+      subst (AreFree (draft_table s2)) (sym fresh_first) (subst (λ (t : Table). AreFree t (absent (draft_table s0) (left_to_open (base_in s0.now.trees).opened all))) (sym drafted_first) (free_all (draft_table s0) (base_in s0.now.trees).opened all placed distinct))
 
-  pub opened_by : (s3 s4 : State) → IsDraft s3 (fold with_first (drafted s2) fresh) → s3.now.trees 4 ≡ s2.now.trees 4 → base_in s4.now.trees ≡ noted_with (base_in s3.now.trees) new → base_in s4.now.trees ≡ opened_with (base_in s0.now.trees) all
+  pub opened_by : (s3 s4 : State) → IsDraft s3 (fold with_first (draft_table s2) fresh) → s3.now.trees 4 ≡ s2.now.trees 4 → base_in s4.now.trees ≡ noted_with (base_in s3.now.trees) new → base_in s4.now.trees ≡ opened_with (base_in s0.now.trees) all
   opened_by s3 s4 put beside noted =
-      let table : drafted s3 ≡ fold with_first (drafted s0) (absent (drafted s0) (unopened (base_in s0.now.trees).opened all)) = put.2 ∙ (λ k. fold with_first (drafted_first k) (fresh_first k)) in
+      let table : draft_table s3 ≡ fold with_first (draft_table s0) (absent (draft_table s0) (left_to_open (base_in s0.now.trees).opened all)) = put.2 ∙ (λ k. fold with_first (drafted_first k) (fresh_first k)) in
       let rows : s3.now.trees 4 ≡ s0.now.trees 4 = beside ∙ ap (λ (d : Database). d.trees 4) (two.now ∙ one.now) in
       noted ∙ (λ k. noted_with (record { table = table k; opened = set.from_list (map handle_in (rows k)) }) (new_is k))
 
 -- ---- as a transaction begins
 
-pub begun_base : {S : Type 0} (g : Ghosts S) (old first : Held S) → first ≡ record old { in_transaction = true } → IsEven (state g old) → WhereOpen (state g first) (base_in (state g first).now.trees ≡ based (state g old))
-begun_base g old first is same clean up = (of_now g old first (λ (d : Database). base_in d.trees ≡ based (state g old)) is (λ c u. ap (λ (d : Database). base_in d.trees) (sym (same c u))) clean up).0
+pub begun_base : {S : Type 0} (g : Ghosts S) (old first : Held S) → first ≡ record old { in_transaction = true } → IsEven (state g old) → WhereOpen (state g first) (base_in (state g first).now.trees ≡ filed_base (state g old))
+begun_base g old first is same clean up = (of_now g old first (λ (d : Database). base_in d.trees ≡ filed_base (state g old)) is (λ c u. ap (λ (d : Database). base_in d.trees) (sym (same c u))) clean up).0

@@ -34,7 +34,7 @@ use Rattle.hdl_value.proofs.Places.{place_total, place_antisymmetric}
 use Rattle.hdl_rows.specs.Table.{Table, place, at, without_values}
 use Rattle.hdl_sqlrows.specs.Layout.{layout, entries}
 use Rattle.hdl_sqlrows.specs.Kept.{IsWhole, IsInside, AreKept, IsHandleRow, IsEntryRow, place_in, entry_in, value_in, handle_in, table_in, has_place, has_handle}
-use Rattle.hdl_sqlrows.specs.Filed.{IsDraft, drafted}
+use Rattle.hdl_sqlrows.specs.Filed.{IsDraft, draft_table}
 use Rattle.hdl_sqlrows.proofs.Texts.{delete_entry, delete_entry_is, plain, is_param, rows_where}
 use Rattle.hdl_sqlrows.proofs.Found.{times-filter, none_passes, none_more, found_kept}
 use Rattle.hdl_sqlrows.proofs.Listed.{keeps, listed, tests_place}
@@ -188,7 +188,7 @@ without_entry db next p kept gone same =
     )
 
 pub drops_entry : (old new : State) (h : List ℕ) (i : ℕ) (count : ℕ) → IsInside old → ExecutesInside 0 delete_entry (Blob h ∷ Int (pos i) ∷ []) old new (Ok count)
-    → IsDraft new (record (drafted old) { values = map.remove (drafted old).values (place h i) })
+    → IsDraft new (record (draft_table old) { values = map.remove (draft_table old).values (place h i) })
 drops_entry old new h i count inside ran =
     let did = deletes_entry old new h i count inside.whole ran.0 in
     let made = without_entry old.now.trees new.now.trees (place h i) inside.whole.kept did.1 did.2 in

@@ -18,7 +18,7 @@ use Rattle.sqlite.specs.Rows.{Written, Edited}
 use Rattle.sqlite.specs.Listing.{understood}
 use Rattle.sqlite.specs.State.{State, mode_of, Executes}
 use Rattle.sqlite.proofs.Callers.{runs_as, statement_of, one_step}
-use Rattle.hdl_sqlrows.specs.Layout.{layout, handles, entries, opened}
+use Rattle.hdl_sqlrows.specs.Layout.{layout, handles, entries, opened_table}
 use Rattle.hdl_sqlrows.proofs.Texts.{insert_handle, insert_entry, insert_opened, handle_terms, entry_terms, opened_terms, insert_handle_is, insert_entry_is, insert_opened_is, plain, opened_plain}
 use Rattle.std.specs.Int.{w64, to_be_bytes}
 use Rattle.hdl_value.specs.declared.value.Value.{Value as Kept}
@@ -135,10 +135,10 @@ opened_row rows name = Int (next_rowid rows) ∷ Blob name ∷ []
 abbrev opened_source : List ℕ → Row
 opened_source name = Null ∷ Blob name ∷ []
 
-opened_news : (rows : List Row) (name : List ℕ) → with_rowid Chosen rows (cast_row (record opened { tree = 4 }) (opened_source name)) ≡ opened_row rows name
+opened_news : (rows : List Row) (name : List ℕ) → with_rowid Chosen rows (cast_row (record opened_table { tree = 4 }) (opened_source name)) ≡ opened_row rows name
 opened_news rows name = ap (λ c. with_rowid Chosen rows (c ∷ Blob name ∷ [])) cast_null
 
-opened_edit : (keys : Keys) (db next : Trees) (name : List ℕ) → Applies layout keys db (edit_of db opened [] Chosen 0 (opened_source name ∷ [])) next
+opened_edit : (keys : Keys) (db next : Trees) (name : List ℕ) → Applies layout keys db (edit_of db opened_table [] Chosen 0 (opened_source name ∷ [])) next
     → Adds (opened_row (db 4) name) (db 4) (next 4) × (next 0 ≡ db 0) × (next 2 ≡ db 2)
 opened_edit keys db next name made =
     let row = opened_row (db 4) name in
@@ -162,7 +162,7 @@ inserts_opened old new name count has h =
     let counted = went written.2 in
     let trees : done.0.trees ≡ written.0 = ap (λ (it : Written). it.trees) (same_value counted.2) ∙ same_value counted.1 in
     let keys = (mode_of old).keys in
-    let edit = λ (all : List Row). edit_of db opened [] Chosen 0 all in
+    let edit = λ (all : List Row). edit_of db opened_table [] Chosen 0 all in
     let wrote = subst (λ all. Edited layout keys db (edit all) (Ok written.0)) given.1.1 written.1 in
     let made = opened_edit keys db written.0 name (one_step layout keys db written.0 (edit (opened_source name ∷ [])) refl wrote) in
     let all : new.now.trees ≡ written.0 = ap (λ (d : Database). d.trees) now ∙ trees in

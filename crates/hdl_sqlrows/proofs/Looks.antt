@@ -14,7 +14,7 @@ use Rattle.hdl_value.proofs.Places.{insert_member}
 use Rattle.hdl_rows.specs.Table.{has}
 use Rattle.hdl_sqlrows.specs.Layout.{layout}
 use Rattle.hdl_sqlrows.specs.Kept.{IsInside, IsWhole, table_in}
-use Rattle.hdl_sqlrows.specs.Filed.{IsDraft, drafted}
+use Rattle.hdl_sqlrows.specs.Filed.{IsDraft, draft_table}
 use Rattle.hdl_sqlrows.specs.Opening.{OnlyLooks}
 use Rattle.hdl_sqlrows.proofs.States.{Stays, query_fails}
 
@@ -47,11 +47,11 @@ pub looks_inside : (old new : State) → IsInside old → OnlyLooks old new → 
 looks_inside old new inside looks = record { whole = subst IsWhole (sym looks.now) inside.whole; inside = looks.mode ∙ inside.inside }
 
 -- a handle that is there already
-pub there_already : (old new : State) (h : List ℕ) → IsInside old → OnlyLooks old new → has (drafted old) h ≡ true → IsDraft new (record (drafted old) { handles = set.insert (drafted old).handles h })
+pub there_already : (old new : State) (h : List ℕ) → IsInside old → OnlyLooks old new → has (draft_table old) h ≡ true → IsDraft new (record (draft_table old) { handles = set.insert (draft_table old).handles h })
 there_already old new h inside looks there = (
   looks.is_open,
   looks_inside old new inside looks,
-  ap (λ (d : Database). table_in d.trees) looks.now ∙ sym (λ i. record (drafted old) { handles = insert_member (drafted old).handles h there i }),
+  ap (λ (d : Database). table_in d.trees) looks.now ∙ sym (λ i. record (draft_table old) { handles = insert_member (draft_table old).handles h there i }),
 )
 
 -- nothing was looked at yet, and one look more

@@ -9,7 +9,7 @@ use Rattle.hdl_value.specs.declared.value.Value.{Value}
 use Rattle.hdl_rows.specs.Table.{Table, Held, place, has, at, value_with, no_rows, AreAbsent, HaveTheirIndexes, IsPlaced}
 use Rattle.hdl_rows.specs.Write.{Write, written, CanWrite}
 use Rattle.hdl_rows.proofs.Writes.{stay_placed_lem, some_none}
-use Rattle.hdl_sqlrows.specs.Kept.{IsBlank, seen}
+use Rattle.hdl_sqlrows.specs.Kept.{IsBlank, state_of}
 
 none_or_some : (o : Option Value) → (o ≡ None) ⊎ ((v : Value) × (o ≡ Some v))
 none_or_some None = inl refl
@@ -33,8 +33,8 @@ placed_by old new w (Err e) placed can done undone = subst IsPlaced (sym undone)
 pub none_placed : (t : Table) → t ≡ no_rows → IsPlaced t
 none_placed t is = subst IsPlaced (sym is) (λ p v some. absurd (some_none v (sym (sym (map.get-empty place_cmp p) ∙ some))))
 
-pub opened : (c : MemHeld MemStore) → IsEmpty (state over_memory c) → IsBlank (seen c) × (c.in_transaction ≡ false)
-unfolding seen
+pub opened : (c : MemHeld MemStore) → IsEmpty (state over_memory c) → IsBlank (state_of c) × (c.in_transaction ≡ false)
+unfolding state_of
 opened c empty = (record { schema_is = empty.2; committed = sym empty.0.clean }, empty.0.autocommit)
 
 -- a fact of the table that callers see, at the canonical form of a name

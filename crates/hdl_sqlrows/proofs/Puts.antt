@@ -18,7 +18,7 @@ use Rattle.hdl_value.proofs.Places.{handle_total, handle_antisymmetric, place_to
 use Rattle.hdl_rows.specs.Table.{Table, place, has, at, indexes, AreDistinct, AreAbsent, with_values, created}
 use Rattle.hdl_rows.proofs.Writes.{at_place, indexes_apart, some_none}
 use Rattle.hdl_sqlrows.specs.Kept.{IsInside, AreKept, IsEntryRow, IsHandleRow, handle_in, place_in, entry_in, value_in, table_in, has_handle, has_place}
-use Rattle.hdl_sqlrows.specs.Filed.{IsDraft, drafted}
+use Rattle.hdl_sqlrows.specs.Filed.{IsDraft, draft_table}
 use Rattle.hdl_sqlrows.specs.Shows.{AreShort}
 use Rattle.hdl_sqlrows.proofs.Found.{found_first, first_value}
 use Rattle.hdl_sqlrows.proofs.Texts.{insert_handle, insert_entry}
@@ -83,8 +83,8 @@ with_handle : (db next : Trees) (name : List ℕ) → AreKept db → Adds (handl
     → AreKept next × (table_in next ≡ record (table_in db) { handles = set.insert (table_in db).handles name })
 with_handle db next name kept more same absent = with_handle_row db next (handle_row (db 0) name (authority name)) kept (record { id = refl; name = refl; authority = refl }) more same absent
 
-pub puts_handle : (old new : State) (name : List ℕ) (count : ℕ) → IsInside old → has (drafted old) name ≡ false → ExecutesInside 0 insert_handle (Blob name ∷ Blob (authority name) ∷ []) old new (Ok count)
-    → IsDraft new (record (drafted old) { handles = set.insert (drafted old).handles name })
+pub puts_handle : (old new : State) (name : List ℕ) (count : ℕ) → IsInside old → has (draft_table old) name ≡ false → ExecutesInside 0 insert_handle (Blob name ∷ Blob (authority name) ∷ []) old new (Ok count)
+    → IsDraft new (record (draft_table old) { handles = set.insert (draft_table old).handles name })
 puts_handle old new name count inside absent ran =
     let did = inserts_handle old new name (authority name) count inside.whole.layout ran.0 in
     let made = with_handle old.now.trees new.now.trees name inside.whole.kept did.1 did.2 absent in
@@ -116,8 +116,8 @@ with_entry db next id name v kept timestamp short more same absent =
     let made = with_entry_row db next (entry_row id name v) kept (record { id = refl; name = refl; index = refl }) more same absent in
     (made.0, made.1 ∙ (λ i. record (table_in db) { values = map.insert (table_in db).values (entry_is id name v timestamp short i).0 (entry_is id name v timestamp short i).1 }))
 
-pub puts_entry : (old new : State) (name : List ℕ) (v : Value) (count : ℕ) → IsInside old → v.timestamp < 2 ^ 64 → AreShort v.references → at (drafted old) (place name v.index) ≡ None → ExecutesInside 0 insert_entry (entry_cells name v) old new (Ok count)
-    → IsDraft new (record (drafted old) { values = map.insert (drafted old).values (place name v.index) v })
+pub puts_entry : (old new : State) (name : List ℕ) (v : Value) (count : ℕ) → IsInside old → v.timestamp < 2 ^ 64 → AreShort v.references → at (draft_table old) (place name v.index) ≡ None → ExecutesInside 0 insert_entry (entry_cells name v) old new (Ok count)
+    → IsDraft new (record (draft_table old) { values = map.insert (draft_table old).values (place name v.index) v })
 puts_entry old new name v count inside timestamp short absent ran =
     let did = inserts_entry old new name v count inside.whole.layout ran.0 in
     let made = with_entry old.now.trees new.now.trees (next_rowid (old.now.trees 2)) name v inside.whole.kept timestamp short did.1 did.2 absent in

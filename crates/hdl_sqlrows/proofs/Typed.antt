@@ -9,11 +9,11 @@ use Rattle.sqlite_schema.specs.declared.schema.Schema.{Schema}
 use Rattle.sqlite_schema.specs.Rules.{are_typed, are_present, has_computed}
 use Rattle.sqlite_catalog.specs.Listing.{IsSound}
 use Rattle.sqlite.specs.Effect.{Database, IsDatabase}
-use Rattle.hdl_sqlrows.specs.Layout.{layout, opened}
+use Rattle.hdl_sqlrows.specs.Layout.{layout, opened_table}
 use Rattle.hdl_sqlrows.specs.Opening.{IsOpenedRow}
 
 -- a name that isn't null, of a column of octets
-one_row : (row : Row) → (are_typed None 0 opened.columns (drop 1 row) && has_computed opened row) ≡ true → are_present None 0 opened.columns row ≡ true → IsOpenedRow row
+one_row : (row : Row) → (are_typed None 0 opened_table.columns (drop 1 row) && has_computed opened_table row) ≡ true → are_present None 0 opened_table.columns row ≡ true → IsOpenedRow row
 one_row [] typed there = absurd cc
 one_row (id ∷ []) typed there = absurd cc
 one_row (id ∷ Null ∷ rest) typed there = absurd cc

@@ -31,7 +31,7 @@ use Rattle.hdl_rows.specs.Table.{Table, place, at, indexes, ArePresent, with_val
 use Rattle.hdl_rows.proofs.Writes.{some_none}
 use Rattle.hdl_sqlrows.specs.Layout.{layout, entries}
 use Rattle.hdl_sqlrows.specs.Kept.{IsWhole, IsInside, AreKept, IsEntryRow, place_in, entry_in, value_in, table_in, has_place}
-use Rattle.hdl_sqlrows.specs.Filed.{IsDraft, drafted}
+use Rattle.hdl_sqlrows.specs.Filed.{IsDraft, draft_table}
 use Rattle.hdl_sqlrows.specs.Shows.{AreShort}
 use Rattle.hdl_sqlrows.proofs.Texts.{update_entry, update_entry_is, update_terms, plain, is_param, rows_where}
 use Rattle.hdl_sqlrows.proofs.Found.{short_permutation, found_first, first_value}
@@ -142,14 +142,14 @@ with_updated db next id name v kept timestamp short more same =
     let put = with_entry mid next id name v gone.0 timestamp short more same (free_after (table_in db) (table_in mid) p gone.1) in
     (put.0, replaced (table_in db) (table_in mid) (table_in next) p v gone.1 put.1)
 
-pub replaces_entry : (old new : State) (name : List ℕ) (v : Value) (count : ℕ) → IsInside old → v.timestamp < 2 ^ 64 → AreShort v.references → at (drafted old) (place name v.index) ≢ None → ExecutesInside 0 update_entry (entry_cells name v) old new (Ok count)
-    → IsDraft new (record (drafted old) { values = map.insert (drafted old).values (place name v.index) v })
+pub replaces_entry : (old new : State) (name : List ℕ) (v : Value) (count : ℕ) → IsInside old → v.timestamp < 2 ^ 64 → AreShort v.references → at (draft_table old) (place name v.index) ≢ None → ExecutesInside 0 update_entry (entry_cells name v) old new (Ok count)
+    → IsDraft new (record (draft_table old) { values = map.insert (draft_table old).values (place name v.index) v })
 replaces_entry old new name v count inside timestamp short there ran =
     let did = updates_entry old new name v count inside.whole there ran.0 in
     let made = with_updated old.now.trees new.now.trees did.1.0 name v inside.whole.kept timestamp short did.1.1 did.2 in
     (ran.1.is_open, record { whole = record { layout = did.0; kept = made.0 }; inside = ran.1.mode }, made.1)
 
-pub update_beside : (old new : State) (name : List ℕ) (v : Value) (count : ℕ) → IsInside old → at (drafted old) (place name v.index) ≢ None → ExecutesInside 0 update_entry (entry_cells name v) old new (Ok count) → new.now.trees 4 ≡ old.now.trees 4
+pub update_beside : (old new : State) (name : List ℕ) (v : Value) (count : ℕ) → IsInside old → at (draft_table old) (place name v.index) ≢ None → ExecutesInside 0 update_entry (entry_cells name v) old new (Ok count) → new.now.trees 4 ≡ old.now.trees 4
 update_beside old new name v count inside there ran = (updates_entry old new name v count inside.whole there ran.0).3
 
 -- ---- one after the other

@@ -10,19 +10,19 @@ abbrev pub WhereOpen : State → Type 0 → Type 0
 WhereOpen s P = HasCleanDisk s → IsTrue s.is_open → P
 
 -- the table as a transaction sees it, and as the last commit left it
-abbrev pub drafted : State → Table
-drafted s = table_in s.now.trees
+abbrev pub draft_table : State → Table
+draft_table s = table_in s.now.trees
 
-abbrev pub filed : State → Table
-filed s = table_in s.committed.trees
+abbrev pub filed_table : State → Table
+filed_table s = table_in s.committed.trees
 
 -- an open store sees this table within a transaction
 abbrev pub IsDraft : State → Table → Type 0
-IsDraft s t = IsTrue s.is_open × IsInside s × (drafted s ≡ t)
+IsDraft s t = IsTrue s.is_open × IsInside s × (draft_table s ≡ t)
 
 -- an open store has this table committed
 abbrev pub IsFiled : State → Table → Type 0
-IsFiled s t = IsTrue s.is_open × (filed s ≡ t)
+IsFiled s t = IsTrue s.is_open × (filed_table s ≡ t)
 
 -- a store that is open was open before, with the same last commit
 abbrev pub KeepsCommitted : State → State → Type 0

@@ -138,9 +138,9 @@ pub record IsBare (schema : Schema) (s : State) : Type 0 where
   pub inside : s.in_transaction ≡ true
 
 -- what a connection in memory shows, which no proof has to look into
-unfoldable pub seen : Held MemStore → State
-seen conn = state over_memory conn
+unfoldable pub state_of : Held MemStore → State
+state_of conn = state over_memory conn
 
 -- the table that a connection shows
-abbrev pub shown : Held MemStore → Table
-shown conn = table_in (seen conn).now.trees
+abbrev pub table_of : Held MemStore → Table
+table_of conn = table_in (state_of conn).now.trees

@@ -15,16 +15,16 @@ use Rattle.sqlite_value.specs.Keys.{plain}
 use Rattle.sqlite_catalog.specs.Change.{created}
 
 -- a column of this kind that is never null
-abbrev pub required : List ℕ → Kind → Column
-required name kind = record { name = name; kind = kind; is_strict = true; not_null = true; default = Null; collation = Binary }
+abbrev pub required_column : List ℕ → Kind → Column
+required_column name kind = record { name = name; kind = kind; is_strict = true; not_null = true; default = Null; collation = Binary }
 
 -- no value that reads the time
 abbrev pub no_stamps : Stamps
 no_stamps = record { places = []; terms = []; formats = [] }
 
 -- a table of this key, which isn't its rowid, with no test of a row and no value that is computed
-abbrev pub keyed : List ℕ → ℕ → List Column → List ℕ → List Reference → Table
-keyed name tree columns key references = record {
+abbrev pub keyed_table : List ℕ → ℕ → List Column → List ℕ → List Reference → Table
+keyed_table name tree columns key references = record {
   name = name;
   tree = tree;
   columns = columns;
@@ -40,20 +40,20 @@ keyed name tree columns key references = record {
 }
 
 abbrev pub handle_columns : List Column
-handle_columns = required (codes "name") kind.Blob ∷ required (codes "authority") kind.Blob ∷ []
+handle_columns = required_column (codes "name") kind.Blob ∷ required_column (codes "authority") kind.Blob ∷ []
 
 -- a row for each handle, with its authority
 abbrev pub handles : Table
-handles = keyed (codes "handles") 0 handle_columns (1 ∷ []) []
+handles = keyed_table (codes "handles") 0 handle_columns (1 ∷ []) []
 
 -- what a value has beside its handle and index
 abbrev pub cell_columns : List Column
 cell_columns =
-    required (codes "kind") kind.Blob ∷ required (codes "bytes") kind.Blob ∷ required (codes "ttl") kind.Blob ∷ required (codes "perm") kind.Integer
-    ∷ required (codes "stamp") kind.Blob ∷ required (codes "refs") kind.Blob ∷ []
+    required_column (codes "kind") kind.Blob ∷ required_column (codes "bytes") kind.Blob ∷ required_column (codes "ttl") kind.Blob ∷ required_column (codes "perm") kind.Integer
+    ∷ required_column (codes "stamp") kind.Blob ∷ required_column (codes "refs") kind.Blob ∷ []
 
 abbrev pub entry_columns : List Column
-entry_columns = required (codes "name") kind.Blob ∷ required (codes "idx") kind.Integer ∷ cell_columns
+entry_columns = required_column (codes "name") kind.Blob ∷ required_column (codes "idx") kind.Integer ∷ cell_columns
 
 -- to the row of the handle, with which a row goes
 abbrev pub to_handles : Reference
@@ -61,11 +61,11 @@ to_handles = record { columns = 1 ∷ []; parent = codes "handles"; parent_colum
 
 -- a row for each value, with the cells that it has beside its handle; it goes with the handle's row
 abbrev pub entries : Table
-entries = keyed (codes "entries") 2 entry_columns (1 ∷ 2 ∷ []) (to_handles ∷ [])
+entries = keyed_table (codes "entries") 2 entry_columns (1 ∷ 2 ∷ []) (to_handles ∷ [])
 
 -- a row for each handle that was opened with its first values, which isn't done again
-abbrev pub opened : Table
-opened = keyed (codes "opened") 4 (required (codes "name") kind.Blob ∷ []) (1 ∷ []) []
+abbrev pub opened_table : Table
+opened_table = keyed_table (codes "opened") 4 (required_column (codes "name") kind.Blob ∷ []) (1 ∷ []) []
 
 -- the database before the tables are made, with one of them, with two, and with all
 abbrev pub no_schema : Schema
@@ -78,7 +78,7 @@ abbrev pub two_tables : Schema
 two_tables = created one_table (record entries { tree = 0 })
 
 abbrev pub layout : Schema
-layout = created two_tables (record opened { tree = 0 })
+layout = created two_tables (record opened_table { tree = 0 })
 
 -- the index that keeps a key single, and those that the tables get with their keys
 abbrev pub guard : List ℕ → ℕ → ℕ → List ℕ → Index

@@ -40,8 +40,8 @@ abbrev pub no_base : Base
 no_base = record { table = no_rows; opened = set.empty }
 
 -- the first values of handles that weren't opened, and those of handles that aren't in a table
-abbrev pub unopened : set.FinSet handle_cmp → List First → List First
-unopened opened = filter (λ first. not (set.contains opened (handle first)))
+abbrev pub left_to_open : set.FinSet handle_cmp → List First → List First
+left_to_open opened = filter (λ first. not (set.contains opened (handle first)))
 
 abbrev pub absent : Table → List First → List First
 absent t = filter (λ first. not (has t (handle first)))
@@ -57,16 +57,16 @@ noted_with base firsts = record base { opened = fold (λ opened first. set.inser
 -- Each handle that wasn't opened is opened now, and gets its values if it is absent.
 abbrev pub opened_with : Base → List First → Base
 opened_with base firsts =
-    let new = unopened base.opened firsts in
+    let new = left_to_open base.opened firsts in
     noted_with (record base { table = fold with_first base.table (absent base.table new) }) new
 
 -- what the last commit left
-abbrev pub based : State → Base
-based s = base_in s.committed.trees
+abbrev pub filed_base : State → Base
+filed_base s = base_in s.committed.trees
 
 -- an open store has this committed
 abbrev pub HasFiled : State → Base → Type 0
-HasFiled s base = IsTrue s.is_open × (based s ≡ base)
+HasFiled s base = IsTrue s.is_open × (filed_base s ≡ base)
 
 -- whatever a crash at this moment leaves is this
 abbrev pub CrashKeeps : State → Base → Type 0

@@ -3,7 +3,7 @@
 ghost use Rattle.std.specs.Prelude.{◌≡◌, ◌↔◌, [], ◌∷◌, None, codes, false, true, IsTrue};
 ghost use Rattle.sqlite_value.specs.Keys.{plain};
 ghost use Rattle.sqlite.specs.Held.{state};
-ghost use Rattle.hdl_sqlrows.specs.Layout.{no_schema, layout, handles, handle_columns, entries, entry_columns, cell_columns, opened, to_handles, guard, guards, required, keyed, no_stamps};
+ghost use Rattle.hdl_sqlrows.specs.Layout.{no_schema, layout, handles, handle_columns, entries, entry_columns, cell_columns, opened_table, to_handles, guard, guards, required_column, keyed_table, no_stamps};
 
 use sqlite::{Alter, Connection};
 use sqlite_items::Items;
@@ -133,7 +133,7 @@ fn are_cells(columns: &[Column]) -> bool
 }
 
 fn is_opened(table: &Table) -> bool
-    ensures { IsTrue result ↔ (table.now ≡ opened) }
+    ensures { IsTrue result ↔ (table.now ≡ opened_table) }
 {
     is_keyed(table, b"opened", 4, &[1])
         && are_names(table.columns.as_slice())
@@ -142,7 +142,7 @@ fn is_opened(table: &Table) -> bool
 
 /// Whether there is one column, `name`.
 fn are_names(columns: &[Column]) -> bool
-    ensures { IsTrue result ↔ (columns.now ≡ required (codes "name") Kind.Blob ∷ []) }
+    ensures { IsTrue result ↔ (columns.now ≡ required_column (codes "name") Kind.Blob ∷ []) }
 {
     match columns {
         [only] => is_required(only, b"name", Kind::Blob),
@@ -188,7 +188,7 @@ fn is_text(name: &Bytes, text: &[u8]) -> bool
 
 /// Whether a table has this name, tree and key, and neither tests its rows nor computes a value.
 fn is_keyed(table: &Table, name: &[u8], tree: u32, key: &[usize]) -> bool
-    ensures { IsTrue result ↔ (table.now ≡ keyed name.now tree table.now.columns key.now table.now.references) }
+    ensures { IsTrue result ↔ (table.now ≡ keyed_table name.now tree table.now.columns key.now table.now.references) }
 {
     table.name.as_slice() == name && table.tree == tree && has_key(table, key) && is_bare(table)
 }
@@ -251,7 +251,7 @@ fn is_without(terms: &Terms) -> bool
 
 /// Whether a column has this name and kind, and is never null.
 fn is_required(column: &Column, name: &[u8], kind: Kind) -> bool
-    ensures { IsTrue result ↔ (column.now ≡ required name.now kind) }
+    ensures { IsTrue result ↔ (column.now ≡ required_column name.now kind) }
 {
     column.name.as_slice() == name
         && column.kind == kind

@@ -3,7 +3,7 @@
 ghost use Rattle.std.specs.Prelude.{◌≡◌, true, false, OnOk, OnErr};
 ghost use Rattle.hdl_name.specs.Name.{authority as authority_of};
 ghost use Rattle.hdl_rows.specs.Table.{no_rows, has, created, with_values, without_values, without_handle, AreDistinct, AreAbsent, ArePresent, indexes};
-ghost use Rattle.hdl_sqlrows.specs.Kept.{IsBlank, IsSettled, seen, shown};
+ghost use Rattle.hdl_sqlrows.specs.Kept.{IsBlank, IsSettled, state_of, table_of};
 
 use crate::fault::Fault;
 use crate::{layout, writes};
@@ -14,9 +14,9 @@ use std::alloc::Global;
 /// Makes the tables in a database that has none.
 pub(crate) fn make_tables(conn: &mut Connection<MemStore>) -> Result<(), Fault>
     requires mode { conn.old.in_transaction ≡ false }
-    requires blank { IsBlank (seen conn.old) }
-    ensures settled { OnOk result (IsSettled (seen conn.new)) }
-    ensures empty { OnOk result (shown conn.new ≡ no_rows) }
+    requires blank { IsBlank (state_of conn.old) }
+    ensures settled { OnOk result (IsSettled (state_of conn.new)) }
+    ensures empty { OnOk result (table_of conn.new ≡ no_rows) }
 {
     layout::make_tables(conn)
 }
@@ -29,14 +29,14 @@ pub(crate) fn create(
     authority: &[u8],
     values: &[Value],
 ) -> Result<(), Fault>
-    requires settled { IsSettled (seen conn.old) }
+    requires settled { IsSettled (state_of conn.old) }
     requires authority { authority.now ≡ authority_of name.now }
-    requires none { has (shown conn.old) name.now ≡ false }
-    requires absent { AreAbsent (shown conn.old) name.now (indexes values.now) }
+    requires none { has (table_of conn.old) name.now ≡ false }
+    requires absent { AreAbsent (table_of conn.old) name.now (indexes values.now) }
     requires distinct { AreDistinct (indexes values.now) }
-    ensures settled { IsSettled (seen conn.new) }
-    ensures done { OnOk result (shown conn.new ≡ created (shown conn.old) name.now values.now) }
-    ensures undone { OnErr result (shown conn.new ≡ shown conn.old) }
+    ensures settled { IsSettled (state_of conn.new) }
+    ensures done { OnOk result (table_of conn.new ≡ created (table_of conn.old) name.now values.now) }
+    ensures undone { OnErr result (table_of conn.new ≡ table_of conn.old) }
 {
     writes::create(conn, alloc, name, authority, values)
 }
@@ -48,12 +48,12 @@ pub(crate) fn add(
     name: &[u8],
     values: &[Value],
 ) -> Result<(), Fault>
-    requires settled { IsSettled (seen conn.old) }
-    requires absent { AreAbsent (shown conn.old) name.now (indexes values.now) }
+    requires settled { IsSettled (state_of conn.old) }
+    requires absent { AreAbsent (table_of conn.old) name.now (indexes values.now) }
     requires distinct { AreDistinct (indexes values.now) }
-    ensures settled { IsSettled (seen conn.new) }
-    ensures done { OnOk result (shown conn.new ≡ with_values (shown conn.old) name.now values.now) }
-    ensures undone { OnErr result (shown conn.new ≡ shown conn.old) }
+    ensures settled { IsSettled (state_of conn.new) }
+    ensures done { OnOk result (table_of conn.new ≡ with_values (table_of conn.old) name.now values.now) }
+    ensures undone { OnErr result (table_of conn.new ≡ table_of conn.old) }
 {
     writes::add(conn, alloc, name, values)
 }
@@ -65,11 +65,11 @@ pub(crate) fn modify(
     name: &[u8],
     values: &[Value],
 ) -> Result<(), Fault>
-    requires settled { IsSettled (seen conn.old) }
-    requires there { ArePresent (shown conn.old) name.now (indexes values.now) }
-    ensures settled { IsSettled (seen conn.new) }
-    ensures done { OnOk result (shown conn.new ≡ with_values (shown conn.old) name.now values.now) }
-    ensures undone { OnErr result (shown conn.new ≡ shown conn.old) }
+    requires settled { IsSettled (state_of conn.old) }
+    requires there { ArePresent (table_of conn.old) name.now (indexes values.now) }
+    ensures settled { IsSettled (state_of conn.new) }
+    ensures done { OnOk result (table_of conn.new ≡ with_values (table_of conn.old) name.now values.now) }
+    ensures undone { OnErr result (table_of conn.new ≡ table_of conn.old) }
 {
     writes::modify(conn, alloc, name, values)
 }
@@ -80,21 +80,21 @@ pub(crate) fn remove(
     name: &[u8],
     indexes: &[u32],
 ) -> Result<(), Fault>
-    requires settled { IsSettled (seen conn.old) }
-    ensures settled { IsSettled (seen conn.new) }
-    ensures done { OnOk result (shown conn.new ≡ without_values (shown conn.old) name.now indexes.now) }
-    ensures undone { OnErr result (shown conn.new ≡ shown conn.old) }
+    requires settled { IsSettled (state_of conn.old) }
+    ensures settled { IsSettled (state_of conn.new) }
+    ensures done { OnOk result (table_of conn.new ≡ without_values (table_of conn.old) name.now indexes.now) }
+    ensures undone { OnErr result (table_of conn.new ≡ table_of conn.old) }
 {
     writes::remove(conn, name, indexes)
 }
 
 /// Takes a handle away, and its values with it.
 pub(crate) fn delete(conn: &mut Connection<MemStore>, name: &[u8]) -> Result<(), Fault>
-    requires settled { IsSettled (seen conn.old) }
-    requires there { has (shown conn.old) name.now ≡ true }
-    ensures settled { IsSettled (seen conn.new) }
-    ensures done { OnOk result (shown conn.new ≡ without_handle (shown conn.old) name.now) }
-    ensures undone { OnErr result (shown conn.new ≡ shown conn.old) }
+    requires settled { IsSettled (state_of conn.old) }
+    requires there { has (table_of conn.old) name.now ≡ true }
+    ensures settled { IsSettled (state_of conn.new) }
+    ensures done { OnOk result (table_of conn.new ≡ without_handle (table_of conn.old) name.now) }
+    ensures undone { OnErr result (table_of conn.new ≡ table_of conn.old) }
 {
     writes::delete(conn, name)
 }

@@ -8,10 +8,10 @@ ghost use Rattle.sqlite.specs.Held.{state};
 ghost use Rattle.hdl_name.specs.Name.{canonical, authority as authority_of};
 ghost use Rattle.hdl_value.specs.Place.{Place};
 ghost use Rattle.hdl_rows.specs.Table.{Table, has, at, IsPlaced};
-ghost use Rattle.hdl_sqlrows.specs.Filed.{WhereOpen, KeepsCommitted, IsDraft, drafted, filed};
+ghost use Rattle.hdl_sqlrows.specs.Filed.{WhereOpen, KeepsCommitted, IsDraft, draft_table, filed_table};
 ghost use Rattle.hdl_sqlrows.specs.Layout.{no_schema};
 ghost use Rattle.hdl_sqlrows.specs.Kept.{IsInside, IsSettled, IsBlank, IsBare};
-ghost use Rattle.hdl_sqlrows.specs.Opening.{First, Base, handle, base_in, based, no_base, HasFiled, CrashKeeps, with_first, noted_with, opened_with, unopened, absent, place_of, first_at, AreFree, IsOpenedRow, OnlyLooks};
+ghost use Rattle.hdl_sqlrows.specs.Opening.{First, Base, handle, base_in, filed_base, no_base, HasFiled, CrashKeeps, with_first, noted_with, opened_with, left_to_open, absent, place_of, first_at, AreFree, IsOpenedRow, OnlyLooks};
 
 use crate::fault::Fault;
 use crate::layout::make_within;
@@ -57,15 +57,15 @@ pub fn open_more<S: Alter>(
 ) -> Result<(), Fault>
     requires mode { conn.old.in_transaction ≡ false }
     requires settled { WhereOpen (state S.Store conn.old) (IsSettled (state S.Store conn.old)) }
-    requires placed { WhereOpen (state S.Store conn.old) (IsPlaced (filed (state S.Store conn.old))) }
+    requires placed { WhereOpen (state S.Store conn.old) (IsPlaced (filed_table (state S.Store conn.old))) }
     requires distinct { AllPairs (λ (p q : Place). p ≢ q) (map place_of opening.now) }
     ensures mode { conn.new.in_transaction ≡ false }
     ensures settled { WhereOpen (state S.Store conn.new) (IsSettled (state S.Store conn.new)) }
-    ensures done { OnOk result (HasCleanDisk (state S.Store conn.new) → HasFiled (state S.Store conn.new) (opened_with (based (state S.Store conn.old)) opening.now)) }
-    ensures undone { OnErr result (WhereOpen (state S.Store conn.new) (based (state S.Store conn.new) ≡ based (state S.Store conn.old))) }
-    ensures durable { OnOk result (HasCleanDisk (state S.Store conn.new) → CrashKeeps (state S.Store conn.new) (opened_with (based (state S.Store conn.old)) opening.now)) }
-    ensures restored { OnErr result (WhereOpen (state S.Store conn.new) (CrashKeeps (state S.Store conn.new) (based (state S.Store conn.old)))) }
-    ensures survives { Survives (state S.Store conn.old) (state S.Store conn.new) (λ db. IsTrue (state S.Store conn.old).is_open → base_in db ≡ opened_with (based (state S.Store conn.old)) opening.now) }
+    ensures done { OnOk result (HasCleanDisk (state S.Store conn.new) → HasFiled (state S.Store conn.new) (opened_with (filed_base (state S.Store conn.old)) opening.now)) }
+    ensures undone { OnErr result (WhereOpen (state S.Store conn.new) (filed_base (state S.Store conn.new) ≡ filed_base (state S.Store conn.old))) }
+    ensures durable { OnOk result (HasCleanDisk (state S.Store conn.new) → CrashKeeps (state S.Store conn.new) (opened_with (filed_base (state S.Store conn.old)) opening.now)) }
+    ensures restored { OnErr result (WhereOpen (state S.Store conn.new) (CrashKeeps (state S.Store conn.new) (filed_base (state S.Store conn.old)))) }
+    ensures survives { Survives (state S.Store conn.old) (state S.Store conn.new) (λ db. IsTrue (state S.Store conn.old).is_open → base_in db ≡ opened_with (filed_base (state S.Store conn.old)) opening.now) }
 {
     // Its rows are of the kinds that the schema says.
     let _ = conn.schema();
@@ -87,7 +87,7 @@ pub fn are_opened<S: Alter>(
     ensures mode { conn.new.in_transaction ≡ false }
     ensures settled { WhereOpen (state S.Store conn.new) (IsSettled (state S.Store conn.new)) }
     ensures kept { KeepsCommitted (state S.Store conn.old) (state S.Store conn.new) }
-    ensures found { IfOk result (λ are. WhereOpen (state S.Store conn.new) (IsTrue are ↔ (unopened (based (state S.Store conn.old)).opened opening.now ≡ []))) }
+    ensures found { IfOk result (λ are. WhereOpen (state S.Store conn.new) (IsTrue are ↔ (left_to_open (filed_base (state S.Store conn.old)).opened opening.now ≡ []))) }
     ensures survives { Survives (state S.Store conn.old) (state S.Store conn.new) (λ _. ⊥) }
 {
     // Its rows are of the kinds that the schema says.
@@ -130,7 +130,7 @@ fn is_there<S: Alter>(tx: &mut Transaction<'_, S>, name: &[u8]) -> Result<bool, 
     ensures survives { Survives (state S.Store tx.old.conn.now) (state S.Store tx.new.conn.now) (λ _. ⊥) }
     ensures committed { KeepsCommitted (state S.Store tx.old.conn.now) (state S.Store tx.new.conn.now) }
     ensures same { OnOk result (HasCleanDisk (state S.Store tx.new.conn.now) → OnlyLooks (state S.Store tx.old.conn.now) (state S.Store tx.new.conn.now)) }
-    ensures found { IfOk result (λ is. HasCleanDisk (state S.Store tx.new.conn.now) → is ≡ has (drafted (state S.Store tx.old.conn.now)) name.now) }
+    ensures found { IfOk result (λ is. HasCleanDisk (state S.Store tx.new.conn.now) → is ≡ has (draft_table (state S.Store tx.old.conn.now)) name.now) }
 {
     let rows = tx.query_all("SELECT name FROM handles WHERE name = ?1", params![name])?;
     Ok(!rows.is_empty())
@@ -176,7 +176,7 @@ fn put_missing<S: Alter>(
     ensures same_reference { tx.new.conn.ghost_name ≡ tx.old.conn.ghost_name }
     ensures survives { Survives (state S.Store tx.old.conn.now) (state S.Store tx.new.conn.now) (λ _. ⊥) }
     ensures committed { KeepsCommitted (state S.Store tx.old.conn.now) (state S.Store tx.new.conn.now) }
-    ensures put { OnOk result (HasCleanDisk (state S.Store tx.new.conn.now) → IsTrue (state S.Store tx.old.conn.now).is_open × IsDraft (state S.Store tx.new.conn.now) (record (drafted (state S.Store tx.old.conn.now)) { handles = set.insert (drafted (state S.Store tx.old.conn.now)).handles name.now })) }
+    ensures put { OnOk result (HasCleanDisk (state S.Store tx.new.conn.now) → IsTrue (state S.Store tx.old.conn.now).is_open × IsDraft (state S.Store tx.new.conn.now) (record (draft_table (state S.Store tx.old.conn.now)) { handles = set.insert (draft_table (state S.Store tx.old.conn.now)).handles name.now })) }
     ensures beside { OnOk result (HasCleanDisk (state S.Store tx.new.conn.now) → (state S.Store tx.new.conn.now).now.trees 4 ≡ (state S.Store tx.old.conn.now).now.trees 4) }
 {
     if is_there(tx, name)? {
@@ -194,11 +194,11 @@ fn put_first<S: Alter>(
     value: &Value,
 ) -> Result<(), Fault>
     requires inside { WhereOpen (state S.Store tx.old.conn.now) (IsInside (state S.Store tx.old.conn.now)) }
-    requires free { WhereOpen (state S.Store tx.old.conn.now) (at (drafted (state S.Store tx.old.conn.now)) (place_of (name.now, value.now)) ≡ None) }
+    requires free { WhereOpen (state S.Store tx.old.conn.now) (at (draft_table (state S.Store tx.old.conn.now)) (place_of (name.now, value.now)) ≡ None) }
     ensures same_reference { tx.new.conn.ghost_name ≡ tx.old.conn.ghost_name }
     ensures survives { Survives (state S.Store tx.old.conn.now) (state S.Store tx.new.conn.now) (λ _. ⊥) }
     ensures committed { KeepsCommitted (state S.Store tx.old.conn.now) (state S.Store tx.new.conn.now) }
-    ensures put { OnOk result (HasCleanDisk (state S.Store tx.new.conn.now) → IsTrue (state S.Store tx.old.conn.now).is_open × IsDraft (state S.Store tx.new.conn.now) (with_first (drafted (state S.Store tx.old.conn.now)) (name.now, value.now))) }
+    ensures put { OnOk result (HasCleanDisk (state S.Store tx.new.conn.now) → IsTrue (state S.Store tx.old.conn.now).is_open × IsDraft (state S.Store tx.new.conn.now) (with_first (draft_table (state S.Store tx.old.conn.now)) (name.now, value.now))) }
     ensures beside { OnOk result (HasCleanDisk (state S.Store tx.new.conn.now) → (state S.Store tx.new.conn.now).now.trees 4 ≡ (state S.Store tx.old.conn.now).now.trees 4) }
 {
     let handle = name.canon();
@@ -213,11 +213,11 @@ fn put_firsts<S: Alter>(
     firsts: &[&(Name, Value)],
 ) -> Result<(), Fault>
     requires inside { WhereOpen (state S.Store tx.old.conn.now) (IsInside (state S.Store tx.old.conn.now)) }
-    requires free { WhereOpen (state S.Store tx.old.conn.now) (AreFree (drafted (state S.Store tx.old.conn.now)) (map first_at firsts.now)) }
+    requires free { WhereOpen (state S.Store tx.old.conn.now) (AreFree (draft_table (state S.Store tx.old.conn.now)) (map first_at firsts.now)) }
     ensures same_reference { tx.new.conn.ghost_name ≡ tx.old.conn.ghost_name }
     ensures survives { Survives (state S.Store tx.old.conn.now) (state S.Store tx.new.conn.now) (λ _. ⊥) }
     ensures committed { KeepsCommitted (state S.Store tx.old.conn.now) (state S.Store tx.new.conn.now) }
-    ensures put { OnOk result (HasCleanDisk (state S.Store tx.new.conn.now) → IsTrue (state S.Store tx.old.conn.now).is_open → IsDraft (state S.Store tx.new.conn.now) (fold with_first (drafted (state S.Store tx.old.conn.now)) (map first_at firsts.now))) }
+    ensures put { OnOk result (HasCleanDisk (state S.Store tx.new.conn.now) → IsTrue (state S.Store tx.old.conn.now).is_open → IsDraft (state S.Store tx.new.conn.now) (fold with_first (draft_table (state S.Store tx.old.conn.now)) (map first_at firsts.now))) }
     ensures beside { OnOk result (HasCleanDisk (state S.Store tx.new.conn.now) → (state S.Store tx.new.conn.now).now.trees 4 ≡ (state S.Store tx.old.conn.now).now.trees 4) }
 {
     for first in firsts {
@@ -291,7 +291,7 @@ fn unopened_of<'a, S: Alter>(
     ensures survives { Survives (state S.Store tx.old.conn.now) (state S.Store tx.new.conn.now) (λ _. ⊥) }
     ensures committed { KeepsCommitted (state S.Store tx.old.conn.now) (state S.Store tx.new.conn.now) }
     ensures same { OnOk result (HasCleanDisk (state S.Store tx.new.conn.now) → IsTrue (state S.Store tx.old.conn.now).is_open → OnlyLooks (state S.Store tx.old.conn.now) (state S.Store tx.new.conn.now)) }
-    ensures found { IfOk result (λ firsts. HasCleanDisk (state S.Store tx.new.conn.now) → IsTrue (state S.Store tx.old.conn.now).is_open → map first_at firsts.items ≡ unopened (base_in (state S.Store tx.old.conn.now).now.trees).opened opening.now) }
+    ensures found { IfOk result (λ firsts. HasCleanDisk (state S.Store tx.new.conn.now) → IsTrue (state S.Store tx.old.conn.now).is_open → map first_at firsts.items ≡ left_to_open (base_in (state S.Store tx.old.conn.now).now.trees).opened opening.now) }
 {
     let mut firsts = Vec::new(alloc);
     for first in opening {
@@ -312,7 +312,7 @@ fn absent_of<'a, S: Alter>(
     ensures survives { Survives (state S.Store tx.old.conn.now) (state S.Store tx.new.conn.now) (λ _. ⊥) }
     ensures committed { KeepsCommitted (state S.Store tx.old.conn.now) (state S.Store tx.new.conn.now) }
     ensures same { OnOk result (HasCleanDisk (state S.Store tx.new.conn.now) → IsTrue (state S.Store tx.old.conn.now).is_open → OnlyLooks (state S.Store tx.old.conn.now) (state S.Store tx.new.conn.now)) }
-    ensures found { IfOk result (λ firsts. HasCleanDisk (state S.Store tx.new.conn.now) → IsTrue (state S.Store tx.old.conn.now).is_open → map first_at firsts.items ≡ absent (drafted (state S.Store tx.old.conn.now)) (map first_at opening.now)) }
+    ensures found { IfOk result (λ firsts. HasCleanDisk (state S.Store tx.new.conn.now) → IsTrue (state S.Store tx.old.conn.now).is_open → map first_at firsts.items ≡ absent (draft_table (state S.Store tx.old.conn.now)) (map first_at opening.now)) }
 {
     let mut firsts = Vec::new(alloc);
     for first in opening {
@@ -331,7 +331,7 @@ fn open_within<S: Alter>(
 ) -> Result<(), Fault>
     requires inside { WhereOpen (state S.Store tx.old.conn.now) (IsInside (state S.Store tx.old.conn.now)) }
     requires named { WhereOpen (state S.Store tx.old.conn.now) (AllByRecursion IsOpenedRow ((state S.Store tx.old.conn.now).now.trees 4)) }
-    requires placed { WhereOpen (state S.Store tx.old.conn.now) (IsPlaced (drafted (state S.Store tx.old.conn.now))) }
+    requires placed { WhereOpen (state S.Store tx.old.conn.now) (IsPlaced (draft_table (state S.Store tx.old.conn.now))) }
     requires distinct { AllPairs (λ (p q : Place). p ≢ q) (map place_of opening.now) }
     ensures same_reference { tx.new.conn.ghost_name ≡ tx.old.conn.ghost_name }
     ensures survives { Survives (state S.Store tx.old.conn.now) (state S.Store tx.new.conn.now) (λ _. ⊥) }

@@ -6,7 +6,7 @@ ghost use Rattle.hdl_value.specs.Spelling.{references};
 ghost use Rattle.hdl_rows.specs.Table.{place, at, with_values, ArePresent, indexes};
 ghost use Rattle.sqlite.specs.State.{HasCleanDisk, Survives};
 ghost use Rattle.sqlite.specs.Held.{state};
-ghost use Rattle.hdl_sqlrows.specs.Filed.{WhereOpen, KeepsCommitted, IsDraft, drafted};
+ghost use Rattle.hdl_sqlrows.specs.Filed.{WhereOpen, KeepsCommitted, IsDraft, draft_table};
 ghost use Rattle.hdl_sqlrows.specs.Kept.{IsInside};
 ghost use Rattle.hdl_sqlrows.specs.Shows.{AreShort};
 
@@ -26,11 +26,11 @@ fn replace_cells<'x, S: Alter>(
     requires inside { WhereOpen (state S.Store tx.old.conn.now) (IsInside (state S.Store tx.old.conn.now)) }
     requires spelt { refs.now ≡ references value.now.references }
     requires short { AreShort value.now.references }
-    requires there { WhereOpen (state S.Store tx.old.conn.now) (at (drafted (state S.Store tx.old.conn.now)) (place name.now value.now.index) ≢ None) }
+    requires there { WhereOpen (state S.Store tx.old.conn.now) (at (draft_table (state S.Store tx.old.conn.now)) (place name.now value.now.index) ≢ None) }
     ensures same_reference { tx.new.conn.ghost_name ≡ tx.old.conn.ghost_name }
     ensures survives { Survives (state S.Store tx.old.conn.now) (state S.Store tx.new.conn.now) (λ _. ⊥) }
     ensures committed { KeepsCommitted (state S.Store tx.old.conn.now) (state S.Store tx.new.conn.now) }
-    ensures put { OnOk result (HasCleanDisk (state S.Store tx.new.conn.now) → IsTrue (state S.Store tx.old.conn.now).is_open × IsDraft (state S.Store tx.new.conn.now) (record (drafted (state S.Store tx.old.conn.now)) { values = map.insert (drafted (state S.Store tx.old.conn.now)).values (place name.now value.now.index) value.now })) }
+    ensures put { OnOk result (HasCleanDisk (state S.Store tx.new.conn.now) → IsTrue (state S.Store tx.old.conn.now).is_open × IsDraft (state S.Store tx.new.conn.now) (record (draft_table (state S.Store tx.old.conn.now)) { values = map.insert (draft_table (state S.Store tx.old.conn.now)).values (place name.now value.now.index) value.now })) }
     ensures beside { OnOk result (HasCleanDisk (state S.Store tx.new.conn.now) → (state S.Store tx.new.conn.now).now.trees 4 ≡ (state S.Store tx.old.conn.now).now.trees 4) }
 {
     let timestamp = value.timestamp.to_be_bytes();
@@ -58,11 +58,11 @@ fn replace_entry<S: Alter>(
     value: &Value,
 ) -> Result<(), Fault>
     requires inside { WhereOpen (state S.Store tx.old.conn.now) (IsInside (state S.Store tx.old.conn.now)) }
-    requires there { WhereOpen (state S.Store tx.old.conn.now) (at (drafted (state S.Store tx.old.conn.now)) (place name.now value.now.index) ≢ None) }
+    requires there { WhereOpen (state S.Store tx.old.conn.now) (at (draft_table (state S.Store tx.old.conn.now)) (place name.now value.now.index) ≢ None) }
     ensures same_reference { tx.new.conn.ghost_name ≡ tx.old.conn.ghost_name }
     ensures survives { Survives (state S.Store tx.old.conn.now) (state S.Store tx.new.conn.now) (λ _. ⊥) }
     ensures committed { KeepsCommitted (state S.Store tx.old.conn.now) (state S.Store tx.new.conn.now) }
-    ensures put { OnOk result (HasCleanDisk (state S.Store tx.new.conn.now) → IsTrue (state S.Store tx.old.conn.now).is_open × IsDraft (state S.Store tx.new.conn.now) (record (drafted (state S.Store tx.old.conn.now)) { values = map.insert (drafted (state S.Store tx.old.conn.now)).values (place name.now value.now.index) value.now })) }
+    ensures put { OnOk result (HasCleanDisk (state S.Store tx.new.conn.now) → IsTrue (state S.Store tx.old.conn.now).is_open × IsDraft (state S.Store tx.new.conn.now) (record (draft_table (state S.Store tx.old.conn.now)) { values = map.insert (draft_table (state S.Store tx.old.conn.now)).values (place name.now value.now.index) value.now })) }
     ensures beside { OnOk result (HasCleanDisk (state S.Store tx.new.conn.now) → (state S.Store tx.new.conn.now).now.trees 4 ≡ (state S.Store tx.old.conn.now).now.trees 4) }
 {
     let refs = refs_of(alloc, value.references.as_slice())?;
@@ -77,11 +77,11 @@ pub(crate) fn replace_entries<S: Alter>(
     values: &[Value],
 ) -> Result<(), Fault>
     requires inside { WhereOpen (state S.Store tx.old.conn.now) (IsInside (state S.Store tx.old.conn.now)) }
-    requires there { WhereOpen (state S.Store tx.old.conn.now) (ArePresent (drafted (state S.Store tx.old.conn.now)) name.now (indexes values.now)) }
+    requires there { WhereOpen (state S.Store tx.old.conn.now) (ArePresent (draft_table (state S.Store tx.old.conn.now)) name.now (indexes values.now)) }
     ensures same_reference { tx.new.conn.ghost_name ≡ tx.old.conn.ghost_name }
     ensures survives { Survives (state S.Store tx.old.conn.now) (state S.Store tx.new.conn.now) (λ _. ⊥) }
     ensures committed { KeepsCommitted (state S.Store tx.old.conn.now) (state S.Store tx.new.conn.now) }
-    ensures put { OnOk result (HasCleanDisk (state S.Store tx.new.conn.now) → IsTrue (state S.Store tx.old.conn.now).is_open → IsDraft (state S.Store tx.new.conn.now) (with_values (drafted (state S.Store tx.old.conn.now)) name.now values.now)) }
+    ensures put { OnOk result (HasCleanDisk (state S.Store tx.new.conn.now) → IsTrue (state S.Store tx.old.conn.now).is_open → IsDraft (state S.Store tx.new.conn.now) (with_values (draft_table (state S.Store tx.old.conn.now)) name.now values.now)) }
     ensures beside { OnOk result (HasCleanDisk (state S.Store tx.new.conn.now) → (state S.Store tx.new.conn.now).now.trees 4 ≡ (state S.Store tx.old.conn.now).now.trees 4) }
 {
     for value in values {

@@ -24,15 +24,15 @@ pub struct SqlRows {
 
 impl Model for SqlRows {
     ghost use Rattle.hdl_rows.specs.Table.{Held, held_code, IsPlaced};
-    ghost use Rattle.hdl_sqlrows.specs.Kept.{IsSettled, seen, shown};
+    ghost use Rattle.hdl_sqlrows.specs.Kept.{IsSettled, state_of, table_of};
 
     ghost Value = { Held };
 
     ghost coded = { held_code };
 
-    ghost view = { λ s. record { table = shown s.conn; refused = s.refusals } };
+    ghost view = { λ s. record { table = table_of s.conn; refused = s.refusals } };
 
-    ghost invariant = { λ s. IsSettled (seen s.conn) × IsPlaced (shown s.conn) };
+    ghost invariant = { λ s. IsSettled (state_of s.conn) × IsPlaced (table_of s.conn) };
 }
 
 impl SqlRows {

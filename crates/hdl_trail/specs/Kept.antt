@@ -32,8 +32,8 @@ put_behind most kept newest = if nat_lt (length kept) most then kept ++ newest �
 -- ---- a frame that isn't answered
 
 -- the message that begins with the frame
-abbrev pub begun : Exchange → Mark
-begun e = record { key = e.key; length = e.length; operation = e.operation }
+abbrev pub first_mark : Exchange → Mark
+first_mark e = record { key = e.key; length = e.length; operation = e.operation }
 
 -- the message with the frame's piece: its operation is known once its front came; a piece of another length is ignored
 abbrev pub grown : Exchange → Mark → Mark
@@ -46,11 +46,11 @@ grown_among e (m ∷ ms) = if is_of e.key m then grown e m ∷ ms else m ∷ gro
 
 -- a piece goes to its message, or begins it
 abbrev pub with_piece : Exchange → List Mark → List Mark
-with_piece e ms = if list_any (is_of e.key) ms then grown_among e ms else put_behind PARTIALS_MAX ms (begun e)
+with_piece e ms = if list_any (is_of e.key) ms then grown_among e ms else put_behind PARTIALS_MAX ms (first_mark e)
 
 -- what isn't answered is a piece that is kept or ignored, or is of no account
-abbrev pub unanswered : Followed → Exchange → Followed
-unanswered f e = if e.is_piece then record f { partials = with_piece e f.partials } else f
+abbrev pub leave_unanswered : Followed → Exchange → Followed
+leave_unanswered f e = if e.is_piece then record f { partials = with_piece e f.partials } else f
 
 -- ---- a frame that is answered
 
@@ -59,8 +59,8 @@ abbrev pub operation_of : Exchange → List Mark → Option ℕ
 operation_of e ms = option_or e.operation (if e.is_piece then option_and_then (λ m. m.operation) (find (is_of e.key) ms) else None)
 
 -- of a message that is whole nothing is kept
-abbrev pub ended : Exchange → List Mark → List Mark
-ended e ms = if e.is_piece then filter (λ m. not (is_of e.key m)) ms else ms
+abbrev pub end_message : Exchange → List Mark → List Mark
+end_message e ms = if e.is_piece then filter (λ m. not (is_of e.key m)) ms else ms
 
 -- operation 200 is a challenge response
 abbrev pub is_response : Option ℕ → Bool
@@ -68,32 +68,32 @@ is_response None = false
 is_response (Some operation) = operation == 200
 
 -- a challenge response spends the challenge of its peer and SessionId, unless it is out of the grammar (code 4)
-abbrev pub redeemed : Key → Option ℕ → ℕ → List Sent → List Sent
-redeemed key operation code sent =
+abbrev pub redeem : Key → Option ℕ → ℕ → List Sent → List Sent
+redeem key operation code sent =
     if is_response operation && not (code == 4)
     then filter (λ s. not (is_from key.number key.session s)) sent
     else sent
 
 -- a challenge (code 402) is put under its SessionId, which no other has then
-abbrev pub challenged : ℕ → ℕ → ℕ → List Sent → List Sent
-challenged number code session sent =
+abbrev pub add_challenge : ℕ → ℕ → ℕ → List Sent → List Sent
+add_challenge number code session sent =
     if code == 402
     then put_behind CHALLENGES_MAX (filter (λ s. not (s.session == session)) sent) (record { number = number; session = session })
     else sent
 
 -- what a reply of this code under this SessionId leaves
-abbrev pub answered : Followed → Exchange → ℕ → ℕ → Followed
-answered f e code session = record {
-  partials = ended e f.partials;
-  challenges = challenged e.key.number code session (redeemed e.key (operation_of e f.partials) code f.challenges);
+abbrev pub leave_answered : Followed → Exchange → ℕ → ℕ → Followed
+leave_answered f e code session = record {
+  partials = end_message e f.partials;
+  challenges = add_challenge e.key.number code session (redeem e.key (operation_of e f.partials) code f.challenges);
 }
 
 -- a busy answer (code 3) changes nothing
-abbrev pub settled_by : Followed → Exchange → Option (ℕ × ℕ) → Followed
-settled_by f e None = unanswered f e
-settled_by f e (Some reply) = if reply.0 == 3 then f else answered f e reply.0 reply.1
+abbrev pub settle_by : Followed → Exchange → Option (ℕ × ℕ) → Followed
+settle_by f e None = leave_unanswered f e
+settle_by f e (Some reply) = if reply.0 == 3 then f else leave_answered f e reply.0 reply.1
 
 -- what is followed once the last frame and its reply, if any, are settled
-abbrev pub settled : Followed → Option Exchange → Followed
-settled f None = f
-settled f (Some e) = settled_by f e e.reply
+abbrev pub settle : Followed → Option Exchange → Followed
+settle f None = f
+settle f (Some e) = settle_by f e e.reply

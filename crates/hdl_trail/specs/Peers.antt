@@ -5,7 +5,7 @@ use Rattle.hdl_limits.specs.declared.TheConstants.{UNDER_WAY_MAX}
 use Rattle.hdl_frame.specs.Envelope.{envelope_at}
 use Rattle.hdl_trail.specs.declared.exchange.Exchange.{Exchange}
 use Rattle.hdl_trail.specs.Exchange.{exchange_of, with_reply}
-use Rattle.hdl_trail.specs.Kept.{Followed, is_held, settled}
+use Rattle.hdl_trail.specs.Kept.{Followed, is_held, settle}
 
 -- the addresses, that with number 1 first; what is followed under their numbers; and the frames under way, whose replies aren't whole, the oldest first
 pub record Roll (A : Type 0) : Type 0 where
@@ -47,7 +47,7 @@ module _ {A : Type 0} where
 
   -- what was seen of the reply to the oldest frame is all of it
   abbrev pub settle_oldest : Roll A → Roll A
-  settle_oldest r = record { known = r.known; followed = settled r.followed (oldest r.under_way); under_way = drop 1 r.under_way }
+  settle_oldest r = record { known = r.known; followed = settle r.followed (oldest r.under_way); under_way = drop 1 r.under_way }
 
   -- with room for one frame more
   abbrev pub with_room : Roll A → Roll A

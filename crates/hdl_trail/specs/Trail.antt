@@ -2,5 +2,5 @@
 use Rattle.hdl_trail.specs.declared.trail.Trail.{Trail}
 use Rattle.hdl_trail.specs.Kept.{Followed}
 
-abbrev pub followed : Trail → Followed
-followed t = record { partials = t.partials.items; challenges = t.challenges.items }
+abbrev pub followed_by : Trail → Followed
+followed_by t = record { partials = t.partials.items; challenges = t.challenges.items }

@@ -1,7 +1,7 @@
 //! What the service keeps of a lane, as far as the trail sees it.
 
 ghost use Rattle.std.specs.Prelude.{◌≡◌, ◌<◌};
-ghost use Rattle.hdl_trail.specs.Kept.{begun, grown, is_of, is_from, put_behind};
+ghost use Rattle.hdl_trail.specs.Kept.{first_mark, grown, is_of, is_from, put_behind};
 
 use crate::exchange::Exchange;
 use arrayvec::ArrayVec;
@@ -26,8 +26,8 @@ pub struct Mark {
 
 impl Mark {
     /// The message that begins with the frame.
-    pub(crate) fn begun(exchange: Exchange) -> Mark
-        ensures { result ≡ begun exchange }
+    pub(crate) fn first_mark(exchange: Exchange) -> Mark
+        ensures { result ≡ first_mark exchange }
     {
         Mark {
             key: exchange.key,

@@ -5,8 +5,8 @@
 //! a number under which nothing is kept means nothing to the service, so the next address may have it.
 //!
 //! ```text
-//! a datagram -> Peers::came -> its number     (none where it is no frame)
-//! a reply    -> Peers::answered, replied      the trail sees its code, and that it is whole
+//! a datagram -> Peers::note_octets -> its number     (none where it is no frame)
+//! a reply    -> Peers::note_reply, end_reply      the trail sees its code, and that it is whole
 //! a number   -> Peers::address                where the reply goes
 //! a reply    -> Peers::is_within              whether it may go to an address that nothing shows to be there
 //! ```
@@ -20,8 +20,8 @@
 //! ```rust
 //! // crates/hdl_host/src/packets.rt
 //! let from = Origin { place, address };
-//! if let Ok(Some(peer)) = self.post.peers.came(from, &buffer[..length]) {
-//!     self.post.came(peer, &buffer[..length]);
+//! if let Ok(Some(peer)) = self.post.peers.note_octets(from, &buffer[..length]) {
+//!     self.post.note_request(peer, &buffer[..length]);
 //!     return Ok(Some((peer, length)));
 //! }
 //! ```

@@ -22,12 +22,12 @@ pub struct Peers<A> {
 impl<A> Model for Peers<A> {
     ghost use Rattle.std.specs.Prelude.{◌≤◌, length};
     ghost use Rattle.hdl_limits.specs.declared.TheConstants.{PEERS_MAX};
-    ghost use Rattle.hdl_trail.specs.Trail.{followed};
+    ghost use Rattle.hdl_trail.specs.Trail.{followed_by};
     ghost use Rattle.hdl_trail.specs.Peers.{Roll};
 
     ghost Value = { Roll A };
 
-    ghost view = { λ p. record { known = p.known.items; followed = followed p.trail; under_way = p.trail.under_way.items } };
+    ghost view = { λ p. record { known = p.known.items; followed = followed_by p.trail; under_way = p.trail.under_way.items } };
 
     ghost invariant = { λ p. length p.known.items ≤ PEERS_MAX };
 }
@@ -96,7 +96,7 @@ impl<A: Eq + Copy> Peers<A> {
     /// Octets came from this address: the number under which they come, which is the address's until their reply is whole, and longer while something is kept
     /// under it. None where they are no frame; then nothing changes. Where as many frames are under way as may be, the oldest is settled first; memory that is
     /// refused changes no more than that.
-    pub fn came(&mut self, from: A, octets: &[u8]) -> Result<Option<u16>, AllocError>
+    pub fn note_octets(&mut self, from: A, octets: &[u8]) -> Result<Option<u16>, AllocError>
         ensures own { IfOk result (λ number. IfSome number (λ n. (0 < n) × (n ≤ PEERS_MAX) × IsNumberOf A.eq self.new.known from n)) }
         ensures kept { (n : ℕ) → IsTrue (holds (with_room self.old) n) → IfSome (address_among self.old.known n) (λ a. address_among self.new.known n ≡ Some a) }
         ensures some { IsFrame octets.now → IfOk result (λ number. IsSome number) }
@@ -110,7 +110,7 @@ impl<A: Eq + Copy> Peers<A> {
         };
         self.make_room();
         let number = self.number(from)?;
-        self.trail.came(number, &frame);
+        self.trail.note_frame(number, &frame);
         Ok(Some(number))
     }
 
@@ -125,16 +125,16 @@ impl<A: Eq + Copy> Peers<A> {
     }
 
     /// A datagram of the reply to the oldest frame is sent.
-    pub fn answered(&mut self, datagram: &[u8])
+    pub fn note_reply(&mut self, datagram: &[u8])
         ensures known { self.new.known ≡ self.old.known }
         ensures followed { self.new.followed ≡ self.old.followed }
         ensures under_way { self.new.under_way ≡ reply_seen datagram.now self.old.under_way }
     {
-        self.trail.answered(datagram);
+        self.trail.note_reply(datagram);
     }
 
     /// The reply to the oldest frame is whole, or there is none.
-    pub fn replied(&mut self)
+    pub fn end_reply(&mut self)
         ensures { self.new ≡ settle_oldest self.old }
     {
         self.trail.finish_oldest();

@@ -17,9 +17,9 @@ ghost use Rattle.std.specs.List.{list_any, position};
 ghost use Rattle.hdl_limits.specs.declared.TheConstants.{CHALLENGES_MAX, PARTIALS_MAX, PEERS_MAX, UNDER_WAY_MAX};
 ghost use Rattle.hdl_trail.specs.Allowance.{answers_challenge, is_within_last};
 ghost use Rattle.hdl_trail.specs.Exchange.{exchange_of};
-ghost use Rattle.hdl_trail.specs.Kept.{answered, challenged, ended, is_held, is_of, operation_of, redeemed, settled, settled_by, with_piece};
+ghost use Rattle.hdl_trail.specs.Kept.{leave_answered, add_challenge, end_message, is_held, is_of, operation_of, redeem, settle, settle_by, with_piece};
 ghost use Rattle.hdl_trail.specs.Peers.{is_under_way, oldest, reply_seen};
-ghost use Rattle.hdl_trail.specs.Trail.{followed};
+ghost use Rattle.hdl_trail.specs.Trail.{followed_by};
 
 use crate::exchange::Exchange;
 use crate::kept::{Key, Mark, Sent, put};
@@ -37,8 +37,8 @@ const CHALLENGE: u32 = 402;
 /// The operation of a challenge response.
 const RESPONSE: u32 = 200;
 
-/// What the service keeps of a lane, by the frames that came and the replies that were sent. Frames that come are seen by `came`, each datagram of
-/// the reply to the oldest by `answered`, and `finish_oldest` says that this reply is whole.
+/// What the service keeps of a lane, by the frames that came and the replies that were sent. Frames that come are seen by `note_frame`, each datagram of
+/// the reply to the oldest by `note_reply`, and `finish_oldest` says that this reply is whole.
 #[derive(Drop)]
 pub struct Trail {
     /// The partial messages, the oldest first.
@@ -52,7 +52,7 @@ pub struct Trail {
 impl Trail {
     /// Of a lane of which nothing is kept.
     pub fn new() -> Trail
-        ensures followed { followed result ≡ record { partials = []; challenges = [] } }
+        ensures followed { followed_by result ≡ record { partials = []; challenges = [] } }
         ensures under_way { result.under_way.items ≡ [] }
     {
         Trail {
@@ -64,7 +64,7 @@ impl Trail {
 
     /// Whether something is kept under the number, or a frame of it is under way.
     pub fn holds(&self, number: u16) -> bool
-        ensures { result ≡ is_held (followed self.now) number || is_under_way self.now.under_way.items number }
+        ensures { result ≡ is_held (followed_by self.now) number || is_under_way self.now.under_way.items number }
     {
         self.holds_pieces(number) || self.holds_challenge(number) || self.holds_frame(number)
     }
@@ -96,10 +96,10 @@ impl Trail {
     /// The place of the first of so many numbers, from 1 on, under which nothing is kept or under way. Where there is none so many are, at least.
     pub fn free_place(&self, count: usize) -> Option<usize>
         requires { count ≤ PEERS_MAX }
-        ensures free { IfSome result (λ place. (place < count) × IsFalse (is_held (followed self.now) (place + 1) || is_under_way self.now.under_way.items (place + 1))) }
+        ensures free { IfSome result (λ place. (place < count) × IsFalse (is_held (followed_by self.now) (place + 1) || is_under_way self.now.under_way.items (place + 1))) }
         ensures few { IfNone result (count ≤ PARTIALS_MAX + CHALLENGES_MAX + UNDER_WAY_MAX) }
     {
-        for place in 0..count.min(self.kept() + 1) {
+        for place in 0..count.min(self.count_kept() + 1) {
             if !self.holds(place as u16 + 1) {
                 return Some(place);
             }
@@ -108,7 +108,7 @@ impl Trail {
     }
 
     /// How many messages and challenges are kept, and frames under way.
-    fn kept(&self) -> usize
+    fn count_kept(&self) -> usize
         ensures count { result ≡ length self.now.partials.items + length self.now.challenges.items + length self.now.under_way.items }
         ensures few { result ≤ PARTIALS_MAX + CHALLENGES_MAX + UNDER_WAY_MAX }
     {
@@ -133,17 +133,17 @@ impl Trail {
     }
 
     /// A frame came from whoever has the number.
-    pub(crate) fn came(&mut self, number: u16, frame: &Frame<'_>)
+    pub(crate) fn note_frame(&mut self, number: u16, frame: &Frame<'_>)
         requires room { length self.old.under_way.items < UNDER_WAY_MAX }
-        ensures followed { followed self.new ≡ followed self.old }
+        ensures followed { followed_by self.new ≡ followed_by self.old }
         ensures under_way { self.new.under_way.items ≡ self.old.under_way.items ++ exchange_of number frame.now.envelope frame.now.bytes.now ∷ [] }
     {
         self.under_way.push(Exchange::of(number, frame));
     }
 
     /// A datagram of the reply to the oldest frame is sent.
-    pub fn answered(&mut self, datagram: &[u8])
-        ensures followed { followed self.new ≡ followed self.old }
+    pub fn note_reply(&mut self, datagram: &[u8])
+        ensures followed { followed_by self.new ≡ followed_by self.old }
         ensures under_way { self.new.under_way.items ≡ reply_seen datagram.now self.old.under_way.items }
     {
         if let Some(exchange) = self.under_way.get_mut(0) {
@@ -163,7 +163,7 @@ impl Trail {
 
     /// The reply to the oldest frame is whole, or there is none.
     pub fn finish_oldest(&mut self)
-        ensures followed { followed self.new ≡ settled (followed self.old) (oldest self.old.under_way.items) }
+        ensures followed { followed_by self.new ≡ settle (followed_by self.old) (oldest self.old.under_way.items) }
         ensures under_way { self.new.under_way.items ≡ drop 1 self.old.under_way.items }
     {
         let Some(exchange) = self.oldest() else {
@@ -175,7 +175,7 @@ impl Trail {
 
     /// What a frame and the reply to it leave.
     fn follow(&mut self, exchange: Exchange)
-        ensures followed { followed self.new ≡ settled_by (followed self.old) exchange exchange.reply }
+        ensures followed { followed_by self.new ≡ settle_by (followed_by self.old) exchange exchange.reply }
         ensures under_way { self.new.under_way.items ≡ self.old.under_way.items }
     {
         match exchange.reply {
@@ -192,7 +192,7 @@ impl Trail {
     /// A message was answered by this code, under this SessionId.
     fn close(&mut self, exchange: Exchange, code: u32, session: u32)
         ensures under_way { self.new.under_way.items ≡ self.old.under_way.items }
-        ensures followed { followed self.new ≡ answered (followed self.old) exchange code session }
+        ensures followed { followed_by self.new ≡ leave_answered (followed_by self.old) exchange code session }
     {
         let operation = self.operation(exchange);
         self.end(exchange);
@@ -202,7 +202,7 @@ impl Trail {
 
     /// Whether the oldest frame is a challenge response, or makes one whole, and the reply to it says success.
     pub fn answers_challenge(&self) -> bool
-        ensures { result ≡ answers_challenge (followed self.now) (oldest self.now.under_way.items) }
+        ensures { result ≡ answers_challenge (followed_by self.now) (oldest self.now.under_way.items) }
     {
         let Some(exchange) = self.oldest() else {
             return false;
@@ -246,7 +246,7 @@ impl Trail {
         ensures partials { self.new.partials.items ≡ with_piece exchange self.old.partials.items }
     {
         let Some(place) = self.place(exchange.key) else {
-            put(&mut self.partials, Mark::begun(exchange));
+            put(&mut self.partials, Mark::first_mark(exchange));
             return;
         };
         if let Some(mark) = self.partials.get_mut(place) {
@@ -258,7 +258,7 @@ impl Trail {
     fn end(&mut self, exchange: Exchange)
         ensures under_way { self.new.under_way.items ≡ self.old.under_way.items }
         ensures challenges { self.new.challenges.items ≡ self.old.challenges.items }
-        ensures partials { self.new.partials.items ≡ ended exchange self.old.partials.items }
+        ensures partials { self.new.partials.items ≡ end_message exchange self.old.partials.items }
     {
         if exchange.is_piece {
             self.partials.retain(|mark| !mark.is_of(exchange.key));
@@ -269,7 +269,7 @@ impl Trail {
     fn redeem(&mut self, key: Key, operation: Option<u32>, code: u32)
         ensures under_way { self.new.under_way.items ≡ self.old.under_way.items }
         ensures partials { self.new.partials.items ≡ self.old.partials.items }
-        ensures challenges { self.new.challenges.items ≡ redeemed key operation code self.old.challenges.items }
+        ensures challenges { self.new.challenges.items ≡ redeem key operation code self.old.challenges.items }
     {
         if operation == Some(RESPONSE) && code != MALFORMED {
             self.challenges
@@ -281,7 +281,7 @@ impl Trail {
     fn challenge(&mut self, number: u16, code: u32, session: u32)
         ensures under_way { self.new.under_way.items ≡ self.old.under_way.items }
         ensures partials { self.new.partials.items ≡ self.old.partials.items }
-        ensures challenges { self.new.challenges.items ≡ challenged number code session self.old.challenges.items }
+        ensures challenges { self.new.challenges.items ≡ add_challenge number code session self.old.challenges.items }
     {
         if code == CHALLENGE {
             self.challenges.retain(|sent| sent.session != session);

@@ -11,7 +11,7 @@ ghost use Rattle.hdl_value.specs.Tests.{is_sound};
 use crate::fault::ValueFault;
 use crate::fields::{octet_at, string_at, u32_at, u64_at};
 use crate::kinds::HS_ADMIN;
-use crate::read::{check, copied};
+use crate::read::{check, copy_of};
 use crate::references::{RawReferences, references_at};
 use crate::value::Value;
 use std::alloc::Global;
@@ -134,6 +134,6 @@ impl<'a> CutValue<'a> {
         ensures fault { IfErr result (λ e. IsFirstFault self.now e) }
     {
         check(&self.fields)?;
-        Ok(copied(alloc, &self.fields)?)
+        Ok(copy_of(alloc, &self.fields)?)
     }
 }

@@ -40,7 +40,7 @@ pub(crate) fn check(raw: &RawValue<'_>) -> Result<(), ValueFault>
     Ok(())
 }
 
-pub(crate) fn copied(alloc: Global, raw: &RawValue<'_>) -> Result<Value, AllocError>
+pub(crate) fn copy_of(alloc: Global, raw: &RawValue<'_>) -> Result<Value, AllocError>
     requires { IsWhole raw.now.references }
     ensures { IfOk result (λ v. v ≡ value_view raw.now) }
 {

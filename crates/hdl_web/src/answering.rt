@@ -13,7 +13,7 @@ use bytes::Bytes;
 use futures::channel::oneshot;
 use futures::task::{Context, Poll};
 use futures::{Future, ready};
-use hdl_proxy::{Answer, Site, tagged};
+use hdl_proxy::{Answer, Site, with_tag};
 use http_body_util::Full;
 use hyper::Response;
 use std::alloc::{AllocError, Global};
@@ -37,8 +37,8 @@ impl Seen {
             Some(field) => Some(field.as_str()),
             None => None,
         };
-        let answer = self.site.dressed(alloc, answer)?;
-        tagged(alloc, answer, known)
+        let answer = self.site.dress(alloc, answer)?;
+        with_tag(alloc, answer, known)
     }
 }
 
@@ -103,7 +103,7 @@ impl<R: Wait + Clock + Drop, B: Drop> Answering<R, B> {
     }
 
     /// What is next, now that this came of the body.
-    fn gathered(&mut self, gathered: Gathered)
+    fn go_on_with(&mut self, gathered: Gathered)
         ensures { self.new.gathering ≡ None }
     {
         let Some(gathering) = self.gathering.take() else {
@@ -142,7 +142,7 @@ fn response_of_text<R: Wait + Clock>(
     text: &str,
 ) -> Result<Response<Full<Bytes>>, AllocError> {
     if let Some(visit) = &mut guest.visit {
-        visit.told(status, text.len());
+        visit.note_end(status, text.len());
     }
     text_response(alloc, status, text)
 }
@@ -154,7 +154,7 @@ fn response_of_way<R: Wait + Clock>(
     way: &Way,
 ) -> Result<Response<Full<Bytes>>, AllocError> {
     if let Some(visit) = &mut guest.visit {
-        visit.led(way.octets());
+        visit.end_redirect(way.octets());
     }
     way.response(alloc)
 }
@@ -170,7 +170,7 @@ impl<R: Wait + Clock + Drop, B: Future<Output = Gathered>> Future for Answering<
     fn poll(&mut self, cx: &mut Context<'_>) -> Poll<Self::Output> {
         if let Some(gathering) = &mut self.gathering {
             let gathered = ready!(gathering.body.poll(cx));
-            self.gathered(gathered);
+            self.go_on_with(gathered);
         }
         if let Some(answer) = self.made.take() {
             return Poll::Ready(response(self.alloc, &mut self.guest, answer));

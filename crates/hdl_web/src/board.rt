@@ -144,7 +144,7 @@ impl<R: Wait + Clock> Board<R> {
     }
 
     /// A question as far as what is kept answers it, and the handles that its aliases name. `path` is that of its request, where nothing else is asked by it.
-    fn known(&self, question: Question, path: Option<&str>) -> Result<Known, AllocError> {
+    fn find_known(&self, question: Question, path: Option<&str>) -> Result<Known, AllocError> {
         let mut question = question;
         let mut path = path;
         for _ in 0..=HOPS_MOST {
@@ -178,7 +178,7 @@ impl<R: Wait + Clock> Board<R> {
 
     /// Takes a question: it is answered by what is kept, or its answer comes. `path` is that of its request, where nothing else is asked by it.
     pub(crate) fn take(&self, question: Question, path: Option<&str>) -> Result<Turn, AllocError> {
-        match self.known(question, path)? {
+        match self.find_known(question, path)? {
             Known::Answer(answer) => Ok(Turn::Made(Ok(answer))),
             Known::Open(question, message, turn) => {
                 let (answer, from) = oneshot::channel(self.alloc)?;
@@ -209,7 +209,7 @@ impl<R: Wait + Clock> Board<R> {
 
     /// Goes on with the question that an alias led to.
     fn resume(&self, question: Question, answer: oneshot::Sender<Made>) {
-        match self.known(question, None) {
+        match self.find_known(question, None) {
             Ok(Known::Open(question, message, turn)) => {
                 self.send(question, message, turn, answer);
             }
@@ -270,7 +270,7 @@ impl<R: Wait + Clock> Board<R> {
     }
 
     /// Answers with the reply of the server at this place, unless that refers elsewhere.
-    fn heard(&self, place: usize, mut ask: Ask, reply: &Reply) {
+    fn take_reply(&self, place: usize, mut ask: Ask, reply: &Reply) {
         let code = reply.view().code();
         if code == Some(ResponseCode::ServiceReferral) {
             ask.miss(Miss::Elsewhere);
@@ -300,14 +300,14 @@ impl<R: Wait + Clock> Board<R> {
         post.asked.fetch_add(1, Ordering::Relaxed);
         match server.ask(&ask.message) {
             Ok(reply) => {
-                post.standing.lock(&self.rt).answered();
-                self.heard(place, ask, &reply);
+                post.standing.lock(&self.rt).note_answer();
+                self.take_reply(place, ask, &reply);
             }
             Err(NoAnswer::Memory) => ask.refuse(),
             Err(_) => {
                 let now = self.now();
                 post.failed.fetch_add(1, Ordering::Relaxed);
-                post.standing.lock(&self.rt).failed(now);
+                post.standing.lock(&self.rt).note_failure(now);
                 ask.miss(Miss::Unreachable);
                 self.forward(ask);
             }

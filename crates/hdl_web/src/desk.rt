@@ -83,7 +83,7 @@ impl<R: Wait + Clock + Copy + Drop> Desk<R> {
         }
     }
 
-    fn begun(&self, sent: Sent<'_>) -> Result<Start<R>, AllocError> {
+    fn begin(&self, sent: Sent<'_>) -> Result<Start<R>, AllocError> {
         if !self.board.writes {
             return Ok(Start::Turn(self.take(sent)?));
         }
@@ -102,7 +102,7 @@ impl<R: Wait + Clock + Copy + Drop> Desk<R> {
 
     /// What the response needs of a request. A field that is no text names no tag of ours, nor does one for which there is no memory: then
     /// the whole answer is sent.
-    fn seen<B>(&self, req: &Request<B>) -> Result<Seen, AllocError> {
+    fn read_fields<B>(&self, req: &Request<B>) -> Result<Seen, AllocError> {
         let known = match req.headers().get(IF_NONE_MATCH) {
             Some(value) => match value.to_str() {
                 Ok(text) => String::from_str(self.alloc, text).ok(),
@@ -120,7 +120,7 @@ impl<R: Wait + Clock + Copy + Drop> Desk<R> {
     /// Who asks.
     fn guest<B>(&self, req: &Request<B>) -> Guest<R> {
         Guest {
-            seen: self.seen(req),
+            seen: self.read_fields(req),
             visit: self.visit(req),
         }
     }
@@ -131,7 +131,7 @@ impl<R: Wait + Clock + Copy + Drop> Desk<R> {
     }
 
     /// What is told of the proxy itself, where that is asked for.
-    fn told(&self, path: &str) -> Result<Option<Turn>, AllocError> {
+    fn tell_of_itself(&self, path: &str) -> Result<Option<Turn>, AllocError> {
         match path {
             "/metrics" => Ok(Some(Turn::Told(200, self.board.metrics()?))),
             "/health" if self.board.is_fit() => {
@@ -151,10 +151,10 @@ impl<R: Wait + Clock + Copy + Drop> Desk<R> {
         if let Some(way) = self.way(sent) {
             return Ok(Start::Turn(Turn::Led(way)));
         }
-        if let Some(told) = self.told(sent.path)? {
+        if let Some(told) = self.tell_of_itself(sent.path)? {
             return Ok(Start::Turn(told));
         }
-        self.begun(sent)
+        self.begin(sent)
     }
 }
 

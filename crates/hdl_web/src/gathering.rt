@@ -73,11 +73,11 @@ impl<R: Wait + Clock> Counter<R> {
     fn hand_on(&self, order: Order, body: bytes::Bytes) -> Result<Turn, AllocError> {
         let Some((errands, turn)) = self.board.clerk(order.name.prefix())? else {
             let code = ResponseCode::ServiceReferral;
-            return Ok(self.refused(&order, Status::NotFound, code, ELSEWHERE));
+            return Ok(self.refuse_order(&order, Status::NotFound, code, ELSEWHERE));
         };
         if errands.len() >= WAITING_MOST {
             let code = ResponseCode::ServerBusy;
-            return Ok(self.refused(&order, Status::Unavailable, code, CROWDED));
+            return Ok(self.refuse_order(&order, Status::Unavailable, code, CROWDED));
         }
         self.send(errands, turn, order, body)
     }
@@ -90,7 +90,7 @@ impl<R: Wait + Clock> Counter<R> {
         }
     }
 
-    fn refused(&self, order: &Order, status: Status, code: ResponseCode, why: &str) -> Turn {
+    fn refuse_order(&self, order: &Order, status: Status, code: ResponseCode, why: &str) -> Turn {
         let handle = order.name.sent();
         Turn::Made(refusal(self.alloc, status, handle, code.number(), why))
     }
@@ -104,12 +104,12 @@ impl<R: Wait + Clock> Counter<R> {
             },
             Ok(Err(LimitedError::LengthLimit)) => {
                 let why = "The body has more than 1048576 octets. Nothing was done.";
-                self.refused(&order, Status::ContentTooLarge, ResponseCode::Error, why)
+                self.refuse_order(&order, Status::ContentTooLarge, ResponseCode::Error, why)
             }
             Ok(Err(_)) => Turn::Made(Err(AllocError)),
             Err(_) => {
                 let why = "The body didn't come within 10 seconds. Nothing was done.";
-                self.refused(&order, Status::RequestTimeout, ResponseCode::Error, why)
+                self.refuse_order(&order, Status::RequestTimeout, ResponseCode::Error, why)
             }
         }
     }

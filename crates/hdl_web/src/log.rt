@@ -85,7 +85,7 @@ fn moment<R: Clock>(rt: &R) -> u64 {
     }
 }
 
-fn begun<R: Clock>(rt: &R, alloc: Global, method: &str, path: &str) -> Option<RequestLine> {
+fn begin<R: Clock>(rt: &R, alloc: Global, method: &str, path: &str) -> Option<RequestLine> {
     Some(RequestLine {
         began: Instant::now(rt).ok()?,
         moment: moment(rt),
@@ -115,7 +115,7 @@ impl<R: Wait + Clock> Board<R> {
     }
 
     /// A request was refused with this status, since its head couldn't be read: its line is written, where any are.
-    pub(crate) fn refused(&self, status: u16) {
+    pub(crate) fn note_refusal(&self, status: u16) {
         let Some(visits) = &self.visits else {
             return;
         };
@@ -129,7 +129,7 @@ impl<R: Wait + Clock> Open<R> {
     /// A visit begins. Without memory it has no line.
     pub(crate) fn new(board: Arc<Board<R>>, method: &str, path: &str) -> Open<R> {
         let asked = match &board.visits {
-            Some(_) => begun(&board.rt, board.alloc, method, path),
+            Some(_) => begin_line(&board.rt, board.alloc, method, path),
             None => None,
         };
         Open { board, asked }
@@ -140,21 +140,21 @@ impl<R: Wait + Clock> Open<R> {
         let status = answer.status.number();
         self.board
             .counts
-            .answered(&self.board.rt, kind_of(answer), status);
-        self.told(status, answer.body.len());
+            .count_answer(&self.board.rt, kind_of(answer), status);
+        self.note_end(status, answer.body.len());
     }
 
     /// It is over, with a redirect whose body has so many octets.
-    pub(crate) fn led(&mut self, octets: usize) {
+    pub(crate) fn end_redirect(&mut self, octets: usize) {
         let status = Status::Found.number();
         self.board
             .counts
-            .answered(&self.board.rt, Kind::Redirect, status);
-        self.told(status, octets);
+            .count_answer(&self.board.rt, Kind::Redirect, status);
+        self.note_end(status, octets);
     }
 
     /// Its line is written, where any are.
-    pub(crate) fn told(&mut self, status: u16, octets: usize) {
+    pub(crate) fn note_end(&mut self, status: u16, octets: usize) {
         let (Some(visits), Some(asked)) = (&self.board.visits, self.asked.take()) else {
             return;
         };

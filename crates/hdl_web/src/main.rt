@@ -100,7 +100,7 @@ fn writer(
 }
 
 /// The servers, and who asks each.
-fn hired(
+fn hire(
     rt: &HostRuntime,
     words: &ProxyWords,
     routes: Vec<Route>,
@@ -191,7 +191,7 @@ fn main(rt: HostRuntime) -> ExitCode {
     let Some(listening) = listening(&rt, &words) else {
         return ExitCode::from(1);
     };
-    let served = match hired(&rt, &words, routes) {
+    let served = match hire(&rt, &words, routes) {
         Ok(staff) => serve_http(&rt, listening, staff, log, &mut rt.stdout()),
         Err(fault) => Err(fault),
     };

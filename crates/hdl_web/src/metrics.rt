@@ -78,7 +78,7 @@ impl Counts {
     }
 
     /// An answer was given.
-    pub(crate) fn answered<R: Wait>(&self, rt: &R, kind: Kind, status: u16) {
+    pub(crate) fn count_answer<R: Wait>(&self, rt: &R, kind: Kind, status: u16) {
         add_to(&mut self.answers.lock(rt), kind, status);
     }
 
@@ -135,7 +135,7 @@ fn put_server(text: &mut String, server: &str, told: Told) -> Result<(), AllocEr
 }
 
 impl<R: Wait + Clock> Board<R> {
-    fn told(&self, post: &Post) -> Told {
+    fn state_of(&self, post: &Post) -> Told {
         Told {
             asked: post.asked.load(Ordering::Relaxed),
             failed: post.failed.load(Ordering::Relaxed),
@@ -152,7 +152,7 @@ impl<R: Wait + Clock> Board<R> {
             "# TYPE hdl_proxy_server_left_out gauge\n# TYPE hdl_proxy_server_waiting gauge\n",
         )?;
         for (route, post) in self.routes.iter().zip(self.posts.iter()) {
-            put_server(text, &route.address, self.told(post))?;
+            put_server(text, &route.address, self.state_of(post))?;
         }
         Ok(())
     }

@@ -48,7 +48,7 @@ where
         match self.inner.poll(cx) {
             Poll::Ready(Err(fault)) => {
                 if let Some(status) = refusal_of(&fault) {
-                    self.board.refused(status);
+                    self.board.note_refusal(status);
                 }
                 Poll::Ready(())
             }

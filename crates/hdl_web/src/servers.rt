@@ -67,7 +67,7 @@ impl Server {
     }
 
     /// The connection that was kept, or a new one.
-    fn opened(&mut self) -> Result<Session<Connection>, ClientFault> {
+    fn open(&mut self) -> Result<Session<Connection>, ClientFault> {
         match self.session.take() {
             Some(session) => Ok(session),
             None => {
@@ -135,7 +135,7 @@ impl Writer {
             let Some(server) = self.servers.get_mut(*place) else {
                 continue;
             };
-            match server.opened() {
+            match server.open() {
                 Ok(session) => {
                     let reply = server.ask_with(session, body, key)?;
                     if !refers(&reply) {

@@ -36,7 +36,7 @@ const HEAD_SECONDS: u64 = 10;
 const REST_MILLISECONDS: u64 = 100;
 
 /// The limits of connections: of a head's octets, and of the time that it takes.
-pub(crate) fn limited<T: Timer>(mut http: Builder<T>) -> Builder<T> {
+pub(crate) fn with_limits<T: Timer>(mut http: Builder<T>) -> Builder<T> {
     http.max_buf_size(HEAD_MOST);
     http.header_read_timeout(Some(Duration::from_secs(HEAD_SECONDS)));
     http
@@ -72,13 +72,17 @@ impl<R: Wait + Clock + Copy + Drop> Host for Reception<R> {
 }
 
 /// What all connections share, in this runtime.
-fn opened<R>(rt: &R, runtime: &LocalRuntime, board: Arc<Board<R>>) -> io::Result<Reception<R>>
+fn open_reception<R>(
+    rt: &R,
+    runtime: &LocalRuntime,
+    board: Arc<Board<R>>,
+) -> io::Result<Reception<R>>
 where
     R: Wait + Clock + RandomSource + AllocGlobal + Copy + Drop,
 {
     let timers = runtime.handle().time().clone()?;
     let timer = TokioTimer::new(*rt, timers.clone()?);
-    let http = limited(Builder::new(rt.alloc(), RandomState::new(rt)?).timer(timer));
+    let http = with_limits(Builder::new(rt.alloc(), RandomState::new(rt)?).timer(timer));
     Ok(Reception {
         rt: *rt,
         alloc: rt.alloc(),
@@ -106,7 +110,7 @@ where
         mut runtime,
         listener,
     } = event_loop;
-    let reception = opened(rt, &runtime, board)?;
+    let reception = open_reception(rt, &runtime, board)?;
     serve_all(
         rt,
         &mut runtime,

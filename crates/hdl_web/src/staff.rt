@@ -54,7 +54,7 @@ struct Waiting<S, C> {
 }
 
 /// The post of a crew, and the crew there.
-fn posted<S: Drop, C: Drop>(
+fn post_of<S: Drop, C: Drop>(
     alloc: Global,
     crew: Crew<S, C>,
     writes: bool,
@@ -85,7 +85,7 @@ fn all_posted<S: Drop, C: Drop>(
     let mut posts = Vec::new(alloc);
     let mut all = Vec::new(alloc);
     for crew in crews {
-        let (post, waiting) = posted(alloc, crew, writes)?;
+        let (post, waiting) = post_of(alloc, crew, writes)?;
         posts.push(post)?;
         all.push(waiting)?;
     }

@@ -179,7 +179,7 @@ fn proxy_words(alloc: Global, found: &ArgMatches<'_>) -> Result<ProxyWords, Allo
     })
 }
 
-fn parsed(alloc: Global, words: &[String]) -> Result<ProxyWords, Error> {
+fn parse(alloc: Global, words: &[String]) -> Result<ProxyWords, Error> {
     let matches = command(alloc)?.try_get_matches_from(words)?;
     Ok(proxy_words(alloc, &matches)?)
 }
@@ -190,7 +190,7 @@ pub fn read_words(rt: &HostRuntime) -> Invocation {
         let _ = eprintln!(rt; "error: the command line cannot be read");
         return Invocation::Ended(2);
     };
-    match parsed(rt.alloc(), words.as_slice()) {
+    match parse(rt.alloc(), words.as_slice()) {
         Ok(found) => Invocation::Proxy(found),
         Err(error) => {
             let is_help = !error.use_stderr();

@@ -84,7 +84,7 @@ pub trait Clock {
 
     /// Something was done, so the next pause begins a wait. Workers call it once they put what came through their door, and when they took
     /// an outcome or wrote one; `serve` after a turn that answered.
-    fn worked(&mut self)
+    fn note_work(&mut self)
         ensures { IsTrue is_observed → answers self.new ≡ answers self.old };
 }
 
@@ -140,7 +140,7 @@ pub trait Packets {
             (λ _. sent self.new ≡ sent self.old) };
 
     /// What was sent is all that goes of the reply to the oldest frame without one.
-    fn replied(&mut self)
+    fn end_reply(&mut self)
         ensures faults { fault_count self.new ≡ fault_count self.old }
         ensures received { IsTrue is_observed → received self.new ≡ received self.old }
         ensures sent { IsTrue is_observed → sent self.new ≡ sent self.old };

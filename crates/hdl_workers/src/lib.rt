@@ -34,7 +34,7 @@
 //!   written after them by itself.
 //! - **A worker that took an outcome pauses once before it writes, where others are owed to it**: what comes meanwhile goes into the same
 //!   write, so many requests in flight cost fewer calls of the system (docs/BENCHMARKS.md, "Serving"). With one in flight nothing is owed, and it never pauses there.
-//! - **A clock is told what was done (`worked`).** A clock that sleeps where nobody asks has to tell one wait from the next, and from when it is
+//! - **A clock is told what was done (`note_work`).** A clock that sleeps where nobody asks has to tell one wait from the next, and from when it is
 //!   called it can't: what is done between two pauses takes less than a look at the machine's clock.
 #![tactic(auto)]
 

@@ -102,7 +102,7 @@ impl Packets for MemoryPackets {
         }
     }
 
-    fn replied(&mut self) {}
+    fn end_reply(&mut self) {}
 
     fn most_under_way(&self) -> usize {
         self.under_way

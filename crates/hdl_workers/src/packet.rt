@@ -104,7 +104,7 @@ fn put_frame<C: Clock, N: Nonces>(
                 nonce,
                 bytes,
             });
-            clock.worked();
+            clock.note_work();
             return true;
         }
         clock.pause();
@@ -121,7 +121,7 @@ fn await_outcome<C: Clock>(line: &mut Line, clock: &mut C) -> Option<Outcome>
 {
     while spend(&mut line.turns) {
         if let Some(outcome) = line.next() {
-            clock.worked();
+            clock.note_work();
             return Some(outcome);
         }
         clock.pause();
@@ -200,7 +200,7 @@ fn reply_oldest<P: Packets, C: Clock>(
         None => false,
         Some(outcome) => {
             let sufficed = send_reply(packets, peer, octets_of(&outcome), &mut line.turns);
-            packets.replied();
+            packets.end_reply();
             sufficed
         }
     }

@@ -146,9 +146,9 @@ fn relay<D: Door, C: Clock>(door: &mut D, line: &mut Line, clock: &mut C) -> Res
     }
     match line.next() {
         Some(outcome) => {
-            clock.worked();
+            clock.note_work();
             let written = write_joined(door, line, clock, outcome);
-            clock.worked();
+            clock.note_work();
             written
         }
         None => {

@@ -25,7 +25,7 @@ impl Clock for MemoryClock {
 
     fn pause(&mut self) {}
 
-    fn worked(&mut self) {}
+    fn note_work(&mut self) {}
 }
 
 /// A source that gives these nonces, and zeros after their end.

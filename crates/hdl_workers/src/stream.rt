@@ -269,7 +269,7 @@ fn put_close<C: Clock>(line: &mut Line, clock: &mut C) -> bool
             return true;
         }
         if line.next().is_some() {
-            clock.worked();
+            clock.note_work();
         } else {
             clock.pause();
         }
@@ -290,7 +290,7 @@ fn drop_outcomes<C: Clock>(line: &mut Line, clock: &mut C) -> bool
             return false;
         }
         if line.next().is_some() {
-            clock.worked();
+            clock.note_work();
         } else {
             clock.pause();
         }

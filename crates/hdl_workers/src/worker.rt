@@ -59,7 +59,7 @@ pub(crate) fn open<C: Clock>(line: &mut Line, clock: &mut C) -> bool
     while spend(&mut line.turns) {
         if line.has_room() {
             line.put(Happening::Open);
-            clock.worked();
+            clock.note_work();
             return true;
         }
         clock.pause();

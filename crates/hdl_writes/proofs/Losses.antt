@@ -4,7 +4,7 @@ use Rattle.std.specs.List.{filter}
 use Rattle.std.proofs.lemmas.List.Elements.{filter_passes}
 use Rattle.std.proofs.lemmas.List.Sorted.{IsPermutation-filter_both}
 use Rattle.hdl_value.specs.declared.value.Value.{Value}
-use Rattle.hdl_writes.specs.Plan.{is_among, known, fresh, gone}
+use Rattle.hdl_writes.specs.Plan.{is_among, known_values, fresh, missing_indexes}
 use Rattle.hdl_writes.specs.Record.{has_index}
 use Rattle.hdl_writes.specs.Laws.{LosesNothing}
 

@@ -32,7 +32,7 @@ use Rattle.hdl_lines.specs.Lines.{unstamped}
 use Rattle.hdl_lines.proofs.Readings.{either, mask_again, permissions_again}
 use Rattle.hdl_lines.proofs.RoundTrip.{if_some, ttl_again, ttl_number}
 use Rattle.hdl_proxy.specs.declared.words.KeptFor.TheVariants.{Seconds}
-use Rattle.hdl_proxy.specs.Json.{put_text, formatted, reference_members, reference_json, admin_json, list_json, is_text, base64_json, text_json, octets_json, data_json, put_written, written_json, put_permissions, value_json}
+use Rattle.hdl_proxy.specs.Json.{put_text, with_format, reference_members, reference_json, admin_json, list_json, is_text, base64_json, text_json, octets_json, data_json, put_written, written_json, put_permissions, value_json}
 use Rattle.hdl_proxy.specs.Words.{text_of, value_digits, usual_permissions, ttl_seconds}
 use Rattle.hdl_writes.specs.declared.data.Format.TheVariants as format
 use Rattle.hdl_writes.specs.declared.fault.EntryFault.TheVariants as fault
@@ -55,8 +55,8 @@ digits_same n lt =
 
 -- ---- data
 
-formatted_again : (name : List ℕ) (d : Data) → data_in (formatted name d) ≡ (ok_or (format_named name) fault.Format >>> λ f. ok_or (data_by f d) (data_fault f))
-unfolding data_in formatted_in formatted
+formatted_again : (name : List ℕ) (d : Data) → data_in (with_format name d) ≡ (ok_or (format_named name) fault.Format >>> λ f. ok_or (data_by f d) (data_fault f))
+unfolding data_in formatted_in with_format
 formatted_again name d = refl
 
 handle_text : (handle : List ℕ) → IsHandle handle → is_utf8 handle ≡ true
@@ -84,7 +84,7 @@ list_again rs bytes good =
     formatted_again (codes "vlist") (array (items_of (map reference_json rs)))
     ∙ rw (each_items_of (map reference_json rs)) (rw (references_again rs good.fits.each good.handles) (rw (lt-ltb (length rs) (2 ^ 32) good.fits.count) (ap Ok (sym good.layout))))
 
-base64_again : (octets : List ℕ) → AreOctets octets → data_in (formatted (codes "base64") (string (encode_of standard octets))) ≡ Ok octets
+base64_again : (octets : List ℕ) → AreOctets octets → data_in (with_format (codes "base64") (string (encode_of standard octets))) ≡ Ok octets
 base64_again octets fits =
     formatted_again (codes "base64") (string (encode_of standard octets))
     ∙ rw (decode_of-encode_of standard octets (search rules) fits) refl
@@ -92,7 +92,7 @@ base64_again octets fits =
 text_again : (octets : List ℕ) → AreOctets octets → data_in (text_json octets) ≡ Ok octets
 unfolding text_json
 text_again octets fits =
-    cond_both (is_utf8 octets) (formatted (codes "string") (string octets)) (base64_json octets) (λ d. data_in d ≡ Ok octets)
+    cond_both (is_utf8 octets) (with_format (codes "string") (string octets)) (base64_json octets) (λ d. data_in d ≡ Ok octets)
     (λ _. formatted_again (codes "string") (string octets)) (λ _. base64_again octets fits)
 
 octets_again : (kind octets : List ℕ) → AreOctets octets → data_in (octets_json kind octets) ≡ Ok octets

@@ -40,15 +40,15 @@ key_by user secret =
 unfoldable pub key_told : List ℕ → Result Key KeyFault
 key_told text = ok_or (cut_at colon text) fault.Base64 >>> λ x. key_by x.0 x.1
 
-abbrev pub decoded : List ℕ → Option (List ℕ)
-decoded text = result_ok (base64_of standard text)
+abbrev pub decode : List ℕ → Option (List ℕ)
+decode text = result_ok (base64_of standard text)
 
 -- the key of such a field, or the first thing that is wrong with it
 unfoldable pub key_in : Option (List ℕ) → Result Key KeyFault
 key_in field =
     ok_or field fault.Missing >>> λ octets.
     (ok_or (basic_in octets) fault.Scheme >>> λ text.
-    (ok_or (decoded text) fault.Base64 >>> λ told. key_told told))
+    (ok_or (decode text) fault.Base64 >>> λ told. key_told told))
 
 -- why there is no key: there was no memory, or what is wrong
 abbrev pub IsKeyFault : Result Key KeyFault → KeyFault → Type 0

@@ -10,7 +10,7 @@ use Rattle.hdl_proxy.specs.declared.words.KeptFor.TheVariants.{Seconds}
 use Rattle.hdl_proxy.specs.Json.{value_json}
 use Rattle.hdl_proxy.specs.Words.{ttl_seconds}
 use Rattle.hdl_writes.specs.Entry.{first_fault, value_told}
-use Rattle.hdl_writes.specs.Plan.{is_among, known, fresh, gone}
+use Rattle.hdl_writes.specs.Plan.{is_among, known_values, fresh, missing_indexes}
 use Rattle.hdl_writes.specs.Record.{has_index}
 
 -- JSON can say all of a sound value: its type is text, its TTL a number of seconds, no upper bit of its permissions or of an administrator's is set, and it has no references
@@ -31,10 +31,10 @@ WrittenIsRead =
 -- A change loses nothing: each given value is written once, what is there by a modification and what isn't by an addition, and what is
 -- removed at the end was not given.
 pub record LosesNothing (there : List ℕ) (vs : List Value) : Type 0 where
-  pub written : IsPermutation vs (known there vs ++ fresh there vs)
-  pub modified : All (λ v. is_among v.index there ≡ true) (known there vs)
+  pub written : IsPermutation vs (known_values there vs ++ fresh there vs)
+  pub modified : All (λ v. is_among v.index there ≡ true) (known_values there vs)
   pub added : All (λ v. is_among v.index there ≡ false) (fresh there vs)
-  pub removed : All (λ n. has_index n vs ≡ false) (gone there vs)
+  pub removed : All (λ n. has_index n vs ≡ false) (missing_indexes there vs)
 
 abbrev pub NothingIsLost : Type 0
 NothingIsLost = (there : List ℕ) (vs : List Value) → LosesNothing there vs

@@ -19,15 +19,15 @@ abbrev pub IsRecordFault : {A : Type 0} → Result A RecordFault → RecordFault
 IsRecordFault told e = (e ≡ fault.Memory) ⊎ (told ≡ Err e)
 
 -- a value, or its fault with its place
-abbrev pub placed : ℕ → Result Value EntryFault → Result Value RecordFault
-placed place (Ok v) = Ok v
-placed place (Err e) = Err (fault.Entry place e)
+abbrev pub value_in_record : ℕ → Result Value EntryFault → Result Value RecordFault
+value_in_record place (Ok v) = Ok v
+value_in_record place (Err e) = Err (fault.Entry place e)
 
 -- the values that these are, counted from a place
 abbrev pub values_from : ℕ → List Data → Result (List Value) RecordFault
 values_from place [] = Ok []
 values_from place (d ∷ ds) =
-    placed place (value_told d) >>> λ v. (values_from (place + 1) ds >>> λ vs. Ok (v ∷ vs))
+    value_in_record place (value_told d) >>> λ v. (values_from (place + 1) ds >>> λ vs. Ok (v ∷ vs))
 
 -- one of these has this index
 abbrev pub has_index : ℕ → List Value → Bool

@@ -52,7 +52,7 @@ const TOO_LONG: &str = "The change needs a request of more than 65536 octets. No
 const TOO_MANY: &str = "The change would remove more than 256 values. Nothing was done.";
 
 /// The answer to an order that stopped, behind the requests of it that were done.
-pub(crate) fn stopped(
+pub(crate) fn answer_to_stop(
     alloc: Global,
     handle: &[u8],
     stop: Stop,
@@ -107,7 +107,7 @@ pub(crate) fn reply_to<S: Service>(
 }
 
 /// Asks for a change. It is done where the reply says so.
-fn done<S: Service>(service: &mut S, order: &Order, body: &RequestBody) -> Result<(), Stop> {
+fn make_change<S: Service>(service: &mut S, order: &Order, body: &RequestBody) -> Result<(), Stop> {
     let reply = reply_to(service, order, body)?;
     let view = reply.view();
     if view.code() == Some(ResponseCode::Success) {
@@ -125,9 +125,9 @@ fn carry_one<S: Service>(
     body: &RequestBody,
     status: Status,
 ) -> Result<Answer, AllocError> {
-    match done(service, order, body) {
+    match make_change(service, order, body) {
         Ok(()) => success(alloc, order.name.sent(), status),
-        Err(stop) => stopped(alloc, order.name.sent(), stop, &[]),
+        Err(stop) => answer_to_stop(alloc, order.name.sent(), stop, &[]),
     }
 }
 
@@ -141,7 +141,7 @@ fn steps_done<S: Service>(
         return (0, Some(Stop::TooLong));
     }
     for (count, step) in steps.iter().enumerate() {
-        if let Err(stop) = done(service, order, step) {
+        if let Err(stop) = make_change(service, order, step) {
             return (count, Some(stop));
         }
     }
@@ -158,7 +158,7 @@ fn carry_steps<S: Service>(
         (_, None) => success(alloc, order.name.sent(), Status::Success),
         (count, Some(stop)) => {
             let behind = steps.get(..count).unwrap_or(&[]);
-            stopped(alloc, order.name.sent(), stop, behind)
+            answer_to_stop(alloc, order.name.sent(), stop, behind)
         }
     }
 }
@@ -258,7 +258,7 @@ fn merge<S: Service>(
             let steps = merging(alloc, order.name.sent(), &there, values)?;
             carry_steps(alloc, service, order, &steps)
         }
-        Err(stop) => stopped(alloc, order.name.sent(), stop, &[]),
+        Err(stop) => answer_to_stop(alloc, order.name.sent(), stop, &[]),
     }
 }
 
@@ -271,10 +271,10 @@ fn overwrite<S: Service>(
 ) -> Result<Answer, AllocError> {
     let there = match indexes_there(alloc, service, order, Vec::new(alloc)) {
         Ok(there) => there,
-        Err(stop) => return stopped(alloc, order.name.sent(), stop, &[]),
+        Err(stop) => return answer_to_stop(alloc, order.name.sent(), stop, &[]),
     };
     if there.len() > WRITTEN_MAX {
-        return stopped(alloc, order.name.sent(), Stop::TooMany, &[]);
+        return answer_to_stop(alloc, order.name.sent(), Stop::TooMany, &[]);
     }
     let steps = replacing(alloc, order.name.sent(), &there, values)?;
     carry_steps(alloc, service, order, &steps)
@@ -291,17 +291,17 @@ fn replace<S: Service>(
         handle: handle_of(alloc, order)?,
         values: copies(alloc, values)?,
     };
-    match done(service, order, &body) {
+    match make_change(service, order, &body) {
         Ok(()) => success(alloc, order.name.sent(), Status::Created),
         Err(Stop::Code(code)) if code == ResponseCode::HandleAlreadyExists.number() => {
             overwrite(alloc, service, order, values)
         }
-        Err(stop) => stopped(alloc, order.name.sent(), stop, &[]),
+        Err(stop) => answer_to_stop(alloc, order.name.sent(), stop, &[]),
     }
 }
 
 /// The first value whose index isn't among these.
-fn unasked(among: &[u32], values: &[Value]) -> Option<RecordFault> {
+fn first_unasked(among: &[u32], values: &[Value]) -> Option<RecordFault> {
     let place = values
         .iter()
         .position(|value| !is_among(value.index, among))?;
@@ -318,7 +318,7 @@ fn values_of(
 ) -> Result<Vec<Value>, RecordFault> {
     let values = read_record(alloc, body)?;
     if let Some(indexes) = among {
-        if let Some(fault) = unasked(indexes, &values) {
+        if let Some(fault) = first_unasked(indexes, &values) {
             return Err(fault);
         }
     }
@@ -399,12 +399,12 @@ fn read_told(alloc: Global, handle: &[u8], reply: &ReplyView<'_>) -> Result<Answ
             values,
         } if answered == handle => match whole_values(alloc, values)? {
             Some(all) => values_answer(alloc, handle, &all, Keeping::Never),
-            None => stopped(alloc, handle, Stop::Silent, &[]),
+            None => answer_to_stop(alloc, handle, Stop::Silent, &[]),
         },
-        ContentView::Values { .. } => stopped(alloc, handle, Stop::Silent, &[]),
+        ContentView::Values { .. } => answer_to_stop(alloc, handle, Stop::Silent, &[]),
         _ => {
             let stop = Stop::Code(reply.header.response_code);
-            stopped(alloc, handle, stop, &[])
+            answer_to_stop(alloc, handle, stop, &[])
         }
     }
 }
@@ -431,7 +431,7 @@ fn carry_read<S: Service>(
     };
     match reply_to(service, order, &body) {
         Ok(reply) => read_told(alloc, order.name.sent(), &reply.view()),
-        Err(stop) => stopped(alloc, order.name.sent(), stop, &[]),
+        Err(stop) => answer_to_stop(alloc, order.name.sent(), stop, &[]),
     }
 }
 

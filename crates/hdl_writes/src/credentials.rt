@@ -3,7 +3,7 @@
 ghost use Rattle.std.specs.Prelude.{◌≡◌, ◌⊎◌, IfOk, IfErr, option_map, option_copied};
 ghost use Rattle.percent_encoding.specs.Percent.{percent_decode};
 ghost use Rattle.hdl_value.specs.Reading.{Reads};
-ghost use Rattle.hdl_writes.specs.Credentials.{basic_in, user_in, key_by, key_told, decoded, key_in, IsKeyFault};
+ghost use Rattle.hdl_writes.specs.Credentials.{basic_in, user_in, key_by, key_told, decode, key_in, IsKeyFault};
 ghost use Rattle.hdl_writes.specs.declared.credentials.KeyFault.TheVariants as key_fault;
 
 use crate::data::is_named;
@@ -55,7 +55,7 @@ fn basic_in(field: &[u8]) -> Option<&[u8]>
 }
 
 /// The octets that a part stands for: its escapes are read once.
-fn unescaped(alloc: Global, part: &[u8]) -> Result<Vec<u8>, AllocError>
+fn unescape(alloc: Global, part: &[u8]) -> Result<Vec<u8>, AllocError>
     ensures { IfOk result (λ octets. octets.items ≡ percent_decode part.now) }
 {
     let mut octets = Vec::new(alloc);
@@ -85,11 +85,11 @@ fn key_by(alloc: Global, user: &[u8], secret: &[u8]) -> Result<Key, KeyFault>
     ensures key { IfOk result (λ key. key_by user.now secret.now ≡ Ok key) }
     ensures fault { IfErr result (IsKeyFault (key_by user.now secret.now)) }
 {
-    let user = unescaped(alloc, user)?;
+    let user = unescape(alloc, user)?;
     let Some((index, handle)) = user_in(&user) else {
         return Err(KeyFault::User);
     };
-    let secret = unescaped(alloc, secret)?;
+    let secret = unescape(alloc, secret)?;
     if secret.is_empty() {
         return Err(KeyFault::Secret);
     }
@@ -112,8 +112,8 @@ fn key_told(alloc: Global, text: &[u8]) -> Result<Key, KeyFault>
     }
 }
 
-fn decoded(alloc: Global, text: &[u8]) -> Result<Option<Vec<u8>>, AllocError>
-    ensures { IfOk result (λ o. option_map (λ v. v.items) o ≡ decoded text.now) }
+fn decode(alloc: Global, text: &[u8]) -> Result<Option<Vec<u8>>, AllocError>
+    ensures { IfOk result (λ o. option_map (λ v. v.items) o ≡ decode text.now) }
 {
     match STANDARD.decode(alloc, text) {
         Ok(octets) => Ok(Some(octets)),
@@ -135,7 +135,7 @@ pub fn read_key(alloc: Global, field: Option<&[u8]>) -> Result<Key, KeyFault>
     let Some(text) = basic_in(field) else {
         return Err(KeyFault::Scheme);
     };
-    match decoded(alloc, text)? {
+    match decode(alloc, text)? {
         Some(told) => key_told(alloc, &told),
         None => Err(KeyFault::Base64),
     }

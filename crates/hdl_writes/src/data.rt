@@ -33,7 +33,7 @@ enum Format {
 
 impl Format {
     /// The format of this name.
-    fn named(word: &str) -> Option<Format>
+    fn of_name(word: &str) -> Option<Format>
         ensures { result ≡ format_named word.now }
     {
         match word {
@@ -200,7 +200,7 @@ fn formatted_in(alloc: Global, json: &Json) -> Result<Vec<u8>, EntryFault>
     let Some(told) = json.get("value") else {
         return Err(EntryFault::Data);
     };
-    let Some(format) = Format::named(name) else {
+    let Some(format) = Format::of_name(name) else {
         return Err(EntryFault::Format);
     };
     octets_by(alloc, format, told)?.ok_or(format.fault())

@@ -1,6 +1,6 @@
 //! The handles of a prefix.
 
-use crate::carry::{Stop, reply_to, stopped};
+use crate::carry::{Stop, answer_to_stop, reply_to};
 use crate::order::{Order, Window};
 use crate::service::Service;
 use crate::told::{failure, status_of_change};
@@ -95,7 +95,7 @@ fn list_told(
         if reply.code() == Some(ResponseCode::Error) {
             return failure(alloc, handle, status_of_change(code), code, LONG_LIST, &[]);
         }
-        return stopped(alloc, handle, Stop::Code(code), &[]);
+        return answer_to_stop(alloc, handle, Stop::Code(code), &[]);
     };
     let page = page_of(alloc, handles, window)?;
     let told = told_window(window, page.count);
@@ -114,6 +114,6 @@ pub(crate) fn list_answer<S: Service>(
     let body = RequestBody::List { handle };
     match reply_to(service, order, &body) {
         Ok(reply) => list_told(alloc, order.name.sent(), &reply.view(), window),
-        Err(stop) => stopped(alloc, order.name.sent(), stop, &[]),
+        Err(stop) => answer_to_stop(alloc, order.name.sent(), stop, &[]),
     }
 }

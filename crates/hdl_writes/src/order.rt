@@ -7,7 +7,7 @@ use hdl_msg::ResponseCode;
 use hdl_name::Name;
 use hdl_proxy::{
     Answer, Pair, Status, has_pair, indexes_of, last_named, options, read_name, read_pairs,
-    refusal, types_of, unescaped, values_named,
+    refusal, types_of, unescape, values_named,
 };
 use std::alloc::{AllocError, Global};
 
@@ -112,7 +112,7 @@ impl From<AllocError> for AddressFault {
     }
 }
 
-fn said(why: &'static str) -> AddressFault {
+fn address_fault(why: &'static str) -> AddressFault {
     AddressFault::Words(why)
 }
 
@@ -120,7 +120,7 @@ fn said(why: &'static str) -> AddressFault {
 fn named_indexes(alloc: Global, pairs: &[Pair]) -> Result<Vec<u32>, AddressFault> {
     match indexes_of(alloc, pairs)? {
         Some(indexes) => Ok(indexes),
-        None => Err(said("An index is a number below 4294967296.")),
+        None => Err(address_fault("An index is a number below 4294967296.")),
     }
 }
 
@@ -128,7 +128,7 @@ fn is_set(alloc: Global, pairs: &[Pair], name: &str) -> Result<Option<bool>, Add
     match last_named(alloc, pairs, name)? {
         Some("true") => Ok(Some(true)),
         Some("false") => Ok(Some(false)),
-        Some(_) => Err(said("The words overwrite and auth are true or false.")),
+        Some(_) => Err(address_fault("The words overwrite and auth are true or false.")),
         None => Ok(None),
     }
 }
@@ -187,7 +187,9 @@ fn number_of(alloc: Global, pairs: &[Pair], name: &str) -> Result<Option<u32>, A
     match last_named(alloc, pairs, name)? {
         Some(text) => match text.parse::<u32>() {
             Ok(number) => Ok(Some(number)),
-            Err(_) => Err(said("The words page and pageSize are numbers below 4294967296.")),
+            Err(_) => Err(address_fault(
+                "The words page and pageSize are numbers below 4294967296.",
+            )),
         },
         None => Ok(None),
     }
@@ -208,7 +210,7 @@ fn bad_address(alloc: Global, asked: &[u8], why: &str) -> Result<Begun, AllocErr
 }
 
 /// The order of a handle's name, an act and the key that came with it, or why there is none.
-fn ordered(
+fn order_of(
     alloc: Global,
     octets: &[u8],
     act: Result<Act, AddressFault>,
@@ -254,7 +256,7 @@ fn prefix_handle(alloc: Global, pairs: &[Pair]) -> Result<Vec<u8>, AllocError> {
 
 fn begin_list(alloc: Global, sent: Sent<'_>, pairs: &[Pair]) -> Result<Begun, AllocError> {
     let octets = prefix_handle(alloc, pairs)?;
-    ordered(alloc, &octets, listing(alloc, pairs), sent.authorization)
+    order_of(alloc, &octets, listing(alloc, pairs), sent.authorization)
 }
 
 fn begin_handle(
@@ -263,9 +265,9 @@ fn begin_handle(
     text: &str,
     pairs: &[Pair],
 ) -> Result<Begun, AllocError> {
-    let octets = unescaped(alloc, text)?;
+    let octets = unescape(alloc, text)?;
     let act = act_of(alloc, sent.method, pairs);
-    ordered(alloc, &octets, act, sent.authorization)
+    order_of(alloc, &octets, act, sent.authorization)
 }
 
 fn other_method(alloc: Global, path: &str) -> Result<Begun, AllocError> {

@@ -2,7 +2,7 @@
 
 ghost use Rattle.std.specs.Prelude.{◌≡◌, ◌++◌, map, filter, IfOk, OnOk};
 ghost use Rattle.hdl_msg.specs.RequestBody.{requested};
-ghost use Rattle.hdl_writes.specs.Plan.{is_among, known, fresh, gone, modifying, adding, removing, merging, replacing};
+ghost use Rattle.hdl_writes.specs.Plan.{is_among, known_values, fresh, missing_indexes, modifying, adding, removing, merging, replacing};
 
 use crate::record::has_index;
 use hdl_limits::{Items, Octets};
@@ -25,8 +25,8 @@ struct Parts {
 }
 
 /// Copies of values, parted by whether their index is there.
-fn parted(alloc: Global, there: &[u32], values: &[Value]) -> Result<Parts, AllocError>
-    ensures known { IfOk result (λ parts. parts.known.items ≡ known there.now values.now) }
+fn part(alloc: Global, there: &[u32], values: &[Value]) -> Result<Parts, AllocError>
+    ensures known { IfOk result (λ parts. parts.known.items ≡ known_values there.now values.now) }
     ensures fresh { IfOk result (λ parts. parts.fresh.items ≡ fresh there.now values.now) }
 {
     let mut known = Vec::new(alloc);
@@ -42,8 +42,8 @@ fn parted(alloc: Global, there: &[u32], values: &[Value]) -> Result<Parts, Alloc
 }
 
 /// The indexes that are there and that no value has.
-fn gone(alloc: Global, there: &[u32], values: &[Value]) -> Result<Vec<u32>, AllocError>
-    ensures { IfOk result (λ left. left.items ≡ gone there.now values.now) }
+fn missing_indexes(alloc: Global, there: &[u32], values: &[Value]) -> Result<Vec<u32>, AllocError>
+    ensures { IfOk result (λ left. left.items ≡ missing_indexes there.now values.now) }
 {
     let mut gone = Vec::new(alloc);
     for index in there {
@@ -125,7 +125,7 @@ pub fn merging(
 ) -> Result<Vec<RequestBody>, AllocError>
     ensures { IfOk result (λ steps. map requested steps.items ≡ merging handle.now there.now values.now) }
 {
-    let Parts { known, fresh } = parted(alloc, there, values)?;
+    let Parts { known, fresh } = part(alloc, there, values)?;
     let mut steps = Vec::new(alloc);
     push_modify(alloc, &mut steps, handle, known)?;
     push_add(alloc, &mut steps, handle, fresh)?;
@@ -143,7 +143,7 @@ pub fn replacing(
 ) -> Result<Vec<RequestBody>, AllocError>
     ensures { IfOk result (λ steps. map requested steps.items ≡ replacing handle.now there.now values.now) }
 {
-    let gone = gone(alloc, there, values)?;
+    let gone = missing_indexes(alloc, there, values)?;
     let mut steps = merging(alloc, handle, there, values)?;
     push_remove(alloc, &mut steps, handle, gone)?;
     Ok(steps)

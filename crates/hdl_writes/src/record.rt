@@ -6,7 +6,7 @@ ghost use Rattle.hdl_value.specs.Reading.{Reads};
 ghost use Rattle.serde_json.specs.Data.{Data};
 ghost use Rattle.serde_json.specs.View.{view, items_view};
 ghost use Rattle.hdl_writes.specs.Entry.{value_told};
-ghost use Rattle.hdl_writes.specs.Record.{placed, values_from, has_index, twice_from, distinct_at, entries_told, listed_in, is_single, record_told, text_in, body_told, record_in, IsRecordFault};
+ghost use Rattle.hdl_writes.specs.Record.{value_in_record, values_from, has_index, twice_from, distinct_at, entries_told, listed_in, is_single, record_told, text_in, body_told, record_in, IsRecordFault};
 
 use crate::entry::value_told;
 use crate::fault::{EntryFault, RecordFault};
@@ -16,9 +16,9 @@ use serde_json::Value as Json;
 use std::alloc::{AllocError, Global};
 
 /// The value at this place of a record.
-fn placed(alloc: Global, place: u64, json: &Json) -> Result<Value, RecordFault>
-    ensures value { IfOk result (λ v. placed place (value_told (view json.now)) ≡ Ok v) }
-    ensures fault { IfErr result (IsRecordFault (placed place (value_told (view json.now)))) }
+fn value_in_record(alloc: Global, place: u64, json: &Json) -> Result<Value, RecordFault>
+    ensures value { IfOk result (λ v. value_in_record place (value_told (view json.now)) ≡ Ok v) }
+    ensures fault { IfErr result (IsRecordFault (value_in_record place (value_told (view json.now)))) }
 {
     match value_told(alloc, json) {
         Ok(value) => Ok(value),
@@ -35,7 +35,7 @@ fn values_in(alloc: Global, list: &[Json]) -> Result<Vec<Value>, RecordFault>
     let mut values = Vec::new(alloc);
     let mut place = 1;
     for json in list {
-        values.push(placed(alloc, place, json)?)?;
+        values.push(value_in_record(alloc, place, json)?)?;
         place += 1;
     }
     Ok(values)
@@ -98,7 +98,7 @@ fn single_told(alloc: Global, json: &Json) -> Result<Vec<Value>, RecordFault>
     ensures fault { IfErr result (IsRecordFault (entries_told (view json.now ∷ []))) }
 {
     let mut values = Vec::new(alloc);
-    values.push(placed(alloc, 1, json)?)?;
+    values.push(value_in_record(alloc, 1, json)?)?;
     Ok(values)
 }
 

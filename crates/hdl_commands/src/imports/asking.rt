@@ -7,7 +7,7 @@ use crate::key::key_of;
 use crate::words::code_name;
 use hdl_client::{Batch, ClientFault, Key, Outcomes, Session, Task, connect, request_message};
 use hdl_limits::{Items, Octets};
-use hdl_lines::{printed, shown_line};
+use hdl_lines::{printed_octets, shown_line};
 use hdl_msg::{Body, ContentView, ReplyView, RequestBody, ResponseCode, Values, read_request};
 use hdl_value::RawRef;
 use std::alloc::{AllocError, Global};
@@ -98,10 +98,10 @@ struct Creations<'r> {
 }
 
 impl Faults for Creations<'_> {
-    fn told(&mut self, line: usize, handle: &[u8], fault: WordFault) {
+    fn note_fault(&mut self, line: usize, handle: &[u8], fault: WordFault) {
         let alloc = self.rt.alloc();
         // without memory for it the handle is missing from the line
-        let handle = printed(alloc, handle).unwrap_or_else(|_| String::new(alloc));
+        let handle = printed_octets(alloc, handle).unwrap_or_else(|_| String::new(alloc));
         let _ = println!(self.rt; "line {line}: {handle}: {fault}");
     }
 
@@ -111,7 +111,7 @@ impl Faults for Creations<'_> {
 }
 
 impl Outcomes for Creations<'_> {
-    fn done(&mut self, task: &Task, code: u32, _reply: &ReplyView<'_>) {
+    fn note_reply(&mut self, task: &Task, code: u32, _reply: &ReplyView<'_>) {
         if code == ResponseCode::Success.number() {
             self.counts.created = self.counts.created.saturating_add(1);
             return;
@@ -170,7 +170,7 @@ struct Comparisons<'r> {
 }
 
 impl Outcomes for Comparisons<'_> {
-    fn done(&mut self, task: &Task, code: u32, reply: &ReplyView<'_>) {
+    fn note_reply(&mut self, task: &Task, code: u32, reply: &ReplyView<'_>) {
         let creation = self.tasks.iter().find(|other| other.line == task.line);
         let is_same = match creation {
             Some(creation) => shows_just(self.rt.alloc(), reply, &creation.message),
@@ -363,7 +363,7 @@ fn ask_all(
     ended
 }
 
-fn imported(rt: &HostRuntime, import: &Import, counts: &mut Counts) -> Result<(), ImportFault> {
+fn import_rows(rt: &HostRuntime, import: &Import, counts: &mut Counts) -> Result<(), ImportFault> {
     let alloc = rt.alloc();
     let text = match fs::read(rt, import.file.as_str()) {
         Ok(text) => text,
@@ -395,7 +395,7 @@ pub fn import_file(rt: &HostRuntime, import: &Import) -> u8 {
         failed: 0,
         is_key_refused: false,
     };
-    let ended = imported(rt, import, &mut counts);
+    let ended = import_rows(rt, import, &mut counts);
     let status = match &ended {
         Ok(()) => u8::from(counts.failed > 0),
         Err(fault) => fault.status(),

@@ -68,7 +68,7 @@ fn column(names: &ByteRecord, name: &[u8]) -> Result<Option<usize>, WordFault>
     Ok(Some(place))
 }
 
-fn needed(names: &ByteRecord, name: &[u8]) -> Result<usize, WordFault>
+fn needed_column(names: &ByteRecord, name: &[u8]) -> Result<usize, WordFault>
     ensures { IfOk result (λ place. field_at (fields_of names.now) place ≡ Some name.now) }
 {
     column(names, name)?.ok_or(WordFault::Column)
@@ -79,10 +79,10 @@ pub(crate) fn columns_of(names: &ByteRecord) -> Result<Columns, WordFault>
     ensures { IfOk result (AreNamed (fields_of names.now)) }
 {
     Ok(Columns {
-        handle: needed(names, b"handle")?,
-        kind: needed(names, b"type")?,
-        bytes: needed(names, b"data")?,
-        ttl: needed(names, b"ttl")?,
+        handle: needed_column(names, b"handle")?,
+        kind: needed_column(names, b"type")?,
+        bytes: needed_column(names, b"data")?,
+        ttl: needed_column(names, b"ttl")?,
         index: column(names, b"index")?,
         permissions: column(names, b"permissions")?,
     })

@@ -11,7 +11,7 @@ use crate::fault::WordFault;
 use crate::imports::row::OPEN;
 use hdl_client::{Task, request_message};
 use hdl_limits::{Items, NAME_MAX, Octets, WRITTEN_MAX};
-use hdl_lines::printed;
+use hdl_lines::printed_octets;
 use hdl_msg::{OpCode, RequestBody};
 use hdl_name::Name;
 use hdl_value::{HS_ADMIN, RawRef, RawRefs, Value, put_string, put_u16, put_u32};
@@ -83,7 +83,11 @@ fn is_administered(values: &[Value]) -> bool
 }
 
 /// The values of a handle's rows, and an administrator where none of them is one.
-fn administered(alloc: Global, key: &RawRef, rows: Vec<Value>) -> Result<Vec<Value>, WordFault>
+fn with_administrator(
+    alloc: Global,
+    key: &RawRef,
+    rows: Vec<Value>,
+) -> Result<Vec<Value>, WordFault>
     ensures { IfOk result (λ values. AreAdministered key.now rows.items values.items) }
 {
     let mut values = rows;
@@ -106,7 +110,7 @@ fn creation(
 ) -> Result<Vec<u8>, WordFault>
     ensures { IfOk result (λ message. Creates key.now handle.now rows.items message.items) }
 {
-    let values = administered(alloc, key, rows)?;
+    let values = with_administrator(alloc, key, rows)?;
     if values.len() > WRITTEN_MAX {
         return Err(WordFault::TooMany);
     }
@@ -135,7 +139,7 @@ pub(crate) fn creation_task(
     let message = creation(alloc, key, handle, rows)?;
     Ok(Task {
         line,
-        title: printed(alloc, handle)?,
+        title: printed_octets(alloc, handle)?,
         message,
         key: Some(0),
         handle: Vec::from_slice(alloc, name.canon())?,

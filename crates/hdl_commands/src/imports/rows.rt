@@ -21,7 +21,7 @@ const PART: usize = 1000;
 /// Who is told what of a file isn't imported.
 pub(crate) trait Faults {
     /// This line, a row of this handle, is at fault.
-    fn told(&mut self, line: usize, handle: &[u8], fault: WordFault);
+    fn note_fault(&mut self, line: usize, handle: &[u8], fault: WordFault);
 
     /// One more handle isn't created.
     fn left_out(&mut self);
@@ -139,7 +139,7 @@ impl<'t> Rows<'t> {
             },
             Err(fault) => fault,
         };
-        faults.told(line, &handle, fault);
+        faults.note_fault(line, &handle, fault);
         faults.left_out();
     }
 
@@ -199,10 +199,10 @@ impl<'t> Rows<'t> {
         match &mut self.entry {
             Some(entry) => {
                 entry.is_faulty = true;
-                faults.told(self.lines, &entry.handle, fault);
+                faults.note_fault(self.lines, &entry.handle, fault);
             }
             None => {
-                faults.told(self.lines, b"", fault);
+                faults.note_fault(self.lines, b"", fault);
                 faults.left_out();
             }
         }

@@ -3,7 +3,7 @@
 ghost use Rattle.std.specs.Prelude.{◌≡◌, [], OnOk};
 ghost use Rattle.hdl_commands.specs.Page.{with_line};
 
-use hdl_lines::printed;
+use hdl_lines::printed_octets;
 use std::alloc::{AllocError, Global};
 use std::marker::Model;
 
@@ -54,7 +54,7 @@ impl Page {
     pub(crate) fn push_octets(&mut self, line: &[u8]) -> Result<(), AllocError>
         ensures { OnOk result (self.new ≡ with_line self.old line.now) }
     {
-        let line = printed(self.alloc, line)?;
+        let line = printed_octets(self.alloc, line)?;
         self.text.push_str(&line)?;
         self.text.push('\n')
     }

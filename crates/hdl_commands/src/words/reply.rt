@@ -4,7 +4,7 @@ use crate::words::naming::{code_name, operation_name};
 use crate::words::page::Page;
 use crate::words::value::{push_data, push_value};
 use hdl_frame::Envelope;
-use hdl_lines::printed;
+use hdl_lines::printed_octets;
 use hdl_msg::{ContentView, Digest, ReplyView, Strings, Values};
 use std::alloc::AllocError;
 
@@ -38,7 +38,7 @@ fn push_content(page: &mut Page, content: ContentView<'_>) -> Result<(), AllocEr
         ContentView::Values { handle, values } => push_values(page, handle, values),
         ContentView::Handles { handles } => push_handles(page, handles),
         ContentView::Referral { prefix } => {
-            let name = printed(page.alloc, prefix)?;
+            let name = printed_octets(page.alloc, prefix)?;
             let line = format!(in page.alloc; ";; ask the service of 0.NA/{name}")?;
             page.push(&line)
         }

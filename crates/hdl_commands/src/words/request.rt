@@ -4,13 +4,13 @@ use crate::words::naming::operation_name;
 use crate::words::page::Page;
 use crate::words::value::push_value;
 use hdl_frame::Envelope;
-use hdl_lines::printed;
+use hdl_lines::printed_octets;
 use hdl_msg::{Body, Numbers, OpFlag, Request, Strings, Values};
 use std::alloc::AllocError;
 
 /// Adds a line of a word and a handle.
 fn push_handle(page: &mut Page, word: &str, handle: &[u8]) -> Result<(), AllocError> {
-    let name = printed(page.alloc, handle)?;
+    let name = printed_octets(page.alloc, handle)?;
     let line = format!(in page.alloc; "{word} {name}")?;
     page.push(&line)
 }
@@ -90,7 +90,7 @@ fn push_response(
     index: u32,
     answer: &[u8],
 ) -> Result<(), AllocError> {
-    let name = printed(page.alloc, handle)?;
+    let name = printed_octets(page.alloc, handle)?;
     let digits = hex::encode(page.alloc, answer)?;
     let line = format!(in page.alloc; "{word} {index}:{name} {digits}")?;
     page.push(&line)

@@ -11,7 +11,7 @@ use jiff::Timestamp;
 use std::alloc::AllocError;
 
 /// When the value was written, if that is said and the calendar has it.
-fn written(value: &Value) -> Option<Timestamp> {
+fn time_of_write(value: &Value) -> Option<Timestamp> {
     let moment = i64::try_from(value.timestamp).ok()?;
     if moment == 0 {
         return None;
@@ -24,7 +24,7 @@ fn push_written(page: &mut Page, value: &CutValue<'_>) -> Result<(), AllocError>
     let Ok(value) = value.read(page.alloc) else {
         return Ok(());
     };
-    match written(&value) {
+    match time_of_write(&value) {
         Some(moment) => {
             let line = format!(in page.alloc; ";; written {moment}")?;
             page.push(&line)

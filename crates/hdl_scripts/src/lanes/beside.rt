@@ -95,7 +95,7 @@ impl<L: Made, S: Serving> Clock for Beside<L, S> {
         }
     }
 
-    fn worked(&mut self) {}
+    fn note_work(&mut self) {}
 }
 
 /// How a worker runs: its lane, the room of its rings, the most octets that a read gives or the most frames of a datagram lane under way, which call of
@@ -122,7 +122,7 @@ pub struct Ran<S> {
 }
 
 /// Settles the rings of the lane.
-fn settled<L: Made, S: Serving + Drop>(beside: Beside<L, S>, end: WorkerEnd) -> Option<Ran<S>>
+fn settle_rings<L: Made, S: Serving + Drop>(beside: Beside<L, S>, end: WorkerEnd) -> Option<Ran<S>>
     requires { (b : LaneEnds) → IsEach L.ends b → Meet end b }
 {
     let Beside {
@@ -154,7 +154,7 @@ pub fn source(alloc: Global) -> Result<MemoryNonces, AllocError> {
 }
 
 /// How many frames had a number of the source.
-pub fn used(nonces: &MemoryNonces) -> usize {
+pub fn count_used(nonces: &MemoryNonces) -> usize {
     NONCES.saturating_sub(nonces.coming.len())
 }
 
@@ -186,7 +186,7 @@ pub fn run_stream<L: Made, S: Serving + Drop>(
         plan.turns,
     );
     beside.serve_on(plan.after);
-    settled(beside, end)
+    settle_rings(beside, end)
 }
 
 /// Runs the worker of a datagram lane, with what serves it beside it.
@@ -217,5 +217,5 @@ pub fn run_packets<L: Made, S: Serving + Drop>(
         plan.turns,
     );
     beside.serve_on(plan.after);
-    settled(beside, end)
+    settle_rings(beside, end)
 }

@@ -1,6 +1,6 @@
 //! Workers at doors in memory, line by line.
 
-use crate::lanes::beside::{Plan, Ran, run_packets, run_stream, source, used};
+use crate::lanes::beside::{Plan, Ran, count_used, run_packets, run_stream, source};
 use crate::lanes::pair::pair_of;
 use crate::lanes::recorder::record;
 use crate::lanes::server::Serving;
@@ -128,7 +128,14 @@ fn work_stream<S: Serving + Drop>(
     else {
         return Err(bad());
     };
-    tell_ran(alloc, plan.lane, door.faults(), used(&nonces), &ran, told)?;
+    tell_ran(
+        alloc,
+        plan.lane,
+        door.faults(),
+        count_used(&nonces),
+        &ran,
+        told,
+    )?;
     tell_left(alloc, &door, told)?;
     Ok(ran.serving)
 }
@@ -152,7 +159,7 @@ fn work_packets<S: Serving + Drop>(
         alloc,
         plan.lane,
         packets.faults(),
-        used(&nonces),
+        count_used(&nonces),
         &ran,
         told,
     )?;

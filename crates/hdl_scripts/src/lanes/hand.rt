@@ -3,7 +3,7 @@
 ghost use Rattle.hdl_workers.specs.Ends.{AreDistinct};
 
 use crate::lanes::server::Serving;
-use crate::lanes::words::{bad, event_of, had, number, short, tell_outcome};
+use crate::lanes::words::{bad, event_of, number, or_other, short, tell_outcome};
 use crate::table::{Table, empty_rows};
 use hdl_core::{Event, Outcome};
 use hdl_lanes::{Inlet, Outlet};
@@ -173,13 +173,13 @@ fn over_lanes<S: Serving>(
 ) -> io::Result<()> {
     let parts = parts_of(text);
     serving.open(parts.tenants)?;
-    let events = had(events_of(alloc, parts.script, 0))?;
+    let events = or_other(events_of(alloc, parts.script, 0))?;
     let mut lanes = both_sides(alloc, 5, 1)?;
     pass_all(serving, &mut lanes, events, told)
 }
 
 /// Tells what a script tells when it is replayed.
-fn replayed(alloc: Global, text: &str, told: &mut Vec<u8>) -> io::Result<()> {
+fn tell_replay(alloc: Global, text: &str, told: &mut Vec<u8>) -> io::Result<()> {
     let mut input = text.as_bytes();
     let mut fault = Vec::new(alloc);
     let Some(rows) = empty_rows(alloc, Table::Memory, 0) else {
@@ -200,7 +200,7 @@ pub fn compare<S: Serving>(
     let mut lanes = Vec::new(alloc);
     over_lanes(alloc, serving, text, &mut lanes)?;
     let mut replay = Vec::new(alloc);
-    replayed(alloc, text, &mut replay)?;
+    tell_replay(alloc, text, &mut replay)?;
     let same = lanes == replay;
     let wanted = lanes.as_slice() == expected;
     writeln!(told, "  as replayed: {same}, as expected: {wanted}")

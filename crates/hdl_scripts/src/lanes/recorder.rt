@@ -64,7 +64,7 @@ impl Clock for Recorder {
         let _ = self.answer_all(self.most);
     }
 
-    fn worked(&mut self) {}
+    fn note_work(&mut self) {}
 }
 
 /// A door that counts its writes.
@@ -114,7 +114,7 @@ impl<D: Door> Door for Counting<D> {
 }
 
 /// Runs a stream worker beside a recorder, and answers why it ended.
-fn recorded<D: Door>(
+fn run_recorded<D: Door>(
     alloc: Global,
     pair: Pair,
     door: &mut Counting<D>,
@@ -175,7 +175,7 @@ pub fn record(
         writes: 0,
         longest: 0,
     };
-    let reason = recorded(
+    let reason = run_recorded(
         alloc,
         pair,
         &mut door,

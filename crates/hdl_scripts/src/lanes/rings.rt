@@ -51,7 +51,7 @@ impl Ring {
 }
 
 /// Puts so many items, takes one, puts one more, and tells what is left.
-fn filled(alloc: Global, capacity: usize, count: u32, told: &mut Vec<u8>) -> io::Result<()> {
+fn fill_ring(alloc: Global, capacity: usize, count: u32, told: &mut Vec<u8>) -> io::Result<()> {
     let mut ring = ring_of(alloc, capacity)?;
     write!(told, "ring of {capacity}:")?;
     for item in 0..count {
@@ -63,7 +63,7 @@ fn filled(alloc: Global, capacity: usize, count: u32, told: &mut Vec<u8>) -> io:
 }
 
 /// Passes items one at a time.
-fn passed(alloc: Global, capacity: usize, count: u32, told: &mut Vec<u8>) -> io::Result<()> {
+fn pass_items(alloc: Global, capacity: usize, count: u32, told: &mut Vec<u8>) -> io::Result<()> {
     let mut ring = ring_of(alloc, capacity)?;
     write!(told, "ring of {capacity}:")?;
     for item in 0..count {
@@ -75,7 +75,7 @@ fn passed(alloc: Global, capacity: usize, count: u32, told: &mut Vec<u8>) -> io:
 
 /// Rings of room for three items, for one and for none.
 pub fn run(alloc: Global, told: &mut Vec<u8>) -> io::Result<()> {
-    filled(alloc, 3, 5, told)?;
-    passed(alloc, 1, 5, told)?;
-    filled(alloc, 0, 2, told)
+    fill_ring(alloc, 3, 5, told)?;
+    pass_items(alloc, 1, 5, told)?;
+    fill_ring(alloc, 0, 2, told)
 }

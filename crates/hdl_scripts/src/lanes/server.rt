@@ -45,7 +45,7 @@ impl Clock for Pauses {
         self.count = self.count.saturating_add(1);
     }
 
-    fn worked(&mut self) {}
+    fn note_work(&mut self) {}
 }
 
 /// A service, once it was opened.
@@ -56,7 +56,7 @@ pub struct Held {
 }
 
 /// Serves lanes, which stay the same, and counts the pauses.
-fn served(
+fn serve_lanes(
     alloc: Global,
     service: Service<TableRows>,
     lanes: Vec<LaneEnds>,
@@ -88,7 +88,7 @@ impl Serving for Held {
             return turns;
         };
         let ends = mem::replace(lanes, Vec::new(self.alloc));
-        let (served, pauses) = served(self.alloc, service, ends, turns);
+        let (served, pauses) = serve_lanes(self.alloc, service, ends, turns);
         let Served {
             service,
             lanes: ends,

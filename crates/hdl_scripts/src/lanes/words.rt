@@ -13,7 +13,7 @@ pub fn bad() -> io::Error {
 }
 
 /// What a fault of a script is here.
-pub fn had<T>(found: Result<T, Fault>) -> io::Result<T> {
+pub fn or_other<T>(found: Result<T, Fault>) -> io::Result<T> {
     match found {
         Ok(value) => Ok(value),
         Err(_) => Err(bad()),
@@ -63,7 +63,7 @@ pub fn octets(alloc: Global, digits: &str) -> io::Result<Vec<u8>> {
 
 /// The event that a line spells.
 pub fn event_of(alloc: Global, line: &str) -> io::Result<Event> {
-    match had(events_of(alloc, line, 0))?.pop() {
+    match or_other(events_of(alloc, line, 0))?.pop() {
         Some(event) => Ok(event),
         None => Err(bad()),
     }
@@ -76,7 +76,7 @@ pub fn tell_outcome(
     outcome: &Outcome,
     told: &mut Vec<u8>,
 ) -> io::Result<()> {
-    let line = had(line_of(alloc, lane, outcome))?;
+    let line = or_other(line_of(alloc, lane, outcome))?;
     told.write_all(line.as_bytes())
 }
 

@@ -4,7 +4,7 @@ use Rattle.hdl_msg.specs.Message.{SpellsRequest}
 use Rattle.hdl_msg.specs.Reply.{IsReplyFrame}
 use Rattle.hdl_ops.specs.Requests.{response_of}
 use Rattle.hdl_ops.specs.Views.{algorithms_by, hosted_by, response_view}
-use Rattle.hdl_slots.specs.Lanes.{challenged}
+use Rattle.hdl_slots.specs.Lanes.{add_challenge}
 use Rattle.hdl_core.specs.declared.hearing.Heard.{Heard}
 use Rattle.hdl_core.specs.Held.{state_at, with_state}
 use Rattle.hdl_core.specs.Serving.{sent_of}
@@ -13,10 +13,10 @@ use Rattle.hdl_core.proofs.hearing.hear.Goals as goal
 
 pub returns-in_default-clause-heard : goal.returns-in_default-clause-heard
 returns-in_default-clause-heard g c =
-    on_ok c.malformed.result _ _
+    on_ok c.malformed_reply.result _ _
     (λ octets is. no_request (hosted_by c.args.owner.now) (algorithms_by c.args.owner.now) (g.R.Rows.content c.args.rows.now) c.args.origin.now c.args.lanes.now c.args.origin.now.lane c.args.message.items octets
     (λ r spells. c.in_default.ensures.malformed r (subst (λ (b : List ℕ). SpellsRequest b r) (sym c.deref.ensures.value) spells)) is)
-    c.malformed.ensures.octets
+    c.malformed_reply.ensures.octets
 
 pub returns-in-Some-clause-heard : goal.returns-in-Some-clause-heard
 returns-in-Some-clause-heard g c =
@@ -43,7 +43,7 @@ returns-in-Challenged-clause-heard g c =
     (c.challenge.ensures ∙ ap (λ (message : List ℕ). with_state c.args.lanes.now c.args.origin.now.lane (record {
       is_open = (state_at c.args.lanes.now c.args.origin.now.lane).is_open;
       partials = (state_at c.args.lanes.now c.args.origin.now.lane).partials;
-      challenges = challenged (state_at c.args.lanes.now c.args.origin.now.lane).challenges (record { peer = c.args.origin.now.peer; moment = c.args.origin.now.moment; nonce = c.args.origin.now.nonce; digest = c.in-Challenged.digest; message = message });
+      challenges = add_challenge (state_at c.args.lanes.now c.args.origin.now.lane).challenges (record { peer = c.args.origin.now.peer; moment = c.args.origin.now.moment; nonce = c.args.origin.now.nonce; digest = c.in-Challenged.digest; message = message });
     })) c.new.ensures)
 
 pub returns-in-Answered-clause-read : goal.returns-in-Answered-clause-read

@@ -11,10 +11,10 @@ use Rattle.hdl_core.proofs.hearing.redeem.Goals as goal
 
 pub returns-in_default-clause-redeemed : goal.returns-in_default-clause-redeemed
 returns-in_default-clause-redeemed g c =
-    on_ok c.malformed.result _ _
+    on_ok c.malformed_reply.result _ _
     (λ octets is. unreadable (hosted_by c.args.owner.now) (algorithms_by c.args.owner.now) (g.R.Rows.content c.args.rows.now) c.args.origin.now (response_view c.args.response) c.args.pending.now octets
     (λ r spells. c.in_default.ensures.malformed r (subst (λ (b : List ℕ). SpellsRequest b r) (sym c.as_slice.ensures) spells)) is)
-    c.malformed.ensures.octets
+    c.malformed_reply.ensures.octets
 
 pub returns-then-is_late-clause-redeemed : goal.returns-then-is_late-clause-redeemed
 returns-then-is_late-clause-redeemed g c =

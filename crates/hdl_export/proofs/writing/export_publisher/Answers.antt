@@ -25,9 +25,9 @@ returns-clause-export g c =
     let cover = places_in c.in_ok-cover.cover in
     let written = subst (λ (ps : List (List ℕ)). IsWritten texts ps t own) (ap texts_of c.as_slice.ensures.value ∙ c.in_ok-prefixes.ensures) c.in_ok-out.ensures.written in
     let has = subst (λ (octets : List ℕ). HasCover (lines octets) first) c.as_slice-2.ensures.value c.in_ok-cover_of.ensures.covered in
-    let onward = subst (λ (x : Table). IsOnward x cover) c.written.ensures.unchanged c.in_ok-cover.ensures.onward in
-    let same = same_rows (texts_of c.as_slice-3.result.now) (prefixes_for name texts) (g.R.Rows.content c.closed.new.rows) t c.as_slice-4.result.now c.in_ok-cover.cover.references.items
-    (ap texts_of c.as_slice-3.ensures.value ∙ c.in_ok-prefixes.ensures) (c.closed.ensures.unchanged ∙ c.written.ensures.unchanged) c.as_slice-4.ensures.value in
+    let onward = subst (λ (x : Table). IsOnward x cover) c.write_unread.ensures.unchanged c.in_ok-cover.ensures.onward in
+    let same = same_rows (texts_of c.as_slice-3.result.now) (prefixes_for name texts) (g.R.Rows.content c.close.new.rows) t c.as_slice-4.result.now c.in_ok-cover.cover.references.items
+    (ap texts_of c.as_slice-3.ensures.value ∙ c.in_ok-prefixes.ensures) (c.close.ensures.unchanged ∙ c.write_unread.ensures.unchanged) c.as_slice-4.ensures.value in
     let put = c.in_ok-put_foreign.ensures.put ∙ ap (λ (rows : List Row). own ++ text_of (map value_line rows)) same in
     let writable = subst (AllByRecursion IsWritableRow) same c.in_ok-put_foreign.ensures.writable in
     sound_as string_bytes (IsPublisherExport texts name t) c.sound.result out c.sound.ensures.same c.sound.ensures.read

@@ -4,7 +4,7 @@ use Rattle.sqlite.specs.State.{HasCleanDisk}
 use Rattle.sqlite.specs.Held.{state}
 use Rattle.hdl_rows.specs.Table.{IsPlaced}
 use Rattle.hdl_sqlrows.specs.Kept.{table_in}
-use Rattle.hdl_sqlrows.specs.Filed.{filed}
+use Rattle.hdl_sqlrows.specs.Filed.{filed_table}
 use Rattle.hdl_lastingrows.proofs.opening.reopen.Goals as goal
 
 pub open_rest-requires-clause-placed : goal.open_rest-requires-clause-placed
@@ -13,5 +13,5 @@ open_rest-requires-clause-placed g c clean up =
     let early : HasCleanDisk (state g.S.Store c.args.conn.now) = omega (arith, middle, c.are_opened.ensures.survives.clean) in
     let looked = (c.in_ok-prepare.ensures.ok clean).1.0 in
     let kept = c.are_opened.ensures.kept middle looked.was_open in
-    let same : filed (state g.S.Store c.prepare.new.self) ≡ g.R.Rows.content c.args.found = ap (λ (d : Database). table_in d.trees) (looked.committed_is ∙ kept.1) ∙ (c.requires.filed early).1 in
+    let same : filed_table (state g.S.Store c.prepare.new.self) ≡ g.R.Rows.content c.args.found = ap (λ (d : Database). table_in d.trees) (looked.committed_is ∙ kept.1) ∙ (c.requires.filed early).1 in
     subst IsPlaced (sym same) c.requires.placed

@@ -6,7 +6,7 @@ use Rattle.serde_json.specs.Data.{Data, array}
 use Rattle.serde_json.specs.View.{items_of}
 use Rattle.hdl_value.specs.declared.admin.Reference.{Reference}
 use Rattle.hdl_value.specs.Refs.{raw, raws}
-use Rattle.hdl_proxy.specs.Json.{formatted, reference_json}
+use Rattle.hdl_proxy.specs.Json.{with_format, reference_json}
 use Rattle.hdl_proxy.proofs.json.list_json.Goals as goal
 
 each_raw : (rs : List Reference) → map (λ (r : Reference). reference_json (raw r)) rs ≡ map reference_json (raws rs)
@@ -20,4 +20,4 @@ returns c =
     let took : take c.loop-reference.reference-index references ≡ references = take_all _ _ few in
     let all = c.loop-reference.invariant ∙ ap (λ (some : List Reference). map (λ (r : Reference). reference_json (raw r)) some) took ∙ each_raw references in
     let told = c.from.ensures ∙ ap (λ (ds : List Data). array (items_of ds)) all in
-    IfOk-weaker c.formatted.result _ _ (λ json same. same ∙ ap (λ (d : Data). formatted (codes "vlist") d) told) c.formatted.ensures
+    IfOk-weaker c.with_format.result _ _ (λ json same. same ∙ ap (λ (d : Data). with_format (codes "vlist") d) told) c.with_format.ensures

@@ -5,7 +5,7 @@ use Rattle.std.proofs.lemmas.Bool.{cond-true, cond-false, false_from_ne_true}
 use Rattle.std.proofs.lemmas.Result.{IfOk-weaker}
 use Rattle.std.proofs.lemmas.Str.{IsUtf8-from_is_utf8, is_utf8-from_IsUtf8}
 use Rattle.serde_json.specs.Data.{Data, string}
-use Rattle.hdl_proxy.specs.Json.{formatted, text_json}
+use Rattle.hdl_proxy.specs.Json.{with_format, text_json}
 use Rattle.hdl_proxy.proofs.json.text_json.Goals as goal
 
 pub returns-in_ok-from_str-in-Ok : goal.returns-in_ok-from_str-in-Ok
@@ -14,7 +14,7 @@ returns-in_ok-from_str-in-Ok c =
     let octets = c.args.octets.now in
     let yes : is_utf8 octets ≡ true = is_utf8-from_IsUtf8 octets c.in-Ok.ensures.cases.1 in
     let told = c.from.ensures ∙ ap string (c.in_ok-from_str-in-Ok.ensures.ok ∙ c.in-Ok.ensures.cases.0) in
-    IfOk-weaker c.formatted.result _ _ (λ json same. same ∙ ap (λ (d : Data). formatted (codes "string") d) told ∙ sym (cond-true (is_utf8 octets) _ _ yes)) c.formatted.ensures
+    IfOk-weaker c.with_format.result _ _ (λ json same. same ∙ ap (λ (d : Data). with_format (codes "string") d) told ∙ sym (cond-true (is_utf8 octets) _ _ yes)) c.with_format.ensures
 
 pub returns-in-Err : goal.returns-in-Err
 unfolding text_json

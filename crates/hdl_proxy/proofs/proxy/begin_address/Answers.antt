@@ -20,12 +20,12 @@ returns-clause-asks c = λ of_handle.
     let path = c.args.path.now in
     let pairs : List (List ℕ × List ℕ) = pairs_of c.args.query.now in
     let form : Form = c.page_form.result in
-    let text : List ℕ = c.written.result.now in
+    let text : List ℕ = c.name_within.result.now in
     let first : texts_of c.deref-2.result.now ≡ pairs = ap texts_of c.deref-2.ensures.value ∙ c.in_ok-pairs.ensures in
     let second : texts_of c.deref-3.result.now ≡ pairs = ap texts_of c.deref-3.ensures.value ∙ c.in_ok-pairs.ensures in
     let stays : form ≡ page_form pairs = c.page_form.ensures ∙ ap page_form first in
     let sent : c.as_bytes-2.result.now ≡ without_slash path = c.as_bytes-2.ensures.value ∙ c.without_slash-sent.ensures in
-    let named : IsWritten (without_slash path) text = subst (λ (octets : List ℕ). IsWritten octets text) sent c.written.ensures in
+    let named : IsWritten (without_slash path) text = subst (λ (octets : List ℕ). IsWritten octets text) sent c.name_within.ensures in
     IfOk-weaker c.begin_handle-2.result _ (AsksAddress path pairs)
     (λ (next : Next) h. (form, text, (inr (stays, (λ under. c.if-starts_with.ensures.cases under.0 under.1), named), subst (λ (ps : List (List ℕ × List ℕ)). AsksFor (percent_decode text) form ps next) second h)))
     c.begin_handle-2.ensures.asks

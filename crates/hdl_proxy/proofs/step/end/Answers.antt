@@ -11,10 +11,10 @@ pub returns-clause-ends : goal.returns-clause-ends
 returns-clause-ends c =
     let kept = c.within-kept.result in
     let first : option_copied c.first.result ≡ slice_get c.args.question.now.passed.items 0 = search rules in
-    let named = subst (λ (o : Option (List ℕ)). IfOk c.named.result (IsNamed o kept)) first c.named.ensures in
-    IfOk-weaker c.named.result _ (Ends c.args.question.now c.args.found.now) (λ a n. (c.in_ok-answer.answer, kept, (c.in_ok-answer.ensures, c.within-kept.ensures, n))) named
+    let named = subst (λ (o : Option (List ℕ)). IfOk c.with_asked_name.result (IsNamed o kept)) first c.with_asked_name.ensures in
+    IfOk-weaker c.with_asked_name.result _ (Ends c.args.question.now c.args.found.now) (λ a n. (c.in_ok-answer.answer, kept, (c.in_ok-answer.ensures, c.within-kept.ensures, n))) named
 
 pub returns-clause-located : goal.returns-clause-located
 returns-clause-located c =
     let kept = within_located _ c.in_ok-answer.answer c.within-kept.result (found_located _ _ _ _ _ _ c.in_ok-answer.ensures) c.within-kept.ensures in
-    IfOk-weaker c.named.result _ IsLocated (λ a named. named_located _ c.within-kept.result a kept named) c.named.ensures
+    IfOk-weaker c.with_asked_name.result _ IsLocated (λ a named. named_located _ c.within-kept.result a kept named) c.with_asked_name.ensures

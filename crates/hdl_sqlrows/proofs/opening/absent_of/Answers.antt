@@ -3,7 +3,7 @@ use Rattle.sqlite.specs.State.{HasCleanDisk}
 use Rattle.sqlite.specs.Held.{state}
 use Rattle.hdl_rows.specs.Table.{has}
 use Rattle.hdl_sqlrows.specs.Kept.{table_in}
-use Rattle.hdl_sqlrows.specs.Filed.{drafted}
+use Rattle.hdl_sqlrows.specs.Filed.{draft_table}
 use Rattle.hdl_sqlrows.specs.Opening.{First, handle}
 use Rattle.hdl_sqlrows.proofs.Filed.{survives_both, keeps_both}
 use Rattle.hdl_sqlrows.proofs.Looks.{looks_on}
@@ -26,5 +26,5 @@ loop-first-preserved g c =
       found = λ clean was.
           let looks = inv.same (late clean) was in
           let test = ap not (did.found clean ∙ (λ k. has (table_in (looks.now k).trees) (c.canon.ensures k))) in
-          keep_next (λ (x : First). not (has (drafted before) (handle x))) c.args.opening.now c.loop-first.first-index c.first-item.result c.in_ok-is_out.is_out _ _ c.first-item.is c.loop-first-test.true test (inv.found (late clean) was) c.in_ok-push_unless.ensures;
+          keep_next (λ (x : First). not (has (draft_table before) (handle x))) c.args.opening.now c.loop-first.first-index c.first-item.result c.in_ok-is_out.is_out _ _ c.first-item.is c.loop-first-test.true test (inv.found (late clean) was) c.in_ok-push_unless.ensures;
     }

@@ -6,7 +6,7 @@ use Rattle.sqlite.specs.Held.{state}
 use Rattle.hdl_rows.specs.Table.{Table, IsPlaced}
 use Rattle.hdl_sqlrows.specs.Kept.{IsSettled}
 use Rattle.hdl_sqlrows.specs.Filed.{WhereOpen}
-use Rattle.hdl_sqlrows.specs.Opening.{base_in, based, opened_with, HasFiled, IsOpenedRow}
+use Rattle.hdl_sqlrows.specs.Opening.{base_in, filed_base, opened_with, HasFiled, IsOpenedRow}
 use Rattle.hdl_sqlrows.proofs.Filed.{of_now, even, inside_first, at_first, made_by, kept_by, leaves_if_open, settled_again, on_ok, on_err}
 use Rattle.hdl_sqlrows.proofs.Firsts.{begun_base}
 use Rattle.hdl_sqlrows.proofs.Typed.{typed_opened}
@@ -33,7 +33,7 @@ returns-clause-settled g c =
     let before : HasCleanDisk (state g.S.Store c.args.conn.now) = omega (
       arith,
       clean,
-      (leaves_if_open g.S.Store c.args.conn.now c.transaction-tx.result.conn.now c.open_within-written.new.tx.conn.now c.finish.new.tx.0 (λ (t : Table). t) c.open_within-written.result c.finish.result c.transaction-tx.ensures.begun (even (state g.S.Store c.args.conn.now) c.requires.settled) c.open_within-written.ensures.survives c.finish.ensures.survives c.open_within-written.ensures.committed (λ db. base_in db ≡ opened_with (based (state g.S.Store c.args.conn.now)) c.args.opening.now) (on_ok c.open_within-written.result _ _ (λ opened clean up.
+      (leaves_if_open g.S.Store c.args.conn.now c.transaction-tx.result.conn.now c.open_within-written.new.tx.conn.now c.finish.new.tx.0 (λ (t : Table). t) c.open_within-written.result c.finish.result c.transaction-tx.ensures.begun (even (state g.S.Store c.args.conn.now) c.requires.settled) c.open_within-written.ensures.survives c.finish.ensures.survives c.open_within-written.ensures.committed (λ db. base_in db ≡ opened_with (filed_base (state g.S.Store c.args.conn.now)) c.args.opening.now) (on_ok c.open_within-written.result _ _ (λ opened clean up.
           let late : HasCleanDisk (state g.S.Store c.transaction-tx.result.conn.now) = omega (arith, clean, c.open_within-written.ensures.survives.clean) in
           opened clean up ∙ ap (λ b. opened_with b c.args.opening.now) (begun_base g.S.Store c.args.conn.now c.transaction-tx.result.conn.now c.transaction-tx.ensures.begun (even (state g.S.Store c.args.conn.now) c.requires.settled) late up)) c.open_within-written.ensures.opened)).clean,
     ) in
@@ -42,22 +42,22 @@ returns-clause-settled g c =
 pub returns-clause-done : goal.returns-clause-done
 returns-clause-done g c =
     let end : c.finish.new.tx.0 ≡ c.conn-1.given.0 = search rules in
-    subst (λ h. OnOk c.finish.result (HasCleanDisk (state g.S.Store h) → HasFiled (state g.S.Store h) (opened_with (based (state g.S.Store c.args.conn.now)) c.args.opening.now))) end
-    (made_by g.S.Store c.args.conn.now c.transaction-tx.result.conn.now c.open_within-written.new.tx.conn.now c.finish.new.tx.0 (λ (t : Table). t) c.open_within-written.result c.finish.result c.transaction-tx.ensures.begun (even (state g.S.Store c.args.conn.now) c.requires.settled) c.open_within-written.ensures.survives c.finish.ensures.survives c.open_within-written.ensures.committed (λ db. base_in db ≡ opened_with (based (state g.S.Store c.args.conn.now)) c.args.opening.now) (on_ok c.open_within-written.result _ _ (λ opened clean up.
+    subst (λ h. OnOk c.finish.result (HasCleanDisk (state g.S.Store h) → HasFiled (state g.S.Store h) (opened_with (filed_base (state g.S.Store c.args.conn.now)) c.args.opening.now))) end
+    (made_by g.S.Store c.args.conn.now c.transaction-tx.result.conn.now c.open_within-written.new.tx.conn.now c.finish.new.tx.0 (λ (t : Table). t) c.open_within-written.result c.finish.result c.transaction-tx.ensures.begun (even (state g.S.Store c.args.conn.now) c.requires.settled) c.open_within-written.ensures.survives c.finish.ensures.survives c.open_within-written.ensures.committed (λ db. base_in db ≡ opened_with (filed_base (state g.S.Store c.args.conn.now)) c.args.opening.now) (on_ok c.open_within-written.result _ _ (λ opened clean up.
     let late : HasCleanDisk (state g.S.Store c.transaction-tx.result.conn.now) = omega (arith, clean, c.open_within-written.ensures.survives.clean) in
     opened clean up ∙ ap (λ b. opened_with b c.args.opening.now) (begun_base g.S.Store c.args.conn.now c.transaction-tx.result.conn.now c.transaction-tx.ensures.begun (even (state g.S.Store c.args.conn.now) c.requires.settled) late up)) c.open_within-written.ensures.opened) c.finish.ensures.done)
 
 pub returns-clause-undone : goal.returns-clause-undone
 returns-clause-undone g c =
     let end : c.finish.new.tx.0 ≡ c.conn-1.given.0 = search rules in
-    subst (λ h. OnErr c.finish.result (WhereOpen (state g.S.Store h) (based (state g.S.Store h) ≡ based (state g.S.Store c.args.conn.now)))) end
+    subst (λ h. OnErr c.finish.result (WhereOpen (state g.S.Store h) (filed_base (state g.S.Store h) ≡ filed_base (state g.S.Store c.args.conn.now)))) end
     (on_err c.finish.result _ _ (λ kept clean up. ap (λ (d : Database). base_in d.trees) (kept clean up).1) (kept_by g.S.Store c.args.conn.now c.transaction-tx.result.conn.now c.open_within-written.new.tx.conn.now c.finish.new.tx.0 (λ (t : Table). t) c.open_within-written.result c.finish.result c.transaction-tx.ensures.begun (even (state g.S.Store c.args.conn.now) c.requires.settled) c.open_within-written.ensures.survives c.finish.ensures.survives c.open_within-written.ensures.committed c.finish.ensures.undone))
 
 pub returns-clause-survives : goal.returns-clause-survives
 returns-clause-survives g c =
     let end : c.finish.new.tx.0 ≡ c.conn-1.given.0 = search rules in
-    subst (λ h. Survives (state g.S.Store c.args.conn.now) (state g.S.Store h) (λ db. IsTrue (state g.S.Store c.args.conn.now).is_open → base_in db ≡ opened_with (based (state g.S.Store c.args.conn.now)) c.args.opening.now)) end
-    (leaves_if_open g.S.Store c.args.conn.now c.transaction-tx.result.conn.now c.open_within-written.new.tx.conn.now c.finish.new.tx.0 (λ (t : Table). t) c.open_within-written.result c.finish.result c.transaction-tx.ensures.begun (even (state g.S.Store c.args.conn.now) c.requires.settled) c.open_within-written.ensures.survives c.finish.ensures.survives c.open_within-written.ensures.committed (λ db. base_in db ≡ opened_with (based (state g.S.Store c.args.conn.now)) c.args.opening.now) (on_ok c.open_within-written.result _ _ (λ opened clean up.
+    subst (λ h. Survives (state g.S.Store c.args.conn.now) (state g.S.Store h) (λ db. IsTrue (state g.S.Store c.args.conn.now).is_open → base_in db ≡ opened_with (filed_base (state g.S.Store c.args.conn.now)) c.args.opening.now)) end
+    (leaves_if_open g.S.Store c.args.conn.now c.transaction-tx.result.conn.now c.open_within-written.new.tx.conn.now c.finish.new.tx.0 (λ (t : Table). t) c.open_within-written.result c.finish.result c.transaction-tx.ensures.begun (even (state g.S.Store c.args.conn.now) c.requires.settled) c.open_within-written.ensures.survives c.finish.ensures.survives c.open_within-written.ensures.committed (λ db. base_in db ≡ opened_with (filed_base (state g.S.Store c.args.conn.now)) c.args.opening.now) (on_ok c.open_within-written.result _ _ (λ opened clean up.
     let late : HasCleanDisk (state g.S.Store c.transaction-tx.result.conn.now) = omega (arith, clean, c.open_within-written.ensures.survives.clean) in
     opened clean up ∙ ap (λ b. opened_with b c.args.opening.now) (begun_base g.S.Store c.args.conn.now c.transaction-tx.result.conn.now c.transaction-tx.ensures.begun (even (state g.S.Store c.args.conn.now) c.requires.settled) late up)) c.open_within-written.ensures.opened))
 

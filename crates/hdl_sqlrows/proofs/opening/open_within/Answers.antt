@@ -1,8 +1,8 @@
 use Rattle.std.proofs.Common.{◌≡◌, ◌∙◌, map, ap, sym, arith}
 use Rattle.sqlite.specs.State.{HasCleanDisk}
 use Rattle.sqlite.specs.Held.{state}
-use Rattle.hdl_sqlrows.specs.Filed.{drafted}
-use Rattle.hdl_sqlrows.specs.Opening.{base_in, noted_with, unopened, absent, first_at}
+use Rattle.hdl_sqlrows.specs.Filed.{draft_table}
+use Rattle.hdl_sqlrows.specs.Opening.{base_in, noted_with, left_to_open, absent, first_at}
 use Rattle.hdl_sqlrows.proofs.Filed.{on_ok}
 use Rattle.hdl_sqlrows.proofs.Firsts.{free_then, opened_by}
 use Rattle.hdl_sqlrows.proofs.opening.open_within.Goals as goal
@@ -16,8 +16,8 @@ put_firsts-requires-clause-free g c clean up =
     let clean0 : HasCleanDisk s0 = omega (arith, clean1, c.unopened_of.ensures.survives.clean) in
     let up1 = (c.absent_of.ensures.committed clean up).0 in
     let up0 = (c.unopened_of.ensures.committed clean1 up1).0 in
-    let new : map first_at c.deref.result.now ≡ unopened (base_in s0.now.trees).opened c.args.opening.now = ap (map first_at) c.deref.ensures.value ∙ c.in_ok-unopened.ensures.found clean1 up0 in
-    let fresh : map first_at c.deref-2.result.now ≡ absent (drafted s1) (map first_at c.deref.result.now) = ap (map first_at) c.deref-2.ensures.value ∙ c.in_ok-fresh.ensures.found clean up1 in
+    let new : map first_at c.deref.result.now ≡ left_to_open (base_in s0.now.trees).opened c.args.opening.now = ap (map first_at) c.deref.ensures.value ∙ c.in_ok-unopened.ensures.found clean1 up0 in
+    let fresh : map first_at c.deref-2.result.now ≡ absent (draft_table s1) (map first_at c.deref.result.now) = ap (map first_at) c.deref-2.ensures.value ∙ c.in_ok-fresh.ensures.found clean up1 in
     free_then s0 s1 s2 c.args.opening.now (map first_at c.deref.result.now) (map first_at c.deref-2.result.now) (c.in_ok-unopened.ensures.same clean1 up0) (c.in_ok-fresh.ensures.same clean up1) new fresh (c.requires.placed clean0 up0) c.requires.distinct
 
 pub returns-clause-opened : goal.returns-clause-opened
@@ -33,8 +33,8 @@ returns-clause-opened g c =
     let clean1 : HasCleanDisk s1 = omega (arith, clean2, c.absent_of.ensures.survives.clean) in
     let one = c.in_ok-unopened.ensures.same clean1 up0 in
     let two = c.in_ok-fresh.ensures.same clean2 one.is_open in
-    let new : map first_at c.deref.result.now ≡ unopened (base_in s0.now.trees).opened c.args.opening.now = ap (map first_at) c.deref.ensures.value ∙ c.in_ok-unopened.ensures.found clean1 up0 in
-    let fresh : map first_at c.deref-2.result.now ≡ absent (drafted s1) (map first_at c.deref.result.now) = ap (map first_at) c.deref-2.ensures.value ∙ c.in_ok-fresh.ensures.found clean2 one.is_open in
+    let new : map first_at c.deref.result.now ≡ left_to_open (base_in s0.now.trees).opened c.args.opening.now = ap (map first_at) c.deref.ensures.value ∙ c.in_ok-unopened.ensures.found clean1 up0 in
+    let fresh : map first_at c.deref-2.result.now ≡ absent (draft_table s1) (map first_at c.deref.result.now) = ap (map first_at) c.deref-2.ensures.value ∙ c.in_ok-fresh.ensures.found clean2 one.is_open in
     let put = c.in_ok-put_firsts.ensures.put clean3 two.is_open in
     let again : map first_at c.deref-3.result.now ≡ map first_at c.deref.result.now = ap (map first_at) (c.deref-3.ensures.value ∙ sym c.deref.ensures.value) in
     opened_by s0 s1 s2 c.args.opening.now (map first_at c.deref.result.now) (map first_at c.deref-2.result.now) one two new fresh s3 s4 put (c.in_ok-put_firsts.ensures.beside clean3)

@@ -2,7 +2,7 @@ use Rattle.std.proofs.Common.{◌≡◌, take, map, IsTrue}
 use Rattle.sqlite.specs.State.{HasCleanDisk, Survives}
 use Rattle.sqlite.specs.Held.{state}
 use Rattle.hdl_sqlrows.specs.Filed.{KeepsCommitted}
-use Rattle.hdl_sqlrows.specs.Opening.{OnlyLooks, first_at, base_in, unopened}
+use Rattle.hdl_sqlrows.specs.Opening.{OnlyLooks, first_at, base_in, left_to_open}
 use Rattle.hdl_sqlrows.proofs.opening.unopened_of.Given as goal
 
 abbrev pub invariant-loop-first : goal.invariant-loop-first
@@ -14,5 +14,5 @@ invariant-loop-first g l =
       survives : Survives before now (λ _. ⊥);
       committed : KeepsCommitted before now;
       same : HasCleanDisk now → IsTrue before.is_open → OnlyLooks before now;
-      found : HasCleanDisk now → IsTrue before.is_open → map first_at l.firsts.items ≡ unopened (base_in before.now.trees).opened (take l.first-index l.opening);
+      found : HasCleanDisk now → IsTrue before.is_open → map first_at l.firsts.items ≡ left_to_open (base_in before.now.trees).opened (take l.first-index l.opening);
     }

@@ -1,5 +1,5 @@
 use Rattle.hdl_pool.specs.Partial.{key_of}
-use Rattle.hdl_pool.specs.Taking.{freed}
+use Rattle.hdl_pool.specs.Taking.{free_partial}
 use Rattle.hdl_core.proofs.HeldLanes.{within, repooled}
 use Rattle.hdl_core.proofs.lanes.Lanes.free.Goals as goal
 
@@ -7,4 +7,4 @@ pub free-requires : goal.free-requires
 free-requires c = within c.args.self.now c.self.inside.lanes.items c.self.inside.pool c.self.inside.slots c.args.lane c.self.view_is c.self.invariant.0 c.self.invariant.1 c.self.invariant.2 c.requires.there
 
 pub returns : goal.returns
-returns c = repooled c.args.self.now c.self.inside.lanes.items c.self.inside.pool c.self.inside.slots c.args.lane c.self.view_is c.self.invariant.0 c.self.invariant.1 c.self.invariant.2 c.requires.there (λ partials. freed partials (key_of c.args.peer c.args.envelope.now)) c.free.new.self c.free.ensures.lanes
+returns c = repooled c.args.self.now c.self.inside.lanes.items c.self.inside.pool c.self.inside.slots c.args.lane c.self.view_is c.self.invariant.0 c.self.invariant.1 c.self.invariant.2 c.requires.there (λ partials. free_partial partials (key_of c.args.peer c.args.envelope.now)) c.free.new.self c.free.ensures.lanes

@@ -2,7 +2,7 @@ use Rattle.std.proofs.Common.{◌≡◌, ◌∙◌, sym, ap, false}
 use Rattle.hdl_name.specs.Name.{authority}
 use Rattle.hdl_rows.specs.Table.{has, indexes}
 use Rattle.hdl_rows.specs.Write.{Create}
-use Rattle.hdl_sqlrows.specs.Kept.{shown}
+use Rattle.hdl_sqlrows.specs.Kept.{table_of}
 use Rattle.hdl_sqlrows.proofs.Placed.{absent_from, placed_by, at_canon}
 use Rattle.hdl_sqlrows.proofs.sqlrows.SqlRowsRows.create.Goals as goal
 
@@ -13,8 +13,8 @@ pub create-done-requires-clause-none : goal.create-done-requires-clause-none
 create-done-requires-clause-none c = (at_canon (λ t h. has t h ≡ false) _ _ _ _ c.self.view_is c.canon.ensures c.requires.absent)
 
 pub create-done-requires-clause-absent : goal.create-done-requires-clause-absent
-create-done-requires-clause-absent c = absent_from (shown c.self.inside.conn) c.canon.result.now (indexes c.args.values.now) c.self.invariant.1 (at_canon (λ t h. has t h ≡ false) _ _ _ _ c.self.view_is c.canon.ensures c.requires.absent)
+create-done-requires-clause-absent c = absent_from (table_of c.self.inside.conn) c.canon.result.now (indexes c.args.values.now) c.self.invariant.1 (at_canon (λ t h. has t h ≡ false) _ _ _ _ c.self.view_is c.canon.ensures c.requires.absent)
 
 pub invariant_of-self : goal.invariant_of-self
 invariant_of-self c =
-    (c.create-done.ensures.settled, placed_by (shown c.self.inside.conn) (shown c.create-done.new.conn) (Create c.canon.result.now c.args.values.now) c.create-done.result c.self.invariant.1 ((at_canon (λ t h. has t h ≡ false) _ _ _ _ c.self.view_is c.canon.ensures c.requires.absent), c.requires.distinct) c.create-done.ensures.done c.create-done.ensures.undone)
+    (c.create-done.ensures.settled, placed_by (table_of c.self.inside.conn) (table_of c.create-done.new.conn) (Create c.canon.result.now c.args.values.now) c.create-done.result c.self.invariant.1 ((at_canon (λ t h. has t h ≡ false) _ _ _ _ c.self.view_is c.canon.ensures c.requires.absent), c.requires.distinct) c.create-done.ensures.done c.create-done.ensures.undone)

@@ -5,7 +5,7 @@ use Rattle.hdl_trail.proofs.trail.Trail.keep.Goals as goal
 
 pub returns-in_default-clause-partials : goal.returns-in_default-clause-partials
 returns-in_default-clause-partials c =
-    c.put.ensures.put ∙ ap (put_behind 4 c.args.self.now.partials.items) c.begun.ensures
+    c.put.ensures.put ∙ ap (put_behind 4 c.args.self.now.partials.items) c.first_mark.ensures
     ∙ with_piece_begun c.args.exchange c.args.self.now.partials.items (sym c.place.ensures ∙ c.in_default.is)
 
 pub returns-in-Some-get_mut-clause-partials : goal.returns-in-Some-get_mut-clause-partials
