@@ -12,8 +12,8 @@
 //! # Decisions
 //!
 //! - **A lane that was answered goes behind those that wait**, so that nobody who sends many changes at once holds up another's.
-//! - **It has no clause.** What a queue says decides when an event is served, and never how: `serve` (hdl_serve) keeps its clauses whatever it says,
-//!   as does the table.
+//! - **Its clauses speak of the lanes that wait, and of no signal**: a flag that another thread sets tells its reader nothing that could be stated. What a queue says
+//!   decides when an event is served, and never how: `serve` (hdl_serve) keeps its clauses whatever it says, as does the table.
 #![tactic(auto)]
 
 mod queue;

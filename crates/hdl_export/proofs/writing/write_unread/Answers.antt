@@ -4,7 +4,7 @@ use Rattle.std.specs.Str.Lines.{lines}
 use Rattle.hdl_export.specs.Lines.{text_of, is_other}
 use Rattle.hdl_export.proofs.Walks.{texts_of}
 use Rattle.hdl_export.proofs.Whole.{written_is}
-use Rattle.hdl_export.proofs.writing.written.Goals as goal
+use Rattle.hdl_export.proofs.writing.write_unread.Goals as goal
 
 pub returns-clause-written : goal.returns-clause-written
 returns-clause-written g c =

@@ -2,7 +2,7 @@ use Rattle.std.proofs.Common.{◌≡◌, true, false}
 use Rattle.std.specs.Str.{is_utf8}
 use Rattle.std.proofs.lemmas.Bool.{false_from_ne_true}
 use Rattle.std.proofs.lemmas.Str.{IsUtf8-from_is_utf8, is_utf8-from_IsUtf8}
-use Rattle.hdl_lines.proofs.printing.printed.Goals as goal
+use Rattle.hdl_lines.proofs.printing.printed_octets.Goals as goal
 
 pub returns-in_default : goal.returns-in_default
 returns-in_default c =

@@ -1,6 +1,6 @@
 use Rattle.std.proofs.Common.{◌≡◌, drop}
 use Rattle.hdl_proxy.specs.Xml.{attribute_value}
-use Rattle.hdl_proxy.proofs.xml.said.Given as goal
+use Rattle.hdl_proxy.proofs.xml.attribute_value.Given as goal
 
 -- what is left says it
 abbrev pub invariant-loop-one : goal.invariant-loop-one

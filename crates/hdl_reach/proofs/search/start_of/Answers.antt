@@ -4,7 +4,7 @@ use Rattle.hdl_reach.specs.Seen.{places, Extends}
 use Rattle.hdl_reach.specs.Views.{starts}
 use Rattle.hdl_reach.proofs.Growth.{extends_with}
 use Rattle.hdl_reach.proofs.Masks.{starts_next}
-use Rattle.hdl_reach.proofs.search.started.Goals as goal
+use Rattle.hdl_reach.proofs.search.start_of.Goals as goal
 
 pub loop-grant-preserved : goal.loop-grant-preserved
 loop-grant-preserved c =

@@ -1,7 +1,7 @@
 use Rattle.std.proofs.Common.{take, []}
 use Rattle.hdl_reach.specs.Seen.{places, AreKept, Extends}
 use Rattle.hdl_reach.specs.Views.{starts}
-use Rattle.hdl_reach.proofs.search.started.Given as goal
+use Rattle.hdl_reach.proofs.search.start_of.Given as goal
 
 abbrev pub invariant-loop-grant : goal.invariant-loop-grant
 invariant-loop-grant l = record {

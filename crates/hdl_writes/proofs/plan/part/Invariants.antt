@@ -1,6 +1,6 @@
 use Rattle.std.proofs.Common.{◌≡◌, ◌++◌, drop}
 use Rattle.hdl_writes.specs.Plan.{known_values, fresh}
-use Rattle.hdl_writes.proofs.plan.parted.Given as goal
+use Rattle.hdl_writes.proofs.plan.part.Given as goal
 
 abbrev pub invariant-loop-value : goal.invariant-loop-value
 invariant-loop-value l = record {

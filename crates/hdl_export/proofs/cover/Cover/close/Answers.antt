@@ -6,7 +6,7 @@ use Rattle.hdl_reach.specs.Seen.{places, Extends}
 use Rattle.hdl_reach.proofs.Searches.{goes_on, mapped_low, mapped_high, mapped_at}
 use Rattle.hdl_export.specs.Covers.{places_in}
 use Rattle.hdl_export.proofs.Covered.{starts_at, onward_at, covers_each}
-use Rattle.hdl_export.proofs.cover.Cover.closed.Goals as goal
+use Rattle.hdl_export.proofs.cover.Cover.close.Goals as goal
 
 pub loop-next-init : goal.loop-next-init
 loop-next-init g c = record {

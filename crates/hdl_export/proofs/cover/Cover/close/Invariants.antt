@@ -2,7 +2,7 @@ use Rattle.std.proofs.Common.{◌≡◌}
 use Rattle.hdl_reach.specs.Reach.{lists}
 use Rattle.hdl_reach.specs.Search.{IsSearched}
 use Rattle.hdl_export.specs.Covers.{places_in, AreKept}
-use Rattle.hdl_export.proofs.cover.Cover.closed.Given as goal
+use Rattle.hdl_export.proofs.cover.Cover.close.Given as goal
 
 abbrev pub invariant-loop-next : goal.invariant-loop-next
 invariant-loop-next g l = record {

@@ -4,8 +4,8 @@ use Rattle.hdl_workers.specs.declared.ends.LaneEnds.{LaneEnds}
 use Rattle.hdl_scripts.proofs.Same.{meets}
 use Rattle.hdl_scripts.proofs.lanes.beside.run_packets.Goals as goal
 
-pub settled-requires : goal.settled-requires
-settled-requires g c = λ b each.
+pub settle_rings-requires : goal.settle_rings-requires
+settle_rings-requires g c = λ b each.
     let p = c.args.pair in
     let e = c.packet_worker-end in
     let one : length g.L.Made.ends ≡ 1 = subst (λ (xs : List LaneEnds). length xs ≡ 1) (sym c.requires.made) p.single in

@@ -1,7 +1,7 @@
 use Rattle.std.proofs.Common.{◌≡◌, Option, Some, IfSome, subst}
 use Rattle.std.proofs.lemmas.List.Elements.{All-pop}
 use Rattle.hdl_scripts.specs.Same.{IsEach}
-use Rattle.hdl_scripts.proofs.lanes.beside.settled.Goals as goal
+use Rattle.hdl_scripts.proofs.lanes.beside.settle_rings.Goals as goal
 
 from_some : {X : Type 0} (P : X → Type 0) (r : Option X) (x : X) → r ≡ Some x → IfSome r P → P x
 from_some P r x is p = subst (λ q. IfSome q P) is p

@@ -3,14 +3,14 @@ use Rattle.hdl_workers.specs.Ends.{AreDistinct}
 use Rattle.hdl_scripts.specs.Same.{IsEach}
 use Rattle.hdl_scripts.proofs.lanes.server.HeldServing.serve.Goals as goal
 
-pub served-served-requires : goal.served-served-requires
-served-served-requires c = subst (λ v. AreDistinct v.items) (sym c.replace-ends.ensures.value) c.requires
+pub serve_lanes-served-requires : goal.serve_lanes-served-requires
+serve_lanes-served-requires c = subst (λ v. AreDistinct v.items) (sym c.replace-ends.ensures.value) c.requires
 
 pub returns-in_default : goal.returns-in_default
 returns-in_default c = record { distinct = c.requires; same = λ firsts all. all }
 
 pub returns : goal.returns
 returns c = record {
-  distinct = c.served-served.ensures.distinct;
-  same = λ firsts all. c.served-served.ensures.same firsts (subst (λ v. All (IsEach firsts) v.items) (sym c.replace-ends.ensures.value) all);
+  distinct = c.serve_lanes-served.ensures.distinct;
+  same = λ firsts all. c.serve_lanes-served.ensures.same firsts (subst (λ v. All (IsEach firsts) v.items) (sym c.replace-ends.ensures.value) all);
 }

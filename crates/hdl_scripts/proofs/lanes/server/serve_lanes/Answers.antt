@@ -1,5 +1,5 @@
 use Rattle.hdl_scripts.proofs.Same.{served_each}
-use Rattle.hdl_scripts.proofs.lanes.server.served.Goals as goal
+use Rattle.hdl_scripts.proofs.lanes.server.serve_lanes.Goals as goal
 
 pub returns : goal.returns
 returns c = record {
