@@ -35,9 +35,9 @@ pub enum ScriptFault {
 /// for a handle that is hosted for nobody.
 fn asker(tenants: &Tenants, name: &Name) -> (u16, Algorithm) {
     for place in 0..usize::from(tenants.lanes()) {
-        if tenants.publisher(place).is_some() && tenants.hosts(place, name) {
+        if let Some(algorithm) = tenants.algorithm(place, name) {
             if let Some((first, _)) = tenants.lanes_of(place) {
-                return (first, tenants.algorithm(place, name));
+                return (first, algorithm);
             }
         }
     }

@@ -1,6 +1,7 @@
 -- What comes of a message on an open lane.
 use Rattle.std.proofs.Common.{◌≡◌, ℕ, List, [], Bool, true, false, cond, Some, None, Result, Ok, Err, refl, sym, ap, ◌∙◌, subst}
 use Rattle.std.specs.Prelude.{IfOk, OnOk, OnErr}
+use Rattle.std.specs.Borrow.{Bor}
 use Rattle.hdl_auth.specs.declared.algorithm.Algorithm.{Algorithm}
 use Rattle.hdl_auth.specs.declared.algorithm.Algorithm.TheVariants.{Sha1}
 use Rattle.hdl_auth.specs.Digest.{algorithm_of}
@@ -12,10 +13,13 @@ use Rattle.hdl_rows.specs.Table.{Table}
 use Rattle.hdl_slots.specs.declared.pending.Pending.{Pending}
 use Rattle.hdl_slots.specs.Lanes.{challenge_of, add_challenge}
 use Rattle.hdl_ops.specs.Admission.{request_algorithm}
-use Rattle.hdl_ops.specs.Decisions.{Decision, Decides, Proven, failure}
+use Rattle.hdl_ops.specs.declared.decision.HashedRequest.{HashedRequest}
+use Rattle.hdl_ops.specs.declared.owner.Owner.{Owner}
+use Rattle.hdl_ops.specs.Decisions.{Level, Decision, Decides, Proven, failure}
 use Rattle.hdl_ops.specs.Proven.{Proof}
 use Rattle.hdl_ops.specs.Requests.{Response, response_of}
 use Rattle.hdl_ops.specs.Tables.{apply_if}
+use Rattle.hdl_ops.specs.Views.{hosted_by}
 use Rattle.hdl_events.specs.declared.Outcome.TheVariants.{Reply}
 use Rattle.hdl_laws.specs.Lanes.{LaneState}
 use Rattle.hdl_laws.specs.Tasks.{Task, Malformed, Unknown, Late, Ask, Redeem, is_late, redeemed, redeem_task, IsResponseTask, IsRequestTask, IsMessageTask}
@@ -38,6 +42,13 @@ on_both (Err e) P S Q f p q = tt
 pub on_any_err : {X E : Type 0} (r : Result X E) (P : Type 0) → P → OnErr r P
 on_any_err (Ok x) P p = tt
 on_any_err (Err e) P p = p
+
+-- a decision about what a named request asks, by the prefixes of its owner
+pub named_decides : {o owner : Bor Owner} {x asked : HashedRequest} (t : Table) (level : Level) (d : Decision) → o ≡ owner → x ≡ asked
+    → Decides (hosted_by o.now) x.algorithm t x.request.now level d → Decides (hosted_by owner.now) asked.algorithm t asked.request.now level d
+named_decides {o} {owner} {x} {asked} t level d same is decided =
+    subst (λ (y : HashedRequest). Decides (hosted_by owner.now) y.algorithm t y.request.now level d) is
+    (subst (λ (p : Bor Owner). Decides (hosted_by p.now) x.algorithm t x.request.now level d) same decided)
 
 abbrev IsTold : Algorithm → Origin → Content → ℕ → List ℕ → Type 0
 IsTold a m r code octets = octets ≡ answer_octets a m.envelope r code Empty

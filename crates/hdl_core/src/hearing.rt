@@ -67,7 +67,7 @@ fn ask<R: Masked>(
 {
     let named = NamedRequest::of_owner(owner, request)?;
     let asked = named.asked;
-    let decision = decide(owner, named, rows, &Level::Anyone)?;
+    let decision = decide(named, rows, &Level::Anyone)?;
     if is_challenged(&decision) {
         return challenge(owner.alloc, &asked, origin, next);
     }
@@ -114,8 +114,8 @@ fn redeem<R: Masked>(
         nonce: &pending.nonce,
         digest: &pending.digest,
     };
-    let named = NamedRequest::read(owner.alloc, asked)?;
-    let decision = decide(owner, named, rows, &Level::Proven(proof))?;
+    let named = NamedRequest::read(owner, asked)?;
+    let decision = decide(named, rows, &Level::Proven(proof))?;
     answer(owner.alloc, &asked, rows, origin, decision)
 }
 

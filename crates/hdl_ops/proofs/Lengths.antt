@@ -1,5 +1,5 @@
 -- How long the message of a reply is: session, request number and code don't matter.
-use Rattle.std.proofs.Common.{◌≡◌, ◌≤◌, ◌<◌, ◌+◌, ◌-◌, ℕ, Bool, true, false, cond, List, ◌++◌, length, length-append, refl, sym, ap, subst, ◌∙◌, arith, Some, None}
+use Rattle.std.proofs.Common.{◌≡◌, ◌≤◌, ◌<◌, ◌+◌, ◌-◌, ℕ, Bool, true, false, cond, List, ◌++◌, length, length-append, sym, ap, ◌∙◌, arith, Some, None}
 use Rattle.std.specs.Prelude.{IsTrue, codes, nat_le}
 use Rattle.std.specs.List.{position_or_len}
 use Rattle.std.proofs.lemmas.Bool.{leb-true, le-leb, false_from_ne_true}

@@ -1,8 +1,8 @@
 //! What is tested before the table is looked at.
 
-ghost use Rattle.std.specs.Prelude.{◌≡◌, ◌≤◌, length, option_map, IfOk, IfSome};
-ghost use Rattle.std.specs.Option.{ForSome};
-ghost use Rattle.hdl_name.specs.Name.{canonical, sent_prefix};
+ghost use Rattle.std.specs.Prelude.{◌≡◌, ◌≤◌, length, option_map, is_some, unwrap_or, IfOk, IfSome};
+ghost use Rattle.std.specs.Option.{ForSome, option_map_or};
+ghost use Rattle.hdl_name.specs.Name.{canonical, prefix, sent_prefix};
 ghost use Rattle.hdl_name.specs.Tests.{is_handle};
 ghost use Rattle.hdl_ops.specs.Admission.{handle_in, request_algorithm};
 ghost use Rattle.hdl_ops.specs.Requests.{sent_handle};
@@ -38,6 +38,7 @@ fn is_name(octets: &[u8]) -> bool
 pub(crate) fn read_name(alloc: Global, octets: &[u8]) -> Result<Option<Name>, Refused>
     ensures handle { IfOk result (λ name. option_map canonical name ≡ handle_in octets.now) }
     ensures sent { IfOk result (λ name. IfSome name (λ name. name ≡ octets.now)) }
+    ensures there { IfOk result (λ name. is_some name ≡ is_handle octets.now) }
 {
     if !is_name(octets) {
         return Ok(None);
@@ -48,49 +49,65 @@ pub(crate) fn read_name(alloc: Global, octets: &[u8]) -> Result<Option<Name>, Re
     }
 }
 
-/// A request whose name is read.
+/// The hash function of a name's prefix on the owner's lanes, if there is a name and its prefix is hosted for the owner.
+fn hosted_algorithm(owner: &Owner<'_>, name: &Option<Name>) -> Option<Algorithm>
+    ensures hosted { ForSome name.now (λ name. is_some result ≡ hosted_by owner.now (prefix name)) }
+    ensures algorithm { unwrap_or result Algorithm.Sha1 ≡ option_map_or (λ name. algorithms_by owner.now (prefix name)) name.now Algorithm.Sha1 }
+{
+    match name {
+        Some(name) => owner.tenants.algorithm(owner.publisher, name),
+        None => None,
+    }
+}
+
+/// A request on a lane of its owner, whose name is read and whose prefix is looked up.
 #[derive(Drop)]
 pub struct NamedRequest<'a> {
+    pub owner: &'a Owner<'a>,
     pub asked: HashedRequest<'a>,
     /// The handle that it names, if that is a name.
     name: Option<Name>,
+    /// Whether that handle's prefix is hosted for the owner.
+    is_hosted: bool,
     ghost handle: { option_map canonical name ≡ handle_in (sent_handle asked.request.now.operation) },
     ghost sent: { ForSome name (λ name. name ≡ sent_handle asked.request.now.operation) },
+    ghost hosted: { ForSome name (λ name. is_hosted ≡ hosted_by owner.now (prefix name)) },
 }
 
 impl<'a> NamedRequest<'a> {
     /// Reads the name of a request on a lane of its owner. Its hash function is that of the prefix of the handle that it names, where
     /// this is hosted for the owner, else SHA-1. Refused only for want of memory.
-    #[tactic(auto, unfolding(crate::specs::Admission::handle_in))]
     pub fn of_owner(
-        owner: &Owner<'_>,
+        owner: &'a Owner<'a>,
         request: &'a Request<'a>,
     ) -> Result<NamedRequest<'a>, Refused>
+        ensures owner { IfOk result (λ it. it.owner ≡ owner.entry) }
         ensures asked { IfOk result (λ it. it.asked ≡ record { algorithm = request_algorithm (algorithms_by owner.now) request.now; request = request.entry }) }
     {
-        let octets = sent_handle(request.body());
-        if !is_name(octets) {
-            let algorithm = Algorithm::Sha1;
-            let asked = HashedRequest { algorithm, request };
-            return Ok(NamedRequest { asked, name: None });
-        }
-        let Ok(name) = Name::read(owner.alloc, octets) else {
-            return Err(Refused);
-        };
-        let algorithm = owner.tenants.algorithm(owner.publisher, &name);
-        let asked = HashedRequest { algorithm, request };
+        let name = read_name(owner.alloc, sent_handle(request.body()))?;
+        let hosted = hosted_algorithm(owner, &name);
+        let algorithm = hosted.unwrap_or(Algorithm::Sha1);
         Ok(NamedRequest {
-            asked,
-            name: Some(name),
+            owner,
+            asked: HashedRequest { algorithm, request },
+            name,
+            is_hosted: hosted.is_some(),
         })
     }
 
-    /// Reads the name of a request whose hash function is known. Refused only for want of memory.
-    pub fn read(alloc: Global, asked: HashedRequest<'a>) -> Result<NamedRequest<'a>, Refused>
+    /// Reads the name of a request on a lane of its owner, whose hash function is known. Refused only for want of memory.
+    pub fn read(owner: &'a Owner<'a>, asked: HashedRequest<'a>) -> Result<NamedRequest<'a>, Refused>
+        ensures owner { IfOk result (λ it. it.owner ≡ owner.entry) }
         ensures asked { IfOk result (λ it. it.asked ≡ asked.entry) }
     {
-        let name = read_name(alloc, sent_handle(asked.request.body()))?;
-        Ok(NamedRequest { asked, name })
+        let name = read_name(owner.alloc, sent_handle(asked.request.body()))?;
+        let is_hosted = hosted_algorithm(owner, &name).is_some();
+        Ok(NamedRequest {
+            owner,
+            asked,
+            name,
+            is_hosted,
+        })
     }
 }
 
@@ -114,10 +131,16 @@ fn refusal_with(code: ResponseCode, content: ReplyContent) -> Admitted
 
 /// Tests the request before the table is looked at.
 #[tactic(auto, unfolding(crate::specs::First::first, crate::specs::Admission::refusal, crate::specs::Decisions::refused), using(crate::proofs::Lengths::empty_fits, crate::proofs::Lengths::referral_fits))]
-pub(crate) fn admit(owner: &Owner<'_>, request: NamedRequest<'_>) -> Result<Admitted, Refused>
-    ensures { IfOk result (λ admitted. IsAdmitted (hosted_by owner.now) request.entry.asked.request.now admitted) }
+pub(crate) fn admit(request: NamedRequest<'_>) -> Result<Admitted, Refused>
+    ensures { IfOk result (λ admitted. IsAdmitted (hosted_by request.entry.owner.now) request.entry.asked.request.now admitted) }
 {
-    let NamedRequest { asked, name, .. } = request;
+    let NamedRequest {
+        owner,
+        asked,
+        name,
+        is_hosted,
+        ..
+    } = request;
     let body = asked.request.body();
     if is_unused(body) {
         return Ok(refusal_with(ResponseCode::OperationDenied, ReplyContent::Empty));
@@ -131,7 +154,7 @@ pub(crate) fn admit(owner: &Owner<'_>, request: NamedRequest<'_>) -> Result<Admi
     if makes_or_ends(body) && name.is_admin_handle() {
         return Ok(refusal_with(ResponseCode::OperationDenied, ReplyContent::Empty));
     }
-    if !owner.tenants.hosts(owner.publisher, &name) {
+    if !is_hosted {
         let prefix = sent_prefix(owner.alloc, &name)?;
         let referral = ReplyContent::Referral { prefix };
         return Ok(refusal_with(ResponseCode::ServiceReferral, referral));

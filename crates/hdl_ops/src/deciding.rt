@@ -16,7 +16,6 @@ use crate::admit::{Admitted, NamedRequest, admit};
 use crate::anyone::code_for_anyone;
 use crate::decision::{Decision, HashedRequest, Level, Proof, Sight};
 use crate::keys::code_for_proof;
-use crate::owner::Owner;
 use crate::requests::is_list;
 use crate::whole_decision::whole_decision;
 use hdl_cache::Masked;
@@ -113,26 +112,25 @@ fn decide_with_proof<R: Masked>(
     whole_decision(alloc, asked, &Level::Proven(*proof), sight, code, name)
 }
 
-/// The decision about a request on a lane of its owner. The table stays as it is, and a mask that is kept of it isn't looked for
-/// again.
+/// The decision about a request on a lane of its owner, by the prefixes that are hosted for it. The table stays as it is, and a mask
+/// that is kept of it isn't looked for again.
 ///
 /// Refused: the table refused a look, and its count rose by one; or memory for the decision was refused, and the count is as
 /// it was. What is carried fits into the message of a reply, and a change meets the conditions of its write.
 pub fn decide<R: Masked>(
-    owner: &Owner<'_>,
     request: NamedRequest<'_>,
     rows: &mut R,
     level: &Level<'_>,
 ) -> Result<Decision, Refused>
     ensures unchanged { R.content rows.new ≡ R.content rows.old }
-    ensures decided { IfOk result (λ d. Decides (hosted_by owner.now) request.entry.asked.algorithm (R.content rows.old) request.entry.asked.request.now (level_of level.now) (decision_of d)) }
+    ensures decided { IfOk result (λ d. Decides (hosted_by request.entry.owner.now) request.entry.asked.algorithm (R.content rows.old) request.entry.asked.request.now (level_of level.now) (decision_of d)) }
     ensures carried { IfOk result (λ d. IsTrue (fits request.entry.asked.algorithm request.entry.asked.request.now d.content)) }
     ensures can_apply { IfOk result (λ d. IfSome d.change (λ change. CanApply (R.content rows.old) change)) }
     ensures count { AreRefusalsAfter result (R.refused rows.old) (R.refused rows.new) }
 {
-    let alloc = owner.alloc;
+    let alloc = request.owner.alloc;
     let asked = request.asked;
-    match admit(owner, request)? {
+    match admit(request)? {
         Admitted::Refused(decision) => Ok(decision),
         Admitted::Passed(name) => match level {
             Level::Anyone => decide_for_anyone(alloc, &asked, rows, name),

@@ -24,6 +24,7 @@
 //! - **A prefix of several publishers is found by the prefix, with the list of its publishers beside it**, since a look-up takes no memory
 //!   and a key of prefix and publisher would have to be put together. The lines' order stands in a vector of its own, which is what
 //!   contracts see; the invariant is that each list is the publishers of its prefix in that vector (`KeepsHostings`).
+//! - **Whether a prefix is hosted and its hash function there are one answer** (`Tenants::algorithm`), since a request needs both and a look-up is dear.
 //! - **Accepted tenants texts are said by a relation from one register to the next**, line by line, and a register keeps places and counts
 //!   beside it only while a text is read, so that reading takes time linear in the text.
 #![tactic(auto)]

@@ -1,6 +1,6 @@
 //! The hosted prefixes of a tenants text, in its order.
 
-ghost use Rattle.std.specs.Prelude.{◌≡◌, ◌==◌, ◌↔◌, [], ◌∷◌, ◌++◌, find, option_copied, Contains, IsTrue, IsFalse, IfOk, IfErr, OnOk, OnErr};
+ghost use Rattle.std.specs.Prelude.{◌≡◌, ◌==◌, ◌↔◌, [], ◌∷◌, ◌++◌, find, is_some, unwrap_or, option_copied, Contains, IsTrue, IsFalse, IfOk, IfErr, OnOk, OnErr};
 ghost use Rattle.hdl_tenants.specs.Register.{prefixes_of, hosts_among, algorithm_among};
 ghost use Rattle.hdl_tenants.specs.Kept.{hosts_of};
 ghost use Rattle.hdl_tenants.specs.Steps.{IsPrefixFault};
@@ -130,19 +130,18 @@ impl Prefixes {
     }
 
     /// Whether the prefix is hosted for the publisher at this place.
-    pub fn hosts(&self, publisher: usize, prefix: &[u8]) -> bool
+    fn hosts(&self, publisher: usize, prefix: &[u8]) -> bool
         ensures { result ≡ hosts_among self.now publisher prefix.now }
     {
         self.host(publisher, prefix).is_some()
     }
 
-    /// The hash function of the prefix on the lanes of the publisher at this place, SHA-1 where it isn't hosted for it.
-    pub fn algorithm(&self, publisher: usize, prefix: &[u8]) -> Algorithm
-        ensures { result ≡ algorithm_among self.now publisher prefix.now }
+    /// The hash function of the prefix on the lanes of the publisher at this place, if it is hosted for it.
+    pub fn algorithm(&self, publisher: usize, prefix: &[u8]) -> Option<Algorithm>
+        ensures hosted { is_some result ≡ hosts_among self.now publisher prefix.now }
+        ensures algorithm { unwrap_or result Algorithm.Sha1 ≡ algorithm_among self.now publisher prefix.now }
     {
-        match self.host(publisher, prefix) {
-            Some(host) => host.algorithm,
-            None => Algorithm::Sha1,
-        }
+        let host = self.host(publisher, prefix)?;
+        Some(host.algorithm)
     }
 }

@@ -1,6 +1,6 @@
 //! A tenants text, line after line.
 
-ghost use Rattle.std.specs.Prelude.{◌≡◌, ◌<◌, ◌↔◌, ℕ, List, ◌+◌, length, Contains, IsTrue, IsSome, IfOk, IfErr, IfSome, MatchOption, OnOk, map, slice_get};
+ghost use Rattle.std.specs.Prelude.{◌≡◌, ◌<◌, ◌↔◌, ℕ, List, ◌+◌, length, Contains, IsTrue, IsSome, IfOk, IfErr, IfSome, MatchOption, OnOk, map, is_some, unwrap_or, slice_get};
 ghost use Rattle.std.specs.Str.Lines.{lines};
 ghost use Rattle.hdl_name.specs.Name.{prefix};
 ghost use Rattle.hdl_tenants.specs.Register as register;
@@ -184,16 +184,11 @@ impl Tenants {
         self.publishers.owner(lane)
     }
 
-    /// Whether the name's prefix is hosted for the publisher at this place: its whole prefix, in canonical form.
-    pub fn hosts(&self, publisher: usize, name: &Name) -> bool
-        ensures { result ≡ register.hosts self.now publisher (prefix name.now) }
-    {
-        self.prefixes.hosts(publisher, name.prefix())
-    }
-
-    /// The hash function of the name's prefix on the lanes of the publisher at this place: SHA-1 where it isn't hosted for it.
-    pub fn algorithm(&self, publisher: usize, name: &Name) -> Algorithm
-        ensures { result ≡ register.algorithm self.now publisher (prefix name.now) }
+    /// The hash function of the name's prefix on the lanes of the publisher at this place, if its whole prefix, in canonical
+    /// form, is hosted for it. A prefix that isn't has SHA-1.
+    pub fn algorithm(&self, publisher: usize, name: &Name) -> Option<Algorithm>
+        ensures hosted { is_some result ≡ register.hosts self.now publisher (prefix name.now) }
+        ensures algorithm { unwrap_or result Algorithm.Sha1 ≡ register.algorithm self.now publisher (prefix name.now) }
     {
         self.prefixes.algorithm(publisher, name.prefix())
     }

@@ -75,8 +75,8 @@ fn hosting(rt: HostRuntime) -> Result<(), Fail> {
     let tenants = read(&rt, TEXT)?;
     for &(text, acme, bolt) in &HOSTED {
         let name = name(&rt, text)?;
-        same(&rt, text, tenants.hosts(0, &name), acme);
-        same(&rt, text, tenants.hosts(1, &name), bolt);
+        same(&rt, text, tenants.algorithm(0, &name).is_some(), acme);
+        same(&rt, text, tenants.algorithm(1, &name).is_some(), bolt);
     }
     Ok(())
 }
@@ -97,22 +97,22 @@ fn a_prefix_of_two_publishers(rt: HostRuntime) -> Result<(), Fail> {
     for &(text, expected) in &SHARED {
         let name = name(&rt, text)?;
         let hosts = [
-            tenants.hosts(0, &name),
-            tenants.hosts(1, &name),
-            tenants.hosts(2, &name),
+            tenants.algorithm(0, &name).is_some(),
+            tenants.algorithm(1, &name).is_some(),
+            tenants.algorithm(2, &name).is_some(),
         ];
         same(&rt, text, hosts, expected);
     }
     Ok(())
 }
 
-/// A handle, and the hash functions of its prefix for a and b.
-const HASHED: [(&str, [Algorithm; 2]); 5] = [
-    ("10/x", [Algorithm::Sha1, Algorithm::Sha256]),
-    ("0.na/10", [Algorithm::Sha1, Algorithm::Sha256]),
-    ("20/x", [Algorithm::Sha256, Algorithm::Sha1]),
-    ("30/x", [Algorithm::Sha1, Algorithm::Sha1]),
-    ("20.1/x", [Algorithm::Sha1, Algorithm::Sha1]),
+/// A handle, and the hash functions of its prefix for a and b, where it is hosted.
+const HASHED: [(&str, [Option<Algorithm>; 2]); 5] = [
+    ("10/x", [Some(Algorithm::Sha1), Some(Algorithm::Sha256)]),
+    ("0.na/10", [Some(Algorithm::Sha1), Some(Algorithm::Sha256)]),
+    ("20/x", [Some(Algorithm::Sha256), None]),
+    ("30/x", [None, Some(Algorithm::Sha1)]),
+    ("20.1/x", [None, None]),
 ];
 
 /// Texts whose second line has no hash function.

@@ -1,28 +1,27 @@
 use Rattle.std.proofs.Common.{◌≡◌, ◌==◌, true, false, refl, sym, ◌∙◌, ap, subst}
 use Rattle.hdl_msg.specs.Codes.{response_number}
 use Rattle.hdl_ops.proofs.Announced.{answer_announced_lem}
-use Rattle.hdl_ops.specs.Decisions.{Decides, Anyone}
+use Rattle.hdl_ops.specs.Decisions.{Anyone}
 use Rattle.hdl_ops.specs.declared.decision.HashedRequest.{HashedRequest}
 use Rattle.hdl_ops.specs.Tables.{apply_if}
 use Rattle.hdl_ops.specs.Views.{decision_of, hosted_by}
 use Rattle.hdl_laws.specs.Effects.{answer_octets}
 use Rattle.hdl_core.specs.Serving.{challenge_of_request, context, HasItsCode, IsAsked}
 use Rattle.hdl_core.specs.declared.hearing.Heard.{Heard}
-use Rattle.hdl_core.proofs.Heard.{on_ok}
+use Rattle.hdl_core.proofs.Heard.{on_ok, named_decides}
 use Rattle.hdl_core.proofs.hearing.ask.Goals as goal
 
 pub returns-then-is_challenged-clause-asked : goal.returns-then-is_challenged-clause-asked
 returns-then-is_challenged-clause-asked g c =
     let r = c.args.request.now in
     let m = c.args.origin.now in
-    let hosts = hosted_by c.args.owner.now in
     let t = g.R.Rows.content c.args.rows.now in
     let needed : (response_number c.in_ok-decision.decision.code == 402) ≡ true = sym c.is_challenged.ensures ∙ c.if-is_challenged.true in
     let named = c.in_ok-named.ensures.asked in
     on_ok c.challenge.result _ _
     (λ heard is. subst (λ (h : Heard). IsAsked (context c.args.owner.now t) m c.args.next r h (g.R.Rows.content c.decide.new.rows)) (sym (is ∙ ap (λ (x : HashedRequest). challenge_of_request x.algorithm m c.args.next x.request.now) named)) (
       decision_of c.in_ok-decision.decision,
-      subst (λ (x : HashedRequest). Decides hosts x.algorithm t x.request.now Anyone (decision_of c.in_ok-decision.decision)) named c.in_ok-decision.ensures.decided,
+      named_decides t Anyone (decision_of c.in_ok-decision.decision) c.in_ok-named.ensures.owner named c.in_ok-decision.ensures.decided,
       needed,
       refl,
       refl,
@@ -36,7 +35,7 @@ returns-clause-asked g c =
     let answered : (response_number c.in_ok-decision.decision.code == 402) ≡ false = sym c.is_challenged.ensures ∙ c.if-is_challenged.false in
     let named = c.in_ok-named.ensures.asked in (
       d,
-      subst (λ (x : HashedRequest). Decides (hosted_by c.args.owner.now) x.algorithm (g.R.Rows.content c.args.rows.now) x.request.now Anyone d) named c.in_ok-decision.ensures.decided,
+      named_decides (g.R.Rows.content c.args.rows.now) Anyone d c.in_ok-named.ensures.owner named c.in_ok-decision.ensures.decided,
       answered,
       c.in_ok-octets.ensures.reply ∙ ap (λ (x : HashedRequest). answer_octets x.algorithm c.args.origin.now.envelope x.request.now d.code d.content) named,
       c.in_ok-octets.ensures.done ∙ ap (λ t. apply_if t c.args.origin.now.moment c.in_ok-decision.decision.change) c.decide.ensures.unchanged,
@@ -48,4 +47,4 @@ returns-clause-read g c = λ has.
     let e = c.args.origin.now.envelope in
     let asked = c.in_ok-named.named.asked in
     c.in_ok-octets.ensures.read
-    (answer_announced_lem (hosted_by c.args.owner.now) asked.algorithm (g.R.Rows.content c.args.rows.now) asked.request.now Anyone (decision_of c.in_ok-decision.decision) e.session e.request (subst (λ (x : HashedRequest). HasItsCode x.request.now) (sym c.in_ok-named.ensures.asked) has) c.in_ok-decision.ensures.decided answered)
+    (answer_announced_lem (hosted_by c.in_ok-named.named.owner.now) asked.algorithm (g.R.Rows.content c.args.rows.now) asked.request.now Anyone (decision_of c.in_ok-decision.decision) e.session e.request (subst (λ (x : HashedRequest). HasItsCode x.request.now) (sym c.in_ok-named.ensures.asked) has) c.in_ok-decision.ensures.decided answered)

@@ -1,12 +1,11 @@
 use Rattle.std.proofs.Common.{ℕ, List, sym, ap, ◌∙◌, subst}
 use Rattle.hdl_msg.specs.Message.{SpellsRequest}
 use Rattle.hdl_ops.proofs.Announced.{answer_announced_lem, proven_code, timeout_announced}
-use Rattle.hdl_ops.specs.Decisions.{Decides, Proven}
-use Rattle.hdl_ops.specs.declared.decision.HashedRequest.{HashedRequest}
+use Rattle.hdl_ops.specs.Decisions.{Proven}
 use Rattle.hdl_ops.specs.Proven.{Proof}
 use Rattle.hdl_ops.specs.Tables.{apply_if}
 use Rattle.hdl_ops.specs.Views.{algorithms_by, decision_of, hosted_by, response_view}
-use Rattle.hdl_core.proofs.Heard.{on_ok, on_both, unreadable, late, proven}
+use Rattle.hdl_core.proofs.Heard.{on_ok, on_both, named_decides, unreadable, late, proven}
 use Rattle.hdl_core.proofs.hearing.redeem.Goals as goal
 
 pub returns-in_default-clause-redeemed : goal.returns-in_default-clause-redeemed
@@ -32,7 +31,7 @@ returns-clause-redeemed g c =
     on_both c.answer.result _ _ _
     (λ octets is table. proven hosts (algorithms_by c.args.owner.now) t c.args.origin.now (response_view c.args.response) c.args.pending.now c.in-Ok.request c.algorithm.result d octets (g.R.Rows.content c.answer.new.rows) c.algorithm.ensures
     (subst (λ (b : List ℕ). SpellsRequest b c.in-Ok.request) c.as_slice.ensures c.in-Ok.ensures.read) (λ message. sym c.if-is_late.false ∙ c.is_late.ensures message)
-    (subst (λ (x : HashedRequest). Decides hosts x.algorithm t x.request.now (Proven p) d) c.in_ok-named.ensures.asked c.in_ok-decision.ensures.decided) is (table ∙ ap (λ t. apply_if t c.args.origin.now.moment c.in_ok-decision.decision.change) c.decide.ensures.unchanged))
+    (named_decides t (Proven p) d c.in_ok-named.ensures.owner c.in_ok-named.ensures.asked c.in_ok-decision.ensures.decided) is (table ∙ ap (λ t. apply_if t c.args.origin.now.moment c.in_ok-decision.decision.change) c.decide.ensures.unchanged))
     c.answer.ensures.reply c.answer.ensures.done
 
 pub returns-then-is_late-clause-read : goal.returns-then-is_late-clause-read
@@ -48,7 +47,7 @@ returns-clause-read g c =
     let t = g.R.Rows.content c.args.rows.now in
     let p : Proof = record { response = response_view c.args.response; nonce = c.args.pending.now.nonce; digest = c.args.pending.now.digest } in
     let d = decision_of c.in_ok-decision.decision in
-    let decided = subst (λ (x : HashedRequest). Decides hosts x.algorithm t x.request.now (Proven p) d) c.in_ok-named.ensures.asked c.in_ok-decision.ensures.decided in
+    let decided = named_decides t (Proven p) d c.in_ok-named.ensures.owner c.in_ok-named.ensures.asked c.in_ok-decision.ensures.decided in
     on_ok c.answer.result _ _
     (λ octets reads. reads (answer_announced_lem hosts c.algorithm.result t r (Proven p) d e.session e.request c.in-Ok.ensures.read.has_code decided (proven_code hosts c.algorithm.result t r p d decided)))
     c.answer.ensures.read

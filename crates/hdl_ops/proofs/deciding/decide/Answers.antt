@@ -5,8 +5,8 @@ use Rattle.hdl_ops.proofs.deciding.decide.Goals as goal
 
 pub returns-in-Anyone-clause-can_apply : goal.returns-in-Anyone-clause-can_apply
 returns-in-Anyone-clause-can_apply g c =
-    can_apply (hosted_by c.args.owner.now) c.args.request.asked.algorithm _ c.args.request.asked.request.now Anyone c.decide_for_anyone.result (passed _ _ c.in_ok-decision.field-0 c.in-Passed.name c.in-Passed.is c.in_ok-decision.ensures) c.decide_for_anyone.ensures.decided c.decide_for_anyone.ensures.by_index
+    can_apply (hosted_by c.args.request.owner.now) c.args.request.asked.algorithm _ c.args.request.asked.request.now Anyone c.decide_for_anyone.result (passed _ _ c.in_ok-decision.field-0 c.in-Passed.name c.in-Passed.is c.in_ok-decision.ensures) c.decide_for_anyone.ensures.decided c.decide_for_anyone.ensures.by_index
 
 pub returns-in-Proven-clause-can_apply : goal.returns-in-Proven-clause-can_apply
 returns-in-Proven-clause-can_apply g c =
-    can_apply (hosted_by c.args.owner.now) c.args.request.asked.algorithm _ c.args.request.asked.request.now (Proven (proof_of c.in-Proven.proof)) c.decide_with_proof.result (passed _ _ c.in_ok-decision.field-0 c.in-Passed.name c.in-Passed.is c.in_ok-decision.ensures) c.decide_with_proof.ensures.decided c.decide_with_proof.ensures.by_index
+    can_apply (hosted_by c.args.request.owner.now) c.args.request.asked.algorithm _ c.args.request.asked.request.now (Proven (proof_of c.in-Proven.proof)) c.decide_with_proof.result (passed _ _ c.in_ok-decision.field-0 c.in-Passed.name c.in-Passed.is c.in_ok-decision.ensures) c.decide_with_proof.ensures.decided c.decide_with_proof.ensures.by_index
