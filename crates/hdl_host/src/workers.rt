@@ -1,8 +1,5 @@
 //! A thread for each lane, with its worker.
 
-ghost use Rattle.std.specs.Prelude.{◌≡◌, []};
-ghost use Rattle.hdl_lanes.specs.Lane.{put_into, taken_from};
-
 use crate::clock::{MachineClock, Part};
 use crate::crowd::{Crowd, SocketCrowd};
 use crate::door::SocketDoor;
@@ -56,27 +53,16 @@ fn start_stream<R: Threads + Clock + RandomSource + Eprint + Copy + Send + Drop 
     side: Side,
 ) -> Result<JoinHandle<WorkerEnd>, Fault> {
     let Side { ends, bell, turns } = side;
-    let WorkerSide { inlet, outcomes } = ends;
     let rng = or_device(make_rng(rt))?;
     let theirs = *rt;
     let spawned = thread::spawn(
         rt,
-        move ||
-            requires { (put_into inlet ≡ []) × (taken_from outcomes ≡ []) }
-        {
+        move || {
             let recorder = recorder.map(StreamRecorder::new);
             let mut door = SocketDoor::new(Watch::new(theirs, seat, recorder));
             let mut clock = MachineClock::new(theirs, Part::Works(bell));
             let mut nonces = MachineNonces::new(rng);
-            stream_worker(
-                alloc,
-                &mut door,
-                &mut clock,
-                &mut nonces,
-                inlet,
-                outcomes,
-                turns,
-            )
+            stream_worker(alloc, &mut door, &mut clock, &mut nonces, ends, turns)
         },
     );
     match spawned {
@@ -94,26 +80,15 @@ fn start_crowd<R: Threads + Clock + RandomSource + Eprint + Copy + Send + Drop +
     side: Side,
 ) -> Result<JoinHandle<WorkerEnd>, Fault> {
     let Side { ends, bell, turns } = side;
-    let WorkerSide { inlet, outcomes } = ends;
     let rng = or_device(make_rng(rt))?;
     let theirs = *rt;
     let spawned = thread::spawn(
         rt,
-        move ||
-            requires { (put_into inlet ≡ []) × (taken_from outcomes ≡ []) }
-        {
+        move || {
             let mut crowd = SocketCrowd::new(theirs, crowd, recorder);
             let mut clock = MachineClock::new(theirs, Part::Works(bell));
             let mut nonces = MachineNonces::new(rng);
-            packet_worker(
-                alloc,
-                &mut crowd,
-                &mut clock,
-                &mut nonces,
-                inlet,
-                outcomes,
-                turns,
-            )
+            packet_worker(alloc, &mut crowd, &mut clock, &mut nonces, ends, turns)
         },
     );
     match spawned {
@@ -138,27 +113,16 @@ fn start_packets<R: Threads + Clock + RandomSource + Eprint + Copy + Send + Drop
     side: Side,
 ) -> Result<JoinHandle<WorkerEnd>, Fault> {
     let Side { ends, bell, turns } = side;
-    let WorkerSide { inlet, outcomes } = ends;
     let rng = or_device(make_rng(rt))?;
     let theirs = *rt;
     let spawned = thread::spawn(
         rt,
-        move ||
-            requires { (put_into inlet ≡ []) × (taken_from outcomes ≡ []) }
-        {
+        move || {
             let PacketLane { sockets, ending } = lane;
             let mut packets = SocketPackets::new(theirs, alloc, sockets, ending, recorder);
             let mut clock = MachineClock::new(theirs, Part::Works(bell));
             let mut nonces = MachineNonces::new(rng);
-            packet_worker(
-                alloc,
-                &mut packets,
-                &mut clock,
-                &mut nonces,
-                inlet,
-                outcomes,
-                turns,
-            )
+            packet_worker(alloc, &mut packets, &mut clock, &mut nonces, ends, turns)
         },
     );
     match spawned {

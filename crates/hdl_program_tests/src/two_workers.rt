@@ -1,7 +1,5 @@
 //! Two workers are served at the same time: each of their doors waits for the other.
 
-ghost use Rattle.std.specs.Prelude.{◌≡◌, []};
-ghost use Rattle.hdl_lanes.specs.Lane.{put_into, taken_from};
 ghost use Rattle.hdl_workers.specs.Ends.{AreDistinct};
 
 use crate::assertion::same;
@@ -138,7 +136,6 @@ fn start<R: Threads + std::rt::Clock + Copy + Send + Drop + 'static>(
     side: WorkerSide,
     door: Paired<MemoryDoor>,
 ) -> Result<JoinHandle<Paired<MemoryDoor>>, AllocError> {
-    let WorkerSide { inlet, outcomes } = side;
     let mut clock = Sleeping {
         rt: *rt,
         left: Arc::try_clone(&door.left)?,
@@ -146,21 +143,11 @@ fn start<R: Threads + std::rt::Clock + Copy + Send + Drop + 'static>(
     let mut door = door;
     let spawned = thread::spawn(
         rt,
-        move ||
-            requires { (put_into inlet ≡ []) × (taken_from outcomes ≡ []) }
-        {
+        move || {
             let mut nonces = MemoryNonces {
                 coming: VecDeque::new(alloc),
             };
-            stream_worker(
-                alloc,
-                &mut door,
-                &mut clock,
-                &mut nonces,
-                inlet,
-                outcomes,
-                TURNS,
-            );
+            stream_worker(alloc, &mut door, &mut clock, &mut nonces, side, TURNS);
             door
         },
     );

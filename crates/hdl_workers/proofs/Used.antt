@@ -1,10 +1,13 @@
 -- Answers of a clock or of a source of nonces, and where they went.
-use Rattle.std.proofs.Common.{◌≡◌, inl, inr, ℕ, List, [], ◌∷◌, ◌++◌, replicate, refl, ap, sym, append_assoc, append-nil, ◌∙◌}
+use Rattle.std.proofs.Common.{◌≡◌, IsTrue, inl, inr, ℕ, List, [], ◌∷◌, ◌++◌, replicate, refl, ap, sym, append_assoc, append-nil, ◌∙◌}
 use Rattle.std.proofs.lemmas.List.Concat.{flat_map-append}
 use Rattle.std.specs.List.{flat_map}
 use Rattle.hdl_workers.specs.declared.item.Item.{Item}
 use Rattle.hdl_workers.specs.Door.{Takes, Gives}
 use Rattle.hdl_workers.specs.declared.item.Item.TheVariants.{End}
+use Rattle.hdl_workers.specs.declared.door.Clock
+use Rattle.hdl_workers.specs.declared.door.Nonces
+use Rattle.hdl_workers.specs.Stamps.{StampsUsed}
 use Rattle.hdl_workers.specs.Sign.{AllUsed, WithEnd, moment_of, moments_of, nonce_of, nonces_of, MomentsUsed, NoncesUsed}
 
 module _ {A : Type 0} (zero : A) where
@@ -15,7 +18,7 @@ module _ {A : Type 0} (zero : A) where
   pub used_still : (g u g' u' : List A) → g' ≡ g → u' ≡ u → AllUsed zero g u g' u'
   used_still g u g' u' p q = record { more = []; given = p; placed = q ∙ sym (append-nil u) }
 
-  pub used_both : (g u g' u' g'' u'' : List A) → AllUsed zero g u g' u' → AllUsed zero g' u' g'' u'' → AllUsed zero g u g'' u''
+  used_both : (g u g' u' g'' u'' : List A) → AllUsed zero g u g' u' → AllUsed zero g' u' g'' u'' → AllUsed zero g u g'' u''
   used_both g u g' u' g'' u'' a b = record {
     more = a.more ++ b.more;
     given = gives_both g a.more g' b.more g'' a.given b.given;
@@ -31,46 +34,69 @@ module _ {A : Type 0} (zero : A) where
   }
 
 -- an item without one
-pub unused_one : {A X : Type 0} (f : X → List A) (put put' : List X) (i : X) → put' ≡ put ++ i ∷ [] → f i ≡ [] → flat_map f put' ≡ flat_map f put
+unused_one : {A X : Type 0} (f : X → List A) (put put' : List X) (i : X) → put' ≡ put ++ i ∷ [] → f i ≡ [] → flat_map f put' ≡ flat_map f put
 unused_one f put put' i q r =
     ap (flat_map f) q ∙ flat_map-append f put (i ∷ []) ∙ ap (λ w. flat_map f put ++ w) (append-nil (f i) ∙ r) ∙ append-nil (flat_map f put)
 
-pub moments_both : (g : List ℕ) (p : List Item) (g' : List ℕ) (p' : List Item) (g'' : List ℕ) (p'' : List Item) → MomentsUsed g p g' p' → MomentsUsed g' p' g'' p'' → MomentsUsed g p g'' p''
-moments_both g p g' p' g'' p'' = used_both 0 g (moments_of p) g' (moments_of p') g'' (moments_of p'')
-
-pub nonces_both : (g : List (List ℕ)) (p : List Item) (g' : List (List ℕ)) (p' : List Item) (g'' : List (List ℕ)) (p'' : List Item) → NoncesUsed g p g' p' → NoncesUsed g' p' g'' p'' → NoncesUsed g p g'' p''
-nonces_both g p g' p' g'' p'' = used_both (replicate 16 0) g (nonces_of p) g' (nonces_of p') g'' (nonces_of p'')
-
-pub moment_one : (g : List ℕ) (put : List Item) (g' : List ℕ) (put' : List Item) (x : ℕ) (i : Item) → Takes 0 g x g' → put' ≡ put ++ i ∷ [] → moment_of i ≡ x ∷ [] → MomentsUsed g put g' put'
+moment_one : (g : List ℕ) (put : List Item) (g' : List ℕ) (put' : List Item) (x : ℕ) (i : Item) → Takes 0 g x g' → put' ≡ put ++ i ∷ [] → moment_of i ≡ x ∷ [] → MomentsUsed g put g' put'
 moment_one = used_one 0 moment_of
 
-pub nonce_one : (g : List (List ℕ)) (put : List Item) (g' : List (List ℕ)) (put' : List Item) (x : List ℕ) (i : Item) → Takes (replicate 16 0) g x g' → put' ≡ put ++ i ∷ [] → nonce_of i ≡ x ∷ [] → NoncesUsed g put g' put'
+nonce_one : (g : List (List ℕ)) (put : List Item) (g' : List (List ℕ)) (put' : List Item) (x : List ℕ) (i : Item) → Takes (replicate 16 0) g x g' → put' ≡ put ++ i ∷ [] → nonce_of i ≡ x ∷ [] → NoncesUsed g put g' put'
 nonce_one = used_one (replicate 16 0) nonce_of
 
-pub no_moment : (g g' : List ℕ) (put put' : List Item) (i : Item) → g' ≡ g → put' ≡ put ++ i ∷ [] → moment_of i ≡ [] → MomentsUsed g put g' put'
+no_moment : (g g' : List ℕ) (put put' : List Item) (i : Item) → g' ≡ g → put' ≡ put ++ i ∷ [] → moment_of i ≡ [] → MomentsUsed g put g' put'
 no_moment g g' put put' i e p q = used_still 0 g (moments_of put) g' (moments_of put') e (unused_one moment_of put put' i p q)
 
-pub no_nonce : (g g' : List (List ℕ)) (put put' : List Item) (i : Item) → g' ≡ g → put' ≡ put ++ i ∷ [] → nonce_of i ≡ [] → NoncesUsed g put g' put'
+no_nonce : (g g' : List (List ℕ)) (put put' : List Item) (i : Item) → g' ≡ g → put' ≡ put ++ i ∷ [] → nonce_of i ≡ [] → NoncesUsed g put g' put'
 no_nonce g g' put put' i e p q = used_still (replicate 16 0) g (nonces_of put) g' (nonces_of put') e (unused_one nonce_of put put' i p q)
 
-pub moments_still : (g g' : List ℕ) (put put' : List Item) → g' ≡ g → put' ≡ put → MomentsUsed g put g' put'
+moments_still : (g g' : List ℕ) (put put' : List Item) → g' ≡ g → put' ≡ put → MomentsUsed g put g' put'
 moments_still g g' put put' e p = used_still 0 g (moments_of put) g' (moments_of put') e (ap moments_of p)
 
-pub nonces_still : (g g' : List (List ℕ)) (put put' : List Item) → g' ≡ g → put' ≡ put → NoncesUsed g put g' put'
+nonces_still : (g g' : List (List ℕ)) (put put' : List Item) → g' ≡ g → put' ≡ put → NoncesUsed g put g' put'
 nonces_still g g' put put' e p = used_still (replicate 16 0) g (nonces_of put) g' (nonces_of put') e (ap nonces_of p)
 
 -- the whole call began with nothing put
-pub moments_all : (g : List ℕ) (p : List Item) (g' : List ℕ) (p' p'' : List Item) → MomentsUsed g p g' p' → p ≡ [] → moments_of p'' ≡ moments_of p' → Gives 0 g (moments_of p'') g'
+moments_all : (g : List ℕ) (p : List Item) (g' : List ℕ) (p' p'' : List Item) → MomentsUsed g p g' p' → p ≡ [] → moments_of p'' ≡ moments_of p' → Gives 0 g (moments_of p'') g'
 moments_all g p g' p' p'' used e f =
     let placed : moments_of p'' ≡ used.more = f ∙ used.placed ∙ ap (λ x. moments_of x ++ used.more) e in
     rw placed used.given
 
-pub nonces_all : (g : List (List ℕ)) (p : List Item) (g' : List (List ℕ)) (p' p'' : List Item) → NoncesUsed g p g' p' → p ≡ [] → nonces_of p'' ≡ nonces_of p' → Gives (replicate 16 0) g (nonces_of p'') g'
+nonces_all : (g : List (List ℕ)) (p : List Item) (g' : List (List ℕ)) (p' p'' : List Item) → NoncesUsed g p g' p' → p ≡ [] → nonces_of p'' ≡ nonces_of p' → Gives (replicate 16 0) g (nonces_of p'') g'
 nonces_all g p g' p' p'' used e f =
     let placed : nonces_of p'' ≡ used.more = f ∙ used.placed ∙ ap (λ x. nonces_of x ++ used.more) e in
     rw placed used.given
 
-pub ruleset used_rules = (used_both, moments_still, nonces_still, no_moment, no_nonce, moment_one, nonce_one)
+-- both at once
+module _ {C N : Type 0} (c : Clock.Ghosts C) (n : Nonces.Ghosts N) where
+  pub stamps_both : (i : C) (j : N) (p : List Item) (i' : C) (j' : N) (p' : List Item) (i'' : C) (j'' : N) (p'' : List Item) → StampsUsed c n i j p i' j' p' → StampsUsed c n i' j' p' i'' j'' p'' → StampsUsed c n i j p i'' j'' p''
+  stamps_both i j p i' j' p' i'' j'' p'' a b = record {
+    moments = λ t. used_both _ _ _ _ _ _ _ (a.moments t) (b.moments t);
+    nonces = λ t. used_both _ _ _ _ _ _ _ (a.nonces t) (b.nonces t);
+  }
+
+  pub stamps_still : (i i' : C) (j j' : N) (p p' : List Item) → (IsTrue c.is_observed → c.answers i' ≡ c.answers i) → (IsTrue n.is_observed → n.answers j' ≡ n.answers j) → p' ≡ p → StampsUsed c n i j p i' j' p'
+  stamps_still i i' j j' p p' e f put = record {
+    moments = λ t. moments_still _ _ _ _ (e t) put;
+    nonces = λ t. nonces_still _ _ _ _ (f t) put;
+  }
+
+  -- a frame was put
+  pub stamp_one : (i i' : C) (j j' : N) (p p' : List Item) (x : ℕ) (y : List ℕ) (item : Item) → (IsTrue c.is_observed → Takes 0 (c.answers i) x (c.answers i')) → (IsTrue n.is_observed → Takes (replicate 16 0) (n.answers j) y (n.answers j'))
+      → p' ≡ p ++ item ∷ [] → moment_of item ≡ x ∷ [] → nonce_of item ≡ y ∷ [] → StampsUsed c n i j p i' j' p'
+  stamp_one i i' j j' p p' x y item e f put a b = record {
+    moments = λ t. moment_one _ _ _ _ x item (e t) put a;
+    nonces = λ t. nonce_one _ _ _ _ y item (f t) put b;
+  }
+
+  -- an item that is no frame was put
+  pub no_stamp : (i i' : C) (j : N) (p p' : List Item) (item : Item) → (IsTrue c.is_observed → c.answers i' ≡ c.answers i) → p' ≡ p ++ item ∷ [] → moment_of item ≡ [] → nonce_of item ≡ [] → StampsUsed c n i j p i' j p'
+  no_stamp i i' j p p' item e put a b = record {
+    moments = λ t. no_moment _ _ _ _ item (e t) put a;
+    nonces = λ t. no_nonce _ _ _ _ item refl put b;
+  }
+
+pub ruleset used_rules = (stamps_both, stamps_still)
 
 end_moments : (a b : List Item) → WithEnd a b → moments_of b ≡ moments_of a
 end_moments a b (inl e) = ap moments_of e

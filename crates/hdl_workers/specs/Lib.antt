@@ -9,5 +9,7 @@ pub mod Mail
 pub mod Memory
 pub mod MemoryPackets
 pub mod Ends
+pub mod Stamps
 pub mod Going
+pub mod Relaying
 pub mod Replying

@@ -3,7 +3,7 @@
 ghost use Rattle.std.specs.Prelude.{◌≡◌, ◌+◌, length};
 ghost use Rattle.hdl_lanes.specs.Lane.{put_into, taken_from};
 
-use crate::Item;
+use crate::{Item, WorkerSide};
 use hdl_events::{Happening, Outcome};
 use hdl_lanes::{Inlet, Outlet};
 use std::alloc::Global;
@@ -25,6 +25,21 @@ impl Line {
     ghost use Rattle.std.specs.Prelude.{◌≡◌, ◌<◌, ◌++◌, ◌∷◌, [], IsSome, IsTrue, MatchOption};
     ghost use Rattle.hdl_workers.specs.declared.item.Item.TheVariants.{Event};
     ghost use Rattle.hdl_workers.specs.Line.{put_by, taken_by, HasPlace, SameLine};
+
+    /// The line of a lane through which nothing went yet.
+    pub(crate) fn new(alloc: Global, side: WorkerSide, turns: u64) -> Line
+        ensures ends { (result.inlet ≡ side.inlet) × (result.outcomes ≡ side.outcomes) }
+        ensures empty { (put_by result ≡ []) × (taken_by result ≡ []) }
+    {
+        let WorkerSide { inlet, outcomes } = side;
+        Line {
+            inlet,
+            outcomes,
+            waiting: 0,
+            turns,
+            alloc,
+        }
+    }
 
     /// Whether the next event is put at once.
     pub(crate) fn has_room(&mut self) -> bool

@@ -4,23 +4,23 @@ ghost use Rattle.std.specs.Prelude.{◌≡◌, ◌≤◌, ◌<◌, ◌++◌, ◌
 ghost use Rattle.hdl_limits.specs.declared.TheConstants.{UNDER_WAY_MAX};
 ghost use Rattle.hdl_workers.specs.declared.worker.EndReason.TheVariants.{Device};
 ghost use Rattle.hdl_workers.specs.declared.item.Item.{Item};
-ghost use Rattle.hdl_lanes.specs.Lane.{put_into, taken_from, all_put, SameOutlet};
+ghost use Rattle.hdl_lanes.specs.Lane.{taken_from, all_put, SameOutlet};
 ghost use Rattle.hdl_workers.specs.Door.{Counts, Gives};
 ghost use Rattle.hdl_workers.specs.Joined.{EndsLane};
 ghost use Rattle.hdl_workers.specs.Line.{put_by, taken_by, SameLine};
-ghost use Rattle.hdl_workers.specs.Sign.{framed, moments_of, nonces_of, MomentsUsed, NoncesUsed, PutOne, WithEnd};
+ghost use Rattle.hdl_workers.specs.Sign.{framed, moments_of, nonces_of, MomentsUsed, PutOne, WithEnd};
+ghost use Rattle.hdl_workers.specs.Stamps.{StampsUsed};
 ghost use Rattle.hdl_workers.specs.Replying.{OnlyReplies};
 ghost use Rattle.hdl_workers.specs.Mail.{to_peer, SendsReply, BeginsReply, Sends, Traded, Trades, TakesIn, MayTakeIn, Replies, MayReply};
 
 use crate::line::Line;
 use crate::relay::octets_of;
 use crate::stream::copy;
-use crate::worker::{EndReason, WorkerEnd, open, put_end, spend};
-use crate::{Clock, DoorFault, Item, Nonces, Packets};
+use crate::worker::{EndReason, WorkerEnd, finish, open, spend};
+use crate::{Clock, DoorFault, Nonces, Packets, WorkerSide};
 use arrayvec::ArrayVec;
 use hdl_events::{Happening, Outcome};
 use hdl_frame::{ENVELOPE_LEN, one_datagram, pieces};
-use hdl_lanes::{Inlet, Outlet};
 use hdl_limits::{MESSAGE_MAX, Octets, PIECE_LEN, UNDER_WAY_MAX};
 use std::alloc::Global;
 
@@ -91,8 +91,7 @@ fn put_frame<C: Clock, N: Nonces>(
     ensures taken { taken_by line.new ≡ taken_by line.old }
     ensures put { IsTrue result → PutOne (framed peer bytes) (put_by line.old) (put_by line.new) }
     ensures kept { IsFalse result → put_by line.new ≡ put_by line.old }
-    ensures moments { IsTrue C.is_observed → MomentsUsed (C.answers clock.old) (put_by line.old) (C.answers clock.new) (put_by line.new) }
-    ensures nonces { IsTrue N.is_observed → NoncesUsed (N.answers nonces.old) (put_by line.old) (N.answers nonces.new) (put_by line.new) }
+    ensures stamps { StampsUsed C.Clock N.Nonces clock.old nonces.old (put_by line.old) clock.new nonces.new (put_by line.new) }
 {
     while spend(&mut line.turns) {
         if line.has_room() {
@@ -141,8 +140,7 @@ fn submit<C: Clock, N: Nonces>(
     ensures taken { taken_by line.new ≡ taken_by line.old }
     ensures put { IsTrue result → PutOne (framed peer octets.now) (put_by line.old) (put_by line.new) }
     ensures kept { IsFalse result → put_by line.new ≡ put_by line.old }
-    ensures moments { IsTrue C.is_observed → MomentsUsed (C.answers clock.old) (put_by line.old) (C.answers clock.new) (put_by line.new) }
-    ensures nonces { IsTrue N.is_observed → NoncesUsed (N.answers nonces.old) (put_by line.old) (N.answers nonces.new) (put_by line.new) }
+    ensures stamps { StampsUsed C.Clock N.Nonces clock.old nonces.old (put_by line.old) clock.new nonces.new (put_by line.new) }
 {
     match copy(line.alloc, octets, &mut line.turns) {
         Err(_) => false,
@@ -162,8 +160,7 @@ fn take_in<C: Clock, N: Nonces>(
     requires room { length peers.old.items < UNDER_WAY_MAX }
     ensures line { SameLine line.old line.new }
     ensures taken { taken_by line.new ≡ taken_by line.old }
-    ensures moments { IsTrue C.is_observed → MomentsUsed (C.answers clock.old) (put_by line.old) (C.answers clock.new) (put_by line.new) }
-    ensures nonces { IsTrue N.is_observed → NoncesUsed (N.answers nonces.old) (put_by line.old) (N.answers nonces.new) (put_by line.new) }
+    ensures stamps { StampsUsed C.Clock N.Nonces clock.old nonces.old (put_by line.old) clock.new nonces.new (put_by line.new) }
     ensures took { IsTrue result → TakesIn (peer, octets.now) peers.old.items (put_by line.old) peers.new.items (put_by line.new) (taken_by line.new) }
     ensures cut { IsFalse result → MayTakeIn (peer, octets.now) peers.old.items (put_by line.old) (put_by line.new) (taken_by line.new) }
 {
@@ -301,8 +298,7 @@ fn serve_packets<P: Packets, C: Clock, N: Nonces>(
     requires empty { (put_by line.old ≡ []) × (taken_by line.old ≡ []) }
     requires first { IsTrue P.is_observed → (P.received packets.old ≡ []) × (P.sent packets.old ≡ []) }
     ensures line { SameLine line.old line.new }
-    ensures moments { IsTrue C.is_observed → MomentsUsed (C.answers clock.old) (put_by line.old) (C.answers clock.new) (put_by line.new) }
-    ensures nonces { IsTrue N.is_observed → NoncesUsed (N.answers nonces.old) (put_by line.old) (N.answers nonces.new) (put_by line.new) }
+    ensures stamps { StampsUsed C.Clock N.Nonces clock.old nonces.old (put_by line.old) clock.new nonces.new (put_by line.new) }
     ensures device { result ≡ Device → (P.fault_count packets.old < P.fault_count packets.new) ⊎ (P.fault_count packets.old ≡ 2 ^ 64 - 1) }
     ensures whole { IsTrue P.is_observed → result ≡ Device → Traded (P.received packets.new) (P.sent packets.new) (P.fault_count packets.old) (P.fault_count packets.new) (put_by line.new) (taken_by line.new) }
     ensures trades { IsTrue P.is_observed → Trades (P.received packets.new) (P.sent packets.new) (P.fault_count packets.old) (P.fault_count packets.new) (put_by line.new) (taken_by line.new) }
@@ -347,14 +343,12 @@ pub fn packet_worker<P: Packets, C: Clock, N: Nonces>(
     packets: &mut P,
     clock: &mut C,
     nonces: &mut N,
-    inlet: Inlet<Item>,
-    outcomes: Outlet<Outcome>,
+    side: WorkerSide,
     turns: u64,
 ) -> WorkerEnd
-    requires empty { (put_into inlet ≡ []) × (taken_from outcomes ≡ []) }
     requires first { IsTrue P.is_observed → (P.received packets.old ≡ []) × (P.sent packets.old ≡ []) }
-    ensures inlet { EndsLane inlet result.ended }
-    ensures outlet { SameOutlet outcomes result.outlet }
+    ensures inlet { EndsLane side.inlet result.ended }
+    ensures outlet { SameOutlet side.outcomes result.outlet }
     ensures device { result.reason ≡ Device → (P.fault_count packets.old < P.fault_count packets.new) ⊎ (P.fault_count packets.old ≡ 2 ^ 64 - 1) }
     ensures moments { IsTrue C.is_observed → Gives 0 (C.answers clock.old) (moments_of (all_put result.ended)) (C.answers clock.new) }
     ensures nonces { IsTrue N.is_observed → Gives (replicate 16 0) (N.answers nonces.old) (nonces_of (all_put result.ended)) (N.answers nonces.new) }
@@ -363,27 +357,7 @@ pub fn packet_worker<P: Packets, C: Clock, N: Nonces>(
     ensures trades { IsTrue P.is_observed → (events : List Item) × WithEnd events (all_put result.ended)
         × Trades (P.received packets.new) (P.sent packets.new) (P.fault_count packets.old) (P.fault_count packets.new) events (taken_from result.outlet) }
 {
-    let mut line = Line {
-        inlet,
-        outcomes,
-        waiting: 0,
-        turns,
-        alloc,
-    };
+    let mut line = Line::new(alloc, side, turns);
     let reason = serve_packets(packets, &mut line, clock, nonces);
-    let Line {
-        mut inlet,
-        outcomes,
-        waiting: _,
-        mut turns,
-        alloc: _,
-    } = line;
-    if reason == EndReason::Device {
-        put_end(&mut inlet, clock, &mut turns);
-    }
-    WorkerEnd {
-        reason,
-        ended: inlet.finish(),
-        outlet: outcomes,
-    }
+    finish(line, clock, reason)
 }

@@ -8,6 +8,7 @@ ghost use Rattle.hdl_workers.specs.Octets.{octets_of};
 ghost use Rattle.hdl_workers.specs.Door.{say};
 ghost use Rattle.hdl_workers.specs.Going.{GoesOn, StaysOpen};
 ghost use Rattle.hdl_workers.specs.Line.{put_by, taken_by, HasPlace, SameLine, Joins, Relayed, RelayedPart};
+ghost use Rattle.hdl_workers.specs.Relaying.{Relays};
 
 use crate::line::Line;
 use crate::worker::{Stop, spend};
@@ -134,12 +135,9 @@ fn write_joined<D: Door, C: Clock>(
 /// One try to take an outcome, which is then written, and with it those that are there.
 fn relay<D: Door, C: Clock>(door: &mut D, line: &mut Line, clock: &mut C) -> Result<(), Stop>
     ensures turns { OnOk result (line.new.turns < line.old.turns) }
-    ensures goes_on { GoesOn D.Door door.old line.old door.new line.new }
+    ensures relays { Relays D.Door door.old line.old result door.new line.new }
     ensures put { put_by line.new ≡ put_by line.old }
     ensures answers { IsTrue C.is_observed → C.answers clock.new ≡ C.answers clock.old }
-    ensures whole { IsTrue D.is_observed → OnOk result (Relayed (taken_by line.old) (D.current door.old) (taken_by line.new) (D.current door.new)) }
-    ensures part { IsTrue D.is_observed → RelayedPart (taken_by line.old) (D.current door.old) (taken_by line.new) (D.current door.new) }
-    ensures broken { IsTrue D.is_observed → IfErr result (λ stop. stop ≡ Broken → (D.current door.new).broken ≡ true) }
 {
     if !spend(&mut line.turns) {
         return Err(Stop::Turns);
@@ -164,13 +162,10 @@ pub(crate) fn await_outcomes<D: Door, C: Clock>(
     line: &mut Line,
     clock: &mut C,
 ) -> Result<(), Stop>
-    ensures goes_on { GoesOn D.Door door.old line.old door.new line.new }
+    ensures relays { Relays D.Door door.old line.old result door.new line.new }
     ensures put { put_by line.new ≡ put_by line.old }
     ensures answers { IsTrue C.is_observed → C.answers clock.new ≡ C.answers clock.old }
     ensures settled { OnOk result (length (taken_by line.new) ≡ length (put_by line.new)) }
-    ensures whole { IsTrue D.is_observed → OnOk result (Relayed (taken_by line.old) (D.current door.old) (taken_by line.new) (D.current door.new)) }
-    ensures part { IsTrue D.is_observed → RelayedPart (taken_by line.old) (D.current door.old) (taken_by line.new) (D.current door.new) }
-    ensures broken { IsTrue D.is_observed → IfErr result (λ stop. stop ≡ Broken → (D.current door.new).broken ≡ true) }
 {
     while line.waiting > 0 {
         relay(door, line, clock)?;
@@ -185,13 +180,10 @@ pub(crate) fn await_room<D: Door, C: Clock>(
     clock: &mut C,
 ) -> Result<(), Stop>
     ensures turns { OnOk result (line.new.turns < line.old.turns) }
-    ensures goes_on { GoesOn D.Door door.old line.old door.new line.new }
+    ensures relays { Relays D.Door door.old line.old result door.new line.new }
     ensures put { put_by line.new ≡ put_by line.old }
     ensures room { OnOk result (HasPlace line.new) }
     ensures answers { IsTrue C.is_observed → C.answers clock.new ≡ C.answers clock.old }
-    ensures whole { IsTrue D.is_observed → OnOk result (Relayed (taken_by line.old) (D.current door.old) (taken_by line.new) (D.current door.new)) }
-    ensures part { IsTrue D.is_observed → RelayedPart (taken_by line.old) (D.current door.old) (taken_by line.new) (D.current door.new) }
-    ensures broken { IsTrue D.is_observed → IfErr result (λ stop. stop ≡ Broken → (D.current door.new).broken ≡ true) }
 {
     while spend(&mut line.turns) {
         if line.has_room() {

@@ -8,22 +8,23 @@ ghost use Rattle.hdl_workers.specs.declared.item.Item.{Item};
 ghost use Rattle.hdl_workers.specs.declared.item.Item.TheVariants.{Event};
 ghost use Rattle.hdl_events.specs.declared.Outcome.{Outcome};
 ghost use Rattle.hdl_events.specs.declared.Happening.TheVariants.{Bad, Close};
-ghost use Rattle.hdl_lanes.specs.Lane.{put_into, taken_from, all_put, SameOutlet};
+ghost use Rattle.hdl_lanes.specs.Lane.{taken_from, all_put, SameOutlet};
 ghost use Rattle.hdl_workers.specs.Door.{fresh, hear, Gives};
 ghost use Rattle.hdl_workers.specs.Found.{Finds, fault_found};
 ghost use Rattle.hdl_workers.specs.Going.{GoesOn, StaysOpen};
 ghost use Rattle.hdl_workers.specs.Joined.{EndsLane};
-ghost use Rattle.hdl_workers.specs.Line.{put_by, taken_by, SameLine, Relayed, RelayedPart};
-ghost use Rattle.hdl_workers.specs.Sign.{framed, moments_of, nonces_of, MomentsUsed, NoncesUsed, PutOne, WithEnd};
+ghost use Rattle.hdl_workers.specs.Line.{put_by, taken_by, SameLine};
+ghost use Rattle.hdl_workers.specs.Relaying.{Relays};
+ghost use Rattle.hdl_workers.specs.Sign.{framed, moments_of, nonces_of, PutOne, WithEnd};
+ghost use Rattle.hdl_workers.specs.Stamps.{StampsUsed};
 ghost use Rattle.hdl_workers.specs.Talk.{fault_sign, FramesSoFar, Waiting, AllFrames, SomeFrames, AnyBeginning, Underway, CutOff, CanClose, History, Serves};
 
 use crate::line::Line;
 use crate::relay::{await_outcomes, await_room};
-use crate::worker::{EndReason, Stop, WorkerEnd, open, put_end, spend};
-use crate::{Clock, Door, Item, Nonces};
-use hdl_events::{Happening, Outcome};
+use crate::worker::{EndReason, Stop, WorkerEnd, finish, open, spend};
+use crate::{Clock, Door, Nonces, WorkerSide};
+use hdl_events::Happening;
 use hdl_frame::{Cutter, FrameFault};
-use hdl_lanes::{Inlet, Outlet};
 use hdl_limits::Octets;
 use std::alloc::Global;
 
@@ -93,14 +94,10 @@ fn submit_frame<D: Door, C: Clock, N: Nonces>(
     bytes: Octets,
 ) -> Result<(), Stop>
     ensures turns { OnOk result (line.new.turns < line.old.turns) }
-    ensures goes_on { GoesOn D.Door door.old line.old door.new line.new }
+    ensures relays { Relays D.Door door.old line.old result door.new line.new }
     ensures put { OnOk result (PutOne (framed 0 bytes) (put_by line.old) (put_by line.new)) }
     ensures kept { OnErr result (put_by line.new ≡ put_by line.old) }
-    ensures moments { IsTrue C.is_observed → MomentsUsed (C.answers clock.old) (put_by line.old) (C.answers clock.new) (put_by line.new) }
-    ensures nonces { IsTrue N.is_observed → NoncesUsed (N.answers nonces.old) (put_by line.old) (N.answers nonces.new) (put_by line.new) }
-    ensures whole { IsTrue D.is_observed → OnOk result (Relayed (taken_by line.old) (D.current door.old) (taken_by line.new) (D.current door.new)) }
-    ensures part { IsTrue D.is_observed → RelayedPart (taken_by line.old) (D.current door.old) (taken_by line.new) (D.current door.new) }
-    ensures broken { IsTrue D.is_observed → IfErr result (λ stop. stop ≡ Broken → (D.current door.new).broken ≡ true) }
+    ensures stamps { StampsUsed C.Clock N.Nonces clock.old nonces.old (put_by line.old) clock.new nonces.new (put_by line.new) }
 {
     await_room(door, line, clock)?;
     let moment = clock.now();
@@ -123,13 +120,10 @@ fn submit_fault<D: Door, C: Clock>(
     request: u32,
 ) -> Result<(), Stop>
     ensures turns { OnOk result (line.new.turns < line.old.turns) }
-    ensures goes_on { GoesOn D.Door door.old line.old door.new line.new }
+    ensures relays { Relays D.Door door.old line.old result door.new line.new }
     ensures put { OnOk result (put_by line.new ≡ put_by line.old ++ Event (Bad session request) ∷ []) }
     ensures kept { OnErr result (put_by line.new ≡ put_by line.old) }
     ensures answers { IsTrue C.is_observed → C.answers clock.new ≡ C.answers clock.old }
-    ensures whole { IsTrue D.is_observed → OnOk result (Relayed (taken_by line.old) (D.current door.old) (taken_by line.new) (D.current door.new)) }
-    ensures part { IsTrue D.is_observed → RelayedPart (taken_by line.old) (D.current door.old) (taken_by line.new) (D.current door.new) }
-    ensures broken { IsTrue D.is_observed → IfErr result (λ stop. stop ≡ Broken → (D.current door.new).broken ≡ true) }
 {
     await_room(door, line, clock)?;
     line.put(Happening::Bad { session, request });
@@ -149,8 +143,7 @@ fn submit_frames<D: Door, C: Clock, N: Nonces>(
     requires talk { IsTrue D.is_observed → Underway (FramesSoFar cutter.old.rest) (D.ended door.old) (D.current door.old) (put_by line.old) (taken_by line.old) }
     ensures goes_on { GoesOn D.Door door.old line.old door.new line.new }
     ensures sound { IfOk result (λ faulty. IsFalse faulty → cutter.new.fault ≡ None) }
-    ensures moments { IsTrue C.is_observed → MomentsUsed (C.answers clock.old) (put_by line.old) (C.answers clock.new) (put_by line.new) }
-    ensures nonces { IsTrue N.is_observed → NoncesUsed (N.answers nonces.old) (put_by line.old) (N.answers nonces.new) (put_by line.new) }
+    ensures stamps { StampsUsed C.Clock N.Nonces clock.old nonces.old (put_by line.old) clock.new nonces.new (put_by line.new) }
     ensures waits { IsTrue D.is_observed → IfOk result (λ faulty. IsFalse faulty → Underway (Waiting cutter.new.rest) (D.ended door.new) (D.current door.new) (put_by line.new) (taken_by line.new)) }
     ensures stops { IsTrue D.is_observed → IfOk result (λ faulty. IsTrue faulty → Underway AllFrames (D.ended door.new) (D.current door.new) (put_by line.new) (taken_by line.new)) }
     ensures cut { IsTrue D.is_observed → CutOff SomeFrames (D.ended door.new) (D.current door.new) (put_by line.new) (taken_by line.new) }
@@ -212,8 +205,7 @@ fn converse<D: Door, C: Clock, N: Nonces>(
 ) -> Result<(), Stop>
     requires talk { IsTrue D.is_observed → Underway (Waiting []) (D.ended door.old) (D.current door.old) (put_by line.old) (taken_by line.old) }
     ensures goes_on { GoesOn D.Door door.old line.old door.new line.new }
-    ensures moments { IsTrue C.is_observed → MomentsUsed (C.answers clock.old) (put_by line.old) (C.answers clock.new) (put_by line.new) }
-    ensures nonces { IsTrue N.is_observed → NoncesUsed (N.answers nonces.old) (put_by line.old) (N.answers nonces.new) (put_by line.new) }
+    ensures stamps { StampsUsed C.Clock N.Nonces clock.old nonces.old (put_by line.old) clock.new nonces.new (put_by line.new) }
     ensures settled { OnOk result (length (taken_by line.new) ≡ length (put_by line.new)) }
     ensures whole { IsTrue D.is_observed → OnOk result (Underway AllFrames (D.ended door.new) (D.current door.new) (put_by line.new) (taken_by line.new)) }
     ensures cut { IsTrue D.is_observed → CutOff SomeFrames (D.ended door.new) (D.current door.new) (put_by line.new) (taken_by line.new) }
@@ -243,8 +235,7 @@ fn converse_to_end<D: Door, C: Clock, N: Nonces>(
 ) -> bool
     requires talk { IsTrue D.is_observed → Underway (Waiting []) (D.ended door.old) (D.current door.old) (put_by line.old) (taken_by line.old) }
     ensures goes_on { GoesOn D.Door door.old line.old door.new line.new }
-    ensures moments { IsTrue C.is_observed → MomentsUsed (C.answers clock.old) (put_by line.old) (C.answers clock.new) (put_by line.new) }
-    ensures nonces { IsTrue N.is_observed → NoncesUsed (N.answers nonces.old) (put_by line.old) (N.answers nonces.new) (put_by line.new) }
+    ensures stamps { StampsUsed C.Clock N.Nonces clock.old nonces.old (put_by line.old) clock.new nonces.new (put_by line.new) }
     ensures can_close { IsTrue D.is_observed → IsTrue result → CanClose (D.ended door.new) (D.current door.new) (put_by line.new) (taken_by line.new) }
     ensures cut { IsTrue D.is_observed → CutOff SomeFrames (D.ended door.new) (D.current door.new) (put_by line.new) (taken_by line.new) }
 {
@@ -313,8 +304,7 @@ fn serve_connection<D: Door, C: Clock, N: Nonces>(
     requires settled { length (taken_by line.old) ≡ length (put_by line.old) }
     ensures faults { D.fault_count door.old ≤ D.fault_count door.new }
     ensures line { SameLine line.old line.new }
-    ensures moments { IsTrue C.is_observed → MomentsUsed (C.answers clock.old) (put_by line.old) (C.answers clock.new) (put_by line.new) }
-    ensures nonces { IsTrue N.is_observed → NoncesUsed (N.answers nonces.old) (put_by line.old) (N.answers nonces.new) (put_by line.new) }
+    ensures stamps { StampsUsed C.Clock N.Nonces clock.old nonces.old (put_by line.old) clock.new nonces.new (put_by line.new) }
     ensures settled { IsTrue result → length (taken_by line.new) ≡ length (put_by line.new) }
     ensures history { IsTrue D.is_observed → IsTrue result → History (D.ended door.new) (put_by line.new) (taken_by line.new) }
     ensures cut { IsTrue D.is_observed → IsFalse result → CutOff AnyBeginning (D.ended door.new) (D.current door.new) (put_by line.new) (taken_by line.new) }
@@ -349,8 +339,7 @@ fn serve_door<D: Door, C: Clock, N: Nonces>(
     requires history { IsTrue D.is_observed → History (D.ended door.old) (put_by line.old) (taken_by line.old) }
     requires settled { length (taken_by line.old) ≡ length (put_by line.old) }
     ensures line { SameLine line.old line.new }
-    ensures moments { IsTrue C.is_observed → MomentsUsed (C.answers clock.old) (put_by line.old) (C.answers clock.new) (put_by line.new) }
-    ensures nonces { IsTrue N.is_observed → NoncesUsed (N.answers nonces.old) (put_by line.old) (N.answers nonces.new) (put_by line.new) }
+    ensures stamps { StampsUsed C.Clock N.Nonces clock.old nonces.old (put_by line.old) clock.new nonces.new (put_by line.new) }
     ensures device { result ≡ Device → (D.fault_count door.old < D.fault_count door.new) ⊎ (D.fault_count door.old ≡ 2 ^ 64 - 1) }
     ensures whole { IsTrue D.is_observed → result ≡ Device → History (D.ended door.new) (put_by line.new) (taken_by line.new) }
     ensures serves { IsTrue D.is_observed → Serves (D.ended door.new) (D.current door.new) (put_by line.new) (taken_by line.new) }
@@ -382,41 +371,19 @@ pub fn stream_worker<D: Door, C: Clock, N: Nonces>(
     door: &mut D,
     clock: &mut C,
     nonces: &mut N,
-    inlet: Inlet<Item>,
-    outcomes: Outlet<Outcome>,
+    side: WorkerSide,
     turns: u64,
 ) -> WorkerEnd
-    requires empty { (put_into inlet ≡ []) × (taken_from outcomes ≡ []) }
     requires first { IsTrue D.is_observed → D.ended door.old ≡ [] }
-    ensures inlet { EndsLane inlet result.ended }
-    ensures outlet { SameOutlet outcomes result.outlet }
+    ensures inlet { EndsLane side.inlet result.ended }
+    ensures outlet { SameOutlet side.outcomes result.outlet }
     ensures device { result.reason ≡ Device → (D.fault_count door.old < D.fault_count door.new) ⊎ (D.fault_count door.old ≡ 2 ^ 64 - 1) }
     ensures moments { IsTrue C.is_observed → Gives 0 (C.answers clock.old) (moments_of (all_put result.ended)) (C.answers clock.new) }
     ensures nonces { IsTrue N.is_observed → Gives (replicate 16 0) (N.answers nonces.old) (nonces_of (all_put result.ended)) (N.answers nonces.new) }
     ensures whole { IsTrue D.is_observed → result.reason ≡ Device → (events : List Item) × WithEnd events (all_put result.ended) × History (D.ended door.new) events (taken_from result.outlet) }
     ensures serves { IsTrue D.is_observed → (events : List Item) × WithEnd events (all_put result.ended) × Serves (D.ended door.new) (D.current door.new) events (taken_from result.outlet) }
 {
-    let mut line = Line {
-        inlet,
-        outcomes,
-        waiting: 0,
-        turns,
-        alloc,
-    };
+    let mut line = Line::new(alloc, side, turns);
     let reason = serve_door(door, &mut line, clock, nonces);
-    let Line {
-        mut inlet,
-        outcomes,
-        waiting: _,
-        mut turns,
-        alloc: _,
-    } = line;
-    if reason == EndReason::Device {
-        put_end(&mut inlet, clock, &mut turns);
-    }
-    WorkerEnd {
-        reason,
-        ended: inlet.finish(),
-        outlet: outcomes,
-    }
+    finish(line, clock, reason)
 }

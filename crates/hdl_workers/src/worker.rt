@@ -3,7 +3,8 @@
 ghost use Rattle.std.specs.Prelude.{◌≡◌, ◌+◌, ◌++◌, ◌∷◌, [], ◌≤◌, IsTrue, IsFalse};
 ghost use Rattle.hdl_workers.specs.declared.item.Item.TheVariants.{Event};
 ghost use Rattle.hdl_events.specs.declared.Happening.TheVariants.{Open};
-ghost use Rattle.hdl_lanes.specs.Lane.{put_into, SameInlet};
+ghost use Rattle.hdl_lanes.specs.Lane.{put_into, all_put, SameInlet};
+ghost use Rattle.hdl_workers.specs.Joined.{EndsLane};
 ghost use Rattle.hdl_workers.specs.Sign.{WithEnd};
 ghost use Rattle.hdl_workers.specs.Line.{put_by, taken_by, SameLine};
 
@@ -78,5 +79,30 @@ pub(crate) fn put_end<C: Clock>(inlet: &mut Inlet<Item>, clock: &mut C, turns: &
             return;
         }
         clock.pause();
+    }
+}
+
+/// Puts End where the device ended the worker, and gives the ends of its lane.
+pub(crate) fn finish<C: Clock>(line: Line, clock: &mut C, reason: EndReason) -> WorkerEnd
+    ensures reason { result.reason ≡ reason }
+    ensures inlet { EndsLane line.inlet result.ended }
+    ensures outlet { result.outlet ≡ line.outcomes }
+    ensures put { WithEnd (put_by line) (all_put result.ended) }
+    ensures answers { IsTrue C.is_observed → C.answers clock.new ≡ C.answers clock.old }
+{
+    let Line {
+        mut inlet,
+        outcomes,
+        waiting: _,
+        mut turns,
+        alloc: _,
+    } = line;
+    if reason == EndReason::Device {
+        put_end(&mut inlet, clock, &mut turns);
+    }
+    WorkerEnd {
+        reason,
+        ended: inlet.finish(),
+        outlet: outcomes,
     }
 }

@@ -170,21 +170,9 @@ pub fn run_stream<L: Made, S: Serving + Drop>(
     requires made { L.ends ≡ pair.ends.items }
     requires first { door.old.left.items ≡ [] }
 {
-    let Pair {
-        inlet,
-        outcomes,
-        ends,
-    } = pair;
+    let Pair { side, ends } = pair;
     let mut beside = beside_of::<L, S>(serving, ends, plan.idle);
-    let end = stream_worker(
-        alloc,
-        door,
-        &mut beside,
-        nonces,
-        inlet,
-        outcomes,
-        plan.turns,
-    );
+    let end = stream_worker(alloc, door, &mut beside, nonces, side, plan.turns);
     beside.serve_on(plan.after);
     settle_rings(beside, end)
 }
@@ -201,21 +189,9 @@ pub fn run_packets<L: Made, S: Serving + Drop>(
     requires made { L.ends ≡ pair.ends.items }
     requires first { (packets.old.received.items ≡ []) × (packets.old.sent.items ≡ []) }
 {
-    let Pair {
-        inlet,
-        outcomes,
-        ends,
-    } = pair;
+    let Pair { side, ends } = pair;
     let mut beside = beside_of::<L, S>(serving, ends, plan.idle);
-    let end = packet_worker(
-        alloc,
-        packets,
-        &mut beside,
-        nonces,
-        inlet,
-        outcomes,
-        plan.turns,
-    );
+    let end = packet_worker(alloc, packets, &mut beside, nonces, side, plan.turns);
     beside.serve_on(plan.after);
     settle_rings(beside, end)
 }

@@ -1,23 +1,20 @@
 //! A lane with both sides.
 
-ghost use Rattle.std.specs.Prelude.{◌≡◌, [], All, length};
-ghost use Rattle.hdl_lanes.specs.Lane.{AreEnds, put_into, taken_from};
+ghost use Rattle.std.specs.Prelude.{◌≡◌, All, length};
+ghost use Rattle.hdl_lanes.specs.Lane.{AreEnds};
 
-use hdl_core::Outcome;
-use hdl_lanes::{Inlet, Outlet, lane};
-use hdl_serve::{Item, LaneEnds};
+use hdl_lanes::lane;
+use hdl_serve::{LaneEnds, WorkerSide};
 use std::alloc::{AllocError, Global};
 
 /// A lane through which nothing went yet, with both sides.
 #[derive(Drop)]
 pub struct Pair {
-    pub inlet: Inlet<Item>,
-    pub outcomes: Outlet<Outcome>,
+    pub side: WorkerSide,
     /// The service's side, one lane.
     pub ends: Vec<LaneEnds>,
-    ghost fresh: { (put_into inlet ≡ []) × (taken_from outcomes ≡ []) },
     ghost single: { length ends.items ≡ 1 },
-    ghost pair: { All (λ a. AreEnds inlet a.items × AreEnds a.outcomes outcomes) ends.items },
+    ghost pair: { All (λ a. AreEnds side.inlet a.items × AreEnds a.outcomes side.outcomes) ends.items },
 }
 
 /// A lane with this number, whose rings have room for so many items.
@@ -30,9 +27,6 @@ pub fn pair_of(alloc: Global, number: u16, capacity: usize) -> Result<Pair, Allo
         items,
         outcomes: given,
     })?;
-    Ok(Pair {
-        inlet,
-        outcomes,
-        ends,
-    })
+    let side = WorkerSide { inlet, outcomes };
+    Ok(Pair { side, ends })
 }

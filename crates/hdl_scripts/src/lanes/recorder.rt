@@ -122,13 +122,9 @@ fn run_recorded<D: Door>(
     nonces: &mut MemoryNonces,
     turns: u64,
 ) -> EndReason {
-    let Pair {
-        inlet,
-        outcomes,
-        ends,
-    } = pair;
+    let Pair { side, ends } = pair;
     recorder.ends = ends;
-    let end = stream_worker(alloc, door, recorder, nonces, inlet, outcomes, turns);
+    let end = stream_worker(alloc, door, recorder, nonces, side, turns);
     end.reason
 }
 

@@ -1,7 +1,7 @@
 use Rattle.std.proofs.Common.{rules, arith, ◌≡◌, ◌≤◌, ◌∙◌, refl, inr, take, ◌++◌, ◌∷◌, []}
 use Rattle.hdl_workers.specs.Line.{put_by, taken_by}
 use Rattle.hdl_workers.specs.Mail.{Trading}
-use Rattle.hdl_workers.proofs.Used.{used_both, used_still}
+use Rattle.hdl_workers.proofs.Used.{stamps_both, used_still}
 use Rattle.hdl_workers.proofs.Mails.{trading_of, traded_of, trading_later, most_of, later_by}
 use Rattle.hdl_workers.proofs.packet.serve_packets.Goals as goal
 
@@ -9,8 +9,7 @@ pub loop-buffer-init : goal.loop-buffer-init
 loop-buffer-init g c = record {
   faults = search rules;
   line = search rules;
-  moments = λ t. c.begin.ensures.moments t;
-  nonces = λ t. used_still _ _ _ _ _ refl c.begin.ensures.nonces;
+  stamps = record { moments = c.begin.ensures.moments; nonces = λ t. used_still _ _ _ _ _ refl c.begin.ensures.nonces };
   trading = λ t. rw ((c.requires.first t).0, (c.requires.first t).1, c.new-peers.ensures) (trading_of [] [] _ _ _ _ (c.begin.ensures.traded c.if-not-begin.false _));
 }
 
@@ -18,8 +17,7 @@ pub loop-buffer-preserved : goal.loop-buffer-preserved
 loop-buffer-preserved g c = record {
   faults = search rules;
   line = search rules;
-  moments = λ t. used_both _ _ _ _ _ _ _ (c.loop-buffer.invariant.moments t) (c.take_in.ensures.moments t);
-  nonces = λ t. used_both _ _ _ _ _ _ _ (c.loop-buffer.invariant.nonces t) (c.take_in.ensures.nonces t);
+  stamps = stamps_both _ _ _ _ _ _ _ _ _ _ _ c.loop-buffer.invariant.stamps c.take_in.ensures.stamps;
   trading = λ t.
       let fc : g.P.Packets.fault_count c.loop-buffer.packets ≤ g.P.Packets.fault_count c.receive_next.new.packets = omega (arith, c.in-Ok-Some.ensures.faults) in
       let came : g.P.Packets.received c.receive_next.new.packets ≡ g.P.Packets.received c.loop-buffer.packets ++ (c.in-Ok-Some.peer, take c.in-Ok-Some.length c.receive_next.new.buffer) ∷ [] = rw c.in-Ok-Some.field-0-is at (c.in-Ok-Some.ensures.received t) in
@@ -46,11 +44,8 @@ returns-in-Err-clause-trades g c = λ t.
     (c.reply_all.ensures.only_replies.received t ∙ c.in-Err.ensures.received t) (c.receive_next.ensures.sent t) (later_by _ _ _ refl c.in-Err.ensures.faults) in
     inr (c.reply_all.ensures.cut t c.if-reply_all.false _ _ (rw c.reply_all.ensures.only_replies.put before))
 
-pub returns-then-not-take_in-clause-moments : goal.returns-then-not-take_in-clause-moments
-returns-then-not-take_in-clause-moments g c = λ t. used_both _ _ _ _ _ _ _ (c.loop-buffer.invariant.moments t) (c.take_in.ensures.moments t)
-
-pub returns-then-not-take_in-clause-nonces : goal.returns-then-not-take_in-clause-nonces
-returns-then-not-take_in-clause-nonces g c = λ t. used_both _ _ _ _ _ _ _ (c.loop-buffer.invariant.nonces t) (c.take_in.ensures.nonces t)
+pub returns-then-not-take_in-clause-stamps : goal.returns-then-not-take_in-clause-stamps
+returns-then-not-take_in-clause-stamps g c = stamps_both _ _ _ _ _ _ _ _ _ _ _ c.loop-buffer.invariant.stamps c.take_in.ensures.stamps
 
 pub returns-then-not-take_in-clause-trades : goal.returns-then-not-take_in-clause-trades
 returns-then-not-take_in-clause-trades g c = λ t.

@@ -3,9 +3,14 @@ use Rattle.hdl_workers.specs.Line.{taken_by}
 use Rattle.hdl_workers.proofs.Writes.{relayed_both, relayed_then_part}
 use Rattle.hdl_workers.proofs.relay.await_outcomes.Goals as goal
 
-pub returns-in_err-relay-clause-part : goal.returns-in_err-relay-clause-part
-returns-in_err-relay-clause-part g c = λ t.
-    relayed_then_part _ (taken_by c.loop-line.line) _ (g.D.Door.current c.args.door.now) (g.D.Door.current c.loop-line.door) (g.D.Door.current c.relay.new.door) (c.loop-line.invariant.whole t) (c.in_err-relay.ensures.part t)
+pub returns-in_err-relay-clause-relays : goal.returns-in_err-relay-clause-relays
+returns-in_err-relay-clause-relays g c = record {
+  goes_on = search rules;
+  whole = search rules;
+  part = λ t.
+      relayed_then_part _ (taken_by c.loop-line.line) _ (g.D.Door.current c.args.door.now) (g.D.Door.current c.loop-line.door) (g.D.Door.current c.relay.new.door) (c.loop-line.invariant.whole t) (c.in_err-relay.ensures.relays.part t);
+  broken = search rules;
+}
 
 pub loop-line-preserved : goal.loop-line-preserved
 loop-line-preserved g c = record {
@@ -13,5 +18,5 @@ loop-line-preserved g c = record {
   put = search rules;
   answers = search rules;
   whole = λ t.
-      relayed_both _ (taken_by c.loop-line.line) _ (g.D.Door.current c.args.door.now) (g.D.Door.current c.loop-line.door) (g.D.Door.current c.relay.new.door) (c.loop-line.invariant.whole t) (c.in_ok-relay.ensures.whole t);
+      relayed_both _ (taken_by c.loop-line.line) _ (g.D.Door.current c.args.door.now) (g.D.Door.current c.loop-line.door) (g.D.Door.current c.relay.new.door) (c.loop-line.invariant.whole t) (c.in_ok-relay.ensures.relays.whole t);
 }

@@ -1,6 +1,6 @@
 use Rattle.std.proofs.Common.{[], ◌++◌, append_assoc, append-nil, ◌∙◌, ap, refl, sym}
 use Rattle.hdl_workers.specs.Line.{taken_by}
-use Rattle.hdl_workers.proofs.Used.{used_both, moments_still, nonces_still, no_moment, no_nonce}
+use Rattle.hdl_workers.proofs.Used.{stamps_both, stamps_still, no_stamp}
 use Rattle.hdl_workers.proofs.Closes.{opened_on, not_opened, unclosed, closed_cut, left_on}
 use Rattle.hdl_workers.proofs.stream.serve_connection.Goals as goal
 
@@ -55,46 +55,24 @@ returns-clause-history g c = λ t _.
     (rest.1 ∙ ap (λ y. y ++ rest.0) more.1 ∙ append_assoc (taken_by c.converse_to_end.new.line) more.0 rest.0)
     (c.drop_outcomes.ensures.settled c.if-not-drop_outcomes.false))
 
-pub returns-then-not-open-clause-moments : goal.returns-then-not-open-clause-moments
-returns-then-not-open-clause-moments g c = λ t. moments_still _ _ _ _ (c.open.ensures.answers t) (c.open.ensures.kept c.if-not-open.true)
+pub returns-then-not-open-clause-stamps : goal.returns-then-not-open-clause-stamps
+returns-then-not-open-clause-stamps g c = stamps_still _ _ _ _ _ _ _ _ c.open.ensures.answers (λ _. refl) (c.open.ensures.kept c.if-not-open.true)
 
-pub returns-then-not-converse_to_end-clause-moments : goal.returns-then-not-converse_to_end-clause-moments
-returns-then-not-converse_to_end-clause-moments g c = λ t. used_both _ _ _ _ _ _ _ (no_moment _ _ _ _ _ (c.open.ensures.answers t) (c.open.ensures.put c.if-not-open.false) refl) (c.converse_to_end.ensures.moments t)
+pub returns-then-not-converse_to_end-clause-stamps : goal.returns-then-not-converse_to_end-clause-stamps
+returns-then-not-converse_to_end-clause-stamps g c = stamps_both _ _ _ _ _ _ _ _ _ _ _ (no_stamp _ _ _ _ _ _ _ _ c.open.ensures.answers (c.open.ensures.put c.if-not-open.false) refl refl) c.converse_to_end.ensures.stamps
 
-pub returns-then-not-put_close-clause-moments : goal.returns-then-not-put_close-clause-moments
-returns-then-not-put_close-clause-moments g c = λ t. used_both _ _ _ _ _ _ _ (used_both _ _ _ _ _ _ _ (no_moment _ _ _ _ _ (c.open.ensures.answers t) (c.open.ensures.put c.if-not-open.false) refl) (c.converse_to_end.ensures.moments t))
-    (moments_still _ _ _ _ (c.put_close.ensures.answers t) (c.put_close.ensures.kept c.if-not-put_close.true))
+pub returns-then-not-put_close-clause-stamps : goal.returns-then-not-put_close-clause-stamps
+returns-then-not-put_close-clause-stamps g c = stamps_both _ _ _ _ _ _ _ _ _ _ _ (stamps_both _ _ _ _ _ _ _ _ _ _ _ (no_stamp _ _ _ _ _ _ _ _ c.open.ensures.answers (c.open.ensures.put c.if-not-open.false) refl refl) c.converse_to_end.ensures.stamps)
+    (stamps_still _ _ _ _ _ _ _ _ c.put_close.ensures.answers (λ _. refl) (c.put_close.ensures.kept c.if-not-put_close.true))
 
-pub returns-then-not-drop_outcomes-clause-moments : goal.returns-then-not-drop_outcomes-clause-moments
-returns-then-not-drop_outcomes-clause-moments g c = λ t. used_both _ _ _ _ _ _ _ (used_both _ _ _ _ _ _ _ (no_moment _ _ _ _ _ (c.open.ensures.answers t) (c.open.ensures.put c.if-not-open.false) refl) (c.converse_to_end.ensures.moments t))
-    (used_both _ _ _ _ _ _ _ (no_moment _ _ _ _ _ (c.put_close.ensures.answers t) (c.put_close.ensures.put c.if-not-put_close.false) refl) (moments_still _ _ _ _ (c.drop_outcomes.ensures.answers t) c.drop_outcomes.ensures.put))
+pub returns-then-not-drop_outcomes-clause-stamps : goal.returns-then-not-drop_outcomes-clause-stamps
+returns-then-not-drop_outcomes-clause-stamps g c = stamps_both _ _ _ _ _ _ _ _ _ _ _ (stamps_both _ _ _ _ _ _ _ _ _ _ _ (no_stamp _ _ _ _ _ _ _ _ c.open.ensures.answers (c.open.ensures.put c.if-not-open.false) refl refl) c.converse_to_end.ensures.stamps)
+    (stamps_both _ _ _ _ _ _ _ _ _ _ _ (no_stamp _ _ _ _ _ _ _ _ c.put_close.ensures.answers (c.put_close.ensures.put c.if-not-put_close.false) refl refl) (stamps_still _ _ _ _ _ _ _ _ c.drop_outcomes.ensures.answers (λ _. refl) c.drop_outcomes.ensures.put))
 
-pub returns-then-not-spend-clause-moments : goal.returns-then-not-spend-clause-moments
-returns-then-not-spend-clause-moments g c = λ t. used_both _ _ _ _ _ _ _ (used_both _ _ _ _ _ _ _ (no_moment _ _ _ _ _ (c.open.ensures.answers t) (c.open.ensures.put c.if-not-open.false) refl) (c.converse_to_end.ensures.moments t))
-    (used_both _ _ _ _ _ _ _ (no_moment _ _ _ _ _ (c.put_close.ensures.answers t) (c.put_close.ensures.put c.if-not-put_close.false) refl) (moments_still _ _ _ _ (c.drop_outcomes.ensures.answers t) c.drop_outcomes.ensures.put))
+pub returns-then-not-spend-clause-stamps : goal.returns-then-not-spend-clause-stamps
+returns-then-not-spend-clause-stamps g c = stamps_both _ _ _ _ _ _ _ _ _ _ _ (stamps_both _ _ _ _ _ _ _ _ _ _ _ (no_stamp _ _ _ _ _ _ _ _ c.open.ensures.answers (c.open.ensures.put c.if-not-open.false) refl refl) c.converse_to_end.ensures.stamps)
+    (stamps_both _ _ _ _ _ _ _ _ _ _ _ (no_stamp _ _ _ _ _ _ _ _ c.put_close.ensures.answers (c.put_close.ensures.put c.if-not-put_close.false) refl refl) (stamps_still _ _ _ _ _ _ _ _ c.drop_outcomes.ensures.answers (λ _. refl) c.drop_outcomes.ensures.put))
 
-pub returns-clause-moments : goal.returns-clause-moments
-returns-clause-moments g c = λ t. used_both _ _ _ _ _ _ _ (used_both _ _ _ _ _ _ _ (no_moment _ _ _ _ _ (c.open.ensures.answers t) (c.open.ensures.put c.if-not-open.false) refl) (c.converse_to_end.ensures.moments t))
-    (used_both _ _ _ _ _ _ _ (no_moment _ _ _ _ _ (c.put_close.ensures.answers t) (c.put_close.ensures.put c.if-not-put_close.false) refl) (moments_still _ _ _ _ (c.drop_outcomes.ensures.answers t) c.drop_outcomes.ensures.put))
-
-pub returns-then-not-open-clause-nonces : goal.returns-then-not-open-clause-nonces
-returns-then-not-open-clause-nonces g c = λ t. nonces_still _ _ _ _ refl (c.open.ensures.kept c.if-not-open.true)
-
-pub returns-then-not-converse_to_end-clause-nonces : goal.returns-then-not-converse_to_end-clause-nonces
-returns-then-not-converse_to_end-clause-nonces g c = λ t. used_both _ _ _ _ _ _ _ (no_nonce _ _ _ _ _ refl (c.open.ensures.put c.if-not-open.false) refl) (c.converse_to_end.ensures.nonces t)
-
-pub returns-then-not-put_close-clause-nonces : goal.returns-then-not-put_close-clause-nonces
-returns-then-not-put_close-clause-nonces g c = λ t. used_both _ _ _ _ _ _ _ (used_both _ _ _ _ _ _ _ (no_nonce _ _ _ _ _ refl (c.open.ensures.put c.if-not-open.false) refl) (c.converse_to_end.ensures.nonces t))
-    (nonces_still _ _ _ _ refl (c.put_close.ensures.kept c.if-not-put_close.true))
-
-pub returns-then-not-drop_outcomes-clause-nonces : goal.returns-then-not-drop_outcomes-clause-nonces
-returns-then-not-drop_outcomes-clause-nonces g c = λ t. used_both _ _ _ _ _ _ _ (used_both _ _ _ _ _ _ _ (no_nonce _ _ _ _ _ refl (c.open.ensures.put c.if-not-open.false) refl) (c.converse_to_end.ensures.nonces t))
-    (used_both _ _ _ _ _ _ _ (no_nonce _ _ _ _ _ refl (c.put_close.ensures.put c.if-not-put_close.false) refl) (nonces_still _ _ _ _ refl c.drop_outcomes.ensures.put))
-
-pub returns-then-not-spend-clause-nonces : goal.returns-then-not-spend-clause-nonces
-returns-then-not-spend-clause-nonces g c = λ t. used_both _ _ _ _ _ _ _ (used_both _ _ _ _ _ _ _ (no_nonce _ _ _ _ _ refl (c.open.ensures.put c.if-not-open.false) refl) (c.converse_to_end.ensures.nonces t))
-    (used_both _ _ _ _ _ _ _ (no_nonce _ _ _ _ _ refl (c.put_close.ensures.put c.if-not-put_close.false) refl) (nonces_still _ _ _ _ refl c.drop_outcomes.ensures.put))
-
-pub returns-clause-nonces : goal.returns-clause-nonces
-returns-clause-nonces g c = λ t. used_both _ _ _ _ _ _ _ (used_both _ _ _ _ _ _ _ (no_nonce _ _ _ _ _ refl (c.open.ensures.put c.if-not-open.false) refl) (c.converse_to_end.ensures.nonces t))
-    (used_both _ _ _ _ _ _ _ (no_nonce _ _ _ _ _ refl (c.put_close.ensures.put c.if-not-put_close.false) refl) (nonces_still _ _ _ _ refl c.drop_outcomes.ensures.put))
+pub returns-clause-stamps : goal.returns-clause-stamps
+returns-clause-stamps g c = stamps_both _ _ _ _ _ _ _ _ _ _ _ (stamps_both _ _ _ _ _ _ _ _ _ _ _ (no_stamp _ _ _ _ _ _ _ _ c.open.ensures.answers (c.open.ensures.put c.if-not-open.false) refl refl) c.converse_to_end.ensures.stamps)
+    (stamps_both _ _ _ _ _ _ _ _ _ _ _ (no_stamp _ _ _ _ _ _ _ _ c.put_close.ensures.answers (c.put_close.ensures.put c.if-not-put_close.false) refl refl) (stamps_still _ _ _ _ _ _ _ _ c.drop_outcomes.ensures.answers (λ _. refl) c.drop_outcomes.ensures.put))

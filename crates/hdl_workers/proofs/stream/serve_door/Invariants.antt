@@ -1,6 +1,6 @@
 use Rattle.std.proofs.Common.{◌≡◌, ◌≤◌, length, IsTrue}
 use Rattle.hdl_workers.specs.Line.{put_by, taken_by, SameLine}
-use Rattle.hdl_workers.specs.Sign.{MomentsUsed, NoncesUsed}
+use Rattle.hdl_workers.specs.Stamps.{StampsUsed}
 use Rattle.hdl_workers.specs.Talk.{History}
 use Rattle.hdl_workers.proofs.stream.serve_door.Given as goal
 
@@ -8,8 +8,7 @@ abbrev pub invariant-loop-buffer : goal.invariant-loop-buffer
 invariant-loop-buffer g l = record {
   faults : g.D.Door.fault_count l.fn.door ≤ g.D.Door.fault_count l.door;
   line : SameLine l.fn.line l.line;
-  moments : IsTrue g.C.Clock.is_observed → MomentsUsed (g.C.Clock.answers l.fn.clock) (put_by l.fn.line) (g.C.Clock.answers l.clock) (put_by l.line);
-  nonces : IsTrue g.N.Nonces.is_observed → NoncesUsed (g.N.Nonces.answers l.fn.nonces) (put_by l.fn.line) (g.N.Nonces.answers l.nonces) (put_by l.line);
+  stamps : StampsUsed g.C.Clock g.N.Nonces l.fn.clock l.fn.nonces (put_by l.fn.line) l.clock l.nonces (put_by l.line);
   settled : length (taken_by l.line) ≡ length (put_by l.line);
   history : IsTrue g.D.Door.is_observed → History (g.D.Door.ended l.door) (put_by l.line) (taken_by l.line);
 }
