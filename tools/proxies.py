@@ -14,6 +14,7 @@ import subprocess
 import sys
 import threading
 import time
+import urllib.parse
 
 # nothing is left beside the tools
 sys.dont_write_bytecode = True
@@ -68,12 +69,16 @@ value 10/spread 1 10320/loc 0 1110 UTF8 <locations><location href="https://a.exa
 value 10/circle 1 HS_ALIAS 86400 1110 UTF8 20/circle
 value 10/self 1 HS_ALIAS 86400 1110 UTF8 10/self
 value 20/circle 1 HS_ALIAS 86400 1110 UTF8 10/circle
+value 10/\u00fc?q=a&"<b>%% 1 HS_ALIAS 86400 1110 UTF8 20/wild
+value 20/wild 1 HS_ALIAS 86400 1110 UTF8 10/\u00fc?q=a&"<b>%%
 %svalue 10/11 1 URL 86400 1110 UTF8 https://example.org/eleven
 value 20/archive 1 URL 86400 1110 UTF8 https://example.org/archive
 value 20/host 1 URL 60 1110 UTF8 https://example.org
 """
 # ten aliases lead from 10/1 to 10/11, and eleven from 10/0
-CHAIN = "".join("value 10/%d 1 HS_ALIAS 86400 1110 UTF8 10/%d\n" % (hop, hop + 1) for hop in range(11))
+CHAIN = "".join("value 10/%d 1 HS_ALIAS 86400 1110 UTF8 10/%d\n" % (number, number + 1) for number in range(11))
+# a name with what has a meaning in a path, in a page or in an attribute
+WILD = '10/\u00fc?q=a&"<b>%'
 
 # What browsers are told that ask whether another page may send such a request.
 OPTIONS = answers.JSON + [("allow", "GET, HEAD, OPTIONS"), ("access-control-allow-methods", "GET, HEAD, OPTIONS"), ("access-control-allow-headers", "*, Authorization"),
@@ -96,11 +101,23 @@ def values(handle, *parts, wrong=""):
     return "%s - %s" % (handle, SITE_TEXT), "%s<h1>%s</h1>\n%s%s%s" % (HEADER, handle, wrong, COLUMNS % "".join(parts), ANOTHER)
 
 
+def hop(name):
+    """A handle's name, as a link to the page of its own values."""
+    return '<a href="/%s?noredirect">%s</a>' % (urllib.parse.quote(name, safe="/"), html.escape(name))
+
+
 def led_to(asked, page):
     """A page to which an alias led: it says which handle was asked for."""
     title, main = page
-    note = '<p class="note">%s is an alias, which leads to this handle:</p>\n' % asked
-    return "%s, an alias: %s" % (asked, title), HEADER + note + main[len(HEADER):]
+    note = '<p class="note">%s is an alias, which leads to this handle:</p>\n' % hop(asked)
+    return "%s, an alias: %s" % (html.escape(asked), title), HEADER + note + main[len(HEADER):]
+
+
+def nowhere(why, *names):
+    """That the aliases of handles lead nowhere, by a link to each."""
+    asked, hops = html.escape(names[0]), "".join("<li>%s</li>\n" % hop(name) for name in names)
+    return ("Leads nowhere: %s - %s" % (asked, SITE_TEXT),
+            "%s<h1>%s</h1>\n<p>%s</p>\n<ol>\n%s</ol>\n<p>%s</p>\n%s" % (HEADER, asked, why, hops, ELSEWHERE_PLEASE, ANOTHER))
 
 
 def empty(handle):
@@ -180,8 +197,8 @@ INDEX = "An index is a number below 4294967296."
 CALLBACK = "The word callback isn&#39;t taken: pages of any site may read this JSON."
 LOOK = "Please look for a mistake in the name. If there is none, ask who gave it to you."
 ELSEWHERE_PLEASE = "Please tell who gave it to you: one of these handles has to lead elsewhere."
-CIRCLE = "Its aliases lead in a circle: %s."
-BEYOND = "Its aliases lead on beyond ten handles: %s."
+CIRCLE = "Its aliases lead in a circle:"
+BEYOND = "Its aliases lead on beyond ten handles:"
 SLASH = "Please look for a mistake in the name, such as the slash at its end. If there is none, ask who gave it to you."
 FORM = "A handle is a prefix, a slash and a local name, such as 10/a."
 FOLLOW = "Follow a link to a handle, or type its address."
@@ -247,10 +264,11 @@ PAGES = (
     ("GET /10/gone", 404, NEVER, None, led_to("10/gone", refusal("20/none", ABSENT, LOOK))),
     ("GET /10/off", 404, NEVER, None, refusal("30/a", ELSEWHERE, LOOK)),
     ("GET /10/shown", 200, KEPT % 3600, None, led_to("10/shown", SCRIPT_PAGE)),
-    ("GET /10/circle", 404, NEVER, None, refusal("10/circle", CIRCLE % "10/circle, 20/circle, 10/circle", ELSEWHERE_PLEASE, "Leads nowhere")),
-    ("GET /10/self", 404, NEVER, None, refusal("10/self", CIRCLE % "10/self, 10/self", ELSEWHERE_PLEASE, "Leads nowhere")),
+    ("GET /10/circle", 404, NEVER, None, nowhere(CIRCLE, "10/circle", "20/circle", "10/circle")),
+    ("GET /10/self", 404, NEVER, None, nowhere(CIRCLE, "10/self", "10/self")),
+    ("GET /10/%C3%BC%3Fq%3Da%26%22%3Cb%3E%25", 404, NEVER, None, nowhere(CIRCLE, WILD, "20/wild", WILD)),
     ("GET /10/1", 302, KEPT % 86400, "https://example.org/eleven", way("10/11", "https://example.org/eleven")),
-    ("GET /10/0", 404, NEVER, None, refusal("10/0", BEYOND % ", ".join("10/%d" % hop for hop in range(12)), ELSEWHERE_PLEASE, "Leads nowhere")),
+    ("GET /10/0", 404, NEVER, None, nowhere(BEYOND, *("10/%d" % number for number in range(12)))),
     ("GET /favicon", 400, NEVER, None, refusal("favicon", "This is no handle: the name has no slash.", FORM, "No handle")),
     ("GET /10/%FF", 400, NEVER, None, refusal("10/%FF", "This is no handle: the name is not UTF-8.", FORM, "No handle")),
     ("GET /?handle=//evil.example", 400, NEVER, None, refusal("//evil.example", "This is no handle: the name has a bad segment.", FORM, "No handle")),

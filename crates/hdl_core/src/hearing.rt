@@ -83,12 +83,12 @@ fn is_late(origin: &Origin, pending: &Pending) -> bool
 }
 
 /// The reply to a challenge response that names this challenge.
-fn redeem<R: Masked>(
-    owner: &Owner<'_>,
+fn redeem<'a, R: Masked>(
+    owner: &'a Owner<'a>,
     rows: &mut R,
     origin: &Origin,
-    response: Response<'_>,
-    pending: &Pending,
+    response: Response<'a>,
+    pending: &'a Pending,
 ) -> Result<Octets, Refused>
     ensures redeemed { IfOk result (λ octets. IsRedeemed (context owner.now (R.content rows.old)) origin.now (response_view response.entry) pending.now octets (R.content rows.new)) }
     ensures read { IfOk result (λ octets. IsReplyFrame octets) }

@@ -1,5 +1,7 @@
 -- What stands in a Location is graphic ASCII.
 use Rattle.std.proofs.Common.{◌≡◌, ◌<◌, ℕ, List, true, false, Bool, All, ◌||◌, ◌==◌, nat_lt, refl, ◌∙◌, arith}
+use Rattle.std.specs.Prelude.{codes}
+use Rattle.std.proofs.lemmas.List.Elements.{All-cons}
 use Rattle.std.proofs.lemmas.Bool.{agree_below, agree_below_at}
 use Rattle.std.proofs.lemmas.Bool.Decides.{nat_tests}
 use Rattle.percent_encoding.specs.declared.ascii_set.AsciiSet.{AsciiSet}
@@ -46,3 +48,8 @@ graphic set covers octets = All-percent_encode IsGraphic set octets (kept_graphi
 
 pub slash_graphic : IsGraphic 47
 slash_graphic = (omega arith, omega arith)
+
+-- behind its question mark a word of letters alone, which no escape stands for
+pub word_graphic : All IsGraphic (codes "?noredirect")
+unfolding percent_encode should_percent_encode
+word_graphic = All-cons IsGraphic 63 (codes "noredirect") (omega arith, omega arith) (graphic IN_PATH path_covers (codes "noredirect"))

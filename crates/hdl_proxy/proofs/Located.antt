@@ -1,10 +1,11 @@
 -- A Location stands just with status Found, and is graphic ASCII.
 use Rattle.std.proofs.Common.{◌≡◌, ◌≢◌, ℕ, Bool, true, false, cond, List, All, Option, Some, None, MatchOption, String, string_bytes, option_map, sym, ◌∙◌, subst, inl, inr}
 use Rattle.std.specs.Global.{Global}
-use Rattle.std.proofs.lemmas.List.Elements.{All-cons}
+use Rattle.std.specs.Prelude.{codes}
+use Rattle.std.proofs.lemmas.List.Elements.{All-append, All-cons}
 use Rattle.hdl_value.specs.declared.value.Value.{Value}
 use Rattle.hdl_proxy.specs.Answer.{LeadsTo, Tells, IsLocated, IsWayAt, IsWayBy, IsWayFrom, IsWayOf, IsWayOfValue, IsWayToMeant, Goes, ShowsValues, ShowsFound}
-use Rattle.hdl_proxy.specs.Link.{IsLink, address_of, path_to}
+use Rattle.hdl_proxy.specs.Link.{IsLink, address_of, path_to, path_to_values}
 use Rattle.hdl_proxy.specs.Status.{status_of_code}
 use Rattle.hdl_proxy.specs.Url.{IsGraphic, extend}
 use Rattle.hdl_proxy.specs.declared.answer.Answer.{Answer}
@@ -18,7 +19,7 @@ use Rattle.std.specs.Borrow.{Bor}
 use Rattle.hdl_proxy.specs.declared.found.Found.TheVariants.{Values, Refused, Nothing}
 use Rattle.hdl_proxy.specs.declared.question.Form.{Form}
 use Rattle.hdl_proxy.specs.declared.question.Form.TheVariants.{Follow, Page, Json, Pretty}
-use Rattle.hdl_proxy.proofs.Addresses.{graphic, location_covers, path_covers, slash_graphic}
+use Rattle.hdl_proxy.proofs.Addresses.{graphic, location_covers, path_covers, slash_graphic, word_graphic}
 
 -- ---- links are graphic ASCII
 
@@ -28,9 +29,13 @@ address_graphic url = graphic _ location_covers url
 pub path_graphic : (name : List ℕ) → All IsGraphic (path_to name)
 path_graphic name = All-cons IsGraphic 47 _ slash_graphic (graphic _ path_covers name)
 
+pub values_path_graphic : (name : List ℕ) → All IsGraphic (path_to_values name)
+values_path_graphic name = All-append IsGraphic (path_to name) (codes "?noredirect") (path_graphic name) word_graphic
+
 pub link_graphic : (to : List ℕ) → IsLink to → All IsGraphic to
 link_graphic to (inl w) = subst (All IsGraphic) (sym w.1.1) (address_graphic w.0)
-link_graphic to (inr w) = subst (All IsGraphic) (sym w.1.1) (path_graphic w.0)
+link_graphic to (inr (inl w)) = subst (All IsGraphic) (sym w.1.1) (path_graphic w.0)
+link_graphic to (inr (inr w)) = subst (All IsGraphic) (sym w.1.1) (values_path_graphic w.0)
 
 -- ---- answers
 

@@ -48,7 +48,7 @@ is_among names name = list_any (λ one. is_same one name) names
 
 -- words before the handles that aliases lead through, this one the last
 abbrev pub hop_words : List ℕ → List ℕ
-hop_words name = text_of name ++ codes ", "
+hop_words name = codes " " ++ (text_of name ++ codes ",")
 
 abbrev pub way_words : List ℕ → List (List ℕ) → List ℕ → List ℕ
-way_words front names target = front ++ (flat_map hop_words names ++ (text_of target ++ codes "."))
+way_words front names target = front ++ (flat_map hop_words names ++ (codes " " ++ (text_of target ++ codes ".")))

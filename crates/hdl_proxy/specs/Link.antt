@@ -1,5 +1,5 @@
 -- Where links lead.
-use Rattle.std.specs.Prelude.{◌≡◌, ◌⊎◌, ℕ, List, ◌∷◌, Option, Some, None}
+use Rattle.std.specs.Prelude.{◌≡◌, ◌⊎◌, ℕ, List, ◌∷◌, ◌++◌, Option, Some, None, codes}
 use Rattle.percent_encoding.specs.Percent.{percent_encode}
 use Rattle.hdl_name.specs.Name.{IsHandle}
 use Rattle.hdl_proxy.specs.Url.{IsFollowed}
@@ -13,11 +13,16 @@ address_of url = percent_encode IN_LOCATION url
 abbrev pub path_to : List ℕ → List ℕ
 path_to name = 47 ∷ percent_encode IN_PATH name
 
--- the address of a URL that is followed, or the path of a handle
+-- the path of the page of a handle's own values
+abbrev pub path_to_values : List ℕ → List ℕ
+path_to_values name = path_to name ++ codes "?noredirect"
+
+-- the address of a URL that is followed, or the path of a handle or of its own values
 abbrev pub IsLink : List ℕ → Type 0
 IsLink to =
     ((url : List ℕ) × (IsFollowed url × (to ≡ address_of url)))
     ⊎ ((name : List ℕ) × (IsHandle name × (to ≡ path_to name)))
+    ⊎ ((name : List ℕ) × (IsHandle name × (to ≡ path_to_values name)))
 
 -- the way to this URL: its address, and none just where it isn't followed
 abbrev pub IsWayTo : List ℕ → Option (List ℕ) → Type 0

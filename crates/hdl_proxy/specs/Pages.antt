@@ -159,10 +159,13 @@ lead_word code =
 abbrev pub refusal_title : ℕ → List ℕ → List ℕ
 refusal_title code asked = lead_word code ++ asked
 
+-- what to do, and the way to another handle
+unfoldable pub advice_part : ℕ → List ℕ → List ℕ
+advice_part code asked = element (codes "<p>") (advice code asked) (codes "</p>\n") ++ ANOTHER.now
+
 -- the page that says why there are no values, and what to do
 unfoldable pub refusal_page : List ℕ → ℕ → List ℕ → List ℕ
-refusal_page asked code why =
-    top asked ++ (element (codes "<p>") why (codes "</p>\n") ++ (element (codes "<p>") (advice code asked) (codes "</p>\n") ++ ANOTHER.now))
+refusal_page asked code why = top asked ++ (element (codes "<p>") why (codes "</p>\n") ++ advice_part code asked)
 
 -- ---- a way
 

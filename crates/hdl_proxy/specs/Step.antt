@@ -2,19 +2,23 @@
 use Rattle.std.specs.Prelude.{◌≡◌, ◌≢◌, ◌≤◌, ◌<◌, ◌⊎◌, ℕ, true, false, List, [], ◌∷◌, ◌++◌, length, Option, Some, None, Result, codes, slice_get, string_bytes, unwrap_or}
 use Rattle.std.specs.Borrow.{Bor}
 use Rattle.hdl_proxy.specs.Alias.{IsHop, is_among, way_words}
-use Rattle.hdl_proxy.specs.Answer.{Refuses, ShowsFound}
+use Rattle.serde_json.specs.Written.{compact_text}
+use Rattle.hdl_proxy.specs.Answer.{ShowsFound, Tells, media_of}
 use Rattle.hdl_proxy.specs.Found.{IsFoundOf}
+use Rattle.hdl_proxy.specs.Hops.{alias_part, nowhere_page}
+use Rattle.hdl_proxy.specs.Json.{refusal_json}
 use Rattle.hdl_proxy.specs.Keeping.{sooner}
-use Rattle.hdl_proxy.specs.Pages.{element}
 use Rattle.hdl_proxy.specs.declared.alias.Hop.{Hop}
 use Rattle.hdl_proxy.specs.declared.answer.Answer.{Answer as Reply}
 use Rattle.hdl_proxy.specs.declared.answer.Keeping.{Keeping}
+use Rattle.hdl_proxy.specs.declared.answer.Keeping.TheVariants.{Never}
 use Rattle.hdl_proxy.specs.declared.answer.Media.TheVariants as media
 use Rattle.hdl_proxy.specs.declared.answer.Status.TheVariants as status
 use Rattle.hdl_proxy.specs.declared.found.Found.{Found}
 use Rattle.hdl_proxy.specs.declared.proxy.Next.{Next}
 use Rattle.hdl_proxy.specs.declared.proxy.Next.TheVariants.{Answer, Ask}
 use Rattle.hdl_proxy.specs.declared.question.Form.{Form}
+use Rattle.hdl_proxy.specs.declared.question.Form.TheVariants.{Follow, Page, Json, Pretty}
 use Rattle.hdl_proxy.specs.declared.question.Question.{Question}
 use Rattle.hdl_proxy.specs.declared.resolver.NoAnswer.{NoAnswer}
 
@@ -30,14 +34,11 @@ pub record IsWithin (most : Keeping) (before after : Reply) : Type 0 where
   pub title : after.title ≡ before.title
   pub body : after.body ≡ before.body
 
--- the title of a page, and what stands above it, where the alias of another handle led there
+-- the title of a page where the alias of another handle led there
 abbrev pub alias_title : List ℕ → List ℕ → List ℕ
 alias_title asked title = asked ++ (codes ", an alias: " ++ title)
 
-abbrev pub alias_part : List ℕ → List ℕ
-alias_part asked = element (codes "<p class=\"note\">") asked (codes " is an alias, which leads to this handle:</p>\n")
-
--- the same page, which says which handle was asked for
+-- the same page, which says which handle was asked for, by a link to its own values
 pub record IsOfAlias (asked : List ℕ) (before after : Reply) : Type 0 where
   pub keeping : after.keeping ≡ before.keeping
   pub status : after.status ≡ before.status
@@ -80,17 +81,26 @@ pub record IsNext (question : Question) (hop : Hop) (next : Question) : Type 0 w
   pub passed : next.passed.items ≡ asked_for question
   pub keeping : next.keeping ≡ sooner question.keeping hop.keeping
 
--- the aliases of these handles lead nowhere, the last of them to this one: told of the first one, by all of them
-abbrev pub LeadsNowhere : Form → List ℕ → List (List ℕ) → List ℕ → Reply → Type 0
-LeadsNowhere form front asked target answer = Refuses status.NotFound form (first_of asked) 6 (way_words front asked target) answer
+-- that the aliases of these handles lead nowhere, the last of them to this one, told of the first one by all of them: a page has a link to each
+abbrev pub nowhere_body : Form → List ℕ → List (List ℕ) → List ℕ → List ℕ
+nowhere_body Follow front asked target = nowhere_page (first_of asked) front asked target
+nowhere_body Page front asked target = nowhere_page (first_of asked) front asked target
+nowhere_body Json front asked target = compact_text (refusal_json (first_of asked) 6 (way_words front asked target))
+nowhere_body Pretty front asked target = compact_text (refusal_json (first_of asked) 6 (way_words front asked target))
+
+-- it isn't there, and nobody may keep that
+pub record LeadsNowhere (form : Form) (front : List ℕ) (asked : List (List ℕ)) (target : List ℕ) (answer : Reply) : Type 0 where
+  pub told : Tells status.NotFound (media_of form) answer
+  pub kept : answer.keeping ≡ Never
+  pub body : answer.body.items ≡ nowhere_body form front asked target
 
 abbrev pub Hops : Question → Hop → Next → Type 0
 Hops question hop (Ask next) = (is_among (asked_for question) hop.target ≡ false) × (length question.passed.items < 10) × IsNext question hop next
 Hops question hop (Answer answer) =
     ((is_among (asked_for question) hop.target ≡ true)
-    × LeadsNowhere question.form (codes "Its aliases lead in a circle: ") (asked_for question) hop.target answer)
+    × LeadsNowhere question.form (codes "Its aliases lead in a circle:") (asked_for question) hop.target answer)
     ⊎ ((is_among (asked_for question) hop.target ≡ false) × (10 ≤ length question.passed.items)
-    × LeadsNowhere question.form (codes "Its aliases lead on beyond ten handles: ") (asked_for question) hop.target answer)
+    × LeadsNowhere question.form (codes "Its aliases lead on beyond ten handles:") (asked_for question) hop.target answer)
 
 -- ---- what is next
 

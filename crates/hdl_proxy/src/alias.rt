@@ -75,8 +75,9 @@ fn put_hop(text: &mut String, alloc: Global, name: &Name) -> Result<(), AllocErr
     ensures { OnOk result (string_bytes text.new ≡ string_bytes text.old ++ hop_words name.now) }
 {
     let shown = text_of(alloc, name.sent())?;
+    text.push_str(" ")?;
     text.push_str(&shown)?;
-    text.push_str(", ")
+    text.push_str(",")
 }
 
 fn put_hops(text: &mut String, alloc: Global, names: &[Name]) -> Result<(), AllocError>
@@ -100,6 +101,7 @@ pub(crate) fn way_words(
     let mut text = String::from_str(alloc, front)?;
     put_hops(&mut text, alloc, names)?;
     let last = text_of(alloc, target.sent())?;
+    text.push_str(" ")?;
     text.push_str(&last)?;
     text.push_str(".")?;
     Ok(text)

@@ -27,6 +27,7 @@ mod choice;
 mod escape;
 mod files;
 mod found;
+mod hops;
 mod json;
 mod keeping;
 mod laws;

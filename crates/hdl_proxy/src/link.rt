@@ -1,7 +1,7 @@
 //! Where a page or a Location may lead.
 
 ghost use Rattle.std.specs.Prelude.{◌≡◌, IfOk, All, string_bytes};
-ghost use Rattle.hdl_proxy.specs.Link.{IsLink, IsWayTo, path_to};
+ghost use Rattle.hdl_proxy.specs.Link.{IsLink, IsWayTo, path_to, path_to_values};
 ghost use Rattle.hdl_proxy.specs.Url.{IsGraphic};
 
 use crate::url::{address, is_followed, path_of};
@@ -9,8 +9,8 @@ use hdl_name::Name;
 use std::alloc::{AllocError, Global};
 use std::marker::Model;
 
-/// What a link leads to: the address of a URL that is followed, or a handle's own path. There is no other way to make one, so
-/// no text of a value or of a request leads anywhere by itself.
+/// What a link leads to: the address of a URL that is followed, a handle's own path, or the page of its own values. There is no other
+/// way to make one, so no text of a value or of a request leads anywhere by itself.
 ///
 /// Contracts see its octets.
 #[derive(Drop)]
@@ -46,6 +46,15 @@ impl Link {
         ensures { IfOk result (λ to. to ≡ path_to name.now) }
     {
         let text = path_of(alloc, name.sent())?;
+        Ok(Link { text })
+    }
+
+    /// The way to the page of a handle's own values, from which no alias leads on.
+    pub(crate) fn to_values(alloc: Global, name: &Name) -> Result<Link, AllocError>
+        ensures { IfOk result (λ to. to ≡ path_to_values name.now) }
+    {
+        let mut text = path_of(alloc, name.sent())?;
+        text.push_str("?noredirect")?;
         Ok(Link { text })
     }
 

@@ -3,7 +3,7 @@
 ghost use Rattle.std.specs.Prelude.{◌≡◌, ◌++◌, List, ℕ, IfOk, OnOk, flat_map, option_map, string_bytes};
 ghost use Rattle.std.specs.List.{list_all};
 ghost use Rattle.hdl_value.specs.Refs.{raw, raws};
-ghost use Rattle.hdl_proxy.specs.Pages.{heading, permission_part, handle_permissions, value_permissions, admin_permissions, permissions_part, refusal_title, lead_word, IsTable, is_plain, is_plain_octet, kept_part, link_part, octets_part, digits_part, admin_part, reference_part, written_part, refusal_page, redirect_page, IsDataPart, IsOctetsPart, IsTimesPart, IsSection, IsSections, IsValuesPart, IsPageOf};
+ghost use Rattle.hdl_proxy.specs.Pages.{advice_part, heading, permission_part, handle_permissions, value_permissions, admin_permissions, permissions_part, refusal_title, lead_word, IsTable, is_plain, is_plain_octet, kept_part, link_part, octets_part, digits_part, admin_part, reference_part, written_part, refusal_page, redirect_page, IsDataPart, IsOctetsPart, IsTimesPart, IsSection, IsSections, IsValuesPart, IsPageOf};
 ghost use Rattle.hdl_proxy.specs.Answer.{IsLocated, LeadsTo, Tells};
 ghost use Rattle.hdl_proxy.specs.Keeping.{IsKeepingOf};
 ghost use Rattle.hdl_proxy.specs.Status.{advice, ends_with_slash, look_again};
@@ -32,7 +32,7 @@ const END: &str = "</tbody>
 ";
 
 /// A page with this title.
-fn page_answer(status: Status, keeping: Keeping, title: Vec<u8>, page: Page) -> Answer
+pub(crate) fn page_answer(status: Status, keeping: Keeping, title: Vec<u8>, page: Page) -> Answer
     ensures told { Tells status Media.Page result }
     ensures kept { result.keeping ≡ keeping }
     ensures title { result.title ≡ title }
@@ -95,12 +95,21 @@ fn lead_word(code: u32) -> &'static str
     }
 }
 
-fn refusal_title(alloc: Global, asked: &[u8], code: u32) -> Result<Vec<u8>, AllocError>
+pub(crate) fn refusal_title(alloc: Global, asked: &[u8], code: u32) -> Result<Vec<u8>, AllocError>
     ensures { IfOk result (λ title. title.items ≡ refusal_title code asked.now) }
 {
     let mut title = Vec::from_slice(alloc, lead_word(code).as_bytes())?;
     title.extend_from_slice(asked)?;
     Ok(title)
+}
+
+/// What to do, and the way to another handle.
+#[tactic(auto, unfolding(crate::specs::Pages::advice_part))]
+pub(crate) fn put_advice(page: &mut Page, code: u32, asked: &[u8]) -> Result<(), AllocError>
+    ensures { OnOk result (page.new.octets.items ≡ page.old.octets.items ++ advice_part code asked.now) }
+{
+    page.element("<p>", advice(code, asked).as_bytes(), "</p>\n")?;
+    page.markup(ANOTHER)
 }
 
 /// A page that says why there are no values: what was asked, why not, and what to do.
@@ -120,8 +129,7 @@ pub(crate) fn refusal(
     let title = refusal_title(alloc, asked, code)?;
     let mut page = Page::new(alloc, asked)?;
     page.element("<p>", why.as_bytes(), "</p>\n")?;
-    page.element("<p>", advice(code, asked).as_bytes(), "</p>\n")?;
-    page.markup(ANOTHER)?;
+    put_advice(&mut page, code, asked)?;
     Ok(page_answer(status, Keeping::Never, title, page))
 }
 

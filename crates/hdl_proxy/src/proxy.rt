@@ -339,7 +339,7 @@ fn answer_values(
 }
 
 /// That there are no values of this handle, by code and reason.
-pub(crate) fn refusal_of(
+fn refusal_of(
     alloc: Global,
     form: Form,
     handle: &[u8],

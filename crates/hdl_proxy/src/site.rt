@@ -41,7 +41,10 @@ td p, td ul { max-width: none; margin: 0 }
 .may { padding: 0; list-style: none; font-size: .875rem; color: var(--soft) }
 .may li { display: inline }
 .may li + li::before { content: \", \" }
-.note { padding-left: .75rem; border-left: .25rem solid var(--jade) }
+.note { margin: .75rem 0 1rem; padding-left: .75rem; border-left: .25rem solid var(--jade) }
+.note, ol { overflow-wrap: anywhere }
+ol { margin: 0 0 .75rem; padding-left: 2.25rem }
+ol li { padding: .125rem 0 }
 .find { display: flex; flex-wrap: wrap; gap: .5rem }
 input, button { font: inherit; padding: .5rem .75rem; border: 1px solid var(--soft); border-radius: .3rem; color: inherit; background: var(--paper) }
 input { flex: 1 1 16rem }

@@ -8,9 +8,11 @@ ghost use Rattle.hdl_proxy.specs.Step.{Ends, Hops, IsNamed, IsOfAlias, IsStep, I
 use crate::alias::{Hop, hop_in, is_among, way_words};
 use crate::answer::{Answer, Keeping, Media, Status};
 use crate::found::{Found, read_answer};
+use crate::hops::{TOO_FAR, nowhere_page, put_alias};
+use crate::json::refusal;
 use crate::keeping::sooner;
 use crate::page::Page;
-use crate::proxy::{Next, answer_found, refusal_of};
+use crate::proxy::{Next, answer_found};
 use crate::question::{Form, Question};
 use crate::resolver::NoAnswer;
 use hdl_name::Name;
@@ -19,12 +21,9 @@ use std::alloc::{AllocError, Global};
 /// The most aliases that are followed one after the other.
 pub const HOPS_MOST: usize = 10;
 
-/// The code of a request that would go on too far (RFC 3652, section 2.2.2.3).
-const TOO_FAR: u32 = 6;
+const CIRCLE: &str = "Its aliases lead in a circle:";
 
-const CIRCLE: &str = "Its aliases lead in a circle: ";
-
-const BEYOND: &str = "Its aliases lead on beyond ten handles: ";
+const BEYOND: &str = "Its aliases lead on beyond ten handles:";
 
 /// The same answer, which others may keep no longer than this.
 fn within(keeping: Keeping, answer: Answer) -> Answer
@@ -36,7 +35,7 @@ fn within(keeping: Keeping, answer: Answer) -> Answer
     }
 }
 
-/// The same page, which says which handle was asked for.
+/// The same page, which says which handle was asked for, by a link to its own values.
 fn of_alias(alloc: Global, asked: &Name, answer: Answer) -> Result<Answer, AllocError>
     ensures { IfOk result (IsOfAlias asked.now answer) }
 {
@@ -44,8 +43,7 @@ fn of_alias(alloc: Global, asked: &Name, answer: Answer) -> Result<Answer, Alloc
     title.extend_from_slice(b", an alias: ")?;
     title.extend_from_slice(&answer.title)?;
     let mut page = Page::empty(alloc);
-    let leads = " is an alias, which leads to this handle:</p>\n";
-    page.element("<p class=\"note\">", asked.sent(), leads)?;
+    put_alias(&mut page, asked)?;
     page.part(&answer.body)?;
     Ok(Answer {
         title,
@@ -98,9 +96,14 @@ fn nowhere(
 ) -> Result<Answer, AllocError>
     ensures { IfOk result (LeadsNowhere form front.now asked.now target.now) }
 {
-    let why = way_words(alloc, front, asked, target)?;
     let handle = first_of(asked);
-    refusal_of(alloc, form, handle, Status::NotFound, TOO_FAR, why.as_str())
+    match form {
+        Form::Json | Form::Pretty => {
+            let why = way_words(alloc, front, asked, target)?;
+            refusal(alloc, Status::NotFound, handle, TOO_FAR, why.as_str())
+        }
+        Form::Follow | Form::Page => nowhere_page(alloc, handle, front, asked, target),
+    }
 }
 
 /// What is next where this alias is followed.

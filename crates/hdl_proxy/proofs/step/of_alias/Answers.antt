@@ -1,7 +1,7 @@
 use Rattle.std.proofs.Common.{◌≡◌, ℕ, List, ◌++◌, ap, ◌∙◌, refl, append_assoc}
 use Rattle.std.specs.Prelude.{codes}
 use Rattle.std.specs.Global.{Vec}
-use Rattle.hdl_proxy.specs.Pages.{element}
+use Rattle.hdl_proxy.specs.Hops.{alias_part}
 use Rattle.hdl_proxy.proofs.step.of_alias.Goals as goal
 
 pub returns : goal.returns
@@ -9,11 +9,9 @@ returns c =
     let asked = c.args.asked.now in
     let title = c.args.answer.title.items in
     let body = c.args.answer.body.items in
-    let front = codes "<p class=\"note\">" in
-    let back = codes " is an alias, which leads to this handle:</p>\n" in
     let begun : c.extend_from_slice.new.self.items ≡ asked ++ codes ", an alias: " =
     c.in_ok-extend_from_slice.ensures.items ∙ ap (λ (x : List ℕ). x ++ codes ", an alias: ") (c.in_ok-title.ensures.items ∙ c.sent.ensures.octets) in
-    let above = c.in_ok-element.ensures ∙ ap (λ (x : List ℕ). x ++ element front c.sent-2.result.now back) c.empty-page.ensures ∙ ap (λ (t : List ℕ). element front t back) c.sent-2.ensures.octets in
+    let above = c.in_ok-put_alias.ensures ∙ ap (λ (x : List ℕ). x ++ alias_part asked) c.empty-page.ensures in
     record {
       keeping = refl;
       status = refl;

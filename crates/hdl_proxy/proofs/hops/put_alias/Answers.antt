@@ -1,0 +1,16 @@
+use Rattle.std.specs.Prelude.{codes}
+use Rattle.std.proofs.lemmas.Result.{on_ok_weaker}
+use Rattle.hdl_proxy.specs.Hops.{alias_part, handle_link}
+use Rattle.hdl_proxy.proofs.Joined.{three}
+use Rattle.hdl_proxy.proofs.hops.put_alias.Goals as goal
+
+pub returns : goal.returns
+unfolding alias_part
+returns c =
+    on_ok_weaker c.markup-2.result (λ put.
+    three c.args.page.now.octets.items _ _ _
+    (codes "<p class=\"note\">") (handle_link c.args.asked.now) (codes " is an alias, which leads to this handle:</p>\n")
+    c.in_ok-markup.ensures
+    c.in_ok-put_handle.ensures
+    put)
+    c.markup-2.ensures

@@ -1,0 +1,16 @@
+use Rattle.std.specs.Prelude.{codes}
+use Rattle.std.proofs.lemmas.Result.{on_ok_weaker}
+use Rattle.hdl_proxy.specs.Hops.{handle_link, hop_part}
+use Rattle.hdl_proxy.proofs.Joined.{three}
+use Rattle.hdl_proxy.proofs.hops.put_hop.Goals as goal
+
+pub returns : goal.returns
+unfolding hop_part
+returns c =
+    on_ok_weaker c.markup-2.result (λ put.
+    three c.args.page.now.octets.items _ _ _
+    (codes "<li>") (handle_link c.args.name.now) (codes "</li>\n")
+    c.in_ok-markup.ensures
+    c.in_ok-put_handle.ensures
+    put)
+    c.markup-2.ensures

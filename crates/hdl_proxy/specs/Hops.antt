@@ -1,0 +1,25 @@
+-- How a page says through which handles aliases led: the name of each is a link to the page of its own values.
+use Rattle.std.specs.Prelude.{ℕ, List, ◌++◌, codes, flat_map}
+use Rattle.hdl_proxy.specs.Escape.{escaped}
+use Rattle.hdl_proxy.specs.Link.{path_to_values}
+use Rattle.hdl_proxy.specs.Pages.{advice_part, element, top}
+
+-- a handle's name, which leads to the page of its own values
+unfoldable pub handle_link : List ℕ → List ℕ
+handle_link name = codes "<a href=\"" ++ (escaped (path_to_values name) ++ element (codes "\">") name (codes "</a>"))
+
+-- above a page: which handle was asked for, whose alias led there
+unfoldable pub alias_part : List ℕ → List ℕ
+alias_part asked = codes "<p class=\"note\">" ++ (handle_link asked ++ codes " is an alias, which leads to this handle:</p>\n")
+
+-- the handles that aliases lead through in order, this one the last
+unfoldable pub hop_part : List ℕ → List ℕ
+hop_part name = codes "<li>" ++ (handle_link name ++ codes "</li>\n")
+
+unfoldable pub hops_part : List (List ℕ) → List ℕ → List ℕ
+hops_part names target = codes "<ol>\n" ++ (flat_map hop_part names ++ (hop_part target ++ codes "</ol>\n"))
+
+-- the page that says of a handle that its aliases lead nowhere, by all of them, and what to do
+unfoldable pub nowhere_page : List ℕ → List ℕ → List (List ℕ) → List ℕ → List ℕ
+nowhere_page handle front names target =
+    top handle ++ (element (codes "<p>") front (codes "</p>\n") ++ (hops_part names target ++ advice_part 6 handle))

@@ -1,0 +1,88 @@
+//! How a page says through which handles aliases led.
+
+ghost use Rattle.std.specs.Prelude.{◌≡◌, ◌++◌, IfOk, OnOk, flat_map};
+ghost use Rattle.hdl_proxy.specs.Answer.{Tells};
+ghost use Rattle.hdl_proxy.specs.Hops.{alias_part, handle_link, hop_part, hops_part, nowhere_page};
+ghost use Rattle.hdl_proxy.specs.Pages.{refusal_title};
+
+use crate::answer::{Answer, Keeping, Media, Status};
+use crate::link::Link;
+use crate::page::Page;
+use crate::pages::{page_answer, put_advice, refusal_title};
+use hdl_name::Name;
+use std::alloc::{AllocError, Global};
+
+/// The code of a request that would go on too far (RFC 3652, section 2.2.2.3).
+pub(crate) const TOO_FAR: u32 = 6;
+
+/// A handle's name, as a link to the page of its own values.
+#[tactic(auto, unfolding(crate::specs::Hops::handle_link))]
+fn put_handle(page: &mut Page, name: &Name) -> Result<(), AllocError>
+    ensures { OnOk result (page.new.octets.items ≡ page.old.octets.items ++ handle_link name.now) }
+{
+    let to = Link::to_values(page.alloc, name)?;
+    page.markup("<a href=\"")?;
+    page.text(to.octets())?;
+    page.element("\">", name.sent(), "</a>")
+}
+
+/// Which handle was asked for, whose alias led to what stands below.
+#[tactic(auto, unfolding(crate::specs::Hops::alias_part))]
+pub(crate) fn put_alias(page: &mut Page, asked: &Name) -> Result<(), AllocError>
+    ensures { OnOk result (page.new.octets.items ≡ page.old.octets.items ++ alias_part asked.now) }
+{
+    page.markup("<p class=\"note\">")?;
+    put_handle(page, asked)?;
+    page.markup(" is an alias, which leads to this handle:</p>\n")
+}
+
+#[tactic(auto, unfolding(crate::specs::Hops::hop_part))]
+fn put_hop(page: &mut Page, name: &Name) -> Result<(), AllocError>
+    ensures { OnOk result (page.new.octets.items ≡ page.old.octets.items ++ hop_part name.now) }
+{
+    page.markup("<li>")?;
+    put_handle(page, name)?;
+    page.markup("</li>\n")
+}
+
+fn put_each_hop(page: &mut Page, names: &[Name]) -> Result<(), AllocError>
+    ensures { OnOk result (page.new.octets.items ≡ page.old.octets.items ++ flat_map hop_part names.now) }
+{
+    for name in names {
+        put_hop(page, name)?;
+    }
+    Ok(())
+}
+
+/// The handles that aliases lead through in order, this one the last.
+#[tactic(auto, unfolding(crate::specs::Hops::hops_part))]
+fn put_hops(page: &mut Page, names: &[Name], target: &Name) -> Result<(), AllocError>
+    ensures { OnOk result (page.new.octets.items ≡ page.old.octets.items ++ hops_part names.now target.now) }
+{
+    page.markup("<ol>\n")?;
+    put_each_hop(page, names)?;
+    put_hop(page, target)?;
+    page.markup("</ol>\n")
+}
+
+/// A page that says of a handle that its aliases lead nowhere, by all of them, and what to do.
+#[tactic(auto, unfolding(crate::specs::Hops::nowhere_page))]
+pub(crate) fn nowhere_page(
+    alloc: Global,
+    handle: &[u8],
+    front: &str,
+    names: &[Name],
+    target: &Name,
+) -> Result<Answer, AllocError>
+    ensures told { IfOk result (Tells Status.NotFound Media.Page) }
+    ensures kept { IfOk result (λ a. a.keeping ≡ Keeping.Never) }
+    ensures title { IfOk result (λ a. a.title.items ≡ refusal_title 6 handle.now) }
+    ensures body { IfOk result (λ a. a.body.items ≡ nowhere_page handle.now front.now names.now target.now) }
+{
+    let title = refusal_title(alloc, handle, TOO_FAR)?;
+    let mut page = Page::new(alloc, handle)?;
+    page.element("<p>", front.as_bytes(), "</p>\n")?;
+    put_hops(&mut page, names, target)?;
+    put_advice(&mut page, TOO_FAR, handle)?;
+    Ok(page_answer(Status::NotFound, Keeping::Never, title, page))
+}
