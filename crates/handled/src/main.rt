@@ -34,7 +34,8 @@ use std::sync::Arc;
 use std::thread::Threads;
 use supervising::{log_at, stop};
 use tabled::{
-    Desk, TabledFault, empty_table, ended, export_on, is_new, open_desk, replay_in, replay_on,
+    Desk, TabledFault, close_served, empty_table, export_on, is_new, open_desk, replay_in,
+    replay_on,
 };
 use words::{Invocation, TableFile, read_words};
 

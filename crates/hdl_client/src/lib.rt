@@ -27,7 +27,7 @@ mod session;
 pub use batch::{Batch, Outcomes, Task};
 pub use challenge::{Key, challenge_answer, challenge_response, request_message, signed_part};
 pub use connecting::{Connection, connect, connect_within};
-pub use exchange::{OwnedFrame, framed, receive, send};
+pub use exchange::{OwnedFrame, frame_of, receive, send};
 pub use fault::ClientFault;
 pub use reply::Reply;
 pub use session::Session;

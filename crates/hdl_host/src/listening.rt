@@ -186,7 +186,7 @@ fn place_of<R: Net + Clock>(
     Ok(Place {
         seats,
         crowd,
-        sockets: Sockets::watched(rt, alloc, sockets, waits.door)?,
+        sockets: Sockets::with_watch(rt, alloc, sockets, waits.door)?,
         record: setting.supervision.record_of(alloc, name, lanes)?,
         ending: waits.ending,
     })

@@ -55,16 +55,13 @@ fn start_stream<R: Threads + Clock + RandomSource + Eprint + Copy + Send + Drop 
     let Side { ends, bell, turns } = side;
     let rng = or_device(make_rng(rt))?;
     let theirs = *rt;
-    let spawned = thread::spawn(
-        rt,
-        move || {
-            let recorder = recorder.map(StreamRecorder::new);
-            let mut door = SocketDoor::new(Watch::new(theirs, seat, recorder));
-            let mut clock = MachineClock::new(theirs, Part::Works(bell));
-            let mut nonces = MachineNonces::new(rng);
-            stream_worker(alloc, &mut door, &mut clock, &mut nonces, ends, turns)
-        },
-    );
+    let spawned = thread::spawn(rt, move || {
+        let recorder = recorder.map(StreamRecorder::new);
+        let mut door = SocketDoor::new(Watch::new(theirs, seat, recorder));
+        let mut clock = MachineClock::new(theirs, Part::Works(bell));
+        let mut nonces = MachineNonces::new(rng);
+        stream_worker(alloc, &mut door, &mut clock, &mut nonces, ends, turns)
+    });
     match spawned {
         Ok(worker) => Ok(worker),
         Err(_) => Err(Fault::Device),
@@ -82,15 +79,12 @@ fn start_crowd<R: Threads + Clock + RandomSource + Eprint + Copy + Send + Drop +
     let Side { ends, bell, turns } = side;
     let rng = or_device(make_rng(rt))?;
     let theirs = *rt;
-    let spawned = thread::spawn(
-        rt,
-        move || {
-            let mut crowd = SocketCrowd::new(theirs, crowd, recorder);
-            let mut clock = MachineClock::new(theirs, Part::Works(bell));
-            let mut nonces = MachineNonces::new(rng);
-            packet_worker(alloc, &mut crowd, &mut clock, &mut nonces, ends, turns)
-        },
-    );
+    let spawned = thread::spawn(rt, move || {
+        let mut crowd = SocketCrowd::new(theirs, crowd, recorder);
+        let mut clock = MachineClock::new(theirs, Part::Works(bell));
+        let mut nonces = MachineNonces::new(rng);
+        packet_worker(alloc, &mut crowd, &mut clock, &mut nonces, ends, turns)
+    });
     match spawned {
         Ok(worker) => Ok(worker),
         Err(_) => Err(Fault::Device),
@@ -115,16 +109,13 @@ fn start_packets<R: Threads + Clock + RandomSource + Eprint + Copy + Send + Drop
     let Side { ends, bell, turns } = side;
     let rng = or_device(make_rng(rt))?;
     let theirs = *rt;
-    let spawned = thread::spawn(
-        rt,
-        move || {
-            let PacketLane { sockets, ending } = lane;
-            let mut packets = SocketPackets::new(theirs, alloc, sockets, ending, recorder);
-            let mut clock = MachineClock::new(theirs, Part::Works(bell));
-            let mut nonces = MachineNonces::new(rng);
-            packet_worker(alloc, &mut packets, &mut clock, &mut nonces, ends, turns)
-        },
-    );
+    let spawned = thread::spawn(rt, move || {
+        let PacketLane { sockets, ending } = lane;
+        let mut packets = SocketPackets::new(theirs, alloc, sockets, ending, recorder);
+        let mut clock = MachineClock::new(theirs, Part::Works(bell));
+        let mut nonces = MachineNonces::new(rng);
+        packet_worker(alloc, &mut packets, &mut clock, &mut nonces, ends, turns)
+    });
     match spawned {
         Ok(worker) => Ok(worker),
         Err(_) => Err(Fault::Device),

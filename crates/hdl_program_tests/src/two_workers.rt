@@ -141,16 +141,13 @@ fn start<R: Threads + std::rt::Clock + Copy + Send + Drop + 'static>(
         left: Arc::try_clone(&door.left)?,
     };
     let mut door = door;
-    let spawned = thread::spawn(
-        rt,
-        move || {
-            let mut nonces = MemoryNonces {
-                coming: VecDeque::new(alloc),
-            };
-            stream_worker(alloc, &mut door, &mut clock, &mut nonces, side, TURNS);
-            door
-        },
-    );
+    let spawned = thread::spawn(rt, move || {
+        let mut nonces = MemoryNonces {
+            coming: VecDeque::new(alloc),
+        };
+        stream_worker(alloc, &mut door, &mut clock, &mut nonces, side, TURNS);
+        door
+    });
     match spawned {
         Ok(worker) => Ok(worker),
         Err(_) => Err(AllocError),

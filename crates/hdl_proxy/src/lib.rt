@@ -55,7 +55,7 @@ pub use choice::{first_url, is_shown};
 pub use found::Found;
 pub use json::{json_answer, put_text, refusal, values_answer};
 pub use laws::text_is_inert;
-pub use names::{read_name, unescaped};
+pub use names::{read_name, unescape};
 pub use proxy::{Next, begin, finish, options};
 pub use query::{Pair, has_pair, indexes_of, last_named, read_pairs, types_of, values_named};
 pub use question::{Form, Question};

@@ -85,7 +85,7 @@ fn moment<R: Clock>(rt: &R) -> u64 {
     }
 }
 
-fn begin<R: Clock>(rt: &R, alloc: Global, method: &str, path: &str) -> Option<RequestLine> {
+fn begin_line<R: Clock>(rt: &R, alloc: Global, method: &str, path: &str) -> Option<RequestLine> {
     Some(RequestLine {
         began: Instant::now(rt).ok()?,
         moment: moment(rt),

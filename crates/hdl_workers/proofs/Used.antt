@@ -69,13 +69,13 @@ nonces_all g p g' p' p'' used e f =
 
 -- both at once
 module _ {C N : Type 0} (c : Clock.Ghosts C) (n : Nonces.Ghosts N) where
-  pub stamps_both : (i : C) (j : N) (p : List Item) (i' : C) (j' : N) (p' : List Item) (i'' : C) (j'' : N) (p'' : List Item) → StampsUsed c n i j p i' j' p' → StampsUsed c n i' j' p' i'' j'' p'' → StampsUsed c n i j p i'' j'' p''
+  pub stamps_both : (i : C) (j : N) (p : List Item) (i' : C) (j' : N) (p' : List Item) (i'' : C) (j'' : N) (p'' : List Item) → StampsUsed c n (i, j, p) (i', j', p') → StampsUsed c n (i', j', p') (i'', j'', p'') → StampsUsed c n (i, j, p) (i'', j'', p'')
   stamps_both i j p i' j' p' i'' j'' p'' a b = record {
     moments = λ t. used_both _ _ _ _ _ _ _ (a.moments t) (b.moments t);
     nonces = λ t. used_both _ _ _ _ _ _ _ (a.nonces t) (b.nonces t);
   }
 
-  pub stamps_still : (i i' : C) (j j' : N) (p p' : List Item) → (IsTrue c.is_observed → c.answers i' ≡ c.answers i) → (IsTrue n.is_observed → n.answers j' ≡ n.answers j) → p' ≡ p → StampsUsed c n i j p i' j' p'
+  pub stamps_still : (i i' : C) (j j' : N) (p p' : List Item) → (IsTrue c.is_observed → c.answers i' ≡ c.answers i) → (IsTrue n.is_observed → n.answers j' ≡ n.answers j) → p' ≡ p → StampsUsed c n (i, j, p) (i', j', p')
   stamps_still i i' j j' p p' e f put = record {
     moments = λ t. moments_still _ _ _ _ (e t) put;
     nonces = λ t. nonces_still _ _ _ _ (f t) put;
@@ -83,14 +83,14 @@ module _ {C N : Type 0} (c : Clock.Ghosts C) (n : Nonces.Ghosts N) where
 
   -- a frame was put
   pub stamp_one : (i i' : C) (j j' : N) (p p' : List Item) (x : ℕ) (y : List ℕ) (item : Item) → (IsTrue c.is_observed → Takes 0 (c.answers i) x (c.answers i')) → (IsTrue n.is_observed → Takes (replicate 16 0) (n.answers j) y (n.answers j'))
-      → p' ≡ p ++ item ∷ [] → moment_of item ≡ x ∷ [] → nonce_of item ≡ y ∷ [] → StampsUsed c n i j p i' j' p'
+      → p' ≡ p ++ item ∷ [] → moment_of item ≡ x ∷ [] → nonce_of item ≡ y ∷ [] → StampsUsed c n (i, j, p) (i', j', p')
   stamp_one i i' j j' p p' x y item e f put a b = record {
     moments = λ t. moment_one _ _ _ _ x item (e t) put a;
     nonces = λ t. nonce_one _ _ _ _ y item (f t) put b;
   }
 
   -- an item that is no frame was put
-  pub no_stamp : (i i' : C) (j : N) (p p' : List Item) (item : Item) → (IsTrue c.is_observed → c.answers i' ≡ c.answers i) → p' ≡ p ++ item ∷ [] → moment_of item ≡ [] → nonce_of item ≡ [] → StampsUsed c n i j p i' j p'
+  pub no_stamp : (i i' : C) (j : N) (p p' : List Item) (item : Item) → (IsTrue c.is_observed → c.answers i' ≡ c.answers i) → p' ≡ p ++ item ∷ [] → moment_of item ≡ [] → nonce_of item ≡ [] → StampsUsed c n (i, j, p) (i', j, p')
   no_stamp i i' j p p' item e put a b = record {
     moments = λ t. no_moment _ _ _ _ item (e t) put a;
     nonces = λ t. no_nonce _ _ _ _ item refl put b;

@@ -41,6 +41,7 @@
 mod door;
 mod ends;
 mod failing;
+mod intake;
 mod item;
 mod line;
 mod memory;

@@ -91,7 +91,7 @@ fn put_frame<C: Clock, N: Nonces>(
     ensures taken { taken_by line.new ≡ taken_by line.old }
     ensures put { IsTrue result → PutOne (framed peer bytes) (put_by line.old) (put_by line.new) }
     ensures kept { IsFalse result → put_by line.new ≡ put_by line.old }
-    ensures stamps { StampsUsed C.Clock N.Nonces clock.old nonces.old (put_by line.old) clock.new nonces.new (put_by line.new) }
+    ensures stamps { StampsUsed C.Clock N.Nonces (clock.old, nonces.old, put_by line.old) (clock.new, nonces.new, put_by line.new) }
 {
     while spend(&mut line.turns) {
         if line.has_room() {
@@ -140,7 +140,7 @@ fn submit<C: Clock, N: Nonces>(
     ensures taken { taken_by line.new ≡ taken_by line.old }
     ensures put { IsTrue result → PutOne (framed peer octets.now) (put_by line.old) (put_by line.new) }
     ensures kept { IsFalse result → put_by line.new ≡ put_by line.old }
-    ensures stamps { StampsUsed C.Clock N.Nonces clock.old nonces.old (put_by line.old) clock.new nonces.new (put_by line.new) }
+    ensures stamps { StampsUsed C.Clock N.Nonces (clock.old, nonces.old, put_by line.old) (clock.new, nonces.new, put_by line.new) }
 {
     match copy(line.alloc, octets, &mut line.turns) {
         Err(_) => false,
@@ -160,7 +160,7 @@ fn take_in<C: Clock, N: Nonces>(
     requires room { length peers.old.items < UNDER_WAY_MAX }
     ensures line { SameLine line.old line.new }
     ensures taken { taken_by line.new ≡ taken_by line.old }
-    ensures stamps { StampsUsed C.Clock N.Nonces clock.old nonces.old (put_by line.old) clock.new nonces.new (put_by line.new) }
+    ensures stamps { StampsUsed C.Clock N.Nonces (clock.old, nonces.old, put_by line.old) (clock.new, nonces.new, put_by line.new) }
     ensures took { IsTrue result → TakesIn (peer, octets.now) peers.old.items (put_by line.old) peers.new.items (put_by line.new) (taken_by line.new) }
     ensures cut { IsFalse result → MayTakeIn (peer, octets.now) peers.old.items (put_by line.old) (put_by line.new) (taken_by line.new) }
 {
@@ -298,7 +298,7 @@ fn serve_packets<P: Packets, C: Clock, N: Nonces>(
     requires empty { (put_by line.old ≡ []) × (taken_by line.old ≡ []) }
     requires first { IsTrue P.is_observed → (P.received packets.old ≡ []) × (P.sent packets.old ≡ []) }
     ensures line { SameLine line.old line.new }
-    ensures stamps { StampsUsed C.Clock N.Nonces clock.old nonces.old (put_by line.old) clock.new nonces.new (put_by line.new) }
+    ensures stamps { StampsUsed C.Clock N.Nonces (clock.old, nonces.old, put_by line.old) (clock.new, nonces.new, put_by line.new) }
     ensures device { result ≡ Device → (P.fault_count packets.old < P.fault_count packets.new) ⊎ (P.fault_count packets.old ≡ 2 ^ 64 - 1) }
     ensures whole { IsTrue P.is_observed → result ≡ Device → Traded (P.received packets.new) (P.sent packets.new) (P.fault_count packets.old) (P.fault_count packets.new) (put_by line.new) (taken_by line.new) }
     ensures trades { IsTrue P.is_observed → Trades (P.received packets.new) (P.sent packets.new) (P.fault_count packets.old) (P.fault_count packets.new) (put_by line.new) (taken_by line.new) }

@@ -1,7 +1,6 @@
 //! The worker of a stream lane.
 
-ghost use Rattle.std.specs.Prelude.{◌≡◌, ◌++◌, ◌∷◌, [], ◌≤◌, ◌<◌, IsTrue, IsFalse, OnOk, ◌⊎◌, ◌^◌, ◌-◌, IfErr, IfOk, OnErr, List, ℕ, true, length, None, replicate};
-ghost use Rattle.hdl_frame.specs.Held.{Held};
+ghost use Rattle.std.specs.Prelude.{◌≡◌, ◌++◌, ◌∷◌, [], ◌≤◌, ◌<◌, IsTrue, IsFalse, OnOk, ◌⊎◌, ◌^◌, ◌-◌, IfErr, IfOk, OnErr, List, true, length, None, replicate};
 ghost use Rattle.hdl_workers.specs.declared.worker.Stop.TheVariants.{Broken, Turns};
 ghost use Rattle.hdl_workers.specs.declared.worker.EndReason.TheVariants.{Device};
 ghost use Rattle.hdl_workers.specs.declared.item.Item.{Item};
@@ -9,9 +8,9 @@ ghost use Rattle.hdl_workers.specs.declared.item.Item.TheVariants.{Event};
 ghost use Rattle.hdl_events.specs.declared.Outcome.{Outcome};
 ghost use Rattle.hdl_events.specs.declared.Happening.TheVariants.{Bad, Close};
 ghost use Rattle.hdl_lanes.specs.Lane.{taken_from, all_put, SameOutlet};
-ghost use Rattle.hdl_workers.specs.Door.{fresh, hear, Gives};
+ghost use Rattle.hdl_workers.specs.Door.{fresh, Gives};
 ghost use Rattle.hdl_workers.specs.Found.{Finds, fault_found};
-ghost use Rattle.hdl_workers.specs.Going.{GoesOn, StaysOpen};
+ghost use Rattle.hdl_workers.specs.Going.{GoesOn};
 ghost use Rattle.hdl_workers.specs.Joined.{EndsLane};
 ghost use Rattle.hdl_workers.specs.Line.{put_by, taken_by, SameLine};
 ghost use Rattle.hdl_workers.specs.Relaying.{Relays};
@@ -19,6 +18,7 @@ ghost use Rattle.hdl_workers.specs.Sign.{framed, moments_of, nonces_of, PutOne, 
 ghost use Rattle.hdl_workers.specs.Stamps.{StampsUsed};
 ghost use Rattle.hdl_workers.specs.Talk.{fault_sign, FramesSoFar, Waiting, AllFrames, SomeFrames, AnyBeginning, Underway, CutOff, CanClose, History, Serves};
 
+use crate::intake::Intake;
 use crate::line::Line;
 use crate::relay::{await_outcomes, await_room};
 use crate::worker::{EndReason, Stop, WorkerEnd, finish, open, spend};
@@ -27,9 +27,6 @@ use hdl_events::Happening;
 use hdl_frame::{Cutter, FrameFault};
 use hdl_limits::Octets;
 use std::alloc::Global;
-
-/// How many octets are asked of a connection at a time.
-const READ_AT_ONCE: usize = 8192;
 
 /// What stands next in a stream.
 #[derive(Drop)]
@@ -97,7 +94,7 @@ fn submit_frame<D: Door, C: Clock, N: Nonces>(
     ensures relays { Relays D.Door door.old line.old result door.new line.new }
     ensures put { OnOk result (PutOne (framed 0 bytes) (put_by line.old) (put_by line.new)) }
     ensures kept { OnErr result (put_by line.new ≡ put_by line.old) }
-    ensures stamps { StampsUsed C.Clock N.Nonces clock.old nonces.old (put_by line.old) clock.new nonces.new (put_by line.new) }
+    ensures stamps { StampsUsed C.Clock N.Nonces (clock.old, nonces.old, put_by line.old) (clock.new, nonces.new, put_by line.new) }
 {
     await_room(door, line, clock)?;
     let moment = clock.now();
@@ -143,7 +140,7 @@ fn submit_frames<D: Door, C: Clock, N: Nonces>(
     requires talk { IsTrue D.is_observed → Underway (FramesSoFar cutter.old.rest) (D.ended door.old) (D.current door.old) (put_by line.old) (taken_by line.old) }
     ensures goes_on { GoesOn D.Door door.old line.old door.new line.new }
     ensures sound { IfOk result (λ faulty. IsFalse faulty → cutter.new.fault ≡ None) }
-    ensures stamps { StampsUsed C.Clock N.Nonces clock.old nonces.old (put_by line.old) clock.new nonces.new (put_by line.new) }
+    ensures stamps { StampsUsed C.Clock N.Nonces (clock.old, nonces.old, put_by line.old) (clock.new, nonces.new, put_by line.new) }
     ensures waits { IsTrue D.is_observed → IfOk result (λ faulty. IsFalse faulty → Underway (Waiting cutter.new.rest) (D.ended door.new) (D.current door.new) (put_by line.new) (taken_by line.new)) }
     ensures stops { IsTrue D.is_observed → IfOk result (λ faulty. IsTrue faulty → Underway AllFrames (D.ended door.new) (D.current door.new) (put_by line.new) (taken_by line.new)) }
     ensures cut { IsTrue D.is_observed → CutOff SomeFrames (D.ended door.new) (D.current door.new) (put_by line.new) (taken_by line.new) }
@@ -162,38 +159,6 @@ fn submit_frames<D: Door, C: Clock, N: Nonces>(
     Err(Stop::Turns)
 }
 
-/// Reads once, and feeds the cutter. Whether octets came.
-fn hear<D: Door>(
-    door: &mut D,
-    turns: &mut u64,
-    cutter: &mut Cutter,
-    buffer: &mut [u8],
-) -> Result<bool, Stop>
-    requires sound { cutter.old.fault ≡ None }
-    ensures turns { (turns.new ≤ turns.old) × OnOk result (turns.new < turns.old) }
-    ensures connection { StaysOpen D.Door door.old door.new }
-    ensures sound { OnOk result (cutter.new.fault ≡ None) }
-    ensures came { IsTrue D.is_observed → IfOk result (λ came. IsTrue came → (octets : List ℕ) × (D.current door.new ≡ hear octets (D.current door.old)) × (cutter.new ≡ record { rest = cutter.old.rest ++ octets; fault = None })) }
-    ensures closed { IsTrue D.is_observed → IfOk result (λ came. IsFalse came → (D.current door.new ≡ D.current door.old) × (cutter.new ≡ cutter.old)) }
-    ensures turns_only { IfErr result (λ stop. stop ≡ Turns) }
-    ensures heard { IsTrue D.is_observed → (octets : List ℕ) × (D.current door.new ≡ hear octets (D.current door.old)) }
-{
-    if !spend(turns) {
-        return Err(Stop::Turns);
-    }
-    match door.read(buffer) {
-        Err(_) | Ok(0) => Ok(false),
-        Ok(count) => {
-            while cutter.feed(&buffer[..count]).is_err() {
-                if !spend(turns) {
-                    return Err(Stop::Turns);
-                }
-            }
-            Ok(true)
-        }
-    }
-}
-
 /// Serves the open connection until its peer closes it, a frame is faulty or a call of the door fails.
 #[tactic(auto, using(crate::proofs::Used::used_rules))]
 fn converse<D: Door, C: Clock, N: Nonces>(
@@ -201,20 +166,19 @@ fn converse<D: Door, C: Clock, N: Nonces>(
     line: &mut Line,
     clock: &mut C,
     nonces: &mut N,
-    buffer: &mut [u8],
 ) -> Result<(), Stop>
     requires talk { IsTrue D.is_observed → Underway (Waiting []) (D.ended door.old) (D.current door.old) (put_by line.old) (taken_by line.old) }
     ensures goes_on { GoesOn D.Door door.old line.old door.new line.new }
-    ensures stamps { StampsUsed C.Clock N.Nonces clock.old nonces.old (put_by line.old) clock.new nonces.new (put_by line.new) }
+    ensures stamps { StampsUsed C.Clock N.Nonces (clock.old, nonces.old, put_by line.old) (clock.new, nonces.new, put_by line.new) }
     ensures settled { OnOk result (length (taken_by line.new) ≡ length (put_by line.new)) }
     ensures whole { IsTrue D.is_observed → OnOk result (Underway AllFrames (D.ended door.new) (D.current door.new) (put_by line.new) (taken_by line.new)) }
     ensures cut { IsTrue D.is_observed → CutOff SomeFrames (D.ended door.new) (D.current door.new) (put_by line.new) (taken_by line.new) }
     ensures broken { IsTrue D.is_observed → IfErr result (λ stop. stop ≡ Broken → (D.current door.new).broken ≡ true) }
 {
-    let mut cutter = Cutter::new(line.alloc);
+    let mut intake = Intake::new(line.alloc);
     await_outcomes(door, line, clock)?;
-    while hear(door, &mut line.turns, &mut cutter, buffer)? {
-        let faulty = submit_frames(door, line, clock, nonces, &mut cutter)?;
+    while intake.hear(door, &mut line.turns)? {
+        let faulty = submit_frames(door, line, clock, nonces, &mut intake.cutter)?;
         if faulty {
             await_outcomes(door, line, clock)?;
             return Ok(());
@@ -231,15 +195,14 @@ fn converse_to_end<D: Door, C: Clock, N: Nonces>(
     line: &mut Line,
     clock: &mut C,
     nonces: &mut N,
-    buffer: &mut [u8],
 ) -> bool
     requires talk { IsTrue D.is_observed → Underway (Waiting []) (D.ended door.old) (D.current door.old) (put_by line.old) (taken_by line.old) }
     ensures goes_on { GoesOn D.Door door.old line.old door.new line.new }
-    ensures stamps { StampsUsed C.Clock N.Nonces clock.old nonces.old (put_by line.old) clock.new nonces.new (put_by line.new) }
+    ensures stamps { StampsUsed C.Clock N.Nonces (clock.old, nonces.old, put_by line.old) (clock.new, nonces.new, put_by line.new) }
     ensures can_close { IsTrue D.is_observed → IsTrue result → CanClose (D.ended door.new) (D.current door.new) (put_by line.new) (taken_by line.new) }
     ensures cut { IsTrue D.is_observed → CutOff SomeFrames (D.ended door.new) (D.current door.new) (put_by line.new) (taken_by line.new) }
 {
-    match converse(door, line, clock, nonces, buffer) {
+    match converse(door, line, clock, nonces) {
         Ok(()) => true,
         Err(Stop::Broken) => true,
         Err(Stop::Turns) => false,
@@ -296,7 +259,6 @@ fn serve_connection<D: Door, C: Clock, N: Nonces>(
     line: &mut Line,
     clock: &mut C,
     nonces: &mut N,
-    buffer: &mut [u8],
 ) -> bool
     requires ready { D.is_open door.old ≡ true }
     requires fresh { IsTrue D.is_observed → D.current door.old ≡ fresh }
@@ -304,7 +266,7 @@ fn serve_connection<D: Door, C: Clock, N: Nonces>(
     requires settled { length (taken_by line.old) ≡ length (put_by line.old) }
     ensures faults { D.fault_count door.old ≤ D.fault_count door.new }
     ensures line { SameLine line.old line.new }
-    ensures stamps { StampsUsed C.Clock N.Nonces clock.old nonces.old (put_by line.old) clock.new nonces.new (put_by line.new) }
+    ensures stamps { StampsUsed C.Clock N.Nonces (clock.old, nonces.old, put_by line.old) (clock.new, nonces.new, put_by line.new) }
     ensures settled { IsTrue result → length (taken_by line.new) ≡ length (put_by line.new) }
     ensures history { IsTrue D.is_observed → IsTrue result → History (D.ended door.new) (put_by line.new) (taken_by line.new) }
     ensures cut { IsTrue D.is_observed → IsFalse result → CutOff AnyBeginning (D.ended door.new) (D.current door.new) (put_by line.new) (taken_by line.new) }
@@ -312,7 +274,7 @@ fn serve_connection<D: Door, C: Clock, N: Nonces>(
     if !open(line, clock) {
         return false;
     }
-    if !converse_to_end(door, line, clock, nonces, buffer) {
+    if !converse_to_end(door, line, clock, nonces) {
         return false;
     }
     if !put_close(line, clock) {
@@ -339,18 +301,17 @@ fn serve_door<D: Door, C: Clock, N: Nonces>(
     requires history { IsTrue D.is_observed → History (D.ended door.old) (put_by line.old) (taken_by line.old) }
     requires settled { length (taken_by line.old) ≡ length (put_by line.old) }
     ensures line { SameLine line.old line.new }
-    ensures stamps { StampsUsed C.Clock N.Nonces clock.old nonces.old (put_by line.old) clock.new nonces.new (put_by line.new) }
+    ensures stamps { StampsUsed C.Clock N.Nonces (clock.old, nonces.old, put_by line.old) (clock.new, nonces.new, put_by line.new) }
     ensures device { result ≡ Device → (D.fault_count door.old < D.fault_count door.new) ⊎ (D.fault_count door.old ≡ 2 ^ 64 - 1) }
     ensures whole { IsTrue D.is_observed → result ≡ Device → History (D.ended door.new) (put_by line.new) (taken_by line.new) }
     ensures serves { IsTrue D.is_observed → Serves (D.ended door.new) (D.current door.new) (put_by line.new) (taken_by line.new) }
 {
-    let mut buffer = [0u8; READ_AT_ONCE];
     while spend(&mut line.turns) {
         match door.accept() {
             Err(_) => return EndReason::Device,
             Ok(false) => clock.pause(),
             Ok(true) => {
-                if !serve_connection(door, line, clock, nonces, &mut buffer) {
+                if !serve_connection(door, line, clock, nonces) {
                     return EndReason::Turns;
                 }
             }

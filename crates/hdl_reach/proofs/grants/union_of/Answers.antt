@@ -12,7 +12,7 @@ loop-grant-preserved c =
     let leads = λ (p : Place). is_among p (places c.args.leading.now.references.items) in
     elim c.if-branch.branch [
       | then-branch w ↦ union_joins leads c.args.grants.now c.loop-grant.grant-index c.grant-item.result (mask_of c.loop-grant.mask) (mask_of c.if-branch.mask) c.loop-grant-test.true c.grant-item.is c.loop-grant.invariant
-          (sym c.in_ok-has.ensures ∙ w.if-branch.true) (ap mask_of w.mask-is ∙ ap Some w.joined.ensures)
+          (sym c.in_ok-has.ensures ∙ w.if-branch.true) (ap mask_of w.mask-is ∙ ap Some w.join_masks.ensures)
       | else-branch w ↦ union_passes leads c.args.grants.now c.loop-grant.grant-index c.grant-item.result (mask_of c.loop-grant.mask) (mask_of c.if-branch.mask) c.loop-grant-test.true c.grant-item.is c.loop-grant.invariant
           (sym c.in_ok-has.ensures ∙ w.if-branch.false) (ap mask_of w.mask-is)
     ]
