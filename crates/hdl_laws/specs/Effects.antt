@@ -65,16 +65,6 @@ ask_effect algorithm state arrival request decision =
     then challenge_effect algorithm state arrival request
     else answer_effect algorithm state arrival request decision
 
--- a request that came as it is, of this algorithm
-abbrev pub DoesAsk : (List ℕ → Bool) → Algorithm → Table → Message → Content → LaneState → Effect → Type 0
-DoesAsk hosted algorithm table arrival request state effect =
-    (decision : Decision) × Decides hosted algorithm table request Anyone decision × (effect ≡ ask_effect algorithm state arrival request decision)
-
--- a challenged request, of this algorithm, with its proof
-abbrev pub DoesRedeem : (List ℕ → Bool) → Algorithm → Table → Message → Content → Proof → LaneState → Effect → Type 0
-DoesRedeem hosted algorithm table arrival request proof state effect =
-    (decision : Decision) × Decides hosted algorithm table request (Proven proof) decision × (effect ≡ answer_effect algorithm state arrival request decision)
-
 -- the effect of a task on this table, for a publisher who hosts these prefixes with these algorithms: a request has that of its
 -- prefix, a challenged one that of its challenge's digest
 abbrev pub Does : (List ℕ → Bool) → (List ℕ → Algorithm) → Table → Task → Effect → Type 0
@@ -83,5 +73,7 @@ Does hosted algorithms table (Break session request state) effect = effect ≡ r
 Does hosted algorithms table (Malformed arrival state) effect = effect ≡ record { outcome = Reply (short_reply (response_number ProtocolError) arrival.envelope); state = state; change = None }
 Does hosted algorithms table (Unknown arrival request state) effect = effect ≡ answer_effect Sha1 state arrival request (failure (response_number ProtocolError) Empty)
 Does hosted algorithms table (Late arrival request algorithm state) effect = effect ≡ answer_effect algorithm state arrival request (failure (response_number AuthenticationTimeout) Empty)
-Does hosted algorithms table (Ask arrival request state) effect = DoesAsk hosted (request_algorithm algorithms request) table arrival request state effect
-Does hosted algorithms table (Redeem arrival request proof state) effect = DoesRedeem hosted (algorithm_of proof.digest) table arrival request proof state effect
+Does hosted algorithms table (Ask arrival request state) effect =
+    (decision : Decision) × Decides hosted (request_algorithm algorithms request) table request Anyone decision × (effect ≡ ask_effect (request_algorithm algorithms request) state arrival request decision)
+Does hosted algorithms table (Redeem arrival request proof state) effect =
+    (decision : Decision) × Decides hosted (algorithm_of proof.digest) table request (Proven proof) decision × (effect ≡ answer_effect (algorithm_of proof.digest) state arrival request decision)

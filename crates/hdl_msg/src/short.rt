@@ -6,19 +6,16 @@ ghost use Rattle.hdl_msg.specs.Reply.{short_reply};
 
 use crate::codes::ResponseCode;
 use byteorder::{BigEndian, ByteOrder};
-use hdl_frame::{Envelope, MAJOR_VERSION, MINOR_VERSION};
+use hdl_frame::{ENVELOPE_LEN, Envelope};
 
 /// Envelope, header, and an empty string for body and for credential: MessageLength is 32, and BodyLength 4.
 #[tactic(auto, unfolding(crate::specs::Reply::short_reply, crate::specs::Message::header_octets, hdl_frame::specs::Envelope::envelope_octets))]
 fn short(code: u32, came: &Envelope) -> [u8; 52]
     ensures { result ≡ short_reply code came.now }
 {
+    let envelope = Envelope::of_message(came.session, came.request, 32);
     let mut octets = [0; 52];
-    octets[0] = MAJOR_VERSION;
-    octets[1] = MINOR_VERSION;
-    BigEndian::write_u32(&mut octets[4..8], came.session);
-    BigEndian::write_u32(&mut octets[8..12], came.request);
-    BigEndian::write_u32(&mut octets[16..20], 32);
+    octets[..ENVELOPE_LEN].copy_from_slice(&envelope.to_octets());
     BigEndian::write_u32(&mut octets[24..28], code);
     BigEndian::write_u32(&mut octets[40..44], 4);
     octets
