@@ -2,8 +2,7 @@
 use Rattle.std.proofs.Common.{◌≡◌, ℕ, List, [], Some, sym, ap, ◌∙◌}
 use Rattle.std.proofs.lemmas.List.{append-nil}
 use Rattle.hdl_value.specs.declared.value.Value.{Value}
-use Rattle.hdl_value.specs.Spelling.{spelling, Fits}
-use Rattle.hdl_value.specs.Cut.{value_at}
+use Rattle.hdl_value.specs.Spelling.{spelling, Fits, value_at}
 use Rattle.hdl_value.proofs.FieldLaws.{some_is}
 use Rattle.hdl_value.proofs.Values.{value_codec}
 

@@ -6,9 +6,8 @@ use Rattle.hex.specs.Hex.{encode_lower}
 use Rattle.hdl_value.specs.declared.value.Value.{Value}
 use Rattle.hdl_value.specs.declared.fault.ValueFault.{ValueFault}
 use Rattle.hdl_value.specs.declared.fault.ValueFault.TheVariants as value_fault
-use Rattle.hdl_value.specs.Spelling.{spelling}
+use Rattle.hdl_value.specs.Spelling.{spelling, value_at}
 use Rattle.hdl_value.specs.Reading.{whole_of}
-use Rattle.hdl_value.specs.Cut.{value_at}
 use Rattle.hdl_value.specs.Fault.{IsFirstFault}
 use Rattle.hdl_lines.specs.declared.data.Format.{Format}
 use Rattle.hdl_lines.specs.declared.data.Format.TheVariants as format

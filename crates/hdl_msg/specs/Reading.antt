@@ -3,7 +3,7 @@ use Rattle.std.specs.Prelude.{ℕ, List, Option, Some, None, length, codes, byte
 use Rattle.std.specs.Int.{w16, w32}
 use Rattle.hdl_value.specs.declared.value.Value.{Value}
 use Rattle.hdl_value.specs.Reading.{◌>>=◌, pair_at, seen_at, counted_at, whole_of, number_at, octet_at, string_at, octets_at}
-use Rattle.hdl_value.specs.Cut.{value_at}
+use Rattle.hdl_value.specs.Spelling.{value_at}
 use Rattle.hdl_msg.specs.declared.fields.Header.{Header}
 use Rattle.hdl_msg.specs.declared.codes.OpCode.{OpCode}
 use Rattle.hdl_msg.specs.declared.codes.OpCode.TheVariants.{Resolution, CreateHandle, DeleteHandle, AddValue, RemoveValue, ModifyValue, ListHandles, ChallengeResponse}

@@ -18,7 +18,7 @@ use Rattle.sqlite.specs.Steps.{over_memory}
 use Rattle.hdl_name.specs.Name.{authority}
 use Rattle.hdl_value.specs.Place.{Place, same_handle, same_place}
 use Rattle.hdl_value.specs.Reading.{whole_of}
-use Rattle.hdl_value.specs.Cut.{refs_at}
+use Rattle.hdl_value.specs.Spelling.{refs_at}
 use Rattle.hdl_value.specs.declared.references.RawRef.{RawRef}
 use Rattle.hdl_value.specs.declared.value.Value.{Value}
 use Rattle.hdl_rows.specs.Table.{Table, place}

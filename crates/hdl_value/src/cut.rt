@@ -1,9 +1,9 @@
 //! Values where they stand in octets, cut by layout alone. Nothing is copied.
 
 ghost use Rattle.std.specs.Prelude.{◌≡◌, ◌≢◌, IfOk, IfErr, IfSome, MatchResult, is_ok};
-ghost use Rattle.hdl_value.specs.Spelling.{spelling};
+ghost use Rattle.hdl_value.specs.Spelling.{spelling, value_at};
 ghost use Rattle.hdl_value.specs.Reading.{Reads, octets_at};
-ghost use Rattle.hdl_value.specs.Cut.{value_at, value_view, IsWhole};
+ghost use Rattle.hdl_value.specs.Cut.{value_view, IsWhole};
 ghost use Rattle.hdl_value.specs.Fault.{IsSound, IsFirstFault};
 ghost use Rattle.hdl_value.specs.Refs.{is_admin};
 ghost use Rattle.hdl_value.specs.Tests.{is_sound};
@@ -54,7 +54,7 @@ fn ttl_at(octets: &[u8]) -> Option<([u8; 5], &[u8])>
     Some((*front, rest))
 }
 
-#[tactic(auto, unfolding(crate::specs::Cut::value_at))]
+#[tactic(auto, unfolding(crate::specs::Spelling::value_at))]
 fn fields_at(octets: &[u8]) -> Option<(RawValue<'_>, &[u8])>
     ensures reads { Reads (λ x. (value_view x.0, x.1.now)) result (value_at octets.now) }
     ensures whole { IfSome result (λ x. IsWhole x.0.references) }

@@ -3,9 +3,9 @@
 ghost use Rattle.std.specs.Prelude.{◌≡◌, ◌++◌, ◌<◌, ◌^◌, length, IfSome, IfOk, OnOk};
 ghost use Rattle.std.specs.List.{AllByRecursion};
 ghost use Rattle.std.specs.Option.{option_map};
-ghost use Rattle.hdl_value.specs.Spelling.{reference, references};
+ghost use Rattle.hdl_value.specs.Spelling.{reference, references, ref_at, refs_at};
 ghost use Rattle.hdl_value.specs.Reading.{Reads, many_at, whole_of};
-ghost use Rattle.hdl_value.specs.Cut.{ref_at, refs_at, ref_view, refs_view, IsWhole};
+ghost use Rattle.hdl_value.specs.Cut.{ref_view, refs_view, IsWhole};
 
 use crate::fields::{put_string, put_u32, string_at, u32_at};
 use hdl_limits::{Items, Octets};
@@ -35,7 +35,7 @@ pub(crate) struct RawReferences<'a> {
     pub octets: &'a [u8],
 }
 
-#[tactic(auto, unfolding(crate::specs::Cut::ref_at))]
+#[tactic(auto, unfolding(crate::specs::Spelling::ref_at))]
 pub(crate) fn reference_at(octets: &[u8]) -> Option<(RawReference<'_>, &[u8])>
     ensures { Reads (λ x. (ref_view x.0, x.1.now)) result (ref_at octets.now) }
 {
@@ -65,7 +65,7 @@ fn references_in(count: u32, octets: &[u8]) -> Option<(RawReferences<'_>, &[u8])
     Some((RawReferences { count, octets }, rest))
 }
 
-#[tactic(auto, unfolding(crate::specs::Cut::refs_at, crate::specs::Reading::counted_at))]
+#[tactic(auto, unfolding(crate::specs::Spelling::refs_at, crate::specs::Reading::counted_at))]
 pub(crate) fn references_at(octets: &[u8]) -> Option<(RawReferences<'_>, &[u8])>
     ensures reads { Reads (λ x. (refs_view x.0, x.1.now)) result (refs_at octets.now) }
     ensures whole { IfSome result (λ x. IsWhole x.0) }

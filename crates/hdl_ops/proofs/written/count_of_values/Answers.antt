@@ -1,5 +1,5 @@
 use Rattle.std.proofs.Common.{inl, arith}
-use Rattle.hdl_value.specs.Cut.{value_at}
+use Rattle.hdl_value.specs.Spelling.{value_at}
 use Rattle.hdl_msg.proofs.Walks.{length-walked}
 use Rattle.hdl_ops.proofs.written.count_of_values.Goals as goal
 
