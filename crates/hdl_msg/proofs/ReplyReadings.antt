@@ -24,12 +24,12 @@ use Rattle.hdl_msg.specs.declared.replies.ReplyContent.{ReplyContent}
 use Rattle.hdl_msg.specs.declared.replies.ReplyContent.TheVariants.{Values, Handles, Nothing, Referral, Nonce, Empty}
 use Rattle.hdl_msg.specs.declared.reply_view.ReplyForm.{ReplyForm}
 use Rattle.hdl_msg.specs.declared.reply_view.ReplyForm.TheVariants as form
-use Rattle.hdl_msg.specs.Message.{number, count_prefixed, header_octets, IsNumber, AreFew}
-use Rattle.hdl_msg.specs.Reading.{strings_at, values_at, message_at, sized_digest_at, digest_behind, digest_at, announced_digest_at, prefix_in, shown_values_in, handles_in, nothing_in, referral_in, nonce_in, empty_in, content_in, reply_body_in, reply_at}
+use Rattle.hdl_msg.specs.Message.{number, count_prefixed, header_octets, IsNumber, AreFew, strings_at, values_at, message_at, message_layout}
+use Rattle.hdl_msg.specs.Reading.{sized_digest_at, digest_behind, digest_at, announced_digest_at, prefix_in, shown_values_in, handles_in, nothing_in, referral_in, nonce_in, empty_in, content_in, reply_body_in, reply_at}
 use Rattle.hdl_limits.specs.declared.TheConstants.{MESSAGE_MAX}
 use Rattle.hdl_msg.specs.Reply.{content_octets, digest_octets, reply_body, reply_message, reply_octets, short_header, short_reply, ReplyParts, reply_parts, announces_digest, announced_form, form_of, IsWholeDigest, DigestFits, ContentFits, IsAnnounced, PartsFit, parts_body, SpellsReply, FramesReply, IsReplyFrame}
 use Rattle.hdl_msg.specs.Laws.{IsReadable, reply_of, short_parts}
-use Rattle.hdl_msg.proofs.Codecs.{Message, message_spelling, MessageFits, message_codec, write_codec, strings_codec, u32_codec, AreOctets-front, AreOctets-back}
+use Rattle.hdl_msg.proofs.Codecs.{Message, MessageFits, message_codec, write_codec, strings_codec, u32_codec, AreOctets-front, AreOctets-back}
 use Rattle.hdl_msg.proofs.Written.{length-reply_message}
 
 -- a test that was passed
@@ -223,7 +223,7 @@ unfolding reply_at
 reply_takes octets p fits e =
     let m = bind_some (whole_of message_at octets) (λ m. cond (eqb (length m.1) 0) (reply_body_in m.0.0 m.0.1) None) p e in
     let g = passed (eqb (length m.0.1) 0) (reply_body_in m.0.0.0 m.0.0.1) p m.2 in
-    let w = whole_takes message_at message_spelling MessageFits message_codec octets m.0 fits m.1 in
+    let w = whole_takes message_at message_layout.write MessageFits message_codec octets m.0 fits m.1 in
     let h = m.0.0.0 in
     let text = m.0.0.1 in
     let signed = AreOctets-front octets (header_octets h ++ string text) (string m.0.1) fits w.0 in
@@ -258,7 +258,7 @@ pub reply_again : (octets : List ℕ) (p : ReplyParts) → SpellsReply octets p 
 unfolding reply_at
 reply_again octets p s =
     let m : Message = ((p.header, parts_body p), []) in
-    let whole = whole_again message_at message_spelling MessageFits message_codec m ((s.fits.header, s.body_fits), omega arith) in
+    let whole = whole_again message_at message_layout.write MessageFits message_codec m ((s.fits.header, s.body_fits), omega arith) in
     let read : whole_of message_at octets ≡ Some m = ap (whole_of message_at) (s.spelt ∙ sym (append_assoc (header_octets p.header) (string (parts_body p)) (string []))) ∙ whole in
     rw (read, body_again p s.fits s.announced) refl
 

@@ -13,9 +13,9 @@ use Rattle.hdl_msg.specs.declared.codes.OpCode.{OpCode}
 use Rattle.hdl_msg.specs.declared.codes.OpCode.TheVariants.{Resolution, CreateHandle, DeleteHandle, AddValue, RemoveValue, ModifyValue, ListHandles, ChallengeResponse}
 use Rattle.hdl_msg.specs.Codes.{op_code_of, IsNumberOf}
 use Rattle.hdl_msg.proofs.OpCodes.{op_code_is, op_code_again}
-use Rattle.hdl_msg.specs.Message.{Operation, resolution, create, delete, add, remove, modify, list, response, other, body, number, count_prefixed, header_octets, IsShort, AreFew, OperationFits, code_of, Content, signed_octets, SpellsRequest}
-use Rattle.hdl_msg.specs.Reading.{resolution_in, with_values_in, remove_in, response_in, operation_in, signed_at, message_at, request_at}
-use Rattle.hdl_msg.proofs.Codecs.{Message, message_spelling, MessageFits, message_codec, resolution_codec, write_codec, remove_codec, response_codec, signed_codec, front, AreOctets-front, AreOctets-back}
+use Rattle.hdl_msg.specs.Message.{Operation, resolution, create, delete, add, remove, modify, list, response, other, body, number, count_prefixed, header_octets, IsShort, AreFew, OperationFits, code_of, Content, signed_octets, SpellsRequest, signed_at, message_at, message_layout}
+use Rattle.hdl_msg.specs.Reading.{resolution_in, with_values_in, remove_in, response_in, operation_in, request_at}
+use Rattle.hdl_msg.proofs.Codecs.{Message, MessageFits, message_codec, resolution_codec, write_codec, remove_codec, response_codec, signed_codec, front, AreOctets-front, AreOctets-back}
 
 -- the octets are the body of an operation of this code
 pub record SpellsBody (code : Option OpCode) (octets : List ℕ) (operation : Operation) : Type 0 where
@@ -96,7 +96,7 @@ unfolding request_at
 request_takes octets c fits e =
     let m = bind_some (whole_of message_at octets) (λ m. operation_in (op_code_of m.0.0.op_code) m.0.1 >>= λ operation. Some (record { header = m.0.0; operation = operation })) c e in
     let o = bind_some (operation_in (op_code_of m.0.0.0.op_code) m.0.0.1) (λ operation. Some (record { header = m.0.0.0; operation = operation })) c m.2 in
-    let t = whole_takes message_at message_spelling MessageFits message_codec octets m.0 fits m.1 in
+    let t = whole_takes message_at message_layout.write MessageFits message_codec octets m.0 fits m.1 in
     let signed = AreOctets-front octets (header_octets m.0.0.0 ++ string m.0.0.1) (string m.0.1) fits t.0 in
     let inner = AreOctets-back _ (header_octets m.0.0.0) (string m.0.0.1) signed refl in
     let inside = AreOctets-back _ (number (length m.0.0.1)) m.0.0.1 inner refl in
@@ -118,7 +118,7 @@ pub request_again : (octets : List ℕ) (c : Content) → SpellsRequest octets c
 unfolding request_at
 request_again octets c s =
     let m : Message = ((c.header, body c.operation), s.credential) in
-    let whole = whole_again message_at message_spelling MessageFits message_codec m ((s.header_fits, s.body_fits), s.credential_fits) in
+    let whole = whole_again message_at message_layout.write MessageFits message_codec m ((s.header_fits, s.body_fits), s.credential_fits) in
     let read : whole_of message_at octets ≡ Some m = ap (whole_of message_at) s.spelt ∙ whole in
     rw (read, op_code_again (code_of c.operation) c.header.op_code s.has_code, again_of c.operation s.operation_fits) refl
 
@@ -146,7 +146,7 @@ pub none_begins_another_lem : (octets rest more : List ℕ) (c d : Content) → 
 none_begins_another_lem octets rest more c d p q e =
     let m : Message = ((c.header, body c.operation), p.credential) in
     let n : Message = ((d.header, body d.operation), q.credential) in
-    let joined : message_spelling m ++ rest ≡ message_spelling n ++ [] = ap (λ (x : List ℕ). x ++ rest) (sym p.spelt) ∙ sym e ∙ q.spelt ∙ sym (append-nil _) in
-    let same = prefix_free message_at message_spelling MessageFits message_codec m n rest [] ((p.header_fits, p.body_fits), p.credential_fits) ((q.header_fits, q.body_fits), q.credential_fits) joined in
-    let whole : octets ≡ more = p.spelt ∙ ap message_spelling same.0 ∙ sym q.spelt in
+    let joined : message_layout.write m ++ rest ≡ message_layout.write n ++ [] = ap (λ (x : List ℕ). x ++ rest) (sym p.spelt) ∙ sym e ∙ q.spelt ∙ sym (append-nil _) in
+    let same = prefix_free message_at message_layout.write MessageFits message_codec m n rest [] ((p.header_fits, p.body_fits), p.credential_fits) ((q.header_fits, q.body_fits), q.credential_fits) joined in
+    let whole : octets ≡ more = p.spelt ∙ ap message_layout.write same.0 ∙ sym q.spelt in
     (one_request_lem octets c d p (rw whole q), same.1)

@@ -1,14 +1,12 @@
 -- Reading of messages, from the readers of their fields: requests, and replies behind them.
 use Rattle.std.specs.Prelude.{ℕ, List, Option, Some, None, length, codes, bytes_eq, Bool, true, false, ◌==◌, if◌then◌else◌}
-use Rattle.std.specs.Int.{w16, w32}
 use Rattle.hdl_value.specs.declared.value.Value.{Value}
-use Rattle.hdl_value.specs.Reading.{◌>>=◌, pair_at, seen_at, counted_at, whole_of, number_at, octet_at, string_at, octets_at}
-use Rattle.hdl_value.specs.Spelling.{value_at}
+use Rattle.hdl_value.specs.Reading.{◌>>=◌, whole_of, octet_at, string_at, octets_at}
 use Rattle.hdl_msg.specs.declared.fields.Header.{Header}
 use Rattle.hdl_msg.specs.declared.codes.OpCode.{OpCode}
 use Rattle.hdl_msg.specs.declared.codes.OpCode.TheVariants.{Resolution, CreateHandle, DeleteHandle, AddValue, RemoveValue, ModifyValue, ListHandles, ChallengeResponse}
 use Rattle.hdl_msg.specs.Codes.{op_code_of}
-use Rattle.hdl_msg.specs.Message.{Operation, resolution, create, delete, add, remove, modify, list, response, other, Content}
+use Rattle.hdl_msg.specs.Message.{Operation, resolution, create, delete, add, remove, modify, list, response, other, Content, strings_at, resolution_layout, values_layout, removal_layout, response_layout, message_at}
 use Rattle.hdl_auth.specs.declared.algorithm.Algorithm.TheVariants as algorithm
 use Rattle.hdl_auth.specs.declared.algorithm.Digest.{Digest}
 use Rattle.hdl_auth.specs.declared.algorithm.Digest.TheVariants as digest
@@ -17,38 +15,28 @@ use Rattle.hdl_msg.specs.declared.replies.ReplyContent.{ReplyContent}
 use Rattle.hdl_msg.specs.declared.replies.ReplyContent.TheVariants.{Values, Handles, Nothing, Referral, Nonce, Empty}
 use Rattle.hdl_msg.specs.declared.reply_view.ReplyForm.{ReplyForm}
 use Rattle.hdl_msg.specs.declared.reply_view.ReplyForm.TheVariants as form
-use Rattle.hdl_msg.specs.Reply.{ReplyParts, announces_digest, announced_form}
+use Rattle.hdl_msg.specs.Reply.{ReplyParts, announces_digest, announced_form, referral_layout}
 
 -- ---- bodies
-
--- a list of numbers, of strings, of values
-unfoldable pub numbers_at : List ℕ → Option (List ℕ × List ℕ)
-numbers_at octets = counted_at (number_at w32) octets
-
-unfoldable pub strings_at : List ℕ → Option (List (List ℕ) × List ℕ)
-strings_at octets = counted_at string_at octets
-
-unfoldable pub values_at : List ℕ → Option (List Value × List ℕ)
-values_at octets = counted_at value_at octets
 
 -- the body of a resolution
 unfoldable pub resolution_in : List ℕ → Option Operation
 resolution_in octets = do
-  x ← whole_of (pair_at string_at (pair_at numbers_at strings_at)) octets
+  x ← whole_of resolution_layout.read octets
   Some (resolution x.0 x.1.0 x.1.1)
 
 -- the body of a write of values: a handle and the values
 unfoldable pub with_values_in : List ℕ → Option (List ℕ × List Value)
-with_values_in octets = whole_of (pair_at string_at values_at) octets
+with_values_in octets = whole_of values_layout.read octets
 
 unfoldable pub remove_in : List ℕ → Option Operation
 remove_in octets = do
-  x ← whole_of (pair_at string_at numbers_at) octets
+  x ← whole_of removal_layout.read octets
   Some (remove x.0 x.1)
 
 unfoldable pub response_in : List ℕ → Option Operation
 response_in octets = do
-  x ← whole_of (pair_at string_at (pair_at string_at (pair_at (number_at w32) string_at))) octets
+  x ← whole_of response_layout.read octets
   Some (response x.0 x.1.0 x.1.1.0 x.1.1.1)
 
 -- the body of the operation with this code, all of the octets; of one that isn't used any octets
@@ -64,24 +52,6 @@ operation_in (Some ChallengeResponse) octets = response_in octets
 operation_in None octets = Some (other octets)
 
 -- ---- messages
-
--- the fields of a header, nested as they are read
-abbrev pub HeaderFields : Type 0
-HeaderFields = ℕ × (ℕ × (ℕ × (ℕ × (ℕ × (ℕ × ℕ)))))
-
-abbrev pub header_of : HeaderFields → Header
-header_of x = record { op_code = x.0; response_code = x.1.0; op_flag = x.1.1.0; serial = x.1.1.1.0; recursion = x.1.1.1.1.0; reserved = x.1.1.1.1.1.0; expiration = x.1.1.1.1.1.1 }
-
-unfoldable pub header_at : List ℕ → Option (Header × List ℕ)
-header_at octets = seen_at header_of (pair_at (number_at w32) (pair_at (number_at w32) (pair_at (number_at w32) (pair_at (number_at w16) (pair_at octet_at (pair_at octet_at (number_at w32))))))) octets
-
--- header and body
-unfoldable pub signed_at : List ℕ → Option ((Header × List ℕ) × List ℕ)
-signed_at octets = pair_at header_at string_at octets
-
--- header, body and credential
-unfoldable pub message_at : List ℕ → Option (((Header × List ℕ) × List ℕ) × List ℕ)
-message_at octets = pair_at signed_at string_at octets
 
 -- the request that the octets are
 unfoldable pub request_at : List ℕ → Option Content
@@ -128,7 +98,7 @@ prefix_in octets = do
 
 unfoldable pub shown_values_in : List ℕ → Option ReplyContent
 shown_values_in octets = do
-  x ← whole_of (pair_at string_at values_at) octets
+  x ← whole_of values_layout.read octets
   Some (Values x.0 x.1)
 
 unfoldable pub handles_in : List ℕ → Option ReplyContent
@@ -141,7 +111,7 @@ nothing_in octets = if length octets == 0 then Some Nothing else None
 
 unfoldable pub referral_in : List ℕ → Option ReplyContent
 referral_in octets = do
-  x ← whole_of (pair_at string_at (number_at w32)) octets
+  x ← whole_of referral_layout.read octets
   if x.1 == 0 then (prefix_in x.0 >>= λ prefix. Some (Referral prefix)) else None
 
 unfoldable pub nonce_in : List ℕ → Option ReplyContent

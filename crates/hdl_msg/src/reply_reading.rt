@@ -161,7 +161,7 @@ fn reply_body(header: Header, octets: &[u8]) -> Option<ReplyView<'_>>
     })
 }
 
-#[tactic(auto, unfolding(crate::specs::Reading::reply_at, crate::specs::Reading::message_at))]
+#[tactic(auto, unfolding(crate::specs::Reading::reply_at, crate::specs::Message::message_at))]
 fn whole_reply(octets: &[u8]) -> Option<ReplyView<'_>>
     ensures { Reads reply_seen result (reply_at octets.now) }
 {
