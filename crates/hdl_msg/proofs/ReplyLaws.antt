@@ -37,11 +37,11 @@ parts : Reply → Message
 parts y = ((y.header, reply_body y), [])
 
 spelt : (y : Reply) → reply_message y ≡ message_layout.write (parts y)
-unfolding reply_message parts
+unfolding reply_message reply_body parts
 spelt y = sym (append_assoc (header_octets y.header) (string (reply_body y)) (string []))
 
 parts_fit : (y : Reply) → ReplyFits y → MessageFits (parts y)
-unfolding reply_message parts header_octets
+unfolding reply_message reply_body parts header_octets
 parts_fit y f = ((f.header, omega (arith, f.message, length-append (reply_body y) (string []))), omega arith)
 
 pub one_reply_lem : (y z : Reply) → ReplyFits y → ReplyFits z → reply_octets y ≡ reply_octets z → (y.session ≡ z.session) × (y.request ≡ z.request) × (y.header ≡ z.header) × (reply_body y ≡ reply_body z)
