@@ -4,15 +4,16 @@ use Rattle.std.specs.List.{AllByRecursion}
 use Rattle.std.proofs.lemmas.Bool.Decides.{nat_tests}
 use Rattle.hdl_boundedrows.specs.declared.account.Account.{Account}
 use Rattle.hdl_boundedrows.specs.declared.account.Change.{Change}
-use Rattle.hdl_boundedrows.specs.Amount.{Measure, in_values, in_octets, capped, moved_count, may_become}
+use Rattle.hdl_boundedrows.specs.Amount.{Measure, in_values, in_octets, moved_count, may_become}
+use Rattle.hdl_limits.specs.Counts.{at_most_u64}
 use Rattle.hdl_boundedrows.specs.Bounded.{has_prefix, is_counted, held_after, may_change, is_permitted, are_permitted, after_change, Holding, holding_of, moved_by, settle, IsBelow, IsWithin}
 
 -- the change is this gain and what is given back
 pub record IsChange (c : Change) (gain back : Measure → ℕ) : Type 0 where
-  pub gain_values : c.gain.values ≡ capped (gain in_values)
-  pub gain_octets : c.gain.octets ≡ capped (gain in_octets)
-  pub back_values : c.back.values ≡ capped (back in_values)
-  pub back_octets : c.back.octets ≡ capped (back in_octets)
+  pub gain_values : c.gain.values ≡ at_most_u64 (gain in_values)
+  pub gain_octets : c.gain.octets ≡ at_most_u64 (gain in_octets)
+  pub back_values : c.back.values ≡ at_most_u64 (back in_values)
+  pub back_octets : c.back.octets ≡ at_most_u64 (back in_octets)
 
 both : (a b : Bool) → (a && b) ≡ true → (a ≡ true) × (b ≡ true)
 both true b is = (refl, is)

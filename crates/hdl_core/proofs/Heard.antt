@@ -22,7 +22,7 @@ use Rattle.hdl_ops.specs.Tables.{apply_if}
 use Rattle.hdl_ops.specs.Views.{hosted_by}
 use Rattle.hdl_events.specs.declared.Outcome.TheVariants.{Reply}
 use Rattle.hdl_laws.specs.Lanes.{LaneState}
-use Rattle.hdl_laws.specs.Tasks.{Task, Malformed, Unknown, Late, Ask, Redeem, is_late, redeemed, redeem_task, IsResponseTask, IsRequestTask, IsMessageTask}
+use Rattle.hdl_laws.specs.Tasks.{Task, Malformed, Unknown, Late, Ask, Redeem, is_late, without_challenge, redeem_task, IsResponseTask, IsRequestTask, IsMessageTask}
 use Rattle.hdl_laws.specs.Effects.{answer_octets, challenge_octets, Effect, pending, answer_effect, challenge_effect, Does}
 use Rattle.hdl_core.specs.declared.origin.Origin.{Origin}
 use Rattle.hdl_core.specs.declared.hearing.Heard.{Heard}
@@ -67,11 +67,11 @@ module _ (hosts : List ℕ → Bool) (algorithms : List ℕ → Algorithm) (t : 
   -- ---- a challenge response
 
   pub unreadable : (a : Response) (p : Pending) (octets : List ℕ) → ((r : Content) → SpellsRequest p.message r → ⊥) → octets ≡ short_reply 4 m.envelope → IsRedeemed context m a p octets t
-  unreadable a p octets none is = λ s message. (None, none, garbled (redeemed s (message_as m message)) message octets is)
+  unreadable a p octets none is = λ s message. (None, none, garbled (without_challenge s (message_as m message)) message octets is)
 
   pub late : (a : Response) (p : Pending) (r : Content) (g : Algorithm) (octets : List ℕ) → g ≡ algorithm_of p.digest → SpellsRequest p.message r → ((message : List ℕ) → true ≡ is_late (message_as m message) p) → IsTold g m r 405 octets → IsRedeemed context m a p octets t
   late a p r g octets hash spells after is = λ s message.
-      let s' = redeemed s (message_as m message) in
+      let s' = without_challenge s (message_as m message) in
       let proof : Proof = record { response = a; nonce = p.nonce; digest = p.digest } in (
         Some r,
         spells,
@@ -82,7 +82,7 @@ module _ (hosts : List ℕ → Bool) (algorithms : List ℕ → Algorithm) (t : 
       → Decides hosts g t r (Proven (record { response = a; nonce = p.nonce; digest = p.digest })) d → octets ≡ answer_octets g m.envelope r d.code d.content → t' ≡ apply_if t m.moment d.change
       → IsRedeemed context m a p octets t'
   proven a p r g d octets t' hash spells in_time decided is table = λ s message.
-      let s' = redeemed s (message_as m message) in
+      let s' = without_challenge s (message_as m message) in
       let proof : Proof = record { response = a; nonce = p.nonce; digest = p.digest } in (
         Some r,
         spells,
@@ -107,11 +107,11 @@ module _ (hosts : List ℕ → Bool) (algorithms : List ℕ → Algorithm) (t : 
     )
 
     pub known : (r : Content) (a : Response) (p : Pending) (octets : List ℕ) (lanes' : List Held) (t' : Table) → Some p ≡ challenge_of (state_at lanes number).challenges.challenges m.peer m.envelope.session
-        → IsRedeemed context m a p octets t' → lanes' ≡ with_state lanes number (redeemed (state_at lanes number) (message_as m [])) → RespondsAt scene number (record { origin = m; request = r; response = a }) octets lanes' t'
+        → IsRedeemed context m a p octets t' → lanes' ≡ with_state lanes number (without_challenge (state_at lanes number) (message_as m [])) → RespondsAt scene number (record { origin = m; request = r; response = a }) octets lanes' t'
     known r a p octets lanes' t' found redeem spent = λ message.
         let done = redeem (state_at lanes number) message in
         let k = redeem_task (state_at lanes number) (message_as m message) a p done.0 in (
-          redeemed (state_at lanes number) (message_as m message),
+          without_challenge (state_at lanes number) (message_as m message),
           spent,
           k,
           subst (λ o. IsResponseTask (state_at lanes number) (message_as m message) r a o k) found (done.0, done.1, refl),

@@ -4,7 +4,7 @@ ghost use Rattle.std.specs.Prelude.{◌≡◌, true, false, IsTrue, IfOk, OnOk, 
 ghost use Rattle.sqlite.specs.State.{HasCleanDisk, Survives};
 ghost use Rattle.sqlite.specs.Held.{state};
 ghost use Rattle.hdl_name.specs.Name.{canonical};
-ghost use Rattle.hdl_rows.specs.Table.{no_rows, has, created, with_values, without_values, without_handle, AreDistinct, AreAbsent, ArePresent, indexes};
+ghost use Rattle.hdl_rows.specs.Table.{no_rows, has, with_new_handle, with_values, without_values, without_handle, AreDistinct, AreAbsent, ArePresent, indexes};
 ghost use Rattle.hdl_sqlrows.specs.Filed.{WhereOpen, IsFiled, CrashLeaves, filed_table};
 ghost use Rattle.hdl_sqlrows.specs.Kept.{IsBlank, IsSettled, table_in};
 ghost use Rattle.hdl_sqlrows.specs.Opening.{base_in, filed_base};
@@ -86,11 +86,11 @@ impl<S: Alter + Drop> FileRows<S> {
         requires none { WhereOpen (state S.Store self.old) (has (filed_table (state S.Store self.old)) (canonical name.now) ≡ false) }
         requires absent { WhereOpen (state S.Store self.old) (AreAbsent (filed_table (state S.Store self.old)) (canonical name.now) (indexes values.now)) }
         requires distinct { AreDistinct (indexes values.now) }
-        ensures done { OnOk result (HasCleanDisk (state S.Store self.new) → IsFiled (state S.Store self.new) (created (filed_table (state S.Store self.old)) (canonical name.now) values.now)) }
+        ensures done { OnOk result (HasCleanDisk (state S.Store self.new) → IsFiled (state S.Store self.new) (with_new_handle (filed_table (state S.Store self.old)) (canonical name.now) values.now)) }
         ensures undone { OnErr result (WhereOpen (state S.Store self.new) (filed_table (state S.Store self.new) ≡ filed_table (state S.Store self.old))) }
-        ensures durable { OnOk result (HasCleanDisk (state S.Store self.new) → CrashLeaves (state S.Store self.new) (created (filed_table (state S.Store self.old)) (canonical name.now) values.now)) }
+        ensures durable { OnOk result (HasCleanDisk (state S.Store self.new) → CrashLeaves (state S.Store self.new) (with_new_handle (filed_table (state S.Store self.old)) (canonical name.now) values.now)) }
         ensures restored { OnErr result (WhereOpen (state S.Store self.new) (CrashLeaves (state S.Store self.new) (filed_table (state S.Store self.old)))) }
-        ensures survives { Survives (state S.Store self.old) (state S.Store self.new) (λ db. table_in db ≡ created (filed_table (state S.Store self.old)) (canonical name.now) values.now) }
+        ensures survives { Survives (state S.Store self.old) (state S.Store self.new) (λ db. table_in db ≡ with_new_handle (filed_table (state S.Store self.old)) (canonical name.now) values.now) }
         ensures beside { WhereOpen (state S.Store self.new) ((filed_base (state S.Store self.new)).opened ≡ (filed_base (state S.Store self.old)).opened) }
         ensures beside_survives { Survives (state S.Store self.old) (state S.Store self.new) (λ db. IsTrue (state S.Store self.old).is_open → (base_in db).opened ≡ (filed_base (state S.Store self.old)).opened) }
     {

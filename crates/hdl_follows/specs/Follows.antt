@@ -66,8 +66,8 @@ abbrev pub datagrams_of : List ℕ → List (List ℕ)
 datagrams_of octets = map (λ d. d.0 ++ d.1) (datagrams (envelope_at octets) (drop 20 octets))
 
 -- those of an outcome; none where nothing is sent
-abbrev pub sent : Outcome → List (List ℕ)
-sent o = option_map_or datagrams_of (sent_by o) []
+abbrev pub outcome_datagrams : Outcome → List (List ℕ)
+outcome_datagrams o = option_map_or datagrams_of (sent_by o) []
 
 -- the frame and its reply, of which each of these datagrams is seen
 abbrev pub answered_by : List (List ℕ) → Exchange → Exchange

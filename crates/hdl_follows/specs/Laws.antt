@@ -9,7 +9,7 @@ use Rattle.hdl_laws.specs.Runs.{Steps}
 use Rattle.hdl_trail.specs.Kept.{Followed, is_held, settle}
 use Rattle.hdl_trail.specs.declared.exchange.Exchange.{Exchange}
 use Rattle.hdl_trail.specs.Peers.{arrival, is_under_way}
-use Rattle.hdl_follows.specs.Follows.{Follows, IsInUse, answered_by, keeps, sent, settled_all}
+use Rattle.hdl_follows.specs.Follows.{Follows, IsInUse, answered_by, keeps, outcome_datagrams, settled_all}
 
 -- a new trail follows a lane that was opened
 pub record BeginsFollowed : Type 0 where
@@ -23,7 +23,7 @@ StepsFollowed =
     (w new : World) (lane peer moment : ℕ) (nonce octets : List ℕ) (o : Outcome) (f : Followed)
     → IsFrame octets → owner w.site lane ≢ None → IsInUse (lane_of w lane) → Follows f (lane_of w lane)
     → Steps w (record { lane = lane; what = Happening.Frame peer moment nonce octets }) o new
-    → Follows (settle f (Some (answered_by (sent o) (arrival octets peer)))) (lane_of new lane) × IsInUse (lane_of new lane)
+    → Follows (settle f (Some (answered_by (outcome_datagrams o) (arrival octets peer)))) (lane_of new lane) × IsInUse (lane_of new lane)
 
 -- a trail that follows a lane holds the numbers under which the lane keeps something, and no others
 abbrev pub HoldsWhatIsKept : Type 0

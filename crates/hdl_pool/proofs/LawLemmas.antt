@@ -11,7 +11,7 @@ use Rattle.hdl_frame.specs.Whole.{Piece as Numbered, payload_of, payloads_of, me
 use Rattle.hdl_frame.proofs.WholeLemmas.{message_is_joined_lem, joined_is_message_lem}
 use Rattle.hdl_pool.specs.declared.piece.Key.{Key}
 use Rattle.hdl_pool.specs.Partial.{Piece, Partial, IsPiece, is_of, payload_at, whole}
-use Rattle.hdl_pool.specs.Taking.{Fate, made_whole, kept, ignored, displaced, so_far, is_ignored, with_piece, grown, replace_partial, begin_partial, settle_partial}
+use Rattle.hdl_pool.specs.Taking.{Fate, made_whole, kept, ignored, displaced, so_far, is_ignored, with_piece, after_piece, replace_partial, begin_partial, settle_partial}
 use Rattle.hdl_pool.specs.Laws.{numbered_piece, collect, NothingCame, KeptIsCollected, RepeatedIsIgnored, WholeIsMessage, MessageIsWhole, FreedIsGone, AtMostFour}
 
 -- ---- one more piece
@@ -200,4 +200,4 @@ settled_four lane key ignored more le = le
 settled_four lane key displaced more le = le
 
 pub at_most_four_lem : AtMostFour
-at_most_four_lem lane piece le = settled_four lane piece.key (grown (so_far lane piece) piece).0 (grown (so_far lane piece) piece).1 le
+at_most_four_lem lane piece le = settled_four lane piece.key (after_piece (so_far lane piece) piece).0 (after_piece (so_far lane piece) piece).1 le

@@ -32,8 +32,8 @@ abbrev pub with_piece : Partial → Piece → Partial
 with_piece p piece = with_payload p piece.number piece.payload
 
 -- what becomes of a piece, and of its partial message: where the piece makes it whole, it stays as it was
-abbrev pub grown : Partial → Piece → Fate × Partial
-grown p piece =
+abbrev pub after_piece : Partial → Piece → Fate × Partial
+after_piece p piece =
     if is_ignored p piece then (ignored, p)
     else option_map_or (λ message. (made_whole message, p)) (whole (with_piece p piece)) (kept, with_piece p piece)
 
@@ -59,7 +59,7 @@ settle_partial lane key displaced more = (displaced, lane)
 
 -- what becomes of a piece, and of its lane
 abbrev pub take_piece : List Partial → Piece → Fate × List Partial
-take_piece lane piece = let after = grown (so_far lane piece) piece in settle_partial lane piece.key after.0 after.1
+take_piece lane piece = let after = after_piece (so_far lane piece) piece in settle_partial lane piece.key after.0 after.1
 
 -- the whole message, if the piece makes it whole
 abbrev pub whole_message : Fate → Option (List ℕ)

@@ -2,7 +2,7 @@
 
 ghost use Rattle.std.specs.Prelude.{◌≡◌, true, false, OnOk, OnErr};
 ghost use Rattle.hdl_name.specs.Name.{authority as authority_of};
-ghost use Rattle.hdl_rows.specs.Table.{no_rows, has, created, with_values, without_values, without_handle, AreDistinct, AreAbsent, ArePresent, indexes};
+ghost use Rattle.hdl_rows.specs.Table.{no_rows, has, with_new_handle, with_values, without_values, without_handle, AreDistinct, AreAbsent, ArePresent, indexes};
 ghost use Rattle.hdl_sqlrows.specs.Kept.{IsBlank, IsSettled, state_of, table_of};
 
 use crate::fault::Fault;
@@ -35,7 +35,7 @@ pub(crate) fn create(
     requires absent { AreAbsent (table_of conn.old) name.now (indexes values.now) }
     requires distinct { AreDistinct (indexes values.now) }
     ensures settled { IsSettled (state_of conn.new) }
-    ensures done { OnOk result (table_of conn.new ≡ created (table_of conn.old) name.now values.now) }
+    ensures done { OnOk result (table_of conn.new ≡ with_new_handle (table_of conn.old) name.now values.now) }
     ensures undone { OnErr result (table_of conn.new ≡ table_of conn.old) }
 {
     writes::create(conn, alloc, name, authority, values)

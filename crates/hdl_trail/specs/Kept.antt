@@ -36,17 +36,17 @@ abbrev pub first_mark : Exchange → Mark
 first_mark e = record { key = e.key; length = e.length; operation = e.operation }
 
 -- the message with the frame's piece: its operation is known once its front came; a piece of another length is ignored
-abbrev pub grown : Exchange → Mark → Mark
-grown e m = if m.length == e.length && is_none m.operation then record m { operation = e.operation } else m
+abbrev pub with_frame : Exchange → Mark → Mark
+with_frame e m = if m.length == e.length && is_none m.operation then record m { operation = e.operation } else m
 
 -- the messages, where the first of the frame's key has its piece
-abbrev pub grown_among : Exchange → List Mark → List Mark
-grown_among e [] = []
-grown_among e (m ∷ ms) = if is_of e.key m then grown e m ∷ ms else m ∷ grown_among e ms
+abbrev pub with_frame_among : Exchange → List Mark → List Mark
+with_frame_among e [] = []
+with_frame_among e (m ∷ ms) = if is_of e.key m then with_frame e m ∷ ms else m ∷ with_frame_among e ms
 
 -- a piece goes to its message, or begins it
 abbrev pub with_piece : Exchange → List Mark → List Mark
-with_piece e ms = if list_any (is_of e.key) ms then grown_among e ms else put_behind PARTIALS_MAX ms (first_mark e)
+with_piece e ms = if list_any (is_of e.key) ms then with_frame_among e ms else put_behind PARTIALS_MAX ms (first_mark e)
 
 -- what isn't answered is a piece that is kept or ignored, or is of no account
 abbrev pub leave_unanswered : Followed → Exchange → Followed

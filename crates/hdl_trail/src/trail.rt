@@ -250,7 +250,7 @@ impl Trail {
             return;
         };
         if let Some(mark) = self.partials.get_mut(place) {
-            *mark = mark.grown(exchange);
+            *mark = mark.with_frame(exchange);
         }
     }
 

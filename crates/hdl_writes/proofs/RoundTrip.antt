@@ -28,7 +28,7 @@ use Rattle.hdl_value.specs.Refs.{is_admin, is_list, admin_in, list_in, admin_rea
 use Rattle.hdl_value.specs.Permission.{bits}
 use Rattle.hdl_value.proofs.DataRead.{admin_in_is, list_in_is}
 use Rattle.hdl_lines.specs.Fields.{permissions_in}
-use Rattle.hdl_lines.specs.Lines.{unstamped}
+use Rattle.hdl_lines.specs.Lines.{without_stamp}
 use Rattle.hdl_lines.proofs.Readings.{either, mask_again, permissions_again}
 use Rattle.hdl_lines.proofs.RoundTrip.{if_some, ttl_again, ttl_number}
 use Rattle.hdl_proxy.specs.declared.words.KeptFor.TheVariants.{Seconds}
@@ -157,7 +157,7 @@ ttl_kept v written = past (codes "ttl") v (timed v written) (λ e. absurd cc) �
 
 -- ---- the value
 
-value_made : (v : Value) → CanBeTold v → record { index = v.index; kind = v.kind; bytes = v.bytes; ttl = 0 ∷ to_be_bytes w32 (ttl_seconds v); permissions = v.permissions; timestamp = 0; references = [] } ≡ unstamped v
+value_made : (v : Value) → CanBeTold v → record { index = v.index; kind = v.kind; bytes = v.bytes; ttl = 0 ∷ to_be_bytes w32 (ttl_seconds v); permissions = v.permissions; timestamp = 0; references = [] } ≡ without_stamp v
 value_made v h =
     let ttl = ttl_again v.ttl h.fits.ttl h.fits.ttl_octets h.how in
     let refs = sym h.references in
@@ -173,7 +173,7 @@ fields_from d index ttl permissions kind bytes i k b t p = rw i (rw k (rw b (rw 
 kind_text : (v : Value) → CanBeTold v → as_str (string (text_of v.kind)) ≡ Some v.kind
 kind_text v h = ap Some (cond-true (is_utf8 v.kind) v.kind (encode_lower v.kind) h.kind)
 
-fields_again : (v : Value) (written : Option (List ℕ)) → CanBeTold v → fields_told (value_json v (Seconds (ttl_seconds v)) written) ≡ Ok (unstamped v)
+fields_again : (v : Value) (written : Option (List ℕ)) → CanBeTold v → fields_told (value_json v (Seconds (ttl_seconds v)) written) ≡ Ok (without_stamp v)
 unfolding value_json
 fields_again v written h =
     let d = object (put_permissions v (timed v written)) in
@@ -185,10 +185,10 @@ fields_again v written h =
     (permissions_kept v written h.permissions)
     ∙ ap Ok (value_made v h)
 
-unstamped_sound : (v : Value) → first_fault v ≡ None → first_fault (unstamped v) ≡ None
+unstamped_sound : (v : Value) → first_fault v ≡ None → first_fault (without_stamp v) ≡ None
 unfolding first_fault
 unstamped_sound v h = h
 
-pub written_is_read_lem : (v : Value) (written : Option (List ℕ)) → CanBeTold v → value_told (value_json v (Seconds (ttl_seconds v)) written) ≡ Ok (unstamped v)
+pub written_is_read_lem : (v : Value) (written : Option (List ℕ)) → CanBeTold v → value_told (value_json v (Seconds (ttl_seconds v)) written) ≡ Ok (without_stamp v)
 unfolding value_told
 written_is_read_lem v written h = rw (fields_again v written h) (rw (unstamped_sound v h.sound) refl)
