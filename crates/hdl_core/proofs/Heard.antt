@@ -28,7 +28,7 @@ use Rattle.hdl_core.specs.declared.origin.Origin.{Origin}
 use Rattle.hdl_core.specs.declared.hearing.Heard.{Heard}
 use Rattle.hdl_core.specs.declared.hearing.Heard.TheVariants.{Answered, Challenged}
 use Rattle.hdl_core.specs.Held.{Held, state_at, with_state}
-use Rattle.hdl_core.specs.Serving.{Context, Scene, message_as, IsAsked, Replies, IsRedeemed, RespondsAt, HearsAt}
+use Rattle.hdl_core.specs.Serving.{Context, Scene, message_as, IsHeardForAnyone, Replies, IsRedeemed, RespondsAt, HearsAt}
 use Rattle.hdl_core.proofs.HeldLanes.{kept}
 
 pub on_ok : {X E : Type 0} (r : Result X E) (P S : X → Type 0) → ((x : X) → P x → S x) → IfOk r P → IfOk r S
@@ -134,9 +134,9 @@ module _ (hosts : List ℕ → Bool) (algorithms : List ℕ → Algorithm) (t : 
     asking message r spells is = (Some r, spells, subst (λ o. IsRequestTask (state_at lanes number) (message_as m message) r o (Ask (message_as m message) r (state_at lanes number))) is refl)
 
     pub answered : (message : List ℕ) (r : Content) (octets : List ℕ) (t' : Table) (asked : Heard) (next : ℕ) → SpellsRequest message r → None ≡ response_of r.operation → asked ≡ Answered octets
-        → IsAsked context m next r asked t' → HearsAt scene number (message_as m message) octets lanes t'
+        → IsHeardForAnyone context m next r asked t' → HearsAt scene number (message_as m message) octets lanes t'
     answered message r octets t' asked next spells is same done =
-        let d = subst (λ (x : Heard). IsAsked context m next r x t') same done in
+        let d = subst (λ (x : Heard). IsHeardForAnyone context m next r x t') same done in
         let m' = message_as m message in
         let here = state_at lanes number in (
           here,
@@ -149,11 +149,11 @@ module _ (hosts : List ℕ → Bool) (algorithms : List ℕ → Algorithm) (t : 
         )
 
     pub challenges : (message : List ℕ) (r : Content) (octets : List ℕ) (digest : Digest) (t' : Table) (lanes' : List Held) (asked : Heard) (next : ℕ) → SpellsRequest message r → None ≡ response_of r.operation → asked ≡ Challenged octets digest
-        → next ≡ (state_at lanes number).challenges.next → IsAsked context m next r asked t'
+        → next ≡ (state_at lanes number).challenges.next → IsHeardForAnyone context m next r asked t'
         → lanes' ≡ with_state lanes number (record { is_open = (state_at lanes number).is_open; partials = (state_at lanes number).partials; challenges = add_challenge (state_at lanes number).challenges (record { peer = m.peer; moment = m.moment; nonce = m.nonce; digest = digest; message = message }) })
         → HearsAt scene number (message_as m message) octets lanes' t'
     challenges message r octets digest t' lanes' asked next spells is same numbered done put =
-        let d = subst (λ (x : Heard). IsAsked context m next r x t') same done in
+        let d = subst (λ (x : Heard). IsHeardForAnyone context m next r x t') same done in
         let m' = message_as m message in
         let here = state_at lanes number in
         let sent : LaneState = record { is_open = here.is_open; partials = here.partials; challenges = add_challenge here.challenges (pending (request_algorithm algorithms r) m' r) } in (

@@ -95,11 +95,11 @@ abbrev pub DecidesForAnyone : Context → Content → Decision → Type 0
 DecidesForAnyone x r d = Decides x.hosts (request_algorithm x.algorithms r) x.table r Anyone d
 
 -- a request is decided for anyone: it is answered, or challenged under the lane's next number
-abbrev pub IsAsked : Context → Origin → ℕ → Content → Heard → Table → Type 0
-IsAsked x m next r (Answered octets) t' =
+abbrev pub IsHeardForAnyone : Context → Origin → ℕ → Content → Heard → Table → Type 0
+IsHeardForAnyone x m next r (Answered octets) t' =
     (d : Decision) × DecidesForAnyone x r d × ((d.code == response_number AuthenticationNeeded) ≡ false)
     × (octets ≡ answer_octets (request_algorithm x.algorithms r) m.envelope r d.code d.content) × (t' ≡ apply_if x.table m.moment d.change)
-IsAsked x m next r (Challenged octets digest) t' =
+IsHeardForAnyone x m next r (Challenged octets digest) t' =
     (d : Decision) × DecidesForAnyone x r d × ((d.code == response_number AuthenticationNeeded) ≡ true)
     × (octets ≡ challenge_octets (request_algorithm x.algorithms r) next m.envelope r m.nonce) × (digest ≡ digest_of (request_algorithm x.algorithms r) r) × (t' ≡ x.table)
 
