@@ -37,6 +37,6 @@ mod moment;
 mod question;
 
 pub use answer::Answer;
-pub use entry::{Entry, Key};
+pub use entry::{Entry, KeyName};
 pub use follower::Follower;
 pub use moment::Moment;

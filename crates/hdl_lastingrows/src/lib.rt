@@ -36,5 +36,5 @@ pub use fault::TableFault;
 pub use filing::{Filing, WriteState};
 pub use lastingrows::{Alarm, LastingRows};
 pub use opening::{FileTable, open_file, table_beside, table_over};
-pub use threaded::{OfWrite, Place, Store, ThreadedFile, Writer};
+pub use threaded::{OfWrite, Store, ThreadedFile, Whereabouts, Writer};
 pub use write::{OwnWrite, Write};

@@ -19,7 +19,7 @@
 //!
 //! ```rust
 //! // crates/hdl_host/src/packets.rt
-//! let from = Origin { place, address };
+//! let from = Sender { place, address };
 //! if let Ok(Some(peer)) = self.post.peers.note_octets(from, &buffer[..length]) {
 //!     self.post.note_request(peer, &buffer[..length]);
 //!     return Ok(Some((peer, length)));

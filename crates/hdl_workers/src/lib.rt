@@ -43,7 +43,6 @@ mod ends;
 mod failing;
 mod intake;
 mod item;
-mod line;
 mod memory;
 mod memory_packets;
 mod packet;
@@ -52,6 +51,7 @@ mod sides;
 mod sources;
 mod stream;
 mod worker;
+mod worker_lane;
 mod worker_side;
 
 pub use door::{Clock, Door, DoorFault, Nonces, Packets};

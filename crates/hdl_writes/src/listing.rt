@@ -2,7 +2,7 @@
 
 use crate::carry::{Stop, answer_to_stop, reply_to};
 use crate::order::{Order, Window};
-use crate::service::Service;
+use crate::service::ChangeServer;
 use crate::told::{failure, status_of_change};
 use hdl_limits::Octets;
 use hdl_msg::{ContentView, ReplyView, RequestBody, ResponseCode, Strings};
@@ -104,7 +104,7 @@ fn list_told(
 }
 
 /// Lists the handles of the prefix whose administrative handle the order names.
-pub(crate) fn list_answer<S: Service>(
+pub(crate) fn list_answer<S: ChangeServer>(
     alloc: Global,
     service: &mut S,
     order: &Order,
