@@ -67,8 +67,8 @@ abbrev pub moved_by : (Measure → ℕ) → (Measure → ℕ) → Holding → Ho
 moved_by gain back h = record h { values = moved_count h.values (at_most_u64 (gain in_values)) (at_most_u64 (back in_values)); octets = moved_count h.octets (at_most_u64 (gain in_octets)) (at_most_u64 (back in_octets)) }
 
 -- What a write of a handle of this prefix makes of it, by what it gains and what it gives back: nothing where they don't count.
-abbrev pub settle : List ℕ → (Measure → ℕ) → (Measure → ℕ) → Holding → Holding
-settle p gain back h = if is_among h.roots p then moved_by gain back h else h
+abbrev pub holding_after : List ℕ → (Measure → ℕ) → (Measure → ℕ) → Holding → Holding
+holding_after p gain back h = if is_among h.roots p then moved_by gain back h else h
 
 -- nothing
 abbrev pub none : Measure → ℕ

@@ -1,7 +1,7 @@
 //! The table.
 
 ghost use Rattle.std.specs.Prelude.{◌≡◌, ◌+◌, min, true, false, map, sum_by, is_some, is_ok, IfOk, OnOk, OnErr};
-ghost use Rattle.hdl_boundedrows.specs.Bounded.{are_permitted, none, settle, IsWithin};
+ghost use Rattle.hdl_boundedrows.specs.Bounded.{are_permitted, none, holding_after, IsWithin};
 ghost use Rattle.std.specs.List.{AllByRecursion};
 ghost use Rattle.hdl_boundedrows.specs.Amount.{with_handle, values_at};
 ghost use Rattle.hdl_name.specs.Name.{canonical, prefix};
@@ -192,8 +192,8 @@ impl<R: Rows + Drop, A: Alarm + Drop> Rows for BoundedRows<R, A> {
         ensures undone { OnErr result (self.new.table ≡ self.old.table) }
         ensures count { self.new.refused ≡ refusals_after result self.old.refused }
         ensures kept { OnErr result (self.new.holdings ≡ self.old.holdings) }
-        ensures settled { OnOk result (self.new.holdings ≡ map (settle (prefix name.now) (λ m. with_handle m (canonical name.now) values.now) none) self.old.holdings) }
-        ensures within { OnOk result (AllByRecursion (λ h. IsWithin (prefix name.now) h (settle (prefix name.now) (λ m. with_handle m (canonical name.now) values.now) none h)) self.old.holdings) }
+        ensures settled { OnOk result (self.new.holdings ≡ map (holding_after (prefix name.now) (λ m. with_handle m (canonical name.now) values.now) none) self.old.holdings) }
+        ensures within { OnOk result (AllByRecursion (λ h. IsWithin (prefix name.now) h (holding_after (prefix name.now) (λ m. with_handle m (canonical name.now) values.now) none h)) self.old.holdings) }
     {
         let prefix = name.prefix();
         if !self.accounts.count(prefix) {
@@ -223,8 +223,8 @@ impl<R: Rows + Drop, A: Alarm + Drop> Rows for BoundedRows<R, A> {
         ensures undone { OnErr result (self.new.table ≡ self.old.table) }
         ensures count { self.new.refused ≡ refusals_after result self.old.refused }
         ensures kept { OnErr result (self.new.holdings ≡ self.old.holdings) }
-        ensures settled { OnOk result (self.new.holdings ≡ map (settle (prefix name.now) (λ m. sum_by m.value values.now) none) self.old.holdings) }
-        ensures within { OnOk result (AllByRecursion (λ h. IsWithin (prefix name.now) h (settle (prefix name.now) (λ m. sum_by m.value values.now) none h)) self.old.holdings) }
+        ensures settled { OnOk result (self.new.holdings ≡ map (holding_after (prefix name.now) (λ m. sum_by m.value values.now) none) self.old.holdings) }
+        ensures within { OnOk result (AllByRecursion (λ h. IsWithin (prefix name.now) h (holding_after (prefix name.now) (λ m. sum_by m.value values.now) none h)) self.old.holdings) }
     {
         let prefix = name.prefix();
         if !self.accounts.count(prefix) {
@@ -254,8 +254,8 @@ impl<R: Rows + Drop, A: Alarm + Drop> Rows for BoundedRows<R, A> {
         ensures undone { OnErr result (self.new.table ≡ self.old.table) }
         ensures count { self.new.refused ≡ refusals_after result self.old.refused }
         ensures kept { OnErr result (self.new.holdings ≡ self.old.holdings) }
-        ensures settled { OnOk result (self.new.holdings ≡ map (settle (prefix name.now) (λ m. sum_by m.value values.now) (λ m. values_at m (values_of self.old.table (canonical name.now)) (indexes values.now))) self.old.holdings) }
-        ensures within { OnOk result (AllByRecursion (λ h. IsWithin (prefix name.now) h (settle (prefix name.now) (λ m. sum_by m.value values.now) (λ m. values_at m (values_of self.old.table (canonical name.now)) (indexes values.now)) h)) self.old.holdings) }
+        ensures settled { OnOk result (self.new.holdings ≡ map (holding_after (prefix name.now) (λ m. sum_by m.value values.now) (λ m. values_at m (values_of self.old.table (canonical name.now)) (indexes values.now))) self.old.holdings) }
+        ensures within { OnOk result (AllByRecursion (λ h. IsWithin (prefix name.now) h (holding_after (prefix name.now) (λ m. sum_by m.value values.now) (λ m. values_at m (values_of self.old.table (canonical name.now)) (indexes values.now)) h)) self.old.holdings) }
     {
         let prefix = name.prefix();
         if !self.accounts.count(prefix) {
@@ -286,7 +286,7 @@ impl<R: Rows + Drop, A: Alarm + Drop> Rows for BoundedRows<R, A> {
         ensures undone { OnErr result (self.new.table ≡ self.old.table) }
         ensures count { self.new.refused ≡ refusals_after result self.old.refused }
         ensures kept { OnErr result (self.new.holdings ≡ self.old.holdings) }
-        ensures settled { OnOk result (self.new.holdings ≡ map (settle (prefix name.now) none (λ m. values_at m (values_of self.old.table (canonical name.now)) indexes.now)) self.old.holdings) }
+        ensures settled { OnOk result (self.new.holdings ≡ map (holding_after (prefix name.now) none (λ m. values_at m (values_of self.old.table (canonical name.now)) indexes.now)) self.old.holdings) }
     {
         let prefix = name.prefix();
         if !self.accounts.count(prefix) {
@@ -308,7 +308,7 @@ impl<R: Rows + Drop, A: Alarm + Drop> Rows for BoundedRows<R, A> {
         ensures undone { OnErr result (self.new.table ≡ self.old.table) }
         ensures count { self.new.refused ≡ refusals_after result self.old.refused }
         ensures kept { OnErr result (self.new.holdings ≡ self.old.holdings) }
-        ensures settled { OnOk result (self.new.holdings ≡ map (settle (prefix name.now) none (λ m. with_handle m (canonical name.now) (values_of self.old.table (canonical name.now)))) self.old.holdings) }
+        ensures settled { OnOk result (self.new.holdings ≡ map (holding_after (prefix name.now) none (λ m. with_handle m (canonical name.now) (values_of self.old.table (canonical name.now)))) self.old.holdings) }
     {
         let prefix = name.prefix();
         if !self.accounts.count(prefix) {

@@ -6,7 +6,7 @@ ghost use Rattle.sqlite.specs.Held.{state};
 ghost use Rattle.hdl_name.specs.Name.{canonical};
 ghost use Rattle.hdl_rows.specs.Table.{no_rows, has, with_new_handle, with_values, without_values, without_handle, AreDistinct, AreAbsent, ArePresent, indexes};
 ghost use Rattle.hdl_sqlrows.specs.Filed.{WhereOpen, IsFiled, CrashLeaves, filed_table};
-ghost use Rattle.hdl_sqlrows.specs.Kept.{IsBlank, IsSettled, table_in};
+ghost use Rattle.hdl_sqlrows.specs.Kept.{IsBlank, IsBetweenCalls, table_in};
 ghost use Rattle.hdl_sqlrows.specs.Opening.{base_in, filed_base};
 
 use hdl_name::Name;
@@ -28,7 +28,7 @@ impl<S: Alter + Drop> Model for FileRows<S> {
     ghost use Rattle.std.specs.Prelude.{◌≡◌, false};
     ghost use Rattle.sqlite.specs.Held.{Held, held_code, state};
     ghost use Rattle.hdl_sqlrows.specs.Filed.{WhereOpen};
-    ghost use Rattle.hdl_sqlrows.specs.Kept.{IsSettled};
+    ghost use Rattle.hdl_sqlrows.specs.Kept.{IsBetweenCalls};
 
     ghost Value = { Held S };
 
@@ -36,7 +36,7 @@ impl<S: Alter + Drop> Model for FileRows<S> {
 
     ghost view = { λ s. s.conn };
 
-    ghost invariant = { λ s. (s.conn.in_transaction ≡ false) × WhereOpen (state S.Store s.conn) (IsSettled (state S.Store s.conn)) };
+    ghost invariant = { λ s. (s.conn.in_transaction ≡ false) × WhereOpen (state S.Store s.conn) (IsBetweenCalls (state S.Store s.conn)) };
 }
 
 impl<S: Alter + Drop> FileRows<S> {
@@ -54,7 +54,7 @@ impl<S: Alter + Drop> FileRows<S> {
     /// The rows of a database that has the tables.
     pub fn over(alloc: Global, conn: Connection<S>) -> FileRows<S>
         requires mode { conn.in_transaction ≡ false }
-        requires settled { WhereOpen (state S.Store conn) (IsSettled (state S.Store conn)) }
+        requires settled { WhereOpen (state S.Store conn) (IsBetweenCalls (state S.Store conn)) }
         ensures { result ≡ conn }
     {
         FileRows { alloc, conn }

@@ -5,7 +5,7 @@ use Rattle.std.proofs.lemmas.List.Folds.{list_any-append}
 use Rattle.hdl_trail.specs.declared.kept.Mark.{Mark}
 use Rattle.hdl_trail.specs.declared.kept.Sent.{Sent}
 use Rattle.hdl_trail.specs.declared.exchange.Exchange.{Exchange}
-use Rattle.hdl_trail.specs.Kept.{Followed, is_of, is_from, is_held, put_behind, first_mark, with_frame, with_frame_among, with_piece, leave_unanswered, operation_of, end_message, is_response, redeem, add_challenge, leave_answered, settle_by, settle}
+use Rattle.hdl_trail.specs.Kept.{Followed, is_of, is_from, is_held, put_behind, first_mark, with_frame, with_frame_among, with_piece, leave_unanswered, operation_of, end_message, is_response, redeem, add_challenge, leave_answered, finish_by, finish_exchange}
 use Rattle.hdl_trail.specs.Peers.{is_under_way}
 use Rattle.hdl_follows.specs.Laws.{HoldsWhatComes}
 
@@ -150,25 +150,25 @@ module _ (n : ℕ) where
       by_side (inl marks) = with_partials f e (inl (any_if of_mark e.is_piece (λ m. not (is_of e.key m)) f.partials marks))
       by_side (inr sent) = by_left (challenge_any e.key.number code session left sent)
 
-  settled_held : (f : Followed) (e : Exchange) → is_held (settle f (Some e)) n ≡ true → Held f e
+  settled_held : (f : Followed) (e : Exchange) → is_held (finish_exchange f (Some e)) n ≡ true → Held f e
   settled_held f e is = by_reply e.reply is
     where
       by_busy : (b : Bool) (code session : ℕ) → is_held (cond b f (leave_answered f e code session)) n ≡ true → Held f e
       by_busy true code session is = inl is
       by_busy false code session is = answered_held f e code session is
 
-      by_reply : (reply : Option (ℕ × ℕ)) → is_held (settle_by f e reply) n ≡ true → Held f e
+      by_reply : (reply : Option (ℕ × ℕ)) → is_held (finish_by f e reply) n ≡ true → Held f e
       by_reply None is = unanswered_held f e is
       by_reply (Some reply) is = by_busy (reply.0 == 3) reply.0 reply.1 is
 
 pub holds_what_comes : HoldsWhatComes
 holds_what_comes f [] n is = on_left (is_held f n) false is
-holds_what_comes f (e ∷ es) n is = by_rest (either (is_held (settle f (Some e)) n) (is_under_way es n) (holds_what_comes (settle f (Some e)) es n is))
+holds_what_comes f (e ∷ es) n is = by_rest (either (is_held (finish_exchange f (Some e)) n) (is_under_way es n) (holds_what_comes (finish_exchange f (Some e)) es n is))
   where
     by_first : (is_held f n ≡ true) ⊎ (e.key.number == n ≡ true) → is_held f n || (e.key.number == n || is_under_way es n) ≡ true
     by_first (inl before) = on_left (is_held f n) (e.key.number == n || is_under_way es n) before
     by_first (inr here) = on_right (is_held f n) (e.key.number == n || is_under_way es n) (on_left (e.key.number == n) (is_under_way es n) here)
 
-    by_rest : (is_held (settle f (Some e)) n ≡ true) ⊎ (is_under_way es n ≡ true) → is_held f n || (e.key.number == n || is_under_way es n) ≡ true
+    by_rest : (is_held (finish_exchange f (Some e)) n ≡ true) ⊎ (is_under_way es n ≡ true) → is_held f n || (e.key.number == n || is_under_way es n) ≡ true
     by_rest (inl first) = by_first (settled_held n f e first)
     by_rest (inr later) = on_right (is_held f n) (e.key.number == n || is_under_way es n) (on_right (e.key.number == n) (is_under_way es n) later)

@@ -14,7 +14,7 @@ use Rattle.hdl_pool.specs.declared.piece.Key.{Key}
 use Rattle.hdl_pool.specs.Partial as pool
 use Rattle.hdl_pool.specs.Partial.{Partial, Piece, piece_of, nothing_of, payload_at, whole}
 use Rattle.hdl_pool.specs.Taking as taking
-use Rattle.hdl_pool.specs.Taking.{Fate, made_whole, kept, ignored, displaced, so_far, is_ignored, replace_partial, store_partial, settle_partial, take_piece, whole_message, free_partial}
+use Rattle.hdl_pool.specs.Taking.{Fate, made_whole, kept, ignored, displaced, so_far, is_ignored, replace_partial, store_partial, store_if_kept, take_piece, whole_message, free_partial}
 use Rattle.hdl_trail.specs.declared.kept.Mark.{Mark}
 use Rattle.hdl_trail.specs.declared.exchange.Exchange.{Exchange}
 use Rattle.hdl_trail.specs.Exchange.{number_at}
@@ -199,7 +199,7 @@ module _ (peer : ℕ) (bytes : List ℕ) where
       Left t = whole_message t.0 ≡ None → (trail.with_piece e marks ≡ map mark_of t.1) × AllByRecursion IsPartial t.1
 
       abbrev step : Fate × Partial → Fate × List Partial
-      step g = settle_partial lane k g.0 g.1
+      step g = store_if_kept lane k g.0 g.1
 
       abbrev after : Partial → Bool → Option (List ℕ) → Fate × Partial
       after p b w = cond b (ignored, p) (option_map_or (λ message. (made_whole message, p)) w (kept, taking.with_piece p piece))

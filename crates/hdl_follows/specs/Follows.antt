@@ -15,7 +15,7 @@ use Rattle.hdl_trail.specs.declared.kept.Mark.{Mark}
 use Rattle.hdl_trail.specs.declared.kept.Sent.{Sent}
 use Rattle.hdl_trail.specs.declared.exchange.Exchange.{Exchange}
 use Rattle.hdl_trail.specs.Exchange.{number_at, with_reply}
-use Rattle.hdl_trail.specs.Kept.{Followed, settle}
+use Rattle.hdl_trail.specs.Kept.{Followed, finish_exchange}
 
 -- ---- the relation
 
@@ -75,6 +75,6 @@ answered_by [] e = e
 answered_by (d ∷ ds) e = answered_by ds (with_reply d e)
 
 -- what is followed once these frames are settled in their order, each with what its reply says
-abbrev pub settled_all : Followed → List Exchange → Followed
-settled_all f [] = f
-settled_all f (e ∷ es) = settled_all (settle f (Some e)) es
+abbrev pub finish_all : Followed → List Exchange → Followed
+finish_all f [] = f
+finish_all f (e ∷ es) = finish_all (finish_exchange f (Some e)) es

@@ -202,7 +202,7 @@ impl<T: Threads + Drop> ThreadedFile<T> {
                 (Whereabouts::Away(stays, thread), WriteState::UnderWay)
             }
             Err(back) => {
-                signals.settle();
+                signals.note_end();
                 (Whereabouts::Here(back.file), back.state)
             }
         }
@@ -219,7 +219,7 @@ impl<T: Threads + Drop> ThreadedFile<T> {
     {
         let Returned { file, state } = thread.join(&self.writer.rt);
         if let Some(signals) = &self.writer.signals {
-            signals.settle();
+            signals.note_end();
         }
         let state = state_for(&own, write, state);
         (Whereabouts::Here(file), state)

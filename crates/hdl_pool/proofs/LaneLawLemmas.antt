@@ -6,7 +6,7 @@ use Rattle.std.proofs.lemmas.Bool.{cases_Bool, eqb-true, eq-eqb}
 use Rattle.std.proofs.lemmas.List.Folds.{find-append}
 use Rattle.hdl_pool.specs.declared.piece.Key.{Key}
 use Rattle.hdl_pool.specs.Partial.{Piece, Partial, is_of, nothing_of, whole}
-use Rattle.hdl_pool.specs.Taking.{Fate, made_whole, kept, ignored, displaced, so_far, is_ignored, with_piece, after_piece, replace_partial, begin_partial, settle_partial, take_piece}
+use Rattle.hdl_pool.specs.Taking.{Fate, made_whole, kept, ignored, displaced, so_far, is_ignored, with_piece, after_piece, replace_partial, begin_partial, store_if_kept, take_piece}
 use Rattle.hdl_pool.specs.Laws.{TakenIsSoFar, OthersStay}
 use Rattle.hdl_pool.proofs.TakenLemmas.{after_piece_stays, taken_found, taken_missed, stored_missed}
 
@@ -92,7 +92,7 @@ found_or : (o : Option Partial) (d : Partial) (p : Partial) → o ≡ Some p →
 found_or o d p e = rw e refl
 
 settled_new : (lane : List Partial) (key : Key) (fate : Fate) (more d : Partial) → find (is_of key) lane ≡ None → is_of key more ≡ true → (fate ≢ kept → more ≡ d)
-    → unwrap_or (find (is_of key) (settle_partial lane key fate more).1) d ≡ more
+    → unwrap_or (find (is_of key) (store_if_kept lane key fate more).1) d ≡ more
 settled_new lane key kept more d missed own stays =
     rw (stored_missed lane key more missed) (found_or (find (is_of key) (begin_partial lane more).1) d more (find_begun (ltb (length lane) 4) (is_of key) lane more missed own))
 settled_new lane key (made_whole message) more d missed own stays = rw missed (sym (stays (λ e. cc)))
@@ -137,8 +137,8 @@ stored_other : (b : Bool) (lane : List Partial) (key other : Key) (more : Partia
 stored_other true lane key other more apart absent stays = find_other key other more lane apart absent
 stored_other false lane key other more apart absent stays = begun_other (ltb (length lane) 4) (is_of other) lane more absent stays
 
-settled_others : (lane : List Partial) (key other : Key) (fate : Fate) (more : Partial) → other ≢ key → is_of other more ≡ false → (settle_partial lane key fate more).0 ≢ displaced
-    → find (is_of other) (settle_partial lane key fate more).1 ≡ find (is_of other) lane
+settled_others : (lane : List Partial) (key other : Key) (fate : Fate) (more : Partial) → other ≢ key → is_of other more ≡ false → (store_if_kept lane key fate more).0 ≢ displaced
+    → find (is_of other) (store_if_kept lane key fate more).1 ≡ find (is_of other) lane
 settled_others lane key other kept more apart absent stays = stored_other (is_some (find (is_of key) lane)) lane key other more apart absent stays
 settled_others lane key other (made_whole message) more apart absent stays = refl
 settled_others lane key other ignored more apart absent stays = refl

@@ -10,7 +10,7 @@ use Rattle.hdl_pool.specs.declared.piece.Key.{Key}
 use Rattle.hdl_pool.specs.declared.taken.Taken.{Taken}
 use Rattle.hdl_pool.specs.declared.taken.Taken.TheVariants.{Whole, Kept, Ignored, Displaced}
 use Rattle.hdl_pool.specs.Partial.{Piece, Partial, IsPiece, is_of, nothing_of, whole}
-use Rattle.hdl_pool.specs.Taking.{Fate, made_whole, kept, ignored, displaced, lane_at, is_ignored, with_piece, after_piece, replace_partial, begin_partial, store_partial, settle_partial, take_piece, fate_of}
+use Rattle.hdl_pool.specs.Taking.{Fate, made_whole, kept, ignored, displaced, lane_at, is_ignored, with_piece, after_piece, replace_partial, begin_partial, store_partial, store_if_kept, take_piece, fate_of}
 use Rattle.hdl_pool.specs.Cells.{cells_at, cell_at, contents, lanes_of, AreFours, holds}
 use Rattle.hdl_pool.proofs.CellLemmas.{Cell, Lanes, lane-lanes_of, lanes_of-set, fours_set}
 
@@ -93,7 +93,7 @@ stored_found : (lane : List Partial) (key : Key) (p more : Partial) → find (is
 stored_found lane key p more found = rw found refl
 
 -- the lane has the message as the piece leaves it
-settled_found : (lane : List Partial) (key : Key) (p more : Partial) (fate : Fate) → find (is_of key) lane ≡ Some p → (fate ≢ kept → more ≡ p) → settle_partial lane key fate more ≡ (fate, replace_partial key more lane)
+settled_found : (lane : List Partial) (key : Key) (p more : Partial) (fate : Fate) → find (is_of key) lane ≡ Some p → (fate ≢ kept → more ≡ p) → store_if_kept lane key fate more ≡ (fate, replace_partial key more lane)
 settled_found lane key p more kept found stays = stored_found lane key p more found
 settled_found lane key p more (made_whole message) found stays =
     let same = stays (λ e. cc) in rw same (ap (λ (t : List Partial). (made_whole message, t)) (sym (replaced_same key p lane found)))
@@ -143,7 +143,7 @@ found_lanes c mid new lane place piece p more lt fours first was out back is =
 pub stored_missed : (lane : List Partial) (key : Key) (more : Partial) → find (is_of key) lane ≡ None → store_partial lane key more ≡ begin_partial lane more
 stored_missed lane key more missed = rw missed refl
 
-pub taken_missed : (lane : List Partial) (piece : Piece) (first : Partial) → find (is_of piece.key) lane ≡ None → first ≡ nothing_of piece.key piece.length → take_piece lane piece ≡ settle_partial lane piece.key (after_piece first piece).0 (after_piece first piece).1
+pub taken_missed : (lane : List Partial) (piece : Piece) (first : Partial) → find (is_of piece.key) lane ≡ None → first ≡ nothing_of piece.key piece.length → take_piece lane piece ≡ store_if_kept lane piece.key (after_piece first piece).0 (after_piece first piece).1
 taken_missed lane piece first missed new = rw (missed, new) refl
 
 pub missed_kept : (c : Lanes) (lane : ℕ) (piece : Piece) (first more : Partial) → lane < 64 → AreFours c → None ≡ position (holds piece.key) (cells_at c lane) → first ≡ nothing_of piece.key piece.length
@@ -153,7 +153,7 @@ missed_kept c lane piece first more lt fours none new is left =
     let missed : find (is_of piece.key) (lane_at (lanes_of c) lane) ≡ None = rw start (missed_is piece.key (cells_at c lane) none) in
     taken_missed (lane_at (lanes_of c) lane) piece first missed new ∙ rw (← is, ← left) (stored_missed (lane_at (lanes_of c) lane) piece.key more missed)
 
-settled_other : (lane : List Partial) (key : Key) (fate : Fate) (more : Partial) → fate ≢ kept → settle_partial lane key fate more ≡ (fate, lane)
+settled_other : (lane : List Partial) (key : Key) (fate : Fate) (more : Partial) → fate ≢ kept → store_if_kept lane key fate more ≡ (fate, lane)
 settled_other lane key kept more other = absurd (other refl)
 settled_other lane key (made_whole message) more other = refl
 settled_other lane key ignored more other = refl

@@ -51,15 +51,15 @@ abbrev pub store_partial : List Partial → Key → Partial → Fate × List Par
 store_partial lane key more = if is_some (find (is_of key) lane) then (kept, replace_partial key more lane) else begin_partial lane more
 
 -- only a piece that is kept changes the lane
-abbrev pub settle_partial : List Partial → Key → Fate → Partial → Fate × List Partial
-settle_partial lane key kept more = store_partial lane key more
-settle_partial lane key (made_whole message) more = (made_whole message, lane)
-settle_partial lane key ignored more = (ignored, lane)
-settle_partial lane key displaced more = (displaced, lane)
+abbrev pub store_if_kept : List Partial → Key → Fate → Partial → Fate × List Partial
+store_if_kept lane key kept more = store_partial lane key more
+store_if_kept lane key (made_whole message) more = (made_whole message, lane)
+store_if_kept lane key ignored more = (ignored, lane)
+store_if_kept lane key displaced more = (displaced, lane)
 
 -- what becomes of a piece, and of its lane
 abbrev pub take_piece : List Partial → Piece → Fate × List Partial
-take_piece lane piece = let after = after_piece (so_far lane piece) piece in settle_partial lane piece.key after.0 after.1
+take_piece lane piece = let after = after_piece (so_far lane piece) piece in store_if_kept lane piece.key after.0 after.1
 
 -- the whole message, if the piece makes it whole
 abbrev pub whole_message : Fate → Option (List ℕ)

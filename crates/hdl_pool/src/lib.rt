@@ -36,7 +36,7 @@
 //! - **A one-piece message whose key has a partial message of another length is ignored**, as any other piece of another length.
 //! - **The finite map of a partial message's pieces is a list of options, one for each number**, so equal partial messages are equal values,
 //!   and the message is `whole_payload` of that list, the word of hdl_frame.
-//! - **What a piece does goes in two steps**: `after_piece` says what becomes of its message, `settle_partial` that only a kept piece changes the lane.
+//! - **What a piece does goes in two steps**: `after_piece` says what becomes of its message, `store_if_kept` that only a kept piece changes the lane.
 //!   So a piece that makes its message whole leaves the pool as it was, and a caller whose event becomes Busy has nothing to undo.
 //! - **A partial message counts its missing pieces.** Only the last missing one builds the message; it takes the whole message's room at
 //!   once. Each payload is a copy of its own, and the table of a message's pieces (at most 134 places) comes with its first piece.

@@ -89,11 +89,11 @@ leave_answered f e code session = record {
 }
 
 -- a busy answer (code 3) changes nothing
-abbrev pub settle_by : Followed → Exchange → Option (ℕ × ℕ) → Followed
-settle_by f e None = leave_unanswered f e
-settle_by f e (Some reply) = if reply.0 == 3 then f else leave_answered f e reply.0 reply.1
+abbrev pub finish_by : Followed → Exchange → Option (ℕ × ℕ) → Followed
+finish_by f e None = leave_unanswered f e
+finish_by f e (Some reply) = if reply.0 == 3 then f else leave_answered f e reply.0 reply.1
 
 -- what is followed once the last frame and its reply, if any, are settled
-abbrev pub settle : Followed → Option Exchange → Followed
-settle f None = f
-settle f (Some e) = settle_by f e e.reply
+abbrev pub finish_exchange : Followed → Option Exchange → Followed
+finish_exchange f None = f
+finish_exchange f (Some e) = finish_by f e e.reply
