@@ -1,12 +1,12 @@
 //! An order that is carried out.
 
+use crate::change_answers::{change_words, failure, status_of_change, success};
 use crate::fault::RecordFault;
 use crate::listing::list_answer;
 use crate::order::{Act, Order, Way};
 use crate::plan::{is_among, merging, replacing};
 use crate::record::read_record;
 use crate::service::ChangeServer;
-use crate::told::{change_words, failure, status_of_change, success};
 use hdl_client::Reply;
 use hdl_limits::{Items, MESSAGE_MAX, Octets, WRITTEN_MAX};
 use hdl_msg::{ContentView, ReplyView, RequestBody, ResponseCode, Values, request_len};
@@ -180,7 +180,7 @@ fn indexes_in(alloc: Global, mut values: Values<'_>) -> Result<Vec<u32>, Stop> {
 }
 
 /// The indexes that a reply to the reading of this handle tells.
-fn indexes_told(alloc: Global, handle: &[u8], reply: &ReplyView<'_>) -> Result<Vec<u32>, Stop> {
+fn indexes_in_reply(alloc: Global, handle: &[u8], reply: &ReplyView<'_>) -> Result<Vec<u32>, Stop> {
     match reply.content {
         ContentView::Values {
             handle: answered,
@@ -205,7 +205,7 @@ fn indexes_there<S: ChangeServer>(
         types: Items::new(Vec::new(alloc)),
     };
     let reply = reply_to(service, order, &body)?;
-    indexes_told(alloc, order.name.sent(), &reply.view())
+    indexes_in_reply(alloc, order.name.sent(), &reply.view())
 }
 
 fn indexes_of(alloc: Global, values: &[Value]) -> Result<Vec<u32>, AllocError> {
@@ -396,7 +396,11 @@ fn whole_values(alloc: Global, mut values: Values<'_>) -> Result<Option<Vec<Valu
 }
 
 /// What the reply to a reading with a key says of this handle.
-fn read_told(alloc: Global, handle: &[u8], reply: &ReplyView<'_>) -> Result<Answer, AllocError> {
+fn reading_answer(
+    alloc: Global,
+    handle: &[u8],
+    reply: &ReplyView<'_>,
+) -> Result<Answer, AllocError> {
     match reply.content {
         ContentView::Values {
             handle: answered,
@@ -434,7 +438,7 @@ fn carry_read<S: ChangeServer>(
         types: type_copies(alloc, types)?,
     };
     match reply_to(service, order, &body) {
-        Ok(reply) => read_told(alloc, order.name.sent(), &reply.view()),
+        Ok(reply) => reading_answer(alloc, order.name.sent(), &reply.view()),
         Err(stop) => answer_to_stop(alloc, order.name.sent(), stop, &[]),
     }
 }

@@ -21,6 +21,7 @@
 #![tactic(auto)]
 
 mod carry;
+mod change_answers;
 mod credentials;
 mod data;
 mod entry;
@@ -32,7 +33,6 @@ mod order;
 mod plan;
 mod record;
 mod service;
-mod told;
 
 pub use carry::carry_out;
 pub use credentials::{KeyFault, read_key};
