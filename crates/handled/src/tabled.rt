@@ -8,8 +8,9 @@ use crate::exporting::{has_named, put_export, put_publisher, status_of};
 use crate::words::TableFile;
 use hdl_boundedrows::BoundedRows;
 use hdl_cachedrows::CachedRows;
-use hdl_core::{Event, Rows, Tenants};
+use hdl_core::{Rows, Tenants};
 use hdl_eitherrows::EitherRows;
+use hdl_events::Event;
 use hdl_export::ExportFault;
 use hdl_host::{Health, HostFault, Notices};
 use hdl_lastingrows::{

@@ -20,5 +20,3 @@
 #![tactic(auto)]
 
 pub mod laws;
-
-pub use hdl_events::{Event, Happening, Outcome};
