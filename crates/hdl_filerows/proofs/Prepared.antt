@@ -2,7 +2,7 @@
 use Rattle.std.proofs.Common.{◌≡◌, inl, inr, List, [], ℕ, Ok, Err, Result, IsTrue, IfOk, IfErr, false, arith}
 use Rattle.sqlite.specs.declared.error.Error.{Error}
 use Rattle.sqlite.specs.State.{State, HasCleanDisk, Survives, IsUnchanged, IsNotRun, FailsToQuery}
-use Rattle.hdl_sqlrows.specs.Kept.{IsBetweenCalls}
+use Rattle.hdl_sqlrows.specs.Stored.{IsBetweenCalls}
 use Rattle.hdl_sqlrows.specs.Filed.{WhereOpen}
 use Rattle.hdl_sqlrows.proofs.States.{Stays, query_fails, settled_stays}
 

@@ -6,7 +6,7 @@ ghost use Rattle.sqlite.specs.Held.{state};
 ghost use Rattle.hdl_name.specs.Name.{canonical};
 ghost use Rattle.hdl_rows.specs.Table.{no_rows, has, with_new_handle, with_values, without_values, without_handle, AreDistinct, AreAbsent, ArePresent, indexes};
 ghost use Rattle.hdl_sqlrows.specs.Filed.{WhereOpen, IsFiled, CrashLeaves, filed_table};
-ghost use Rattle.hdl_sqlrows.specs.Kept.{IsBlank, IsBetweenCalls, table_in};
+ghost use Rattle.hdl_sqlrows.specs.Stored.{IsBlank, IsBetweenCalls, table_in};
 ghost use Rattle.hdl_sqlrows.specs.Opening.{base_in, filed_base};
 
 use hdl_name::Name;
@@ -28,7 +28,7 @@ impl<S: Alter + Drop> Model for FileRows<S> {
     ghost use Rattle.std.specs.Prelude.{◌≡◌, false};
     ghost use Rattle.sqlite.specs.Held.{Held, held_code, state};
     ghost use Rattle.hdl_sqlrows.specs.Filed.{WhereOpen};
-    ghost use Rattle.hdl_sqlrows.specs.Kept.{IsBetweenCalls};
+    ghost use Rattle.hdl_sqlrows.specs.Stored.{IsBetweenCalls};
 
     ghost Value = { Held S };
 

@@ -5,7 +5,7 @@ use Rattle.std.proofs.lemmas.List.Folds.{list_any-append}
 use Rattle.hdl_trail.specs.declared.kept.Mark.{Mark}
 use Rattle.hdl_trail.specs.declared.kept.Sent.{Sent}
 use Rattle.hdl_trail.specs.declared.exchange.Exchange.{Exchange}
-use Rattle.hdl_trail.specs.Kept.{Followed, is_of, is_from, is_held, put_behind, first_mark, with_frame, with_frame_among, with_piece, leave_unanswered, operation_of, end_message, is_response, redeem, add_challenge, leave_answered, finish_by, finish_exchange}
+use Rattle.hdl_trail.specs.Followed.{Followed, is_of, is_from, is_held, put_behind, first_mark, with_frame, with_frame_among, with_piece, leave_unanswered, operation_of, end_message, is_response, redeem, add_challenge, leave_answered, finish_by, finish_exchange}
 use Rattle.hdl_trail.specs.Peers.{is_under_way}
 use Rattle.hdl_follows.specs.Laws.{HoldsWhatComes}
 

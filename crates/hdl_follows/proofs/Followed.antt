@@ -25,8 +25,8 @@ use Rattle.hdl_trail.specs.declared.kept.Mark.{Mark}
 use Rattle.hdl_trail.specs.declared.kept.Sent.{Sent}
 use Rattle.hdl_trail.specs.declared.exchange.Exchange.{Exchange}
 use Rattle.hdl_trail.specs.Exchange.{number_at, reply_of}
-use Rattle.hdl_trail.specs.Kept.{Followed, is_held, finish_exchange, leave_answered, leave_unanswered, with_piece, end_message, operation_of, redeem, add_challenge}
-use Rattle.hdl_trail.specs.Kept as trail
+use Rattle.hdl_trail.specs.Followed.{Followed, is_held, finish_exchange, leave_answered, leave_unanswered, with_piece, end_message, operation_of, redeem, add_challenge}
+use Rattle.hdl_trail.specs.Followed as trail
 use Rattle.hdl_trail.specs.Peers.{arrival}
 use Rattle.hdl_follows.specs.Follows.{Follows, IsInUse, IsPartial, mark_of, sent_of, datagrams_of, outcome_datagrams, answered_by}
 use Rattle.hdl_follows.specs.Laws.{BeginsFollowed, HoldsWhatIsKept, StepsFollowed}

@@ -32,7 +32,7 @@ use Rattle.hdl_laws.proofs.Codes.{reply_code, challenge_code}
 use Rattle.hdl_trail.specs.declared.kept.Key.{Key}
 use Rattle.hdl_trail.specs.declared.kept.Sent.{Sent}
 use Rattle.hdl_trail.specs.Exchange.{key_of, number_at, reply_of}
-use Rattle.hdl_trail.specs.Kept.{is_response, redeem, add_challenge}
+use Rattle.hdl_trail.specs.Followed.{is_response, redeem, add_challenge}
 use Rattle.hdl_follows.specs.Follows.{sent_of, IsInUse, CanBeRead}
 use Rattle.hdl_follows.proofs.Lists.{each_filter, each_found, length_filter}
 use Rattle.hdl_follows.proofs.Replies.{front, reply_read, session_seen}

@@ -20,7 +20,7 @@ use Rattle.hdl_msg.specs.declared.replies.ReplyContent.TheVariants.{Empty}
 use Rattle.hdl_ops.proofs.Codes.{codes_pass}
 use Rattle.hdl_frame.specs.Envelope.{u32_at}
 use Rattle.hdl_trail.specs.Exchange.{number_at}
-use Rattle.hdl_trail.specs.Kept.{is_response}
+use Rattle.hdl_trail.specs.Followed.{is_response}
 
 -- ---- the operation
 

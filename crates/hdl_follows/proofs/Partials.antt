@@ -18,8 +18,8 @@ use Rattle.hdl_pool.specs.Taking.{Fate, made_whole, kept, ignored, displaced, so
 use Rattle.hdl_trail.specs.declared.kept.Mark.{Mark}
 use Rattle.hdl_trail.specs.declared.exchange.Exchange.{Exchange}
 use Rattle.hdl_trail.specs.Exchange.{number_at}
-use Rattle.hdl_trail.specs.Kept as trail
-use Rattle.hdl_trail.specs.Kept.{with_frame_among, put_behind, operation_of, end_message}
+use Rattle.hdl_trail.specs.Followed as trail
+use Rattle.hdl_trail.specs.Followed.{with_frame_among, put_behind, operation_of, end_message}
 use Rattle.hdl_trail.specs.Peers.{arrival}
 use Rattle.hdl_follows.specs.Follows.{mark_of, IsPartial}
 use Rattle.hdl_follows.proofs.Lists.{filter_seen, find_seen, any_seen, map_push, map_drop, each_push, each_drop, each_found}

@@ -15,7 +15,7 @@ use Rattle.hdl_trail.specs.declared.kept.Mark.{Mark}
 use Rattle.hdl_trail.specs.declared.kept.Sent.{Sent}
 use Rattle.hdl_trail.specs.declared.exchange.Exchange.{Exchange}
 use Rattle.hdl_trail.specs.Exchange.{number_at, with_reply}
-use Rattle.hdl_trail.specs.Kept.{Followed, finish_exchange}
+use Rattle.hdl_trail.specs.Followed.{Followed, finish_exchange}
 
 -- ---- the relation
 

@@ -6,7 +6,7 @@ use Rattle.hdl_events.specs.declared.Outcome.{Outcome}
 use Rattle.hdl_laws.specs.Lanes.{LaneState, fresh}
 use Rattle.hdl_laws.specs.Worlds.{World, owner, lane_of}
 use Rattle.hdl_laws.specs.Runs.{Steps}
-use Rattle.hdl_trail.specs.Kept.{Followed, is_held, finish_exchange}
+use Rattle.hdl_trail.specs.Followed.{Followed, is_held, finish_exchange}
 use Rattle.hdl_trail.specs.declared.exchange.Exchange.{Exchange}
 use Rattle.hdl_trail.specs.Peers.{arrival, is_under_way}
 use Rattle.hdl_follows.specs.Follows.{Follows, IsInUse, answered_by, keeps, outcome_datagrams, finish_all}

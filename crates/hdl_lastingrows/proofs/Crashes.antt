@@ -5,7 +5,7 @@ use Rattle.sqlite.specs.State.{State, HasCleanDisk}
 use Rattle.sqlite.specs.Files.{file_state}
 use Rattle.hdl_rows.specs.Table.{Table}
 use Rattle.hdl_rows.specs.Write.{Write, CanWrite}
-use Rattle.hdl_sqlrows.specs.Kept.{table_in}
+use Rattle.hdl_sqlrows.specs.Stored.{table_in}
 use Rattle.hdl_sqlrows.specs.Filed.{WhereOpen, CrashLeaves, filed_table}
 use Rattle.hdl_lastingrows.specs.Lasting.{IsKept, IsNear, Leaves}
 use Rattle.hdl_lastingrows.specs.Writes.{write_in}

@@ -5,7 +5,7 @@ use Rattle.sqlite_trees.specs.Tree.{Trees}
 use Rattle.sqlite.specs.State.{State, HasCleanDisk, Survives}
 use Rattle.hdl_rows.specs.Table.{Table, table_code, IsPlaced}
 use Rattle.hdl_rows.specs.Write.{Write, CanWrite, after_write}
-use Rattle.hdl_sqlrows.specs.Kept.{table_in}
+use Rattle.hdl_sqlrows.specs.Stored.{table_in}
 use Rattle.hdl_sqlrows.specs.Filed.{IsFiled, filed_table}
 use Rattle.hdl_lastingrows.specs.declared.filing.WriteState.{WriteState}
 use Rattle.hdl_lastingrows.specs.declared.filing.WriteState.TheVariants.{Made, Refused, Unknown, UnderWay}

@@ -7,7 +7,7 @@ ghost use Rattle.sqlite_trees.specs.Tree.{Trees};
 ghost use Rattle.hdl_rows.specs.Table.{Table, IsPlaced, refusals_after, most};
 ghost use Rattle.hdl_rows.specs.Write.{CanWrite, after_write};
 ghost use Rattle.hdl_sqlrows.specs.Filed.{IsFiled, CrashLeaves};
-ghost use Rattle.hdl_sqlrows.specs.Kept.{table_in};
+ghost use Rattle.hdl_sqlrows.specs.Stored.{table_in};
 ghost use Rattle.hdl_lastingrows.specs.Lasting.{IsNear};
 ghost use Rattle.hdl_lastingrows.specs.Beside.{MayLeave, IfHere};
 ghost use Rattle.hdl_lastingrows.specs.Writes.{write_of};

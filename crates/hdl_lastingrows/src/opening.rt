@@ -10,7 +10,7 @@ ghost use Rattle.hdl_value.specs.Place.{Place};
 ghost use Rattle.hdl_rows.specs.Table.{no_rows, IsPlaced};
 ghost use Rattle.hdl_sqlrows.specs.Layout.{layout, no_schema};
 ghost use Rattle.hdl_sqlrows.specs.Filed.{WhereOpen, IsFiled, filed_table};
-ghost use Rattle.hdl_sqlrows.specs.Kept.{IsBetweenCalls};
+ghost use Rattle.hdl_sqlrows.specs.Stored.{IsBetweenCalls};
 ghost use Rattle.hdl_sqlrows.specs.Opening.{place_of, opened_with, filed_base, no_base};
 ghost use Rattle.hdl_lastingrows.specs.Beside.{IfHere};
 

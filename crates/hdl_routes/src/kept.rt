@@ -2,7 +2,7 @@
 
 ghost use Rattle.std.specs.Prelude.{◌≡◌, [], IfOk, IfSome, option_copied};
 ghost use Rattle.std.specs.Map.{lookup};
-ghost use Rattle.hdl_routes.specs.Kept.{IsKept, Keeps, is_held, is_request};
+ghost use Rattle.hdl_routes.specs.KeptReplies.{IsKept, Keeps, is_held, is_request};
 
 use lru::LruCache;
 use std::alloc::{AllocError, Global};

@@ -26,7 +26,7 @@ use Rattle.hdl_rows.specs.Table.{place, has, at, values_of, names_of, value_with
 use Rattle.hdl_rows.proofs.Writes.{at_place}
 use Rattle.hdl_rows.proofs.ShelfLemmas.{index_test, nothing, find-keys}
 use Rattle.hdl_sqlrows.specs.Layout.{layout}
-use Rattle.hdl_sqlrows.specs.Kept.{number, handle_in, place_in, value_of, value_in, cells_of, entry_in, table_in, times, has_handle, has_place, IsHandleRow, IsEntryRow, AreKept, IsBetweenCalls, IsWhole}
+use Rattle.hdl_sqlrows.specs.Stored.{number, handle_in, place_in, value_of, value_in, cells_of, entry_in, table_in, times, has_handle, has_place, IsHandleRow, IsEntryRow, AreKept, IsBetweenCalls, IsWhole}
 use Rattle.hdl_sqlrows.specs.Shows.{first_in, handle_of}
 use Rattle.hdl_sqlrows.proofs.Texts.{is_param, shown_terms, select_handle, select_entry, select_entries, select_names, select_handle_is, select_entry_is, select_entries_is, select_names_is, select_opened, select_opened_is, plain, unlisted, opened_plain}
 use Rattle.hdl_sqlrows.proofs.Found.{times-filter, short_permutation, found_first, first_value, found_moved, found_kept, strictly_rises}

@@ -15,7 +15,7 @@ use Rattle.sqlite.proofs.StateLemmas.{survives_then}
 use Rattle.sqlite.proofs.Callers.{survives_begin}
 use Rattle.hdl_value.specs.Place.{handle_cmp}
 use Rattle.hdl_rows.specs.Table.{Table}
-use Rattle.hdl_sqlrows.specs.Kept.{IsInside, IsBetweenCalls, IsWhole, handle_in, table_in}
+use Rattle.hdl_sqlrows.specs.Stored.{IsInside, IsBetweenCalls, IsWhole, handle_in, table_in}
 use Rattle.hdl_sqlrows.specs.Opening.{base_in, filed_base}
 use Rattle.hdl_sqlrows.specs.Filed.{WhereOpen, KeepsCommitted, IsDraft, IsFiled, draft_table, filed_table}
 use Rattle.hdl_sqlrows.proofs.States.{kept_commit}

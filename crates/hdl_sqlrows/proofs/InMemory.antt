@@ -7,7 +7,7 @@ use Rattle.sqlite.specs.Steps.{over_memory}
 use Rattle.sqlite.proofs.Callers.{memory_is_clean}
 use Rattle.sqlite_trees.specs.declared.memory.MemStore.{MemStore}
 use Rattle.hdl_rows.specs.Table.{Table}
-use Rattle.hdl_sqlrows.specs.Kept.{IsBlank, IsBetweenCalls, table_in, state_of, table_of}
+use Rattle.hdl_sqlrows.specs.Stored.{IsBlank, IsBetweenCalls, table_in, state_of, table_of}
 use Rattle.hdl_sqlrows.specs.Filed.{WhereOpen, IsFiled, filed_table}
 
 pub idle : (c : Held MemStore) → IsBetweenCalls (state_of c) → c.in_transaction ≡ false

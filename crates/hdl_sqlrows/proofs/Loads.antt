@@ -20,7 +20,7 @@ use Rattle.hdl_value.specs.Place.{handle_cmp, place_cmp}
 use Rattle.hdl_value.proofs.Places.{handle_total, handle_antisymmetric, place_total, place_antisymmetric}
 use Rattle.hdl_rows.specs.Table.{Table, no_rows, has, at, with_new_handle, with_values}
 use Rattle.hdl_sqlrows.specs.Layout.{layout}
-use Rattle.hdl_sqlrows.specs.Kept.{AreSingle, IsHandleRow, IsEntryRow, handle_in, place_in, entry_in, value_in, has_handle, has_place}
+use Rattle.hdl_sqlrows.specs.Stored.{AreSingle, IsHandleRow, IsEntryRow, handle_in, place_in, entry_in, value_in, has_handle, has_place}
 use Rattle.hdl_sqlrows.specs.Loaded.{IsLoaded, handles_alone, entry_shown}
 use Rattle.hdl_sqlrows.proofs.Answered.{some_pass}
 use Rattle.hdl_sqlrows.proofs.Found.{found_moved}

@@ -9,7 +9,7 @@ use Rattle.hdl_value.specs.declared.value.Value.{Value}
 use Rattle.hdl_rows.specs.Table.{Table, Held, place, has, at, value_with, no_rows, AreAbsent, HaveTheirIndexes, IsPlaced}
 use Rattle.hdl_rows.specs.Write.{Write, after_write, CanWrite}
 use Rattle.hdl_rows.proofs.Writes.{stay_placed_lem, some_none}
-use Rattle.hdl_sqlrows.specs.Kept.{IsBlank, state_of}
+use Rattle.hdl_sqlrows.specs.Stored.{IsBlank, state_of}
 
 none_or_some : (o : Option Value) → (o ≡ None) ⊎ ((v : Value) × (o ≡ Some v))
 none_or_some None = inl refl

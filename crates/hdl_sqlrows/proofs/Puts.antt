@@ -17,7 +17,7 @@ use Rattle.hdl_value.specs.declared.value.Value.{Value}
 use Rattle.hdl_value.proofs.Places.{handle_total, handle_antisymmetric, place_total, place_antisymmetric, handles_equal, places_equal}
 use Rattle.hdl_rows.specs.Table.{Table, place, has, at, indexes, AreDistinct, AreAbsent, with_values, with_new_handle}
 use Rattle.hdl_rows.proofs.Writes.{at_place, indexes_apart, some_none}
-use Rattle.hdl_sqlrows.specs.Kept.{IsInside, AreKept, IsEntryRow, IsHandleRow, handle_in, place_in, entry_in, value_in, table_in, has_handle, has_place}
+use Rattle.hdl_sqlrows.specs.Stored.{IsInside, AreKept, IsEntryRow, IsHandleRow, handle_in, place_in, entry_in, value_in, table_in, has_handle, has_place}
 use Rattle.hdl_sqlrows.specs.Filed.{IsDraft, draft_table}
 use Rattle.hdl_sqlrows.specs.Shows.{AreShort}
 use Rattle.hdl_sqlrows.proofs.Found.{found_first, first_value}

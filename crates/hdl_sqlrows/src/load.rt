@@ -5,7 +5,7 @@ ghost use Rattle.sqlite.specs.State.{HasCleanDisk, IsUnchanged, Survives};
 ghost use Rattle.sqlite.specs.Held.{state};
 ghost use Rattle.hdl_rows.specs.Table.{no_rows, IsPlaced};
 ghost use Rattle.hdl_sqlrows.specs.Layout.{layout};
-ghost use Rattle.hdl_sqlrows.specs.Kept.{IsBetweenCalls};
+ghost use Rattle.hdl_sqlrows.specs.Stored.{IsBetweenCalls};
 ghost use Rattle.hdl_sqlrows.specs.Filed.{KeepsCommitted, IsFiled};
 ghost use Rattle.hdl_sqlrows.specs.Loaded.{handles_alone, IsLoaded};
 

@@ -3,7 +3,7 @@
 ghost use Rattle.std.specs.Prelude.{◌≡◌, true, false, OnOk, OnErr};
 ghost use Rattle.hdl_name.specs.Name.{authority as authority_of};
 ghost use Rattle.hdl_rows.specs.Table.{no_rows, has, with_new_handle, with_values, without_values, without_handle, AreDistinct, AreAbsent, ArePresent, indexes};
-ghost use Rattle.hdl_sqlrows.specs.Kept.{IsBlank, IsBetweenCalls, state_of, table_of};
+ghost use Rattle.hdl_sqlrows.specs.Stored.{IsBlank, IsBetweenCalls, state_of, table_of};
 
 use crate::fault::Fault;
 use crate::{layout, writes};

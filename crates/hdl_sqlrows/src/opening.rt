@@ -10,7 +10,7 @@ ghost use Rattle.hdl_value.specs.Place.{Place};
 ghost use Rattle.hdl_rows.specs.Table.{Table, has, at, IsPlaced};
 ghost use Rattle.hdl_sqlrows.specs.Filed.{WhereOpen, KeepsCommitted, IsDraft, draft_table, filed_table};
 ghost use Rattle.hdl_sqlrows.specs.Layout.{no_schema};
-ghost use Rattle.hdl_sqlrows.specs.Kept.{IsInside, IsBetweenCalls, IsBlank, IsBare};
+ghost use Rattle.hdl_sqlrows.specs.Stored.{IsInside, IsBetweenCalls, IsBlank, IsBare};
 ghost use Rattle.hdl_sqlrows.specs.Opening.{First, Base, handle, base_in, filed_base, no_base, HasFiled, CrashKeeps, with_first, noted_with, opened_with, left_to_open, absent, place_of, first_at, AreFree, IsOpenedRow, OnlyLooks};
 
 use crate::fault::Fault;

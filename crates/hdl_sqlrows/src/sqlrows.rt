@@ -24,7 +24,7 @@ pub struct SqlRows {
 
 impl Model for SqlRows {
     ghost use Rattle.hdl_rows.specs.Table.{Held, held_code, IsPlaced};
-    ghost use Rattle.hdl_sqlrows.specs.Kept.{IsBetweenCalls, state_of, table_of};
+    ghost use Rattle.hdl_sqlrows.specs.Stored.{IsBetweenCalls, state_of, table_of};
 
     ghost Value = { Held };
 

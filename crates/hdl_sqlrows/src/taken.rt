@@ -5,7 +5,7 @@ ghost use Rattle.sqlite_value.specs.declared.value.Value.TheVariants.{Int, Blob}
 ghost use Rattle.sqlite_value.specs.Order.{column};
 ghost use Rattle.hdl_name.specs.Name.{canonical};
 ghost use Rattle.hdl_rows.specs.Table.{place, has, at, with_new_handle, with_values};
-ghost use Rattle.hdl_sqlrows.specs.Kept.{IsHandleRow, IsEntryRow, handle_in, place_in, value_in};
+ghost use Rattle.hdl_sqlrows.specs.Stored.{IsHandleRow, IsEntryRow, handle_in, place_in, value_in};
 ghost use Rattle.hdl_sqlrows.specs.Loaded.{entry_shown};
 
 use crate::cells::{blob_at, value_from};

@@ -7,7 +7,7 @@ ghost use Rattle.hdl_tenants.specs.Register as register;
 ghost use Rattle.hdl_tenants.specs.Register.{empty, place, IsPublisher, IsPrefix, IsRegister};
 ghost use Rattle.hdl_tenants.specs.Text.{publisher, hosted, register_after, IsAllowed, HasFault, Adds, IsAccepted, IsFirstFault};
 ghost use Rattle.hdl_tenants.specs.Steps.{IsPublisherFault, IsHostedFault, IsOpenedFault, Opens};
-ghost use Rattle.hdl_tenants.specs.Kept.{publisher_on};
+ghost use Rattle.hdl_tenants.specs.Record.{publisher_on};
 ghost use Rattle.hdl_tenants.specs.Taken.{Indexes};
 
 use crate::fault::TenantFault;

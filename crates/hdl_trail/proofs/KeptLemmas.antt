@@ -11,7 +11,7 @@ use Rattle.std.proofs.lemmas.List.Sums.{fails_before_first}
 use Rattle.hdl_trail.specs.declared.kept.Key.{Key}
 use Rattle.hdl_trail.specs.declared.kept.Mark.{Mark}
 use Rattle.hdl_trail.specs.declared.exchange.Exchange.{Exchange}
-use Rattle.hdl_trail.specs.Kept.{is_of, is_response, with_frame, with_frame_among, with_piece, put_behind, first_mark}
+use Rattle.hdl_trail.specs.Followed.{is_of, is_response, with_frame, with_frame_among, with_piece, put_behind, first_mark}
 
 -- the first of the key grows
 grown_first : (e : Exchange) (ms : List Mark) (i : ℕ) (d : Mark) → i < length ms → is_of e.key (get_or ms i d) ≡ true → ((k : ℕ) → k < i → is_of e.key (get_or ms k d) ≡ false)

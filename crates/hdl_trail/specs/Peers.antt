@@ -5,7 +5,7 @@ use Rattle.hdl_limits.specs.declared.TheConstants.{UNDER_WAY_MAX}
 use Rattle.hdl_frame.specs.Envelope.{envelope_at}
 use Rattle.hdl_trail.specs.declared.exchange.Exchange.{Exchange}
 use Rattle.hdl_trail.specs.Exchange.{exchange_of, with_reply}
-use Rattle.hdl_trail.specs.Kept.{Followed, is_held, finish_exchange}
+use Rattle.hdl_trail.specs.Followed.{Followed, is_held, finish_exchange}
 
 -- the addresses, that with number 1 first; what is followed under their numbers; and the frames under way, whose replies aren't whole, the oldest first
 pub record Roll (A : Type 0) : Type 0 where

@@ -1,7 +1,7 @@
 //! What the service keeps of a lane, as far as the trail sees it.
 
 ghost use Rattle.std.specs.Prelude.{◌≡◌, ◌<◌};
-ghost use Rattle.hdl_trail.specs.Kept.{first_mark, with_frame, is_of, is_from, put_behind};
+ghost use Rattle.hdl_trail.specs.Followed.{first_mark, with_frame, is_of, is_from, put_behind};
 
 use crate::exchange::Exchange;
 use arrayvec::ArrayVec;

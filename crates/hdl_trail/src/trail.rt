@@ -17,7 +17,7 @@ ghost use Rattle.std.specs.List.{list_any, position};
 ghost use Rattle.hdl_limits.specs.declared.TheConstants.{CHALLENGES_MAX, PARTIALS_MAX, PEERS_MAX, UNDER_WAY_MAX};
 ghost use Rattle.hdl_trail.specs.Allowance.{answers_challenge, is_within_last};
 ghost use Rattle.hdl_trail.specs.Exchange.{exchange_of};
-ghost use Rattle.hdl_trail.specs.Kept.{leave_answered, add_challenge, end_message, is_held, is_of, operation_of, redeem, finish_exchange, finish_by, with_piece};
+ghost use Rattle.hdl_trail.specs.Followed.{leave_answered, add_challenge, end_message, is_held, is_of, operation_of, redeem, finish_exchange, finish_by, with_piece};
 ghost use Rattle.hdl_trail.specs.Peers.{is_under_way, oldest, reply_seen};
 ghost use Rattle.hdl_trail.specs.Trail.{followed_by};
 

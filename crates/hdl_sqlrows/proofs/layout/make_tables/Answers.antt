@@ -4,7 +4,7 @@ use Rattle.sqlite.specs.State.{HasCleanDisk, Survives}
 use Rattle.sqlite.specs.Held.{state}
 use Rattle.hdl_rows.specs.Table.{Table, no_rows}
 use Rattle.hdl_sqlrows.specs.Layout.{no_schema}
-use Rattle.hdl_sqlrows.specs.Kept.{IsBetweenCalls, table_in}
+use Rattle.hdl_sqlrows.specs.Stored.{IsBetweenCalls, table_in}
 use Rattle.hdl_sqlrows.specs.Filed.{WhereOpen, KeepsCommitted, IsFiled}
 use Rattle.hdl_sqlrows.proofs.Filed.{of_now, inside_written, surely, done_by, kept_by, crash_surely, on_ok}
 use Rattle.hdl_sqlrows.proofs.layout.make_tables.Goals as goal

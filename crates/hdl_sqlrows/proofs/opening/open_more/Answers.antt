@@ -4,7 +4,7 @@ use Rattle.sqlite.specs.Effect.{Database}
 use Rattle.sqlite.specs.State.{HasCleanDisk, Survives}
 use Rattle.sqlite.specs.Held.{state}
 use Rattle.hdl_rows.specs.Table.{Table, IsPlaced}
-use Rattle.hdl_sqlrows.specs.Kept.{IsBetweenCalls}
+use Rattle.hdl_sqlrows.specs.Stored.{IsBetweenCalls}
 use Rattle.hdl_sqlrows.specs.Filed.{WhereOpen}
 use Rattle.hdl_sqlrows.specs.Opening.{base_in, filed_base, opened_with, HasFiled, IsOpenedRow}
 use Rattle.hdl_sqlrows.proofs.Filed.{of_now, even, inside_first, at_first, made_by, kept_by, leaves_if_open, settled_again, on_ok, on_err}

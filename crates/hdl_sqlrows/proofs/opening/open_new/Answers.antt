@@ -4,7 +4,7 @@ use Rattle.sqlite.specs.State.{HasCleanDisk, Survives}
 use Rattle.sqlite.specs.Held.{state}
 use Rattle.hdl_rows.specs.Table.{Table}
 use Rattle.hdl_sqlrows.specs.Layout.{no_schema}
-use Rattle.hdl_sqlrows.specs.Kept.{IsBetweenCalls}
+use Rattle.hdl_sqlrows.specs.Stored.{IsBetweenCalls}
 use Rattle.hdl_sqlrows.specs.Filed.{WhereOpen, KeepsCommitted}
 use Rattle.hdl_sqlrows.specs.Opening.{base_in, no_base, opened_with, HasFiled}
 use Rattle.hdl_sqlrows.proofs.Filed.{of_now, made_by, kept_by, leaves_surely, on_ok}

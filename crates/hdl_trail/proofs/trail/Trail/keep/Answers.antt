@@ -1,5 +1,5 @@
 use Rattle.std.proofs.Common.{◌∙◌, ap, sym, set}
-use Rattle.hdl_trail.specs.Kept.{with_frame, put_behind}
+use Rattle.hdl_trail.specs.Followed.{with_frame, put_behind}
 use Rattle.hdl_trail.proofs.KeptLemmas.{with_piece_begun, with_piece_found}
 use Rattle.hdl_trail.proofs.trail.Trail.keep.Goals as goal
 
