@@ -1,7 +1,7 @@
 //! What the frames of a client and the replies to them say of changes: the lines of an audit log.
 //!
 //! ```text
-//! a frame from the client -> Follower::asked
+//! a frame from the client -> Follower::note_request
 //! a frame to the client   -> Follower::note_reply -> Entry: operation, handle, key, code    (where a change was accepted or refused)
 //! a frame to the client   -> Answer::of         -> operation and code, to be counted
 //! ```

@@ -11,11 +11,11 @@
 //!                  drop_lane
 //! ```
 //!
-//! It stands on `hdl_frame`, whose definitions say what a frame is and which message pieces make, and on the kit's `slab`. The
-//! 256 slots are made by [`Pool::new`] and written in place; only [`Pool::take`] takes memory, for what really came and for a
-//! whole message, and a refused growth leaves the pool as it was. What it promises is one equation for each call: the list of
-//! all lanes is as it was but for the called one, which is a function of what it was (`specs/Taking.antt`). The laws of
-//! `specs/Laws.antt` tie these functions to the message that pieces make.
+//! Definitions of `hdl_frame` say what a frame is and which message pieces make. The 256 slots, in the kit's `slab`, are made by
+//! [`Pool::new`] and written in place; only [`Pool::take`] takes memory, for what really came and for a whole message, and a
+//! refused growth leaves the pool as it was. What it promises is one equation for each call: the list of all lanes is as it was
+//! but for the called one, which is a function of what it was (`specs/Taking.antt`). The laws of `specs/Laws.antt` tie these
+//! functions to the message that pieces make.
 //!
 //! ```rust
 //! // crates/hdl_tests/src/pool.rt

@@ -185,7 +185,7 @@ impl Tenants {
     }
 
     /// The hash function of the name's prefix on the lanes of the publisher at this place, if its whole prefix, in canonical
-    /// form, is hosted for it. A prefix that isn't has SHA-1.
+    /// form, is hosted for it. None where it isn't.
     pub fn algorithm(&self, publisher: usize, name: &Name) -> Option<Algorithm>
         ensures hosted { is_some result ≡ register.hosts self.now publisher (prefix name.now) }
         ensures algorithm { unwrap_or result Algorithm.Sha1 ≡ register.algorithm self.now publisher (prefix name.now) }
