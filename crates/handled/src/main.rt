@@ -23,7 +23,7 @@ use copying::copy_table;
 use hdl_core::Tenants;
 use hdl_host::{Ending, HostFault, Setting, host_resumed, host_tenants};
 use hdl_replay::{Fault, read_input, tenants_of};
-use notices::{Kept, say_begins, say_ends};
+use notices::{Notice, say_begins, say_ends};
 use ports::can_listen;
 use std::fs::Files;
 use std::net::{Net, TcpListener, TcpStream};
@@ -179,7 +179,7 @@ fn serve_in_memory<
         Ok(rows) => rows,
         Err(fault) => return report_fault(rt, TabledFault::from(fault)),
     };
-    say_begins(rt, &tenants, Kept::Memory { row_cache }, setting.limits);
+    say_begins(rt, &tenants, Notice::Memory { row_cache }, setting.limits);
     let mut output = rt.stdout();
     let ending = match Arc::try_clone(&setting.supervision.ending) {
         Ok(ending) => ending,
@@ -208,7 +208,7 @@ fn serve_on<
         path,
         ..
     } = desk;
-    say_begins(rt, &tenants, Kept::File(path.as_str()), setting.limits);
+    say_begins(rt, &tenants, Notice::File(path.as_str()), setting.limits);
     let mut output = rt.stdout();
     let ending = match Arc::try_clone(&setting.supervision.ending) {
         Ok(ending) => ending,

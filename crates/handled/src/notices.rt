@@ -7,18 +7,18 @@ use std::fmt;
 
 /// Where the table is.
 #[derive(Clone, Copy, Debug)]
-pub enum Kept<'a> {
+pub enum Notice<'a> {
     /// In memory alone; the handles that were read last may take so many octets more.
     Memory { row_cache: usize },
     /// In this file.
     File(&'a str),
 }
 
-impl fmt::Display for Kept<'_> {
+impl fmt::Display for Notice<'_> {
     fn fmt<W: fmt::Write>(&self, f: &mut fmt::Formatter<W>) -> fmt::Result {
         match self {
-            Kept::Memory { row_cache } => write!(f, "memory, row cache {row_cache} octets"),
-            Kept::File(path) => write!(f, "{path}"),
+            Notice::Memory { row_cache } => write!(f, "memory, row cache {row_cache} octets"),
+            Notice::File(path) => write!(f, "{path}"),
         }
     }
 }
@@ -28,7 +28,7 @@ impl fmt::Display for Kept<'_> {
 struct Beginning<'a> {
     publishers: usize,
     lanes: u16,
-    kept: Kept<'a>,
+    kept: Notice<'a>,
     limits: Limits,
 }
 
@@ -58,7 +58,7 @@ impl fmt::Display for Beginning<'_> {
 }
 
 /// Says what begins: which program, over which table, for whom, and within which limits.
-pub fn say_begins(rt: &HostRuntime, tenants: &Tenants, kept: Kept<'_>, limits: Limits) {
+pub fn say_begins(rt: &HostRuntime, tenants: &Tenants, kept: Notice<'_>, limits: Limits) {
     let beginning = Beginning {
         publishers: tenants.publishers(),
         lanes: tenants.lanes(),

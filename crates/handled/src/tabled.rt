@@ -8,8 +8,9 @@ use crate::exporting::{has_named, put_export, put_publisher, status_of};
 use crate::words::TableFile;
 use hdl_boundedrows::BoundedRows;
 use hdl_cachedrows::CachedRows;
-use hdl_core::{Event, Rows, Tenants};
+use hdl_core::{Rows, Tenants};
 use hdl_eitherrows::EitherRows;
+use hdl_events::Event;
 use hdl_export::ExportFault;
 use hdl_host::{Health, HostFault, Notices};
 use hdl_lastingrows::{
@@ -126,10 +127,10 @@ impl Progress for Said {
 }
 
 /// The table in memory, with the file beside it.
-type FileRows<R> = LastingRows<PlainRows, ThreadedFile<R>, Said>;
+type ServedFile<R> = LastingRows<PlainRows, ThreadedFile<R>, Said>;
 
 /// The table of a run, whose threads `R` starts. It is one type, so that the program has one machine.
-pub type Table<R> = EitherRows<CachedRows<SqlRows>, FileRows<R>>;
+pub type Table<R> = EitherRows<CachedRows<SqlRows>, ServedFile<R>>;
 
 /// An empty table in SQL, in memory, of which at most so many octets are kept where they were read last.
 pub fn empty_table<R: Threads + Drop>(rt: &HostRuntime, row_cache: usize) -> Result<Table<R>, Fault>
@@ -175,7 +176,7 @@ trait Closing {
     fn close(self) -> Result<(), TabledFault>;
 }
 
-impl<R: Threads + Drop> Closing for FileRows<R> {
+impl<R: Threads + Drop> Closing for ServedFile<R> {
     fn close(self) -> Result<(), TabledFault> {
         let Some(file) = self.into_file().into_file() else {
             return Err(TabledFault::Table(TableFault::Device));

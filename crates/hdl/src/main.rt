@@ -16,8 +16,8 @@
 mod words;
 
 use hdl_commands::{
-    BatchFault, Page, ask, explain, fresh_secret, import_file, run_batch_text, write_fresh_tenants,
-    write_script, write_tenants,
+    BatchFault, Page, explain, fresh_secret, import_file, run_batch_text, run_question,
+    write_fresh_tenants, write_script, write_tenants,
 };
 use std::io::{self, Read};
 use std::process::ExitCode;
@@ -106,7 +106,7 @@ fn run(rt: &HostRuntime) -> io::Result<u8> {
             explain_all(rt, shows_keys)?;
             Ok(0)
         }
-        Invocation::Ask(question) => Ok(ask(rt, &question)),
+        Invocation::Ask(question) => Ok(run_question(rt, &question)),
         Invocation::Batch { server } => batch_all(rt, &server),
         Invocation::Import(import) => Ok(import_file(rt, &import)),
         Invocation::Script => script_all(rt),

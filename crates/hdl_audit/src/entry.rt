@@ -9,7 +9,7 @@ const ESCAPED: AsciiSet = ascii_set!(CONTROLS.add(b' ').add(b'%'));
 
 /// The key that a change was asked with.
 #[derive(Debug, Drop)]
-pub struct Key {
+pub struct KeyName {
     pub index: u32,
     /// Its handle, as it was sent.
     pub handle: Vec<u8>,
@@ -23,7 +23,7 @@ pub struct Entry {
     /// The handle, as it was sent, where it is certain.
     pub handle: Option<Vec<u8>>,
     /// The key, where the change was challenged.
-    pub key: Option<Key>,
+    pub key: Option<KeyName>,
     /// The code of the reply: 1 where it was accepted.
     pub code: u32,
 }

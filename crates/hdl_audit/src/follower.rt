@@ -4,7 +4,7 @@ ghost use Rattle.std.specs.Prelude.{◌≡◌, Some, IfSome, IsSome, IsTrue, opt
 ghost use Rattle.hdl_audit.specs.Answer.{answer_of, ends_change};
 
 use crate::answer::Answer;
-use crate::entry::{Entry, Key};
+use crate::entry::{Entry, KeyName};
 use crate::question::{Matter, Question, copy_of};
 use std::alloc::{AllocError, Global};
 use std::collections::VecDeque;
@@ -150,7 +150,7 @@ impl Follower {
         &mut self,
         peer: u16,
         challenge: u32,
-        key: Key,
+        key: KeyName,
         answer: Answer,
     ) -> Option<Entry>
         ensures told { IsTrue (ends_change answer) → IsSome result }

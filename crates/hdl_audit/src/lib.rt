@@ -1,7 +1,7 @@
 //! What the frames of a client and the replies to them say of changes: the lines of an audit log.
 //!
 //! ```text
-//! a frame from the client -> Follower::asked
+//! a frame from the client -> Follower::note_request
 //! a frame to the client   -> Follower::note_reply -> Entry: operation, handle, key, code    (where a change was accepted or refused)
 //! a frame to the client   -> Answer::of         -> operation and code, to be counted
 //! ```
@@ -37,6 +37,6 @@ mod moment;
 mod question;
 
 pub use answer::Answer;
-pub use entry::{Entry, Key};
+pub use entry::{Entry, KeyName};
 pub use follower::Follower;
 pub use moment::Moment;

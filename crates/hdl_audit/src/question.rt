@@ -1,7 +1,7 @@
 //! What a frame from a client asks.
 
 use crate::answer::changes;
-use crate::entry::Key;
+use crate::entry::KeyName;
 use hdl_frame::{ENVELOPE_LEN, Envelope};
 use hdl_msg::OpCode;
 use hdl_value::{string_at, u32_at};
@@ -16,7 +16,7 @@ pub enum Matter {
     /// A change of the handle, as it was sent.
     Change { operation: u32, handle: Vec<u8> },
     /// The response to the challenge with this SessionId, by this key.
-    Response { challenge: u32, key: Key },
+    Response { challenge: u32, key: KeyName },
     /// A piece of a message, of which nothing is known.
     Piece,
     /// Anything else.
@@ -61,7 +61,7 @@ fn response_of(alloc: Global, challenge: u32, body: &[u8]) -> Result<Matter, All
     match key_at(body) {
         Some((handle, index)) => Ok(Matter::Response {
             challenge,
-            key: Key {
+            key: KeyName {
                 index,
                 handle: copy_of(alloc, handle)?,
             },

@@ -6,7 +6,7 @@ use Rattle.sha2.specs.Sha256.{sha256}
 use Rattle.sha2.specs.Sha256 as second
 use Rattle.hdl_auth.specs.declared.algorithm.Algorithm.{Algorithm}
 use Rattle.hdl_auth.specs.declared.algorithm.Algorithm.TheVariants as algorithm
-use Rattle.hdl_auth.specs.Digest.{size_of, digest_of, octets_of, spelt}
+use Rattle.hdl_auth.specs.Digest.{size_of, digest_of, octets_of, digest_spelling}
 
 length-sha1 : (m : List ℕ) → length (sha1 m) ≡ 20
 unfolding sha1 first.digest_bytes
@@ -21,6 +21,6 @@ length-digest algorithm.Sha1 m = length-sha1 m
 length-digest algorithm.Sha256 m = length-sha256 m
 
 -- the octet and the digest have 33 octets at most
-pub digest_short : (a : Algorithm) (m : List ℕ) → length (spelt (digest_of a m)) ≤ 33
+pub digest_short : (a : Algorithm) (m : List ℕ) → length (digest_spelling (digest_of a m)) ≤ 33
 digest_short algorithm.Sha1 m = let len = length-sha1 m in omega (arith, len)
 digest_short algorithm.Sha256 m = let len = length-sha256 m in omega (arith, len)

@@ -32,5 +32,5 @@ octets_of (digest.Sha1 octets) = octets
 octets_of (digest.Sha256 octets) = octets
 
 -- the octet of the hash function, and the digest's octets
-abbrev pub spelt : Digest → List ℕ
-spelt d = octet_of (algorithm_of d) ∷ octets_of d
+abbrev pub digest_spelling : Digest → List ℕ
+digest_spelling d = octet_of (algorithm_of d) ∷ octets_of d

@@ -5,7 +5,7 @@ use Rattle.hdl_auth.specs.declared.Verdict.{Verdict}
 use Rattle.hdl_auth.specs.declared.Verdict.TheVariants.{Good, BadForm, Wrong}
 use Rattle.hdl_auth.specs.declared.algorithm.Algorithm.{Algorithm}
 use Rattle.hdl_auth.specs.declared.algorithm.Digest.{Digest}
-use Rattle.hdl_auth.specs.Digest.{octet_of, size_of, digest_of, algorithm_of, octets_of, spelt}
+use Rattle.hdl_auth.specs.Digest.{octet_of, size_of, digest_of, algorithm_of, octets_of, digest_spelling}
 
 -- H(key ++ nonce ++ digest ++ key), by the digest's hash function
 abbrev pub mac_of : List ℕ → List ℕ → Digest → Digest
@@ -13,7 +13,7 @@ mac_of key nonce d = digest_of (algorithm_of d) (key ++ nonce ++ octets_of d ++ 
 
 -- the response string that answers a challenge: the keyed digest as it is spelt
 abbrev pub right_response : List ℕ → List ℕ → Digest → List ℕ
-right_response key nonce d = spelt (mac_of key nonce d)
+right_response key nonce d = digest_spelling (mac_of key nonce d)
 
 -- the octet of the hash function, and as many octets as its digests have
 abbrev pub has_response_form : Algorithm → List ℕ → Bool

@@ -1,10 +1,11 @@
 -- What handles and their values count: values, and octets.
-use Rattle.std.specs.Prelude.{ℕ, ◌+◌, ◌-◌, min, List, length, sum_by, Bool, ◌&&◌, ◌||◌, nat_le, nat_lt, ◌==◌, if◌then◌else◌}
+use Rattle.std.specs.Prelude.{ℕ, ◌+◌, ◌-◌, List, length, sum_by, Bool, ◌&&◌, ◌||◌, nat_le, nat_lt, ◌==◌, if◌then◌else◌}
 use Rattle.std.specs.Option.{option_map_or}
 use Rattle.hdl_value.specs.declared.references.RawRef.{RawRef}
 use Rattle.hdl_value.specs.declared.value.Value.{Value}
 use Rattle.hdl_rows.specs.Table.{most, value_with}
 use Rattle.hdl_boundedrows.specs.declared.amount.TheConstants.{ROW_OCTETS, REFERENCE_OCTETS}
+use Rattle.hdl_limits.specs.Counts.{at_most_u64}
 
 -- A way of counting: what a handle counts by itself, and what each of its values does.
 pub record Measure : Type 0 where
@@ -44,13 +45,9 @@ values_at m vs is = sum_by (value_at m vs) is
 
 -- ---- counts of 64 bits
 
--- a number as a count, whose greatest stands for all that are more
-abbrev pub capped : ℕ → ℕ
-capped n = min n most
-
 -- A count once this was given back and that was gained. The greatest stays: nobody knows for how much it stands.
 abbrev pub moved_count : ℕ → ℕ → ℕ → ℕ
-moved_count held gain back = if held == most then most else capped (held - back + gain)
+moved_count held gain back = if held == most then most else at_most_u64 (held - back + gain)
 
 -- whether a count may become another one: it is known then, and within the bound or no more than before
 abbrev pub may_become : ℕ → ℕ → ℕ → Bool

@@ -8,7 +8,8 @@ use Rattle.hdl_rows.specs.Table.{Table, table_code}
 use Rattle.hdl_boundedrows.specs.declared.amount.Amount.{Amount}
 use Rattle.hdl_boundedrows.specs.declared.account.Account.{Account}
 use Rattle.hdl_boundedrows.specs.declared.account.Change.{Change}
-use Rattle.hdl_boundedrows.specs.Amount.{Measure, in_values, in_octets, capped, moved_count, may_become}
+use Rattle.hdl_boundedrows.specs.Amount.{Measure, in_values, in_octets, moved_count, may_become}
+use Rattle.hdl_limits.specs.Counts.{at_most_u64}
 
 -- ---- what is kept
 
@@ -63,11 +64,11 @@ pub record Bounded : Type 0 where
 
 -- what is counted once so much was gained and so much given back
 abbrev pub moved_by : (Measure → ℕ) → (Measure → ℕ) → Holding → Holding
-moved_by gain back h = record h { values = moved_count h.values (capped (gain in_values)) (capped (back in_values)); octets = moved_count h.octets (capped (gain in_octets)) (capped (back in_octets)) }
+moved_by gain back h = record h { values = moved_count h.values (at_most_u64 (gain in_values)) (at_most_u64 (back in_values)); octets = moved_count h.octets (at_most_u64 (gain in_octets)) (at_most_u64 (back in_octets)) }
 
 -- What a write of a handle of this prefix makes of it, by what it gains and what it gives back: nothing where they don't count.
-abbrev pub settle : List ℕ → (Measure → ℕ) → (Measure → ℕ) → Holding → Holding
-settle p gain back h = if is_among h.roots p then moved_by gain back h else h
+abbrev pub holding_after : List ℕ → (Measure → ℕ) → (Measure → ℕ) → Holding → Holding
+holding_after p gain back h = if is_among h.roots p then moved_by gain back h else h
 
 -- nothing
 abbrev pub none : Measure → ℕ

@@ -3,7 +3,8 @@
 ghost use Rattle.std.specs.Prelude.{◌≡◌, ◌+◌, map, sum_by};
 ghost use Rattle.hdl_rows.specs.Table.{indexes as indexes_of};
 ghost use Rattle.hdl_boundedrows.specs.Amount as spec;
-ghost use Rattle.hdl_boundedrows.specs.Amount.{capped, in_values, in_octets, with_handle, values_at};
+ghost use Rattle.hdl_boundedrows.specs.Amount.{in_values, in_octets, with_handle, values_at};
+ghost use Rattle.hdl_limits.specs.Counts.{at_most_u64};
 
 use hdl_rows::value_with;
 use hdl_value::{RawRef, Value};
@@ -45,8 +46,8 @@ impl Amount {
 
     /// Both together.
     pub(crate) fn plus(self, other: Amount) -> Amount
-        ensures values { result.values ≡ capped (self.values + other.values) }
-        ensures octets { result.octets ≡ capped (self.octets + other.octets) }
+        ensures values { result.values ≡ at_most_u64 (self.values + other.values) }
+        ensures octets { result.octets ≡ at_most_u64 (self.octets + other.octets) }
     {
         Amount {
             values: self.values.saturating_add(other.values),
@@ -56,7 +57,7 @@ impl Amount {
 }
 
 fn references_octets(refs: &[RawRef]) -> u64
-    ensures { result ≡ capped (sum_by spec.reference_octets refs.now) }
+    ensures { result ≡ at_most_u64 (sum_by spec.reference_octets refs.now) }
 {
     let mut sum: u64 = 0;
     for r in refs {
@@ -67,7 +68,7 @@ fn references_octets(refs: &[RawRef]) -> u64
 }
 
 fn value_octets(value: &Value) -> u64
-    ensures { result ≡ capped (spec.value_octets value.now) }
+    ensures { result ≡ at_most_u64 (spec.value_octets value.now) }
 {
     let kind = value.kind.as_slice().len() as u64;
     let bytes = value.bytes.as_slice().len() as u64;
@@ -79,8 +80,8 @@ fn value_octets(value: &Value) -> u64
 }
 
 fn value_amount(value: &Value) -> Amount
-    ensures values { result.values ≡ capped (in_values.value value.now) }
-    ensures octets { result.octets ≡ capped (in_octets.value value.now) }
+    ensures values { result.values ≡ at_most_u64 (in_values.value value.now) }
+    ensures octets { result.octets ≡ at_most_u64 (in_octets.value value.now) }
 {
     Amount {
         values: 1,
@@ -90,8 +91,8 @@ fn value_amount(value: &Value) -> Amount
 
 /// What values count.
 pub(crate) fn values_amount(values: &[Value]) -> Amount
-    ensures values { result.values ≡ capped (sum_by in_values.value values.now) }
-    ensures octets { result.octets ≡ capped (sum_by in_octets.value values.now) }
+    ensures values { result.values ≡ at_most_u64 (sum_by in_values.value values.now) }
+    ensures octets { result.octets ≡ at_most_u64 (sum_by in_octets.value values.now) }
 {
     let mut sum = Amount::NONE;
     for value in values {
@@ -102,8 +103,8 @@ pub(crate) fn values_amount(values: &[Value]) -> Amount
 
 /// What a handle counts with these values.
 pub(crate) fn handle_amount(name: &[u8], values: &[Value]) -> Amount
-    ensures values { result.values ≡ capped (with_handle in_values name.now values.now) }
-    ensures octets { result.octets ≡ capped (with_handle in_octets name.now values.now) }
+    ensures values { result.values ≡ at_most_u64 (with_handle in_values name.now values.now) }
+    ensures octets { result.octets ≡ at_most_u64 (with_handle in_octets name.now values.now) }
 {
     let octets = ROW_OCTETS.saturating_add(name.len() as u64);
     values_amount(values).plus(Amount { values: 0, octets })
@@ -111,8 +112,8 @@ pub(crate) fn handle_amount(name: &[u8], values: &[Value]) -> Amount
 
 /// What the value at an index counts, nothing where there is none.
 fn amount_at(held: &[Value], index: u32) -> Amount
-    ensures values { result.values ≡ capped (spec.value_at in_values held.now index) }
-    ensures octets { result.octets ≡ capped (spec.value_at in_octets held.now index) }
+    ensures values { result.values ≡ at_most_u64 (spec.value_at in_values held.now index) }
+    ensures octets { result.octets ≡ at_most_u64 (spec.value_at in_octets held.now index) }
 {
     match value_with(held, index) {
         Some(value) => value_amount(value),
@@ -122,8 +123,8 @@ fn amount_at(held: &[Value], index: u32) -> Amount
 
 /// What those count that stand at these indexes.
 pub(crate) fn amount_of_indexes(held: &[Value], indexes: &[u32]) -> Amount
-    ensures values { result.values ≡ capped (values_at in_values held.now indexes.now) }
-    ensures octets { result.octets ≡ capped (values_at in_octets held.now indexes.now) }
+    ensures values { result.values ≡ at_most_u64 (values_at in_values held.now indexes.now) }
+    ensures octets { result.octets ≡ at_most_u64 (values_at in_octets held.now indexes.now) }
 {
     let mut sum = Amount::NONE;
     for index in indexes {
@@ -134,8 +135,8 @@ pub(crate) fn amount_of_indexes(held: &[Value], indexes: &[u32]) -> Amount
 
 /// What those count that stand at the indexes of these values.
 pub(crate) fn amount_of_replaced(held: &[Value], values: &[Value]) -> Amount
-    ensures values { result.values ≡ capped (values_at in_values held.now (indexes_of values.now)) }
-    ensures octets { result.octets ≡ capped (values_at in_octets held.now (indexes_of values.now)) }
+    ensures values { result.values ≡ at_most_u64 (values_at in_values held.now (indexes_of values.now)) }
+    ensures octets { result.octets ≡ at_most_u64 (values_at in_octets held.now (indexes_of values.now)) }
 {
     let mut sum = Amount::NONE;
     for value in values {

@@ -1,12 +1,12 @@
 //! The table.
 
 ghost use Rattle.std.specs.Prelude.{◌≡◌, ◌+◌, min, true, false, map, sum_by, is_some, is_ok, IfOk, OnOk, OnErr};
-ghost use Rattle.hdl_boundedrows.specs.Bounded.{are_permitted, none, settle, IsWithin};
+ghost use Rattle.hdl_boundedrows.specs.Bounded.{are_permitted, none, holding_after, IsWithin};
 ghost use Rattle.std.specs.List.{AllByRecursion};
 ghost use Rattle.hdl_boundedrows.specs.Amount.{with_handle, values_at};
 ghost use Rattle.hdl_name.specs.Name.{canonical, prefix};
 ghost use Rattle.hdl_value.specs.Refs.{place_of};
-ghost use Rattle.hdl_rows.specs.Table.{most, refusals_after, has, at, values_of, values_in, names_of, HaveTheirIndexes, created, with_values, without_values, without_handle, AreDistinct, AreAbsent, ArePresent, indexes};
+ghost use Rattle.hdl_rows.specs.Table.{most, refusals_after, has, at, values_of, values_in, names_of, HaveTheirIndexes, with_new_handle, with_values, without_values, without_handle, AreDistinct, AreAbsent, ArePresent, indexes};
 
 use crate::account::{Account, Accounts, Bound, Change};
 use crate::amount::{Amount, amount_of_indexes, amount_of_replaced, handle_amount, values_amount};
@@ -188,12 +188,12 @@ impl<R: Rows + Drop, A: Alarm + Drop> Rows for BoundedRows<R, A> {
     fn create(&mut self, name: &Name, values: &[Value]) -> Result<(), Refused>
         requires absent { has self.old.table (canonical name.now) ≡ false }
         requires distinct { AreDistinct (indexes values.now) }
-        ensures done { OnOk result (self.new.table ≡ created self.old.table (canonical name.now) values.now) }
+        ensures done { OnOk result (self.new.table ≡ with_new_handle self.old.table (canonical name.now) values.now) }
         ensures undone { OnErr result (self.new.table ≡ self.old.table) }
         ensures count { self.new.refused ≡ refusals_after result self.old.refused }
         ensures kept { OnErr result (self.new.holdings ≡ self.old.holdings) }
-        ensures settled { OnOk result (self.new.holdings ≡ map (settle (prefix name.now) (λ m. with_handle m (canonical name.now) values.now) none) self.old.holdings) }
-        ensures within { OnOk result (AllByRecursion (λ h. IsWithin (prefix name.now) h (settle (prefix name.now) (λ m. with_handle m (canonical name.now) values.now) none h)) self.old.holdings) }
+        ensures settled { OnOk result (self.new.holdings ≡ map (holding_after (prefix name.now) (λ m. with_handle m (canonical name.now) values.now) none) self.old.holdings) }
+        ensures within { OnOk result (AllByRecursion (λ h. IsWithin (prefix name.now) h (holding_after (prefix name.now) (λ m. with_handle m (canonical name.now) values.now) none h)) self.old.holdings) }
     {
         let prefix = name.prefix();
         if !self.accounts.count(prefix) {
@@ -223,8 +223,8 @@ impl<R: Rows + Drop, A: Alarm + Drop> Rows for BoundedRows<R, A> {
         ensures undone { OnErr result (self.new.table ≡ self.old.table) }
         ensures count { self.new.refused ≡ refusals_after result self.old.refused }
         ensures kept { OnErr result (self.new.holdings ≡ self.old.holdings) }
-        ensures settled { OnOk result (self.new.holdings ≡ map (settle (prefix name.now) (λ m. sum_by m.value values.now) none) self.old.holdings) }
-        ensures within { OnOk result (AllByRecursion (λ h. IsWithin (prefix name.now) h (settle (prefix name.now) (λ m. sum_by m.value values.now) none h)) self.old.holdings) }
+        ensures settled { OnOk result (self.new.holdings ≡ map (holding_after (prefix name.now) (λ m. sum_by m.value values.now) none) self.old.holdings) }
+        ensures within { OnOk result (AllByRecursion (λ h. IsWithin (prefix name.now) h (holding_after (prefix name.now) (λ m. sum_by m.value values.now) none h)) self.old.holdings) }
     {
         let prefix = name.prefix();
         if !self.accounts.count(prefix) {
@@ -254,8 +254,8 @@ impl<R: Rows + Drop, A: Alarm + Drop> Rows for BoundedRows<R, A> {
         ensures undone { OnErr result (self.new.table ≡ self.old.table) }
         ensures count { self.new.refused ≡ refusals_after result self.old.refused }
         ensures kept { OnErr result (self.new.holdings ≡ self.old.holdings) }
-        ensures settled { OnOk result (self.new.holdings ≡ map (settle (prefix name.now) (λ m. sum_by m.value values.now) (λ m. values_at m (values_of self.old.table (canonical name.now)) (indexes values.now))) self.old.holdings) }
-        ensures within { OnOk result (AllByRecursion (λ h. IsWithin (prefix name.now) h (settle (prefix name.now) (λ m. sum_by m.value values.now) (λ m. values_at m (values_of self.old.table (canonical name.now)) (indexes values.now)) h)) self.old.holdings) }
+        ensures settled { OnOk result (self.new.holdings ≡ map (holding_after (prefix name.now) (λ m. sum_by m.value values.now) (λ m. values_at m (values_of self.old.table (canonical name.now)) (indexes values.now))) self.old.holdings) }
+        ensures within { OnOk result (AllByRecursion (λ h. IsWithin (prefix name.now) h (holding_after (prefix name.now) (λ m. sum_by m.value values.now) (λ m. values_at m (values_of self.old.table (canonical name.now)) (indexes values.now)) h)) self.old.holdings) }
     {
         let prefix = name.prefix();
         if !self.accounts.count(prefix) {
@@ -286,7 +286,7 @@ impl<R: Rows + Drop, A: Alarm + Drop> Rows for BoundedRows<R, A> {
         ensures undone { OnErr result (self.new.table ≡ self.old.table) }
         ensures count { self.new.refused ≡ refusals_after result self.old.refused }
         ensures kept { OnErr result (self.new.holdings ≡ self.old.holdings) }
-        ensures settled { OnOk result (self.new.holdings ≡ map (settle (prefix name.now) none (λ m. values_at m (values_of self.old.table (canonical name.now)) indexes.now)) self.old.holdings) }
+        ensures settled { OnOk result (self.new.holdings ≡ map (holding_after (prefix name.now) none (λ m. values_at m (values_of self.old.table (canonical name.now)) indexes.now)) self.old.holdings) }
     {
         let prefix = name.prefix();
         if !self.accounts.count(prefix) {
@@ -308,7 +308,7 @@ impl<R: Rows + Drop, A: Alarm + Drop> Rows for BoundedRows<R, A> {
         ensures undone { OnErr result (self.new.table ≡ self.old.table) }
         ensures count { self.new.refused ≡ refusals_after result self.old.refused }
         ensures kept { OnErr result (self.new.holdings ≡ self.old.holdings) }
-        ensures settled { OnOk result (self.new.holdings ≡ map (settle (prefix name.now) none (λ m. with_handle m (canonical name.now) (values_of self.old.table (canonical name.now)))) self.old.holdings) }
+        ensures settled { OnOk result (self.new.holdings ≡ map (holding_after (prefix name.now) none (λ m. with_handle m (canonical name.now) (values_of self.old.table (canonical name.now)))) self.old.holdings) }
     {
         let prefix = name.prefix();
         if !self.accounts.count(prefix) {

@@ -10,7 +10,7 @@ use Rattle.hdl_reach.specs.Reach.{IsMask}
 use Rattle.hdl_reach.specs.Views.{mask_of}
 use Rattle.lru.specs.LruCache.{lru_cache, promoted}
 use Rattle.lru.proofs.CallerLemmas.{Contains-lookup, Contains-promoted, Contains-put_entries}
-use Rattle.hdl_cache.specs.Kept.{Subject, Kept, same_subject, with_mask, AreMasks}
+use Rattle.hdl_cache.specs.Masks.{Subject, Kept, same_subject, with_mask, AreMasks}
 
 -- what is asked for alike is the same
 alike : (a b : Subject) → same_subject a b ≡ true → a ≡ b

@@ -6,7 +6,7 @@ use Rattle.hdl_value.specs.declared.admin.AdminMask.{AdminMask}
 use Rattle.hdl_reach.specs.Views.{mask_of}
 use Rattle.lru.specs.LruCache.{LruCache, lru_cache, promoted, put_entries}
 use Rattle.hdl_cache.specs.declared.pair.Pair.{Pair}
-use Rattle.hdl_cache.specs.Kept.{Subject, Kept, same_subject, with_mask, subject_of, kept_in}
+use Rattle.hdl_cache.specs.Masks.{Subject, Kept, same_subject, with_mask, subject_of, kept_in}
 use Rattle.hdl_cache.proofs.Entries.{lookup-seen, promoted-seen, put-seen}
 
 -- the derived equality of pairs

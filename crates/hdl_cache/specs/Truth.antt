@@ -4,7 +4,7 @@ use Rattle.hdl_rows.specs.Table.{Table}
 use Rattle.hdl_reach.specs.Search.{IsSearch}
 pub use Rattle.hdl_reach.specs.Search.{AgreeBeside}
 use Rattle.hdl_cache.specs.declared.masks.Masks.{Masks}
-use Rattle.hdl_cache.specs.Kept.{AreMasks}
+use Rattle.hdl_cache.specs.Masks.{AreMasks}
 
 -- the masks that are kept, and the searches, are the table's
 abbrev pub AreTrue : Table → Masks → Type 0

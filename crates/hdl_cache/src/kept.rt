@@ -8,7 +8,7 @@ ghost use Rattle.hdl_rows.specs.Table.{Table};
 ghost use Rattle.hdl_reach.specs.Reach.{IsMask};
 ghost use Rattle.hdl_reach.specs.Views.{mask_of};
 ghost use Rattle.lru.specs.LruCache.{promoted};
-ghost use Rattle.hdl_cache.specs.Kept.{subject, is_subject, with_mask, AreMasks};
+ghost use Rattle.hdl_cache.specs.Masks.{subject, is_subject, with_mask, AreMasks};
 
 use crate::pair::Pair;
 use hdl_limits::MASKS_MAX;
@@ -29,7 +29,7 @@ pub struct KeptMasks {
 impl Model for KeptMasks {
     ghost use Rattle.std.specs.Prelude.{◌≡◌, List};
     ghost use Rattle.hdl_limits.specs.declared.TheConstants.{MASKS_MAX};
-    ghost use Rattle.hdl_cache.specs.Kept.{Kept, kept_in};
+    ghost use Rattle.hdl_cache.specs.Masks.{Kept, kept_in};
 
     ghost Value = { List Kept };
 

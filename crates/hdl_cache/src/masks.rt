@@ -72,7 +72,7 @@ impl Masks {
     }
 
     /// How many references the searches have seen.
-    fn seen(&self) -> usize {
+    fn references_seen(&self) -> usize {
         let mut seen: usize = 0;
         for search in &self.searches {
             seen = seen.saturating_add(search.references());
@@ -94,7 +94,7 @@ impl Masks {
     fn make_room_for(&mut self, references: usize)
         ensures { (t : Table) → AreTrue t self.old → AreTrue t self.new }
     {
-        if self.seen().saturating_add(references) <= SEEN {
+        if self.references_seen().saturating_add(references) <= SEEN {
             return;
         }
         self.searches.clear();

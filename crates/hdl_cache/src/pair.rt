@@ -3,7 +3,7 @@
 ghost use Rattle.std.specs.Prelude.{◌≡◌, IfOk};
 ghost use Rattle.hdl_name.specs.Name.{canonical};
 ghost use Rattle.hdl_value.specs.Refs.{place_of};
-ghost use Rattle.hdl_cache.specs.Kept.{subject, subject_of};
+ghost use Rattle.hdl_cache.specs.Masks.{subject, subject_of};
 
 use hdl_name::Name;
 use hdl_value::Reference;

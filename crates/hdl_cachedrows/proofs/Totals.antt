@@ -9,7 +9,8 @@ use Rattle.std.proofs.lemmas.Option.{slice_get-get_or}
 use Rattle.std.proofs.lemmas.List.Sums.{sum_by-cons}
 use Rattle.hdl_value.specs.declared.value.Value.{Value}
 use Rattle.lru.specs.LruCache.{lru_cache, IsValid, promoted, put_entries, displaced, last_entry}
-use Rattle.hdl_cachedrows.specs.Cost.{Entry, cost, entry_cost, total, capped}
+use Rattle.hdl_cachedrows.specs.Cost.{Entry, cost, entry_cost, total}
+use Rattle.hdl_limits.specs.Counts.{at_most_u64}
 use Rattle.hdl_cachedrows.proofs.Keys.{same_key, Kept}
 
 -- what an entry that is let go gives back
@@ -78,11 +79,11 @@ module _ (c : Kept) (k : Vec ℕ Global) (v : Vec Value Global) where
 
 -- what the count is once an entry was let go
 pub let_go : (o : Option Entry) (e : Entry) (h : List ℕ) (vs : List Value) (old rest paid : ℕ)
-    → old < 2 ^ 64 → rest + given o ≡ old → o ≡ Some e → h ≡ e.0.items → vs ≡ e.1.items → paid ≡ capped (cost h vs)
+    → old < 2 ^ 64 → rest + given o ≡ old → o ≡ Some e → h ≡ e.0.items → vs ≡ e.1.items → paid ≡ at_most_u64 (cost h vs)
     → (paid ≤ old) × (old - paid ≡ rest) × (0 < paid)
 let_go o e h vs old rest paid fits rests is name values pays =
     let back : given o ≡ entry_cost e = ap given is in
-    let pay : paid ≡ capped (entry_cost e) = subst (λ g. paid ≡ capped (cost g e.1.items)) name (subst (λ ws. paid ≡ capped (cost h ws)) values pays) in
+    let pay : paid ≡ at_most_u64 (entry_cost e) = subst (λ g. paid ≡ at_most_u64 (cost g e.1.items)) name (subst (λ ws. paid ≡ at_most_u64 (cost h ws)) values pays) in
     (omega arith, omega arith, omega arith)
 
 some_last : (e : Entry) (es : List Entry) → last_entry (e ∷ es) ≡ None → ⊥

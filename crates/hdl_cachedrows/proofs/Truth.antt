@@ -6,7 +6,7 @@ use Rattle.std.specs.Result.{result_ok}
 use Rattle.std.specs.Map.{keys_of, lookup, remove_entry}
 use Rattle.hdl_value.specs.declared.value.Value.{Value}
 use Rattle.hdl_rows.specs.Table.{Table, place, has, at, values_of, values_in, value_with, HaveTheirIndexes}
-use Rattle.hdl_rows.specs.Write.{Write, handle_of, written}
+use Rattle.hdl_rows.specs.Write.{Write, handle_of, after_write}
 use Rattle.hdl_rows.proofs.Writes.{other_handles_stay_lem}
 use Rattle.lru.specs.LruCache.{LruCache, lru_cache, promoted, put_entries}
 use Rattle.lru.proofs.CallerLemmas.{Contains-lookup, Contains-promoted, Contains-put_entries, Contains-take}
@@ -110,7 +110,7 @@ forgotten_true t u h es distinct all agree e there =
     record { there = on.0 ∙ of.there; found = of.found ∙ sym on.2; by_index = λ i. of.by_index i ∙ sym (on.1 i) }
 
 -- a write, done or refused, leaves what is answered at every other handle
-pub agree : {X E : Type 0} (r : Result X E) (w : Write) (t u : Table) → OnOk r (u ≡ written t w) → OnErr r (u ≡ t) → AgreeBut (handle_of w) t u
+pub agree : {X E : Type 0} (r : Result X E) (w : Write) (t u : Table) → OnOk r (u ≡ after_write t w) → OnErr r (u ≡ t) → AgreeBut (handle_of w) t u
 agree (Ok x) w t u done undone g other =
     subst (λ (s : Table). (has s g ≡ has t g) × ((i : ℕ) → at s (place g i) ≡ at t (place g i)) × (values_of s g ≡ values_of t g)) (sym done) (other_handles_stay_lem t w g other)
 agree (Err e) w t u done undone g other = (ap (λ (s : Table). has s g) undone, λ i. ap (λ (s : Table). at s (place g i)) undone, ap (λ (s : Table). values_of s g) undone)

@@ -1,5 +1,5 @@
 -- What keeping the values of a handle costs, in octets.
-use Rattle.std.specs.Prelude.{Vec, ℕ, ◌+◌, ◌-◌, ◌^◌, min, List, length, sum_by}
+use Rattle.std.specs.Prelude.{Vec, ℕ, ◌+◌, List, length, sum_by}
 use Rattle.std.specs.declared.alloc.Global.{Global}
 use Rattle.hdl_value.specs.declared.references.RawRef.{RawRef}
 use Rattle.hdl_value.specs.declared.value.Value.{Value}
@@ -27,7 +27,3 @@ entry_cost e = cost e.0.items e.1.items
 -- all that is kept
 abbrev pub total : List Entry → ℕ
 total es = sum_by entry_cost es
-
--- a number as a `usize`, whose greatest stands for all that are more
-abbrev pub capped : ℕ → ℕ
-capped n = min n (2 ^ 64 - 1)

@@ -3,7 +3,7 @@
 
 ghost use Rattle.std.specs.Prelude.{◌≡◌, sum_by};
 ghost use Rattle.hdl_cachedrows.specs.Cost as cost;
-ghost use Rattle.hdl_cachedrows.specs.Cost.{capped};
+ghost use Rattle.hdl_limits.specs.Counts.{at_most_u64};
 
 use hdl_value::{RawRef, Value};
 
@@ -18,7 +18,7 @@ const VALUE_COST: usize = 176;
 const REFERENCE_COST: usize = 64;
 
 fn references_cost(refs: &[RawRef]) -> usize
-    ensures { result ≡ capped (sum_by cost.reference_cost refs.now) }
+    ensures { result ≡ at_most_u64 (sum_by cost.reference_cost refs.now) }
 {
     let mut sum: usize = 0;
     for r in refs {
@@ -29,7 +29,7 @@ fn references_cost(refs: &[RawRef]) -> usize
 }
 
 fn value_cost(value: &Value) -> usize
-    ensures { result ≡ capped (cost.value_cost value.now) }
+    ensures { result ≡ at_most_u64 (cost.value_cost value.now) }
 {
     let kind = value.kind.as_slice().len();
     let bytes = value.bytes.as_slice().len();
@@ -42,7 +42,7 @@ fn value_cost(value: &Value) -> usize
 
 /// What a handle costs with these values.
 pub(crate) fn entry_cost(name: &[u8], values: &[Value]) -> usize
-    ensures { result ≡ capped (cost.cost name.now values.now) }
+    ensures { result ≡ at_most_u64 (cost.cost name.now values.now) }
 {
     let mut sum = HANDLE_COST.saturating_add(name.len());
     for value in values {

@@ -175,7 +175,7 @@ fn ask_with_key(rt: &HostRuntime, question: &Question) -> Result<u8, AskFault> {
 
 /// Asks, and prints the answer in words. Answers the exit status: 0 for code 1, 1 for another code, whose name is then on standard
 /// error, 2 for words that are no request, 3 where the server can't be reached or says nothing that can be read.
-pub fn ask(rt: &HostRuntime, question: &Question) -> u8 {
+pub fn run_question(rt: &HostRuntime, question: &Question) -> u8 {
     match ask_with_key(rt, question) {
         Ok(status) => status,
         Err(fault) => {

@@ -1,7 +1,7 @@
 //! What the program `hdl` does, but for its command line.
 //!
 //! ```text
-//! Question -> ask -> hdl_client -> a reply in words ([`words`])
+//! Question -> run_question -> hdl_client -> a reply in words ([`words`])
 //! octets -> explain -> the request, reply or value that they are, in words ([`words`])
 //! text of a batch -> read_batch -> Batch -> run_batch, or write_script -> the script that `handled` takes
 //! lines with values in words -> write_tenants -> lines of a tenants text
@@ -34,7 +34,7 @@ mod scripts;
 mod tenants;
 mod words;
 
-pub use asking::{Question, ask};
+pub use asking::{Question, run_question};
 pub use batch_text::{BatchFault, read_batch};
 pub use batches::run_batch_text;
 pub use fault::WordFault;

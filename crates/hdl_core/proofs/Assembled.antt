@@ -10,7 +10,7 @@ use Rattle.hdl_msg.specs.Message.{Content, SpellsRequest}
 use Rattle.hdl_msg.specs.Reply.{short_reply}
 use Rattle.hdl_pool.specs.declared.piece.Key.{Key}
 use Rattle.hdl_pool.specs.Partial.{Partial, key_of, piece_of, is_of}
-use Rattle.hdl_pool.specs.Taking.{Fate, made_whole, kept, ignored, displaced, so_far, grown, replace_partial, store_partial, begin_partial, settle_partial, take_piece, whole_message, free_partial}
+use Rattle.hdl_pool.specs.Taking.{Fate, made_whole, kept, ignored, displaced, so_far, after_piece, replace_partial, store_partial, begin_partial, store_if_kept, take_piece, whole_message, free_partial}
 use Rattle.hdl_rows.specs.Table.{Table}
 use Rattle.hdl_ops.specs.Admission.{request_algorithm}
 use Rattle.hdl_ops.specs.Decisions.{Decision, failure}
@@ -21,7 +21,7 @@ use Rattle.hdl_msg.specs.declared.replies.ReplyContent.TheVariants.{Empty}
 use Rattle.hdl_events.specs.declared.Outcome.TheVariants.{Reply, Silent}
 use Rattle.hdl_laws.specs.Lanes.{LaneState, fresh, with_partials}
 use Rattle.hdl_laws.specs.Tasks as tasks
-use Rattle.hdl_laws.specs.Tasks.{Received, Task, Ignore, Malformed, Unknown, Late, Ask, Redeem, is_late, redeemed, redeem_task, IsReading, IsResponseTask, IsRequestTask, IsContentTask, IsMessageTask, IsWholeTask}
+use Rattle.hdl_laws.specs.Tasks.{Received, Task, Ignore, Malformed, Unknown, Late, Ask, Redeem, is_late, without_challenge, redeem_task, IsReading, IsResponseTask, IsRequestTask, IsContentTask, IsMessageTask, IsWholeTask}
 use Rattle.hdl_laws.specs.Effects.{Effect, answer_effect, challenge_effect, ask_effect, Does}
 use Rattle.hdl_core.specs.declared.origin.Origin.{Origin}
 use Rattle.hdl_core.specs.Held.{Held, held_at, state_at, with_state}
@@ -112,9 +112,9 @@ module _ (hosts : List ℕ → Bool) (algorithms : List ℕ → Algorithm) (t : 
   redeems : (r : Content) (a : Response) (c : Pending) (o : Option Content) → SpellsRequest m.message r → response_of r.operation ≡ Some a → challenge_of s.challenges.challenges m.peer m.envelope.session ≡ Some c
       → IsReading (SpellsRequest c.message) o → (eff : Effect) → Does hosts algorithms t (redeem_task s m a c o) eff → Moved hosts algorithms t s p m eff
   redeems r a c None spells is there reading eff does = record {
-    task = Malformed m (redeemed (with_partials s p) m);
+    task = Malformed m (without_challenge (with_partials s p) m);
     is_task = found r a c None spells is there reading;
-    effect = record { outcome = Reply (short_reply 4 m.envelope); state = redeemed (with_partials s p) m; change = None };
+    effect = record { outcome = Reply (short_reply 4 m.envelope); state = without_challenge (with_partials s p) m; change = None };
     does = refl;
     outcome = sym (ap (λ (e : Effect). e.outcome) does);
     state = sym (ap (λ (e : Effect). with_partials e.state p) does);
@@ -123,13 +123,13 @@ module _ (hosts : List ℕ → Bool) (algorithms : List ℕ → Algorithm) (t : 
   }
   redeems r a c (Some q) spells is there reading eff does = by_time (is_late m c) refl does
     where
-      by_time : (b : Bool) → is_late m c ≡ b → Does hosts algorithms t (cond b (Late m q (algorithm_of c.digest) (redeemed s m)) (Redeem m q (record { response = a; nonce = c.nonce; digest = c.digest }) (redeemed s m))) eff → Moved hosts algorithms t s p m eff
+      by_time : (b : Bool) → is_late m c ≡ b → Does hosts algorithms t (cond b (Late m q (algorithm_of c.digest) (without_challenge s m)) (Redeem m q (record { response = a; nonce = c.nonce; digest = c.digest }) (without_challenge s m))) eff → Moved hosts algorithms t s p m eff
       by_time true late does =
-          replied (redeem_task (with_partials s p) m a c (Some q)) (algorithm_of c.digest) q (failure 405 Empty) (redeemed s m) (redeemed (with_partials s p) m) eff (found r a c (Some q) spells is there reading) refl refl does
-          (subst (λ b. Does hosts algorithms t (cond b (Late m q (algorithm_of c.digest) (redeemed (with_partials s p) m)) (Redeem m q (record { response = a; nonce = c.nonce; digest = c.digest }) (redeemed (with_partials s p) m))) (answer_effect (algorithm_of c.digest) (redeemed (with_partials s p) m) m q (failure 405 Empty))) (sym late) refl)
+          replied (redeem_task (with_partials s p) m a c (Some q)) (algorithm_of c.digest) q (failure 405 Empty) (without_challenge s m) (without_challenge (with_partials s p) m) eff (found r a c (Some q) spells is there reading) refl refl does
+          (subst (λ b. Does hosts algorithms t (cond b (Late m q (algorithm_of c.digest) (without_challenge (with_partials s p) m)) (Redeem m q (record { response = a; nonce = c.nonce; digest = c.digest }) (without_challenge (with_partials s p) m))) (answer_effect (algorithm_of c.digest) (without_challenge (with_partials s p) m) m q (failure 405 Empty))) (sym late) refl)
       by_time false late (d, decides, does) =
-          replied (redeem_task (with_partials s p) m a c (Some q)) (algorithm_of c.digest) q d (redeemed s m) (redeemed (with_partials s p) m) eff (found r a c (Some q) spells is there reading) refl refl does
-          (subst (λ b. Does hosts algorithms t (cond b (Late m q (algorithm_of c.digest) (redeemed (with_partials s p) m)) (Redeem m q (record { response = a; nonce = c.nonce; digest = c.digest }) (redeemed (with_partials s p) m))) (answer_effect (algorithm_of c.digest) (redeemed (with_partials s p) m) m q d)) (sym late) (d, decides, refl))
+          replied (redeem_task (with_partials s p) m a c (Some q)) (algorithm_of c.digest) q d (without_challenge s m) (without_challenge (with_partials s p) m) eff (found r a c (Some q) spells is there reading) refl refl does
+          (subst (λ b. Does hosts algorithms t (cond b (Late m q (algorithm_of c.digest) (without_challenge (with_partials s p) m)) (Redeem m q (record { response = a; nonce = c.nonce; digest = c.digest }) (without_challenge (with_partials s p) m))) (answer_effect (algorithm_of c.digest) (without_challenge (with_partials s p) m) m q d)) (sym late) (d, decides, refl))
 
   responded : (r : Content) (a : Response) (o : Option Pending) (k : Task) → SpellsRequest m.message r → response_of r.operation ≡ Some a → challenge_of s.challenges.challenges m.peer m.envelope.session ≡ o
       → IsResponseTask s m r a o k → (eff : Effect) → Does hosts algorithms t k eff → Moved hosts algorithms t s p m eff
@@ -160,7 +160,7 @@ stored_kept : (lane : List Partial) (key : Key) (more : Partial) → whole_messa
 stored_kept lane key more =
     pick (is_some (find (is_of key) lane)) (kept, replace_partial key more lane) (begin_partial lane more) refl (pick (nat_lt (length lane) 4) (kept, lane ++ more ∷ []) (displaced, drop 1 lane ++ more ∷ []) refl refl)
 
-whole_stays : (lane : List Partial) (key : Key) (f : Fate) (more : Partial) (message : List ℕ) → (settle_partial lane key f more).0 ≡ made_whole message → (settle_partial lane key f more).1 ≡ lane
+whole_stays : (lane : List Partial) (key : Key) (f : Fate) (more : Partial) (message : List ℕ) → (store_if_kept lane key f more).0 ≡ made_whole message → (store_if_kept lane key f more).1 ≡ lane
 whole_stays lane key kept more message is = absurd (not_whole (store_partial lane key more).0 message (stored_kept lane key more) is)
 whole_stays lane key (made_whole other) more message is = refl
 whole_stays lane key ignored more message is = refl
@@ -206,7 +206,7 @@ module _ (hosts : List ℕ → Bool) (algorithms : List ℕ → Algorithm) (t : 
       → lanes' ≡ with_state lanes number (with_partials (state_at lanes number) (take_piece (state_at lanes number).partials (piece_of m.peer bytes)).1) → lanes' ≡ lanes
   unchanged message lanes' is same =
       let piece = piece_of m.peer bytes in
-      let grew = grown (so_far here.partials piece) piece in
+      let grew = after_piece (so_far here.partials piece) piece in
       let stays : after.1 ≡ here.partials = whole_stays here.partials piece.key grew.0 grew.1 message (sym is) in
       same ∙ ap (λ p. with_state lanes number (with_partials here p)) stays ∙ sym (held_lanes.kept lanes number)
 

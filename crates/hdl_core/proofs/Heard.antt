@@ -22,13 +22,13 @@ use Rattle.hdl_ops.specs.Tables.{apply_if}
 use Rattle.hdl_ops.specs.Views.{hosted_by}
 use Rattle.hdl_events.specs.declared.Outcome.TheVariants.{Reply}
 use Rattle.hdl_laws.specs.Lanes.{LaneState}
-use Rattle.hdl_laws.specs.Tasks.{Task, Malformed, Unknown, Late, Ask, Redeem, is_late, redeemed, redeem_task, IsResponseTask, IsRequestTask, IsMessageTask}
+use Rattle.hdl_laws.specs.Tasks.{Task, Malformed, Unknown, Late, Ask, Redeem, is_late, without_challenge, redeem_task, IsResponseTask, IsRequestTask, IsMessageTask}
 use Rattle.hdl_laws.specs.Effects.{answer_octets, challenge_octets, Effect, pending, answer_effect, challenge_effect, Does}
 use Rattle.hdl_core.specs.declared.origin.Origin.{Origin}
 use Rattle.hdl_core.specs.declared.hearing.Heard.{Heard}
 use Rattle.hdl_core.specs.declared.hearing.Heard.TheVariants.{Answered, Challenged}
 use Rattle.hdl_core.specs.Held.{Held, state_at, with_state}
-use Rattle.hdl_core.specs.Serving.{Context, Scene, message_as, IsAsked, Replies, IsRedeemed, RespondsAt, HearsAt}
+use Rattle.hdl_core.specs.Serving.{Context, Scene, message_as, IsHeardForAnyone, Replies, IsRedeemed, RespondsAt, HearsAt}
 use Rattle.hdl_core.proofs.HeldLanes.{kept}
 
 pub on_ok : {X E : Type 0} (r : Result X E) (P S : X → Type 0) → ((x : X) → P x → S x) → IfOk r P → IfOk r S
@@ -67,11 +67,11 @@ module _ (hosts : List ℕ → Bool) (algorithms : List ℕ → Algorithm) (t : 
   -- ---- a challenge response
 
   pub unreadable : (a : Response) (p : Pending) (octets : List ℕ) → ((r : Content) → SpellsRequest p.message r → ⊥) → octets ≡ short_reply 4 m.envelope → IsRedeemed context m a p octets t
-  unreadable a p octets none is = λ s message. (None, none, garbled (redeemed s (message_as m message)) message octets is)
+  unreadable a p octets none is = λ s message. (None, none, garbled (without_challenge s (message_as m message)) message octets is)
 
   pub late : (a : Response) (p : Pending) (r : Content) (g : Algorithm) (octets : List ℕ) → g ≡ algorithm_of p.digest → SpellsRequest p.message r → ((message : List ℕ) → true ≡ is_late (message_as m message) p) → IsTold g m r 405 octets → IsRedeemed context m a p octets t
   late a p r g octets hash spells after is = λ s message.
-      let s' = redeemed s (message_as m message) in
+      let s' = without_challenge s (message_as m message) in
       let proof : Proof = record { response = a; nonce = p.nonce; digest = p.digest } in (
         Some r,
         spells,
@@ -82,7 +82,7 @@ module _ (hosts : List ℕ → Bool) (algorithms : List ℕ → Algorithm) (t : 
       → Decides hosts g t r (Proven (record { response = a; nonce = p.nonce; digest = p.digest })) d → octets ≡ answer_octets g m.envelope r d.code d.content → t' ≡ apply_if t m.moment d.change
       → IsRedeemed context m a p octets t'
   proven a p r g d octets t' hash spells in_time decided is table = λ s message.
-      let s' = redeemed s (message_as m message) in
+      let s' = without_challenge s (message_as m message) in
       let proof : Proof = record { response = a; nonce = p.nonce; digest = p.digest } in (
         Some r,
         spells,
@@ -107,11 +107,11 @@ module _ (hosts : List ℕ → Bool) (algorithms : List ℕ → Algorithm) (t : 
     )
 
     pub known : (r : Content) (a : Response) (p : Pending) (octets : List ℕ) (lanes' : List Held) (t' : Table) → Some p ≡ challenge_of (state_at lanes number).challenges.challenges m.peer m.envelope.session
-        → IsRedeemed context m a p octets t' → lanes' ≡ with_state lanes number (redeemed (state_at lanes number) (message_as m [])) → RespondsAt scene number (record { origin = m; request = r; response = a }) octets lanes' t'
+        → IsRedeemed context m a p octets t' → lanes' ≡ with_state lanes number (without_challenge (state_at lanes number) (message_as m [])) → RespondsAt scene number (record { origin = m; request = r; response = a }) octets lanes' t'
     known r a p octets lanes' t' found redeem spent = λ message.
         let done = redeem (state_at lanes number) message in
         let k = redeem_task (state_at lanes number) (message_as m message) a p done.0 in (
-          redeemed (state_at lanes number) (message_as m message),
+          without_challenge (state_at lanes number) (message_as m message),
           spent,
           k,
           subst (λ o. IsResponseTask (state_at lanes number) (message_as m message) r a o k) found (done.0, done.1, refl),
@@ -134,9 +134,9 @@ module _ (hosts : List ℕ → Bool) (algorithms : List ℕ → Algorithm) (t : 
     asking message r spells is = (Some r, spells, subst (λ o. IsRequestTask (state_at lanes number) (message_as m message) r o (Ask (message_as m message) r (state_at lanes number))) is refl)
 
     pub answered : (message : List ℕ) (r : Content) (octets : List ℕ) (t' : Table) (asked : Heard) (next : ℕ) → SpellsRequest message r → None ≡ response_of r.operation → asked ≡ Answered octets
-        → IsAsked context m next r asked t' → HearsAt scene number (message_as m message) octets lanes t'
+        → IsHeardForAnyone context m next r asked t' → HearsAt scene number (message_as m message) octets lanes t'
     answered message r octets t' asked next spells is same done =
-        let d = subst (λ (x : Heard). IsAsked context m next r x t') same done in
+        let d = subst (λ (x : Heard). IsHeardForAnyone context m next r x t') same done in
         let m' = message_as m message in
         let here = state_at lanes number in (
           here,
@@ -149,11 +149,11 @@ module _ (hosts : List ℕ → Bool) (algorithms : List ℕ → Algorithm) (t : 
         )
 
     pub challenges : (message : List ℕ) (r : Content) (octets : List ℕ) (digest : Digest) (t' : Table) (lanes' : List Held) (asked : Heard) (next : ℕ) → SpellsRequest message r → None ≡ response_of r.operation → asked ≡ Challenged octets digest
-        → next ≡ (state_at lanes number).challenges.next → IsAsked context m next r asked t'
+        → next ≡ (state_at lanes number).challenges.next → IsHeardForAnyone context m next r asked t'
         → lanes' ≡ with_state lanes number (record { is_open = (state_at lanes number).is_open; partials = (state_at lanes number).partials; challenges = add_challenge (state_at lanes number).challenges (record { peer = m.peer; moment = m.moment; nonce = m.nonce; digest = digest; message = message }) })
         → HearsAt scene number (message_as m message) octets lanes' t'
     challenges message r octets digest t' lanes' asked next spells is same numbered done put =
-        let d = subst (λ (x : Heard). IsAsked context m next r x t') same done in
+        let d = subst (λ (x : Heard). IsHeardForAnyone context m next r x t') same done in
         let m' = message_as m message in
         let here = state_at lanes number in
         let sent : LaneState = record { is_open = here.is_open; partials = here.partials; challenges = add_challenge here.challenges (pending (request_algorithm algorithms r) m' r) } in (

@@ -7,7 +7,7 @@ use Rattle.hdl_slots.specs.Lanes as slots
 use Rattle.hdl_slots.specs.Lanes.{lane_at}
 use Rattle.hdl_laws.specs.Lanes.{LaneState, fresh, with_partials}
 use Rattle.hdl_core.specs.declared.lane.Lane.{Lane}
-use Rattle.hdl_core.specs.Held.{Held, held, held_lanes, held_at, state_at, with_state}
+use Rattle.hdl_core.specs.Held.{Held, held_lane, held_lanes, held_at, state_at, with_state}
 use Rattle.hdl_core.specs.Opening.{closed_lanes}
 
 abbrev Pools : Type 0
@@ -16,11 +16,11 @@ Pools = List (List Partial)
 abbrev Challenges : Type 0
 Challenges = List slots.LaneState
 
-pub length-held : (lanes : List Lane) (ps : Pools) (cs : Challenges) → length lanes ≤ length ps → length lanes ≤ length cs → length (held_lanes lanes ps cs) ≡ length lanes
-length-held [] ps cs few less = refl
-length-held (lane ∷ lanes) [] cs few less = absurd (omega (arith, few))
-length-held (lane ∷ lanes) (p ∷ ps) [] few less = absurd (omega (arith, less))
-length-held (lane ∷ lanes) (p ∷ ps) (c ∷ cs) few less = ap suc (length-held lanes ps cs (omega (arith, few)) (omega (arith, less)))
+pub length-held_lanes : (lanes : List Lane) (ps : Pools) (cs : Challenges) → length lanes ≤ length ps → length lanes ≤ length cs → length (held_lanes lanes ps cs) ≡ length lanes
+length-held_lanes [] ps cs few less = refl
+length-held_lanes (lane ∷ lanes) [] cs few less = absurd (omega (arith, few))
+length-held_lanes (lane ∷ lanes) (p ∷ ps) [] few less = absurd (omega (arith, less))
+length-held_lanes (lane ∷ lanes) (p ∷ ps) (c ∷ cs) few less = ap suc (length-held_lanes lanes ps cs (omega (arith, few)) (omega (arith, less)))
 
 -- no more lanes are held than there are
 few_held : (lanes : List Lane) (ps : Pools) (cs : Challenges) (n : ℕ) → n < length (held_lanes lanes ps cs) → n < length lanes
@@ -31,7 +31,7 @@ few_held (lane ∷ lanes) (p ∷ ps) (c ∷ cs) zero h = omega arith
 few_held (lane ∷ lanes) (p ∷ ps) (c ∷ cs) (suc n) h = let rest = few_held lanes ps cs n (omega (arith, h)) in omega (arith, rest)
 
 held_of : (lanes : List Lane) (ps : Pools) (cs : Challenges) (n : ℕ) (d : Lane) → length lanes ≤ length ps → length lanes ≤ length cs → n < length lanes
-    → held_at (held_lanes lanes ps cs) n ≡ held (get_or lanes n d) (pool.lane_at ps n) (lane_at cs n)
+    → held_at (held_lanes lanes ps cs) n ≡ held_lane (get_or lanes n d) (pool.lane_at ps n) (lane_at cs n)
 held_of [] ps cs n d few less h = absurd (omega (arith, h))
 held_of (lane ∷ lanes) [] cs n d few less h = absurd (omega (arith, few))
 held_of (lane ∷ lanes) (p ∷ ps) [] n d few less h = absurd (omega (arith, less))
@@ -39,12 +39,12 @@ held_of (lane ∷ lanes) (p ∷ ps) (c ∷ cs) zero d few less h = refl
 held_of (lane ∷ lanes) (p ∷ ps) (c ∷ cs) (suc n) d few less h = held_of lanes ps cs n d (omega (arith, few)) (omega (arith, less)) (omega (arith, h))
 
 held_set : (lanes : List Lane) (ps : Pools) (cs : Challenges) (n : ℕ) (lane : Lane) (p : List Partial) (c : slots.LaneState) → length lanes ≤ length ps → length lanes ≤ length cs → n < length lanes
-    → held_lanes (set lanes n lane) (set ps n p) (set cs n c) ≡ set (held_lanes lanes ps cs) n (held lane p c)
+    → held_lanes (set lanes n lane) (set ps n p) (set cs n c) ≡ set (held_lanes lanes ps cs) n (held_lane lane p c)
 held_set [] ps cs n lane p c few less h = absurd (omega (arith, h))
 held_set (x ∷ lanes) [] cs n lane p c few less h = absurd (omega (arith, few))
 held_set (x ∷ lanes) (y ∷ ps) [] n lane p c few less h = absurd (omega (arith, less))
 held_set (x ∷ lanes) (y ∷ ps) (z ∷ cs) zero lane p c few less h = refl
-held_set (x ∷ lanes) (y ∷ ps) (z ∷ cs) (suc n) lane p c few less h = ap (λ rest. held x y z ∷ rest) (held_set lanes ps cs n lane p c (omega (arith, few)) (omega (arith, less)) (omega (arith, h)))
+held_set (x ∷ lanes) (y ∷ ps) (z ∷ cs) (suc n) lane p c few less h = ap (λ rest. held_lane x y z ∷ rest) (held_set lanes ps cs n lane p c (omega (arith, few)) (omega (arith, less)) (omega (arith, h)))
 
 -- nothing is written
 pub kept : (lanes : List Held) (n : ℕ) → lanes ≡ with_state lanes n (state_at lanes n)
@@ -53,7 +53,7 @@ kept lanes n = sym (set-get_or lanes n _)
 pub closed : (lanes : List Lane) (n : ℕ) → length lanes ≤ n → held_lanes lanes (replicate n []) (replicate n slots.fresh) ≡ closed_lanes lanes
 closed [] n h = refl
 closed (lane ∷ lanes) zero h = absurd (omega (arith, h))
-closed (lane ∷ lanes) (suc n) h = ap (λ rest. held lane [] slots.fresh ∷ rest) (closed lanes n (omega (arith, h)))
+closed (lane ∷ lanes) (suc n) h = ap (λ rest. held_lane lane [] slots.fresh ∷ rest) (closed lanes n (omega (arith, h)))
 
 -- ---- the lanes as contracts see them
 
@@ -73,7 +73,7 @@ module _ (t : List Held) (lanes : List Lane) (ps : Pools) (cs : Challenges) (n :
   pub within : n < 64
   within = let lane = inside in omega (arith, lane, few)
 
-  here : (d : Lane) → held (get_or lanes n d) (pool.lane_at ps n) (lane_at cs n) ≡ held_at t n
+  here : (d : Lane) → held_lane (get_or lanes n d) (pool.lane_at ps n) (lane_at cs n) ≡ held_at t n
   here d = sym (held_of lanes ps cs n d room more_room inside) ∙ ap (λ (hs : List Held). held_at hs n) view
 
   pub publisher_is : (d : Lane) → (get_or lanes n d).publisher ≡ (held_at t n).publisher

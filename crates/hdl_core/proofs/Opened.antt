@@ -13,13 +13,13 @@ use Rattle.hdl_name.specs.Name.{canonical}
 use Rattle.hdl_value.specs.declared.value.Value.{Value}
 use Rattle.hdl_value.specs.Place.{Place, handle_cmp, place_cmp, same_handle, same_place}
 use Rattle.hdl_value.proofs.Places.{handle_total, handle_antisymmetric, place_total, place_antisymmetric, handles_equal, places_equal, insert_member}
-use Rattle.hdl_rows.specs.Table.{Table, has, at, created, with_values}
+use Rattle.hdl_rows.specs.Table.{Table, has, at, with_new_handle, with_values}
 use Rattle.hdl_tenants.specs.Register as register
 use Rattle.hdl_tenants.specs.Register.{Register, Publisher, Row, place, lane_count, owner_among, AreDistinct, IsRegister}
 use Rattle.hdl_laws.specs.Lanes.{fresh}
 use Rattle.hdl_laws.specs.Worlds.{owner, lane_of}
 use Rattle.hdl_core.specs.declared.lane.Lane.{Lane}
-use Rattle.hdl_core.specs.Held.{Held, held}
+use Rattle.hdl_core.specs.Held.{Held, held_lane}
 use Rattle.hdl_core.specs.Worlds.{world_of}
 use Rattle.hdl_slots.specs.Lanes as slots
 use Rattle.hdl_core.specs.Opening.{entry_of, opening_table, with_row, first_lanes, closed_lanes, IsOpening, IsResumed}
@@ -27,7 +27,7 @@ use Rattle.hdl_core.proofs.Places.{owner_of, lane_of_world}
 
 -- ---- one row
 
-pub row_created : (t : Table) (name : List ℕ) (v : Value) → created t (canonical name) (v ∷ []) ≡ with_row t (name, v)
+pub row_created : (t : Table) (name : List ℕ) (v : Value) → with_new_handle t (canonical name) (v ∷ []) ≡ with_row t (name, v)
 row_created t name v = refl
 
 pub row_added : (t : Table) (name : List ℕ) (v : Value) → has t (canonical name) ≡ true → with_values t (canonical name) (v ∷ []) ≡ with_row t (name, v)
@@ -130,8 +130,8 @@ owner_within (p ∷ ps) l h = elim (cases_lt l p.lanes) [
       (rest.0 + 1, rw fails (ap (option_map (λ (k : ℕ). k + 1)) rest.1))
 ]
 
-within_map : (lanes : List Lane) (l : ℕ) → slice_get (closed_lanes lanes) l ≡ option_map (λ (x : Lane). held x [] slots.fresh) (slice_get lanes l)
-within_map lanes l = slice_get-map (λ (x : Lane). held x [] slots.fresh) lanes l
+within_map : (lanes : List Lane) (l : ℕ) → slice_get (closed_lanes lanes) l ≡ option_map (λ (x : Lane). held_lane x [] slots.fresh) (slice_get lanes l)
+within_map lanes l = slice_get-map (λ (x : Lane). held_lane x [] slots.fresh) lanes l
 
 module _ (r : Register) (t : Table) where
   abbrev count : ℕ
@@ -140,11 +140,11 @@ module _ (r : Register) (t : Table) where
   abbrev lanes : List Held
   lanes = closed_lanes (first_lanes r count)
 
-  there : (l : ℕ) → l < count → slice_get lanes l ≡ Some (held (closed r l) [] slots.fresh)
-  there l within = within_map (first_lanes r count) l ∙ ap (option_map (λ (x : Lane). held x [] slots.fresh)) (lane_within r count l within)
+  there : (l : ℕ) → l < count → slice_get lanes l ≡ Some (held_lane (closed r l) [] slots.fresh)
+  there l within = within_map (first_lanes r count) l ∙ ap (option_map (λ (x : Lane). held_lane x [] slots.fresh)) (lane_within r count l within)
 
   none : (l : ℕ) → count ≤ l → slice_get lanes l ≡ None
-  none l past = within_map (first_lanes r count) l ∙ ap (option_map (λ (x : Lane). held x [] slots.fresh)) (lane_past r count l past)
+  none l past = within_map (first_lanes r count) l ∙ ap (option_map (λ (x : Lane). held_lane x [] slots.fresh)) (lane_past r count l past)
 
   owners : (l : ℕ) → owner (world_of r lanes t).site l ≡ register.owner r l
   owners l = owner_of r lanes t l ∙ elim (cases_lt l count) [

@@ -16,7 +16,7 @@ use Rattle.hdl_laws.specs.Worlds.{owner, lane_of}
 use Rattle.hdl_laws.specs.Effects.{Effect}
 use Rattle.hdl_laws.specs.Steps.{after_effect, moment_of}
 use Rattle.hdl_core.specs.Held.{Held}
-use Rattle.hdl_core.specs.Worlds.{numbered, by_place, world_of}
+use Rattle.hdl_core.specs.Worlds.{with_numbers, by_place, world_of}
 
 same_number : (a b : ℕ) → a ≡ b → (a == b) ≡ true
 same_number a b e = grind (arith, nat_tests)
@@ -24,15 +24,15 @@ same_number a b e = grind (arith, nat_tests)
 other_number : (a b : ℕ) → (a ≡ b → ⊥) → (a == b) ≡ false
 other_number a b f = grind (arith, nat_tests)
 
-find_numbered : {X : Type 0} (n : ℕ) (xs : List X) (q p : ℕ) → p ≡ n + q → find nat_cmp p (numbered n xs) ≡ slice_get xs q
+find_numbered : {X : Type 0} (n : ℕ) (xs : List X) (q p : ℕ) → p ≡ n + q → find nat_cmp p (with_numbers n xs) ≡ slice_get xs q
 find_numbered n [] q p e = refl
-find_numbered n (x ∷ xs) zero p e = ap (λ b. cond b (Some x) (find nat_cmp p (numbered (n + 1) xs))) (unsigned_tied p n ∙ same_number p n (omega arith))
+find_numbered n (x ∷ xs) zero p e = ap (λ b. cond b (Some x) (find nat_cmp p (with_numbers (n + 1) xs))) (unsigned_tied p n ∙ same_number p n (omega arith))
 find_numbered n (x ∷ xs) (suc q) p e =
-    ap (λ b. cond b (Some x) (find nat_cmp p (numbered (n + 1) xs))) (unsigned_tied p n ∙ other_number p n (λ (f : p ≡ n). omega arith))
+    ap (λ b. cond b (Some x) (find nat_cmp p (with_numbers (n + 1) xs))) (unsigned_tied p n ∙ other_number p n (λ (f : p ≡ n). omega arith))
     ∙ find_numbered (n + 1) xs q p (omega arith)
 
 pub get-by_place : {X : Type 0} (xs : List X) (q : ℕ) → map.get (by_place xs) q ≡ slice_get xs q
-get-by_place xs q = map.get-from_entries nat_cmp_total (numbered 0 xs) q ∙ find_numbered 0 xs q q (omega arith)
+get-by_place xs q = map.get-from_entries nat_cmp_total (with_numbers 0 xs) q ∙ find_numbered 0 xs q q (omega arith)
 
 same_test : (q l : ℕ) → (q == l) ≡ (suc q == suc l)
 same_test q l = grind (arith, nat_tests)

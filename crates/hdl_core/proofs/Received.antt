@@ -18,7 +18,7 @@ use Rattle.hdl_laws.specs.Reveals.{IsReadable}
 use Rattle.hdl_laws.specs.Tasks as tasks
 use Rattle.hdl_laws.specs.Tasks.{Received, Task, Ignore, Break, IsFrameTask, IsOctetsTask}
 use Rattle.hdl_laws.specs.Effects.{Effect}
-use Rattle.hdl_laws.specs.Steps.{arrived}
+use Rattle.hdl_laws.specs.Steps.{happening_of}
 use Rattle.hdl_core.specs.declared.origin.Origin.{Origin}
 use Rattle.hdl_core.specs.Held.{Held, state_at, with_state}
 use Rattle.std.specs.Prelude.{IfOk, IfSome, OnErr}
@@ -116,12 +116,12 @@ module _ (hosts : List ℕ → Bool) (algorithms : List ℕ → Algorithm) (t : 
           ),
         )
 
-    pub unheard : (x : Received) → what ≡ arrived x → (state_at lanes number).is_open ≡ false → ServesAt scene number what Silent lanes t
+    pub unheard : (x : Received) → what ≡ happening_of x → (state_at lanes number).is_open ≡ false → ServesAt scene number what Silent lanes t
     unheard x e up =
         let s = state_at lanes number in
         silent s lanes (subst (λ w. tasks.IsTask s w (Ignore s)) (sym e) (when_false s.is_open _ _ up refl)) (kept lanes number)
 
-    pub received : (x : Received) (o : Outcome) (lanes' : List Held) (t' : Table) → what ≡ arrived x → (state_at lanes number).is_open ≡ true → ReceivesAt scene number x o lanes' t' → ServesAt scene number what o lanes' t'
+    pub received : (x : Received) (o : Outcome) (lanes' : List Held) (t' : Table) → what ≡ happening_of x → (state_at lanes number).is_open ≡ true → ReceivesAt scene number x o lanes' t' → ServesAt scene number what o lanes' t'
     received x o lanes' t' e up (s', after, inl a) =
         let s = state_at lanes number in
         subst (λ w. ServesAt scene number w o lanes' t') (sym e) (s', after, inl (a.0, a.1, when_true s.is_open _ _ up a.2, a.3, a.4, a.5, a.6))

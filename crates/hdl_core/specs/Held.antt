@@ -10,14 +10,14 @@ pub record Held : Type 0 where
   pub state : LaneState
 
 -- a lane, its partial messages and its challenges
-abbrev pub held : Lane → List Partial → slots.LaneState → Held
-held lane partials challenges = record { publisher = lane.publisher; state = record { is_open = lane.is_open; partials = partials; challenges = challenges } }
+abbrev pub held_lane : Lane → List Partial → slots.LaneState → Held
+held_lane lane partials challenges = record { publisher = lane.publisher; state = record { is_open = lane.is_open; partials = partials; challenges = challenges } }
 
 abbrev pub held_lanes : List Lane → List (List Partial) → List slots.LaneState → List Held
 held_lanes [] pool all = []
 held_lanes (lane ∷ lanes) [] all = []
 held_lanes (lane ∷ lanes) (partials ∷ pool) [] = []
-held_lanes (lane ∷ lanes) (partials ∷ pool) (challenges ∷ all) = held lane partials challenges ∷ held_lanes lanes pool all
+held_lanes (lane ∷ lanes) (partials ∷ pool) (challenges ∷ all) = held_lane lane partials challenges ∷ held_lanes lanes pool all
 
 -- what is held of the lane with this number
 abbrev pub held_at : List Held → ℕ → Held

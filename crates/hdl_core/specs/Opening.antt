@@ -13,7 +13,7 @@ use Rattle.hdl_laws.specs.Lanes.{fresh}
 use Rattle.hdl_laws.specs.Worlds.{World, owner, lane_of}
 use Rattle.hdl_slots.specs.Lanes as slots
 use Rattle.hdl_core.specs.declared.lane.Lane.{Lane}
-use Rattle.hdl_core.specs.Held.{Held, held}
+use Rattle.hdl_core.specs.Held.{Held, held_lane}
 
 abbrev pub entry_of : Row → Place × Value
 entry_of row = (place row, row.1)
@@ -51,4 +51,4 @@ first_lanes r (suc n) = first_lanes r n ++ record { publisher = unwrap_or (regis
 
 -- lanes without partial messages and challenges
 abbrev pub closed_lanes : List Lane → List Held
-closed_lanes lanes = map (λ lane. held lane [] slots.fresh) lanes
+closed_lanes lanes = map (λ lane. held_lane lane [] slots.fresh) lanes

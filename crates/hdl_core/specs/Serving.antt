@@ -27,9 +27,9 @@ use Rattle.hdl_events.specs.declared.Happening.{Happening}
 use Rattle.hdl_events.specs.declared.Outcome.{Outcome}
 use Rattle.hdl_events.specs.declared.Outcome.TheVariants.{Reply, Busy, Silent}
 use Rattle.hdl_laws.specs.Tasks as tasks
-use Rattle.hdl_laws.specs.Tasks.{Task, IsReading, redeemed, redeem_task, IsResponseTask, IsTask, IsMessageTask, IsPieceTask, IsOctetsTask, Received}
+use Rattle.hdl_laws.specs.Tasks.{Task, IsReading, without_challenge, redeem_task, IsResponseTask, IsTask, IsMessageTask, IsPieceTask, IsOctetsTask, Received}
 use Rattle.hdl_laws.specs.Effects.{answer_octets, challenge_octets, Effect, Does}
-use Rattle.hdl_laws.specs.Steps.{arrived, moment_of}
+use Rattle.hdl_laws.specs.Steps.{happening_of, moment_of}
 use Rattle.hdl_laws.specs.Lanes.{LaneState}
 use Rattle.hdl_core.specs.declared.origin.Origin.{Origin}
 use Rattle.hdl_core.specs.declared.origin.Received as code
@@ -95,11 +95,11 @@ abbrev pub DecidesForAnyone : Context → Content → Decision → Type 0
 DecidesForAnyone x r d = Decides x.hosts (request_algorithm x.algorithms r) x.table r Anyone d
 
 -- a request is decided for anyone: it is answered, or challenged under the lane's next number
-abbrev pub IsAsked : Context → Origin → ℕ → Content → Heard → Table → Type 0
-IsAsked x m next r (Answered octets) t' =
+abbrev pub IsHeardForAnyone : Context → Origin → ℕ → Content → Heard → Table → Type 0
+IsHeardForAnyone x m next r (Answered octets) t' =
     (d : Decision) × DecidesForAnyone x r d × ((d.code == response_number AuthenticationNeeded) ≡ false)
     × (octets ≡ answer_octets (request_algorithm x.algorithms r) m.envelope r d.code d.content) × (t' ≡ apply_if x.table m.moment d.change)
-IsAsked x m next r (Challenged octets digest) t' =
+IsHeardForAnyone x m next r (Challenged octets digest) t' =
     (d : Decision) × DecidesForAnyone x r d × ((d.code == response_number AuthenticationNeeded) ≡ true)
     × (octets ≡ challenge_octets (request_algorithm x.algorithms r) next m.envelope r m.nonce) × (digest ≡ digest_of (request_algorithm x.algorithms r) r) × (t' ≡ x.table)
 
@@ -116,7 +116,7 @@ Replies x moment k octets s' t' =
 abbrev pub IsRedeemed : Context → Origin → Response → Pending → List ℕ → Table → Type 0
 IsRedeemed x m a p octets t' =
     (s : LaneState) (message : List ℕ) → (o : Option Content) × IsReading (SpellsRequest p.message) o
-    × Replies x m.moment (redeem_task s (message_as m message) a p o) octets (redeemed s (message_as m message)) t'
+    × Replies x m.moment (redeem_task s (message_as m message) a p o) octets (without_challenge s (message_as m message)) t'
 
 -- what was returned, as a task of a lane in this state
 abbrev pub IsReturnedTask : LaneState → Returned → List ℕ → Task → Type 0
@@ -171,7 +171,7 @@ IsAnswered x s what o s' t' =
 -- a frame on the open lane is refused, and the lane stays
 pub record IsTurnedDown (t : Table) (s : LaneState) (what : Happening) (o : Outcome) (s' : LaneState) (t' : Table) : Type 0 where
   pub received : Received
-  pub frame_event : what ≡ arrived received
+  pub frame_event : what ≡ happening_of received
   pub frame : IsFrame received.bytes
   pub is_open : s.is_open ≡ true
   pub outcome : o ≡ Busy (short_reply (response_number ServerBusy) (envelope_at received.bytes))

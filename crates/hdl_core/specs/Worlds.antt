@@ -8,12 +8,12 @@ use Rattle.hdl_laws.specs.Worlds.{World}
 use Rattle.hdl_core.specs.Held.{Held}
 
 -- the entries of a list by their places
-abbrev pub numbered : {X : Type 0} → ℕ → List X → List (ℕ × X)
-numbered n [] = []
-numbered n (x ∷ xs) = (n, x) ∷ numbered (n + 1) xs
+abbrev pub with_numbers : {X : Type 0} → ℕ → List X → List (ℕ × X)
+with_numbers n [] = []
+with_numbers n (x ∷ xs) = (n, x) ∷ with_numbers (n + 1) xs
 
 abbrev pub by_place : {X : Type 0} → List X → map.FinMap nat_cmp X
-by_place xs = map.from_entries (numbered 0 xs)
+by_place xs = map.from_entries (with_numbers 0 xs)
 
 -- the world of these publishers and prefixes, lanes and table
 unfoldable pub world_of : Register → List Held → Table → World

@@ -5,7 +5,7 @@ ghost use Rattle.hdl_msg.specs.Codes.{response_number};
 ghost use Rattle.hdl_msg.specs.Reply.{IsReplyFrame};
 ghost use Rattle.hdl_ops.specs.Views.{response_view};
 ghost use Rattle.hdl_laws.specs.Tasks.{is_late};
-ghost use Rattle.hdl_core.specs.Serving.{challenge_of_request, context, message_as, scene, sent_of, HasItsCode, IsAsked, IsRedeemed, RespondsAt, HearsAt};
+ghost use Rattle.hdl_core.specs.Serving.{challenge_of_request, context, message_as, scene, sent_of, HasItsCode, IsHeardForAnyone, IsRedeemed, RespondsAt, HearsAt};
 
 use crate::answering::{answer, code_reply, malformed_reply};
 use crate::lanes::Lanes;
@@ -54,14 +54,14 @@ fn is_challenged(decision: &Decision) -> bool
 }
 
 /// Decides a request for anyone. A challenge gets the lane's next number.
-fn ask<R: Masked>(
+fn hear_for_anyone<R: Masked>(
     owner: &Owner<'_>,
     rows: &mut R,
     origin: &Origin,
     next: u32,
     request: &Request<'_>,
 ) -> Result<Heard, Refused>
-    ensures asked { IfOk result (λ heard. IsAsked (context owner.now (R.content rows.old)) origin.now next request.now heard (R.content rows.new)) }
+    ensures asked { IfOk result (λ heard. IsHeardForAnyone (context owner.now (R.content rows.old)) origin.now next request.now heard (R.content rows.new)) }
     ensures read { IfOk result (λ heard. HasItsCode request.now → IsReplyFrame (sent_of heard)) }
     ensures undone { OnErr result (R.content rows.new ≡ R.content rows.old) }
 {
@@ -168,7 +168,7 @@ pub(crate) fn hear<R: Masked>(
         return respond(owner, rows, lanes, origin, &request, response);
     }
     let next = lanes.next_number(origin.lane);
-    match ask(owner, rows, origin, next, &request)? {
+    match hear_for_anyone(owner, rows, origin, next, &request)? {
         Heard::Answered(octets) => Ok(octets),
         Heard::Challenged(octets, digest) => {
             let nonce = origin.nonce;

@@ -28,7 +28,6 @@ mod origin;
 mod service;
 mod serving;
 
-pub use hdl_laws::{Event, Happening, Outcome};
 pub use hdl_ops::{Refused, Rows, Tenants};
 pub use opening::OpenFault;
 pub use service::{Early, Service};

@@ -7,8 +7,8 @@ ghost use Rattle.hdl_laws.specs.Reveals.{IsReadable, Reveals};
 
 use crate::lanes::Lanes;
 use crate::serving::serve;
+use hdl_events::{Event, Outcome};
 use hdl_laws::laws::{reply_told, restricted, runs_joined, twin_replies};
-use hdl_laws::{Event, Outcome};
 use hdl_ops::{MaskedRows, Owner, Rows, Tenants};
 use hdl_tenants::root_is_nobodys;
 use std::alloc::Global;

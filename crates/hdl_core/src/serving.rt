@@ -10,8 +10,8 @@ ghost use Rattle.hdl_core.specs.Serving.{AssemblesAt, outcome_of, received_as, r
 use crate::hearing::hear;
 use crate::lanes::Lanes;
 use crate::origin::{Origin, Received};
+use hdl_events::{Event, Happening, Outcome};
 use hdl_frame::{ENVELOPE_LEN, Envelope, Frame, one_datagram};
-use hdl_laws::{Event, Happening, Outcome};
 use hdl_limits::Octets;
 use hdl_msg::{busy, refuse};
 use hdl_ops::{Masked, Owner, Refused};

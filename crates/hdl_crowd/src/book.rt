@@ -4,7 +4,7 @@ ghost use Rattle.std.specs.Prelude.{◌≡◌, ◌≤◌, ◌<◌, ◌+◌, ◌�
 ghost use Rattle.slab.specs.Slab.{get, slab_len, Updates, SameValues};
 ghost use Rattle.hdl_frame.specs.Frames.{IsFrame};
 ghost use Rattle.hdl_limits.specs.declared.TheConstants.{PEERS_MAX};
-ghost use Rattle.hdl_trail.specs.Peers.{address_among, holds, reply_seen, settle_oldest, with_room};
+ghost use Rattle.hdl_trail.specs.Peers.{address_among, holds, reply_seen, finish_oldest, with_room};
 ghost use Rattle.hdl_crowd.specs.Book.{Goes, IsAt, IsNumberAt, Rests, SameBut};
 ghost use Rattle.hdl_crowd.specs.Joining.{said_of};
 ghost use Rattle.hdl_crowd.specs.Pace.{at_first};
@@ -175,7 +175,7 @@ impl Book {
 
     /// The reply to the oldest frame is whole, or there is none.
     pub fn end_reply(&mut self)
-        ensures peers { self.new.peers ≡ settle_oldest self.old.peers }
+        ensures peers { self.new.peers ≡ finish_oldest self.old.peers }
         ensures entries { self.new.entries ≡ self.old.entries }
         ensures last { self.new.last ≡ self.old.last }
     {

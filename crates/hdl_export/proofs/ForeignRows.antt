@@ -13,7 +13,7 @@ use Rattle.hdl_rows.specs.Table.{Table, at}
 use Rattle.hdl_tenants.specs.Register.{Row}
 use Rattle.hdl_reach.specs.Seen.{places}
 use Rattle.hdl_reach.proofs.Growth.{places_next}
-use Rattle.hdl_export.specs.Lines.{ended, text_of, value_line}
+use Rattle.hdl_export.specs.Lines.{with_line_end, text_of, value_line}
 use Rattle.hdl_export.specs.Rows.{is_among, foreign_at, foreign_rows}
 use Rattle.hdl_export.specs.Laws.{IsWritableRow}
 use Rattle.hdl_export.proofs.Feeds.{all_joined}
@@ -36,10 +36,10 @@ module _ (prefixes : List (List ℕ)) (t : Table) where
   pub none_writable : (p : Place) → is_among (prefix p.handle) prefixes ≡ true → AllByRecursion IsWritableRow (foreign_at prefixes t p)
   none_writable p own = rw (none_at p own) tt
 
-  pub puts_one : (p : Place) (v : Value) (handle old new : List ℕ) → handle ≡ p.handle → is_among (prefix p.handle) prefixes ≡ false → at t p ≡ Some v → new ≡ old ++ ended (value_line (handle, v))
+  pub puts_one : (p : Place) (v : Value) (handle old new : List ℕ) → handle ≡ p.handle → is_among (prefix p.handle) prefixes ≡ false → at t p ≡ Some v → new ≡ old ++ with_line_end (value_line (handle, v))
       → new ≡ old ++ text_of (map value_line (foreign_at prefixes t p))
   puts_one p v handle old new same foreign there put =
-      rw (one_at p v foreign there) (put ∙ ap (λ (octets : List ℕ). old ++ octets) (ap (λ (h : List ℕ). ended (value_line (h, v))) same ∙ sym (append-nil (ended (value_line (p.handle, v))))))
+      rw (one_at p v foreign there) (put ∙ ap (λ (octets : List ℕ). old ++ octets) (ap (λ (h : List ℕ). with_line_end (value_line (h, v))) same ∙ sym (append-nil (with_line_end (value_line (p.handle, v))))))
 
   pub one_writable : (p : Place) (v : Value) (handle : List ℕ) → handle ≡ p.handle → is_among (prefix p.handle) prefixes ≡ false → at t p ≡ Some v → IsWritableRow (handle, v)
       → AllByRecursion IsWritableRow (foreign_at prefixes t p)
@@ -57,7 +57,7 @@ module _ (prefixes : List (List ℕ)) (t : Table) where
       let done = foreign_rows prefixes t (places (take i rs)) in
       let more = foreign_at prefixes t (place_of r) in
       put ∙ ap (λ (octets : List ℕ). octets ++ text_of (map value_line more)) before ∙ append_assoc start (text_of (map value_line done)) (text_of (map value_line more))
-      ∙ ap (λ (octets : List ℕ). start ++ octets) (sym (flat_map-append ended (map value_line done) (map value_line more))
+      ∙ ap (λ (octets : List ℕ). start ++ octets) (sym (flat_map-append with_line_end (map value_line done) (map value_line more))
       ∙ ap text_of (sym (map-append {A = Row} {B = List ℕ} value_line done more)) ∙ ap (λ (rows : List Row). text_of (map value_line rows)) (sym (rows_next rs i r low is)))
 
   pub writable_next : (rs : List Reference) (i : ℕ) (r : Reference) → i < length rs → r ≡ get_or rs i r → AllByRecursion IsWritableRow (foreign_rows prefixes t (places (take i rs)))

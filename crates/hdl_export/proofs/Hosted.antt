@@ -4,7 +4,7 @@ use Rattle.std.specs.List.{slice_split, onto_first}
 use Rattle.std.proofs.lemmas.List.{append-nil, map-append}
 use Rattle.hdl_tenants.specs.Register.{Hosting, Register, empty, prefixes_of}
 use Rattle.hdl_tenants.specs.Lines.{fields_of}
-use Rattle.hdl_tenants.specs.Text.{Line, skipped, publisher, hosted, opened, IsLine, IsSkipped, AddsAll, added, place_of, IsAccepted}
+use Rattle.hdl_tenants.specs.Text.{Line, skipped, publisher, hosted, opened, IsLine, IsSkipped, AddsAll, register_after, place_of, IsAccepted}
 use Rattle.hdl_export.specs.Prefixes.{prefix_named}
 use Rattle.hdl_export.specs.Laws.{prefixes_in}
 
@@ -23,7 +23,7 @@ skipped_names_none (first ∷ rest) (inr at) =
     let same : first ≡ 35 = cc in
     rw same (none_onto (slice_split (λ b. b == 32) rest))
 
-line_names : (r : Register) (text : List ℕ) (line : Line) → IsLine text line → prefixes_of (added r line).hostings ≡ prefixes_of r.hostings ++ prefix_named (fields_of text)
+line_names : (r : Register) (text : List ℕ) (line : Line) → IsLine text line → prefixes_of (register_after r line).hostings ≡ prefixes_of r.hostings ++ prefix_named (fields_of text)
 line_names r text skipped is = sym (ap (λ (ps : List (List ℕ)). prefixes_of r.hostings ++ ps) (skipped_names_none text is) ∙ append-nil (prefixes_of r.hostings))
 line_names r text (publisher p) is = sym (ap (λ (fields : List (List ℕ)). prefixes_of r.hostings ++ prefix_named fields) is.split ∙ append-nil (prefixes_of r.hostings))
 line_names r text (hosted prefix name a) is =

@@ -7,7 +7,7 @@ use Rattle.std.proofs.lemmas.List.Elements.{Contains-append_cases, Contains-push
 use Rattle.std.proofs.lemmas.Slice.Eq.{bytes_eq-Decides}
 use Rattle.hdl_tenants.specs.Register.{Publisher, Hosting, Register, empty, names_of, hosts_among}
 use Rattle.hdl_tenants.specs.Lines.{fields_of}
-use Rattle.hdl_tenants.specs.Text.{Line, skipped, publisher, hosted, opened, IsLine, IsSkipped, IsAllowed, AddsAll, added, place_of, IsAccepted}
+use Rattle.hdl_tenants.specs.Text.{Line, skipped, publisher, hosted, opened, IsLine, IsSkipped, IsAllowed, AddsAll, register_after, place_of, IsAccepted}
 use Rattle.hdl_export.specs.Prefixes.{prefix_given}
 use Rattle.hdl_export.specs.Rows.{is_among}
 use Rattle.hdl_export.specs.Laws.{prefixes_for}
@@ -62,7 +62,7 @@ grows r s (text ∷ texts) h =
     let first = one_line r h.1.0 in
     (first.0 ++ later.0, later.1 ∙ ap (λ (ps : List Publisher). ps ++ later.0) (ap (λ (x : Register). x.publishers) h.1.3 ∙ first.1) ∙ append_assoc r.publishers first.0 later.0)
   where
-    one_line : (x : Register) (line : Line) → (more : List Publisher) × ((added x line).publishers ≡ x.publishers ++ more)
+    one_line : (x : Register) (line : Line) → (more : List Publisher) × ((register_after x line).publishers ≡ x.publishers ++ more)
     one_line x skipped = ([], sym (append-nil x.publishers))
     one_line x (publisher p) = (p ∷ [], refl)
     one_line x (hosted prefix name a) = ([], sym (append-nil x.publishers))
@@ -104,7 +104,7 @@ module _ (name q : List ℕ) (u : ℕ) where
   given_one false prefix = refl
 
   line_gives : (r : Register) (text : List ℕ) (line : Line) (more : List Publisher) → u ≡ place_of name (r.publishers ++ more) → IsLine text line → IsAllowed r line
-      → hosts_among (added r line).hostings u q ≡ (hosts_among r.hostings u q || is_among q (prefix_given name (fields_of text)))
+      → hosts_among (register_after r line).hostings u q ≡ (hosts_among r.hostings u q || is_among q (prefix_given name (fields_of text)))
   line_gives r text skipped more at is allowed = or_false (hosts_among r.hostings u q) ∙ ap (λ (ps : List (List ℕ)). hosts_among r.hostings u q || is_among q ps) (sym (skipped_gives_none name text is))
   line_gives r text (publisher p) more at is allowed = or_false (hosts_among r.hostings u q) ∙ ap (λ (fields : List (List ℕ)). hosts_among r.hostings u q || is_among q (prefix_given name fields)) (sym is.split)
   line_gives r text (opened handle v) more at is allowed = or_false (hosts_among r.hostings u q) ∙ ap (λ (fields : List (List ℕ)). hosts_among r.hostings u q || is_among q (prefix_given name fields)) (sym is.split)

@@ -5,7 +5,7 @@ use Rattle.std.specs.List.{AllByRecursion, slice_split, onto_first}
 use Rattle.std.specs.Str.Lines.{lines, lines_of_parts, strip_carriage_return}
 use Rattle.std.proofs.lemmas.List.{length-append}
 use Rattle.std.proofs.Math.Seq.{get_or-append_seam, take-append_seam}
-use Rattle.hdl_export.specs.Lines.{Lacks, ends_with_return, ended, text_of}
+use Rattle.hdl_export.specs.Lines.{Lacks, ends_with_return, with_line_end, text_of}
 
 -- the parts between octets that pass: there is a first one
 abbrev HasFirst : List (List ℕ) → Type 0
@@ -45,19 +45,19 @@ stripped line =
     let last : slice_index (line ++ 13 ∷ []) (length line) ≡ 13 = get_or-append_seam line 13 [] 0 in
     rw long (rw last (take-append_seam line (13 ∷ [])))
 
-first_line : (line rest : List ℕ) → Lacks 10 line → lines (ended line ++ rest) ≡ line ∷ lines rest
+first_line : (line rest : List ℕ) → Lacks 10 line → lines (with_line_end line ++ rest) ≡ line ∷ lines rest
 first_line line rest h = by (ends_with_return line) refl
   where
-    by : (b : Bool) → ends_with_return line ≡ b → lines (ended line ++ rest) ≡ line ∷ lines rest
+    by : (b : Bool) → ends_with_return line ≡ b → lines (with_line_end line ++ rest) ≡ line ∷ lines rest
     by true t =
-        let shape : ended line ++ rest ≡ (line ++ 13 ∷ []) ++ 10 ∷ rest = rw t (append_assoc line (13 ∷ 10 ∷ []) rest ∙ sym (append_assoc line (13 ∷ []) (10 ∷ rest))) in
+        let shape : with_line_end line ++ rest ≡ (line ++ 13 ∷ []) ++ 10 ∷ rest = rw t (append_assoc line (13 ∷ 10 ∷ []) rest ∙ sym (append_assoc line (13 ∷ []) (10 ∷ rest))) in
         let lacks = lacks_joined 10 line (13 ∷ []) h (refl, tt) in
         ap lines shape
         ∙ ap lines_of_parts (split_at 10 (line ++ 13 ∷ []) rest refl lacks)
         ∙ lines_of_first (line ++ 13 ∷ []) (slice_split (λ b. b == 10) rest) (split_has (λ b. b == 10) rest)
         ∙ ap (λ (l : List ℕ). l ∷ lines rest) (stripped line)
     by false t =
-        let shape : ended line ++ rest ≡ line ++ 10 ∷ rest = rw t (append_assoc line (10 ∷ []) rest) in
+        let shape : with_line_end line ++ rest ≡ line ++ 10 ∷ rest = rw t (append_assoc line (10 ∷ []) rest) in
         let kept : strip_carriage_return line ≡ line = rw t refl in
         ap lines shape
         ∙ ap lines_of_parts (split_at 10 line rest refl h)

@@ -10,7 +10,7 @@ use Rattle.hdl_value.specs.Spelling.{spelling}
 use Rattle.hdl_value.specs.Fault.{Begins}
 use Rattle.hdl_tenants.specs.Register.{Register, Row, empty}
 use Rattle.hdl_tenants.specs.Lines.{fields_of, IsValueText}
-use Rattle.hdl_tenants.specs.Text.{Line, skipped, publisher, hosted, opened, IsLine, IsSkipped, AddsAll, added, IsAccepted}
+use Rattle.hdl_tenants.specs.Text.{Line, skipped, publisher, hosted, opened, IsLine, IsSkipped, AddsAll, register_after, IsAccepted}
 use Rattle.hdl_tenants.proofs.Texts.{one_value, ok_is}
 use Rattle.hdl_tenants.proofs.Uniqueness.{one_register}
 use Rattle.hdl_export.specs.Lines.{value_line, is_other, IsWritable}
@@ -67,7 +67,7 @@ says_row row h line is = opened_of row.0 row.1 h.value line (says_value (value_l
 only : (r s : Register) (rows : List Row) → AllByRecursion IsWritableRow rows → AddsAll r (map value_line rows) s → s ≡ with_rows r (r.opening ++ rows)
 only r s [] w h = h ∙ sym (ap (with_rows r) (append-nil r.opening))
 only r s (row ∷ rows) w h =
-    let next : h.0 ≡ with_rows r (r.opening ++ row ∷ []) = h.1.3 ∙ ap (added r) (says_row row w.0 h.1.0 h.1.1) in
+    let next : h.0 ≡ with_rows r (r.opening ++ row ∷ []) = h.1.3 ∙ ap (register_after r) (says_row row w.0 h.1.0 h.1.1) in
     let later = only (with_rows r (r.opening ++ row ∷ [])) s rows w.1 (subst (λ (x : Register). AddsAll x (map value_line rows) s) next h.2) in
     later ∙ ap (with_rows r) (append_assoc r.opening (row ∷ []) rows)
 

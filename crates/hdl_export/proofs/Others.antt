@@ -5,7 +5,7 @@ use Rattle.std.specs.List.{join_with_byte}
 use Rattle.std.proofs.lemmas.List.Splits.{join_with_byte-slice_split}
 use Rattle.hdl_tenants.specs.Register.{Register}
 use Rattle.hdl_tenants.specs.Lines.{fields_of}
-use Rattle.hdl_tenants.specs.Text.{Line, skipped, publisher, hosted, opened, IsLine, IsAllowed, Adds, AddsAll, added}
+use Rattle.hdl_tenants.specs.Text.{Line, skipped, publisher, hosted, opened, IsLine, IsAllowed, Adds, AddsAll, register_after}
 use Rattle.hdl_export.specs.Lines.{is_other}
 use Rattle.hdl_export.specs.Laws.{with_rows}
 
@@ -26,7 +26,7 @@ kept_step r s line texts t false e step same later = rw e (subst (λ (x : Regist
 
 -- the same, where the line is accepted
 kept_line : (r between s : Register) (text : List ℕ) (texts : List (List ℕ)) → AddsAll (bare between) (filter is_other texts) (bare s)
-    → (said : Line) → IsLine text said → IsAllowed r said → between ≡ added r said → AddsAll (bare r) (filter is_other (text ∷ texts)) (bare s)
+    → (said : Line) → IsLine text said → IsAllowed r said → between ≡ register_after r said → AddsAll (bare r) (filter is_other (text ∷ texts)) (bare s)
 kept_line r between s text texts rest skipped is ok e =
     kept_step (bare r) (bare between) text texts (bare s) (is_other text) refl
     (λ _. (skipped, is, tt, ap bare e)) (λ _. sym (ap bare e)) rest

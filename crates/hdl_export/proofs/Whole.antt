@@ -14,7 +14,7 @@ use Rattle.hdl_reach.specs.Laws.{IsOnward}
 use Rattle.hdl_laws.specs.Isolation.{Covers, EachCovered}
 use Rattle.hdl_tenants.specs.Register.{Register, Row, prefixes_of}
 use Rattle.hdl_tenants.specs.Text.{IsAccepted}
-use Rattle.hdl_export.specs.Lines.{Lacks, is_sayable, value_line, ended, text_of, is_other, IsWritable}
+use Rattle.hdl_export.specs.Lines.{Lacks, is_sayable, value_line, with_line_end, text_of, is_other, IsWritable}
 use Rattle.hdl_export.specs.Prefixes.{AreAmong}
 use Rattle.hdl_export.specs.Rows.{is_among, is_written, values_at, rows_at, rows_under, rows_in, foreign_rows, line_text, handle_text, authority_text, AreWritable, AreWritableUnder}
 use Rattle.hdl_export.specs.Laws.{IsWritableRow, with_rows, written_lines, prefixes_in, prefixes_for, IsWritten, IsExport, HasCover, IsPublisherExport}
@@ -29,7 +29,7 @@ abbrev rows_text : List Row → List ℕ
 rows_text rows = text_of (map value_line rows)
 
 rows_text-append : (xs ys : List Row) → rows_text (xs ++ ys) ≡ rows_text xs ++ rows_text ys
-rows_text-append xs ys = ap text_of (map-append {A = Row} {B = List ℕ} value_line xs ys) ∙ flat_map-append ended (map value_line xs) (map value_line ys)
+rows_text-append xs ys = ap text_of (map-append {A = Row} {B = List ℕ} value_line xs ys) ∙ flat_map-append with_line_end (map value_line xs) (map value_line ys)
 
 texts_flat : {X : Type 0} (f : X → List ℕ) (g : X → List Row) → ((x : X) → f x ≡ rows_text (g x)) → (xs : List X) → flat_map f xs ≡ rows_text (flat_map g xs)
 texts_flat f g e [] = refl
@@ -69,7 +69,7 @@ module _ (prefixes : List (List ℕ)) (t : Table) where
 
 -- what stands behind the other lines
 pub behind : (texts : List (List ℕ)) (rows : List Row) → text_of (filter is_other texts) ++ rows_text rows ≡ text_of (written_lines texts rows)
-behind texts rows = sym (flat_map-append ended (filter is_other texts) (map value_line rows))
+behind texts rows = sym (flat_map-append with_line_end (filter is_other texts) (map value_line rows))
 
 -- what is written, from what each part wrote
 pub written_is : (texts prefixes authorities given : List (List ℕ)) (t : Table) (front out : List ℕ) → given ≡ authorities → AreAmong (codes "0.na" ∷ prefixes) authorities
@@ -121,7 +121,7 @@ sound_as view P (Err e) out same read f = tt
 -- the lines of more rows, behind a text
 more_rows : (texts : List (List ℕ)) (rows more : List Row) → text_of (written_lines texts rows) ++ text_of (map value_line more) ≡ text_of (written_lines texts (rows ++ more))
 more_rows texts rows more =
-    sym (flat_map-append ended (written_lines texts rows) (map value_line more))
+    sym (flat_map-append with_line_end (written_lines texts rows) (map value_line more))
     ∙ ap text_of (append_assoc (filter is_other texts) (map value_line rows) (map value_line more) ∙ ap (λ (ls : List (List ℕ)). filter is_other texts ++ ls) (sym (map-append {A = Row} {B = List ℕ} value_line rows more)))
 
 pub publisher_is : (text name own out : List ℕ) (t : Table) (first C : List Place) (r s : Register) → IsAccepted (lines text) r → IsWritten (lines text) (prefixes_for name (lines text)) t own

@@ -17,7 +17,7 @@ use Rattle.hdl_laws.specs.Worlds.{World, hosts}
 use Rattle.hdl_laws.specs.Steps.{Turn}
 use Rattle.hdl_laws.specs.Runs.{IsRun, events, outcomes}
 use Rattle.hdl_laws.specs.Laws.{HostsNoRoot}
-use Rattle.hdl_laws.specs.Isolation.{EachCovered, IsClosed, IsQuiet, restrict, turns_of, written}
+use Rattle.hdl_laws.specs.Isolation.{EachCovered, IsClosed, IsQuiet, restrict, turns_of, own_writes}
 use Rattle.hdl_core.specs.Opening.{opening_table}
 use Rattle.hdl_export.specs.Prefixes.{prefix_named, prefix_given, AreAmong}
 use Rattle.hdl_export.specs.Rows.{is_among, rows_in, foreign_rows}
@@ -135,6 +135,6 @@ PublisherMoves =
 abbrev pub MovedIsAnsweredAlike : Type 0
 MovedIsAnsweredAlike =
     (w : World) (u : ℕ) (cover : List Place) (old new : Register) (ts ts' : List Turn) → IsMoved w u cover old new → HostsNoRoot w.site
-    → IsRun w ts → IsRun (with_table w (opening_table new.opening)) ts' → EachCovered cover (written w.site u ts) → EachCovered cover (written w.site u ts')
+    → IsRun w ts → IsRun (with_table w (opening_table new.opening)) ts' → EachCovered cover (own_writes w.site u ts) → EachCovered cover (own_writes w.site u ts')
     → IsQuiet w.site u cover w ts → IsQuiet w.site u cover (with_table w (opening_table new.opening)) ts' → events (turns_of w.site u ts) ≡ events (turns_of w.site u ts')
     → outcomes (turns_of w.site u ts) ≡ outcomes (turns_of w.site u ts')

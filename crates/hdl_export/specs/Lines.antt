@@ -36,12 +36,12 @@ abbrev pub ends_with_return : List ℕ → Bool
 ends_with_return line = slice_index line (length line - 1) == 13
 
 -- a line feed behind the line, and a carriage return before it where the line itself ends with one
-abbrev pub ended : List ℕ → List ℕ
-ended line = line ++ (if ends_with_return line then 13 ∷ 10 ∷ [] else 10 ∷ [])
+abbrev pub with_line_end : List ℕ → List ℕ
+with_line_end line = line ++ (if ends_with_return line then 13 ∷ 10 ∷ [] else 10 ∷ [])
 
 -- the text of lines
 abbrev pub text_of : List (List ℕ) → List ℕ
-text_of lines = flat_map ended lines
+text_of lines = flat_map with_line_end lines
 
 -- ---- the other lines
 

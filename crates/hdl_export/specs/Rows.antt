@@ -7,7 +7,7 @@ use Rattle.hdl_value.specs.declared.value.Value.{Value}
 use Rattle.hdl_value.specs.Place.{Place}
 use Rattle.hdl_rows.specs.Table.{Table, at, values_of, names_of}
 use Rattle.hdl_tenants.specs.Register.{Row}
-use Rattle.hdl_export.specs.Lines.{is_sayable, value_line, ended, IsWritable}
+use Rattle.hdl_export.specs.Lines.{is_sayable, value_line, with_line_end, IsWritable}
 
 -- the prefix is one of these
 abbrev pub is_among : List ℕ → List (List ℕ) → Bool
@@ -44,7 +44,7 @@ foreign_rows prefixes t places = flat_map (foreign_at prefixes t) places
 -- ---- the same as octets
 
 abbrev pub line_text : List ℕ → Value → List ℕ
-line_text handle v = ended (value_line (handle, v))
+line_text handle v = with_line_end (value_line (handle, v))
 
 abbrev pub handle_text : List (List ℕ) → Table → List ℕ → List ℕ
 handle_text prefixes t handle = flat_map (line_text handle) (values_at prefixes t handle)

@@ -24,7 +24,7 @@ fn put_value(
     value: &Value,
     out: &mut Vec<u8>,
 ) -> Result<(), ExportFault>
-    ensures put { OnOk result (out.new.items ≡ out.old.items ++ lines.ended (lines.value_line (handle.now, value.now))) }
+    ensures put { OnOk result (out.new.items ≡ out.old.items ++ lines.with_line_end (lines.value_line (handle.now, value.now))) }
     ensures writable { OnOk result (IsWritableRow (handle.now, value.now)) }
 {
     if !is_sayable(handle) {

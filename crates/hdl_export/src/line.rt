@@ -84,7 +84,7 @@ fn ends_with_return(line: &[u8]) -> bool
 
 /// Puts the line with its end: LF, and CR before it where the line itself ends with one, since reading drops one.
 pub(crate) fn put_line(out: &mut Vec<u8>, line: &[u8]) -> Result<(), AllocError>
-    ensures { OnOk result (out.new.items ≡ out.old.items ++ lines.ended line.now) }
+    ensures { OnOk result (out.new.items ≡ out.old.items ++ lines.with_line_end line.now) }
 {
     out.extend_from_slice(line)?;
     if ends_with_return(line) {

@@ -1,7 +1,7 @@
 //! What a value refers to.
 
 ghost use Rattle.std.specs.Prelude.{◌≡◌, filter, map, IfOk};
-ghost use Rattle.hdl_value.specs.Refs.{granted, listed, place_of, refers, refs_of};
+ghost use Rattle.hdl_value.specs.Refs.{value_grants, listed_places, place_of, refers, refs_of};
 ghost use Rattle.hdl_reach.specs.Reach.{lists};
 ghost use Rattle.hdl_reach.specs.Seen.{places};
 
@@ -12,7 +12,7 @@ use std::alloc::{AllocError, Global};
 
 /// The administrator of an HS_ADMIN value, if its index isn't 0.
 fn granted_of(alloc: Global, value: &Value) -> Result<Vec<Reference>, AllocError>
-    ensures { IfOk result (λ all. places all.items ≡ map (λ g. g.1) (granted value.now)) }
+    ensures { IfOk result (λ all. places all.items ≡ map (λ g. g.1) (value_grants value.now)) }
 {
     let mut all = Vec::new(alloc);
     if let Some((_, administrator)) = admin_of(alloc, value)? {
@@ -38,7 +38,7 @@ fn referring(alloc: Global, all: Vec<Reference>) -> Result<Vec<Reference>, Alloc
 
 /// The references of a list value; none of another value.
 fn listed_of(alloc: Global, value: &Value) -> Result<Vec<Reference>, AllocError>
-    ensures { IfOk result (λ all. places all.items ≡ listed value.now) }
+    ensures { IfOk result (λ all. places all.items ≡ listed_places value.now) }
 {
     match vlist_of(alloc, value)? {
         Some(all) => referring(alloc, all),

@@ -4,9 +4,9 @@ ghost use Rattle.std.specs.Prelude.{◌≡◌, true, false, IsTrue, IfOk, OnOk, 
 ghost use Rattle.sqlite.specs.State.{HasCleanDisk, Survives};
 ghost use Rattle.sqlite.specs.Held.{state};
 ghost use Rattle.hdl_name.specs.Name.{canonical};
-ghost use Rattle.hdl_rows.specs.Table.{no_rows, has, created, with_values, without_values, without_handle, AreDistinct, AreAbsent, ArePresent, indexes};
+ghost use Rattle.hdl_rows.specs.Table.{no_rows, has, with_new_handle, with_values, without_values, without_handle, AreDistinct, AreAbsent, ArePresent, indexes};
 ghost use Rattle.hdl_sqlrows.specs.Filed.{WhereOpen, IsFiled, CrashLeaves, filed_table};
-ghost use Rattle.hdl_sqlrows.specs.Kept.{IsBlank, IsSettled, table_in};
+ghost use Rattle.hdl_sqlrows.specs.Stored.{IsBlank, IsBetweenCalls, table_in};
 ghost use Rattle.hdl_sqlrows.specs.Opening.{base_in, filed_base};
 
 use hdl_name::Name;
@@ -28,7 +28,7 @@ impl<S: Alter + Drop> Model for FileRows<S> {
     ghost use Rattle.std.specs.Prelude.{◌≡◌, false};
     ghost use Rattle.sqlite.specs.Held.{Held, held_code, state};
     ghost use Rattle.hdl_sqlrows.specs.Filed.{WhereOpen};
-    ghost use Rattle.hdl_sqlrows.specs.Kept.{IsSettled};
+    ghost use Rattle.hdl_sqlrows.specs.Stored.{IsBetweenCalls};
 
     ghost Value = { Held S };
 
@@ -36,7 +36,7 @@ impl<S: Alter + Drop> Model for FileRows<S> {
 
     ghost view = { λ s. s.conn };
 
-    ghost invariant = { λ s. (s.conn.in_transaction ≡ false) × WhereOpen (state S.Store s.conn) (IsSettled (state S.Store s.conn)) };
+    ghost invariant = { λ s. (s.conn.in_transaction ≡ false) × WhereOpen (state S.Store s.conn) (IsBetweenCalls (state S.Store s.conn)) };
 }
 
 impl<S: Alter + Drop> FileRows<S> {
@@ -54,7 +54,7 @@ impl<S: Alter + Drop> FileRows<S> {
     /// The rows of a database that has the tables.
     pub fn over(alloc: Global, conn: Connection<S>) -> FileRows<S>
         requires mode { conn.in_transaction ≡ false }
-        requires settled { WhereOpen (state S.Store conn) (IsSettled (state S.Store conn)) }
+        requires settled { WhereOpen (state S.Store conn) (IsBetweenCalls (state S.Store conn)) }
         ensures { result ≡ conn }
     {
         FileRows { alloc, conn }
@@ -86,11 +86,11 @@ impl<S: Alter + Drop> FileRows<S> {
         requires none { WhereOpen (state S.Store self.old) (has (filed_table (state S.Store self.old)) (canonical name.now) ≡ false) }
         requires absent { WhereOpen (state S.Store self.old) (AreAbsent (filed_table (state S.Store self.old)) (canonical name.now) (indexes values.now)) }
         requires distinct { AreDistinct (indexes values.now) }
-        ensures done { OnOk result (HasCleanDisk (state S.Store self.new) → IsFiled (state S.Store self.new) (created (filed_table (state S.Store self.old)) (canonical name.now) values.now)) }
+        ensures done { OnOk result (HasCleanDisk (state S.Store self.new) → IsFiled (state S.Store self.new) (with_new_handle (filed_table (state S.Store self.old)) (canonical name.now) values.now)) }
         ensures undone { OnErr result (WhereOpen (state S.Store self.new) (filed_table (state S.Store self.new) ≡ filed_table (state S.Store self.old))) }
-        ensures durable { OnOk result (HasCleanDisk (state S.Store self.new) → CrashLeaves (state S.Store self.new) (created (filed_table (state S.Store self.old)) (canonical name.now) values.now)) }
+        ensures durable { OnOk result (HasCleanDisk (state S.Store self.new) → CrashLeaves (state S.Store self.new) (with_new_handle (filed_table (state S.Store self.old)) (canonical name.now) values.now)) }
         ensures restored { OnErr result (WhereOpen (state S.Store self.new) (CrashLeaves (state S.Store self.new) (filed_table (state S.Store self.old)))) }
-        ensures survives { Survives (state S.Store self.old) (state S.Store self.new) (λ db. table_in db ≡ created (filed_table (state S.Store self.old)) (canonical name.now) values.now) }
+        ensures survives { Survives (state S.Store self.old) (state S.Store self.new) (λ db. table_in db ≡ with_new_handle (filed_table (state S.Store self.old)) (canonical name.now) values.now) }
         ensures beside { WhereOpen (state S.Store self.new) ((filed_base (state S.Store self.new)).opened ≡ (filed_base (state S.Store self.old)).opened) }
         ensures beside_survives { Survives (state S.Store self.old) (state S.Store self.new) (λ db. IsTrue (state S.Store self.old).is_open → (base_in db).opened ≡ (filed_base (state S.Store self.old)).opened) }
     {

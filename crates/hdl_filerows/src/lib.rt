@@ -7,7 +7,7 @@
 //! Each clause on rows is under two premises: the disk has returned what was written and nobody else wrote the files (`HasCleanDisk` of
 //! `sqlite`), and the store is open. What a crash may leave is what the store says (`may_leave`), whose argument is the kit's.
 //!
-//! It stands on `hdl_sqlrows`, whose functions make the writes, and on `sqlite`.
+//! The functions of `hdl_sqlrows` make the writes.
 //!
 //! ```rust
 //! // crates/hdl_lastingrows/src/opening.rt

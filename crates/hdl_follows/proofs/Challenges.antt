@@ -10,7 +10,7 @@ use Rattle.hdl_slots.specs.Lanes.{next_after, last_eight, without}
 use Rattle.hdl_slots.proofs.LawLemmas.{at_most_eight_lem}
 use Rattle.hdl_trail.specs.declared.kept.Key.{Key}
 use Rattle.hdl_trail.specs.declared.kept.Sent.{Sent}
-use Rattle.hdl_trail.specs.Kept.{put_behind, is_from, is_response, redeem, add_challenge}
+use Rattle.hdl_trail.specs.Followed.{put_behind, is_from, is_response, redeem, add_challenge}
 use Rattle.hdl_follows.specs.Follows.{sent_of, CanBeRead}
 use Rattle.hdl_follows.proofs.Lists.{filter_seen, map_push, map_drop, each_filter, each_drop, each_push, length_filter}
 

@@ -5,7 +5,7 @@ use Rattle.std.proofs.lemmas.List.Folds.{list_any-append}
 use Rattle.hdl_trail.specs.declared.kept.Mark.{Mark}
 use Rattle.hdl_trail.specs.declared.kept.Sent.{Sent}
 use Rattle.hdl_trail.specs.declared.exchange.Exchange.{Exchange}
-use Rattle.hdl_trail.specs.Kept.{Followed, is_of, is_from, is_held, put_behind, first_mark, grown, grown_among, with_piece, leave_unanswered, operation_of, end_message, is_response, redeem, add_challenge, leave_answered, settle_by, settle}
+use Rattle.hdl_trail.specs.Followed.{Followed, is_of, is_from, is_held, put_behind, first_mark, with_frame, with_frame_among, with_piece, leave_unanswered, operation_of, end_message, is_response, redeem, add_challenge, leave_answered, finish_by, finish_exchange}
 use Rattle.hdl_trail.specs.Peers.{is_under_way}
 use Rattle.hdl_follows.specs.Laws.{HoldsWhatComes}
 
@@ -77,25 +77,25 @@ module _ (n : ℕ) where
   abbrev of_sent : Sent → Bool
   of_sent s = s.number == n
 
-  grown_same : (e : Exchange) (m : Mark) → of_mark (grown e m) ≡ of_mark m
+  grown_same : (e : Exchange) (m : Mark) → of_mark (with_frame e m) ≡ of_mark m
   grown_same e m = by_test (m.length == e.length && is_none m.operation)
     where
       by_test : (b : Bool) → of_mark (cond b (record m { operation = e.operation }) m) ≡ of_mark m
       by_test true = refl
       by_test false = refl
 
-  grown_any : (e : Exchange) (ms : List Mark) → list_any of_mark (grown_among e ms) ≡ list_any of_mark ms
+  grown_any : (e : Exchange) (ms : List Mark) → list_any of_mark (with_frame_among e ms) ≡ list_any of_mark ms
   grown_any e [] = refl
   grown_any e (m ∷ ms) = by_test (is_of e.key m) (grown_any e ms)
     where
-      by_test : (b : Bool) → list_any of_mark (grown_among e ms) ≡ list_any of_mark ms → list_any of_mark (cond b (grown e m ∷ ms) (m ∷ grown_among e ms)) ≡ of_mark m || list_any of_mark ms
+      by_test : (b : Bool) → list_any of_mark (with_frame_among e ms) ≡ list_any of_mark ms → list_any of_mark (cond b (with_frame e m ∷ ms) (m ∷ with_frame_among e ms)) ≡ of_mark m || list_any of_mark ms
       by_test true later = ap (λ (b : Bool). b || list_any of_mark ms) (grown_same e m)
       by_test false later = ap (λ (b : Bool). of_mark m || b) later
 
   piece_any : (e : Exchange) (ms : List Mark) → list_any of_mark (with_piece e ms) ≡ true → (list_any of_mark ms ≡ true) ⊎ (e.key.number == n ≡ true)
   piece_any e ms is = by_test (list_any (is_of e.key) ms) is
     where
-      by_test : (b : Bool) → list_any of_mark (cond b (grown_among e ms) (put_behind 4 ms (first_mark e))) ≡ true → (list_any of_mark ms ≡ true) ⊎ (e.key.number == n ≡ true)
+      by_test : (b : Bool) → list_any of_mark (cond b (with_frame_among e ms) (put_behind 4 ms (first_mark e))) ≡ true → (list_any of_mark ms ≡ true) ⊎ (e.key.number == n ≡ true)
       by_test true is = inl (sym (grown_any e ms) ∙ is)
       by_test false is = any_behind of_mark 4 ms (first_mark e) is
 
@@ -150,25 +150,25 @@ module _ (n : ℕ) where
       by_side (inl marks) = with_partials f e (inl (any_if of_mark e.is_piece (λ m. not (is_of e.key m)) f.partials marks))
       by_side (inr sent) = by_left (challenge_any e.key.number code session left sent)
 
-  settled_held : (f : Followed) (e : Exchange) → is_held (settle f (Some e)) n ≡ true → Held f e
+  settled_held : (f : Followed) (e : Exchange) → is_held (finish_exchange f (Some e)) n ≡ true → Held f e
   settled_held f e is = by_reply e.reply is
     where
       by_busy : (b : Bool) (code session : ℕ) → is_held (cond b f (leave_answered f e code session)) n ≡ true → Held f e
       by_busy true code session is = inl is
       by_busy false code session is = answered_held f e code session is
 
-      by_reply : (reply : Option (ℕ × ℕ)) → is_held (settle_by f e reply) n ≡ true → Held f e
+      by_reply : (reply : Option (ℕ × ℕ)) → is_held (finish_by f e reply) n ≡ true → Held f e
       by_reply None is = unanswered_held f e is
       by_reply (Some reply) is = by_busy (reply.0 == 3) reply.0 reply.1 is
 
 pub holds_what_comes : HoldsWhatComes
 holds_what_comes f [] n is = on_left (is_held f n) false is
-holds_what_comes f (e ∷ es) n is = by_rest (either (is_held (settle f (Some e)) n) (is_under_way es n) (holds_what_comes (settle f (Some e)) es n is))
+holds_what_comes f (e ∷ es) n is = by_rest (either (is_held (finish_exchange f (Some e)) n) (is_under_way es n) (holds_what_comes (finish_exchange f (Some e)) es n is))
   where
     by_first : (is_held f n ≡ true) ⊎ (e.key.number == n ≡ true) → is_held f n || (e.key.number == n || is_under_way es n) ≡ true
     by_first (inl before) = on_left (is_held f n) (e.key.number == n || is_under_way es n) before
     by_first (inr here) = on_right (is_held f n) (e.key.number == n || is_under_way es n) (on_left (e.key.number == n) (is_under_way es n) here)
 
-    by_rest : (is_held (settle f (Some e)) n ≡ true) ⊎ (is_under_way es n ≡ true) → is_held f n || (e.key.number == n || is_under_way es n) ≡ true
+    by_rest : (is_held (finish_exchange f (Some e)) n ≡ true) ⊎ (is_under_way es n ≡ true) → is_held f n || (e.key.number == n || is_under_way es n) ≡ true
     by_rest (inl first) = by_first (settled_held n f e first)
     by_rest (inr later) = on_right (is_held f n) (e.key.number == n || is_under_way es n) (on_right (e.key.number == n) (is_under_way es n) later)

@@ -25,10 +25,10 @@ use Rattle.hdl_trail.specs.declared.kept.Mark.{Mark}
 use Rattle.hdl_trail.specs.declared.kept.Sent.{Sent}
 use Rattle.hdl_trail.specs.declared.exchange.Exchange.{Exchange}
 use Rattle.hdl_trail.specs.Exchange.{number_at, reply_of}
-use Rattle.hdl_trail.specs.Kept.{Followed, is_held, settle, leave_answered, leave_unanswered, with_piece, end_message, operation_of, redeem, add_challenge}
-use Rattle.hdl_trail.specs.Kept as trail
+use Rattle.hdl_trail.specs.Followed.{Followed, is_held, finish_exchange, leave_answered, leave_unanswered, with_piece, end_message, operation_of, redeem, add_challenge}
+use Rattle.hdl_trail.specs.Followed as trail
 use Rattle.hdl_trail.specs.Peers.{arrival}
-use Rattle.hdl_follows.specs.Follows.{Follows, IsInUse, IsPartial, mark_of, sent_of, datagrams_of, sent, answered_by}
+use Rattle.hdl_follows.specs.Follows.{Follows, IsInUse, IsPartial, mark_of, sent_of, datagrams_of, outcome_datagrams, answered_by}
 use Rattle.hdl_follows.specs.Laws.{BeginsFollowed, HoldsWhatIsKept, StepsFollowed}
 use Rattle.hdl_follows.proofs.Lists.{each_filter, list_any_seen}
 use Rattle.hdl_follows.proofs.Fronts.{number_drop, or_none}
@@ -57,16 +57,16 @@ holds f s number follows =
 
 -- the trail follows the lane after the effect
 abbrev FollowsOn : Followed → Exchange → Effect → Type 0
-FollowsOn f e eff = Follows (settle f (Some (answered_by (sent eff.outcome) e))) eff.state × IsInUse eff.state
+FollowsOn f e eff = Follows (finish_exchange f (Some (answered_by (outcome_datagrams eff.outcome) e))) eff.state × IsInUse eff.state
 
 -- ---- a frame that is answered
 
 -- with this code and session
 answered_with : (f : Followed) (e : Exchange) (octets : List ℕ) (o : Outcome) (code session : ℕ) → e.reply ≡ None → o ≡ Reply octets → reply_of (front octets) ≡ Some (code, session) → eqb code 3 ≡ false
-    → settle f (Some (answered_by (sent o) e)) ≡ leave_answered f e code session
+    → finish_exchange f (Some (answered_by (outcome_datagrams o) e)) ≡ leave_answered f e code session
 answered_with f e octets o code session none is seen calm =
-    ap (λ (z : Outcome). settle f (Some (answered_by (sent z) e))) is
-    ∙ ap (λ (z : Exchange). settle f (Some z)) (answered_is octets e (code, session) none seen)
+    ap (λ (z : Outcome). finish_exchange f (Some (answered_by (outcome_datagrams z) e))) is
+    ∙ ap (λ (z : Exchange). finish_exchange f (Some z)) (answered_is octets e (code, session) none seen)
     ∙ ap (λ (b : Bool). cond b f (leave_answered f e code session)) calm
 
 module _ (hosted : List ℕ → Bool) (algorithms : List ℕ → Algorithm) (t : Table) (s : LaneState) (u : IsInUse s) (x : Received) (frame : IsFrame x.bytes) where
@@ -81,7 +81,7 @@ module _ (hosted : List ℕ → Bool) (algorithms : List ℕ → Algorithm) (t :
       → IsMessageTask gone (message_from x message) k → Does hosted algorithms t k eff → FollowsOn (view s) e eff
   message_followed gone message k eff used same ends knows task does =
       let ans : Answered gone (message_from x message) eff = message_answered hosted algorithms t gone used (message_from x message) k eff task does in
-      let settles : settle (view s) (Some (answered_by (sent eff.outcome) e)) ≡ leave_answered (view s) e ans.code ans.session =
+      let settles : finish_exchange (view s) (Some (answered_by (outcome_datagrams eff.outcome) e)) ≡ leave_answered (view s) e ans.code ans.session =
       answered_with (view s) e ans.octets eff.outcome ans.code ans.session refl ans.outcome ans.seen ans.calm in (
         record {
           partials = ap (λ (g : Followed). g.partials) settles ∙ ends ∙ ap (map mark_of) (sym ans.partials);
@@ -163,7 +163,7 @@ module _ (w : World) (lane peer moment : ℕ) (nonce octets : List ℕ) (f : Fol
 
   -- the trail follows the lane of this world once the outcome is seen
   abbrev FollowsAfter : Outcome → World → Type 0
-  FollowsAfter o new = Follows (settle f (Some (answered_by (sent o) (arrival octets peer)))) (lane_of new lane) × IsInUse (lane_of new lane)
+  FollowsAfter o new = Follows (finish_exchange f (Some (answered_by (outcome_datagrams o) (arrival octets peer)))) (lane_of new lane) × IsInUse (lane_of new lane)
 
   answer_followed : (t : Turn) → t.event ≡ event → (o : Option ℕ) → owner w.site lane ≡ o → IsAnswerFor w o t → FollowsAfter t.outcome t.after
   answer_followed t same None none is = absurd (owned none)
@@ -176,15 +176,15 @@ module _ (w : World) (lane peer moment : ℕ) (nonce octets : List ℕ) (f : Fol
       let state : lane_of t.after lane ≡ eff.state =
       ap (λ (z : Turn). lane_of z.after lane) is.4 ∙ ap (λ (z : Event). unwrap_or (map.get (map.insert w.lanes z.lane eff.state) lane) (fresh false)) same ∙ after_is w lane eff.state in
       let outcome : t.outcome ≡ eff.outcome = ap (λ (z : Turn). z.outcome) is.4 in
-      subst (λ (o : Outcome). Follows (settle f (Some (answered_by (sent o) (arrival octets peer)))) (lane_of t.after lane) × IsInUse (lane_of t.after lane)) (sym outcome)
-      (subst (λ (z : LaneState). Follows (settle f (Some (answered_by (sent eff.outcome) (arrival octets peer)))) z × IsInUse z) (sym state) here)
+      subst (λ (o : Outcome). Follows (finish_exchange f (Some (answered_by (outcome_datagrams o) (arrival octets peer)))) (lane_of t.after lane) × IsInUse (lane_of t.after lane)) (sym outcome)
+      (subst (λ (z : LaneState). Follows (finish_exchange f (Some (answered_by (outcome_datagrams eff.outcome) (arrival octets peer)))) z × IsInUse z) (sym state) here)
 
   busy_followed : (t : Turn) → IsBusy w t → FollowsAfter t.outcome t.after
   busy_followed t is =
       let short : List ℕ = short_reply 3 (envelope_at is.received.bytes) in
       let e : Exchange = arrival octets peer in
       let seen = short_seen 3 (envelope_at is.received.bytes) (code_fits_busy) in
-      let settles : settle f (Some (answered_by (datagrams_of short) e)) ≡ f = ap (λ (z : Exchange). settle f (Some z)) (answered_is short e _ refl seen) in
+      let settles : finish_exchange f (Some (answered_by (datagrams_of short) e)) ≡ f = ap (λ (z : Exchange). finish_exchange f (Some z)) (answered_is short e _ refl seen) in
       let outcome : t.outcome ≡ Busy short = ap (λ (z : Turn). z.outcome) is.busy in
       let after : t.after ≡ w = ap (λ (z : Turn). z.after) is.busy in
       subst (λ (o : Outcome). FollowsAfter o t.after) (sym outcome)

@@ -7,7 +7,7 @@ use Rattle.std.proofs.lemmas.Bool.Decides.{leb_tells}
 use Rattle.std.proofs.lemmas.List.{append-nil, length-append, length-drop, get_or-drop, get_or_append_left}
 use Rattle.hdl_frame.specs.Envelope.{u32_at}
 use Rattle.hdl_frame.specs.Pieces.{piece_count}
-use Rattle.hdl_frame.specs.Whole.{before, joined}
+use Rattle.hdl_frame.specs.Whole.{before, whole_payload}
 use Rattle.hdl_trail.specs.Exchange.{number_at}
 
 abbrev pub Payloads : Type 0
@@ -90,12 +90,12 @@ number_longer y rest long =
 
 -- the front of a message that is all there has the message's operation
 pub front_of_whole : (len : ℕ) (ps : Payloads) (message : List ℕ) → 0 < len → length ps ≡ piece_count len → IfSome (get_or ps 0 None) (λ y. length y ≡ min 492 len)
-    → joined ps ≡ Some message → front_operation ps ≡ number_at message 0
+    → whole_payload ps ≡ Some message → front_operation ps ≡ number_at message 0
 front_of_whole len [] message some places first whole = absurd (omega arith)
 front_of_whole len (None ∷ rest) message some places first whole = absurd (cc)
-front_of_whole len (Some y ∷ rest) message some places first whole = by_rest rest (joined rest) refl places whole
+front_of_whole len (Some y ∷ rest) message some places first whole = by_rest rest (whole_payload rest) refl places whole
   where
-    by_rest : (rest : Payloads) (o : Option (List ℕ)) → joined rest ≡ o → suc (length rest) ≡ piece_count len → before y o ≡ Some message → number_at y 0 ≡ number_at message 0
+    by_rest : (rest : Payloads) (o : Option (List ℕ)) → whole_payload rest ≡ o → suc (length rest) ≡ piece_count len → before y o ≡ Some message → number_at y 0 ≡ number_at message 0
     by_rest rest None is places whole = absurd (cc)
     by_rest rest (Some more) is places whole =
         let same : y ++ more ≡ message = cc in
@@ -104,7 +104,7 @@ front_of_whole len (Some y ∷ rest) message some places first whole = by_rest r
           | inr ge ↦ number_longer y more ge ∙ ap (λ (t : List ℕ). number_at t 0) same
         ]
       where
-        by_end : (rest : Payloads) → joined rest ≡ Some more → length rest ≡ 0 → number_at y 0 ≡ number_at (y ++ more) 0
+        by_end : (rest : Payloads) → whole_payload rest ≡ Some more → length rest ≡ 0 → number_at y 0 ≡ number_at (y ++ more) 0
         by_end [] is none =
             let empty : [] ≡ more = cc in
             ap (λ (t : List ℕ). number_at t 0) (sym (append-nil y) ∙ ap (λ (t : List ℕ). y ++ t) empty)

@@ -32,7 +32,7 @@ use Rattle.hdl_laws.proofs.Codes.{reply_code, challenge_code}
 use Rattle.hdl_trail.specs.declared.kept.Key.{Key}
 use Rattle.hdl_trail.specs.declared.kept.Sent.{Sent}
 use Rattle.hdl_trail.specs.Exchange.{key_of, number_at, reply_of}
-use Rattle.hdl_trail.specs.Kept.{is_response, redeem, add_challenge}
+use Rattle.hdl_trail.specs.Followed.{is_response, redeem, add_challenge}
 use Rattle.hdl_follows.specs.Follows.{sent_of, IsInUse, CanBeRead}
 use Rattle.hdl_follows.proofs.Lists.{each_filter, each_found, length_filter}
 use Rattle.hdl_follows.proofs.Replies.{front, reply_read, session_seen}
@@ -86,7 +86,7 @@ no_change true = refl
 no_change false = refl
 
 abbrev spent_lane : LaneState → Message → LaneState
-spent_lane s m = laws.redeemed s m
+spent_lane s m = laws.without_challenge s m
 
 spent_in_use : (s : LaneState) (m : Message) → IsInUse s → IsInUse (spent_lane s m)
 spent_in_use s m u = record {
@@ -207,7 +207,7 @@ module _ (hosted : List ℕ → Bool) (algorithms : List ℕ → Algorithm) (t :
       by_reading (Some request) spelt done = by_late (is_late m p) done
         where
           by_late : (b : Bool)
-              → Does hosted algorithms t (cond {A = Task} b (Late m request (algorithm_of p.digest) (laws.redeemed s m)) (Redeem m request (record { response = answer; nonce = p.nonce; digest = p.digest }) (laws.redeemed s m))) eff
+              → Does hosted algorithms t (cond {A = Task} b (Late m request (algorithm_of p.digest) (laws.without_challenge s m)) (Redeem m request (record { response = answer; nonce = p.nonce; digest = p.digest }) (laws.without_challenge s m))) eff
               → Answered s m eff
           by_late true done = subst (Answered s m) (sym done) (spending (algorithm_of p.digest) request (failure 405 Empty) refl refl (ap (λ (b : Bool). b && true) is))
           by_late false done =

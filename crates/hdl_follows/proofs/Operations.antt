@@ -15,12 +15,12 @@ use Rattle.hdl_ops.specs.Requests.{response_of}
 use Rattle.hdl_ops.specs.Sights.{Sight, sight}
 use Rattle.hdl_ops.specs.Proven.{Proof, key_of, value_at, code_before_key, code_behind_key, code_for_key, IsCodeBy}
 use Rattle.hdl_ops.specs.Replies.{fits}
-use Rattle.hdl_ops.specs.Decisions.{Level, Proven, Decision, Decides, DecidesBy, decision, refused, success, failure, carried_content}
+use Rattle.hdl_ops.specs.Decisions.{Level, Proven, Decision, Decides, DecidesBy, decision, refusal_decision, success, failure, carried_content}
 use Rattle.hdl_msg.specs.declared.replies.ReplyContent.TheVariants.{Empty}
 use Rattle.hdl_ops.proofs.Codes.{codes_pass}
 use Rattle.hdl_frame.specs.Envelope.{u32_at}
 use Rattle.hdl_trail.specs.Exchange.{number_at}
-use Rattle.hdl_trail.specs.Kept.{is_response}
+use Rattle.hdl_trail.specs.Followed.{is_response}
 
 -- ---- the operation
 
@@ -80,7 +80,7 @@ decision_code a s r level c f = pick (eqb c 1) (fits a r (carried_content s r le
 
 module _ (hosts : List ℕ → Bool) (a : Algorithm) (t : Table) (r : Content) (p : Proof) (d : Decision) where
   code_by : (c : Option ℕ) → refusal hosts r ≡ c → DecidesBy a t r (Proven p) c d → IsTrue (no_fault d.code)
-  unfolding refused
+  unfolding refusal_decision
   code_by (Some c) e is = ap (λ (x : Decision). no_fault x.code) is ∙ ap (λ (o : Option ℕ). no_fault (or_code o 0)) (sym e) ∙ refusal_code hosts r
   code_by None e is =
       ap (λ (x : Decision). no_fault x.code) is.2 ∙ decision_code a (sight t r) r (Proven p) is.0 (proof_code t r p (code_before_key (sight t r) r p) is.0 (before_code (sight t r) r p) is.1)

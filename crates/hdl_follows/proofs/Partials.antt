@@ -14,12 +14,12 @@ use Rattle.hdl_pool.specs.declared.piece.Key.{Key}
 use Rattle.hdl_pool.specs.Partial as pool
 use Rattle.hdl_pool.specs.Partial.{Partial, Piece, piece_of, nothing_of, payload_at, whole}
 use Rattle.hdl_pool.specs.Taking as taking
-use Rattle.hdl_pool.specs.Taking.{Fate, made_whole, kept, ignored, displaced, so_far, is_ignored, replace_partial, store_partial, settle_partial, take_piece, whole_message, free_partial}
+use Rattle.hdl_pool.specs.Taking.{Fate, made_whole, kept, ignored, displaced, so_far, is_ignored, replace_partial, store_partial, store_if_kept, take_piece, whole_message, free_partial}
 use Rattle.hdl_trail.specs.declared.kept.Mark.{Mark}
 use Rattle.hdl_trail.specs.declared.exchange.Exchange.{Exchange}
 use Rattle.hdl_trail.specs.Exchange.{number_at}
-use Rattle.hdl_trail.specs.Kept as trail
-use Rattle.hdl_trail.specs.Kept.{grown_among, put_behind, operation_of, end_message}
+use Rattle.hdl_trail.specs.Followed as trail
+use Rattle.hdl_trail.specs.Followed.{with_frame_among, put_behind, operation_of, end_message}
 use Rattle.hdl_trail.specs.Peers.{arrival}
 use Rattle.hdl_follows.specs.Follows.{mark_of, IsPartial}
 use Rattle.hdl_follows.proofs.Lists.{filter_seen, find_seen, any_seen, map_push, map_drop, each_push, each_drop, each_found}
@@ -122,14 +122,14 @@ module _ (peer : ℕ) (bytes : List ℕ) where
   pub freed_seen : (lane : List Partial) → filter (λ m. not (trail.is_of e.key m)) (map mark_of lane) ≡ map mark_of (free_partial lane k)
   freed_seen lane = filter_seen mark_of (λ m. not (trail.is_of e.key m)) lane
 
-  grown_replaced : (lane : List Partial) (p more : Partial) → find (pool.is_of k) lane ≡ Some p → trail.grown e (mark_of p) ≡ mark_of more → grown_among e (map mark_of lane) ≡ map mark_of (replace_partial k more lane)
+  grown_replaced : (lane : List Partial) (p more : Partial) → find (pool.is_of k) lane ≡ Some p → trail.with_frame e (mark_of p) ≡ mark_of more → with_frame_among e (map mark_of lane) ≡ map mark_of (replace_partial k more lane)
   grown_replaced [] p more found is = absurd (cc)
   grown_replaced (q ∷ qs) p more found is = by_test (pool.is_of k q) found (λ later. grown_replaced qs p more later is)
     where
       by_test : (t : Bool) → cond t (Some q) (find (pool.is_of k) qs) ≡ Some p
-          → (find (pool.is_of k) qs ≡ Some p → grown_among e (map mark_of qs) ≡ map mark_of (replace_partial k more qs))
-          → cond t (trail.grown e (mark_of q) ∷ map mark_of qs) (mark_of q ∷ grown_among e (map mark_of qs)) ≡ map mark_of (cond t (more ∷ qs) (q ∷ replace_partial k more qs))
-      by_test true found below = let same : q ≡ p = cc in ap (λ (m : Mark). m ∷ map mark_of qs) (ap (λ (r : Partial). trail.grown e (mark_of r)) same ∙ is)
+          → (find (pool.is_of k) qs ≡ Some p → with_frame_among e (map mark_of qs) ≡ map mark_of (replace_partial k more qs))
+          → cond t (trail.with_frame e (mark_of q) ∷ map mark_of qs) (mark_of q ∷ with_frame_among e (map mark_of qs)) ≡ map mark_of (cond t (more ∷ qs) (q ∷ replace_partial k more qs))
+      by_test true found below = let same : q ≡ p = cc in ap (λ (m : Mark). m ∷ map mark_of qs) (ap (λ (r : Partial). trail.with_frame e (mark_of r)) same ∙ is)
       by_test false found below = ap (λ (t : List Mark). mark_of q ∷ t) (below found)
 
   module _ (frame : IsFrame bytes) (truncated : is_truncated v ≡ true) where
@@ -139,7 +139,7 @@ module _ (peer : ℕ) (bytes : List ℕ) where
     front_sized : (n : ℕ) → v.length ≡ n → v.sequence ≡ 0 → length x ≡ min 492 n
     front_sized n same none = omega (arith, piece_sized bytes frame truncated)
 
-    same_length : (p : Partial) → eqb p.length v.length ≡ true → trail.grown e (mark_of p) ≡ mark p (cond (is_none (front_operation p.pieces)) (brought v.sequence x) (front_operation p.pieces))
+    same_length : (p : Partial) → eqb p.length v.length ≡ true → trail.with_frame e (mark_of p) ≡ mark p (cond (is_none (front_operation p.pieces)) (brought v.sequence x) (front_operation p.pieces))
     same_length p same =
         ap (λ (b : Bool). cond (b && is_none (front_operation p.pieces)) (mark p e.operation) (mark_of p)) same
         ∙ by_operation (front_operation p.pieces)
@@ -150,10 +150,10 @@ module _ (peer : ℕ) (bytes : List ℕ) where
         by_operation (Some n) = refl
 
     -- an ignored piece changes no mark
-    stays : (p : Partial) → IsPartial p → is_ignored p piece ≡ true → trail.grown e (mark_of p) ≡ mark_of p
+    stays : (p : Partial) → IsPartial p → is_ignored p piece ≡ true → trail.with_frame e (mark_of p) ≡ mark_of p
     stays p is ignores = by_length (eqb p.length v.length) refl
       where
-        by_length : (b : Bool) → eqb p.length v.length ≡ b → trail.grown e (mark_of p) ≡ mark_of p
+        by_length : (b : Bool) → eqb p.length v.length ≡ b → trail.with_frame e (mark_of p) ≡ mark_of p
         by_length false other = ap (λ (b : Bool). cond (b && is_none (front_operation p.pieces)) (mark p e.operation) (mark_of p)) other
         by_length true same =
             let came : is_some (payload_at p v.sequence) ≡ true = ap (λ (b : Bool). not b || is_some (payload_at p v.sequence)) (sym same) ∙ ignores in
@@ -174,7 +174,7 @@ module _ (peer : ℕ) (bytes : List ℕ) where
       missing : get_or p.pieces v.sequence None ≡ None
       missing = not_some (payload_at p v.sequence) both.1
 
-      grows : trail.grown e (mark_of p) ≡ mark_of (taking.with_piece p piece)
+      grows : trail.with_frame e (mark_of p) ≡ mark_of (taking.with_piece p piece)
       grows = same_length p both.0 ∙ ap (mark p) (sym (front_after p.pieces v.sequence x places_some missing))
 
       partial_after : IsPartial (taking.with_piece p piece)
@@ -199,7 +199,7 @@ module _ (peer : ℕ) (bytes : List ℕ) where
       Left t = whole_message t.0 ≡ None → (trail.with_piece e marks ≡ map mark_of t.1) × AllByRecursion IsPartial t.1
 
       abbrev step : Fate × Partial → Fate × List Partial
-      step g = settle_partial lane k g.0 g.1
+      step g = store_if_kept lane k g.0 g.1
 
       abbrev after : Partial → Bool → Option (List ℕ) → Fate × Partial
       after p b w = cond b (ignored, p) (option_map_or (λ message. (made_whole message, p)) w (kept, taking.with_piece p piece))
@@ -214,10 +214,10 @@ module _ (peer : ℕ) (bytes : List ℕ) where
       any_is : list_any (trail.is_of e.key) marks ≡ is_some (find (pool.is_of k) lane)
       any_is = any_seen mark_of (trail.is_of e.key) lane
 
-      with_any : (b : Bool) → is_some (find (pool.is_of k) lane) ≡ b → trail.with_piece e marks ≡ cond b (grown_among e marks) (put_behind 4 marks (trail.first_mark e))
-      with_any b is = ap (λ (t : Bool). cond t (grown_among e marks) (put_behind 4 marks (trail.first_mark e))) (any_is ∙ is)
+      with_any : (b : Bool) → is_some (find (pool.is_of k) lane) ≡ b → trail.with_piece e marks ≡ cond b (with_frame_among e marks) (put_behind 4 marks (trail.first_mark e))
+      with_any b is = ap (λ (t : Bool). cond t (with_frame_among e marks) (put_behind 4 marks (trail.first_mark e))) (any_is ∙ is)
 
-      found_left : (p : Partial) → find (pool.is_of k) lane ≡ Some p → Left (step (taking.grown p piece))
+      found_left : (p : Partial) → find (pool.is_of k) lane ≡ Some p → Left (step (taking.after_piece p piece))
       found_left p found =
           let is : IsPartial p = each_found IsPartial (pool.is_of k) lane p each found in
           by_fate p
@@ -234,7 +234,7 @@ module _ (peer : ℕ) (bytes : List ℕ) where
                 each_replaced k more lane each (partial_after p is counts),
               ))
 
-      begun_left : find (pool.is_of k) lane ≡ None → Left (step (taking.grown (nothing_of k v.length) piece))
+      begun_left : find (pool.is_of k) lane ≡ None → Left (step (taking.after_piece (nothing_of k v.length) piece))
       begun_left missed =
           let p : Partial = nothing_of k v.length in
           by_fate p (λ ignores. absurd (let counts = nothing_counts piece in cc)) (λ counts. kept_new counts) (is_ignored p piece) (whole (taking.with_piece p piece)) refl
@@ -258,7 +258,7 @@ module _ (peer : ℕ) (bytes : List ℕ) where
       pub piece_left : whole_message (take_piece lane piece).0 ≡ None → (trail.with_piece e marks ≡ map mark_of (take_piece lane piece).1) × AllByRecursion IsPartial (take_piece lane piece).1
       piece_left none = by_found (find (pool.is_of k) lane) refl none
         where
-          by_found : (o : Option Partial) → find (pool.is_of k) lane ≡ o → Left (step (taking.grown (unwrap_or o (nothing_of k v.length)) piece))
+          by_found : (o : Option Partial) → find (pool.is_of k) lane ≡ o → Left (step (taking.after_piece (unwrap_or o (nothing_of k v.length)) piece))
           by_found (Some p) found = found_left p found
           by_found None missed = begun_left missed
 
@@ -284,7 +284,7 @@ module _ (peer : ℕ) (bytes : List ℕ) where
           ∙ ap (λ (o : Option Mark). option_or e.operation (option_and_then (λ (m : Mark). m.operation) o)) (find_seen mark_of (trail.is_of e.key) lane)
           ∙ by_found (find (pool.is_of k) lane) refl made
         where
-          by_found : (o : Option Partial) → find (pool.is_of k) lane ≡ o → whole_message (step (taking.grown (unwrap_or o (nothing_of k v.length)) piece)).0 ≡ Some message
+          by_found : (o : Option Partial) → find (pool.is_of k) lane ≡ o → whole_message (step (taking.after_piece (unwrap_or o (nothing_of k v.length)) piece)).0 ≡ Some message
               → option_or e.operation (option_and_then (λ (m : Mark). m.operation) (option_map mark_of o)) ≡ number_at message 0
           by_found (Some p) found made =
               let is : IsPartial p = each_found IsPartial (pool.is_of k) lane p each found in

@@ -15,7 +15,7 @@ use Rattle.hdl_trail.specs.declared.kept.Mark.{Mark}
 use Rattle.hdl_trail.specs.declared.kept.Sent.{Sent}
 use Rattle.hdl_trail.specs.declared.exchange.Exchange.{Exchange}
 use Rattle.hdl_trail.specs.Exchange.{number_at, with_reply}
-use Rattle.hdl_trail.specs.Kept.{Followed, settle}
+use Rattle.hdl_trail.specs.Followed.{Followed, finish_exchange}
 
 -- ---- the relation
 
@@ -66,8 +66,8 @@ abbrev pub datagrams_of : List ℕ → List (List ℕ)
 datagrams_of octets = map (λ d. d.0 ++ d.1) (datagrams (envelope_at octets) (drop 20 octets))
 
 -- those of an outcome; none where nothing is sent
-abbrev pub sent : Outcome → List (List ℕ)
-sent o = option_map_or datagrams_of (sent_by o) []
+abbrev pub outcome_datagrams : Outcome → List (List ℕ)
+outcome_datagrams o = option_map_or datagrams_of (sent_by o) []
 
 -- the frame and its reply, of which each of these datagrams is seen
 abbrev pub answered_by : List (List ℕ) → Exchange → Exchange
@@ -75,6 +75,6 @@ answered_by [] e = e
 answered_by (d ∷ ds) e = answered_by ds (with_reply d e)
 
 -- what is followed once these frames are settled in their order, each with what its reply says
-abbrev pub settled_all : Followed → List Exchange → Followed
-settled_all f [] = f
-settled_all f (e ∷ es) = settled_all (settle f (Some e)) es
+abbrev pub finish_all : Followed → List Exchange → Followed
+finish_all f [] = f
+finish_all f (e ∷ es) = finish_all (finish_exchange f (Some e)) es

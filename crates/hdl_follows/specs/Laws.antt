@@ -6,10 +6,10 @@ use Rattle.hdl_events.specs.declared.Outcome.{Outcome}
 use Rattle.hdl_laws.specs.Lanes.{LaneState, fresh}
 use Rattle.hdl_laws.specs.Worlds.{World, owner, lane_of}
 use Rattle.hdl_laws.specs.Runs.{Steps}
-use Rattle.hdl_trail.specs.Kept.{Followed, is_held, settle}
+use Rattle.hdl_trail.specs.Followed.{Followed, is_held, finish_exchange}
 use Rattle.hdl_trail.specs.declared.exchange.Exchange.{Exchange}
 use Rattle.hdl_trail.specs.Peers.{arrival, is_under_way}
-use Rattle.hdl_follows.specs.Follows.{Follows, IsInUse, answered_by, keeps, sent, settled_all}
+use Rattle.hdl_follows.specs.Follows.{Follows, IsInUse, answered_by, keeps, outcome_datagrams, finish_all}
 
 -- a new trail follows a lane that was opened
 pub record BeginsFollowed : Type 0 where
@@ -23,7 +23,7 @@ StepsFollowed =
     (w new : World) (lane peer moment : ℕ) (nonce octets : List ℕ) (o : Outcome) (f : Followed)
     → IsFrame octets → owner w.site lane ≢ None → IsInUse (lane_of w lane) → Follows f (lane_of w lane)
     → Steps w (record { lane = lane; what = Happening.Frame peer moment nonce octets }) o new
-    → Follows (settle f (Some (answered_by (sent o) (arrival octets peer)))) (lane_of new lane) × IsInUse (lane_of new lane)
+    → Follows (finish_exchange f (Some (answered_by (outcome_datagrams o) (arrival octets peer)))) (lane_of new lane) × IsInUse (lane_of new lane)
 
 -- a trail that follows a lane holds the numbers under which the lane keeps something, and no others
 abbrev pub HoldsWhatIsKept : Type 0
@@ -32,4 +32,4 @@ HoldsWhatIsKept = (f : Followed) (s : LaneState) (number : ℕ) → Follows f s 
 -- Frames are under way. Whatever is replied to them, what is followed once any of them are settled stands under numbers that were held, or under which one
 -- of them came.
 abbrev pub HoldsWhatComes : Type 0
-HoldsWhatComes = (f : Followed) (es : List Exchange) (number : ℕ) → IsTrue (is_held (settled_all f es) number) → IsTrue (is_held f number || is_under_way es number)
+HoldsWhatComes = (f : Followed) (es : List Exchange) (number : ℕ) → IsTrue (is_held (finish_all f es) number) → IsTrue (is_held f number || is_under_way es number)

@@ -7,11 +7,11 @@ use Rattle.std.proofs.lemmas.Bool.Decides.{nat_tests}
 use Rattle.std.proofs.lemmas.List.{drop-drop, drop_at, drop_all, take_at, take_all, length-append, append-nil}
 use Rattle.std.proofs.lemmas.List.Elements.{All-head, All-tail}
 use Rattle.hdl_frame.specs.Pieces.{piece_count, stretch}
-use Rattle.hdl_frame.specs.Whole.{Piece, payload_of, MakeMessage, before, joined, message_of, HaveTheirLength}
+use Rattle.hdl_frame.specs.Whole.{Piece, payload_of, MakeMessage, before, whole_payload, message_of, HaveTheirLength}
 
 -- n stretches of a message from number k on are its octets from 492 * k on, 492 * n of them
 joined_stretches : (f : ℕ → Option (List ℕ)) (message : List ℕ) (n k : ℕ) → ((i : ℕ) → k ≤ i → i < k + n → f i ≡ Some (stretch message i))
-    → joined (map f (range_with_len k n)) ≡ Some (take (492 * n) (drop (492 * k) message))
+    → whole_payload (map f (range_with_len k n)) ≡ Some (take (492 * n) (drop (492 * k) message))
 joined_stretches f message zero k each = refl
 joined_stretches f message (suc n) k each =
     let here = each k (omega arith) (omega arith) in
@@ -36,11 +36,11 @@ before_some payload None message e = absurd cc
 before_some payload (Some rest) message e = (rest, refl, cc)
 
 -- what is joined begins with the first payload
-joined_some : (o : Option (List ℕ)) (os : List (Option (List ℕ))) (message : List ℕ) → joined (o ∷ os) ≡ Some message
-    → (payload : List ℕ) × (rest : List ℕ) × (o ≡ Some payload) × (joined os ≡ Some rest) × (message ≡ payload ++ rest)
+joined_some : (o : Option (List ℕ)) (os : List (Option (List ℕ))) (message : List ℕ) → whole_payload (o ∷ os) ≡ Some message
+    → (payload : List ℕ) × (rest : List ℕ) × (o ≡ Some payload) × (whole_payload os ≡ Some rest) × (message ≡ payload ++ rest)
 joined_some None os message e = absurd cc
 joined_some (Some payload) os message e =
-    let more = before_some payload (joined os) message e in
+    let more = before_some payload (whole_payload os) message e in
     (payload, more.0, refl, more.1, more.2)
 
 empty : (xs : List ℕ) → length xs ≡ 0 → xs ≡ []
@@ -72,7 +72,7 @@ abbrev IsOfLength : ℕ → ℕ → List ℕ → Type 0
 IsOfLength len k payload = length payload ≡ min 492 (len - 492 * k)
 
 joined_split : (f : ℕ → Option (List ℕ)) (len n k : ℕ) (message : List ℕ) → ((i : ℕ) (p : List ℕ) → f i ≡ Some p → IsOfLength len i p) → len - 492 * k ≤ 492 * n
-    → joined (map f (range_with_len k n)) ≡ Some message → (length message ≡ len - 492 * k) × ((i j : ℕ) → i < n → j ≡ k + i → f j ≡ Some (stretch message i))
+    → whole_payload (map f (range_with_len k n)) ≡ Some message → (length message ≡ len - 492 * k) × ((i j : ℕ) → i < n → j ≡ k + i → f j ≡ Some (stretch message i))
 joined_split f len zero k message sized le e =
     let none : message ≡ [] = cc in
     (omega (arith, ap length none), λ i j lt at. absurd (omega arith))
@@ -122,14 +122,14 @@ abbrev Lacks : (ℕ → Option (List ℕ)) → ℕ → ℕ → Type 0
 Lacks f n k = (i : ℕ) × (i < k + n) × (f i ≡ None)
 
 -- where nothing is joined a payload is missing
-missing : (f : ℕ → Option (List ℕ)) (n k : ℕ) → joined (map f (range_with_len k n)) ≡ None → Lacks f n k
+missing : (f : ℕ → Option (List ℕ)) (n k : ℕ) → whole_payload (map f (range_with_len k n)) ≡ None → Lacks f n k
 missing f zero k e = absurd cc
 missing f (suc n) k e = at_first (f k) refl e (λ below. missing f n (k + 1) below)
   where
-    at_first : (o : Option (List ℕ)) → f k ≡ o → joined (o ∷ map f (range_with_len (k + 1) n)) ≡ None → (joined (map f (range_with_len (k + 1) n)) ≡ None → Lacks f n (k + 1)) → Lacks f (suc n) k
+    at_first : (o : Option (List ℕ)) → f k ≡ o → whole_payload (o ∷ map f (range_with_len (k + 1) n)) ≡ None → (whole_payload (map f (range_with_len (k + 1) n)) ≡ None → Lacks f n (k + 1)) → Lacks f (suc n) k
     at_first None is e below = (k, omega arith, is)
     at_first (Some payload) is e below =
-        let found = below (before_none payload (joined (map f (range_with_len (k + 1) n))) e) in
+        let found = below (before_none payload (whole_payload (map f (range_with_len (k + 1) n))) e) in
         (found.0, omega (arith, found.1), found.2)
 
 pub none_is_missing_lem : (pieces : List Piece) (len : ℕ) → message_of pieces len ≡ None → (k : ℕ) × (k < piece_count len) × (payload_of pieces k ≡ None)

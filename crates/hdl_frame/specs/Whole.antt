@@ -26,10 +26,10 @@ before payload None = None
 before payload (Some rest) = Some (payload ++ rest)
 
 -- the payloads one after the other, where each came; else none
-abbrev pub joined : List (Option (List ℕ)) → Option (List ℕ)
-joined [] = Some []
-joined (None ∷ rest) = None
-joined (Some payload ∷ rest) = before payload (joined rest)
+abbrev pub whole_payload : List (Option (List ℕ)) → Option (List ℕ)
+whole_payload [] = Some []
+whole_payload (None ∷ rest) = None
+whole_payload (Some payload ∷ rest) = before payload (whole_payload rest)
 
 -- for each number of a message of len octets, the payload of the first piece with it, if one came
 abbrev pub payloads_of : List Piece → ℕ → List (Option (List ℕ))
@@ -37,7 +37,7 @@ payloads_of pieces len = map (payload_of pieces) (range_with_len 0 (piece_count 
 
 -- the message that pieces make, where each of its numbers came; else none
 abbrev pub message_of : List Piece → ℕ → Option (List ℕ)
-message_of pieces len = joined (payloads_of pieces len)
+message_of pieces len = whole_payload (payloads_of pieces len)
 
 -- each piece has the payload that an accepted envelope with its number gives a frame
 abbrev pub HaveTheirLength : List Piece → ℕ → Type 0

@@ -53,7 +53,7 @@ pub fn serve_control<R: std::rt::Clock>(
         match listener.accept() {
             Ok((mut stream, _)) => {
                 if let Ok(true) = says_stop(&mut stream) {
-                    ending.ask();
+                    ending.ask_to_end();
                     let _ = waiting.push(stream);
                 }
             }

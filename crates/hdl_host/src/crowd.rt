@@ -426,7 +426,7 @@ impl<R: std::rt::Clock + Eprint + Drop> Packets for SocketCrowd<R> {
                 if number > 0 && usize::from(number) <= PEERS_MAX && len <= buffer.len() => {
                 if let Some(recorder) = &mut self.recorder {
                     recorder.set_connections(self.crowd.book.len());
-                    recorder.asked_alone(number, &buffer[..len]);
+                    recorder.note_lone_request(number, &buffer[..len]);
                 }
                 Ok(Some((number, len)))
             }

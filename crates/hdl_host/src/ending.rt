@@ -18,7 +18,7 @@ impl Ending {
     }
 
     /// Asks the server to end.
-    pub fn ask(&self) {
+    pub fn ask_to_end(&self) {
         self.is_asked.store(true, SeqCst);
     }
 

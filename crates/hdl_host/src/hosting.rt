@@ -7,7 +7,7 @@ ghost use Rattle.hdl_workers.specs.Ends.{AreDistinct};
 use crate::bounds::Notices;
 use crate::clock::{MachineClock, Part};
 use crate::fault::HostFault;
-use crate::listening::{Limits, Place, Setting, or_device, places_of};
+use crate::listening::{Limits, PublisherSockets, Setting, or_device, places_of};
 use crate::supervision::{Supervised, supervise};
 use crate::waking::{Patience, Sleep};
 use crate::workers::{join_all, start};
@@ -35,7 +35,7 @@ const RING: usize = 16;
 struct Ready {
     ends: Vec<LaneEnds>,
     sides: Vec<WorkerSide>,
-    places: Vec<Place>,
+    places: Vec<PublisherSockets>,
     lines: String,
     sleep: Sleep,
     queue: WriteQueue,

@@ -13,9 +13,6 @@
 //! say what these give, so the doors here tell nothing, and nothing is promised of octets on a wire. Beyond loopback a reply by UDP that is too long for a
 //! stranger stays back here, behind the worker's door (docs/PROTOCOL.md, "Replies to strangers").
 //!
-//! It stands on `hdl_workers`, `hdl_lanes`, `hdl_serve`, `hdl_trail`, `hdl_crowd`, `hdl_core`, `hdl_frame` and `hdl_rows`, on `hdl_msg` and what that speaks of for the reply in
-//! place of one that stays back, and on `hdl_replay` for the faults of the program.
-//!
 //! ```rust
 //! // crates/hdl_program_tests/src/sockets.rt
 //! let limits = Limits {

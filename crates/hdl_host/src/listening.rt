@@ -87,7 +87,7 @@ const LANES_WITH_CROWD: u16 = 4;
 
 /// A publisher's datagram sockets, the seats of its lanes for a connection each, its overflow lane, if it has one, and what is recorded of them all.
 #[derive(Drop)]
-pub struct Place {
+pub struct PublisherSockets {
     pub seats: Vec<Seat>,
     pub crowd: Option<Crowd>,
     pub sockets: Sockets<PacketSocket>,
@@ -171,7 +171,7 @@ fn place_of<R: Net + Clock>(
     opened: Opened,
     publisher: (&str, u16),
     setting: &Setting,
-) -> io::Result<Place> {
+) -> io::Result<PublisherSockets> {
     let Opened { listeners, sockets } = opened;
     let (name, lanes) = publisher;
     let limits = setting.limits;
@@ -183,7 +183,7 @@ fn place_of<R: Net + Clock>(
     let streams = lanes.saturating_sub(1);
     let mut seats = seats_at(rt, alloc, listeners.as_slice(), streams, &waits)?;
     let crowd = crowd_at(rt, alloc, lanes, &mut seats, limits)?;
-    Ok(Place {
+    Ok(PublisherSockets {
         seats,
         crowd,
         sockets: Sockets::with_watch(rt, alloc, sockets, waits.door)?,
@@ -198,7 +198,7 @@ pub fn places_of<R: Net<Listener = TcpListener, Stream = TcpStream> + Clock>(
     alloc: Global,
     tenants: &Tenants,
     setting: &Setting,
-) -> Result<(Vec<Place>, String), HostFault> {
+) -> Result<(Vec<PublisherSockets>, String), HostFault> {
     let mut places = Vec::new(alloc);
     let mut lines = String::new(alloc);
     for place in 0..tenants.publishers() {

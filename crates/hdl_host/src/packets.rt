@@ -19,7 +19,7 @@ const PASSED: u32 = 64;
 
 /// Where a datagram came from: the place of the socket that received it, and the sender's address. The reply goes the same way.
 #[derive(Clone, Copy, Debug, PartialEq, Eq)]
-pub struct Origin {
+pub struct Sender {
     place: usize,
     address: SocketAddr,
 }
@@ -40,8 +40,8 @@ enum Course {
 struct Post<R> {
     alloc: Global,
     sockets: Sockets<PacketSocket>,
-    peers: Peers<Origin>,
-    proven: Proven<R, Origin>,
+    peers: Peers<Sender>,
+    proven: Proven<R, Sender>,
     course: Course,
     ending: Arc<Ending>,
     recorder: Option<PacketRecorder<R>>,
@@ -88,7 +88,7 @@ impl<R: std::rt::Clock + Eprint + Drop> Post<R> {
     }
 
     /// Sends octets back to where they are asked from. Whether they went.
-    fn send_back(&self, to: Origin, octets: &[u8]) -> bool {
+    fn send_back(&self, to: Sender, octets: &[u8]) -> bool {
         match self.sockets.get(to.place) {
             Some(packets) => packets.send(octets, to.address),
             None => false,
@@ -97,7 +97,7 @@ impl<R: std::rt::Clock + Eprint + Drop> Post<R> {
 
     /// Whether the reply that begins with this datagram may go whole: it isn't much longer than what asked, or its address answered a challenge, perhaps
     /// by the very frame that it replies to.
-    fn may_go(&mut self, to: Origin, first: &[u8]) -> bool {
+    fn may_go(&mut self, to: Sender, first: &[u8]) -> bool {
         let Some(packets) = self.sockets.get(to.place) else {
             return false;
         };
@@ -115,7 +115,7 @@ impl<R: std::rt::Clock + Eprint + Drop> Post<R> {
     }
 
     /// Sends another reply in place of the one that begins with this datagram. Memory that is refused is a lost datagram.
-    fn send_instead(&self, to: Origin, first: &[u8]) -> bool {
+    fn send_instead(&self, to: Sender, first: &[u8]) -> bool {
         match too_long(self.alloc, first) {
             Some(octets) => self.send_back(to, octets.as_slice()),
             None => true,
@@ -123,7 +123,7 @@ impl<R: std::rt::Clock + Eprint + Drop> Post<R> {
     }
 
     /// Begins a reply by its first datagram, or by another reply in its place. Whether that went.
-    fn begin(&mut self, to: Origin, first: &[u8]) -> bool {
+    fn begin(&mut self, to: Sender, first: &[u8]) -> bool {
         if self.may_go(to, first) {
             self.course = Course::Goes;
             self.send_back(to, first)
@@ -134,7 +134,7 @@ impl<R: std::rt::Clock + Eprint + Drop> Post<R> {
     }
 
     /// Sends the next datagram of a reply, unless another reply went in its place. Whether what is sent went.
-    fn send_next(&mut self, to: Origin, octets: &[u8]) -> bool {
+    fn send_next(&mut self, to: Sender, octets: &[u8]) -> bool {
         match self.course {
             Course::Begins => self.begin(to, octets),
             Course::Goes => self.send_back(to, octets),
@@ -209,7 +209,7 @@ impl<R: std::rt::Clock + Eprint + Drop> Packets for SocketPackets<R> {
             match self.post.take(buffer, may_wait) {
                 Ok((place, (length, address))) => {
                     let length = length.min(buffer.len());
-                    let from = Origin { place, address };
+                    let from = Sender { place, address };
                     if let Ok(Some(peer)) = self.post.peers.note_octets(from, &buffer[..length]) {
                         self.post.note_request(peer, &buffer[..length]);
                         return Ok(Some((peer, length)));

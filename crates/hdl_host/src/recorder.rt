@@ -66,7 +66,7 @@ impl<R: Clock + Eprint + Drop> Recorder<R> {
     }
 
     /// A frame came on a lane that has one at a time.
-    pub fn asked_alone(&mut self, peer: u16, frame: &[u8]) {
+    pub fn note_lone_request(&mut self, peer: u16, frame: &[u8]) {
         self.follower.forget_unanswered();
         self.note_request(peer, frame);
     }
@@ -153,7 +153,7 @@ impl<R: Clock + Eprint + Drop> PacketRecorder<R> {
         }
         if !self.is_busy {
             self.is_busy = true;
-            self.recorder.asked_alone(peer, frame);
+            self.recorder.note_lone_request(peer, frame);
         } else if self.wait(peer, frame).is_err() {
             self.recorder.follower.lose();
         }
@@ -168,7 +168,9 @@ impl<R: Clock + Eprint + Drop> PacketRecorder<R> {
     /// The reply to the oldest frame is whole, or there is none.
     pub fn end_reply(&mut self) {
         match self.waiting.pop_front() {
-            Some(next) => self.recorder.asked_alone(next.peer, next.frame.as_slice()),
+            Some(next) => self
+                .recorder
+                .note_lone_request(next.peer, next.frame.as_slice()),
             None => self.is_busy = false,
         }
     }

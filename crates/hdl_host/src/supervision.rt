@@ -5,7 +5,7 @@ use crate::counts::Counts;
 use crate::ending::Ending;
 use crate::fault::HostFault;
 use crate::health::Health;
-use crate::listening::{Place, or_device};
+use crate::listening::{PublisherSockets, or_device};
 use crate::log::Log;
 use crate::recorder::Record;
 use crate::status::{StatusPage, serve_status};
@@ -74,7 +74,7 @@ pub struct Supervised {
 }
 
 /// The counts of all publishers.
-fn all_counts(alloc: Global, places: &[Place]) -> io::Result<Vec<Arc<Counts>>> {
+fn all_counts(alloc: Global, places: &[PublisherSockets]) -> io::Result<Vec<Arc<Counts>>> {
     let mut all = Vec::new(alloc);
     for place in places {
         if let Some(record) = &place.record {
@@ -85,7 +85,11 @@ fn all_counts(alloc: Global, places: &[Place]) -> io::Result<Vec<Arc<Counts>>> {
 }
 
 /// What the status page tells.
-fn page_of(alloc: Global, supervision: &Supervision, places: &[Place]) -> io::Result<StatusPage> {
+fn page_of(
+    alloc: Global,
+    supervision: &Supervision,
+    places: &[PublisherSockets],
+) -> io::Result<StatusPage> {
     Ok(StatusPage {
         counts: all_counts(alloc, places)?,
         health: Arc::try_clone(&supervision.health)?,
@@ -97,7 +101,7 @@ pub fn supervise<R: Net<Listener = TcpListener, Stream = TcpStream> + Files>(
     rt: &R,
     alloc: Global,
     supervision: &Supervision,
-    places: &[Place],
+    places: &[PublisherSockets],
 ) -> Result<Supervised, HostFault> {
     let status = match supervision.status {
         Some(at) => match TcpListener::bind(rt, at) {

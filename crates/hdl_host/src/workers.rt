@@ -4,7 +4,7 @@ use crate::clock::{MachineClock, Part};
 use crate::crowd::{Crowd, SocketCrowd};
 use crate::door::SocketDoor;
 use crate::ending::Ending;
-use crate::listening::{Place, or_device};
+use crate::listening::{PublisherSockets, or_device};
 use crate::nonces::MachineNonces;
 use crate::packets::SocketPackets;
 use crate::recorder::{Record, Recorder, StreamRecorder};
@@ -126,11 +126,11 @@ fn start_packets<R: Threads + Clock + RandomSource + Eprint + Copy + Send + Drop
 fn start_place<R: Threads + Clock + RandomSource + Eprint + Copy + Send + Drop + 'static>(
     rt: &R,
     alloc: Global,
-    place: Place,
+    place: PublisherSockets,
     sides: &mut IntoIter<Side>,
     workers: &mut Vec<JoinHandle<WorkerEnd>>,
 ) -> Result<(), Fault> {
-    let Place {
+    let PublisherSockets {
         seats,
         crowd,
         sockets,
@@ -164,7 +164,7 @@ fn start_place<R: Threads + Clock + RandomSource + Eprint + Copy + Send + Drop +
 pub fn start<R: Threads + Clock + RandomSource + Eprint + Copy + Send + Drop + 'static>(
     rt: &R,
     alloc: Global,
-    places: Vec<Place>,
+    places: Vec<PublisherSockets>,
     lanes: Vec<WorkerSide>,
     sleep: &Sleep,
     turns: u64,

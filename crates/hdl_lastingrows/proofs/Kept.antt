@@ -2,7 +2,7 @@
 use Rattle.std.proofs.Common.{◌≡◌, inl, inr, Bool, true, false, IsTrue, refl, sym, ap, subst, ◌∙◌, arith}
 use Rattle.sqlite.specs.State.{State, HasCleanDisk, Survives}
 use Rattle.hdl_rows.specs.Table.{Table, IsPlaced}
-use Rattle.hdl_rows.specs.Write.{Write, CanWrite, written}
+use Rattle.hdl_rows.specs.Write.{Write, CanWrite, after_write}
 use Rattle.hdl_rows.proofs.Writes.{stay_placed_lem}
 use Rattle.hdl_sqlrows.specs.Filed.{WhereOpen, IsFiled, CrashLeaves, filed_table}
 use Rattle.hdl_lastingrows.specs.Lasting.{Lasting, IsKept, MayMake}
@@ -15,11 +15,11 @@ module _ (t : Table) (w : Write) (can : CanWrite t w) (old mid : State) (kept : 
   before : HasCleanDisk mid → HasCleanDisk old
   before clean = omega (arith, clean, survives.clean)
 
-  same : HasCleanDisk mid → written (filed_table old) w ≡ written t w
-  same clean = ap (λ u. written u w) (kept.live refl (before clean)).1
+  same : HasCleanDisk mid → after_write (filed_table old) w ≡ after_write t w
+  same clean = ap (λ u. after_write u w) (kept.live refl (before clean)).1
 
   -- the database has made it: with memory, and where memory is one write behind
-  pub made : (HasCleanDisk mid → IsFiled mid (written (filed_table old) w)) → (HasCleanDisk mid → CrashLeaves mid (written (filed_table old) w)) → IsKept (written t w) false mid × IsKept t true mid
+  pub made : (HasCleanDisk mid → IsFiled mid (after_write (filed_table old) w)) → (HasCleanDisk mid → CrashLeaves mid (after_write (filed_table old) w)) → IsKept (after_write t w) false mid × IsKept t true mid
   made done durable = (
     record {
       placed = stay_placed_lem t w kept.placed can;

@@ -12,21 +12,21 @@ use Rattle.hdl_lastingrows.specs.declared.write.OwnWrite.{OwnWrite}
 use Rattle.hdl_lastingrows.specs.declared.filing.WriteState.{WriteState}
 use Rattle.hdl_lastingrows.specs.declared.filing.WriteState.TheVariants as state
 use Rattle.hdl_lastingrows.specs.declared.threaded.OfWrite.{OfWrite}
-use Rattle.hdl_lastingrows.specs.declared.threaded.Place.{Place}
-use Rattle.hdl_lastingrows.specs.declared.threaded.Place.TheVariants.{Here, Away, Nowhere}
+use Rattle.hdl_lastingrows.specs.declared.threaded.Whereabouts.{Whereabouts}
+use Rattle.hdl_lastingrows.specs.declared.threaded.Whereabouts.TheVariants.{Here, Away, Nowhere}
 
 -- The file that the thread was given keeps the table, which allows the write; and that is the one that the thread makes.
 abbrev pub IsHandedOver : {R : Type 0} → OwnWrite → PromisedHandle R OfWrite → Table → Type 0
 IsHandedOver own thread t = IsKept t false (file_state thread.promise.file.value) × CanWrite t (write_in own) × (write_in thread.promise.write.value ≡ write_in own)
 
 -- the table is kept in the file, here or with a thread
-abbrev pub IsKeptAt : Place → Table → Bool → Type 0
+abbrev pub IsKeptAt : Whereabouts → Table → Bool → Type 0
 IsKeptAt (Here file) t shut = IsKept t shut (file_state file)
 IsKeptAt (Away own thread) t shut = IsHandedOver own thread t
 IsKeptAt Nowhere t shut = ⊥
 
 -- P, of the database that a file which is here has
-abbrev pub IfHere : Place → (State → Type 0) → Type 0
+abbrev pub IfHere : Whereabouts → (State → Type 0) → Type 0
 IfHere (Here file) P = P (file_state file)
 IfHere (Away own thread) P = Unit {0}
 IfHere Nowhere P = Unit {0}
@@ -37,7 +37,7 @@ SomeLike {F} f P = (x : F) × P x
 
 -- What an open after a crash at this moment may find, where the disk has returned what was written: what the file that is here may leave, or any that the
 -- thread may give back, whatever its write comes to.
-abbrev pub MayLeave : Place → Trees → Type 0
+abbrev pub MayLeave : Whereabouts → Trees → Type 0
 MayLeave (Here file) db = HasCleanDisk (file_state file) × (file_state file).may_leave db
 MayLeave (Away own thread) db = SomeLike thread.promise.file.value (λ back. (m : WriteState) × LeavesIn (file_state thread.promise.file.value) (file_state back) (write_in thread.promise.write.value) m × HasCleanDisk (file_state back) × (file_state back).may_leave db)
 MayLeave Nowhere db = ⊥

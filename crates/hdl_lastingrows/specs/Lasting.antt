@@ -4,15 +4,15 @@ use Rattle.std.specs.Coded.{Coded, code_by, coded×, coded_ℕ, coded_bool}
 use Rattle.sqlite_trees.specs.Tree.{Trees}
 use Rattle.sqlite.specs.State.{State, HasCleanDisk, Survives}
 use Rattle.hdl_rows.specs.Table.{Table, table_code, IsPlaced}
-use Rattle.hdl_rows.specs.Write.{Write, CanWrite, written}
-use Rattle.hdl_sqlrows.specs.Kept.{table_in}
+use Rattle.hdl_rows.specs.Write.{Write, CanWrite, after_write}
+use Rattle.hdl_sqlrows.specs.Stored.{table_in}
 use Rattle.hdl_sqlrows.specs.Filed.{IsFiled, filed_table}
 use Rattle.hdl_lastingrows.specs.declared.filing.WriteState.{WriteState}
 use Rattle.hdl_lastingrows.specs.declared.filing.WriteState.TheVariants.{Made, Refused, Unknown, UnderWay}
 
 -- this table, or this table after one write that it allows
 abbrev pub IsNear : Table → Table → Type 0
-IsNear t u = (u ≡ t) ⊎ ((w : Write) × CanWrite t w × (u ≡ written t w))
+IsNear t u = (u ≡ t) ⊎ ((w : Write) × CanWrite t w × (u ≡ after_write t w))
 
 -- The database keeps the table: it has the same rows, unless the table is shut for writes; and what a crash leaves is the table, or one write ahead.
 pub record IsKept (t : Table) (is_shut : Bool) (s : State) : Type 0 where
@@ -22,11 +22,11 @@ pub record IsKept (t : Table) (is_shut : Bool) (s : State) : Type 0 where
 
 -- a crash within a write leaves what one left before, or the table with the whole write
 abbrev pub MayMake : State → State → Write → Type 0
-MayMake old new w = Survives old new (λ db. IsTrue old.is_open → table_in db ≡ written (filed_table old) w)
+MayMake old new w = Survives old new (λ db. IsTrue old.is_open → table_in db ≡ after_write (filed_table old) w)
 
 -- What a write leaves, by what is known of it. `keeps u shut` says that the table u is kept, and whether no more writes are taken.
 abbrev pub Leaves : (Table → Bool → Type 0) → Table → Write → WriteState → Type 0
-Leaves keeps t w Made = keeps (written t w) false × keeps t true
+Leaves keeps t w Made = keeps (after_write t w) false × keeps t true
 Leaves keeps t w Refused = keeps t false
 Leaves keeps t w Unknown = keeps t true
 Leaves keeps t w UnderWay = keeps t false

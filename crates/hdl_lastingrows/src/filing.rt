@@ -4,7 +4,7 @@ ghost use Rattle.std.specs.Prelude.{◌≡◌, Bool, false, OnOk, OnErr};
 ghost use Rattle.sqlite.specs.State.{HasCleanDisk};
 ghost use Rattle.sqlite.specs.Held.{state};
 ghost use Rattle.hdl_rows.specs.Table.{Table};
-ghost use Rattle.hdl_rows.specs.Write.{CanWrite, written};
+ghost use Rattle.hdl_rows.specs.Write.{CanWrite, after_write};
 ghost use Rattle.hdl_sqlrows.specs.Filed.{WhereOpen, IsFiled, CrashLeaves, filed_table};
 ghost use Rattle.hdl_lastingrows.specs.Lasting.{IsKept, Leaves, MayMake};
 ghost use Rattle.hdl_lastingrows.specs.Writes.{write_of};
@@ -40,9 +40,9 @@ pub trait Filing {
 /// Makes the write in a database that lasts.
 fn try_write<S: Alter + Drop>(file: &mut FileRows<S>, write: &Write<'_>) -> Result<(), Fault>
     requires can { (t : Table) × IsKept t false (state S.Store file.old) × CanWrite t (write_of write.now) }
-    ensures done { OnOk result (HasCleanDisk (state S.Store file.new) → IsFiled (state S.Store file.new) (written (filed_table (state S.Store file.old)) (write_of write.now))) }
+    ensures done { OnOk result (HasCleanDisk (state S.Store file.new) → IsFiled (state S.Store file.new) (after_write (filed_table (state S.Store file.old)) (write_of write.now))) }
     ensures undone { OnErr result (WhereOpen (state S.Store file.new) (filed_table (state S.Store file.new) ≡ filed_table (state S.Store file.old))) }
-    ensures durable { OnOk result (HasCleanDisk (state S.Store file.new) → CrashLeaves (state S.Store file.new) (written (filed_table (state S.Store file.old)) (write_of write.now))) }
+    ensures durable { OnOk result (HasCleanDisk (state S.Store file.new) → CrashLeaves (state S.Store file.new) (after_write (filed_table (state S.Store file.old)) (write_of write.now))) }
     ensures survives { MayMake (state S.Store file.old) (state S.Store file.new) (write_of write.now) }
 {
     match write {

@@ -5,9 +5,9 @@ ghost use Rattle.sqlite.specs.State.{HasCleanDisk};
 ghost use Rattle.sqlite.specs.Held.{state};
 ghost use Rattle.sqlite_trees.specs.Tree.{Trees};
 ghost use Rattle.hdl_rows.specs.Table.{Table, IsPlaced, refusals_after, most};
-ghost use Rattle.hdl_rows.specs.Write.{CanWrite, written};
+ghost use Rattle.hdl_rows.specs.Write.{CanWrite, after_write};
 ghost use Rattle.hdl_sqlrows.specs.Filed.{IsFiled, CrashLeaves};
-ghost use Rattle.hdl_sqlrows.specs.Kept.{table_in};
+ghost use Rattle.hdl_sqlrows.specs.Stored.{table_in};
 ghost use Rattle.hdl_lastingrows.specs.Lasting.{IsNear};
 ghost use Rattle.hdl_lastingrows.specs.Beside.{MayLeave, IfHere};
 ghost use Rattle.hdl_lastingrows.specs.Writes.{write_of};
@@ -73,7 +73,7 @@ fn make_in_file<F: Filing, A: Alarm>(
 ) -> Result<(), Refused>
     requires open { is_shut.old ≡ false }
     requires can { (t : Table) × F.keeps file.old t false × CanWrite t (write_of write.now) }
-    ensures kept { (t : Table) → F.keeps file.old t false → CanWrite t (write_of write.now) → MatchResult result (λ _. F.keeps file.new (written t (write_of write.now)) is_shut.new × F.keeps file.new t true) (λ _. F.keeps file.new t is_shut.new) }
+    ensures kept { (t : Table) → F.keeps file.old t false → CanWrite t (write_of write.now) → MatchResult result (λ _. F.keeps file.new (after_write t (write_of write.now)) is_shut.new × F.keeps file.new t true) (λ _. F.keeps file.new t is_shut.new) }
     ensures count { refusals.new ≡ refusals_after result refusals.old }
 {
     match file.make(write) {

@@ -5,8 +5,6 @@
 //! `hdl_rows::Rows`, word for word, whatever the disk does; and what a crash leaves is the table in memory, or that table after the one write
 //! which wasn't answered as done ([`LastingRows::after_a_crash`]).
 //!
-//! It stands on `hdl_rows`, `hdl_filerows` and `hdl_sqlrows`.
-//!
 //! ```rust
 //! // crates/hdl_program_tests/src/lasting_rows.rt
 //! let rows = PlainRows::new(alloc);
@@ -36,5 +34,5 @@ pub use fault::TableFault;
 pub use filing::{Filing, WriteState};
 pub use lastingrows::{Alarm, LastingRows};
 pub use opening::{FileTable, open_file, table_beside, table_over};
-pub use threaded::{OfWrite, Place, Store, ThreadedFile, Writer};
+pub use threaded::{OfWrite, Store, ThreadedFile, Whereabouts, Writer};
 pub use write::{OwnWrite, Write};

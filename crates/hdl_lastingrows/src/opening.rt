@@ -10,7 +10,7 @@ ghost use Rattle.hdl_value.specs.Place.{Place};
 ghost use Rattle.hdl_rows.specs.Table.{no_rows, IsPlaced};
 ghost use Rattle.hdl_sqlrows.specs.Layout.{layout, no_schema};
 ghost use Rattle.hdl_sqlrows.specs.Filed.{WhereOpen, IsFiled, filed_table};
-ghost use Rattle.hdl_sqlrows.specs.Kept.{IsSettled};
+ghost use Rattle.hdl_sqlrows.specs.Stored.{IsBetweenCalls};
 ghost use Rattle.hdl_sqlrows.specs.Opening.{place_of, opened_with, filed_base, no_base};
 ghost use Rattle.hdl_lastingrows.specs.Beside.{IfHere};
 
@@ -83,7 +83,7 @@ fn begin<R: Rows, S: Alter, P: Progress>(
     requires empty { R.content rows.old ≡ no_rows }
     requires distinct { AllPairs (λ (p q : Place). p ≢ q) (map place_of opening.now) }
     ensures mode { conn.new.in_transaction ≡ false }
-    ensures settled { OnOk result (HasCleanDisk (state S.Store conn.new) → IsSettled (state S.Store conn.new)) }
+    ensures settled { OnOk result (HasCleanDisk (state S.Store conn.new) → IsBetweenCalls (state S.Store conn.new)) }
     ensures filed { OnOk result (HasCleanDisk (state S.Store conn.new) → IsFiled (state S.Store conn.new) (R.content rows.new)) }
     ensures placed { OnOk result (IsPlaced (R.content rows.new)) }
     ensures opened { OnOk result (HasCleanDisk (state S.Store conn.new) → R.content rows.new ≡ (opened_with no_base opening.now).table) }
@@ -102,13 +102,13 @@ fn open_rest<R: Rows + Drop, S: Alter, P: Progress>(
     progress: &mut P,
 ) -> Result<R, TableFault>
     requires mode { conn.old.in_transaction ≡ false }
-    requires settled { WhereOpen (state S.Store conn.old) (IsSettled (state S.Store conn.old)) }
+    requires settled { WhereOpen (state S.Store conn.old) (IsBetweenCalls (state S.Store conn.old)) }
     requires placed { WhereOpen (state S.Store conn.old) (IsPlaced (filed_table (state S.Store conn.old))) }
     requires empty { R.content rows ≡ no_rows }
     requires distinct { AllPairs (λ (p q : Place). p ≢ q) (map place_of opening.now) }
     ensures clean { OnOk result (HasCleanDisk (state S.Store conn.new) → HasCleanDisk (state S.Store conn.old)) }
     ensures mode { conn.new.in_transaction ≡ false }
-    ensures settled { OnOk result (HasCleanDisk (state S.Store conn.new) → IsSettled (state S.Store conn.new)) }
+    ensures settled { OnOk result (HasCleanDisk (state S.Store conn.new) → IsBetweenCalls (state S.Store conn.new)) }
     ensures filed { IfOk result (λ r. HasCleanDisk (state S.Store conn.new) → IsFiled (state S.Store conn.new) (R.content r)) }
     ensures placed { IfOk result (λ r. IsPlaced (R.content r)) }
     ensures opened { IfOk result (λ r. HasCleanDisk (state S.Store conn.new) → R.content r ≡ (opened_with (filed_base (state S.Store conn.old)) opening.now).table) }
@@ -129,14 +129,14 @@ fn reopen<R: Rows + Drop, S: Alter, P: Progress>(
     progress: &mut P,
 ) -> Result<R, TableFault>
     requires mode { conn.old.in_transaction ≡ false }
-    requires settled { HasCleanDisk (state S.Store conn.old) → IsSettled (state S.Store conn.old) }
+    requires settled { HasCleanDisk (state S.Store conn.old) → IsBetweenCalls (state S.Store conn.old) }
     requires filed { HasCleanDisk (state S.Store conn.old) → IsFiled (state S.Store conn.old) (R.content found) }
     requires placed { IsPlaced (R.content found) }
     requires empty { R.content rows ≡ no_rows }
     requires distinct { AllPairs (λ (p q : Place). p ≢ q) (map place_of opening.now) }
     ensures clean { OnOk result (HasCleanDisk (state S.Store conn.new) → HasCleanDisk (state S.Store conn.old)) }
     ensures mode { conn.new.in_transaction ≡ false }
-    ensures settled { OnOk result (HasCleanDisk (state S.Store conn.new) → IsSettled (state S.Store conn.new)) }
+    ensures settled { OnOk result (HasCleanDisk (state S.Store conn.new) → IsBetweenCalls (state S.Store conn.new)) }
     ensures filed { IfOk result (λ r. HasCleanDisk (state S.Store conn.new) → IsFiled (state S.Store conn.new) (R.content r)) }
     ensures placed { IfOk result (λ r. IsPlaced (R.content r)) }
     ensures opened { IfOk result (λ r. HasCleanDisk (state S.Store conn.new) → R.content r ≡ (opened_with (filed_base (state S.Store conn.old)) opening.now).table) }
@@ -168,7 +168,7 @@ fn resume<R: Rows + Drop, S: Alter, P: Progress>(
     requires spare { R.content spare ≡ no_rows }
     requires distinct { AllPairs (λ (p q : Place). p ≢ q) (map place_of opening.now) }
     ensures mode { conn.new.in_transaction ≡ false }
-    ensures settled { OnOk result (HasCleanDisk (state S.Store conn.new) → IsSettled (state S.Store conn.new)) }
+    ensures settled { OnOk result (HasCleanDisk (state S.Store conn.new) → IsBetweenCalls (state S.Store conn.new)) }
     ensures filed { IfOk result (λ r. HasCleanDisk (state S.Store conn.new) → IsFiled (state S.Store conn.new) (R.content r)) }
     ensures placed { IfOk result (λ r. IsPlaced (R.content r)) }
     ensures opened { IfOk result (λ r. HasCleanDisk (state S.Store conn.new) → R.content r ≡ (opened_with (filed_base (state S.Store conn.old)) opening.now).table) }
@@ -193,7 +193,7 @@ fn rows_over<R: Rows + Drop, S: Alter, P: Progress>(
     requires spare { R.content spare ≡ no_rows }
     requires distinct { AllPairs (λ (p q : Place). p ≢ q) (map place_of opening.now) }
     ensures mode { conn.new.in_transaction ≡ false }
-    ensures settled { OnOk result (HasCleanDisk (state S.Store conn.new) → IsSettled (state S.Store conn.new)) }
+    ensures settled { OnOk result (HasCleanDisk (state S.Store conn.new) → IsBetweenCalls (state S.Store conn.new)) }
     ensures filed { IfOk result (λ r. HasCleanDisk (state S.Store conn.new) → IsFiled (state S.Store conn.new) (R.content r)) }
     ensures placed { IfOk result (λ r. IsPlaced (R.content r)) }
     ensures made { (state S.Store conn.old).now.schema ≡ no_schema → IfOk result (λ r. HasCleanDisk (state S.Store conn.new) → R.content r ≡ (opened_with no_base opening.now).table) }
@@ -244,7 +244,7 @@ fn with_threads<R: Rows + Drop, T: Threads + Drop, A: Alarm + Drop>(
     writer: Writer<T>,
 ) -> LastingRows<R, ThreadedFile<T>, A>
     requires mode { conn.in_transaction ≡ false }
-    requires settled { HasCleanDisk (file_state conn) → IsSettled (file_state conn) }
+    requires settled { HasCleanDisk (file_state conn) → IsBetweenCalls (file_state conn) }
     requires placed { IsPlaced (R.content rows) }
     requires filed { HasCleanDisk (file_state conn) → IsFiled (file_state conn) (R.content rows) }
     ensures table { result.table ≡ R.content rows }

@@ -48,7 +48,7 @@ impl Promise<Returned> for OfWrite {
 
 /// Where a file is.
 #[derive(Drop)]
-pub enum Place {
+pub enum Whereabouts {
     Here(FileRows<Store>),
     /// A thread has it, and makes this write.
     Away(OwnWrite, PromisedHandle<Returned, OfWrite>),
@@ -69,7 +69,7 @@ pub struct Writer<T: Threads + Drop> {
 #[derive(Drop)]
 pub struct ThreadedFile<T: Threads + Drop> {
     writer: Writer<T>,
-    pub place: Place,
+    pub place: Whereabouts,
 }
 
 /// Gives the file and the write to a thread of their own, or makes the write where no thread can be started.
@@ -103,12 +103,12 @@ fn start<T: Threads>(
 }
 
 /// Makes the write by the call itself.
-fn make_here(mut file: FileRows<Store>, write: &Write<'_>) -> (Place, WriteState)
+fn make_here(mut file: FileRows<Store>, write: &Write<'_>) -> (Whereabouts, WriteState)
     requires can { (t : Table) × IsKept t false (file_state file) × CanWrite t (write_of write.now) }
     ensures { (t : Table) → IsKept t false (file_state file) → CanWrite t (write_of write.now) → Leaves (IsKeptAt result.0) t (write_of write.now) result.1 }
 {
     let state = file.make(write);
-    (Place::Here(file), state)
+    (Whereabouts::Here(file), state)
 }
 
 /// What a thread is given beside the file: the write, of which another copy stays to be compared with the call that comes again, and the signals.
@@ -147,7 +147,7 @@ impl<T: Threads + Drop> ThreadedFile<T> {
     {
         ThreadedFile {
             writer,
-            place: Place::Here(file),
+            place: Whereabouts::Here(file),
         }
     }
 
@@ -155,7 +155,7 @@ impl<T: Threads + Drop> ThreadedFile<T> {
     pub(crate) fn after_a_crash(&self)
         ensures { IfHere self.now.place (λ s. WhereOpen s (CrashLeaves s (filed_table s))) }
     {
-        if let Place::Here(file) = &self.place {
+        if let Whereabouts::Here(file) = &self.place {
             file.after_a_crash();
         }
     }
@@ -164,9 +164,9 @@ impl<T: Threads + Drop> ThreadedFile<T> {
     pub fn into_file(self) -> Option<FileRows<Store>> {
         let ThreadedFile { writer, place } = self;
         match place {
-            Place::Here(file) => Some(file),
-            Place::Away(_own, thread) => Some(thread.join(&writer.rt).file),
-            Place::Nowhere => None,
+            Whereabouts::Here(file) => Some(file),
+            Whereabouts::Away(_own, thread) => Some(thread.join(&writer.rt).file),
+            Whereabouts::Nowhere => None,
         }
     }
 
@@ -188,22 +188,22 @@ impl<T: Threads + Drop> ThreadedFile<T> {
         file: FileRows<Store>,
         write: &Write<'_>,
         signals: &Arc<Signals>,
-    ) -> (Place, WriteState)
+    ) -> (Whereabouts, WriteState)
         requires can { (t : Table) × IsKept t false (file_state file) × CanWrite t (write_of write.now) }
         ensures { (t : Table) → IsKept t false (file_state file) → CanWrite t (write_of write.now) → Leaves (IsKeptAt result.0) t (write_of write.now) result.1 }
     {
         let Ok((stays, goes, theirs)) = copies(self.writer.alloc, write, signals) else {
-            return (Place::Here(file), WriteState::Refused);
+            return (Whereabouts::Here(file), WriteState::Refused);
         };
         signals.begin();
         match start(&self.writer.rt, file, goes, theirs) {
             Ok(thread) => {
                 signals.ask_to_return();
-                (Place::Away(stays, thread), WriteState::UnderWay)
+                (Whereabouts::Away(stays, thread), WriteState::UnderWay)
             }
             Err(back) => {
-                signals.settle();
-                (Place::Here(back.file), back.state)
+                signals.note_end();
+                (Whereabouts::Here(back.file), back.state)
             }
         }
     }
@@ -214,29 +214,29 @@ impl<T: Threads + Drop> ThreadedFile<T> {
         own: OwnWrite,
         thread: PromisedHandle<Returned, OfWrite>,
         write: &Write<'_>,
-    ) -> (Place, WriteState)
+    ) -> (Whereabouts, WriteState)
         ensures { (t : Table) → IsHandedOver own thread t → Leaves (IsKeptAt result.0) t (write_of write.now) result.1 }
     {
         let Returned { file, state } = thread.join(&self.writer.rt);
         if let Some(signals) = &self.writer.signals {
-            signals.settle();
+            signals.note_end();
         }
         let state = state_for(&own, write, state);
-        (Place::Here(file), state)
+        (Whereabouts::Here(file), state)
     }
 
     /// Makes the write, begins to, or ends it.
-    fn go_on(&self, place: Place, write: &Write<'_>) -> (Place, WriteState)
+    fn go_on(&self, place: Whereabouts, write: &Write<'_>) -> (Whereabouts, WriteState)
         requires can { (t : Table) × IsKeptAt place t false × CanWrite t (write_of write.now) }
         ensures { (t : Table) → IsKeptAt place t false → CanWrite t (write_of write.now) → Leaves (IsKeptAt result.0) t (write_of write.now) result.1 }
     {
         match place {
-            Place::Here(file) => match &self.writer.signals {
+            Whereabouts::Here(file) => match &self.writer.signals {
                 Some(signals) => self.begin(file, write, signals),
                 None => make_here(file, write),
             },
-            Place::Away(own, thread) => self.end(own, thread, write),
-            Place::Nowhere => (Place::Nowhere, WriteState::Unknown),
+            Whereabouts::Away(own, thread) => self.end(own, thread, write),
+            Whereabouts::Nowhere => (Whereabouts::Nowhere, WriteState::Unknown),
         }
     }
 }
@@ -250,7 +250,7 @@ impl<T: Threads + Drop> Filing for ThreadedFile<T> {
         if self.shall_return() {
             return WriteState::UnderWay;
         }
-        let place = mem::replace(&mut self.place, Place::Nowhere);
+        let place = mem::replace(&mut self.place, Whereabouts::Nowhere);
         let (place, state) = self.go_on(place, write);
         self.place = place;
         state

@@ -7,7 +7,7 @@ use Rattle.std.specs.FinSet as set
 use Rattle.hdl_name.specs.Name.{prefix, authority}
 use Rattle.hdl_value.specs.declared.value.Value.{Value}
 use Rattle.hdl_value.specs.Place.{Place, same_handle, same_place}
-use Rattle.hdl_value.specs.Refs.{refs_of, granted, listed}
+use Rattle.hdl_value.specs.Refs.{refs_of, value_grants, listed_places}
 use Rattle.hdl_value.proofs.Places.{handle_total, handle_antisymmetric, place_total, place_antisymmetric, handles_equal}
 use Rattle.hdl_rows.specs.Table.{Table, at, place, values_of, names_of, in_order}
 use Rattle.hdl_rows.proofs.Writes.{same_values, some_none}
@@ -64,7 +64,7 @@ module _ (hosted : List ℕ → Bool) (C : List Place) (t t' : Table) (agree : A
 
     grants_among : (vs : List Value) → AllByRecursion (λ v. Covers C (refs_of v)) vs → GrantsAmong C (grants vs)
     grants_among [] all = tt
-    grants_among (v ∷ vs) all = all_append _ (granted v) (grants vs) (grants_covered (granted v) (listed v) all.0) (grants_among vs all.1)
+    grants_among (v ∷ vs) all = all_append _ (value_grants v) (grants vs) (grants_covered (value_grants v) (listed_places v) all.0) (grants_among vs all.1)
 
     gate : {X : Type 0} (b : Bool) (x : Option X) (v : X) → cond b x None ≡ Some v → (b ≡ true) × (x ≡ Some v)
     gate true x v e = (refl, e)

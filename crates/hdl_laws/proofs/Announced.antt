@@ -27,7 +27,7 @@ use Rattle.hdl_events.specs.declared.Happening.{Happening}
 use Rattle.hdl_events.specs.declared.Happening.TheVariants.{Open, Bad, Close}
 use Rattle.hdl_laws.specs.Lanes.{LaneState, with_partials}
 use Rattle.hdl_laws.specs.Worlds.{World, hosts, algorithms, owner, lane_of}
-use Rattle.hdl_laws.specs.Tasks.{Received, Message, message_from, Task, Ignore, Break, Malformed, Unknown, Late, Ask, Redeem, is_late, redeemed, redeem_task, IsReading, IsResponseTask, IsRequestTask, IsContentTask, IsMessageTask, IsWholeTask, IsFrameTask, IsOctetsTask, IsTask}
+use Rattle.hdl_laws.specs.Tasks.{Received, Message, message_from, Task, Ignore, Break, Malformed, Unknown, Late, Ask, Redeem, is_late, without_challenge, redeem_task, IsReading, IsResponseTask, IsRequestTask, IsContentTask, IsMessageTask, IsWholeTask, IsFrameTask, IsOctetsTask, IsTask}
 use Rattle.hdl_laws.specs.Effects.{Effect, Does, answer_effect, challenge_effect}
 use Rattle.hdl_laws.specs.Steps.{Turn, IsAnswerFor, IsStep}
 use Rattle.hdl_laws.specs.Reveals.{IsSelfTold, sent_by, StepsAnnounce}
@@ -71,7 +71,7 @@ redeem_coded : (s : LaneState) (m : Message) (a : Response) (p : Pending) (o : O
 redeem_coded s m a p None h = tt
 redeem_coded s m a p (Some r) h = by (is_late m p)
   where
-    by : (b : Bool) → CodedTask (cond {A = Task} b (Late m r (algorithm_of p.digest) (redeemed s m)) (Redeem m r (record { response = a; nonce = p.nonce; digest = p.digest }) (redeemed s m)))
+    by : (b : Bool) → CodedTask (cond {A = Task} b (Late m r (algorithm_of p.digest) (without_challenge s m)) (Redeem m r (record { response = a; nonce = p.nonce; digest = p.digest }) (without_challenge s m)))
     by true = tt
     by false = h.has_code
 

@@ -5,12 +5,12 @@ use Rattle.std.specs.List.{flat_map}
 use Rattle.std.specs.Ordering.{eq_by_cmp}
 use Rattle.std.specs.FinMap as map
 use Rattle.hdl_value.specs.Place.{Place, place_cmp}
-use Rattle.hdl_value.specs.Refs.{refs_of, granted, listed}
+use Rattle.hdl_value.specs.Refs.{refs_of, value_grants, listed_places}
 use Rattle.hdl_value.specs.declared.value.Value.{Value}
 use Rattle.hdl_rows.specs.Table.{Table, at}
 use Rattle.hdl_reach.specs.Reach.{is_among, listed_in, lists}
 use Rattle.hdl_reach.proofs.Members.{among_front, among_back}
-use Rattle.hdl_laws.specs.Isolation.{EachCovered, written}
+use Rattle.hdl_laws.specs.Isolation.{EachCovered, own_writes}
 use Rattle.hdl_laws.specs.Laws.{HasCover}
 
 abbrev pub refs_in : Option Value → List Place
@@ -33,7 +33,7 @@ at_refs t p q h = in_refs (map.entries t.values) p q (subst (λ o. IsTrue (is_am
 
 listed_refs : (o : Option Value) (q : Place) → IsTrue (is_among q (listed_in o)) → IsTrue (is_among q (refs_in o))
 listed_refs None q h = h
-listed_refs (Some v) q h = among_back (map_list (λ g. g.1) (granted v)) (listed v) q h
+listed_refs (Some v) q h = among_back (map_list (λ g. g.1) (value_grants v)) (listed_places v) q h
 
 each_covered : (C : List Place) (vs : List Value) → ((q : Place) → IsTrue (is_among q (all_refs vs)) → IsTrue (is_among q C)) → EachCovered C vs
 each_covered C [] f = tt
@@ -42,13 +42,13 @@ each_covered C (v ∷ vs) f = (λ q h. f q (among_front (refs_of v) _ q h), each
 pub has_cover : HasCover
 has_cover w ts u =
     let first = all_refs (map.values w.table.values) in
-    let more = all_refs (written w.site u ts) in (
+    let more = all_refs (own_writes w.site u ts) in (
       first ++ more,
       record {
         start = record {
           rows = λ p v hosted is q h. among_front first more q (at_refs w.table p q (subst (λ o. IsTrue (is_among q (refs_in o))) (sym is) h));
           onward = λ r p here h. among_front first more p (at_refs w.table r p (listed_refs (at w.table r) p h));
         };
-        written = each_covered (first ++ more) (written w.site u ts) (λ q h. among_back first more q h);
+        written = each_covered (first ++ more) (own_writes w.site u ts) (λ q h. among_back first more q h);
       },
     )

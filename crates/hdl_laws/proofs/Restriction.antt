@@ -22,7 +22,7 @@ use Rattle.hdl_laws.specs.Tasks.{IsTask}
 use Rattle.hdl_laws.specs.Effects.{Does}
 use Rattle.hdl_laws.specs.Steps.{Turn, moment_of, after_effect, IsAnswerFor, IsAnswer, IsBusy, IsStep}
 use Rattle.hdl_laws.specs.Runs.{is_busy, IsRun, last, IsRunWithoutBusy}
-use Rattle.hdl_laws.specs.Isolation.{Agrees, IsClosed, EachCovered, values_written, written, IsQuiet, is_owned_by, owns, is_mine, restrict, restrict_site, restrict_table, is_turn_of, turns_of}
+use Rattle.hdl_laws.specs.Isolation.{Agrees, IsClosed, EachCovered, values_written, own_writes, IsQuiet, is_owned_by, owns, is_mine, restrict, restrict_site, restrict_table, is_turn_of, turns_of}
 use Rattle.hdl_laws.proofs.Maps.{get-retained}
 use Rattle.hdl_laws.proofs.Writes.{restrict-apply_if, restrict_same, restrict_agrees, closed_after, closed_agrees}
 use Rattle.hdl_laws.proofs.Steps.{does_agrees, does_change, does_calm}
@@ -206,7 +206,7 @@ module _ (u : ℕ) (C : List Place) where
   pub record Facts (w : World) (ts : List Turn) : Type 0 where
     pub run : IsRun w ts
     pub closed : IsClosed (hosts w.site u) C w.table
-    pub written : EachCovered C (written w.site u ts)
+    pub written : EachCovered C (own_writes w.site u ts)
     pub quiet : IsQuiet w.site u C w ts
 
   pub facts_after : (w : World) (t : Turn) (ts : List Turn) → Facts w (t ∷ ts) → Facts t.after ts
@@ -214,8 +214,8 @@ module _ (u : ℕ) (C : List Place) where
       let e = sym (site_stays w t f.run.0) in
       record {
         run = f.run.1;
-        closed = subst (λ s. IsClosed (hosts s u) C t.after.table) e (closed_step w t f.closed (covered_left _ (written w.site u ts) f.written) f.quiet.0 f.run.0);
-        written = subst (λ s. EachCovered C (written s u ts)) e (covered_right (cond (is_mine w.site u t.event) (values_written t.change) []) _ f.written);
+        closed = subst (λ s. IsClosed (hosts s u) C t.after.table) e (closed_step w t f.closed (covered_left _ (own_writes w.site u ts) f.written) f.quiet.0 f.run.0);
+        written = subst (λ s. EachCovered C (own_writes s u ts)) e (covered_right (cond (is_mine w.site u t.event) (values_written t.change) []) _ f.written);
         quiet = subst (λ s. IsQuiet s u C t.after ts) e f.quiet.1;
       }
 

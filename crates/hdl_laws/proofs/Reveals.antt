@@ -13,7 +13,7 @@ use Rattle.hdl_msg.specs.declared.replies.ReplyContent.TheVariants.{Empty}
 use Rattle.hdl_msg.proofs.ReplyLaws.{code-short_reply}
 use Rattle.hdl_ops.specs.Admission.{request_algorithm}
 use Rattle.hdl_ops.specs.Decisions.{Level, Anyone, Proven, Decision, Decides}
-use Rattle.hdl_ops.specs.Laws.{told}
+use Rattle.hdl_ops.specs.Laws.{content_by_code}
 use Rattle.hdl_ops.proofs.Codes.{is_answer_code, code_fits, decides_code, tells_by_code_lem}
 use Rattle.hdl_events.specs.declared.Outcome.TheVariants.{Reply, Busy, Silent, CloseAfter}
 use Rattle.hdl_laws.specs.Lanes.{LaneState}
@@ -45,20 +45,20 @@ by_its_code a e r code content octets fits is =
 
 -- a decision's answer tells what its code says
 decided_reply : (hosted : List ℕ → Bool) (a : Algorithm) (t : Table) (e : Envelope) (r : Content) (level : Level) (d : Decision) (octets : List ℕ) → Decides hosted a t r level d → octets ≡ answer_octets a e r d.code d.content
-    → octets ≡ answer_octets a e r (response_code_at octets) (told t r level (response_code_at octets))
+    → octets ≡ answer_octets a e r (response_code_at octets) (content_by_code t r level (response_code_at octets))
 decided_reply hosted a t e r level d octets decided is =
-    by_its_code a e r d.code (told t r level) octets (decides_code hosted a t r level d decided) (is ∙ ap (answer_octets a e r d.code) (tells_by_code_lem hosted a t r level d decided))
+    by_its_code a e r d.code (content_by_code t r level) octets (decides_code hosted a t r level d decided) (is ∙ ap (answer_octets a e r d.code) (tells_by_code_lem hosted a t r level d decided))
 
 asked_reply : (hosted : List ℕ → Bool) (a : Algorithm) (t : Table) (s : LaneState) (m : Message) (r : Content) (d : Decision) (octets : List ℕ) (b : Bool) → d.code == 402 ≡ b → Decides hosted a t r Anyone d
     → (cond {A = Effect} b (challenge_effect a s m r) (answer_effect a s m r d)).outcome ≡ Reply octets → octets ≡ asked_octets a t m r s (response_code_at octets)
 asked_reply hosted a t s m r d octets true coded decided is =
     let sent : octets ≡ challenge_octets a s.challenges.next m.envelope r m.nonce = same_reply octets _ is in
     let at : response_code_at octets ≡ 402 = ap response_code_at sent ∙ challenge_code a s.challenges.next m.envelope.request r m.nonce in
-    sent ∙ ap (λ c. cond (c == 402) (challenge_octets a s.challenges.next m.envelope r m.nonce) (answer_octets a m.envelope r c (told t r Anyone c))) (sym at)
+    sent ∙ ap (λ c. cond (c == 402) (challenge_octets a s.challenges.next m.envelope r m.nonce) (answer_octets a m.envelope r c (content_by_code t r Anyone c))) (sym at)
 asked_reply hosted a t s m r d octets false coded decided is =
     let sent : octets ≡ answer_octets a m.envelope r d.code d.content = same_reply octets _ is in
     let at : response_code_at octets ≡ d.code = ap response_code_at sent ∙ reply_code a m.envelope.session m.envelope.request r d.code d.content (decides_code hosted a t r Anyone d decided) in
-    let answer = answer_octets a m.envelope r (response_code_at octets) (told t r Anyone (response_code_at octets)) in
+    let answer = answer_octets a m.envelope r (response_code_at octets) (content_by_code t r Anyone (response_code_at octets)) in
     decided_reply hosted a t m.envelope r Anyone d octets decided sent ∙ ap (λ b. cond b (challenge_octets a s.challenges.next m.envelope r m.nonce) answer) (sym (ap (λ c. c == 402) at ∙ coded))
 
 does_tell : (hosted : List ℕ → Bool) (algorithms : List ℕ → Algorithm) (t : Table) (k : Task) (eff : Effect) (octets : List ℕ) → Does hosted algorithms t k eff → eff.outcome ≡ Reply octets → IsReplyBy algorithms t k (response_code_at octets) octets

@@ -20,7 +20,7 @@ use Rattle.hdl_ops.specs.Admission.{refusal, request_algorithm}
 use Rattle.hdl_ops.specs.Requests.{Response, sent_handle, response_of}
 use Rattle.hdl_ops.specs.Sights.{Sight, sight}
 use Rattle.hdl_ops.specs.Replies.{fits}
-use Rattle.hdl_ops.specs.Decisions.{Level, Anyone, Proven, Decision, DecidesBy, decision, refused, success, failure, carried_content, change_of}
+use Rattle.hdl_ops.specs.Decisions.{Level, Anyone, Proven, Decision, DecidesBy, decision, refusal_decision, success, failure, carried_content, change_of}
 use Rattle.hdl_ops.proofs.Passed.{Passes, passes_unless_refused, canonical_is_hosted}
 use Rattle.hdl_ops.proofs.Decided.{one_decision_lem}
 use Rattle.hdl_events.specs.declared.Happening.{Happening}
@@ -154,8 +154,8 @@ module _ (hosted : List ℕ → Bool) (t : Table) where
       pick true false = changes_none hosted
       pick false c = changes_none hosted
 
-  refused_change : (r : Content) (code : ℕ) → (refused r code).change ≡ None
-  unfolding refused
+  refused_change : (r : Content) (code : ℕ) → (refusal_decision r code).change ≡ None
+  unfolding refusal_decision
   refused_change r code = refl
 
   decided_change : (a : Algorithm) (r : Content) (level : Level) (d : Decision) (c : Option ℕ) → refusal hosted r ≡ c → DecidesBy a t r level c d → ChangesHosted hosted d.change

@@ -9,7 +9,7 @@ use Rattle.hdl_events.specs.declared.Outcome.TheVariants.{Busy}
 use Rattle.hdl_laws.specs.Worlds.{World, hosts, algorithms, owner, lane_of}
 use Rattle.hdl_laws.specs.Tasks.{Received}
 use Rattle.hdl_laws.specs.Effects.{Effect, Does}
-use Rattle.hdl_laws.specs.Steps.{arrived, Turn, IsBusy, IsStep, moment_of, after_effect}
+use Rattle.hdl_laws.specs.Steps.{happening_of, Turn, IsBusy, IsStep, moment_of, after_effect}
 use Rattle.hdl_laws.specs.Runs.{IsRun, last, events, outcomes}
 use Rattle.hdl_laws.specs.Isolation.{AreTwins, AreTwinWorlds, code_of, AllowsTurn, Allows}
 use Rattle.hdl_laws.specs.Laws.{TwinsReplyAlike}
@@ -26,7 +26,7 @@ not_busy_code : (w v : World) (t t' : Turn) (e : Event) → code_of t.outcome �
 not_busy_code w v t t' e codes a b =
     true≢false (sym (ap (λ (z : Turn). code_of z.outcome == 3) b.busy) ∙ ap (λ c. c == 3) (sym codes) ∙ answers_code w e (owner w.site e.lane) t a)
 
-same_received : (x y : Received) → arrived x ≡ arrived y → x ≡ y
+same_received : (x y : Received) → happening_of x ≡ happening_of y → x ≡ y
 same_received x y e =
     let peers : x.peer ≡ y.peer = cc in
     let moments : x.moment ≡ y.moment = cc in

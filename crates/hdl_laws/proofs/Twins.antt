@@ -11,7 +11,7 @@ use Rattle.hdl_value.proofs.Places.{place_total, place_antisymmetric, handles_eq
 use Rattle.hdl_rows.specs.Table.{Table, at, values_of, names_of, in_order}
 use Rattle.hdl_rows.specs.Write as write
 use Rattle.hdl_rows.specs.Write.{Write, handle_of}
-use Rattle.hdl_rows.proofs.Writes.{put_at, removed_at, at_after, at-written}
+use Rattle.hdl_rows.proofs.Writes.{put_at, removed_at, at_after, at-after_write}
 use Rattle.hdl_auth.specs.declared.algorithm.Algorithm.{Algorithm}
 use Rattle.hdl_auth.specs.Digest.{algorithm_of}
 use Rattle.hdl_msg.specs.Message.{Content, Operation, resolution, create, delete, add, remove, modify, list, response, other}
@@ -187,20 +187,20 @@ module _ (H : List (List ℕ)) (t t' : Table) (twins : AreTwins H t t') where
   after_twin f (write.Remove h is) i x y e = removed_twin f is i x y e
   after_twin f (write.Modify h vs) i x y e = put_twin f vs i x y e
 
-  handles_twin : (w : Write) → (write.written t w).handles ≡ (write.written t' w).handles
+  handles_twin : (w : Write) → (write.after_write t w).handles ≡ (write.after_write t' w).handles
   handles_twin (write.Create h vs) = ap (λ s. set.insert s h) twins.handles
   handles_twin (write.Delete h) = ap (λ s. set.remove s h) twins.handles
   handles_twin (write.Add h vs) = twins.handles
   handles_twin (write.Remove h is) = twins.handles
   handles_twin (write.Modify h vs) = twins.handles
 
-  write_twin : (w : Write) → AreTwins H (write.written t w) (write.written t' w)
+  write_twin : (w : Write) → AreTwins H (write.after_write t w) (write.after_write t' w)
   write_twin w = record {
     handles = handles_twin w;
     values = λ p.
-        ap (option_map (readable H p.handle)) (at-written t w p)
+        ap (option_map (readable H p.handle)) (at-after_write t w p)
         ∙ either p (same_handle p.handle (handle_of w))
-        ∙ sym (ap (option_map (readable H p.handle)) (at-written t' w p));
+        ∙ sym (ap (option_map (readable H p.handle)) (at-after_write t' w p));
   }
     where
       either : (p : Place) (b : Bool) → option_map (readable H p.handle) (cond b (at_after w p.index (at t p)) (at t p)) ≡ option_map (readable H p.handle) (cond b (at_after w p.index (at t' p)) (at t' p))

@@ -6,17 +6,17 @@ use Rattle.std.specs.FinSet as set
 use Rattle.hdl_name.specs.Name.{prefix}
 use Rattle.hdl_value.specs.declared.value.Value.{Value}
 use Rattle.hdl_value.specs.Place.{Place, same_handle, same_place}
-use Rattle.hdl_value.specs.Refs.{refs_of, granted, listed}
+use Rattle.hdl_value.specs.Refs.{refs_of, value_grants, listed_places}
 use Rattle.hdl_value.proofs.Places.{handle_total, handle_antisymmetric, place_antisymmetric, handles_equal}
 use Rattle.hdl_rows.specs.Table.{Table, has, at}
 use Rattle.hdl_rows.specs.Write as write
 use Rattle.hdl_rows.specs.Write.{Write, handle_of}
-use Rattle.hdl_rows.proofs.Writes.{apart, some_none, same_look_ups_lem, put_at, removed_at, at_after, has_after, at-written, has-written}
+use Rattle.hdl_rows.proofs.Writes.{apart, some_none, same_look_ups_lem, put_at, removed_at, at_after, has_after, at-after_write, has-after_write}
 use Rattle.hdl_reach.specs.Reach.{is_among, listed_in}
 use Rattle.hdl_reach.proofs.Members.{among_first, among_back, or_true}
 use Rattle.hdl_ops.specs.declared.change.Change.{Change}
 use Rattle.hdl_ops.specs.declared.change.Change.TheVariants.{Create, Delete, Add, Remove, Modify}
-use Rattle.hdl_ops.specs.Tables.{write_of, stamped, stamped_write, apply, apply_if}
+use Rattle.hdl_ops.specs.Tables.{write_of, with_timestamp, stamped_write, apply, apply_if}
 use Rattle.hdl_laws.specs.Isolation.{Agrees, IsClosed, Covers, EachCovered, changed_values, values_written, is_retained, restrict_table, foreign_handles}
 use Rattle.hdl_laws.proofs.Maps.{get-retained, contains-retained, gated_and}
 
@@ -50,17 +50,17 @@ module _ (Q : Value → Type 0) where
       kept true y k = absurd (some_none y (sym k))
       kept false y k = was y k
 
-  left_from : (moment : ℕ) (c : Change) (i : ℕ) (x : Option Value) (v : Value) → AllByRecursion Q (map (stamped moment) (changed_values c)) → ((y : Value) → x ≡ Some y → Q y)
+  left_from : (moment : ℕ) (c : Change) (i : ℕ) (x : Option Value) (v : Value) → AllByRecursion Q (map (with_timestamp moment) (changed_values c)) → ((y : Value) → x ≡ Some y → Q y)
       → at_after (stamped_write moment (write_of c)) i x ≡ Some v → Q v
-  left_from moment (Create name vs) i x v all was e = put_from (map (stamped moment) vs) i x v all was e
+  left_from moment (Create name vs) i x v all was e = put_from (map (with_timestamp moment) vs) i x v all was e
   left_from moment (Delete name) i x v all was e = absurd (some_none v (sym e))
-  left_from moment (Add name vs) i x v all was e = put_from (map (stamped moment) vs) i x v all was e
+  left_from moment (Add name vs) i x v all was e = put_from (map (with_timestamp moment) vs) i x v all was e
   left_from moment (Remove name is) i x v all was e = removed_from is i x v was e
-  left_from moment (Modify name vs) i x v all was e = put_from (map (stamped moment) vs) i x v all was e
+  left_from moment (Modify name vs) i x v all was e = put_from (map (with_timestamp moment) vs) i x v all was e
 
-  from_change : (t : Table) (moment : ℕ) (c : Change) (p : Place) → AllByRecursion Q (map (stamped moment) (changed_values c)) → ((y : Value) → at t p ≡ Some y → Q y)
+  from_change : (t : Table) (moment : ℕ) (c : Change) (p : Place) → AllByRecursion Q (map (with_timestamp moment) (changed_values c)) → ((y : Value) → at t p ≡ Some y → Q y)
       → (v : Value) → at (apply t moment c) p ≡ Some v → Q v
-  from_change t moment c p all was v e = either (same_handle p.handle (handle_of w)) (sym (at-written t w p) ∙ e)
+  from_change t moment c p all was v e = either (same_handle p.handle (handle_of w)) (sym (at-after_write t w p) ∙ e)
     where
       w : Write
       w = stamped_write moment (write_of c)
@@ -131,28 +131,28 @@ module _ (hosted : List ℕ → Bool) (C : List Place) where
           both false = e
 
   -- to write hosted rows and to restrict is to restrict and to write
-  restrict-written : (t : Table) (w : Write) → IsTrue (hosted (prefix (handle_of w))) → restrict_table hosted C (write.written t w) ≡ write.written (restrict_table hosted C t) w
-  restrict-written t w mine =
+  restrict-after_write : (t : Table) (w : Write) → IsTrue (hosted (prefix (handle_of w))) → restrict_table hosted C (write.after_write t w) ≡ write.after_write (restrict_table hosted C t) w
+  restrict-after_write t w mine =
       let own : (h : List ℕ) → same_handle h (handle_of w) ≡ true → hosted (prefix h) ≡ true = λ h e. ap (λ g. hosted (prefix g)) (handles_equal h (handle_of w) e) ∙ mine in
-      let elsewhere : (p : Place) → IsFalse (hosted (prefix p.handle)) → at (write.written t w) p ≡ at t p =
-      λ p theirs. at-written t w p ∙ ap (λ b. cond b (at_after w p.index (at t p)) (at t p)) (apart p.handle (handle_of w) (λ is. true≢false (sym mine ∙ ap (λ g. hosted (prefix g)) (sym is) ∙ theirs))) in
+      let elsewhere : (p : Place) → IsFalse (hosted (prefix p.handle)) → at (write.after_write t w) p ≡ at t p =
+      λ p theirs. at-after_write t w p ∙ ap (λ b. cond b (at_after w p.index (at t p)) (at t p)) (apart p.handle (handle_of w) (λ is. true≢false (sym mine ∙ ap (λ g. hosted (prefix g)) (sym is) ∙ theirs))) in
       same_look_ups_lem _ _
       (λ h.
-      has-restrict_table (write.written t w) h
-      ∙ (λ i. (has-written t w h i && hosted (prefix h)) || list_any (same_handle h) (foreign_same (write.written t w) t C (λ p m theirs. elsewhere p theirs) i))
+      has-restrict_table (write.after_write t w) h
+      ∙ (λ i. (has-after_write t w h i && hosted (prefix h)) || list_any (same_handle h) (foreign_same (write.after_write t w) t C (λ p m theirs. elsewhere p theirs) i))
       ∙ gate_there (same_handle h (handle_of w)) (hosted (prefix h)) (list_any (same_handle h) (foreign_handles hosted C t)) (has t h) (has_after w) (own h) (none_foreign t h C)
       ∙ ap (λ x. cond (same_handle h (handle_of w)) (has_after w x) x) (sym (has-restrict_table t h))
-      ∙ sym (has-written (restrict_table hosted C t) w h))
+      ∙ sym (has-after_write (restrict_table hosted C t) w h))
       (λ p.
-      at-restrict_table (write.written t w) p
-      ∙ ap (λ x. cond (is_retained hosted C p) x None) (at-written t w p)
+      at-restrict_table (write.after_write t w) p
+      ∙ ap (λ x. cond (is_retained hosted C p) x None) (at-after_write t w p)
       ∙ gate_written (same_handle p.handle (handle_of w)) (is_retained hosted C p) (at_after w p.index) (at t p) (λ e. ap (λ b. b || is_among p C) (own p.handle e))
       ∙ ap (λ x. cond (same_handle p.handle (handle_of w)) (at_after w p.index x) x) (sym (at-restrict_table t p))
-      ∙ sym (at-written (restrict_table hosted C t) w p))
+      ∙ sym (at-after_write (restrict_table hosted C t) w p))
 
   pub restrict-apply_if : (t : Table) (moment : ℕ) (c : Option Change) → ((x : Change) → c ≡ Some x → IsTrue (hosted (prefix (written_handle x)))) → restrict_table hosted C (apply_if t moment c) ≡ apply_if (restrict_table hosted C t) moment c
   restrict-apply_if t moment None mine = refl
-  restrict-apply_if t moment (Some c) mine = restrict-written t (stamped_write moment (write_of c)) (ap (λ h. hosted (prefix h)) (stamped_handle moment (write_of c)) ∙ mine c refl)
+  restrict-apply_if t moment (Some c) mine = restrict-after_write t (stamped_write moment (write_of c)) (ap (λ h. hosted (prefix h)) (stamped_handle moment (write_of c)) ∙ mine c refl)
 
   -- ---- restriction sees only the hosted rows and C
 
@@ -181,16 +181,16 @@ module _ (hosted : List ℕ → Bool) (C : List Place) where
 
   -- ---- closed covers
 
-  each_stamped : (Q : Value → Type 0) (moment : ℕ) → ((v : Value) → Covers C (refs_of v) → Q v) → (vs : List Value) → EachCovered C vs → AllByRecursion Q (map (stamped moment) vs)
+  each_stamped : (Q : Value → Type 0) (moment : ℕ) → ((v : Value) → Covers C (refs_of v) → Q v) → (vs : List Value) → EachCovered C vs → AllByRecursion Q (map (with_timestamp moment) vs)
   each_stamped Q moment f [] c = tt
-  each_stamped Q moment f (v ∷ vs) c = (f (stamped moment v) c.0, each_stamped Q moment f vs c.1)
+  each_stamped Q moment f (v ∷ vs) c = (f (with_timestamp moment v) c.0, each_stamped Q moment f vs c.1)
 
   -- what is listed by what stands at a place is in C
   abbrev ListsCovered : Value → Type 0
-  ListsCovered v = Covers C (listed v)
+  ListsCovered v = Covers C (listed_places v)
 
   covers_listed : (v : Value) → Covers C (refs_of v) → ListsCovered v
-  covers_listed v c p m = c p (among_back (map (λ g. g.1) (granted v)) (listed v) p m)
+  covers_listed v c p m = c p (among_back (map (λ g. g.1) (value_grants v)) (listed_places v) p m)
 
   onward_by : (x : Option Value) → ((v : Value) → x ≡ Some v → ListsCovered v) → Covers C (listed_in x)
   onward_by None f p m = absurd (true≢false (sym m))

@@ -104,9 +104,9 @@ values_written None = []
 values_written (Some c) = changed_values c
 
 -- the values in the changes that events of u's lanes made
-abbrev pub written : Site → ℕ → List Turn → List Value
-written s u [] = []
-written s u (t ∷ ts) = (if is_mine s u t.event then values_written t.change else []) ++ written s u ts
+abbrev pub own_writes : Site → ℕ → List Turn → List Value
+own_writes s u [] = []
+own_writes s u (t ∷ ts) = (if is_mine s u t.event then values_written t.change else []) ++ own_writes s u ts
 
 -- C holds what the rows of the hosted prefixes refer to, and with each of its places what is listed there
 pub record IsClosed (hosted : List ℕ → Bool) (C : List Place) (t : Table) : Type 0 where
@@ -116,7 +116,7 @@ pub record IsClosed (hosted : List ℕ → Bool) (C : List Place) (t : Table) : 
 -- C is closed at the start, and holds what the values refer to that u writes
 pub record IsCover (u : ℕ) (C : List Place) (w : World) (ts : List Turn) : Type 0 where
   pub start : IsClosed (hosts w.site u) C w.table
-  pub written : EachCovered C (written w.site u ts)
+  pub written : EachCovered C (own_writes w.site u ts)
 
 -- ---- quiet runs
 

@@ -13,7 +13,7 @@ use Rattle.hdl_msg.specs.Reading.{reply_at}
 use Rattle.hdl_msg.specs.declared.replies.ReplyContent.TheVariants.{Empty}
 use Rattle.hdl_ops.specs.Admission.{request_algorithm}
 use Rattle.hdl_ops.specs.Decisions.{Anyone, Proven}
-use Rattle.hdl_ops.specs.Laws.{told}
+use Rattle.hdl_ops.specs.Laws.{content_by_code}
 use Rattle.hdl_events.specs.declared.Event.{Event}
 use Rattle.hdl_events.specs.declared.Outcome.{Outcome}
 use Rattle.hdl_events.specs.declared.Outcome.TheVariants.{Reply, Busy, Silent, CloseAfter}
@@ -27,7 +27,7 @@ use Rattle.hdl_laws.specs.Runs.{Steps}
 abbrev pub asked_octets : Algorithm → Table → Message → Content → LaneState → ℕ → List ℕ
 asked_octets a t m r s code =
     if code == response_number AuthenticationNeeded then challenge_octets a s.challenges.next m.envelope r m.nonce
-    else answer_octets a m.envelope r code (told t r Anyone code)
+    else answer_octets a m.envelope r code (content_by_code t r Anyone code)
 
 -- The octets are the reply with this code to what the event comes to, where prefixes have these hash functions. Of the table they
 -- hold what is told with the code at the level of the caller, and nothing else.
@@ -38,7 +38,7 @@ IsReplyBy algorithms t (Malformed m s) code octets = octets ≡ short_reply code
 IsReplyBy algorithms t (Unknown m r s) code octets = octets ≡ answer_octets Sha1 m.envelope r code Empty
 IsReplyBy algorithms t (Late m r a s) code octets = octets ≡ answer_octets a m.envelope r code Empty
 IsReplyBy algorithms t (Ask m r s) code octets = octets ≡ asked_octets (request_algorithm algorithms r) t m r s code
-IsReplyBy algorithms t (Redeem m r p s) code octets = octets ≡ answer_octets (algorithm_of p.digest) m.envelope r code (told t r (Proven p) code)
+IsReplyBy algorithms t (Redeem m r p s) code octets = octets ≡ answer_octets (algorithm_of p.digest) m.envelope r code (content_by_code t r (Proven p) code)
 
 -- the same in this world and on this lane
 abbrev pub IsReplyTo : World → ℕ → Task → ℕ → List ℕ → Type 0

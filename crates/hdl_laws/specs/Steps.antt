@@ -25,8 +25,8 @@ moment_of (Bad session request) = 0
 moment_of Close = 0
 
 -- the frame event of what was received
-abbrev pub arrived : Received → Happening
-arrived received = Happening.Frame received.peer received.moment received.nonce received.bytes
+abbrev pub happening_of : Received → Happening
+happening_of received = Happening.Frame received.peer received.moment received.nonce received.bytes
 
 -- one step: the event, its outcome, the change that it made, the world after it
 pub record Turn : Type 0 where
@@ -58,7 +58,7 @@ IsAnswer world step = IsAnswerFor world (owner world.site step.event.lane) step
 -- want of memory, or a refusal of the store: a frame on an open lane of somebody is answered busy, and the world stays
 pub record IsBusy (world : World) (step : Turn) : Type 0 where
   pub received : Received
-  pub frame_event : step.event.what ≡ arrived received
+  pub frame_event : step.event.what ≡ happening_of received
   pub frame : IsFrame received.bytes
   pub owned : owner world.site step.event.lane ≢ None
   pub is_open : IsTrue (lane_of world step.event.lane).is_open

@@ -55,16 +55,16 @@ abbrev pub is_late : Message → Pending → Bool
 is_late arrival challenge = nat_lt CHALLENGE_LIFE (arrival.moment - challenge.moment)
 
 -- the lane without the challenge that the message names
-abbrev pub redeemed : LaneState → Message → LaneState
-redeemed state arrival = record state { challenges = spend_challenge state.challenges arrival.peer arrival.envelope.session }
+abbrev pub without_challenge : LaneState → Message → LaneState
+without_challenge state arrival = record state { challenges = spend_challenge state.challenges arrival.peer arrival.envelope.session }
 
 -- the challenged request, by the reading of its message; its challenge is spent
 abbrev pub redeem_task : LaneState → Message → Response → Pending → Option Content → Task
-redeem_task state arrival response challenge None = Malformed arrival (redeemed state arrival)
+redeem_task state arrival response challenge None = Malformed arrival (without_challenge state arrival)
 redeem_task state arrival response challenge (Some request) =
     if is_late arrival challenge
-    then Late arrival request (algorithm_of challenge.digest) (redeemed state arrival)
-    else Redeem arrival request (record { response = response; nonce = challenge.nonce; digest = challenge.digest }) (redeemed state arrival)
+    then Late arrival request (algorithm_of challenge.digest) (without_challenge state arrival)
+    else Redeem arrival request (record { response = response; nonce = challenge.nonce; digest = challenge.digest }) (without_challenge state arrival)
 
 -- a challenge response, by the challenge that it names
 abbrev pub IsResponseTask : LaneState → Message → Content → Response → Option Pending → Task → Type 0

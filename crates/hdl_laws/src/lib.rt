@@ -6,7 +6,7 @@
 //! rest on: its rows and a cover, a list of places closed under references. The laws in [`laws`] are the contracts of functions
 //! without a body, which the service calls: runs join, a publisher's part of a quiet run is the run of its events alone, and no
 //! reply shows more than its code of what may not be read. Two more say that the premises can be met: every run has a cover, and a
-//! run in which nobody else changes the table is quiet. `specs/Told.antt` says what one reply tells, and when what is sent is read.
+//! run in which nobody else changes the table is quiet. `specs/Reveals.antt` says what one reply tells, and when what is sent is read.
 //!
 //! What an event comes to before the table is looked at is a `Task`, a challenge and its response among them. It stands on
 //! `hdl_ops` and on the definitions of `hdl_pool` and `hdl_slots` of a lane's partial messages and challenges, and has no state:
@@ -20,5 +20,3 @@
 #![tactic(auto)]
 
 pub mod laws;
-
-pub use hdl_events::{Event, Happening, Outcome};

@@ -4,8 +4,9 @@
 //! from `specs.declared.TheConstants`, so the number stands in no other file of `src/` or `specs/`. [`numbers`] says each number, so
 //! that none changes unseen. To change a limit, change its constant, its clause there, and docs/PROTOCOL.md.
 //!
-//! This crate is the lowest of the service and stands on no other. What each layer above shares stands here too: the definition of
-//! octets (`specs/Octets.antt`), and [`Items`], a vector that contracts see as a list, such as [`Octets`].
+//! This crate is the lowest of the service and stands on no other. What each layer above shares stands here too: the definitions of
+//! octets (`specs/Octets.antt`) and of counts of 64 bits (`specs/Counts.antt`), and [`Items`], a vector that contracts see as a list, such
+//! as [`Octets`].
 //!
 //! ```rust
 //! // crates/hdl_codec_tests/src/name.rt

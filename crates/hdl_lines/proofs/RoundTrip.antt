@@ -28,7 +28,7 @@ use Rattle.hdl_value.specs.Permission.{bits}
 use Rattle.hdl_lines.specs.Fields.{space, colon, is_word, is_text, is_handle_word, permission_digits}
 use Rattle.hdl_lines.specs.declared.fault.LineFault.TheVariants as fault
 use Rattle.hdl_lines.specs.Data.{admin_parts, reference_in, each_in, references_in, hex_in, admin_words, reference_text, list_words, list_text, plain_text, data_text}
-use Rattle.hdl_lines.specs.Lines.{data_in, unstamped, value_in_octets, value_in_digits, value_in_fields, value_in, has_fields, field, fields_text, line_of}
+use Rattle.hdl_lines.specs.Lines.{data_in, without_stamp, value_in_octets, value_in_digits, value_in_fields, value_in, has_fields, field, fields_text, line_of}
 use Rattle.hdl_lines.proofs.Readings.{either, Lacks, cut_again, word_again, is_word_lacks, decimal_digits, decimal_lacks_space, decimal_lacks_colon, number_again, number_field_again, bits_lack_colon, mask_again, permissions_field_again}
 use Rattle.hdl_lines.proofs.Spelt.{spelt_again}
 
@@ -220,7 +220,7 @@ number_no_octets n lt =
     let range = digit_from_value 79 digits.0 in
     omega (arith, range.1))
 
-octets_again : (v : Value) → Fits v → value_in (codes "OCTETS " ++ encode_lower (spelling v)) ≡ Ok (unstamped v)
+octets_again : (v : Value) → Fits v → value_in (codes "OCTETS " ++ encode_lower (spelling v)) ≡ Ok (without_stamp v)
 unfolding value_in value_in_digits value_in_octets
 octets_again v fits = rw (hex_again (spelling v) (spelling_octets v fits)) (rw (spelt_again (spelling v) v fits refl) refl)
 
@@ -247,7 +247,7 @@ in_a_row : (i k t p d : List ℕ) → field i ++ (field k ++ (field t ++ field p
 in_a_row i k t p d = simp append_assoc
 
 -- the value of its parts
-value_made : (v : Value) → Fits v → Plain v → record { index = v.index; kind = v.kind; bytes = v.bytes; ttl = 0 ∷ to_be_bytes w32 (from_be_bytes w32 (drop 1 v.ttl)); permissions = v.permissions; timestamp = 0; references = [] } ≡ unstamped v
+value_made : (v : Value) → Fits v → Plain v → record { index = v.index; kind = v.kind; bytes = v.bytes; ttl = 0 ∷ to_be_bytes w32 (from_be_bytes w32 (drop 1 v.ttl)); permissions = v.permissions; timestamp = 0; references = [] } ≡ without_stamp v
 value_made v fits h =
     let ttl = ttl_again v.ttl fits.ttl fits.ttl_octets h.how in
     let refs = sym h.references in
@@ -256,7 +256,7 @@ value_made v fits h =
 pub ttl_number : (v : Value) → Fits v → from_be_bytes w32 (drop 1 v.ttl) < 2 ^ 32
 ttl_number v fits = wide32.below (drop 1 v.ttl) (AreOctets-drop 1 v.ttl fits.ttl_octets)
 
-fields_again : (v : Value) → Fits v → Plain v → value_in (fields_text v ++ data_text v) ≡ Ok (unstamped v)
+fields_again : (v : Value) → Fits v → Plain v → value_in (fields_text v ++ data_text v) ≡ Ok (without_stamp v)
 unfolding value_in value_in_fields fields_text
 fields_again v fits h =
     let ttl = from_be_bytes w32 (drop 1 v.ttl) in
@@ -269,7 +269,7 @@ fields_again v fits h =
     (rw (data_again v fits)
     (ap Ok (value_made v fits h)))))))
 
-pub written_is_read_lem : (v : Value) → Fits v → value_in (line_of v) ≡ Ok (unstamped v)
+pub written_is_read_lem : (v : Value) → Fits v → value_in (line_of v) ≡ Ok (without_stamp v)
 unfolding line_of
 written_is_read_lem v fits = elim (either (has_fields v)) [
   | inl fields ↦ rw fields (fields_again v fits (plain_from v fields))

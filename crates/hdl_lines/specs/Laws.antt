@@ -6,13 +6,13 @@ use Rattle.hdl_value.specs.Data.{secret_key_kind}
 use Rattle.hdl_value.specs.Spelling.{Fits}
 use Rattle.hdl_lines.specs.declared.fault.LineFault.TheVariants.{Hidden}
 use Rattle.hdl_lines.specs.Fields.{is_line}
-use Rattle.hdl_lines.specs.Lines.{value_in, line_of, unstamped}
+use Rattle.hdl_lines.specs.Lines.{value_in, line_of, without_stamp}
 use Rattle.hdl_lines.specs.Hiding.{hidden_text}
 use Rattle.hdl_lines.specs.Printed.{printed_octets}
 
 -- the line of a value says that value, but for its timestamp
 abbrev pub WrittenIsRead : Type 0
-WrittenIsRead = (v : Value) → Fits v → value_in (line_of v) ≡ Ok (unstamped v)
+WrittenIsRead = (v : Value) → Fits v → value_in (line_of v) ≡ Ok (without_stamp v)
 
 -- what is printed has no control character
 abbrev pub PrintedIsLine : Type 0

@@ -38,14 +38,14 @@ data_in text = do
   ok_or (data_by f (format_and_data text).1) (data_fault f)
 
 -- the value without its timestamp
-abbrev pub unstamped : Value → Value
-unstamped v = record v { timestamp = 0 }
+abbrev pub without_stamp : Value → Value
+without_stamp v = record v { timestamp = 0 }
 
 -- a value by its octets
 unfoldable pub value_in_octets : List ℕ → Result Value LineFault
 value_in_octets octets = do
   v ← ok_or (whole_of value_at octets) fault.Octets
-  Ok (unstamped v)
+  Ok (without_stamp v)
 
 unfoldable pub value_in_digits : List ℕ → Result Value LineFault
 value_in_digits digits = ok_or (hex_in digits) fault.Octets >>= value_in_octets

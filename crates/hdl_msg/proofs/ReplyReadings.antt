@@ -8,7 +8,7 @@ use Rattle.std.proofs.lemmas.Option.{cond_some}
 use Rattle.std.proofs.lemmas.List.{nil_from_length, length-append}
 use Rattle.hdl_auth.specs.declared.algorithm.Digest.{Digest}
 use Rattle.hdl_auth.specs.declared.algorithm.Digest.TheVariants.{Sha1, Sha256}
-use Rattle.hdl_auth.specs.Digest.{spelt as digest_spelling}
+use Rattle.hdl_auth.specs.Digest.{digest_spelling}
 use Rattle.hdl_limits.specs.Octets.{AreOctets}
 use Rattle.hdl_value.specs.Spelling.{string, IsString}
 use Rattle.hdl_value.specs.Reading.{◌>>=◌, pair_at, whole_of, number_at, octets_at, octet_at, string_at, Takes, IsCodec}

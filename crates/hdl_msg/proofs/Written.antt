@@ -14,7 +14,8 @@ use Rattle.hdl_msg.specs.declared.replies.Reply.{Reply}
 use Rattle.hdl_msg.specs.declared.replies.ReplyContent.{ReplyContent}
 use Rattle.hdl_msg.specs.declared.replies.ReplyContent.TheVariants.{Values, Handles, Nothing, Referral, Nonce, Empty}
 use Rattle.hdl_limits.specs.declared.TheConstants.{MESSAGE_MAX}
-use Rattle.hdl_msg.specs.Reply.{capped, CanBeWritten, content_octets, digest_octets, reply_body, reply_message, reply_octets}
+use Rattle.hdl_msg.specs.Reply.{CanBeWritten, content_octets, digest_octets, reply_body, reply_message, reply_octets}
+use Rattle.hdl_limits.specs.Counts.{at_most_u64}
 
 regroup_header : (o a b c d : List ℕ) (p q : ℕ) (g : List ℕ) → o ++ a ++ b ++ c ++ d ++ (p ∷ []) ++ (q ∷ []) ++ g ≡ o ++ (a ++ (b ++ (c ++ (d ++ (p ∷ (q ∷ g))))))
 regroup_header o a b c d p q g = simp append_assoc
@@ -47,14 +48,14 @@ length-spelling v =
       length-append v.ttl (v.permissions ∷ (to_be_bytes w64 v.timestamp ++ references v.references)),
     )
 
-pub capped-sum : (a b : ℕ) → capped (capped a + b) ≡ capped (a + b)
-capped-sum a b = omega arith
+pub at_most_u64-sum : (a b : ℕ) → at_most_u64 (at_most_u64 a + b) ≡ at_most_u64 (a + b)
+at_most_u64-sum a b = omega arith
 
-pub capped-both : (a b : ℕ) → capped (capped a + capped b) ≡ capped (a + b)
-capped-both a b = omega arith
+pub at_most_u64-both : (a b : ℕ) → at_most_u64 (at_most_u64 a + at_most_u64 b) ≡ at_most_u64 (a + b)
+at_most_u64-both a b = omega arith
 
-pub capped_five : (a b c d e n : ℕ) → n ≡ a + b + c + d + e → capped (capped (capped (capped (capped a + capped b) + capped c) + d) + e) ≡ capped n
-capped_five a b c d e n is = omega (arith, is)
+pub at_most_u64_five : (a b c d e n : ℕ) → n ≡ a + b + c + d + e → at_most_u64 (at_most_u64 (at_most_u64 (at_most_u64 (at_most_u64 a + at_most_u64 b) + at_most_u64 c) + d) + e) ≡ at_most_u64 n
+at_most_u64_five a b c d e n is = omega (arith, is)
 
 pub length-reply_message : (y : Reply) → length (reply_message y) ≡ length (digest_octets y.digest) + length (content_octets y.content) + 28
 unfolding reply_message reply_body header_octets

@@ -3,7 +3,8 @@
 ghost use Rattle.std.specs.Prelude.{◌≡◌, length};
 ghost use Rattle.hdl_value.specs.Spelling.{string, spelling, references};
 ghost use Rattle.hdl_msg.specs.Message.{count_prefixed};
-ghost use Rattle.hdl_msg.specs.Reply.{capped, content_octets, digest_octets, reply_message};
+ghost use Rattle.hdl_msg.specs.Reply.{content_octets, digest_octets, reply_message};
+ghost use Rattle.hdl_limits.specs.Counts.{at_most_u64};
 
 use crate::replies::{Reply, ReplyContent};
 use hdl_auth::algorithm::Digest;
@@ -14,13 +15,13 @@ use hdl_value::{RawRef, Value};
 pub(crate) const OVERHEAD: usize = 28;
 
 pub(crate) fn string_len(octets: &[u8]) -> usize
-    ensures { result ≡ capped (length (string octets.now)) }
+    ensures { result ≡ at_most_u64 (length (string octets.now)) }
 {
     octets.len().saturating_add(4)
 }
 
 fn references_len(refs: &[RawRef]) -> usize
-    ensures { result ≡ capped (length (references refs.now)) }
+    ensures { result ≡ at_most_u64 (length (references refs.now)) }
 {
     let mut total: usize = 4;
     for r in refs {
@@ -31,7 +32,7 @@ fn references_len(refs: &[RawRef]) -> usize
 }
 
 fn value_len(value: &Value) -> usize
-    ensures { result ≡ capped (length (spelling value.now)) }
+    ensures { result ≡ at_most_u64 (length (spelling value.now)) }
 {
     let kind = string_len(value.kind.as_slice());
     let bytes = string_len(value.bytes.as_slice());
@@ -44,7 +45,7 @@ fn value_len(value: &Value) -> usize
 }
 
 pub(crate) fn values_len(values: &[Value]) -> usize
-    ensures { result ≡ capped (length (count_prefixed spelling values.now)) }
+    ensures { result ≡ at_most_u64 (length (count_prefixed spelling values.now)) }
 {
     let mut total: usize = 4;
     for value in values {
@@ -54,7 +55,7 @@ pub(crate) fn values_len(values: &[Value]) -> usize
 }
 
 pub(crate) fn handles_len(handles: &[Octets]) -> usize
-    ensures { result ≡ capped (length (count_prefixed string handles.now)) }
+    ensures { result ≡ at_most_u64 (length (count_prefixed string handles.now)) }
 {
     let mut total: usize = 4;
     for handle in handles {
@@ -64,7 +65,7 @@ pub(crate) fn handles_len(handles: &[Octets]) -> usize
 }
 
 fn digest_len(digest: Option<Digest>) -> usize
-    ensures { result ≡ capped (length (digest_octets digest)) }
+    ensures { result ≡ at_most_u64 (length (digest_octets digest)) }
 {
     match digest {
         Some(digest) => digest.as_slice().len().saturating_add(1),
@@ -73,7 +74,7 @@ fn digest_len(digest: Option<Digest>) -> usize
 }
 
 fn content_len(content: &ReplyContent) -> usize
-    ensures { result ≡ capped (length (content_octets content.now)) }
+    ensures { result ≡ at_most_u64 (length (content_octets content.now)) }
 {
     match content {
         ReplyContent::Values { handle, values } => {
@@ -90,7 +91,7 @@ fn content_len(content: &ReplyContent) -> usize
 /// How many octets the message of the reply has, or the greatest `usize` where it has more. It writes nothing, so a caller
 /// tests by it whether the reply may be written.
 pub fn reply_len(reply: &Reply) -> usize
-    ensures { result ≡ capped (length (reply_message reply.now)) }
+    ensures { result ≡ at_most_u64 (length (reply_message reply.now)) }
 {
     digest_len(reply.digest)
         .saturating_add(content_len(&reply.content))

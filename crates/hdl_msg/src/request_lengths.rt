@@ -2,20 +2,20 @@
 
 ghost use Rattle.std.specs.Prelude.{◌≡◌, length};
 ghost use Rattle.hdl_msg.specs.Message.{body, count_prefixed, number};
-ghost use Rattle.hdl_msg.specs.Reply.{capped};
+ghost use Rattle.hdl_limits.specs.Counts.{at_most_u64};
 ghost use Rattle.hdl_msg.specs.RequestBody.{requested, request_length};
 
 use crate::lengths::{OVERHEAD, handles_len, string_len, values_len};
 use crate::request_body::RequestBody;
 
 fn numbers_len(numbers: &[u32]) -> usize
-    ensures { result ≡ capped (length (count_prefixed number numbers.now)) }
+    ensures { result ≡ at_most_u64 (length (count_prefixed number numbers.now)) }
 {
     numbers.len().saturating_mul(4).saturating_add(4)
 }
 
 fn body_len(asked: &RequestBody) -> usize
-    ensures { result ≡ capped (length (body (requested asked.now))) }
+    ensures { result ≡ at_most_u64 (length (body (requested asked.now))) }
 {
     match asked {
         RequestBody::Resolution {
@@ -51,7 +51,7 @@ fn body_len(asked: &RequestBody) -> usize
 /// How many octets the message of a request with this body has, or the greatest `usize` where it has more. It writes nothing, so
 /// a caller tests by it whether the request may be written.
 pub fn request_len(body: &RequestBody) -> usize
-    ensures length { result ≡ capped (request_length body.now) }
+    ensures length { result ≡ at_most_u64 (request_length body.now) }
 {
     body_len(body).saturating_add(OVERHEAD)
 }

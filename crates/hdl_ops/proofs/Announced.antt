@@ -19,8 +19,8 @@ use Rattle.hdl_msg.specs.Reply.{answer_header, reply_parts, IsAnnounced, announc
 use Rattle.hdl_msg.proofs.OpCodes.{op_code_again}
 use Rattle.hdl_ops.specs.First.{first, or_code}
 use Rattle.hdl_ops.specs.Admission.{refusal}
-use Rattle.hdl_ops.specs.Decisions.{Level, Proven, Decision, Decides, DecidesBy, decision, success, failure, refused, carried_content, carried_by}
-use Rattle.hdl_ops.specs.Laws.{told}
+use Rattle.hdl_ops.specs.Decisions.{Level, Proven, Decision, Decides, DecidesBy, decision, success, failure, refusal_decision, carried_content, carried_by}
+use Rattle.hdl_ops.specs.Laws.{content_by_code}
 use Rattle.hdl_ops.specs.Proven.{Proof, key_of, value_at, code_before_key, code_behind_key, code_for_key, IsCodeBy}
 use Rattle.hdl_ops.specs.Replies.{digest_of, asked_digest, fits, reply_to, challenge_to}
 use Rattle.hdl_ops.specs.Requests.{sent_handle, is_unused, wants_digest}
@@ -71,7 +71,7 @@ unused_refusal hosts r e = first_row (is_unused r.operation) 5 _ e
 
 module _ (hosts : List ℕ → Bool) (a : Algorithm) (t : Table) (r : Content) (level : Level) where
   unused_code : (d : Decision) → is_unused r.operation ≡ true → Decides hosts a t r level d → d.code ≡ 5
-  unfolding refused
+  unfolding refusal_decision
   unused_code d e decided = ap (λ (x : Decision). x.code) (subst (λ (c : Option ℕ). DecidesBy a t r level c d) (unused_refusal hosts r e) decided)
 
   used : (d : Decision) → Decides hosts a t r level d → d.code ≡ 1 → is_unused r.operation ≡ false
@@ -81,7 +81,7 @@ module _ (hosts : List ℕ → Bool) (a : Algorithm) (t : Table) (r : Content) (
       by false e = refl
       by true e = let five = sym one ∙ unused_code d e decided in absurd cc
 
-  told_form : (code : ℕ) → IsNumberOf (code_of r.operation) r.header.op_code → (code ≡ 1 → is_unused r.operation ≡ false) → code == 402 ≡ false → form_of (told t r level code) ≡ announced_form (answer_header r.header code)
+  told_form : (code : ℕ) → IsNumberOf (code_of r.operation) r.header.op_code → (code ≡ 1 → is_unused r.operation ≡ false) → code == 402 ≡ false → form_of (content_by_code t r level code) ≡ announced_form (answer_header r.header code)
   unfolding announced_form
   told_form code has used e = pick (code == 1) refl (code == 302) (code == 402) e
     where
@@ -147,7 +147,7 @@ decision_code a s r level c f = pick (c == 1) (fits a r (carried_content s r lev
 
 module _ (hosts : List ℕ → Bool) (a : Algorithm) (t : Table) (r : Content) (p : Proof) (d : Decision) where
   code_by : (c : Option ℕ) → refusal hosts r ≡ c → DecidesBy a t r (Proven p) c d → IsTrue (no_challenge d.code)
-  unfolding refused
+  unfolding refusal_decision
   code_by (Some c) e is = ap (λ (x : Decision). no_challenge x.code) is ∙ ap (λ (o : Option ℕ). no_challenge (or_code o 0)) (sym e) ∙ refusal_code hosts r
   code_by None e is =
       ap (λ (x : Decision). no_challenge x.code) is.2 ∙ decision_code a (sight t r) r (Proven p) is.0 (proof_code t r p (code_before_key (sight t r) r p) is.0 (before_code (sight t r) r p) is.1)

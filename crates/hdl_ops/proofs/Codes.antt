@@ -16,8 +16,8 @@ use Rattle.hdl_ops.specs.Anyone.{code_for_anyone}
 use Rattle.hdl_ops.specs.Proven.{Proof, key_of, value_at, code_before_key, code_behind_key, code_for_key, IsCodeBy}
 use Rattle.hdl_auth.specs.declared.algorithm.Algorithm.{Algorithm}
 use Rattle.hdl_ops.specs.Replies.{fits}
-use Rattle.hdl_ops.specs.Decisions.{Level, Anyone, Proven, Decision, Decides, DecidesBy, decision, refused, success, failure, carried_content}
-use Rattle.hdl_ops.specs.Laws.{told}
+use Rattle.hdl_ops.specs.Decisions.{Level, Anyone, Proven, Decision, Decides, DecidesBy, decision, refusal_decision, success, failure, carried_content}
+use Rattle.hdl_ops.specs.Laws.{content_by_code}
 
 -- a code of at most three digits that isn't busy's
 abbrev pub is_answer_code : ℕ → Bool
@@ -72,7 +72,7 @@ refusal_code hosts r = codes_pass is_refusal_code _ 0 refl refl
 module _ (a : Algorithm) (t : Table) (r : Content) (level : Level) where
   -- the decision has the code of an answer, and tells what its code says
   abbrev TellsOnly : Decision → Type 0
-  TellsOnly d = IsTrue (is_answer_code d.code) × (d.content ≡ told t r level d.code)
+  TellsOnly d = IsTrue (is_answer_code d.code) × (d.content ≡ content_by_code t r level d.code)
 
   decision_tells : (c : ℕ) → IsTrue (is_table_code c) → TellsOnly (decision a (sight t r) r level c)
   unfolding decision
@@ -87,8 +87,8 @@ module _ (a : Algorithm) (t : Table) (r : Content) (level : Level) where
             sym (ap (λ x. cond x (carried_content (sight t r) r level) (cond (c == 302) (Referral (sent_prefix (sent_handle r.operation))) Empty)) is ∙ ap (λ x. cond x (Referral (sent_prefix (sent_handle r.operation))) Empty) (not-true (c == 302) parts.1)),
           )
 
-  refused_tells : (c : ℕ) → IsTrue (is_refusal_code c) → TellsOnly (refused r c)
-  unfolding refused
+  refused_tells : (c : ℕ) → IsTrue (is_refusal_code c) → TellsOnly (refusal_decision r c)
+  unfolding refusal_decision
   refused_tells c e =
       let parts = and_parts (is_answer_code c) _ e in
       (parts.0, sym (ap (λ x. cond x (carried_content (sight t r) r level) (cond (c == 302) (Referral (sent_prefix (sent_handle r.operation))) Empty)) (not-true (c == 1) parts.1)))
@@ -103,5 +103,5 @@ tells_by hosts a t r (Proven p) d None e is =
 pub decides_code : (hosts : List ℕ → Bool) (a : Algorithm) (t : Table) (r : Content) (level : Level) (d : Decision) → Decides hosts a t r level d → IsTrue (is_answer_code d.code)
 decides_code hosts a t r level d is = (tells_by hosts a t r level d (refusal hosts r) refl is).0
 
-pub tells_by_code_lem : (hosts : List ℕ → Bool) (a : Algorithm) (t : Table) (r : Content) (level : Level) (d : Decision) → Decides hosts a t r level d → d.content ≡ told t r level d.code
+pub tells_by_code_lem : (hosts : List ℕ → Bool) (a : Algorithm) (t : Table) (r : Content) (level : Level) (d : Decision) → Decides hosts a t r level d → d.content ≡ content_by_code t r level d.code
 tells_by_code_lem hosts a t r level d is = (tells_by hosts a t r level d (refusal hosts r) refl is).1

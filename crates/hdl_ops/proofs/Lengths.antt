@@ -6,7 +6,7 @@ use Rattle.std.proofs.lemmas.Bool.{leb-true, le-leb, false_from_ne_true}
 use Rattle.std.proofs.lemmas.List.{length-take, length-drop}
 use Rattle.hdl_auth.specs.declared.algorithm.Algorithm.{Algorithm}
 use Rattle.hdl_auth.specs.declared.algorithm.Digest.{Digest}
-use Rattle.hdl_auth.specs.Digest.{size_of, spelt, digest_of}
+use Rattle.hdl_auth.specs.Digest.{size_of, digest_spelling, digest_of}
 use Rattle.hdl_auth.proofs.Digests.{digest_short, length-digest}
 use Rattle.hdl_name.specs.Name.{IsHandle, is_slash, is_admin, sent_authority, sent_local, sent_prefix}
 use Rattle.hdl_value.specs.Spelling.{string}
@@ -15,7 +15,8 @@ use Rattle.hdl_msg.specs.declared.replies.Reply.{Reply}
 use Rattle.hdl_msg.specs.declared.replies.ReplyContent.{ReplyContent}
 use Rattle.hdl_msg.specs.declared.replies.ReplyContent.TheVariants.{Empty, Referral, Nonce}
 use Rattle.hdl_limits.specs.declared.TheConstants.{MESSAGE_MAX}
-use Rattle.hdl_msg.specs.Reply.{capped, digest_octets, content_octets, reply_message, reply_body}
+use Rattle.hdl_msg.specs.Reply.{digest_octets, content_octets, reply_message, reply_body}
+use Rattle.hdl_limits.specs.Counts.{at_most_u64}
 use Rattle.hdl_msg.proofs.Written.{length-reply_message}
 use Rattle.hdl_ops.specs.Requests.{wants_digest}
 use Rattle.hdl_ops.specs.Replies.{asked_digest, reply_to, fits}
@@ -37,7 +38,7 @@ fits_anywhere a session number r code content h =
 
 pub asked_room : (a : Algorithm) (r : Content) → wants_digest r ≡ true → size_of a + 1 ≡ length (digest_octets (asked_digest a r))
 asked_room a r e =
-    let is : length (digest_octets (asked_digest a r)) ≡ length (spelt (digest_of a (signed_octets r))) = ap (λ (b : Bool). length (digest_octets (cond b (Some (digest_of a (signed_octets r))) None))) e in
+    let is : length (digest_octets (asked_digest a r)) ≡ length (digest_spelling (digest_of a (signed_octets r))) = ap (λ (b : Bool). length (digest_octets (cond b (Some (digest_of a (signed_octets r))) None))) e in
     omega (arith, is, length-digest a (signed_octets r))
 
 with_room : (a : Algorithm) (r : Content) (plain : Reply) → plain.digest ≡ None
@@ -48,14 +49,14 @@ with_room a r plain none =
     omega (arith, bare, length-reply_message plain, length-reply_message (reply_to a 0 0 r 0 plain.content))
 
 -- one that leaves room for the digest
-pub room_left : (a : Algorithm) (r : Content) (plain : Reply) (n room : ℕ) → plain.digest ≡ None → n ≡ capped (length (reply_message plain)) → room ≡ length (digest_octets (asked_digest a r))
+pub room_left : (a : Algorithm) (r : Content) (plain : Reply) (n room : ℕ) → plain.digest ≡ None → n ≡ at_most_u64 (length (reply_message plain)) → room ≡ length (digest_octets (asked_digest a r))
     → room ≤ 33 → n ≤ MESSAGE_MAX - room → fits a r plain.content ≡ true
 unfolding fits
 room_left a r plain n room none len is few le =
     le-leb (length (reply_message (reply_to a 0 0 r 0 plain.content))) MESSAGE_MAX (omega (arith, with_room a r plain none, len, is, few, le))
 
 -- one that leaves none
-pub no_room_left : (a : Algorithm) (r : Content) (plain : Reply) (n room : ℕ) → plain.digest ≡ None → n ≡ capped (length (reply_message plain)) → room ≡ length (digest_octets (asked_digest a r))
+pub no_room_left : (a : Algorithm) (r : Content) (plain : Reply) (n room : ℕ) → plain.digest ≡ None → n ≡ at_most_u64 (length (reply_message plain)) → room ≡ length (digest_octets (asked_digest a r))
     → room ≤ 33 → MESSAGE_MAX - room < n → fits a r plain.content ≡ false
 unfolding fits
 no_room_left a r plain n room none len is few more =
@@ -95,7 +96,7 @@ prefix_short name h = by (is_admin name)
     by false = let short = h.2.short in let len = length-take (position_or_len is_slash name) name in omega (arith, short, len)
 
 -- a challenge always fits
-pub challenge_short : (y : Reply) (d : Digest) (nonce : List ℕ) → y.digest ≡ Some d → y.content ≡ Nonce nonce → length (spelt d) ≤ 33 → length nonce ≤ 16 → length (reply_message y) ≤ MESSAGE_MAX
+pub challenge_short : (y : Reply) (d : Digest) (nonce : List ℕ) → y.digest ≡ Some d → y.content ≡ Nonce nonce → length (digest_spelling d) ≤ 33 → length nonce ≤ 16 → length (reply_message y) ≤ MESSAGE_MAX
 challenge_short y d nonce digest content short few =
     let len = length-reply_message y in
     let front : length (digest_octets y.digest) ≡ length (digest_octets (Some d)) = ap (λ o. length (digest_octets o)) digest in

@@ -72,11 +72,11 @@ decision a s r level code =
     if code == response_number Success then (if fits a r (carried_content s r level) then success s r level else failure (response_number Error) Empty)
     else failure code Empty
 
-unfoldable pub refused : Content → ℕ → Decision
-refused r code = failure code (if code == response_number ServiceReferral then Referral (name.sent_prefix (sent_handle r.operation)) else Empty)
+unfoldable pub refusal_decision : Content → ℕ → Decision
+refusal_decision r code = failure code (if code == response_number ServiceReferral then Referral (name.sent_prefix (sent_handle r.operation)) else Empty)
 
 abbrev pub DecidesBy : Algorithm → Table → Content → Level → Option ℕ → Decision → Type 0
-DecidesBy a t r level (Some code) d = d ≡ refused r code
+DecidesBy a t r level (Some code) d = d ≡ refusal_decision r code
 DecidesBy a t r Anyone None d = d ≡ decision a (sight t r) r Anyone (code_for_anyone (sight t r) r)
 DecidesBy a t r (Proven p) None d = (code : ℕ) × IsCodeForProof t r p code × (d ≡ decision a (sight t r) r (Proven p) code)
 

@@ -19,14 +19,14 @@ OneDecision = (hosts : List ℕ → Bool) (a : Algorithm) (t : Table) (r : Conte
 
 -- what is told with a code: with Success the values that are asked for and that the level may read, or the handles of the prefix
 -- that is listed; with ServiceReferral the prefix that was named; nothing with another
-abbrev pub told : Table → Content → Level → ℕ → ReplyContent
-told t r level code =
+abbrev pub content_by_code : Table → Content → Level → ℕ → ReplyContent
+content_by_code t r level code =
     if code == response_number Success then carried_content (sight t r) r level
     else (if code == response_number ServiceReferral then Referral (sent_prefix (sent_handle r.operation)) else Empty)
 
 -- a decision tells what its code says, and no more
 abbrev pub TellsByCode : Type 0
-TellsByCode = (hosts : List ℕ → Bool) (a : Algorithm) (t : Table) (r : Content) (level : Level) (d : Decision) → Decides hosts a t r level d → d.content ≡ told t r level d.code
+TellsByCode = (hosts : List ℕ → Bool) (a : Algorithm) (t : Table) (r : Content) (level : Level) (d : Decision) → Decides hosts a t r level d → d.content ≡ content_by_code t r level d.code
 
 -- a reply without content fits into a message
 abbrev pub EmptyFits : Type 0

@@ -4,13 +4,13 @@ use Rattle.hdl_name.specs.Name.{canonical}
 use Rattle.hdl_value.specs.declared.value.Value.{Value}
 use Rattle.hdl_rows.specs.Table.{Table}
 use Rattle.hdl_rows.specs.Write as write
-use Rattle.hdl_rows.specs.Write.{Write, CanWrite, written}
+use Rattle.hdl_rows.specs.Write.{Write, CanWrite, after_write}
 use Rattle.hdl_ops.specs.declared.change.Change.{Change}
 use Rattle.hdl_ops.specs.declared.change.Change.TheVariants.{Create, Delete, Add, Remove, Modify}
 
 -- the value with the moment of its write
-abbrev pub stamped : ℕ → Value → Value
-stamped moment v = record v { timestamp = moment }
+abbrev pub with_timestamp : ℕ → Value → Value
+with_timestamp moment v = record v { timestamp = moment }
 
 -- the write of a change, its values as they are
 abbrev pub write_of : Change → Write
@@ -22,15 +22,15 @@ write_of (Modify name values) = write.Modify (canonical name) values
 
 -- the write with each value stamped
 abbrev pub stamped_write : ℕ → Write → Write
-stamped_write moment (write.Create h vs) = write.Create h (map (stamped moment) vs)
+stamped_write moment (write.Create h vs) = write.Create h (map (with_timestamp moment) vs)
 stamped_write moment (write.Delete h) = write.Delete h
-stamped_write moment (write.Add h vs) = write.Add h (map (stamped moment) vs)
+stamped_write moment (write.Add h vs) = write.Add h (map (with_timestamp moment) vs)
 stamped_write moment (write.Remove h is) = write.Remove h is
-stamped_write moment (write.Modify h vs) = write.Modify h (map (stamped moment) vs)
+stamped_write moment (write.Modify h vs) = write.Modify h (map (with_timestamp moment) vs)
 
 -- the table after a change at the moment
 abbrev pub apply : Table → ℕ → Change → Table
-apply t moment change = written t (stamped_write moment (write_of change))
+apply t moment change = after_write t (stamped_write moment (write_of change))
 
 abbrev pub apply_if : Table → ℕ → Option Change → Table
 apply_if t moment None = t

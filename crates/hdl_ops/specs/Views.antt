@@ -47,5 +47,5 @@ level_of (level.Proven p) = d.Proven (proof_of p)
 
 -- what comes of the tests before the table is looked at
 abbrev pub IsAdmitted : (List ℕ → Bool) → Content → Admitted → Type 0
-IsAdmitted hosted r (admitted.Refused x) = (refusal hosted r ≡ Some (response_number x.code)) × (decision_of x ≡ d.refused r (response_number x.code)) × ((a : Algorithm) → IsTrue (fits a r x.content)) × (x.change ≡ None)
+IsAdmitted hosted r (admitted.Refused x) = (refusal hosted r ≡ Some (response_number x.code)) × (decision_of x ≡ d.refusal_decision r (response_number x.code)) × ((a : Algorithm) → IsTrue (fits a r x.content)) × (x.change ≡ None)
 IsAdmitted hosted r (admitted.Passed name) = (refusal hosted r ≡ None) × (name ≡ sent_handle r.operation)

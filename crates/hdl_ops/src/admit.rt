@@ -122,7 +122,7 @@ fn refusal_with(code: ResponseCode, content: ReplyContent) -> Admitted
 }
 
 /// Tests the request before the table is looked at.
-#[tactic(auto, unfolding(crate::specs::First::first, crate::specs::Admission::refusal, crate::specs::Decisions::refused), using(crate::proofs::Lengths::empty_fits, crate::proofs::Lengths::referral_fits))]
+#[tactic(auto, unfolding(crate::specs::First::first, crate::specs::Admission::refusal, crate::specs::Decisions::refusal_decision), using(crate::proofs::Lengths::empty_fits, crate::proofs::Lengths::referral_fits))]
 pub(crate) fn admit(request: NamedRequest<'_>) -> Result<Admitted, Refused>
     ensures { IfOk result (λ admitted. IsAdmitted (hosted_by request.entry.owner.now) request.entry.asked.request.now admitted) }
 {

@@ -2,7 +2,7 @@
 
 ghost use Rattle.std.specs.Prelude.{◌≡◌, map, OnOk, OnErr};
 ghost use Rattle.hdl_rows.specs.Table.{indexes, refusals_after};
-ghost use Rattle.hdl_ops.specs.Tables.{apply, stamped, CanApply};
+ghost use Rattle.hdl_ops.specs.Tables.{apply, with_timestamp, CanApply};
 
 use hdl_limits::Items;
 use hdl_name::Name;
@@ -20,7 +20,7 @@ pub enum Change {
 }
 
 fn with_moment(mut values: Vec<Value>, moment: u64) -> Vec<Value>
-    ensures { result.items ≡ map (stamped moment) values.items }
+    ensures { result.items ≡ map (with_timestamp moment) values.items }
 {
     for value in values.iter_mut() {
         value.timestamp = moment;
@@ -30,7 +30,7 @@ fn with_moment(mut values: Vec<Value>, moment: u64) -> Vec<Value>
 
 /// The values with the moment of their write.
 fn stamp(values: Items<Value>, moment: u64) -> Vec<Value>
-    ensures stamped { result.items ≡ map (stamped moment) values }
+    ensures stamped { result.items ≡ map (with_timestamp moment) values }
     ensures indexes { indexes result.items ≡ indexes values }
 {
     with_moment(values.into_vec(), moment)

@@ -1,7 +1,7 @@
 //! Decisions: what is answered to a request, and what it changes.
 //!
 //! ```text
-//! request -> NamedRequest -> admit -> look (the table) -> a table of decision (the key's mask and value) -> settle -> Decision { code, content, change }
+//! request -> NamedRequest -> admit -> look (the table) -> a table of decision (the key's mask and value) -> whole_decision -> Decision { code, content, change }
 //! ```
 //!
 //! The definitions in `specs/` are the tables of docs/PROTOCOL.md as they are printed: `Admission` before the table is looked at,

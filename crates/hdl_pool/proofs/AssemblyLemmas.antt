@@ -5,7 +5,7 @@ use Rattle.std.specs.Global.{Vec}
 use Rattle.std.proofs.lemmas.List.{map-set, length-map}
 use Rattle.std.proofs.lemmas.List.Sums.{sum_by-set, sum_by-cons, get_or-le-sum_by}
 use Rattle.hdl_frame.specs.Pieces.{piece_count}
-use Rattle.hdl_frame.specs.Whole.{before, joined}
+use Rattle.hdl_frame.specs.Whole.{before, whole_payload}
 use Rattle.hdl_pool.specs.declared.piece.Key.{Key}
 use Rattle.hdl_pool.specs.Partial.{Partial, with_payload, payload_at, nothing_of, whole}
 use Rattle.hdl_pool.specs.Assembly.{lists, count_missing}
@@ -52,7 +52,7 @@ some_missing xs k lt none =
     omega arith
 
 -- where a piece is lacking there is no message
-pub joined_lacking : (xs : List (Option (List ℕ))) → 1 ≤ count_missing xs → joined xs ≡ None
+pub joined_lacking : (xs : List (Option (List ℕ))) → 1 ≤ count_missing xs → whole_payload xs ≡ None
 joined_lacking [] le = absurd (omega arith)
 joined_lacking (None ∷ xs) le = refl
 joined_lacking (Some payload ∷ xs) le =

@@ -6,9 +6,9 @@ use Rattle.std.proofs.lemmas.Bool.{cases_Bool, eqb-true, eq-eqb}
 use Rattle.std.proofs.lemmas.List.Folds.{find-append}
 use Rattle.hdl_pool.specs.declared.piece.Key.{Key}
 use Rattle.hdl_pool.specs.Partial.{Piece, Partial, is_of, nothing_of, whole}
-use Rattle.hdl_pool.specs.Taking.{Fate, made_whole, kept, ignored, displaced, so_far, is_ignored, with_piece, grown, replace_partial, begin_partial, settle_partial, take_piece}
+use Rattle.hdl_pool.specs.Taking.{Fate, made_whole, kept, ignored, displaced, so_far, is_ignored, with_piece, after_piece, replace_partial, begin_partial, store_if_kept, take_piece}
 use Rattle.hdl_pool.specs.Laws.{TakenIsSoFar, OthersStay}
-use Rattle.hdl_pool.proofs.TakenLemmas.{grown_stays, taken_found, taken_missed, stored_missed}
+use Rattle.hdl_pool.proofs.TakenLemmas.{after_piece_stays, taken_found, taken_missed, stored_missed}
 
 -- ---- keys
 
@@ -49,8 +49,8 @@ key_counts true p more o same = refl
 key_counts false p more None same = same
 key_counts false p more (Some message) same = refl
 
-key-grown : (p : Partial) (piece : Piece) → (grown p piece).1.key ≡ p.key
-key-grown p piece = key_counts (is_ignored p piece) p (with_piece p piece) (whole (with_piece p piece)) refl
+key-after_piece : (p : Partial) (piece : Piece) → (after_piece p piece).1.key ≡ p.key
+key-after_piece p piece = key_counts (is_ignored p piece) p (with_piece p piece) (whole (with_piece p piece)) refl
 
 -- ---- the piece's own message
 
@@ -92,22 +92,22 @@ found_or : (o : Option Partial) (d : Partial) (p : Partial) → o ≡ Some p →
 found_or o d p e = rw e refl
 
 settled_new : (lane : List Partial) (key : Key) (fate : Fate) (more d : Partial) → find (is_of key) lane ≡ None → is_of key more ≡ true → (fate ≢ kept → more ≡ d)
-    → unwrap_or (find (is_of key) (settle_partial lane key fate more).1) d ≡ more
+    → unwrap_or (find (is_of key) (store_if_kept lane key fate more).1) d ≡ more
 settled_new lane key kept more d missed own stays =
     rw (stored_missed lane key more missed) (found_or (find (is_of key) (begin_partial lane more).1) d more (find_begun (ltb (length lane) 4) (is_of key) lane more missed own))
 settled_new lane key (made_whole message) more d missed own stays = rw missed (sym (stays (λ e. cc)))
 settled_new lane key ignored more d missed own stays = rw missed (sym (stays (λ e. cc)))
 settled_new lane key displaced more d missed own stays = rw missed (sym (stays (λ e. cc)))
 
-taken_so_far : (lane : List Partial) (piece : Piece) (o : Option Partial) → find (is_of piece.key) lane ≡ o → so_far (take_piece lane piece).1 piece ≡ (grown (unwrap_or o (nothing_of piece.key piece.length)) piece).1
+taken_so_far : (lane : List Partial) (piece : Piece) (o : Option Partial) → find (is_of piece.key) lane ≡ o → so_far (take_piece lane piece).1 piece ≡ (after_piece (unwrap_or o (nothing_of piece.key piece.length)) piece).1
 taken_so_far lane piece (Some p) found =
-    let own : is_of piece.key (grown p piece).1 ≡ true = is_of-own piece.key (grown p piece).1 (key-grown p piece ∙ own-is_of piece.key p (find_passes (is_of piece.key) lane p found)) in
-    rw (taken_found lane piece p found) (found_or (find (is_of piece.key) (replace_partial piece.key (grown p piece).1 lane)) (nothing_of piece.key piece.length) (grown p piece).1 (find_replaced piece.key (grown p piece).1 lane p found own))
+    let own : is_of piece.key (after_piece p piece).1 ≡ true = is_of-own piece.key (after_piece p piece).1 (key-after_piece p piece ∙ own-is_of piece.key p (find_passes (is_of piece.key) lane p found)) in
+    rw (taken_found lane piece p found) (found_or (find (is_of piece.key) (replace_partial piece.key (after_piece p piece).1 lane)) (nothing_of piece.key piece.length) (after_piece p piece).1 (find_replaced piece.key (after_piece p piece).1 lane p found own))
 taken_so_far lane piece None missed =
     let first = nothing_of piece.key piece.length in
-    let own : is_of piece.key (grown (nothing_of piece.key piece.length) piece).1 ≡ true = is_of-own piece.key (grown (nothing_of piece.key piece.length) piece).1 (key-grown (nothing_of piece.key piece.length) piece) in
+    let own : is_of piece.key (after_piece (nothing_of piece.key piece.length) piece).1 ≡ true = is_of-own piece.key (after_piece (nothing_of piece.key piece.length) piece).1 (key-after_piece (nothing_of piece.key piece.length) piece) in
     rw (taken_missed lane piece (nothing_of piece.key piece.length) missed refl)
-    (settled_new lane piece.key (grown (nothing_of piece.key piece.length) piece).0 (grown (nothing_of piece.key piece.length) piece).1 (nothing_of piece.key piece.length) missed own (λ other. grown_stays (nothing_of piece.key piece.length) piece other))
+    (settled_new lane piece.key (after_piece (nothing_of piece.key piece.length) piece).0 (after_piece (nothing_of piece.key piece.length) piece).1 (nothing_of piece.key piece.length) missed own (λ other. after_piece_stays (nothing_of piece.key piece.length) piece other))
 
 pub taken_is_so_far_lem : TakenIsSoFar
 taken_is_so_far_lem lane piece = taken_so_far lane piece (find (is_of piece.key) lane) refl
@@ -137,8 +137,8 @@ stored_other : (b : Bool) (lane : List Partial) (key other : Key) (more : Partia
 stored_other true lane key other more apart absent stays = find_other key other more lane apart absent
 stored_other false lane key other more apart absent stays = begun_other (ltb (length lane) 4) (is_of other) lane more absent stays
 
-settled_others : (lane : List Partial) (key other : Key) (fate : Fate) (more : Partial) → other ≢ key → is_of other more ≡ false → (settle_partial lane key fate more).0 ≢ displaced
-    → find (is_of other) (settle_partial lane key fate more).1 ≡ find (is_of other) lane
+settled_others : (lane : List Partial) (key other : Key) (fate : Fate) (more : Partial) → other ≢ key → is_of other more ≡ false → (store_if_kept lane key fate more).0 ≢ displaced
+    → find (is_of other) (store_if_kept lane key fate more).1 ≡ find (is_of other) lane
 settled_others lane key other kept more apart absent stays = stored_other (is_some (find (is_of key) lane)) lane key other more apart absent stays
 settled_others lane key other (made_whole message) more apart absent stays = refl
 settled_others lane key other ignored more apart absent stays = refl
@@ -150,5 +150,5 @@ key-so_far lane piece None missed = refl
 
 pub others_stay_lem : OthersStay
 others_stay_lem lane piece key apart stays =
-    let own = key-grown (so_far lane piece) piece ∙ key-so_far lane piece (find (is_of piece.key) lane) refl in
-    settled_others lane piece.key key (grown (so_far lane piece) piece).0 (grown (so_far lane piece) piece).1 apart (not_of key (grown (so_far lane piece) piece).1 (λ same. apart (sym same ∙ own))) stays
+    let own = key-after_piece (so_far lane piece) piece ∙ key-so_far lane piece (find (is_of piece.key) lane) refl in
+    settled_others lane piece.key key (after_piece (so_far lane piece) piece).0 (after_piece (so_far lane piece) piece).1 apart (not_of key (after_piece (so_far lane piece) piece).1 (λ same. apart (sym same ∙ own))) stays

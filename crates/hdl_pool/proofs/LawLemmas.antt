@@ -11,7 +11,7 @@ use Rattle.hdl_frame.specs.Whole.{Piece as Numbered, payload_of, payloads_of, me
 use Rattle.hdl_frame.proofs.WholeLemmas.{message_is_joined_lem, joined_is_message_lem}
 use Rattle.hdl_pool.specs.declared.piece.Key.{Key}
 use Rattle.hdl_pool.specs.Partial.{Piece, Partial, IsPiece, is_of, payload_at, whole}
-use Rattle.hdl_pool.specs.Taking.{Fate, made_whole, kept, ignored, displaced, so_far, is_ignored, with_piece, grown, replace_partial, begin_partial, settle_partial}
+use Rattle.hdl_pool.specs.Taking.{Fate, made_whole, kept, ignored, displaced, so_far, is_ignored, with_piece, after_piece, replace_partial, begin_partial, store_if_kept}
 use Rattle.hdl_pool.specs.Laws.{numbered_piece, collect, NothingCame, KeptIsCollected, RepeatedIsIgnored, WholeIsMessage, MessageIsWhole, FreedIsGone, AtMostFour}
 
 -- ---- one more piece
@@ -193,11 +193,11 @@ stored_if : (b : Bool) (lane : List Partial) (key : Key) (more : Partial) → le
 stored_if true lane key more le = omega (arith, length-replaced key more lane)
 stored_if false lane key more le = begun_four lane more le
 
-settled_four : (lane : List Partial) (key : Key) (fate : Fate) (more : Partial) → length lane ≤ 4 → length (settle_partial lane key fate more).1 ≤ 4
+settled_four : (lane : List Partial) (key : Key) (fate : Fate) (more : Partial) → length lane ≤ 4 → length (store_if_kept lane key fate more).1 ≤ 4
 settled_four lane key kept more le = stored_if (is_some (find (is_of key) lane)) lane key more le
 settled_four lane key (made_whole message) more le = le
 settled_four lane key ignored more le = le
 settled_four lane key displaced more le = le
 
 pub at_most_four_lem : AtMostFour
-at_most_four_lem lane piece le = settled_four lane piece.key (grown (so_far lane piece) piece).0 (grown (so_far lane piece) piece).1 le
+at_most_four_lem lane piece le = settled_four lane piece.key (after_piece (so_far lane piece) piece).0 (after_piece (so_far lane piece) piece).1 le

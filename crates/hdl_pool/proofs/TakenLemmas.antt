@@ -10,7 +10,7 @@ use Rattle.hdl_pool.specs.declared.piece.Key.{Key}
 use Rattle.hdl_pool.specs.declared.taken.Taken.{Taken}
 use Rattle.hdl_pool.specs.declared.taken.Taken.TheVariants.{Whole, Kept, Ignored, Displaced}
 use Rattle.hdl_pool.specs.Partial.{Piece, Partial, IsPiece, is_of, nothing_of, whole}
-use Rattle.hdl_pool.specs.Taking.{Fate, made_whole, kept, ignored, displaced, lane_at, is_ignored, with_piece, grown, replace_partial, begin_partial, store_partial, settle_partial, take_piece, fate_of}
+use Rattle.hdl_pool.specs.Taking.{Fate, made_whole, kept, ignored, displaced, lane_at, is_ignored, with_piece, after_piece, replace_partial, begin_partial, store_partial, store_if_kept, take_piece, fate_of}
 use Rattle.hdl_pool.specs.Cells.{cells_at, cell_at, contents, lanes_of, AreFours, holds}
 use Rattle.hdl_pool.proofs.CellLemmas.{Cell, Lanes, lane-lanes_of, lanes_of-set, fours_set}
 
@@ -76,8 +76,8 @@ grown_if : (b : Bool) (p more : Partial) (o : Option (List ℕ)) → (counts b p
 grown_if true p more o other = refl
 grown_if false p more o other = grown_or p more o other
 
-pub grown_stays : (p : Partial) (piece : Piece) → (grown p piece).0 ≢ kept → (grown p piece).1 ≡ p
-grown_stays p piece other = grown_if (is_ignored p piece) p (with_piece p piece) (whole (with_piece p piece)) other
+pub after_piece_stays : (p : Partial) (piece : Piece) → (after_piece p piece).0 ≢ kept → (after_piece p piece).1 ≡ p
+after_piece_stays p piece other = grown_if (is_ignored p piece) p (with_piece p piece) (whole (with_piece p piece)) other
 
 -- ---- a piece of a message that is there
 
@@ -93,7 +93,7 @@ stored_found : (lane : List Partial) (key : Key) (p more : Partial) → find (is
 stored_found lane key p more found = rw found refl
 
 -- the lane has the message as the piece leaves it
-settled_found : (lane : List Partial) (key : Key) (p more : Partial) (fate : Fate) → find (is_of key) lane ≡ Some p → (fate ≢ kept → more ≡ p) → settle_partial lane key fate more ≡ (fate, replace_partial key more lane)
+settled_found : (lane : List Partial) (key : Key) (p more : Partial) (fate : Fate) → find (is_of key) lane ≡ Some p → (fate ≢ kept → more ≡ p) → store_if_kept lane key fate more ≡ (fate, replace_partial key more lane)
 settled_found lane key p more kept found stays = stored_found lane key p more found
 settled_found lane key p more (made_whole message) found stays =
     let same = stays (λ e. cc) in rw same (ap (λ (t : List Partial). (made_whole message, t)) (sym (replaced_same key p lane found)))
@@ -102,8 +102,8 @@ settled_found lane key p more ignored found stays =
 settled_found lane key p more displaced found stays =
     let same = stays (λ e. cc) in rw same (ap (λ (t : List Partial). (displaced, t)) (sym (replaced_same key p lane found)))
 
-pub taken_found : (lane : List Partial) (piece : Piece) (p : Partial) → find (is_of piece.key) lane ≡ Some p → take_piece lane piece ≡ ((grown p piece).0, replace_partial piece.key (grown p piece).1 lane)
-taken_found lane piece p found = rw found (settled_found lane piece.key p (grown p piece).1 (grown p piece).0 found (λ other. grown_stays p piece other))
+pub taken_found : (lane : List Partial) (piece : Piece) (p : Partial) → find (is_of piece.key) lane ≡ Some p → take_piece lane piece ≡ ((after_piece p piece).0, replace_partial piece.key (after_piece p piece).1 lane)
+taken_found lane piece p found = rw found (settled_found lane piece.key p (after_piece p piece).1 (after_piece p piece).0 found (λ other. after_piece_stays p piece other))
 
 refilled : (c mid new : Lanes) (lane place : ℕ) (content : Cell) → lane < 64 → AreFours c → mid ≡ set c lane (set (cells_at c lane) place None)
     → new ≡ set mid lane (set (cells_at mid lane) place content) → new ≡ set c lane (set (cells_at c lane) place content)
@@ -122,19 +122,19 @@ refilled_same c mid new lane place p more lt fours out back was same =
     refilled c mid new lane place (Some more) lt fours out back ∙ rw (same, was, set-get_or (cells_at c lane) place None) (set-get_or c lane [])
 
 pub found_fate : (c : Lanes) (lane place : ℕ) (piece : Piece) (p : Partial) → lane < 64 → AreFours c → Some place ≡ position (holds piece.key) (cells_at c lane) → Some p ≡ cell_at c lane place
-    → (grown p piece).0 ≡ (take_piece (lane_at (lanes_of c) lane) piece).0
+    → (after_piece p piece).0 ≡ (take_piece (lane_at (lanes_of c) lane) piece).0
 found_fate c lane place piece p lt fours first was =
     let start = lane-lanes_of c lane (omega (arith, fours.lanes)) in
     let found = (found_is piece.key (cells_at c lane) place p first was).0 in
     rw (start, taken_found (contents (cells_at c lane)) piece p found) refl
 
 pub found_lanes : (c mid new : Lanes) (lane place : ℕ) (piece : Piece) (p more : Partial) → lane < 64 → AreFours c → Some place ≡ position (holds piece.key) (cells_at c lane) → Some p ≡ cell_at c lane place
-    → mid ≡ set c lane (set (cells_at c lane) place None) → new ≡ set mid lane (set (cells_at mid lane) place (Some more)) → more ≡ (grown p piece).1
+    → mid ≡ set c lane (set (cells_at c lane) place None) → new ≡ set mid lane (set (cells_at mid lane) place (Some more)) → more ≡ (after_piece p piece).1
     → lanes_of new ≡ set (lanes_of c) lane (take_piece (lane_at (lanes_of c) lane) piece).1
 found_lanes c mid new lane place piece p more lt fours first was out back is =
     let start = lane-lanes_of c lane (omega (arith, fours.lanes)) in
     let found = found_is piece.key (cells_at c lane) place p first was in
-    let after : contents (set (cells_at c lane) place (Some more)) ≡ replace_partial piece.key (grown p piece).1 (contents (cells_at c lane)) = rw (← is) (found.1 more) in
+    let after : contents (set (cells_at c lane) place (Some more)) ≡ replace_partial piece.key (after_piece p piece).1 (contents (cells_at c lane)) = rw (← is) (found.1 more) in
     ap lanes_of (refilled c mid new lane place (Some more) lt fours out back) ∙ lanes_of-set c lane (set (cells_at c lane) place (Some more))
     ∙ rw (after, start, taken_found (contents (cells_at c lane)) piece p found.0) refl
 
@@ -143,33 +143,33 @@ found_lanes c mid new lane place piece p more lt fours first was out back is =
 pub stored_missed : (lane : List Partial) (key : Key) (more : Partial) → find (is_of key) lane ≡ None → store_partial lane key more ≡ begin_partial lane more
 stored_missed lane key more missed = rw missed refl
 
-pub taken_missed : (lane : List Partial) (piece : Piece) (first : Partial) → find (is_of piece.key) lane ≡ None → first ≡ nothing_of piece.key piece.length → take_piece lane piece ≡ settle_partial lane piece.key (grown first piece).0 (grown first piece).1
+pub taken_missed : (lane : List Partial) (piece : Piece) (first : Partial) → find (is_of piece.key) lane ≡ None → first ≡ nothing_of piece.key piece.length → take_piece lane piece ≡ store_if_kept lane piece.key (after_piece first piece).0 (after_piece first piece).1
 taken_missed lane piece first missed new = rw (missed, new) refl
 
 pub missed_kept : (c : Lanes) (lane : ℕ) (piece : Piece) (first more : Partial) → lane < 64 → AreFours c → None ≡ position (holds piece.key) (cells_at c lane) → first ≡ nothing_of piece.key piece.length
-    → kept ≡ (grown first piece).0 → more ≡ (grown first piece).1 → take_piece (lane_at (lanes_of c) lane) piece ≡ begin_partial (lane_at (lanes_of c) lane) more
+    → kept ≡ (after_piece first piece).0 → more ≡ (after_piece first piece).1 → take_piece (lane_at (lanes_of c) lane) piece ≡ begin_partial (lane_at (lanes_of c) lane) more
 missed_kept c lane piece first more lt fours none new is left =
     let start = lane-lanes_of c lane (omega (arith, fours.lanes)) in
     let missed : find (is_of piece.key) (lane_at (lanes_of c) lane) ≡ None = rw start (missed_is piece.key (cells_at c lane) none) in
     taken_missed (lane_at (lanes_of c) lane) piece first missed new ∙ rw (← is, ← left) (stored_missed (lane_at (lanes_of c) lane) piece.key more missed)
 
-settled_other : (lane : List Partial) (key : Key) (fate : Fate) (more : Partial) → fate ≢ kept → settle_partial lane key fate more ≡ (fate, lane)
+settled_other : (lane : List Partial) (key : Key) (fate : Fate) (more : Partial) → fate ≢ kept → store_if_kept lane key fate more ≡ (fate, lane)
 settled_other lane key kept more other = absurd (other refl)
 settled_other lane key (made_whole message) more other = refl
 settled_other lane key ignored more other = refl
 settled_other lane key displaced more other = refl
 
 pub missed_other : (c : Lanes) (lane : ℕ) (piece : Piece) (first : Partial) (fate : Fate) → lane < 64 → AreFours c → None ≡ position (holds piece.key) (cells_at c lane) → first ≡ nothing_of piece.key piece.length
-    → fate ≡ (grown first piece).0 → fate ≢ kept → (fate ≡ (take_piece (lane_at (lanes_of c) lane) piece).0) × (lanes_of c ≡ set (lanes_of c) lane (take_piece (lane_at (lanes_of c) lane) piece).1)
+    → fate ≡ (after_piece first piece).0 → fate ≢ kept → (fate ≡ (take_piece (lane_at (lanes_of c) lane) piece).0) × (lanes_of c ≡ set (lanes_of c) lane (take_piece (lane_at (lanes_of c) lane) piece).1)
 missed_other c lane piece first fate lt fours none new is other =
     let start = lane-lanes_of c lane (omega (arith, fours.lanes)) in
     let missed : find (is_of piece.key) (lane_at (lanes_of c) lane) ≡ None = rw start (missed_is piece.key (cells_at c lane) none) in
     let same : take_piece (lane_at (lanes_of c) lane) piece ≡ (fate, lane_at (lanes_of c) lane) =
-    taken_missed (lane_at (lanes_of c) lane) piece first missed new ∙ rw (← is) (settled_other (lane_at (lanes_of c) lane) piece.key fate (grown first piece).1 other) in
+    taken_missed (lane_at (lanes_of c) lane) piece first missed new ∙ rw (← is) (settled_other (lane_at (lanes_of c) lane) piece.key fate (after_piece first piece).1 other) in
     rw same (refl, sym (set-get_or (lanes_of c) lane []))
 
 -- the one piece of a message is the message
-one_grown : (piece : Piece) → IsPiece piece → piece.length ≤ 492 → made_whole piece.payload ≡ (grown (nothing_of piece.key piece.length) piece).0
+one_grown : (piece : Piece) → IsPiece piece → piece.length ≤ 492 → made_whole piece.payload ≡ (after_piece (nothing_of piece.key piece.length) piece).0
 one_grown piece fits short =
     let first : piece.number ≡ 0 = omega (arith, fits.begins) in
     let count : (piece.length + 491) / 492 ≡ 1 = omega (arith, fits.begins) in

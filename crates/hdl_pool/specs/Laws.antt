@@ -5,7 +5,7 @@ use Rattle.hdl_frame.specs.Whole.{Piece as Numbered, payload_of, payloads_of, Ma
 use Rattle.hdl_limits.specs.declared.TheConstants.{PARTIALS_MAX}
 use Rattle.hdl_pool.specs.declared.piece.Key.{Key}
 use Rattle.hdl_pool.specs.Partial.{Piece, Partial, IsPiece, is_of, nothing_of}
-use Rattle.hdl_pool.specs.Taking.{made_whole, kept, ignored, displaced, so_far, grown, take_piece, free_partial}
+use Rattle.hdl_pool.specs.Taking.{made_whole, kept, ignored, displaced, so_far, after_piece, take_piece, free_partial}
 
 -- a piece among those of its message
 abbrev pub numbered_piece : Piece → Numbered
@@ -21,27 +21,27 @@ NothingCame = (key : Key) (len : ℕ) → nothing_of key len ≡ collect key len
 
 -- a kept piece is the last that came
 abbrev pub KeptIsCollected : Type 0
-KeptIsCollected = (pieces : List Numbered) (piece : Piece) → IsPiece piece → (grown (collect piece.key piece.length pieces) piece).0 ≡ kept
-    → (grown (collect piece.key piece.length pieces) piece).1 ≡ collect piece.key piece.length (pieces ++ numbered_piece piece ∷ [])
+KeptIsCollected = (pieces : List Numbered) (piece : Piece) → IsPiece piece → (after_piece (collect piece.key piece.length pieces) piece).0 ≡ kept
+    → (after_piece (collect piece.key piece.length pieces) piece).1 ≡ collect piece.key piece.length (pieces ++ numbered_piece piece ∷ [])
 
 -- a piece whose number came is ignored, and says nothing new
 abbrev pub RepeatedIsIgnored : Type 0
 RepeatedIsIgnored = (pieces : List Numbered) (piece : Piece) (payload : List ℕ) → IsPiece piece → payload_of pieces piece.number ≡ Some payload
-    → grown (collect piece.key piece.length pieces) piece ≡ (ignored, collect piece.key piece.length (pieces ++ numbered_piece piece ∷ []))
+    → after_piece (collect piece.key piece.length pieces) piece ≡ (ignored, collect piece.key piece.length (pieces ++ numbered_piece piece ∷ []))
 
 -- a whole message is the one that the pieces make
 abbrev pub WholeIsMessage : Type 0
 WholeIsMessage = (pieces : List Numbered) (piece : Piece) (message : List ℕ) → IsPiece piece → HaveTheirLength (pieces ++ numbered_piece piece ∷ []) piece.length
-    → (grown (collect piece.key piece.length pieces) piece).0 ≡ made_whole message → MakeMessage (pieces ++ numbered_piece piece ∷ []) piece.length message
+    → (after_piece (collect piece.key piece.length pieces) piece).0 ≡ made_whole message → MakeMessage (pieces ++ numbered_piece piece ∷ []) piece.length message
 
 -- a message that the pieces make with one whose number didn't come is whole
 abbrev pub MessageIsWhole : Type 0
 MessageIsWhole = (pieces : List Numbered) (piece : Piece) (message : List ℕ) → IsPiece piece → payload_of pieces piece.number ≡ None
-    → MakeMessage (pieces ++ numbered_piece piece ∷ []) piece.length message → (grown (collect piece.key piece.length pieces) piece).0 ≡ made_whole message
+    → MakeMessage (pieces ++ numbered_piece piece ∷ []) piece.length message → (after_piece (collect piece.key piece.length pieces) piece).0 ≡ made_whole message
 
 -- what came of a message is what came before the piece, grown by the piece
 abbrev pub TakenIsSoFar : Type 0
-TakenIsSoFar = (lane : List Partial) (piece : Piece) → so_far (take_piece lane piece).1 piece ≡ (grown (so_far lane piece) piece).1
+TakenIsSoFar = (lane : List Partial) (piece : Piece) → so_far (take_piece lane piece).1 piece ≡ (after_piece (so_far lane piece) piece).1
 
 -- a piece that displaces nothing changes no other message of its lane
 abbrev pub OthersStay : Type 0

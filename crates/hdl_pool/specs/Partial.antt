@@ -3,7 +3,7 @@ use Rattle.std.specs.Prelude.{ℕ, ◌*◌, ◌<◌, ◌≤◌, Bool, ◌&&◌, 
 use Rattle.hdl_frame.specs.declared.envelope.Envelope.{Envelope}
 use Rattle.hdl_frame.specs.Envelope.{envelope_at}
 use Rattle.hdl_frame.specs.Pieces.{piece_count}
-use Rattle.hdl_frame.specs.Whole.{joined}
+use Rattle.hdl_frame.specs.Whole.{whole_payload}
 use Rattle.hdl_limits.specs.declared.TheConstants.{MESSAGE_MAX, PIECE_LEN}
 use Rattle.hdl_pool.specs.declared.piece.Key.{Key}
 
@@ -56,4 +56,4 @@ with_payload p number payload = record p { pieces = slice_set p.pieces number (S
 
 -- the message, where every piece came
 abbrev pub whole : Partial → Option (List ℕ)
-whole p = joined p.pieces
+whole p = whole_payload p.pieces

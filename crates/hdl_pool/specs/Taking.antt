@@ -32,8 +32,8 @@ abbrev pub with_piece : Partial → Piece → Partial
 with_piece p piece = with_payload p piece.number piece.payload
 
 -- what becomes of a piece, and of its partial message: where the piece makes it whole, it stays as it was
-abbrev pub grown : Partial → Piece → Fate × Partial
-grown p piece =
+abbrev pub after_piece : Partial → Piece → Fate × Partial
+after_piece p piece =
     if is_ignored p piece then (ignored, p)
     else option_map_or (λ message. (made_whole message, p)) (whole (with_piece p piece)) (kept, with_piece p piece)
 
@@ -51,15 +51,15 @@ abbrev pub store_partial : List Partial → Key → Partial → Fate × List Par
 store_partial lane key more = if is_some (find (is_of key) lane) then (kept, replace_partial key more lane) else begin_partial lane more
 
 -- only a piece that is kept changes the lane
-abbrev pub settle_partial : List Partial → Key → Fate → Partial → Fate × List Partial
-settle_partial lane key kept more = store_partial lane key more
-settle_partial lane key (made_whole message) more = (made_whole message, lane)
-settle_partial lane key ignored more = (ignored, lane)
-settle_partial lane key displaced more = (displaced, lane)
+abbrev pub store_if_kept : List Partial → Key → Fate → Partial → Fate × List Partial
+store_if_kept lane key kept more = store_partial lane key more
+store_if_kept lane key (made_whole message) more = (made_whole message, lane)
+store_if_kept lane key ignored more = (ignored, lane)
+store_if_kept lane key displaced more = (displaced, lane)
 
 -- what becomes of a piece, and of its lane
 abbrev pub take_piece : List Partial → Piece → Fate × List Partial
-take_piece lane piece = let after = grown (so_far lane piece) piece in settle_partial lane piece.key after.0 after.1
+take_piece lane piece = let after = after_piece (so_far lane piece) piece in store_if_kept lane piece.key after.0 after.1
 
 -- the whole message, if the piece makes it whole
 abbrev pub whole_message : Fate → Option (List ℕ)

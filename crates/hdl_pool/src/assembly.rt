@@ -3,7 +3,7 @@
 ghost use Rattle.std.specs.Prelude.{◌≡◌, ◌<◌, ◌≤◌, None, Some, OnOk, OnErr, IfOk, is_some, option_map};
 ghost use Rattle.hdl_frame.specs.Pieces.{piece_count};
 ghost use Rattle.hdl_pool.specs.Partial.{IsPiece, is_of, nothing_of, payload_at, with_payload, whole};
-ghost use Rattle.hdl_pool.specs.Taking.{grown, fate_of};
+ghost use Rattle.hdl_pool.specs.Taking.{after_piece, fate_of};
 ghost use Rattle.hdl_pool.specs.Arrival.{piece_in};
 
 use crate::joining::joined_with;
@@ -68,8 +68,8 @@ impl Assembly {
     /// Takes a piece of this message: whole, and then this stays as it was, or kept, or ignored. An `Err` changes nothing.
     pub(crate) fn take(&mut self, alloc: Global, piece: Arrival<'_>) -> Result<Taken, AllocError>
         requires { IsPiece (piece_in piece) }
-        ensures fate { IfOk result (λ t. fate_of t ≡ (grown self.old (piece_in piece.entry)).0) }
-        ensures grown { OnOk result (self.new ≡ (grown self.old (piece_in piece.entry)).1) }
+        ensures fate { IfOk result (λ t. fate_of t ≡ (after_piece self.old (piece_in piece.entry)).0) }
+        ensures grown { OnOk result (self.new ≡ (after_piece self.old (piece_in piece.entry)).1) }
         ensures unchanged { OnErr result (self.new ≡ self.old) }
     {
         if self.message_len != piece.message_len || self.has(piece.number) {

@@ -1,7 +1,7 @@
 //! Payloads, one after the other.
 
 ghost use Rattle.std.specs.Prelude.{◌≡◌, slice_set, option_map, Some, IfOk};
-ghost use Rattle.hdl_frame.specs.Whole.{joined};
+ghost use Rattle.hdl_frame.specs.Whole.{whole_payload};
 ghost use Rattle.hdl_pool.specs.Assembly.{lists};
 
 use std::alloc::{AllocError, Global};
@@ -16,7 +16,7 @@ pub(crate) fn joined_with(
     payload: &[u8],
 ) -> Result<Option<Vec<u8>>, AllocError>
     ensures { IfOk result (λ message. option_map (λ v. v.items) message
-        ≡ joined (slice_set (lists payloads.now) number (Some payload.now))) }
+        ≡ whole_payload (slice_set (lists payloads.now) number (Some payload.now))) }
 {
     let mut message = Vec::with_capacity(alloc, message_len)?;
     for (k, stored) in payloads.iter().enumerate() {

@@ -11,11 +11,11 @@
 //!                  drop_lane
 //! ```
 //!
-//! It stands on `hdl_frame`, whose definitions say what a frame is and which message pieces make, and on the kit's `slab`. The
-//! 256 slots are made by [`Pool::new`] and written in place; only [`Pool::take`] takes memory, for what really came and for a
-//! whole message, and a refused growth leaves the pool as it was. What it promises is one equation for each call: the list of
-//! all lanes is as it was but for the called one, which is a function of what it was (`specs/Taking.antt`). The laws of
-//! `specs/Laws.antt` tie these functions to the message that pieces make.
+//! Definitions of `hdl_frame` say what a frame is and which message pieces make. The 256 slots, in the kit's `slab`, are made by
+//! [`Pool::new`] and written in place; only [`Pool::take`] takes memory, for what really came and for a whole message, and a
+//! refused growth leaves the pool as it was. What it promises is one equation for each call: the list of all lanes is as it was
+//! but for the called one, which is a function of what it was (`specs/Taking.antt`). The laws of `specs/Laws.antt` tie these
+//! functions to the message that pieces make.
 //!
 //! ```rust
 //! // crates/hdl_tests/src/pool.rt
@@ -35,8 +35,8 @@
 //!
 //! - **A one-piece message whose key has a partial message of another length is ignored**, as any other piece of another length.
 //! - **The finite map of a partial message's pieces is a list of options, one for each number**, so equal partial messages are equal values,
-//!   and the message is `joined` of that list, the word of hdl_frame.
-//! - **What a piece does goes in two steps**: `grown` says what becomes of its message, `settle_partial` that only a kept piece changes the lane.
+//!   and the message is `whole_payload` of that list, the word of hdl_frame.
+//! - **What a piece does goes in two steps**: `after_piece` says what becomes of its message, `store_if_kept` that only a kept piece changes the lane.
 //!   So a piece that makes its message whole leaves the pool as it was, and a caller whose event becomes Busy has nothing to undo.
 //! - **A partial message counts its missing pieces.** Only the last missing one builds the message; it takes the whole message's room at
 //!   once. Each payload is a copy of its own, and the table of a message's pieces (at most 134 places) comes with its first piece.

@@ -19,7 +19,7 @@ fn lanes_write_in_turn(rt: HostRuntime) -> Result<(), Fail> {
     assert!(&rt; queue.stays(1) && !queue.is_asked(1));
     signals.end();
     assert!(&rt; queue.is_asked(0) && signals.may_write() && !queue.is_asked(1));
-    signals.settle();
+    signals.note_end();
     queue.note_outcome(0);
     assert!(&rt; queue.is_asked(1) && signals.may_write());
     Ok(())

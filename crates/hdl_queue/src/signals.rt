@@ -64,7 +64,7 @@ impl Signals {
     }
 
     /// Once the file is back.
-    pub fn settle(&self) {
+    pub fn note_end(&self) {
         self.is_under_way.store(false, SeqCst);
     }
 }

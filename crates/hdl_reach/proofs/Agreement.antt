@@ -3,7 +3,7 @@ use Rattle.std.proofs.Common.{◌≡◌, ◌⊎◌, inl, inr, ℕ, List, [], ◌
 use Rattle.std.specs.List.{AllByRecursion}
 use Rattle.std.proofs.lemmas.Map.Made.{is_member-filter}
 use Rattle.hdl_value.specs.Place.{Place}
-use Rattle.hdl_value.specs.Refs.{granted, granted_by, admin_read, listed_by, list_read, refers, place}
+use Rattle.hdl_value.specs.Refs.{value_grants, granted_by, admin_read, listed_by, list_read, refers, place}
 use Rattle.hdl_value.specs.declared.references.RawRef.{RawRef}
 use Rattle.hdl_value.specs.declared.value.Value.{Value}
 use Rattle.hdl_value.proofs.Places.{places_equal}
@@ -55,7 +55,7 @@ granted_refers (Some x) = one_refers (x.0, place x.1) (refers (place x.1)) refl
 
 grants_refer : (vs : List Value) → GrantsRefer (grants vs)
 grants_refer [] = tt
-grants_refer (v ∷ vs) = all_append _ (granted v) (grants vs) (granted_refers (admin_read v)) (grants_refer vs)
+grants_refer (v ∷ vs) = all_append _ (value_grants v) (grants vs) (granted_refers (admin_read v)) (grants_refer vs)
 
 none_refers : (t : Table) (k : Place) (so_far : Option ℕ) (gs : List (ℕ × Place)) (m : Option ℕ) → refers k ≡ false → GrantsRefer gs → IsUnion t k so_far gs m → m ≡ so_far
 none_refers t k so_far [] m zero all a = a

@@ -3,7 +3,7 @@ use Rattle.std.specs.Prelude.{◌≡◌, ℕ, List, [], ◌∷◌, Bool, Option,
 use Rattle.std.specs.List.{flat_map}
 use Rattle.std.specs.Set.{is_member}
 use Rattle.hdl_value.specs.Place.{Place, same_place}
-use Rattle.hdl_value.specs.Refs.{granted, listed}
+use Rattle.hdl_value.specs.Refs.{value_grants, listed_places}
 use Rattle.hdl_value.specs.declared.value.Value.{Value}
 use Rattle.hdl_rows.specs.Table.{Table, at, values_of}
 
@@ -13,7 +13,7 @@ is_among p ps = is_member same_place ps p
 
 abbrev pub listed_in : Option Value → List Place
 listed_in None = []
-listed_in (Some v) = listed v
+listed_in (Some v) = listed_places v
 
 -- the places that the HS_VLIST value at this place lists; none where no such value stands
 abbrev pub lists : Table → Place → List Place
@@ -30,7 +30,7 @@ IsChain t r k = (ps : List Place) × IsPath t r ps k
 
 -- mask and place of each HS_ADMIN value among these
 abbrev pub grants : List Value → List (ℕ × Place)
-grants vs = flat_map granted vs
+grants vs = flat_map value_grants vs
 
 abbrev pub join_masks : Option ℕ → ℕ → ℕ
 join_masks None m = m

@@ -1,7 +1,7 @@
 //! What the HS_ADMIN values of a handle grant, and to whom.
 
 ghost use Rattle.std.specs.Prelude.{◌≡◌, None, take, option_to_list, IfOk};
-ghost use Rattle.hdl_value.specs.Refs.{granted};
+ghost use Rattle.hdl_value.specs.Refs.{value_grants};
 ghost use Rattle.hdl_reach.specs.Reach.{is_among, grants};
 ghost use Rattle.hdl_reach.specs.Reach as union;
 ghost use Rattle.hdl_reach.specs.Seen.{places, AreKept};
@@ -20,7 +20,7 @@ pub(crate) struct Grant {
 
 /// The grant of an HS_ADMIN value; none where the index is 0.
 fn grant_of(alloc: Global, value: &Value) -> Result<Option<Grant>, AllocError>
-    ensures { IfOk result (λ grant. grants_in (option_to_list grant) ≡ granted value.now) }
+    ensures { IfOk result (λ grant. grants_in (option_to_list grant) ≡ value_grants value.now) }
 {
     let Some((mask, reference)) = admin_of(alloc, value)? else {
         return Ok(None);

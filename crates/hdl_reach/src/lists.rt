@@ -1,7 +1,7 @@
 //! What the lists at references hold.
 
 ghost use Rattle.std.specs.Prelude.{◌≡◌, filter, IfOk};
-ghost use Rattle.hdl_value.specs.Refs.{listed, refers, place_of};
+ghost use Rattle.hdl_value.specs.Refs.{listed_places, refers, place_of};
 ghost use Rattle.hdl_rows.specs.Table.{AreRefusalsAfter};
 ghost use Rattle.hdl_reach.specs.Reach.{lists};
 ghost use Rattle.hdl_reach.specs.Seen.{places};
@@ -25,7 +25,7 @@ fn referring(alloc: Global, all: Vec<Reference>) -> Result<Vec<Reference>, Alloc
 
 /// The references of a list value; none of another value.
 fn references_of(alloc: Global, value: &Value) -> Result<Vec<Reference>, AllocError>
-    ensures { IfOk result (λ all. places all.items ≡ listed value.now) }
+    ensures { IfOk result (λ all. places all.items ≡ listed_places value.now) }
 {
     match vlist_of(alloc, value)? {
         Some(all) => referring(alloc, all),

@@ -9,8 +9,6 @@
 //! [`replay`] does all of it over any empty table, a reader and two writers, and knows neither a command line nor a file. [`lines_of_resumed`] is the part
 //! between text and lines, over a table that is there already.
 //!
-//! It stands on `hdl_core`, `hdl_tenants` and the contract of `hdl_rows`.
-//!
 //! ```rust
 //! // crates/hdl_program_tests/src/scripts.rt
 //! let mut input = script;

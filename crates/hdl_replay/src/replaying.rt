@@ -7,7 +7,8 @@ ghost use Rattle.hdl_rows.specs.Table.{no_rows};
 use crate::fault::Fault;
 use crate::input::read_input;
 use crate::script::{events_of, parts_of};
-use hdl_core::{Event, Outcome, Rows, Service, Tenants};
+use hdl_core::{Rows, Service, Tenants};
+use hdl_events::{Event, Outcome};
 use std::alloc::Global;
 use std::io::{Read, Write};
 

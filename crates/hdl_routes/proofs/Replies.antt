@@ -6,7 +6,7 @@ use Rattle.std.specs.Map.{lookup}
 use Rattle.lru.specs.LruCache.{lru_cache, put_entries}
 use Rattle.hdl_routes.specs.declared.kept.Fresh.{Fresh}
 use Rattle.hdl_routes.specs.Standing.{later}
-use Rattle.hdl_routes.specs.Kept.{Replies, is_request, same_request, IsKept, Keeps}
+use Rattle.hdl_routes.specs.KeptReplies.{Replies, is_request, same_request, IsKept, Keeps}
 
 -- a reply was put, or memory was refused
 pub put_keeps : {X E : Type 0} (r : Result X E) (old new : Replies) (key : Vec ℕ Global) (fresh : Fresh) (request reply : List ℕ) (now time : ℕ)

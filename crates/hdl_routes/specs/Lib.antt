@@ -2,4 +2,4 @@ pub mod Route
 pub mod Order
 pub mod Miss
 pub mod Standing
-pub mod Kept
+pub mod KeptReplies

@@ -2,7 +2,7 @@
 
 ghost use Rattle.std.specs.Prelude.{◌≡◌, [], IfOk, IfSome, option_copied};
 ghost use Rattle.std.specs.Map.{lookup};
-ghost use Rattle.hdl_routes.specs.Kept.{IsKept, Keeps, is_held, is_request};
+ghost use Rattle.hdl_routes.specs.KeptReplies.{IsKept, Keeps, is_held, is_request};
 
 use lru::LruCache;
 use std::alloc::{AllocError, Global};
@@ -34,19 +34,19 @@ fn is_held(kept: Option<&Fresh>, reply: &[u8], now: u64) -> bool
 
 /// Replies by the requests that they answer, the ones that were used last.
 #[derive(Drop)]
-pub struct Kept {
+pub struct KeptReplies {
     alloc: Global,
     replies: LruCache<Vec<u8>, Fresh, RandomState>,
 }
 
-impl Kept {
+impl KeptReplies {
     /// Nothing is kept. Refused only for want of memory.
-    pub fn new(alloc: Global, hasher: RandomState) -> Result<Kept, AllocError>
+    pub fn new(alloc: Global, hasher: RandomState) -> Result<KeptReplies, AllocError>
         ensures { IfOk result (λ kept. kept.replies.entries ≡ []) }
     {
         let most = NonZeroUsize::new(REPLIES_MOST).unwrap_or(NonZeroUsize::MIN);
         let replies = LruCache::with_hasher(alloc, most, hasher)?;
-        Ok(Kept { alloc, replies })
+        Ok(KeptReplies { alloc, replies })
     }
 
     /// A copy of the reply to this request, if it is kept and fresh at this moment.

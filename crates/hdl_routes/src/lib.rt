@@ -5,7 +5,7 @@
 //! a prefix, the routes -> places_for -> the servers that are asked, in turn
 //! a server's standing  -> Standing::admits -> whether it is asked now
 //! no good answer       -> worst -> what a browser is told
-//! a request, its reply -> Kept::keep, find -> the reply, while it is fresh
+//! a request, its reply -> KeptReplies::keep, find -> the reply, while it is fresh
 //! ```
 //!
 //! This crate has no sockets, no threads and no clock: moments are milliseconds that the caller gives. It promises that a prefix is
@@ -32,7 +32,7 @@ mod route;
 mod standing;
 
 pub use fault::RouteFault;
-pub use kept::{Kept, REPLIES_MOST, REPLY_MOST};
+pub use kept::{KeptReplies, REPLIES_MOST, REPLY_MOST};
 pub use miss::{Miss, worst};
 pub use order::places_for;
 pub use route::{Route, read_route};

@@ -9,7 +9,7 @@ use Rattle.std.specs.FinMap.Entries.{where_key}
 use Rattle.hdl_name.specs.Name.{authority}
 use Rattle.hdl_value.specs.Place.{handle_cmp, same_handle}
 use Rattle.hdl_value.specs.declared.value.Value.{Value}
-use Rattle.hdl_rows.specs.Table.{Table, place, has, at, values_of, names_of, HaveTheirIndexes, created, with_values, without_values, without_handle}
+use Rattle.hdl_rows.specs.Table.{Table, place, has, at, values_of, names_of, HaveTheirIndexes, with_new_handle, with_values, without_values, without_handle}
 use Rattle.hdl_rows.specs.Write.{Create, Add, Remove, Delete}
 use Rattle.hdl_rows.specs.Shelf.{entries_of, by_index, table_of, AreInOrder, put_all}
 use Rattle.hdl_rows.proofs.Writes.{put_at, removed_at}
@@ -66,13 +66,13 @@ names_is t es a view order =
 
 pub created_is : (t : Table) (es next : Entries) (h : List ℕ) (vs all : List Value) → table_of (entries_of es) ≡ t → AreInOrder (entries_of es) → has t h ≡ false
     → by_index all ≡ put_all [] vs → entries_of next ≡ put handle_cmp h all (entries_of es)
-    → AreInOrder (entries_of next) × (table_of (entries_of next) ≡ created t h vs)
+    → AreInOrder (entries_of next) × (table_of (entries_of next) ≡ with_new_handle t h vs)
 created_is t es next h vs all view order absent put is =
     let none : find handle_cmp h (entries_of es) ≡ None = none_of _ (sym (has-table (entries_of es) h) ∙ ap (λ (u : Table). has u h) view ∙ absent) in
     let values = values_put all [] vs put refl in
     let step = put_in (entries_of es) h all order values.0 in (
       subst AreInOrder (sym is) step.0,
-      ap table_of is ∙ changed (entries_of es) _ (Create h vs) (Some all) order.handles step.0.handles step.1 refl (λ i. values.1 i ∙ ap (λ x. put_at vs i (within x i)) (sym none)) ∙ ap (λ (u : Table). created u h vs) view,
+      ap table_of is ∙ changed (entries_of es) _ (Create h vs) (Some all) order.handles step.0.handles step.1 refl (λ i. values.1 i ∙ ap (λ x. put_at vs i (within x i)) (sym none)) ∙ ap (λ (u : Table). with_new_handle u h vs) view,
     )
 
 -- ---- a handle that is there

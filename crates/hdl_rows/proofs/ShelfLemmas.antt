@@ -13,9 +13,9 @@ use Rattle.hdl_value.specs.Place.{Place, handle_cmp, place_cmp, same_handle}
 use Rattle.hdl_value.specs.declared.value.Value.{Value}
 use Rattle.hdl_value.proofs.Places.{handle_total, handle_antisymmetric, place_total, place_antisymmetric, tied, handles_equal, handle_itself}
 use Rattle.hdl_rows.specs.Table.{place, has, at, values_of, names_of, value_with, HaveTheirIndexes, key}
-use Rattle.hdl_rows.specs.Write.{Write, handle_of, written}
+use Rattle.hdl_rows.specs.Write.{Write, handle_of, after_write}
 use Rattle.hdl_rows.specs.Shelf.{by_index, by_place, table_of, AreInOrder, put_all}
-use Rattle.hdl_rows.proofs.Writes.{same_look_ups_lem, at-written, has-written, at_place, put_at, removed_at, at_after, has_after, some_none, apart}
+use Rattle.hdl_rows.proofs.Writes.{same_look_ups_lem, at-after_write, has-after_write, at_place, put_at, removed_at, at_after, has_after, some_none, apart}
 
 pub index_test : (i j : ℕ) → is_eq (nat_cmp i j) ≡ (j == i)
 index_test i j = grind (arith, nat_tests)
@@ -126,15 +126,15 @@ pub changed : (es fs : Rows) (w : Write) (o : Option (List Value)) → IsTrue (i
     → ((q : List ℕ) → find handle_cmp q fs ≡ cond (same_handle q (handle_of w)) o (find handle_cmp q es))
     → has_after w (is_some (find handle_cmp (handle_of w) es)) ≡ is_some o
     → ((i : ℕ) → within o i ≡ at_after w i (within (find handle_cmp (handle_of w) es) i))
-    → table_of fs ≡ written (table_of es) w
+    → table_of fs ≡ after_write (table_of es) w
 changed es fs w o sorted next found there inside =
-    same_look_ups_lem (table_of fs) (written (table_of es) w)
+    same_look_ups_lem (table_of fs) (after_write (table_of es) w)
     (λ q. has-table fs q ∙ ap is_some (found q) ∙ some_or (same_handle q (handle_of w)) o (find handle_cmp q es)
     ∙ gate (same_handle q (handle_of w)) _ _ _ (λ e. sym there ∙ ap (λ (h : List ℕ). has_after w (is_some (find handle_cmp h es))) (sym (handles_equal q (handle_of w) e)))
-    ∙ sym (has-written (table_of es) w q ∙ ap (λ b. cond (same_handle q (handle_of w)) (has_after w b) b) (has-table es q)))
+    ∙ sym (has-after_write (table_of es) w q ∙ ap (λ b. cond (same_handle q (handle_of w)) (has_after w b) b) (has-table es q)))
     (λ p. at-table fs next p ∙ ap (λ x. within x p.index) (found p.handle) ∙ within_or (same_handle p.handle (handle_of w)) o (find handle_cmp p.handle es) p.index
     ∙ gate (same_handle p.handle (handle_of w)) _ _ _ (λ e. inside p.index ∙ ap (λ (h : List ℕ). at_after w p.index (within (find handle_cmp h es) p.index)) (sym (handles_equal p.handle (handle_of w) e)))
-    ∙ sym (at-written (table_of es) w p ∙ ap (λ x. cond (same_handle p.handle (handle_of w)) (at_after w p.index x) x) (at-table es sorted p)))
+    ∙ sym (at-after_write (table_of es) w p ∙ ap (λ x. cond (same_handle p.handle (handle_of w)) (at_after w p.index x) x) (at-table es sorted p)))
 
 -- ---- what values in order answer
 

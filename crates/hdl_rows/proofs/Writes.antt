@@ -9,8 +9,8 @@ use Rattle.std.specs.FinSet as set
 use Rattle.hdl_value.specs.Place.{Place, handle_cmp, place_cmp, same_handle}
 use Rattle.hdl_value.specs.declared.value.Value.{Value}
 use Rattle.hdl_value.proofs.Places.{handle_total, handle_antisymmetric, place_total, place_antisymmetric, handles_equal, handle_itself}
-use Rattle.hdl_rows.specs.Table.{Table, place, has, at, values_of, put_values, remove_values, created, with_values, without_values, without_handle, AreDistinct, indexes, IsPlaced}
-use Rattle.hdl_rows.specs.Write.{Write, Create, Add, Modify, Remove, Delete, handle_of, written, CanWrite}
+use Rattle.hdl_rows.specs.Table.{Table, place, has, at, values_of, put_values, remove_values, with_new_handle, with_values, without_values, without_handle, AreDistinct, indexes, IsPlaced}
+use Rattle.hdl_rows.specs.Write.{Write, Create, Add, Modify, Remove, Delete, handle_of, after_write, CanWrite}
 
 pub same_look_ups_lem : (t u : Table) → ((h : List ℕ) → has t h ≡ has u h) → ((p : Place) → at t p ≡ at u p) → t ≡ u
 same_look_ups_lem t u alike_handles alike_values =
@@ -105,12 +105,12 @@ has_after (Modify h vs) b = b
 has_after (Remove h is) b = b
 has_after (Delete h) b = false
 
-pub at-written : (t : Table) (w : Write) (p : Place) → at (written t w) p ≡ cond (same_handle p.handle (handle_of w)) (at_after w p.index (at t p)) (at t p)
-at-written t (Create h vs) p = get-put_values t.values h vs p
-at-written t (Add h vs) p = get-put_values t.values h vs p
-at-written t (Modify h vs) p = get-put_values t.values h vs p
-at-written t (Remove h is) p = get-remove_values t.values h is p
-at-written t (Delete h) p =
+pub at-after_write : (t : Table) (w : Write) (p : Place) → at (after_write t w) p ≡ cond (same_handle p.handle (handle_of w)) (at_after w p.index (at t p)) (at t p)
+at-after_write t (Create h vs) p = get-put_values t.values h vs p
+at-after_write t (Add h vs) p = get-put_values t.values h vs p
+at-after_write t (Modify h vs) p = get-put_values t.values h vs p
+at-after_write t (Remove h is) p = get-remove_values t.values h is p
+at-after_write t (Delete h) p =
     map.get-retain_keys t.values (λ q. not (same_handle q.handle h)) p (λ q e. ap (λ (r : Place). not (same_handle r.handle h)) (sym (place_antisymmetric p q e)))
     ∙ turned (same_handle p.handle h) (at t p)
   where
@@ -122,16 +122,16 @@ same_either : (a b : Bool) → b ≡ cond a b b
 same_either true b = refl
 same_either false b = refl
 
-pub has-written : (t : Table) (w : Write) (g : List ℕ) → has (written t w) g ≡ cond (same_handle g (handle_of w)) (has_after w (has t g)) (has t g)
-has-written t (Create h vs) g = set.contains-insert handle_total t.handles h g ∙ or_is (same_handle g h) (has t g)
+pub has-after_write : (t : Table) (w : Write) (g : List ℕ) → has (after_write t w) g ≡ cond (same_handle g (handle_of w)) (has_after w (has t g)) (has t g)
+has-after_write t (Create h vs) g = set.contains-insert handle_total t.handles h g ∙ or_is (same_handle g h) (has t g)
   where
     or_is : (a b : Bool) → (a || b) ≡ cond a true b
     or_is true b = refl
     or_is false b = refl
-has-written t (Add h vs) g = same_either (same_handle g h) (has t g)
-has-written t (Modify h vs) g = same_either (same_handle g h) (has t g)
-has-written t (Remove h is) g = same_either (same_handle g h) (has t g)
-has-written t (Delete h) g = set.contains-remove handle_total t.handles h g ∙ and_is (same_handle g h) (has t g)
+has-after_write t (Add h vs) g = same_either (same_handle g h) (has t g)
+has-after_write t (Modify h vs) g = same_either (same_handle g h) (has t g)
+has-after_write t (Remove h is) g = same_either (same_handle g h) (has t g)
+has-after_write t (Delete h) g = set.contains-remove handle_total t.handles h g ∙ and_is (same_handle g h) (has t g)
   where
     and_is : (a b : Bool) → (not a && b) ≡ cond a false b
     and_is true b = refl
@@ -157,16 +157,16 @@ same_values t u h alike =
     by_parts p e = by_parts_of t p e ∙ alike p.index
 
 pub other_handles_stay_lem : (t : Table) (w : Write) (g : List ℕ) → g ≢ handle_of w
-    → (has (written t w) g ≡ has t g) × ((i : ℕ) → at (written t w) (place g i) ≡ at t (place g i)) × (values_of (written t w) g ≡ values_of t g)
+    → (has (after_write t w) g ≡ has t g) × ((i : ℕ) → at (after_write t w) (place g i) ≡ at t (place g i)) × (values_of (after_write t w) g ≡ values_of t g)
 other_handles_stay_lem t w g other =
     let test : same_handle g (handle_of w) ≡ false = apart g (handle_of w) other in
-    let there : (i : ℕ) → at (written t w) (place g i) ≡ at t (place g i) = λ i. at-written t w (place g i) ∙ ap (λ b. cond b (at_after w i (at t (place g i))) (at t (place g i))) test in
-    (has-written t w g ∙ ap (λ b. cond b (has_after w (has t g)) (has t g)) test, there, same_values (written t w) t g there)
+    let there : (i : ℕ) → at (after_write t w) (place g i) ≡ at t (place g i) = λ i. at-after_write t w (place g i) ∙ ap (λ b. cond b (at_after w i (at t (place g i))) (at t (place g i))) test in
+    (has-after_write t w g ∙ ap (λ b. cond b (has_after w (has t g)) (has t g)) test, there, same_values (after_write t w) t g there)
 
 -- ---- at the written handle
 
-here : (t : Table) (w : Write) (i : ℕ) → at (written t w) (place (handle_of w) i) ≡ at_after w i (at t (place (handle_of w) i))
-here t w i = at-written t w (place (handle_of w) i) ∙ ap (λ b. cond b (at_after w i (at t (place (handle_of w) i))) (at t (place (handle_of w) i))) (handle_itself (handle_of w))
+here : (t : Table) (w : Write) (i : ℕ) → at (after_write t w) (place (handle_of w) i) ≡ at_after w i (at t (place (handle_of w) i))
+here t w i = at-after_write t w (place (handle_of w) i) ∙ ap (λ b. cond b (at_after w i (at t (place (handle_of w) i))) (at t (place (handle_of w) i))) (handle_itself (handle_of w))
 
 put_at-others : (vs : List Value) (i : ℕ) (x : Option Value) → AllByRecursion (λ j. i ≢ j) (indexes vs) → put_at vs i x ≡ x
 put_at-others [] i x others = refl
@@ -207,10 +207,10 @@ removed_are_gone_lem t h is = each _ _ is (λ i e. here t (Remove h is) i ∙ e)
 pub unremoved_stay_lem : (t : Table) (h : List ℕ) (is : List ℕ) (i : ℕ) → AllByRecursion (λ j. i ≢ j) is → at (without_values t h is) (place h i) ≡ at t (place h i)
 unremoved_stay_lem t h is i others = here t (Remove h is) i ∙ removed_at-others is i _ others
 
-has_here : (t : Table) (w : Write) → has (written t w) (handle_of w) ≡ has_after w (has t (handle_of w))
-has_here t w = has-written t w (handle_of w) ∙ ap (λ b. cond b (has_after w (has t (handle_of w))) (has t (handle_of w))) (handle_itself (handle_of w))
+has_here : (t : Table) (w : Write) → has (after_write t w) (handle_of w) ≡ has_after w (has t (handle_of w))
+has_here t w = has-after_write t w (handle_of w) ∙ ap (λ b. cond b (has_after w (has t (handle_of w))) (has t (handle_of w))) (handle_itself (handle_of w))
 
-pub created_is_there_lem : (t : Table) (h : List ℕ) (vs : List Value) → AreDistinct (indexes vs) → (has (created t h vs) h ≡ true) × AllByRecursion (λ v. at (created t h vs) (place h v.index) ≡ Some v) vs
+pub created_is_there_lem : (t : Table) (h : List ℕ) (vs : List Value) → AreDistinct (indexes vs) → (has (with_new_handle t h vs) h ≡ true) × AllByRecursion (λ v. at (with_new_handle t h vs) (place h v.index) ≡ Some v) vs
 created_is_there_lem t h vs distinct = (has_here t (Create h vs), each _ _ vs (λ v e. here t (Create h vs) v.index ∙ e) (put_at-each vs (λ i. at t (place h i)) distinct))
 
 pub deleted_is_gone_lem : (t : Table) (h : List ℕ) → (has (without_handle t h) h ≡ false) × ((i : ℕ) → at (without_handle t h) (place h i) ≡ None)
@@ -237,14 +237,14 @@ has_where_some t (Modify h vs) i v placed can e = can.0
 has_where_some t (Remove h is) i v placed can e = can.0
 has_where_some t (Delete h) i v placed can e = absurd (some_none v (sym e))
 
-pub stay_placed_lem : (t : Table) (w : Write) → IsPlaced t → CanWrite t w → IsPlaced (written t w)
+pub stay_placed_lem : (t : Table) (w : Write) → IsPlaced t → CanWrite t w → IsPlaced (after_write t w)
 stay_placed_lem t w placed can p v e = by_test (same_handle p.handle (handle_of w)) refl
   where
-    by_test : (b : Bool) → same_handle p.handle (handle_of w) ≡ b → has (written t w) p.handle ≡ true
+    by_test : (b : Bool) → same_handle p.handle (handle_of w) ≡ b → has (after_write t w) p.handle ≡ true
     by_test true is =
         let same : p.handle ≡ handle_of w = handles_equal p.handle (handle_of w) is in
-        let there : at (written t w) (place (handle_of w) p.index) ≡ Some v = ap (λ (g : List ℕ). at (written t w) (place g p.index)) (sym same) ∙ e in
-        ap (has (written t w)) same ∙ has_here t w ∙ has_where_some t w p.index v placed can (sym (here t w p.index) ∙ there)
+        let there : at (after_write t w) (place (handle_of w) p.index) ≡ Some v = ap (λ (g : List ℕ). at (after_write t w) (place g p.index)) (sym same) ∙ e in
+        ap (has (after_write t w)) same ∙ has_here t w ∙ has_where_some t w p.index v placed can (sym (here t w p.index) ∙ there)
     by_test false is =
-        let was : at t p ≡ Some v = sym (at-written t w p ∙ ap (λ b. cond b (at_after w p.index (at t p)) (at t p)) is) ∙ e in
-        has-written t w p.handle ∙ ap (λ b. cond b (has_after w (has t p.handle)) (has t p.handle)) is ∙ placed p v was
+        let was : at t p ≡ Some v = sym (at-after_write t w p ∙ ap (λ b. cond b (at_after w p.index (at t p)) (at t p)) is) ∙ e in
+        has-after_write t w p.handle ∙ ap (λ b. cond b (has_after w (has t p.handle)) (has t p.handle)) is ∙ placed p v was

@@ -3,8 +3,8 @@ use Rattle.std.specs.Prelude.{◌≡◌, ◌≢◌, ℕ, List, true, false, Some
 use Rattle.std.specs.List.{AllByRecursion}
 use Rattle.hdl_value.specs.Place.{Place}
 use Rattle.hdl_value.specs.declared.value.Value.{Value}
-use Rattle.hdl_rows.specs.Table.{Table, place, has, at, values_of, created, with_values, without_values, without_handle, AreDistinct, indexes, IsPlaced}
-use Rattle.hdl_rows.specs.Write.{Write, handle_of, written, CanWrite}
+use Rattle.hdl_rows.specs.Table.{Table, place, has, at, values_of, with_new_handle, with_values, without_values, without_handle, AreDistinct, indexes, IsPlaced}
+use Rattle.hdl_rows.specs.Write.{Write, handle_of, after_write, CanWrite}
 
 -- tables that answer alike are one
 abbrev pub SameLookUps : Type 0
@@ -29,7 +29,7 @@ UnremovedStay = (t : Table) (h : List ℕ) (is : List ℕ) (i : ℕ) → AllByRe
 -- a handle that was made is there with its values
 abbrev pub CreatedIsThere : Type 0
 CreatedIsThere = (t : Table) (h : List ℕ) (vs : List Value) → AreDistinct (indexes vs)
-    → (has (created t h vs) h ≡ true) × AllByRecursion (λ v. at (created t h vs) (place h v.index) ≡ Some v) vs
+    → (has (with_new_handle t h vs) h ≡ true) × AllByRecursion (λ v. at (with_new_handle t h vs) (place h v.index) ≡ Some v) vs
 
 -- a handle that was taken away is gone with its values
 abbrev pub DeletedIsGone : Type 0
@@ -38,7 +38,7 @@ DeletedIsGone = (t : Table) (h : List ℕ) → (has (without_handle t h) h ≡ f
 -- a write leaves every other handle and its values as they were
 abbrev pub OtherHandlesStay : Type 0
 OtherHandlesStay = (t : Table) (w : Write) (g : List ℕ) → g ≢ handle_of w
-    → (has (written t w) g ≡ has t g) × ((i : ℕ) → at (written t w) (place g i) ≡ at t (place g i)) × (values_of (written t w) g ≡ values_of t g)
+    → (has (after_write t w) g ≡ has t g) × ((i : ℕ) → at (after_write t w) (place g i) ≡ at t (place g i)) × (values_of (after_write t w) g ≡ values_of t g)
 
 -- adding, modifying and removing leave the handles as they were
 abbrev pub HandlesStay : Type 0
@@ -46,4 +46,4 @@ HandlesStay = (t : Table) (h g : List ℕ) (vs : List Value) (is : List ℕ) →
 
 -- where each value stood at a handle, each does after a write
 abbrev pub StayPlaced : Type 0
-StayPlaced = (t : Table) (w : Write) → IsPlaced t → CanWrite t w → IsPlaced (written t w)
+StayPlaced = (t : Table) (w : Write) → IsPlaced t → CanWrite t w → IsPlaced (after_write t w)

@@ -72,8 +72,8 @@ abbrev pub remove_values : map.FinMap place_cmp Value → List ℕ → List ℕ 
 remove_values m h [] = m
 remove_values m h (i ∷ is) = remove_values (map.remove m (place h i)) h is
 
-abbrev pub created : Table → List ℕ → List Value → Table
-created t h vs = record { handles = set.insert t.handles h; values = put_values t.values h vs }
+abbrev pub with_new_handle : Table → List ℕ → List Value → Table
+with_new_handle t h vs = record { handles = set.insert t.handles h; values = put_values t.values h vs }
 
 -- added, or replaced whole
 abbrev pub with_values : Table → List ℕ → List Value → Table

@@ -1,7 +1,7 @@
 -- The writes of a table, one by one: what each makes of it, and what it asks.
 use Rattle.std.specs.Prelude.{ℕ, List, true, false, ◌≡◌}
 use Rattle.hdl_value.specs.declared.value.Value.{Value}
-use Rattle.hdl_rows.specs.Table.{Table, has, created, with_values, without_values, without_handle, AreDistinct, AreAbsent, ArePresent, indexes}
+use Rattle.hdl_rows.specs.Table.{Table, has, with_new_handle, with_values, without_values, without_handle, AreDistinct, AreAbsent, ArePresent, indexes}
 
 pub data Write : Type 0 where
   Create : List ℕ → List Value → Write
@@ -18,12 +18,12 @@ handle_of (Remove h is) = h
 handle_of (Delete h) = h
 
 -- the table after the write
-abbrev pub written : Table → Write → Table
-written t (Create h vs) = created t h vs
-written t (Add h vs) = with_values t h vs
-written t (Modify h vs) = with_values t h vs
-written t (Remove h is) = without_values t h is
-written t (Delete h) = without_handle t h
+abbrev pub after_write : Table → Write → Table
+after_write t (Create h vs) = with_new_handle t h vs
+after_write t (Add h vs) = with_values t h vs
+after_write t (Modify h vs) = with_values t h vs
+after_write t (Remove h is) = without_values t h is
+after_write t (Delete h) = without_handle t h
 
 -- what the write asks of the table
 abbrev pub CanWrite : Table → Write → Type 0

@@ -3,7 +3,7 @@
 ghost use Rattle.std.specs.Prelude.{◌≡◌, ◌+◌, min, map, true, false, is_some, IfOk, OnOk, OnErr};
 ghost use Rattle.hdl_name.specs.Name.{canonical};
 ghost use Rattle.hdl_value.specs.Refs.{place_of};
-ghost use Rattle.hdl_rows.specs.Table.{most, refusals_after, has, at, values_of, values_in, names_of, HaveTheirIndexes, created, with_values, without_values, without_handle, AreDistinct, AreAbsent, ArePresent, indexes};
+ghost use Rattle.hdl_rows.specs.Table.{most, refusals_after, has, at, values_of, values_in, names_of, HaveTheirIndexes, with_new_handle, with_values, without_values, without_handle, AreDistinct, AreAbsent, ArePresent, indexes};
 
 use crate::rows::{Refused, Rows};
 use hdl_limits::Octets;
@@ -148,7 +148,7 @@ impl<R: Rows> Rows for Fuse<R> {
     fn create(&mut self, name: &Name, values: &[Value]) -> Result<(), Refused>
         requires absent { has (R.content (inner_of self.old)) (canonical name.now) ≡ false }
         requires distinct { AreDistinct (indexes values.now) }
-        ensures done { OnOk result (R.content (inner_of self.new) ≡ created (R.content (inner_of self.old)) (canonical name.now) values.now) }
+        ensures done { OnOk result (R.content (inner_of self.new) ≡ with_new_handle (R.content (inner_of self.old)) (canonical name.now) values.now) }
         ensures undone { OnErr result (R.content (inner_of self.new) ≡ R.content (inner_of self.old)) }
         ensures count { refusals_of R.refused self.new ≡ refusals_after result (refusals_of R.refused self.old) }
         ensures wire { wire_of self.new ≡ after_call (wire_of self.old) }

@@ -3,7 +3,7 @@
 ghost use Rattle.std.specs.Prelude.{◌≡◌, ℕ, map, true, false, is_some, IfOk, OnOk, OnErr};
 ghost use Rattle.hdl_name.specs.Name.{canonical};
 ghost use Rattle.hdl_value.specs.Refs.{place_of};
-ghost use Rattle.hdl_rows.specs.Table.{Table, has, at, values_of, values_in, names_of, HaveTheirIndexes, created, with_values, without_values, without_handle, AreDistinct, AreAbsent, ArePresent, indexes, refusals_after};
+ghost use Rattle.hdl_rows.specs.Table.{Table, has, at, values_of, values_in, names_of, HaveTheirIndexes, with_new_handle, with_values, without_values, without_handle, AreDistinct, AreAbsent, ArePresent, indexes, refusals_after};
 
 use hdl_limits::Octets;
 use hdl_name::Name;
@@ -69,7 +69,7 @@ pub trait Rows {
     fn create(&mut self, name: &Name, values: &[Value]) -> Result<(), Refused>
         requires absent { has (content self.old) (canonical name.now) ≡ false }
         requires distinct { AreDistinct (indexes values.now) }
-        ensures done { OnOk result (content self.new ≡ created (content self.old) (canonical name.now) values.now) }
+        ensures done { OnOk result (content self.new ≡ with_new_handle (content self.old) (canonical name.now) values.now) }
         ensures undone { OnErr result (content self.new ≡ content self.old) }
         ensures count { refused self.new ≡ refusals_after result (refused self.old) };
 

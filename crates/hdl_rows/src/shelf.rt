@@ -6,7 +6,7 @@ ghost use Rattle.std.specs.Char.{to_ascii_lowercase};
 ghost use Rattle.hdl_name.specs.Name.{authority, sent_authority, is_slash};
 ghost use Rattle.hdl_value.specs.Place.{same_handle};
 ghost use Rattle.hdl_rows.specs.Shelf.{by_index, put_all};
-ghost use Rattle.hdl_rows.specs.Table.{no_rows, place, has, at, values_of, values_in, names_of, HaveTheirIndexes, created, with_values, without_values, without_handle};
+ghost use Rattle.hdl_rows.specs.Table.{no_rows, place, has, at, values_of, values_in, names_of, HaveTheirIndexes, with_new_handle, with_values, without_values, without_handle};
 
 use crate::row::{copies, put_copies, take_away, value_of};
 use hdl_limits::Octets;
@@ -149,7 +149,7 @@ impl Shelf {
         values: &[Value],
     ) -> Result<(), AllocError>
         requires absent { has self.old name.now ≡ false }
-        ensures done { OnOk result (self.new ≡ created self.old name.now values.now) }
+        ensures done { OnOk result (self.new ≡ with_new_handle self.old name.now values.now) }
         ensures undone { OnErr result (self.new ≡ self.old) }
     {
         let all = shelf_of(alloc, values)?;

@@ -6,7 +6,8 @@ ghost use Rattle.hdl_rows.specs.Table.{no_rows};
 
 use crate::row::{Row, TRIES};
 use crate::table::{Table, empty_rows};
-use hdl_core::{Early, Event, Outcome, Rows, Service, Tenants};
+use hdl_core::{Early, Rows, Service, Tenants};
+use hdl_events::{Event, Outcome};
 use hdl_replay::{events_of, line_of, parts_of};
 
 /// More than the calls of the table that any row makes.

@@ -13,8 +13,7 @@
 //! what was put is what was served and what is left.
 //!
 //! Nothing here takes a lock or waits for anybody: what finds nothing pauses by the caller's [`Clock`], and all is bounded by a
-//! number of turns. It stands on `hdl_core`, `hdl_laws`, `hdl_events`,
-//! `hdl_workers` and `hdl_lanes`.
+//! number of turns.
 //!
 //! ```rust
 //! // crates/hdl_program_tests/src/two_workers.rt

@@ -17,7 +17,7 @@ use hdl_workers::{Item, LaneEnds};
 use std::alloc::{AllocError, Global};
 
 /// The lane's next event, if one is seen and its outcome finds room. A lane that gave End isn't asked again.
-fn ask(ends: &mut LaneEnds, ended: &mut bool) -> Option<Happening>
+fn take_event(ends: &mut LaneEnds, ended: &mut bool) -> Option<Happening>
     ensures { MatchOption result (Passes ended.old ended.new [] [] ends.old ends.new) (λ what. Passes ended.old ended.new (what ∷ []) [] ends.old ends.new × (0 < known_room ends.new.outcomes)) }
 {
     if *ended {
@@ -50,7 +50,7 @@ fn serve_taken<R: Rows + Drop>(
     ensures { Serves ended.old ended.new service.old service.new ends.old ends.new }
 {
     let lane = ends.lane;
-    let Some(what) = ask(ends, ended) else {
+    let Some(what) = take_event(ends, ended) else {
         return false;
     };
     let outcome = service.step(Event { lane, what });

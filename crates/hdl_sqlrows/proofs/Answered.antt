@@ -26,7 +26,7 @@ use Rattle.hdl_rows.specs.Table.{place, has, at, values_of, names_of, value_with
 use Rattle.hdl_rows.proofs.Writes.{at_place}
 use Rattle.hdl_rows.proofs.ShelfLemmas.{index_test, nothing, find-keys}
 use Rattle.hdl_sqlrows.specs.Layout.{layout}
-use Rattle.hdl_sqlrows.specs.Kept.{number, handle_in, place_in, value_of, value_in, cells_of, entry_in, table_in, times, has_handle, has_place, IsHandleRow, IsEntryRow, AreKept, IsSettled, IsWhole}
+use Rattle.hdl_sqlrows.specs.Stored.{number, handle_in, place_in, value_of, value_in, cells_of, entry_in, table_in, times, has_handle, has_place, IsHandleRow, IsEntryRow, AreKept, IsBetweenCalls, IsWhole}
 use Rattle.hdl_sqlrows.specs.Shows.{first_in, handle_of}
 use Rattle.hdl_sqlrows.proofs.Texts.{is_param, shown_terms, select_handle, select_entry, select_entries, select_names, select_handle_is, select_entry_is, select_entries_is, select_names_is, select_opened, select_opened_is, plain, unlisted, opened_plain}
 use Rattle.hdl_sqlrows.proofs.Found.{times-filter, short_permutation, found_first, first_value, found_moved, found_kept, strictly_rises}
@@ -184,17 +184,17 @@ shown_opened old new h rows whole named shown =
     let got = reads_as select_opened (Blob h ∷ []) old new layout whole.layout _ select_opened_is opened_plain.1 opened_plain.2 rows shown in
     finds_name 4 old.now.trees h rows named (listed 4 _ _ [] old.now.trees (Blob h ∷ []) rows refl got.answer)
 
-pub shown_value : (old new : State) (h : List ℕ) (i : ℕ) (rows : List Row) → IsSettled old → Shown select_entry (Blob h ∷ Int (pos i) ∷ []) old new rows → first_in rows ≡ at (table_in old.now.trees) (place h i)
+pub shown_value : (old new : State) (h : List ℕ) (i : ℕ) (rows : List Row) → IsBetweenCalls old → Shown select_entry (Blob h ∷ Int (pos i) ∷ []) old new rows → first_in rows ≡ at (table_in old.now.trees) (place h i)
 shown_value old new h i rows settled shown =
     let got = reads_as select_entry (Blob h ∷ Int (pos i) ∷ []) old new layout settled.whole.layout _ select_entry_is plain.3 unlisted.1 rows shown in
     finds_value old.now.trees h i rows settled.whole.kept (listed 2 _ _ [] old.now.trees (Blob h ∷ Int (pos i) ∷ []) rows refl got.answer)
 
-pub shown_values : (old new : State) (h : List ℕ) (rows : List Row) → IsSettled old → Shown select_entries (Blob h ∷ []) old new rows → AreValues old.now.trees h rows
+pub shown_values : (old new : State) (h : List ℕ) (rows : List Row) → IsBetweenCalls old → Shown select_entries (Blob h ∷ []) old new rows → AreValues old.now.trees h rows
 shown_values old new h rows settled shown =
     let got = reads_as select_entries (Blob h ∷ []) old new layout settled.whole.layout _ select_entries_is plain.4 unlisted.2 rows shown in
     lists_values old.now.trees h rows settled.whole.kept (listed 2 _ _ _ old.now.trees (Blob h ∷ []) rows refl got.answer)
 
-pub shown_names : (old new : State) (a : List ℕ) (rows : List Row) → IsSettled old → Shown select_names (Blob a ∷ []) old new rows → map handle_of rows ≡ names_of (table_in old.now.trees) a
+pub shown_names : (old new : State) (a : List ℕ) (rows : List Row) → IsBetweenCalls old → Shown select_names (Blob a ∷ []) old new rows → map handle_of rows ≡ names_of (table_in old.now.trees) a
 shown_names old new a rows settled shown =
     let got = reads_as select_names (Blob a ∷ []) old new layout settled.whole.layout _ select_names_is plain.7 unlisted.3 rows shown in
     lists_names old.now.trees a rows settled.whole.kept (listed 0 _ _ _ old.now.trees (Blob a ∷ []) rows refl got.answer)

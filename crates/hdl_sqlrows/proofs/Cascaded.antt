@@ -31,7 +31,7 @@ use Rattle.hdl_value.specs.Place.{Place, same_handle}
 use Rattle.hdl_value.proofs.Places.{handle_total, handle_antisymmetric, place_total, place_antisymmetric, handles_equal, handle_itself}
 use Rattle.hdl_rows.specs.Table.{has, at, without_handle}
 use Rattle.hdl_sqlrows.specs.Layout.{layout, handles}
-use Rattle.hdl_sqlrows.specs.Kept.{IsWhole, IsInside, AreKept, IsHandleRow, IsEntryRow, place_in, entry_in, value_in, handle_in, table_in, has_place, has_handle}
+use Rattle.hdl_sqlrows.specs.Stored.{IsWhole, IsInside, AreKept, IsHandleRow, IsEntryRow, place_in, entry_in, value_in, handle_in, table_in, has_place, has_handle}
 use Rattle.hdl_sqlrows.specs.Filed.{IsDraft, draft_table}
 use Rattle.hdl_sqlrows.proofs.Texts.{delete_handle, delete_handle_is, plain, is_param, rows_where}
 use Rattle.hdl_sqlrows.proofs.Found.{times-filter, short_permutation, found_kept}

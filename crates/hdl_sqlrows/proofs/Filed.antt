@@ -15,7 +15,7 @@ use Rattle.sqlite.proofs.StateLemmas.{survives_then}
 use Rattle.sqlite.proofs.Callers.{survives_begin}
 use Rattle.hdl_value.specs.Place.{handle_cmp}
 use Rattle.hdl_rows.specs.Table.{Table}
-use Rattle.hdl_sqlrows.specs.Kept.{IsInside, IsSettled, IsWhole, handle_in, table_in}
+use Rattle.hdl_sqlrows.specs.Stored.{IsInside, IsBetweenCalls, IsWhole, handle_in, table_in}
 use Rattle.hdl_sqlrows.specs.Opening.{base_in, filed_base}
 use Rattle.hdl_sqlrows.specs.Filed.{WhereOpen, KeepsCommitted, IsDraft, IsFiled, draft_table, filed_table}
 use Rattle.hdl_sqlrows.proofs.States.{kept_commit}
@@ -80,14 +80,14 @@ at_begin old new P is p = subst P (sym is) p
 abbrev pub IsEven : State → Type 0
 IsEven s = WhereOpen s (s.committed ≡ s.now)
 
-pub even : (s : State) → WhereOpen s (IsSettled s) → IsEven s
+pub even : (s : State) → WhereOpen s (IsBetweenCalls s) → IsEven s
 even s settled clean up = (settled clean up).committed
 
 -- what holds of the database holds as the transaction begins
 pub of_now : {S : Type 0} (g : Ghosts S) (old first : Held S) (P : Database → Type 0) → first ≡ record old { in_transaction = true } → WhereOpen (state g old) (P (state g old).now) → WhereOpen (state g first) (P (state g first).now × ((state g first).in_transaction ≡ true))
 of_now g old first P is now = at_begin old first (λ h. WhereOpen (state g h) (P (state g h).now × ((state g h).in_transaction ≡ true))) is (λ clean up. (now clean up, refl))
 
-pub inside_first : {S : Type 0} (g : Ghosts S) (old first : Held S) → first ≡ record old { in_transaction = true } → WhereOpen (state g old) (IsSettled (state g old)) → WhereOpen (state g first) (IsInside (state g first))
+pub inside_first : {S : Type 0} (g : Ghosts S) (old first : Held S) → first ≡ record old { in_transaction = true } → WhereOpen (state g old) (IsBetweenCalls (state g old)) → WhereOpen (state g first) (IsInside (state g first))
 inside_first g old first is settled clean up =
     let it = of_now g old first IsWhole is (λ c u. (settled c u).whole) clean up in
     record { whole = it.0; inside = it.1 }
@@ -200,8 +200,8 @@ module _ {S E D : Type 0} (g : Ghosts S) (old first mid last : Held S) (F : Tabl
       ap table_in made.1 ∙ p.1.2 ∙ ap F (began (late clean) p.0)) from_first outside
 
 -- a store that was settled is settled again, however the write ended
-pub settled_again : {D : Type 0} (old last : State) (r : Result (Unit {0}) D) → WhereOpen old (IsSettled old) → HasCleanDisk old → last.in_transaction ≡ false → OnOk r (WhereOpen last (IsSettled last)) → OnErr r (KeepsCommitted old last) → OnErr r (WhereOpen last (last.now ≡ last.committed))
-    → WhereOpen last (IsSettled last)
+pub settled_again : {D : Type 0} (old last : State) (r : Result (Unit {0}) D) → WhereOpen old (IsBetweenCalls old) → HasCleanDisk old → last.in_transaction ≡ false → OnOk r (WhereOpen last (IsBetweenCalls last)) → OnErr r (KeepsCommitted old last) → OnErr r (WhereOpen last (last.now ≡ last.committed))
+    → WhereOpen last (IsBetweenCalls last)
 settled_again old last (Ok u) settled before mode done kept same clean up = done clean up
 settled_again old last (Err e) settled before mode done kept same clean up =
     let it = kept clean up in

@@ -16,7 +16,7 @@ use Rattle.hdl_value.specs.declared.value.Value.{Value}
 use Rattle.hdl_value.proofs.Places.{place_total, places_equal}
 use Rattle.hdl_rows.specs.Table.{Table, no_rows, has, at, IsPlaced}
 use Rattle.hdl_rows.proofs.Writes.{some_none}
-use Rattle.hdl_sqlrows.specs.Kept.{handle_in, table_in}
+use Rattle.hdl_sqlrows.specs.Stored.{handle_in, table_in}
 use Rattle.hdl_sqlrows.specs.Filed.{WhereOpen, IsDraft, draft_table}
 use Rattle.hdl_sqlrows.proofs.Filed.{IsEven, of_now}
 use Rattle.hdl_sqlrows.specs.Opening.{First, first_at, handle, place_of, with_first, noted_with, opened_with, left_to_open, absent, Base, base_in, filed_base, AreFree, OnlyLooks}

@@ -33,7 +33,7 @@ use Rattle.hdl_value.specs.declared.value.Value.{Value}
 use Rattle.hdl_value.proofs.Places.{place_total, place_antisymmetric}
 use Rattle.hdl_rows.specs.Table.{Table, place, at, without_values}
 use Rattle.hdl_sqlrows.specs.Layout.{layout, entries}
-use Rattle.hdl_sqlrows.specs.Kept.{IsWhole, IsInside, AreKept, IsHandleRow, IsEntryRow, place_in, entry_in, value_in, handle_in, table_in, has_place, has_handle}
+use Rattle.hdl_sqlrows.specs.Stored.{IsWhole, IsInside, AreKept, IsHandleRow, IsEntryRow, place_in, entry_in, value_in, handle_in, table_in, has_place, has_handle}
 use Rattle.hdl_sqlrows.specs.Filed.{IsDraft, draft_table}
 use Rattle.hdl_sqlrows.proofs.Texts.{delete_entry, delete_entry_is, plain, is_param, rows_where}
 use Rattle.hdl_sqlrows.proofs.Found.{times-filter, none_passes, none_more, found_kept}

@@ -24,7 +24,7 @@ use Rattle.sqlite_sql.specs.declared.ops.CompareOp.TheVariants.{Eq}
 use Rattle.hdl_value.specs.Place.{same_handle}
 use Rattle.hdl_rows.specs.Table.{place}
 use Rattle.hdl_rows.proofs.Writes.{at_place}
-use Rattle.hdl_sqlrows.specs.Kept.{handle_in, number, has_place, IsEntryRow}
+use Rattle.hdl_sqlrows.specs.Stored.{handle_in, number, has_place, IsEntryRow}
 use Rattle.hdl_sqlrows.proofs.Texts.{rows_where, is_param}
 
 -- whether WHERE keeps a row

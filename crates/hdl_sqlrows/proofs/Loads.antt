@@ -18,9 +18,9 @@ use Rattle.sqlite.specs.State.{State, Shown}
 use Rattle.sqlite.proofs.Callers.{reads_as}
 use Rattle.hdl_value.specs.Place.{handle_cmp, place_cmp}
 use Rattle.hdl_value.proofs.Places.{handle_total, handle_antisymmetric, place_total, place_antisymmetric}
-use Rattle.hdl_rows.specs.Table.{Table, no_rows, has, at, created, with_values}
+use Rattle.hdl_rows.specs.Table.{Table, no_rows, has, at, with_new_handle, with_values}
 use Rattle.hdl_sqlrows.specs.Layout.{layout}
-use Rattle.hdl_sqlrows.specs.Kept.{AreSingle, IsHandleRow, IsEntryRow, handle_in, place_in, entry_in, value_in, has_handle, has_place}
+use Rattle.hdl_sqlrows.specs.Stored.{AreSingle, IsHandleRow, IsEntryRow, handle_in, place_in, entry_in, value_in, has_handle, has_place}
 use Rattle.hdl_sqlrows.specs.Loaded.{IsLoaded, handles_alone, entry_shown}
 use Rattle.hdl_sqlrows.proofs.Answered.{some_pass}
 use Rattle.hdl_sqlrows.proofs.Found.{found_moved}
@@ -88,12 +88,12 @@ nothing_taken t is = record {
 }
 
 pub handle_taken : (all : List Row) (last : Option ℕ) (t next : Table) (row : Row) (n : ℕ) → HandlesTaken all last t → IsHandleRow row → rowid row ≡ Int (pos n) → IfSome last (λ before. before < n)
-    → has t (handle_in row) ≡ false → next ≡ created t (handle_in row) [] → HandlesTaken (all ++ row ∷ []) (Some n) next
+    → has t (handle_in row) ≡ false → next ≡ with_new_handle t (handle_in row) [] → HandlesTaken (all ++ row ∷ []) (Some n) next
 handle_taken all last t next row n taken is id low absent put =
     let read = taken.loaded in
     let more = with_handle_row (as_read all []) (as_read (all ++ row ∷ []) []) row read.kept is (adds last n row all id low taken.rising) refl (ap (λ (u : Table). has u (handle_in row)) (sym read.table) ∙ absent) in
     record {
-      loaded = record { kept = more.0; table = put ∙ ap (λ (u : Table). created u (handle_in row) []) read.table ∙ sym more.1 };
+      loaded = record { kept = more.0; table = put ∙ ap (λ (u : Table). with_new_handle u (handle_in row) []) read.table ∙ sym more.1 };
       rising = up_to_more last n row all id low taken.rising;
     }
 

@@ -13,7 +13,7 @@ use Rattle.sqlite.proofs.Callers.{IsPlain}
 use Rattle.hdl_value.proofs.Places.{insert_member}
 use Rattle.hdl_rows.specs.Table.{has}
 use Rattle.hdl_sqlrows.specs.Layout.{layout}
-use Rattle.hdl_sqlrows.specs.Kept.{IsInside, IsWhole, table_in}
+use Rattle.hdl_sqlrows.specs.Stored.{IsInside, IsWhole, table_in}
 use Rattle.hdl_sqlrows.specs.Filed.{IsDraft, draft_table}
 use Rattle.hdl_sqlrows.specs.Opening.{OnlyLooks}
 use Rattle.hdl_sqlrows.proofs.States.{Stays, query_fails}

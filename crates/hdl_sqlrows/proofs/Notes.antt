@@ -9,7 +9,7 @@ use Rattle.sqlite.specs.State.{State, ExecutesInside}
 use Rattle.hdl_name.specs.Name.{authority}
 use Rattle.hdl_value.specs.declared.value.Value.{Value}
 use Rattle.hdl_value.proofs.Places.{handle_total, handle_antisymmetric}
-use Rattle.hdl_sqlrows.specs.Kept.{IsInside, AreKept, IsHandleRow, IsEntryRow, handle_in, entry_in, has_handle, has_place}
+use Rattle.hdl_sqlrows.specs.Stored.{IsInside, AreKept, IsHandleRow, IsEntryRow, handle_in, entry_in, has_handle, has_place}
 use Rattle.hdl_sqlrows.specs.Opening.{Base, base_in, IsOpenedRow}
 use Rattle.hdl_sqlrows.proofs.Texts.{insert_handle, insert_entry, insert_opened}
 use Rattle.hdl_sqlrows.proofs.Lists.{all_put, map_put, set_of_more}

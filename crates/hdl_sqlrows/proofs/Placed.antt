@@ -7,9 +7,9 @@ use Rattle.sqlite_trees.specs.declared.memory.MemStore.{MemStore}
 use Rattle.hdl_value.specs.Place.{place_cmp}
 use Rattle.hdl_value.specs.declared.value.Value.{Value}
 use Rattle.hdl_rows.specs.Table.{Table, Held, place, has, at, value_with, no_rows, AreAbsent, HaveTheirIndexes, IsPlaced}
-use Rattle.hdl_rows.specs.Write.{Write, written, CanWrite}
+use Rattle.hdl_rows.specs.Write.{Write, after_write, CanWrite}
 use Rattle.hdl_rows.proofs.Writes.{stay_placed_lem, some_none}
-use Rattle.hdl_sqlrows.specs.Kept.{IsBlank, state_of}
+use Rattle.hdl_sqlrows.specs.Stored.{IsBlank, state_of}
 
 none_or_some : (o : Option Value) → (o ≡ None) ⊎ ((v : Value) × (o ≡ Some v))
 none_or_some None = inl refl
@@ -26,7 +26,7 @@ pub there_if_some : (t : Table) (h : List ℕ) (vs : List Value) → IsPlaced t 
 there_if_some t h [] placed all some = absurd (true≢false some)
 there_if_some t h (v ∷ vs) placed all some = placed (place h v.index) v (sym (all v.index) ∙ ap (λ b. cond b (Some v) (value_with v.index vs)) (eq-eqb v.index v.index refl))
 
-pub placed_by : {E : Type 0} (old new : Table) (w : Write) (r : Result (Unit {0}) E) → IsPlaced old → CanWrite old w → OnOk r (new ≡ written old w) → OnErr r (new ≡ old) → IsPlaced new
+pub placed_by : {E : Type 0} (old new : Table) (w : Write) (r : Result (Unit {0}) E) → IsPlaced old → CanWrite old w → OnOk r (new ≡ after_write old w) → OnErr r (new ≡ old) → IsPlaced new
 placed_by old new w (Ok u) placed can done undone = subst IsPlaced (sym done) (stay_placed_lem old w placed can)
 placed_by old new w (Err e) placed can done undone = subst IsPlaced (sym undone) placed
 

@@ -15,9 +15,9 @@ use Rattle.hdl_name.specs.Name.{authority}
 use Rattle.hdl_value.specs.Place.{Place, place_cmp, same_handle}
 use Rattle.hdl_value.specs.declared.value.Value.{Value}
 use Rattle.hdl_value.proofs.Places.{handle_total, handle_antisymmetric, place_total, place_antisymmetric, handles_equal, places_equal}
-use Rattle.hdl_rows.specs.Table.{Table, place, has, at, indexes, AreDistinct, AreAbsent, with_values, created}
+use Rattle.hdl_rows.specs.Table.{Table, place, has, at, indexes, AreDistinct, AreAbsent, with_values, with_new_handle}
 use Rattle.hdl_rows.proofs.Writes.{at_place, indexes_apart, some_none}
-use Rattle.hdl_sqlrows.specs.Kept.{IsInside, AreKept, IsEntryRow, IsHandleRow, handle_in, place_in, entry_in, value_in, table_in, has_handle, has_place}
+use Rattle.hdl_sqlrows.specs.Stored.{IsInside, AreKept, IsEntryRow, IsHandleRow, handle_in, place_in, entry_in, value_in, table_in, has_handle, has_place}
 use Rattle.hdl_sqlrows.specs.Filed.{IsDraft, draft_table}
 use Rattle.hdl_sqlrows.specs.Shows.{AreShort}
 use Rattle.hdl_sqlrows.proofs.Found.{found_first, first_value}
@@ -147,7 +147,7 @@ put_more t next h vs i v is low absent distinct put =
     let two = put_next t h v (drop (i + 1) vs) (subst (λ xs. AreAbsent t h (indexes xs)) split absent) (subst (λ xs. AreDistinct (indexes xs)) split distinct) in
     (subst (λ x. AreAbsent x h (indexes (drop (i + 1) vs))) (sym put) two.0, two.1, ap (λ x. with_values x h (drop (i + 1) vs)) put ∙ ap (with_values t h) (sym split))
 
-pub created_is : (t mid next : Table) (h : List ℕ) (vs : List Value) → mid ≡ record t { handles = set.insert t.handles h } → next ≡ with_values mid h vs → next ≡ created t h vs
+pub created_is : (t mid next : Table) (h : List ℕ) (vs : List Value) → mid ≡ record t { handles = set.insert t.handles h } → next ≡ with_values mid h vs → next ≡ with_new_handle t h vs
 created_is t mid next h vs first second = second ∙ ap (λ m. with_values m h vs) first
 
 pub absent_still : (t mid : Table) (h : List ℕ) (is : List ℕ) → mid ≡ record t { handles = set.insert t.handles h } → AreAbsent t h is → AreAbsent mid h is

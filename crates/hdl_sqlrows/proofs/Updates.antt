@@ -30,7 +30,7 @@ use Rattle.hdl_value.proofs.Places.{place_total, place_antisymmetric, places_equ
 use Rattle.hdl_rows.specs.Table.{Table, place, at, indexes, ArePresent, with_values}
 use Rattle.hdl_rows.proofs.Writes.{some_none}
 use Rattle.hdl_sqlrows.specs.Layout.{layout, entries}
-use Rattle.hdl_sqlrows.specs.Kept.{IsWhole, IsInside, AreKept, IsEntryRow, place_in, entry_in, value_in, table_in, has_place}
+use Rattle.hdl_sqlrows.specs.Stored.{IsWhole, IsInside, AreKept, IsEntryRow, place_in, entry_in, value_in, table_in, has_place}
 use Rattle.hdl_sqlrows.specs.Filed.{IsDraft, draft_table}
 use Rattle.hdl_sqlrows.specs.Shows.{AreShort}
 use Rattle.hdl_sqlrows.proofs.Texts.{update_entry, update_entry_is, update_terms, plain, is_param, rows_where}

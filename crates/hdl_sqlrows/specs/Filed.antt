@@ -3,7 +3,7 @@ use Rattle.std.specs.Prelude.{◌≡◌, IsTrue}
 use Rattle.sqlite_trees.specs.Tree.{Trees}
 use Rattle.sqlite.specs.State.{State, HasCleanDisk}
 use Rattle.hdl_rows.specs.Table.{Table}
-use Rattle.hdl_sqlrows.specs.Kept.{IsInside, table_in}
+use Rattle.hdl_sqlrows.specs.Stored.{IsInside, table_in}
 
 -- P, where the disk has returned what was written and the store is open
 abbrev pub WhereOpen : State → Type 0 → Type 0

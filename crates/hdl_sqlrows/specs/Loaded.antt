@@ -3,7 +3,7 @@ use Rattle.std.specs.Prelude.{◌≡◌, ◌==◌, if◌then◌else◌, [], ◌�
 use Rattle.sqlite_value.specs.Order.{Row, column}
 use Rattle.sqlite_trees.specs.Tree.{Trees}
 use Rattle.hdl_rows.specs.Table.{Table}
-use Rattle.hdl_sqlrows.specs.Kept.{AreKept, table_in}
+use Rattle.hdl_sqlrows.specs.Stored.{AreKept, table_in}
 
 -- the rows of `handles`, with no value
 abbrev pub handles_alone : Trees → Trees

@@ -11,7 +11,7 @@ use Rattle.hdl_name.specs.Name.{canonical}
 use Rattle.hdl_value.specs.Place.{Place, handle_cmp}
 use Rattle.hdl_value.specs.declared.value.Value.{Value}
 use Rattle.hdl_rows.specs.Table.{Table, no_rows, place, has, at}
-use Rattle.hdl_sqlrows.specs.Kept.{handle_in, table_in}
+use Rattle.hdl_sqlrows.specs.Stored.{handle_in, table_in}
 
 -- a handle's name, and a first value of the handle
 abbrev pub First : Type 0

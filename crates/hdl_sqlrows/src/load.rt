@@ -5,7 +5,7 @@ ghost use Rattle.sqlite.specs.State.{HasCleanDisk, IsUnchanged, Survives};
 ghost use Rattle.sqlite.specs.Held.{state};
 ghost use Rattle.hdl_rows.specs.Table.{no_rows, IsPlaced};
 ghost use Rattle.hdl_sqlrows.specs.Layout.{layout};
-ghost use Rattle.hdl_sqlrows.specs.Kept.{IsSettled};
+ghost use Rattle.hdl_sqlrows.specs.Stored.{IsBetweenCalls};
 ghost use Rattle.hdl_sqlrows.specs.Filed.{KeepsCommitted, IsFiled};
 ghost use Rattle.hdl_sqlrows.specs.Loaded.{handles_alone, IsLoaded};
 
@@ -101,7 +101,7 @@ pub fn load<S: Alter, R: Rows, P: Progress>(
     ensures mode { conn.new.in_transaction ≡ false }
     ensures loaded { OnOk result (HasCleanDisk (state S.Store conn.new) → IsFiled (state S.Store conn.new) (R.content rows.new)) }
     ensures placed { OnOk result (IsPlaced (R.content rows.new)) }
-    ensures settled { OnOk result (HasCleanDisk (state S.Store conn.new) → IsSettled (state S.Store conn.new)) }
+    ensures settled { OnOk result (HasCleanDisk (state S.Store conn.new) → IsBetweenCalls (state S.Store conn.new)) }
     ensures kept { KeepsCommitted (state S.Store conn.old) (state S.Store conn.new) }
     ensures survives { Survives (state S.Store conn.old) (state S.Store conn.new) (λ _. ⊥) }
 {

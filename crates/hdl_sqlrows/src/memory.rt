@@ -2,8 +2,8 @@
 
 ghost use Rattle.std.specs.Prelude.{◌≡◌, true, false, OnOk, OnErr};
 ghost use Rattle.hdl_name.specs.Name.{authority as authority_of};
-ghost use Rattle.hdl_rows.specs.Table.{no_rows, has, created, with_values, without_values, without_handle, AreDistinct, AreAbsent, ArePresent, indexes};
-ghost use Rattle.hdl_sqlrows.specs.Kept.{IsBlank, IsSettled, state_of, table_of};
+ghost use Rattle.hdl_rows.specs.Table.{no_rows, has, with_new_handle, with_values, without_values, without_handle, AreDistinct, AreAbsent, ArePresent, indexes};
+ghost use Rattle.hdl_sqlrows.specs.Stored.{IsBlank, IsBetweenCalls, state_of, table_of};
 
 use crate::fault::Fault;
 use crate::{layout, writes};
@@ -15,7 +15,7 @@ use std::alloc::Global;
 pub(crate) fn make_tables(conn: &mut Connection<MemStore>) -> Result<(), Fault>
     requires mode { conn.old.in_transaction ≡ false }
     requires blank { IsBlank (state_of conn.old) }
-    ensures settled { OnOk result (IsSettled (state_of conn.new)) }
+    ensures settled { OnOk result (IsBetweenCalls (state_of conn.new)) }
     ensures empty { OnOk result (table_of conn.new ≡ no_rows) }
 {
     layout::make_tables(conn)
@@ -29,13 +29,13 @@ pub(crate) fn create(
     authority: &[u8],
     values: &[Value],
 ) -> Result<(), Fault>
-    requires settled { IsSettled (state_of conn.old) }
+    requires settled { IsBetweenCalls (state_of conn.old) }
     requires authority { authority.now ≡ authority_of name.now }
     requires none { has (table_of conn.old) name.now ≡ false }
     requires absent { AreAbsent (table_of conn.old) name.now (indexes values.now) }
     requires distinct { AreDistinct (indexes values.now) }
-    ensures settled { IsSettled (state_of conn.new) }
-    ensures done { OnOk result (table_of conn.new ≡ created (table_of conn.old) name.now values.now) }
+    ensures settled { IsBetweenCalls (state_of conn.new) }
+    ensures done { OnOk result (table_of conn.new ≡ with_new_handle (table_of conn.old) name.now values.now) }
     ensures undone { OnErr result (table_of conn.new ≡ table_of conn.old) }
 {
     writes::create(conn, alloc, name, authority, values)
@@ -48,10 +48,10 @@ pub(crate) fn add(
     name: &[u8],
     values: &[Value],
 ) -> Result<(), Fault>
-    requires settled { IsSettled (state_of conn.old) }
+    requires settled { IsBetweenCalls (state_of conn.old) }
     requires absent { AreAbsent (table_of conn.old) name.now (indexes values.now) }
     requires distinct { AreDistinct (indexes values.now) }
-    ensures settled { IsSettled (state_of conn.new) }
+    ensures settled { IsBetweenCalls (state_of conn.new) }
     ensures done { OnOk result (table_of conn.new ≡ with_values (table_of conn.old) name.now values.now) }
     ensures undone { OnErr result (table_of conn.new ≡ table_of conn.old) }
 {
@@ -65,9 +65,9 @@ pub(crate) fn modify(
     name: &[u8],
     values: &[Value],
 ) -> Result<(), Fault>
-    requires settled { IsSettled (state_of conn.old) }
+    requires settled { IsBetweenCalls (state_of conn.old) }
     requires there { ArePresent (table_of conn.old) name.now (indexes values.now) }
-    ensures settled { IsSettled (state_of conn.new) }
+    ensures settled { IsBetweenCalls (state_of conn.new) }
     ensures done { OnOk result (table_of conn.new ≡ with_values (table_of conn.old) name.now values.now) }
     ensures undone { OnErr result (table_of conn.new ≡ table_of conn.old) }
 {
@@ -80,8 +80,8 @@ pub(crate) fn remove(
     name: &[u8],
     indexes: &[u32],
 ) -> Result<(), Fault>
-    requires settled { IsSettled (state_of conn.old) }
-    ensures settled { IsSettled (state_of conn.new) }
+    requires settled { IsBetweenCalls (state_of conn.old) }
+    ensures settled { IsBetweenCalls (state_of conn.new) }
     ensures done { OnOk result (table_of conn.new ≡ without_values (table_of conn.old) name.now indexes.now) }
     ensures undone { OnErr result (table_of conn.new ≡ table_of conn.old) }
 {
@@ -90,9 +90,9 @@ pub(crate) fn remove(
 
 /// Takes a handle away, and its values with it.
 pub(crate) fn delete(conn: &mut Connection<MemStore>, name: &[u8]) -> Result<(), Fault>
-    requires settled { IsSettled (state_of conn.old) }
+    requires settled { IsBetweenCalls (state_of conn.old) }
     requires there { has (table_of conn.old) name.now ≡ true }
-    ensures settled { IsSettled (state_of conn.new) }
+    ensures settled { IsBetweenCalls (state_of conn.new) }
     ensures done { OnOk result (table_of conn.new ≡ without_handle (table_of conn.old) name.now) }
     ensures undone { OnErr result (table_of conn.new ≡ table_of conn.old) }
 {

@@ -10,7 +10,7 @@ ghost use Rattle.hdl_value.specs.Place.{Place};
 ghost use Rattle.hdl_rows.specs.Table.{Table, has, at, IsPlaced};
 ghost use Rattle.hdl_sqlrows.specs.Filed.{WhereOpen, KeepsCommitted, IsDraft, draft_table, filed_table};
 ghost use Rattle.hdl_sqlrows.specs.Layout.{no_schema};
-ghost use Rattle.hdl_sqlrows.specs.Kept.{IsInside, IsSettled, IsBlank, IsBare};
+ghost use Rattle.hdl_sqlrows.specs.Stored.{IsInside, IsBetweenCalls, IsBlank, IsBare};
 ghost use Rattle.hdl_sqlrows.specs.Opening.{First, Base, handle, base_in, filed_base, no_base, HasFiled, CrashKeeps, with_first, noted_with, opened_with, left_to_open, absent, place_of, first_at, AreFree, IsOpenedRow, OnlyLooks};
 
 use crate::fault::Fault;
@@ -35,7 +35,7 @@ pub fn open_new<S: Alter>(
     requires blank { WhereOpen (state S.Store conn.old) (IsBlank (state S.Store conn.old)) }
     requires distinct { AllPairs (λ (p q : Place). p ≢ q) (map place_of opening.now) }
     ensures mode { conn.new.in_transaction ≡ false }
-    ensures settled { OnOk result (WhereOpen (state S.Store conn.new) (IsSettled (state S.Store conn.new))) }
+    ensures settled { OnOk result (WhereOpen (state S.Store conn.new) (IsBetweenCalls (state S.Store conn.new))) }
     ensures done { OnOk result (HasCleanDisk (state S.Store conn.new) → HasFiled (state S.Store conn.new) (opened_with no_base opening.now)) }
     ensures undone { OnErr result (KeepsCommitted (state S.Store conn.old) (state S.Store conn.new)) }
     ensures durable { OnOk result (HasCleanDisk (state S.Store conn.new) → CrashKeeps (state S.Store conn.new) (opened_with no_base opening.now)) }
@@ -56,11 +56,11 @@ pub fn open_more<S: Alter>(
     opening: &[(Name, Value)],
 ) -> Result<(), Fault>
     requires mode { conn.old.in_transaction ≡ false }
-    requires settled { WhereOpen (state S.Store conn.old) (IsSettled (state S.Store conn.old)) }
+    requires settled { WhereOpen (state S.Store conn.old) (IsBetweenCalls (state S.Store conn.old)) }
     requires placed { WhereOpen (state S.Store conn.old) (IsPlaced (filed_table (state S.Store conn.old))) }
     requires distinct { AllPairs (λ (p q : Place). p ≢ q) (map place_of opening.now) }
     ensures mode { conn.new.in_transaction ≡ false }
-    ensures settled { WhereOpen (state S.Store conn.new) (IsSettled (state S.Store conn.new)) }
+    ensures settled { WhereOpen (state S.Store conn.new) (IsBetweenCalls (state S.Store conn.new)) }
     ensures done { OnOk result (HasCleanDisk (state S.Store conn.new) → HasFiled (state S.Store conn.new) (opened_with (filed_base (state S.Store conn.old)) opening.now)) }
     ensures undone { OnErr result (WhereOpen (state S.Store conn.new) (filed_base (state S.Store conn.new) ≡ filed_base (state S.Store conn.old))) }
     ensures durable { OnOk result (HasCleanDisk (state S.Store conn.new) → CrashKeeps (state S.Store conn.new) (opened_with (filed_base (state S.Store conn.old)) opening.now)) }
@@ -83,9 +83,9 @@ pub fn are_opened<S: Alter>(
     opening: &[(Name, Value)],
 ) -> Result<bool, Fault>
     requires mode { conn.old.in_transaction ≡ false }
-    requires settled { WhereOpen (state S.Store conn.old) (IsSettled (state S.Store conn.old)) }
+    requires settled { WhereOpen (state S.Store conn.old) (IsBetweenCalls (state S.Store conn.old)) }
     ensures mode { conn.new.in_transaction ≡ false }
-    ensures settled { WhereOpen (state S.Store conn.new) (IsSettled (state S.Store conn.new)) }
+    ensures settled { WhereOpen (state S.Store conn.new) (IsBetweenCalls (state S.Store conn.new)) }
     ensures kept { KeepsCommitted (state S.Store conn.old) (state S.Store conn.new) }
     ensures found { IfOk result (λ are. WhereOpen (state S.Store conn.new) (IsTrue are ↔ (left_to_open (filed_base (state S.Store conn.old)).opened opening.now ≡ []))) }
     ensures survives { Survives (state S.Store conn.old) (state S.Store conn.new) (λ _. ⊥) }

@@ -7,7 +7,7 @@ ghost use Rattle.hdl_rows.specs.Table.{place, at, with_values, ArePresent, index
 ghost use Rattle.sqlite.specs.State.{HasCleanDisk, Survives};
 ghost use Rattle.sqlite.specs.Held.{state};
 ghost use Rattle.hdl_sqlrows.specs.Filed.{WhereOpen, KeepsCommitted, IsDraft, draft_table};
-ghost use Rattle.hdl_sqlrows.specs.Kept.{IsInside};
+ghost use Rattle.hdl_sqlrows.specs.Stored.{IsInside};
 ghost use Rattle.hdl_sqlrows.specs.Shows.{AreShort};
 
 use crate::fault::Fault;

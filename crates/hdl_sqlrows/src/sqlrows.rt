@@ -24,7 +24,7 @@ pub struct SqlRows {
 
 impl Model for SqlRows {
     ghost use Rattle.hdl_rows.specs.Table.{Held, held_code, IsPlaced};
-    ghost use Rattle.hdl_sqlrows.specs.Kept.{IsSettled, state_of, table_of};
+    ghost use Rattle.hdl_sqlrows.specs.Stored.{IsBetweenCalls, state_of, table_of};
 
     ghost Value = { Held };
 
@@ -32,7 +32,7 @@ impl Model for SqlRows {
 
     ghost view = { λ s. record { table = table_of s.conn; refused = s.refusals } };
 
-    ghost invariant = { λ s. IsSettled (state_of s.conn) × IsPlaced (table_of s.conn) };
+    ghost invariant = { λ s. IsBetweenCalls (state_of s.conn) × IsPlaced (table_of s.conn) };
 }
 
 impl SqlRows {

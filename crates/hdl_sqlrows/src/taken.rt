@@ -4,8 +4,8 @@ ghost use Rattle.std.specs.Prelude.{◌≡◌, ◌<◌, true, false, None, [], �
 ghost use Rattle.sqlite_value.specs.declared.value.Value.TheVariants.{Int, Blob};
 ghost use Rattle.sqlite_value.specs.Order.{column};
 ghost use Rattle.hdl_name.specs.Name.{canonical};
-ghost use Rattle.hdl_rows.specs.Table.{place, has, at, created, with_values};
-ghost use Rattle.hdl_sqlrows.specs.Kept.{IsHandleRow, IsEntryRow, handle_in, place_in, value_in};
+ghost use Rattle.hdl_rows.specs.Table.{place, has, at, with_new_handle, with_values};
+ghost use Rattle.hdl_sqlrows.specs.Stored.{IsHandleRow, IsEntryRow, handle_in, place_in, value_in};
 ghost use Rattle.hdl_sqlrows.specs.Loaded.{entry_shown};
 
 use crate::cells::{blob_at, value_from};
@@ -58,7 +58,7 @@ pub(crate) fn take_handle<R: Rows>(
     ensures rowid { IfOk result (λ id. column row.now 0 ≡ Int (pos id)) }
     ensures above { IfOk result (λ id. IfSome last (λ before. before < id)) }
     ensures absent { OnOk result (has (R.content rows.old) (handle_in row.now) ≡ false) }
-    ensures put { OnOk result (R.content rows.new ≡ created (R.content rows.old) (handle_in row.now) []) }
+    ensures put { OnOk result (R.content rows.new ≡ with_new_handle (R.content rows.old) (handle_in row.now) []) }
 {
     let id = rowid_at(row, 0, last)?;
     let name = name_at(alloc, row, 1)?;

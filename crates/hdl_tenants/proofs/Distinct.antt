@@ -8,7 +8,7 @@ use Rattle.std.proofs.lemmas.List.Quantifiers.{all_pairs_push}
 use Rattle.std.proofs.lemmas.Slice.Eq.{bytes_eq-Decides}
 use Rattle.std.proofs.lemmas.List.Elements.{Contains-append_cases, Contains-push_cases}
 use Rattle.hdl_auth.specs.declared.algorithm.Algorithm.TheVariants.{Sha1}
-use Rattle.hdl_tenants.specs.Register.{Publisher, Hosting, IsHosting, AreDistinct, prefixes_of, hosts_among, algorithm_among, given}
+use Rattle.hdl_tenants.specs.Register.{Publisher, Hosting, IsHosting, AreDistinct, prefixes_of, hosts_among, algorithm_among, hosting_pair}
 
 pub distinct_push : {A : Type 0} (xs : List A) (y : A) → AreDistinct xs → (Contains xs y → ⊥) → AreDistinct (xs ++ y ∷ [])
 distinct_push xs y distinct new = all_pairs_push (λ a b. a ≢ b) xs y distinct (λ k d inside same. new (k, inside, get_or_default xs k y d inside ∙ same))
@@ -52,7 +52,7 @@ or_parts true b t = inl refl
 or_parts false b t = inr t
 
 -- a prefix is hosted for a publisher where a hosting says so
-pub hosted_given : (hs : List Hosting) (u : ℕ) (prefix : List ℕ) → hosts_among hs u prefix ≡ true → Contains (map given hs) (prefix, u)
+pub hosted_given : (hs : List Hosting) (u : ℕ) (prefix : List ℕ) → hosts_among hs u prefix ≡ true → Contains (map hosting_pair hs) (prefix, u)
 hosted_given [] u prefix t = absurd (true≢false (sym t))
 hosted_given (h ∷ hs) u prefix t = elim (or_parts ((h.publisher == u) && bytes_eq prefix h.prefix) (hosts_among hs u prefix) t) [
   | inl here ↦
@@ -60,44 +60,44 @@ hosted_given (h ∷ hs) u prefix t = elim (or_parts ((h.publisher == u) && bytes
       let prefixes : h.prefix ≡ prefix = sym ((bytes_eq-Decides prefix h.prefix).0 parts.1) in
       let publishers : h.publisher ≡ u = eqb-true h.publisher u parts.0 in
       (0, omega arith, λ i. (prefixes i, publishers i))
-  | inr later ↦ Contains-later (given h) (map given hs) _ (hosted_given hs u prefix later)
+  | inr later ↦ Contains-later (hosting_pair h) (map hosting_pair hs) _ (hosted_given hs u prefix later)
 ]
 
-pub given_hosts : (hs : List Hosting) (u : ℕ) (prefix : List ℕ) → Contains (map given hs) (prefix, u) → hosts_among hs u prefix ≡ true
+pub given_hosts : (hs : List Hosting) (u : ℕ) (prefix : List ℕ) → Contains (map hosting_pair hs) (prefix, u) → hosts_among hs u prefix ≡ true
 given_hosts hs u prefix there =
     let none : Hosting = record { prefix = prefix; publisher = u; algorithm = Sha1 } in
-    let inside : there.0 < length hs = omega (arith, there.1, length-map hs given) in
+    let inside : there.0 < length hs = omega (arith, there.1, length-map hs hosting_pair) in
     let h : Hosting = get_or hs there.0 none in
-    let same : given h ≡ (prefix, u) = sym (get_or-map given hs there.0 none (prefix, u) inside) ∙ there.2 in
+    let same : hosting_pair h ≡ (prefix, u) = sym (get_or-map hosting_pair hs there.0 none (prefix, u) inside) ∙ there.2 in
     let publishers : h.publisher ≡ u = ap (λ (x : List ℕ × ℕ). x.1) same in
     let prefixes : h.prefix ≡ prefix = ap (λ (x : List ℕ × ℕ). x.0) same in
     let test : ((h.publisher == u) && bytes_eq prefix h.prefix) ≡ true = rw ((Decides-eqb h.publisher u).1 publishers, (bytes_eq-Decides prefix h.prefix).1 (sym prefixes)) refl in
     list_any_at (λ x. (x.publisher == u) && bytes_eq prefix x.prefix) hs there.0 none inside test
 
 -- the first hosting of a prefix for a publisher is the only one
-pub hashed_given : (hs : List Hosting) (h : Hosting) → AreDistinct (map given hs) → Contains hs h → algorithm_among hs h.publisher h.prefix ≡ h.algorithm
+pub hashed_given : (hs : List Hosting) (h : Hosting) → AreDistinct (map hosting_pair hs) → Contains hs h → algorithm_among hs h.publisher h.prefix ≡ h.algorithm
 hashed_given [] h distinct there = absurd (omega (arith, there.1))
-hashed_given (g ∷ hs) h distinct there = by (g.publisher == h.publisher) refl (bytes_eq h.prefix g.prefix) refl (hashed_given hs h (distinct_tail (given g) (map given hs) distinct))
+hashed_given (g ∷ hs) h distinct there = by (g.publisher == h.publisher) refl (bytes_eq h.prefix g.prefix) refl (hashed_given hs h (distinct_tail (hosting_pair g) (map hosting_pair hs) distinct))
   where
     Rest : Type 0
     Rest = Contains hs h → algorithm_among hs h.publisher h.prefix ≡ h.algorithm
 
-    later : (given g ≡ given h → ⊥) → Contains hs h
+    later : (hosting_pair g ≡ hosting_pair h → ⊥) → Contains hs h
     later other = elim (Contains-append_cases (g ∷ []) hs h there) [
       | inl first ↦ elim (Contains-push_cases [] g h first) [
         | inl none ↦ absurd (omega (arith, none.1))
-        | inr same ↦ absurd (other (ap given same))
+        | inr same ↦ absurd (other (ap hosting_pair same))
       ]
       | inr inside ↦ inside
     ]
 
-    only : given g ≡ given h → g.algorithm ≡ h.algorithm
+    only : hosting_pair g ≡ hosting_pair h → g.algorithm ≡ h.algorithm
     only same = elim (Contains-append_cases (g ∷ []) hs h there) [
       | inl first ↦ elim (Contains-push_cases [] g h first) [
         | inl none ↦ absurd (omega (arith, none.1))
         | inr one ↦ ap (λ (x : Hosting). x.algorithm) one
       ]
-      | inr inside ↦ absurd (distinct_head (given g) (map given hs) distinct (inside.0, omega (arith, inside.1, length-map hs given), get_or-map given hs inside.0 h (given g) inside.1 ∙ ap given inside.2 ∙ sym same))
+      | inr inside ↦ absurd (distinct_head (hosting_pair g) (map hosting_pair hs) distinct (inside.0, omega (arith, inside.1, length-map hs hosting_pair), get_or-map hosting_pair hs inside.0 h (hosting_pair g) inside.1 ∙ ap hosting_pair inside.2 ∙ sym same))
     ]
 
     by : (b : Bool) → (g.publisher == h.publisher) ≡ b → (c : Bool) → bytes_eq h.prefix g.prefix ≡ c → Rest → algorithm_among (g ∷ hs) h.publisher h.prefix ≡ h.algorithm

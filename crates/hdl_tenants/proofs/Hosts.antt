@@ -12,7 +12,7 @@ use Rattle.hdl_auth.specs.declared.algorithm.Algorithm.{Algorithm}
 use Rattle.hdl_auth.specs.declared.algorithm.Algorithm.TheVariants.{Sha1}
 use Rattle.hdl_tenants.specs.declared.prefixes.Host.{Host}
 use Rattle.hdl_tenants.specs.Register.{Hosting, prefixes_of, hosts_among, algorithm_among}
-use Rattle.hdl_tenants.specs.Kept.{host_in, hosts_of, KeepsHostings}
+use Rattle.hdl_tenants.specs.Record.{host_in, hosts_of, KeepsHostings}
 use Rattle.hdl_tenants.proofs.Distinct.{Contains-later}
 use Rattle.hdl_tenants.proofs.Places.{lookup-insert}
 

@@ -12,8 +12,8 @@ use Rattle.hdl_value.specs.Spelling.{Fits}
 use Rattle.hdl_value.specs.Fault.{IsSound}
 use Rattle.hdl_value.proofs.Whole.{can_be_spelt}
 use Rattle.hdl_limits.specs.declared.TheConstants.{VALUES_MAX}
-use Rattle.hdl_tenants.specs.Register.{Publisher, Hosting, Row, Register, empty, names_of, prefixes_of, given, place, value_count, IsPublisher, IsPrefix, IsHosting, IsOpening, IsRegister}
-use Rattle.hdl_tenants.specs.Text.{Line, skipped, publisher, hosted, opened, IsLine, place_of, added, IsKnownRow, IsAllowed, Adds, AddsAll}
+use Rattle.hdl_tenants.specs.Register.{Publisher, Hosting, Row, Register, empty, names_of, prefixes_of, hosting_pair, place, value_count, IsPublisher, IsPrefix, IsHosting, IsOpening, IsRegister}
+use Rattle.hdl_tenants.specs.Text.{Line, skipped, publisher, hosted, opened, IsLine, place_of, register_after, IsKnownRow, IsAllowed, Adds, AddsAll}
 use Rattle.hdl_tenants.proofs.Distinct.{distinct_push, given_hosts}
 
 -- who is named has a place
@@ -31,7 +31,7 @@ place_within (p ∷ publishers) name there = by (bytes_eq name p.name) refl (pla
       | inr other ↦ rw t (omega (arith, later other))
     ]
 
-pub publisher_added : (r : Register) (p : Publisher) → IsRegister r → IsPublisher p → IsAllowed r (publisher p) → IsRegister (added r (publisher p))
+pub publisher_added : (r : Register) (p : Publisher) → IsRegister r → IsPublisher p → IsAllowed r (publisher p) → IsRegister (register_after r (publisher p))
 publisher_added r p is sound allowed = record {
   publishers = All-push IsPublisher r.publishers p is.publishers sound;
   names = rw (map-append {A = Publisher} {B = List ℕ} (λ q. q.name) r.publishers (p ∷ [])) (distinct_push (names_of r.publishers) p.name is.names allowed.0);
@@ -46,7 +46,7 @@ publisher_added r p is sound allowed = record {
 prefixes-push : (hs : List Hosting) (h : Hosting) → prefixes_of (hs ++ h ∷ []) ≡ prefixes_of hs ++ h.prefix ∷ []
 prefixes-push hs h = map-append {A = Hosting} {B = List ℕ} (λ x. x.prefix) hs (h ∷ [])
 
-pub hosted_added : (r : Register) (prefix name : List ℕ) (a : Algorithm) → IsRegister r → IsPrefix prefix → IsAllowed r (hosted prefix name a) → IsRegister (added r (hosted prefix name a))
+pub hosted_added : (r : Register) (prefix name : List ℕ) (a : Algorithm) → IsRegister r → IsPrefix prefix → IsAllowed r (hosted prefix name a) → IsRegister (register_after r (hosted prefix name a))
 hosted_added r prefix name a is sound allowed =
     let h : Hosting = record { prefix = prefix; publisher = place_of name r.publishers; algorithm = a } in
     record {
@@ -54,13 +54,13 @@ hosted_added r prefix name a is sound allowed =
       names = is.names;
       lanes = is.lanes;
       hostings = All-push (IsHosting r.publishers) r.hostings h is.hostings (record { sound = sound; publisher = place_within r.publishers name allowed.0 });
-      once = rw (map-append {A = Hosting} {B = List ℕ × ℕ} given r.hostings (h ∷ [])) (distinct_push (map given r.hostings) (given h) is.once (λ there. true≢false (sym (given_hosts r.hostings (place_of name r.publishers) prefix there) ∙ allowed.1)));
+      once = rw (map-append {A = Hosting} {B = List ℕ × ℕ} hosting_pair r.hostings (h ∷ [])) (distinct_push (map hosting_pair r.hostings) (hosting_pair h) is.once (λ there. true≢false (sym (given_hosts r.hostings (place_of name r.publishers) prefix there) ∙ allowed.1)));
       opening = All-weaker (IsOpening r.hostings) (IsOpening (r.hostings ++ h ∷ [])) (λ row old. record { handle = old.handle; hosted = rw (prefixes-push r.hostings h) (Contains-append_left (prefixes_of r.hostings) (prefix ∷ []) _ old.hosted); sound = old.sound; fits = old.fits; spelt = old.spelt }) r.opening is.opening;
       places = is.places;
       few = is.few;
     }
 
-pub opened_added : (r : Register) (handle : List ℕ) (v : Value) → IsRegister r → IsHandle handle → IsSound v → Fits v → IsKnownRow r (handle, v) → IsRegister (added r (opened handle v))
+pub opened_added : (r : Register) (handle : List ℕ) (v : Value) → IsRegister r → IsHandle handle → IsSound v → Fits v → IsKnownRow r (handle, v) → IsRegister (register_after r (opened handle v))
 opened_added r handle v is named sound fits known =
     let row : Row = (handle, v) in
     record {
@@ -81,7 +81,7 @@ opened_added r handle v is named sound fits known =
         rw t (omega arith)
     one_more h false t = rw t (omega (arith, is.few h))
 
-pub line_added : (r : Register) (text : List ℕ) (line : Line) → IsRegister r → IsLine text line → IsAllowed r line → IsRegister (added r line)
+pub line_added : (r : Register) (text : List ℕ) (line : Line) → IsRegister r → IsLine text line → IsAllowed r line → IsRegister (register_after r line)
 line_added r text skipped is says allowed = is
 line_added r text (publisher p) is says allowed = publisher_added r p is says.sound allowed
 line_added r text (hosted prefix name a) is says allowed = hosted_added r prefix name a is says.sound allowed

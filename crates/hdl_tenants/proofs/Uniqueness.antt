@@ -9,7 +9,7 @@ use Rattle.hdl_tenants.specs.declared.fault.TenantFault.{TenantFault}
 use Rattle.hdl_tenants.specs.declared.fault.TenantFault.TheVariants.{BadLine, TwicePrefix, TwicePublisher, TooMany, Memory}
 use Rattle.hdl_tenants.specs.Register.{Publisher, Register, names_of}
 use Rattle.hdl_tenants.specs.Lines.{fields_of, algorithm_in, IsPublisherLine, IsPrefixLine, IsValueLine, IsValueText}
-use Rattle.hdl_tenants.specs.Text.{Line, skipped, publisher, hosted, opened, IsLine, IsSkipped, IsKnown, IsAllowed, HasFault, Adds, AddsAll, added}
+use Rattle.hdl_tenants.specs.Text.{Line, skipped, publisher, hosted, opened, IsLine, IsSkipped, IsKnown, IsAllowed, HasFault, Adds, AddsAll, register_after}
 use Rattle.hdl_tenants.proofs.Texts.{one_text}
 use Rattle.hdl_tenants.proofs.Sayings.{prefix_or_value}
 
@@ -93,7 +93,7 @@ one_line text (opened h v) (hosted q m c) a b = absurd (prefix_or_value (fields_
 one_line text (opened h v) (opened g w) a b = one_value_said (fields_of text) h g v w a b
 
 one_step : (before : Register) (text : List ℕ) (a b : Register) → Adds before text a → Adds before text b → a ≡ b
-one_step before text a b p q = p.3 ∙ ap (added before) (one_line text p.0 q.0 p.1 q.1) ∙ sym q.3
+one_step before text a b p q = p.3 ∙ ap (register_after before) (one_line text p.0 q.0 p.1 q.1) ∙ sym q.3
 
 pub one_register : (before : Register) (texts : List (List ℕ)) (a b : Register) → AddsAll before texts a → AddsAll before texts b → a ≡ b
 one_register before [] a b p q = p ∙ sym q

@@ -3,7 +3,7 @@ use Rattle.std.specs.Prelude.{◌≡◌, ◌≢◌, ◌<◌, ◌≤◌, ◌+◌,
 use Rattle.hdl_name.specs.Name.{prefix}
 use Rattle.hdl_tenants.specs.declared.fault.TenantFault.{TenantFault}
 use Rattle.hdl_tenants.specs.declared.fault.TenantFault.TheVariants.{Memory}
-use Rattle.hdl_tenants.specs.Register.{Hosting, Register, root, owner, first_lane, hosts, algorithm, given, IsRegister}
+use Rattle.hdl_tenants.specs.Register.{Hosting, Register, root, owner, first_lane, hosts, algorithm, hosting_pair, IsRegister}
 use Rattle.hdl_tenants.specs.Text.{IsAccepted, IsFirstFault}
 
 -- lines without a fault say one thing
@@ -28,7 +28,7 @@ RootIsNobodys = (r : Register) → IsRegister r → (place : ℕ) → IsFalse (h
 
 -- a prefix is hosted for a publisher where a line gives it so
 abbrev pub HostedAsGiven : Type 0
-HostedAsGiven = (r : Register) (u : ℕ) (prefix : List ℕ) → IsTrue (hosts r u prefix) ↔ Contains (map given r.hostings) (prefix, u)
+HostedAsGiven = (r : Register) (u : ℕ) (prefix : List ℕ) → IsTrue (hosts r u prefix) ↔ Contains (map hosting_pair r.hostings) (prefix, u)
 
 -- the hash function of a prefix on a publisher's lanes is the one that its line gives
 abbrev pub HashedAsGiven : Type 0

@@ -1,7 +1,7 @@
 pub mod Register
 pub mod Lines
 pub mod Text
-pub mod Kept
+pub mod Record
 pub mod Steps
 pub mod Laws
 pub mod Taken

@@ -85,8 +85,8 @@ abbrev pub prefixes_of : List Hosting → List (List ℕ)
 prefixes_of hostings = map (λ h. h.prefix) hostings
 
 -- the prefix, and the place of the publisher that has it
-abbrev pub given : Hosting → List ℕ × ℕ
-given h = (h.prefix, h.publisher)
+abbrev pub hosting_pair : Hosting → List ℕ × ℕ
+hosting_pair h = (h.prefix, h.publisher)
 
 -- where a row stands: its canonical handle and its value's index
 abbrev pub place : Row → Place
@@ -145,7 +145,7 @@ pub record IsRegister (r : Register) : Type 0 where
   pub names : AreDistinct (names_of r.publishers)
   pub lanes : lane_count r.publishers ≤ LANES
   pub hostings : All (IsHosting r.publishers) r.hostings
-  pub once : AreDistinct (map given r.hostings)
+  pub once : AreDistinct (map hosting_pair r.hostings)
   pub opening : All (IsOpening r.hostings) r.opening
   pub places : AreDistinct (map place r.opening)
   pub few : (handle : List ℕ) → value_count handle r.opening ≤ VALUES_MAX

@@ -9,7 +9,7 @@ use Rattle.hdl_tenants.specs.Register.{Publisher, Hosting, Register, names_of, h
 use Rattle.hdl_tenants.specs.Taken.{count_at}
 use Rattle.hdl_value.specs.Place.{Place}
 use Rattle.hdl_tenants.specs.Lines.{IsValueText}
-use Rattle.hdl_tenants.specs.Text.{opened, added, hosts_named, IsKnownRow}
+use Rattle.hdl_tenants.specs.Text.{opened, register_after, hosts_named, IsKnownRow}
 
 -- a publisher whose name is there, or for which no lanes are left
 abbrev pub IsPublisherFault : List Publisher → Publisher → TenantFault → Type 0
@@ -61,7 +61,7 @@ IsOpenedFault r handle digits TooMany = ⊥
 
 -- the digits spell a value that may follow, and it is added
 abbrev pub Opens : Register → List ℕ → List ℕ → Register → Type 0
-Opens before handle digits after = (v : Value) × IsHandle handle × IsValueText digits v × IsKnownRow before (handle, v) × (after ≡ added before (opened handle v))
+Opens before handle digits after = (v : Value) × IsHandle handle × IsValueText digits v × IsKnownRow before (handle, v) × (after ≡ register_after before (opened handle v))
 
 -- a place that is there, or one of a handle that has as many as it may
 abbrev pub IsPlaceFault : List Place → Place → TenantFault → Type 0

@@ -38,11 +38,11 @@ abbrev pub hosts_named : Register → List ℕ → List ℕ → Bool
 hosts_named r prefix name = hosts r (place_of name r.publishers) prefix
 
 -- the register with what one more line says
-abbrev pub added : Register → Line → Register
-added r skipped = r
-added r (publisher p) = record r { publishers = r.publishers ++ p ∷ [] }
-added r (hosted prefix name a) = record r { hostings = r.hostings ++ record { prefix = prefix; publisher = place_of name r.publishers; algorithm = a } ∷ [] }
-added r (opened handle v) = record r { opening = r.opening ++ (handle, v) ∷ [] }
+abbrev pub register_after : Register → Line → Register
+register_after r skipped = r
+register_after r (publisher p) = record r { publishers = r.publishers ++ p ∷ [] }
+register_after r (hosted prefix name a) = record r { hostings = r.hostings ++ record { prefix = prefix; publisher = place_of name r.publishers; algorithm = a } ∷ [] }
+register_after r (opened handle v) = record r { opening = r.opening ++ (handle, v) ∷ [] }
 
 -- a value may follow what stands before it
 pub record IsKnownRow (r : Register) (row : Row) : Type 0 where
@@ -74,7 +74,7 @@ HasFault r text Memory = ¬ (IsSkipped text)
 
 -- the line says something that is allowed, and takes one register to the other
 abbrev pub Adds : Register → List ℕ → Register → Type 0
-Adds before text after = (line : Line) × IsLine text line × IsAllowed before line × (after ≡ added before line)
+Adds before text after = (line : Line) × IsLine text line × IsAllowed before line × (after ≡ register_after before line)
 
 -- lines without a fault, one after another, take one register to the other
 abbrev pub AddsAll : Register → List (List ℕ) → Register → Type 0

@@ -2,7 +2,7 @@
 
 ghost use Rattle.std.specs.Prelude.{◌≡◌, ◌==◌, ◌↔◌, [], ◌∷◌, ◌++◌, find, is_some, unwrap_or, option_copied, Contains, IsTrue, IsFalse, IfOk, IfErr, OnOk, OnErr};
 ghost use Rattle.hdl_tenants.specs.Register.{prefixes_of, hosts_among, algorithm_among};
-ghost use Rattle.hdl_tenants.specs.Kept.{hosts_of};
+ghost use Rattle.hdl_tenants.specs.Record.{hosts_of};
 ghost use Rattle.hdl_tenants.specs.Steps.{IsPrefixFault};
 
 use crate::fault::TenantFault;
@@ -42,7 +42,7 @@ fn host_among(publisher: usize, hosts: &[Host]) -> Option<&Host>
 impl Model for Prefixes {
     ghost use Rattle.std.specs.Prelude.{List};
     ghost use Rattle.hdl_tenants.specs.Register.{Hosting};
-    ghost use Rattle.hdl_tenants.specs.Kept.{hostings_in, KeepsHostings};
+    ghost use Rattle.hdl_tenants.specs.Record.{hostings_in, KeepsHostings};
 
     ghost Value = { List Hosting };
 

@@ -4,7 +4,7 @@ ghost use Rattle.std.specs.Prelude.{◌≡◌, ◌+◌, ◌<◌, ◌≤◌, [], 
 ghost use Rattle.hdl_tenants.specs.Register.{names_of, lane_count, owner_among, first_lane};
 ghost use Rattle.hdl_tenants.specs.Steps.{IsPublisherFault};
 ghost use Rattle.hdl_tenants.specs.Text.{place_of};
-ghost use Rattle.hdl_tenants.specs.Kept.{publisher_on};
+ghost use Rattle.hdl_tenants.specs.Record.{publisher_on};
 
 use crate::fault::TenantFault;
 use crate::lines::PublisherLine;
@@ -30,7 +30,7 @@ pub struct Publishers {
 impl Model for Publishers {
     ghost use Rattle.std.specs.Prelude.{List};
     ghost use Rattle.hdl_tenants.specs.Register.{Publisher};
-    ghost use Rattle.hdl_tenants.specs.Kept.{publishers_in, KeepsLanes};
+    ghost use Rattle.hdl_tenants.specs.Record.{publishers_in, KeepsLanes};
 
     ghost Value = { List Publisher };
 

@@ -5,9 +5,9 @@ ghost use Rattle.std.specs.Str.Lines.{lines};
 ghost use Rattle.hdl_name.specs.Name.{prefix};
 ghost use Rattle.hdl_tenants.specs.Register as register;
 ghost use Rattle.hdl_tenants.specs.Register.{empty, place, IsPublisher, IsPrefix, IsRegister};
-ghost use Rattle.hdl_tenants.specs.Text.{publisher, hosted, added, IsAllowed, HasFault, Adds, IsAccepted, IsFirstFault};
+ghost use Rattle.hdl_tenants.specs.Text.{publisher, hosted, register_after, IsAllowed, HasFault, Adds, IsAccepted, IsFirstFault};
 ghost use Rattle.hdl_tenants.specs.Steps.{IsPublisherFault, IsHostedFault, IsOpenedFault, Opens};
-ghost use Rattle.hdl_tenants.specs.Kept.{publisher_on};
+ghost use Rattle.hdl_tenants.specs.Record.{publisher_on};
 ghost use Rattle.hdl_tenants.specs.Taken.{Indexes};
 
 use crate::fault::TenantFault;
@@ -59,7 +59,7 @@ impl Tenants {
     fn add_publisher(&mut self, alloc: Global, line: &PublisherLine<'_>) -> Result<(), TenantFault>
         requires { IsPublisher (publisher_on line.now) }
         ensures allowed { OnOk result (IsAllowed self.old (publisher (publisher_on line.now))) }
-        ensures added { OnOk result (self.new ≡ added self.old (publisher (publisher_on line.now))) }
+        ensures added { OnOk result (self.new ≡ register_after self.old (publisher (publisher_on line.now))) }
         ensures fault { IfErr result (λ e. IsPublisherFault self.old.publishers (publisher_on line.now) e) }
     {
         self.publishers.add(alloc, line)?;
@@ -70,7 +70,7 @@ impl Tenants {
     fn add_prefix(&mut self, alloc: Global, line: &PrefixLine<'_>) -> Result<(), TenantFault>
         requires { IsPrefix line.now.prefix.now }
         ensures allowed { OnOk result (IsAllowed self.old (hosted line.now.prefix.now line.now.name.now line.now.algorithm)) }
-        ensures added { OnOk result (self.new ≡ added self.old (hosted line.now.prefix.now line.now.name.now line.now.algorithm)) }
+        ensures added { OnOk result (self.new ≡ register_after self.old (hosted line.now.prefix.now line.now.name.now line.now.algorithm)) }
         ensures fault { IfErr result (λ e. IsHostedFault self.old line.now.prefix.now line.now.name.now e) }
     {
         let Some(publisher) = self.publishers.place(line.name) else {
@@ -185,7 +185,7 @@ impl Tenants {
     }
 
     /// The hash function of the name's prefix on the lanes of the publisher at this place, if its whole prefix, in canonical
-    /// form, is hosted for it. A prefix that isn't has SHA-1.
+    /// form, is hosted for it. None where it isn't.
     pub fn algorithm(&self, publisher: usize, name: &Name) -> Option<Algorithm>
         ensures hosted { is_some result ≡ register.hosts self.now publisher (prefix name.now) }
         ensures algorithm { unwrap_or result Algorithm.Sha1 ≡ register.algorithm self.now publisher (prefix name.now) }

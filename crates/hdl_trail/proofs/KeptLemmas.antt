@@ -11,22 +11,22 @@ use Rattle.std.proofs.lemmas.List.Sums.{fails_before_first}
 use Rattle.hdl_trail.specs.declared.kept.Key.{Key}
 use Rattle.hdl_trail.specs.declared.kept.Mark.{Mark}
 use Rattle.hdl_trail.specs.declared.exchange.Exchange.{Exchange}
-use Rattle.hdl_trail.specs.Kept.{is_of, is_response, grown, grown_among, with_piece, put_behind, first_mark}
+use Rattle.hdl_trail.specs.Followed.{is_of, is_response, with_frame, with_frame_among, with_piece, put_behind, first_mark}
 
 -- the first of the key grows
 grown_first : (e : Exchange) (ms : List Mark) (i : ℕ) (d : Mark) → i < length ms → is_of e.key (get_or ms i d) ≡ true → ((k : ℕ) → k < i → is_of e.key (get_or ms k d) ≡ false)
-    → set ms i (grown e (get_or ms i d)) ≡ grown_among e ms
+    → set ms i (with_frame e (get_or ms i d)) ≡ with_frame_among e ms
 grown_first e [] i d lt here before = absurd (omega arith)
 grown_first e (m ∷ ms) zero d lt here before = rw here refl
 grown_first e (m ∷ ms) (suc i) d lt here before =
     let other : is_of e.key m ≡ false = before 0 (omega arith) in
     rw other (ap (λ (t : List Mark). m ∷ t) (grown_first e ms i d (omega arith) here (λ k below. before (suc k) (omega arith))))
 
-pub with_piece_found : (e : Exchange) (ms : List Mark) (i : ℕ) (d : Mark) → position (is_of e.key) ms ≡ Some i → set ms i (grown e (get_or ms i d)) ≡ with_piece e ms
+pub with_piece_found : (e : Exchange) (ms : List Mark) (i : ℕ) (d : Mark) → position (is_of e.key) ms ≡ Some i → set ms i (with_frame e (get_or ms i d)) ≡ with_piece e ms
 with_piece_found e ms i d found =
     let first = position-Some (is_of e.key) ms i d found in
     grown_first e ms i d first.0 first.1 first.2
-    ∙ sym (ap (λ (b : Bool). cond b (grown_among e ms) (put_behind 4 ms (first_mark e))) (list_any_at (is_of e.key) ms i d first.0 first.1))
+    ∙ sym (ap (λ (b : Bool). cond b (with_frame_among e ms) (put_behind 4 ms (first_mark e))) (list_any_at (is_of e.key) ms i d first.0 first.1))
 
 not_some : (b : Bool) (i : ℕ) → cond b (Some i) None ≡ None → b ≡ false
 not_some true i e = absurd (cc)
@@ -42,7 +42,7 @@ pub with_piece_begun : (e : Exchange) (ms : List Mark) → position (is_of e.key
 with_piece_begun e ms none =
     let past = ltb-false _ _ (not_some _ _ none) in
     let missed = none_of e (first_mark e) ms (λ k lt. fails_before_first (is_of e.key) ms k (first_mark e) (omega (arith, past))) in
-    sym (ap (λ (b : Bool). cond b (grown_among e ms) (put_behind 4 ms (first_mark e))) missed)
+    sym (ap (λ (b : Bool). cond b (with_frame_among e ms) (put_behind 4 ms (first_mark e))) missed)
 
 -- the operation that is that of a challenge response
 pub response_of_eq : (o : Option ℕ) (b : Bool) → b ≡ option_eq eqb o (Some 200) → b ≡ true → is_response o ≡ true

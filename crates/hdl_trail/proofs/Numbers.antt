@@ -8,7 +8,7 @@ use Rattle.std.proofs.lemmas.Map.Views.{any-filter_same}
 use Rattle.hdl_trail.specs.declared.kept.Mark.{Mark}
 use Rattle.hdl_trail.specs.declared.kept.Sent.{Sent}
 use Rattle.hdl_trail.specs.declared.exchange.Exchange.{Exchange}
-use Rattle.hdl_trail.specs.Kept.{Followed, is_held}
+use Rattle.hdl_trail.specs.Followed.{Followed, is_held}
 use Rattle.hdl_trail.specs.Peers.{is_under_way}
 
 abbrev others : (ℕ → Bool) → List ℕ → List ℕ

@@ -2,7 +2,7 @@
 use Rattle.std.specs.Prelude.{ℕ, ◌+◌, ◌*◌, Bool, false, ◌==◌, ◌&&◌, ◌||◌, nat_le, if◌then◌else◌, Option, Some, None}
 use Rattle.hdl_frame.specs.Pieces.{datagram_count, piece_count}
 use Rattle.hdl_trail.specs.declared.exchange.Exchange.{Exchange}
-use Rattle.hdl_trail.specs.Kept.{Followed, is_response, operation_of}
+use Rattle.hdl_trail.specs.Followed.{Followed, is_response, operation_of}
 
 -- the octets of a message of so many in this many datagrams, each of which begins with an envelope of 20
 abbrev pub octets_in : ℕ → ℕ → ℕ

@@ -1,5 +1,5 @@
 pub mod Exchange
-pub mod Kept
+pub mod Followed
 pub mod Trail
 pub mod Peers
 pub mod Allowance

@@ -5,7 +5,7 @@ use Rattle.hdl_limits.specs.declared.TheConstants.{UNDER_WAY_MAX}
 use Rattle.hdl_frame.specs.Envelope.{envelope_at}
 use Rattle.hdl_trail.specs.declared.exchange.Exchange.{Exchange}
 use Rattle.hdl_trail.specs.Exchange.{exchange_of, with_reply}
-use Rattle.hdl_trail.specs.Kept.{Followed, is_held, settle}
+use Rattle.hdl_trail.specs.Followed.{Followed, is_held, finish_exchange}
 
 -- the addresses, that with number 1 first; what is followed under their numbers; and the frames under way, whose replies aren't whole, the oldest first
 pub record Roll (A : Type 0) : Type 0 where
@@ -46,9 +46,9 @@ module _ {A : Type 0} where
   holds r n = is_held r.followed n || is_under_way r.under_way n
 
   -- what was seen of the reply to the oldest frame is all of it
-  abbrev pub settle_oldest : Roll A → Roll A
-  settle_oldest r = record { known = r.known; followed = settle r.followed (oldest r.under_way); under_way = drop 1 r.under_way }
+  abbrev pub finish_oldest : Roll A → Roll A
+  finish_oldest r = record { known = r.known; followed = finish_exchange r.followed (oldest r.under_way); under_way = drop 1 r.under_way }
 
   -- with room for one frame more
   abbrev pub with_room : Roll A → Roll A
-  with_room r = if nat_lt (length r.under_way) UNDER_WAY_MAX then r else settle_oldest r
+  with_room r = if nat_lt (length r.under_way) UNDER_WAY_MAX then r else finish_oldest r

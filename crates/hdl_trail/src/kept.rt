@@ -1,7 +1,7 @@
 //! What the service keeps of a lane, as far as the trail sees it.
 
 ghost use Rattle.std.specs.Prelude.{◌≡◌, ◌<◌};
-ghost use Rattle.hdl_trail.specs.Kept.{first_mark, grown, is_of, is_from, put_behind};
+ghost use Rattle.hdl_trail.specs.Followed.{first_mark, with_frame, is_of, is_from, put_behind};
 
 use crate::exchange::Exchange;
 use arrayvec::ArrayVec;
@@ -37,8 +37,8 @@ impl Mark {
     }
 
     /// The message with the frame's piece, which is ignored where it says another length.
-    pub(crate) fn grown(self, exchange: Exchange) -> Mark
-        ensures { result ≡ grown exchange self }
+    pub(crate) fn with_frame(self, exchange: Exchange) -> Mark
+        ensures { result ≡ with_frame exchange self }
     {
         if self.length == exchange.length && self.operation.is_none() {
             Mark {

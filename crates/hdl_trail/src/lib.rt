@@ -12,14 +12,14 @@
 //! ```
 //!
 //! Promised are: each frame gets a number, of an address that it stands for; a number under which something is followed, or a frame is under way, keeps its address,
-//! whatever comes; octets that are no frame change nothing; and what is followed after a frame and its reply is what `specs/Kept.antt` says. That this is
+//! whatever comes; octets that are no frame change nothing; and what is followed after a frame and its reply is what `specs/Followed.antt` says. That this is
 //! what the service keeps is proved in hdl_follows. Whether a reply is too long for what asked, and whether an address answered a challenge, is what
 //! `specs/Allowance.antt` says.
 //! It stands on the limits and on frames, and knows no sockets: an address is whatever can be compared.
 //!
 //! ```rust
 //! // crates/hdl_host/src/packets.rt
-//! let from = Origin { place, address };
+//! let from = Sender { place, address };
 //! if let Ok(Some(peer)) = self.post.peers.note_octets(from, &buffer[..length]) {
 //!     self.post.note_request(peer, &buffer[..length]);
 //!     return Ok(Some((peer, length)));

@@ -5,7 +5,7 @@ ghost use Rattle.std.specs.List.{position};
 ghost use Rattle.hdl_frame.specs.Frames.{IsFrame};
 ghost use Rattle.hdl_limits.specs.declared.TheConstants.{CHALLENGES_MAX, PARTIALS_MAX, PEERS_MAX, UNDER_WAY_MAX};
 ghost use Rattle.hdl_trail.specs.Allowance.{answers_challenge, is_within_last};
-ghost use Rattle.hdl_trail.specs.Peers.{address_among, arrival, IsNumberOf, holds, oldest, reply_seen, settle_oldest, with_room};
+ghost use Rattle.hdl_trail.specs.Peers.{address_among, arrival, IsNumberOf, holds, oldest, reply_seen, finish_oldest, with_room};
 
 use crate::trail::Trail;
 use hdl_frame::one_datagram;
@@ -135,7 +135,7 @@ impl<A: Eq + Copy> Peers<A> {
 
     /// The reply to the oldest frame is whole, or there is none.
     pub fn end_reply(&mut self)
-        ensures { self.new ≡ settle_oldest self.old }
+        ensures { self.new ≡ finish_oldest self.old }
     {
         self.trail.finish_oldest();
     }

@@ -17,7 +17,7 @@ ghost use Rattle.std.specs.List.{list_any, position};
 ghost use Rattle.hdl_limits.specs.declared.TheConstants.{CHALLENGES_MAX, PARTIALS_MAX, PEERS_MAX, UNDER_WAY_MAX};
 ghost use Rattle.hdl_trail.specs.Allowance.{answers_challenge, is_within_last};
 ghost use Rattle.hdl_trail.specs.Exchange.{exchange_of};
-ghost use Rattle.hdl_trail.specs.Kept.{leave_answered, add_challenge, end_message, is_held, is_of, operation_of, redeem, settle, settle_by, with_piece};
+ghost use Rattle.hdl_trail.specs.Followed.{leave_answered, add_challenge, end_message, is_held, is_of, operation_of, redeem, finish_exchange, finish_by, with_piece};
 ghost use Rattle.hdl_trail.specs.Peers.{is_under_way, oldest, reply_seen};
 ghost use Rattle.hdl_trail.specs.Trail.{followed_by};
 
@@ -163,7 +163,7 @@ impl Trail {
 
     /// The reply to the oldest frame is whole, or there is none.
     pub fn finish_oldest(&mut self)
-        ensures followed { followed_by self.new ≡ settle (followed_by self.old) (oldest self.old.under_way.items) }
+        ensures followed { followed_by self.new ≡ finish_exchange (followed_by self.old) (oldest self.old.under_way.items) }
         ensures under_way { self.new.under_way.items ≡ drop 1 self.old.under_way.items }
     {
         let Some(exchange) = self.oldest() else {
@@ -175,7 +175,7 @@ impl Trail {
 
     /// What a frame and the reply to it leave.
     fn follow(&mut self, exchange: Exchange)
-        ensures followed { followed_by self.new ≡ settle_by (followed_by self.old) exchange exchange.reply }
+        ensures followed { followed_by self.new ≡ finish_by (followed_by self.old) exchange exchange.reply }
         ensures under_way { self.new.under_way.items ≡ self.old.under_way.items }
     {
         match exchange.reply {
@@ -250,7 +250,7 @@ impl Trail {
             return;
         };
         if let Some(mark) = self.partials.get_mut(place) {
-            *mark = mark.grown(exchange);
+            *mark = mark.with_frame(exchange);
         }
     }
 

@@ -10,7 +10,7 @@ use Rattle.hdl_value.specs.declared.value.Value.{Value}
 use Rattle.hdl_value.specs.Spelling.{Fits}
 use Rattle.hdl_value.specs.Place.{Place}
 use Rattle.hdl_value.specs.Data.{admin_kind, list_kind, IsAdminData, IsListData, Names, Administers, Lists, RefersTo}
-use Rattle.hdl_value.specs.Refs.{admin_in, list_in, admin_read, list_read, place, refers, granted_by, listed_by, granted, listed, refs_of}
+use Rattle.hdl_value.specs.Refs.{admin_in, list_in, admin_read, list_read, place, refers, granted_by, listed_by, value_grants, listed_places, refs_of}
 use Rattle.hdl_value.proofs.DataRead.{admin_in_is, admin_in_again, list_in_is, list_in_again}
 
 -- ---- elements
@@ -118,10 +118,10 @@ granted_by_is v mask p fits (Some x) e h =
       | inr more ↦ absurd (none_in (mask, p) more)
     ]
 
-pub granted_is : (v : Value) (mask : ℕ) (p : Place) → Fits v → Contains (granted v) (mask, p) → Administers v mask p
+pub granted_is : (v : Value) (mask : ℕ) (p : Place) → Fits v → Contains (value_grants v) (mask, p) → Administers v mask p
 granted_is v mask p fits h = granted_by_is v mask p fits (admin_read v) refl h
 
-pub granted_has : (v : Value) (mask : ℕ) (p : Place) → Administers v mask p → Contains (granted v) (mask, p)
+pub granted_has : (v : Value) (mask : ℕ) (p : Place) → Administers v mask p → Contains (value_grants v) (mask, p)
 granted_has v mask p a =
     let e = admin_read_again v mask a.1 a.0 a.2 in
     let found : ℕ × Place = (mask, place a.1) in
@@ -140,10 +140,10 @@ listed_by_is v p fits (Some rs) e h =
     let d = list_read_is v rs fits e in
     (d.0, rs, d.1, (m.0, m.1, place_names m.0 p m.2 t.1))
 
-pub listed_is : (v : Value) (p : Place) → Fits v → Contains (listed v) p → Lists v p
+pub listed_is : (v : Value) (p : Place) → Fits v → Contains (listed_places v) p → Lists v p
 listed_is v p fits h = listed_by_is v p fits (list_read v) refl h
 
-pub listed_has : (v : Value) (p : Place) → Lists v p → Contains (listed v) p
+pub listed_has : (v : Value) (p : Place) → Lists v p → Contains (listed_places v) p
 listed_has v p l =
     let e = list_read_again v l.1 l.0 l.2 in
     let one : Contains (map place l.1) p = subst (λ (q : Place). Contains (map place l.1) q) (names_place l.3.0 p l.3.2) (in_map place l.3.0 l.1 l.3.1) in
@@ -152,13 +152,13 @@ listed_has v p l =
 -- ---- both
 
 pub refs_are : (v : Value) (p : Place) → Fits v → Contains (refs_of v) p → RefersTo v p
-refs_are v p fits h = elim (Contains-append_cases (map (λ (g : ℕ × Place). g.1) (granted v)) (listed v) p h) [
+refs_are v p fits h = elim (Contains-append_cases (map (λ (g : ℕ × Place). g.1) (value_grants v)) (listed_places v) p h) [
   | inl front ↦
-      let m = from_map (λ (g : ℕ × Place). g.1) p (granted v) front in
-      inl (m.0.0, granted_is v m.0.0 p fits (subst (λ (q : Place). Contains (granted v) (m.0.0, q)) m.2 m.1))
+      let m = from_map (λ (g : ℕ × Place). g.1) p (value_grants v) front in
+      inl (m.0.0, granted_is v m.0.0 p fits (subst (λ (q : Place). Contains (value_grants v) (m.0.0, q)) m.2 m.1))
   | inr back ↦ inr (listed_is v p fits back)
 ]
 
 pub refs_have : (v : Value) (p : Place) → RefersTo v p → Contains (refs_of v) p
-refs_have v p (inl a) = Contains-append_left (map (λ (g : ℕ × Place). g.1) (granted v)) (listed v) p (in_map (λ (g : ℕ × Place). g.1) (a.0, p) (granted v) (granted_has v a.0 p a.1))
-refs_have v p (inr l) = Contains-append_right (map (λ (g : ℕ × Place). g.1) (granted v)) (listed v) p (listed_has v p l)
+refs_have v p (inl a) = Contains-append_left (map (λ (g : ℕ × Place). g.1) (value_grants v)) (listed_places v) p (in_map (λ (g : ℕ × Place). g.1) (a.0, p) (value_grants v) (granted_has v a.0 p a.1))
+refs_have v p (inr l) = Contains-append_right (map (λ (g : ℕ × Place). g.1) (value_grants v)) (listed_places v) p (listed_has v p l)

@@ -38,7 +38,7 @@ pub struct CutValue<'a> {
 
 impl<'a> Model for CutValue<'a> {
     ghost use Rattle.hdl_value.specs.Cut.{value_view, IsCut};
-    ghost use Rattle.hdl_value.specs.Kept.{ValueRecord};
+    ghost use Rattle.hdl_value.specs.ValueRecord.{ValueRecord};
 
     ghost Value = { ValueRecord };
 

@@ -68,7 +68,7 @@ impl<R: Wait + Clock + Drop, B: Drop> Answering<R, B> {
     {
         let (made, told, led, coming) = match turn {
             Turn::Made(answer) => (Some(answer), None, None, None),
-            Turn::Told(status, text) => (None, Some((status, text)), None, None),
+            Turn::Text(status, text) => (None, Some((status, text)), None, None),
             Turn::Led(way) => (None, None, Some(way), None),
             Turn::Coming(from) => (None, None, None, Some(from)),
         };
@@ -111,7 +111,7 @@ impl<R: Wait + Clock + Drop, B: Drop> Answering<R, B> {
         };
         match gathering.end(gathered) {
             Turn::Made(answer) => self.made = Some(answer),
-            Turn::Told(status, text) => self.told = Some((status, text)),
+            Turn::Text(status, text) => self.told = Some((status, text)),
             Turn::Led(way) => self.led = Some(way),
             Turn::Coming(from) => self.coming = Some(from),
         }

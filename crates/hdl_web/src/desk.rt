@@ -133,13 +133,13 @@ impl<R: Wait + Clock + Copy + Drop> Desk<R> {
     /// What is told of the proxy itself, where that is asked for.
     fn tell_of_itself(&self, path: &str) -> Result<Option<Turn>, AllocError> {
         match path {
-            "/metrics" => Ok(Some(Turn::Told(200, self.board.metrics()?))),
+            "/metrics" => Ok(Some(Turn::Text(200, self.board.metrics()?))),
             "/health" if self.board.is_fit() => {
-                Ok(Some(Turn::Told(200, String::from_str(self.alloc, "ok\n")?)))
+                Ok(Some(Turn::Text(200, String::from_str(self.alloc, "ok\n")?)))
             }
             "/health" => {
                 let text = String::from_str(self.alloc, "no server answers\n")?;
-                Ok(Some(Turn::Told(503, text)))
+                Ok(Some(Turn::Text(503, text)))
             }
             _ => Ok(None),
         }

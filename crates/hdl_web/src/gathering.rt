@@ -32,7 +32,7 @@ pub(crate) enum Turn {
     Made(Made),
     Coming(oneshot::Receiver<Made>),
     /// A text with this status.
-    Told(u16, String),
+    Text(u16, String),
     /// A redirect that was kept.
     Led(Arc<Way>),
 }

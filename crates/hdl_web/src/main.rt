@@ -1,11 +1,11 @@
 //! The program `hdl proxy`, over HTTP/1.1: sockets, threads and time around `hdl_proxy`, which has what is asked and answered.
 //!
 //! ```text
-//! hyper, event loops -> Desk: begin -> at once, or a channel -> a thread for each asker: ask, finish -> Answering -> hyper
+//! hyper, event loops -> Desk: begin -> at once, or a channel -> a thread for each asker: ask, next_step -> Answering -> hyper
 //!                      with --writes: begin_with_key, the body -> a channel -> one thread: carry_out -> Answering -> hyper
 //! ```
 //!
-//! A thread that serves, one or as many as are asked for, never waits for a server: each asker (`Servers`) has a thread of its own, and
+//! A thread that serves, one or as many as are asked for, never waits for a server: each asker (`Server`) has a thread of its own, and
 //! connections to its servers that it keeps. A head has at most 8 KiB, and ten seconds to come whole, also where a connection is idle. It promises
 //! that it is safe, whatever comes, and that a response has its answer's status; what is read and written is `hyper`'s. Nothing of
 //! `hdl` but this program needs `hyper`, so asking in words is proved without it.

@@ -102,15 +102,15 @@ impl Counts {
 
 /// What is told of a server.
 #[derive(Clone, Copy)]
-struct Told {
+struct ServerState {
     asked: u64,
     failed: u64,
     left_out: u64,
     waiting: u64,
 }
 
-fn put_server(text: &mut String, server: &str, told: Told) -> Result<(), AllocError> {
-    let Told {
+fn put_server(text: &mut String, server: &str, told: ServerState) -> Result<(), AllocError> {
+    let ServerState {
         asked,
         failed,
         left_out,
@@ -135,8 +135,8 @@ fn put_server(text: &mut String, server: &str, told: Told) -> Result<(), AllocEr
 }
 
 impl<R: Wait + Clock> Board<R> {
-    fn state_of(&self, post: &Post) -> Told {
-        Told {
+    fn state_of(&self, post: &Post) -> ServerState {
+        ServerState {
             asked: post.asked.load(Ordering::Relaxed),
             failed: post.failed.load(Ordering::Relaxed),
             left_out: u64::from(post.standing.lock(&self.rt).is_left_out(self.now())),

@@ -3,7 +3,7 @@
 use hdl_client::{ClientFault, Connection, Key, Reply, Session, connect_within};
 use hdl_msg::{RequestBody, ResponseCode};
 use hdl_proxy::NoAnswer;
-use hdl_writes::Service;
+use hdl_writes::ChangeServer;
 use std::alloc::AllocError;
 use std::time::{Duration, Instant};
 
@@ -154,7 +154,7 @@ impl Writer {
 }
 
 /// A service of which the next order's requests go to servers in turn.
-pub trait Clerk: Service {
+pub trait Clerk: ChangeServer {
     /// The next requests go to the servers at these places.
     fn turn_to(&mut self, turn: Vec<usize>);
 }
@@ -165,7 +165,7 @@ impl Clerk for Writer {
     }
 }
 
-impl Service for Writer {
+impl ChangeServer for Writer {
     fn renew(&mut self) {
         for server in &mut self.servers {
             server.session = None;

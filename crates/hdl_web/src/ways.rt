@@ -7,7 +7,7 @@ use crate::response::headers_of;
 use bytes::Bytes;
 use hdl_msg::{ContentView, read_reply};
 use hdl_proxy::{Answer, Status};
-use hdl_routes::Kept;
+use hdl_routes::KeptReplies;
 use http::StatusCode;
 use http::header::{HeaderMap, HeaderValue};
 use http::response::{Parts, Response};
@@ -118,7 +118,7 @@ impl Ways {
 /// What is kept: replies, and the redirects that were made of them.
 #[derive(Drop)]
 pub(crate) struct Shelf {
-    pub(crate) kept: Kept,
+    pub(crate) kept: KeptReplies,
     ways: Ways,
 }
 
@@ -129,7 +129,7 @@ impl Shelf {
         other: RandomState,
     ) -> Result<Shelf, AllocError> {
         Ok(Shelf {
-            kept: Kept::new(alloc, hasher)?,
+            kept: KeptReplies::new(alloc, hasher)?,
             ways: Ways::new(alloc, other)?,
         })
     }

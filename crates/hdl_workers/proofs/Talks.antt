@@ -13,7 +13,7 @@ use Rattle.hdl_workers.specs.declared.item.Item.{Item}
 use Rattle.hdl_workers.specs.declared.item.Item.TheVariants.{Event}
 use Rattle.hdl_workers.specs.Octets.{octets_of}
 use Rattle.hdl_workers.specs.Door.{Connection, hear}
-use Rattle.hdl_workers.specs.Line.{Relayed, RelayedPart}
+use Rattle.hdl_workers.specs.WorkerLane.{Relayed, RelayedPart}
 use Rattle.hdl_workers.specs.Sign.{Sign, opened, framed, faulty, sign_of, signs_of, PutOne}
 use Rattle.hdl_workers.specs.Talk.{fault_signs, FramesSoFar, AllFrames, SomeFrames, Ended, History, Underway, CutOff, Waiting}
 

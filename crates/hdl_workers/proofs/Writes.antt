@@ -8,7 +8,7 @@ use mathlib.Core.List.{IsPrefix}
 use Rattle.hdl_events.specs.declared.Outcome.{Outcome}
 use Rattle.hdl_workers.specs.Octets.{octets_of}
 use Rattle.hdl_workers.specs.Door.{Connection, say}
-use Rattle.hdl_workers.specs.Line.{Joins, Relayed, RelayedPart}
+use Rattle.hdl_workers.specs.WorkerLane.{Joins, Relayed, RelayedPart}
 
 pub rest_whole : (i : ℕ) (s : List ℕ) → take (length s - i) (drop i s) ≡ drop i s
 rest_whole i s = rw (← length-drop i s) (take-length (drop i s))

@@ -1,8 +1,8 @@
 -- What stays as it is while a connection is served.
 use Rattle.std.specs.Prelude.{◌≡◌, ◌≤◌, IsTrue}
 use Rattle.hdl_workers.specs.declared.door.Door.{Ghosts}
-use Rattle.hdl_workers.specs.declared.line.Line.{Line}
-use Rattle.hdl_workers.specs.Line.{SameLine}
+use Rattle.hdl_workers.specs.declared.worker_lane.WorkerLane.{WorkerLane}
+use Rattle.hdl_workers.specs.WorkerLane.{SameWorkerLane}
 
 -- the connection is as open as it was, the connections that were left are the same, and no fault is forgotten
 pub record StaysOpen {D : Type 0} (g : Ghosts D) (old new : D) : Type 0 where
@@ -11,6 +11,6 @@ pub record StaysOpen {D : Type 0} (g : Ghosts D) (old new : D) : Type 0 where
   pub faults : g.fault_count old ≤ g.fault_count new
 
 -- and the lane's ends are the same
-pub record GoesOn {D : Type 0} (g : Ghosts D) (before : D) (old : Line) (after : D) (new : Line) : Type 0 where
+pub record GoesOn {D : Type 0} (g : Ghosts D) (before : D) (old : WorkerLane) (after : D) (new : WorkerLane) : Type 0 where
   pub connection : StaysOpen g before after
-  pub line : SameLine old new
+  pub line : SameWorkerLane old new

@@ -1,6 +1,6 @@
 pub mod Octets
 pub mod Door
-pub mod Line
+pub mod WorkerLane
 pub mod Sign
 pub mod Found
 pub mod Talk

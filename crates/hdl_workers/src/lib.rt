@@ -13,8 +13,7 @@
 //! own, and what was written is the outcomes' octets. [`LaneEnds::settle`] gives what is left once both threads of a lane were joined.
 //!
 //! Nothing here takes a lock or waits for anybody: what finds nothing pauses by the caller's [`Clock`], and all is bounded by a
-//! number of turns. It stands on `hdl_events`, `hdl_frame` and `hdl_lanes`, and has doors, a clock and nonces in memory, of whose calls
-//! a given one fails.
+//! number of turns. There are doors, a clock and nonces in memory, of whose calls a given one fails.
 //!
 //! ```rust
 //! // crates/hdl_program_tests/src/two_workers.rt
@@ -43,7 +42,6 @@ mod ends;
 mod failing;
 mod intake;
 mod item;
-mod line;
 mod memory;
 mod memory_packets;
 mod packet;
@@ -52,6 +50,7 @@ mod sides;
 mod sources;
 mod stream;
 mod worker;
+mod worker_lane;
 mod worker_side;
 
 pub use door::{Clock, Door, DoorFault, Nonces, Packets};

@@ -7,16 +7,16 @@ ghost use Rattle.hdl_workers.specs.declared.item.Item.{Item};
 ghost use Rattle.hdl_lanes.specs.Lane.{taken_from, all_put, SameOutlet};
 ghost use Rattle.hdl_workers.specs.Door.{Counts, Gives};
 ghost use Rattle.hdl_workers.specs.Joined.{EndsLane};
-ghost use Rattle.hdl_workers.specs.Line.{put_by, taken_by, SameLine};
+ghost use Rattle.hdl_workers.specs.WorkerLane.{put_by, taken_by, SameWorkerLane};
 ghost use Rattle.hdl_workers.specs.Sign.{framed, moments_of, nonces_of, MomentsUsed, PutOne, WithEnd};
 ghost use Rattle.hdl_workers.specs.Stamps.{StampsUsed};
 ghost use Rattle.hdl_workers.specs.Replying.{OnlyReplies};
 ghost use Rattle.hdl_workers.specs.Mail.{to_peer, SendsReply, BeginsReply, Sends, Traded, Trades, TakesIn, MayTakeIn, Replies, MayReply};
 
-use crate::line::Line;
 use crate::relay::octets_of;
 use crate::stream::copy;
 use crate::worker::{EndReason, WorkerEnd, finish, open, spend};
+use crate::worker_lane::WorkerLane;
 use crate::{Clock, DoorFault, Nonces, Packets, WorkerSide};
 use arrayvec::ArrayVec;
 use hdl_events::{Happening, Outcome};
@@ -81,13 +81,13 @@ fn send_reply<P: Packets>(packets: &mut P, peer: u16, octets: &[u8], turns: &mut
 
 /// Puts a frame, with the next moment and nonce, when no outcome is waited for.
 fn put_frame<C: Clock, N: Nonces>(
-    line: &mut Line,
+    line: &mut WorkerLane,
     clock: &mut C,
     nonces: &mut N,
     peer: u16,
     bytes: Octets,
 ) -> bool
-    ensures line { SameLine line.old line.new }
+    ensures line { SameWorkerLane line.old line.new }
     ensures taken { taken_by line.new ≡ taken_by line.old }
     ensures put { IsTrue result → PutOne (framed peer bytes) (put_by line.old) (put_by line.new) }
     ensures kept { IsFalse result → put_by line.new ≡ put_by line.old }
@@ -112,8 +112,8 @@ fn put_frame<C: Clock, N: Nonces>(
 }
 
 /// Takes the next outcome.
-fn await_outcome<C: Clock>(line: &mut Line, clock: &mut C) -> Option<Outcome>
-    ensures line { SameLine line.old line.new }
+fn await_outcome<C: Clock>(line: &mut WorkerLane, clock: &mut C) -> Option<Outcome>
+    ensures line { SameWorkerLane line.old line.new }
     ensures put { put_by line.new ≡ put_by line.old }
     ensures taken { MatchOption result (taken_by line.new ≡ taken_by line.old) (λ outcome. taken_by line.new ≡ taken_by line.old ++ outcome ∷ []) }
     ensures answers { IsTrue C.is_observed → C.answers clock.new ≡ C.answers clock.old }
@@ -130,13 +130,13 @@ fn await_outcome<C: Clock>(line: &mut Line, clock: &mut C) -> Option<Outcome>
 
 /// Puts the frame that came last. Whether the turns sufficed.
 fn submit<C: Clock, N: Nonces>(
-    line: &mut Line,
+    line: &mut WorkerLane,
     clock: &mut C,
     nonces: &mut N,
     peer: u16,
     octets: &[u8],
 ) -> bool
-    ensures line { SameLine line.old line.new }
+    ensures line { SameWorkerLane line.old line.new }
     ensures taken { taken_by line.new ≡ taken_by line.old }
     ensures put { IsTrue result → PutOne (framed peer octets.now) (put_by line.old) (put_by line.new) }
     ensures kept { IsFalse result → put_by line.new ≡ put_by line.old }
@@ -150,7 +150,7 @@ fn submit<C: Clock, N: Nonces>(
 
 /// Puts the datagram that came last where it is a frame, whose peer then waits for a reply behind the others. Whether the turns sufficed.
 fn take_in<C: Clock, N: Nonces>(
-    line: &mut Line,
+    line: &mut WorkerLane,
     peers: &mut ArrayVec<u16, UNDER_WAY_MAX>,
     clock: &mut C,
     nonces: &mut N,
@@ -158,7 +158,7 @@ fn take_in<C: Clock, N: Nonces>(
     octets: &[u8],
 ) -> bool
     requires room { length peers.old.items < UNDER_WAY_MAX }
-    ensures line { SameLine line.old line.new }
+    ensures line { SameWorkerLane line.old line.new }
     ensures taken { taken_by line.new ≡ taken_by line.old }
     ensures stamps { StampsUsed C.Clock N.Nonces (clock.old, nonces.old, put_by line.old) (clock.new, nonces.new, put_by line.new) }
     ensures took { IsTrue result → TakesIn (peer, octets.now) peers.old.items (put_by line.old) peers.new.items (put_by line.new) (taken_by line.new) }
@@ -179,7 +179,7 @@ fn take_in<C: Clock, N: Nonces>(
 /// Takes the next outcome, and sends its reply to the peer that waits longest. Whether the turns sufficed.
 fn reply_oldest<P: Packets, C: Clock>(
     packets: &mut P,
-    line: &mut Line,
+    line: &mut WorkerLane,
     peers: &mut ArrayVec<u16, UNDER_WAY_MAX>,
     clock: &mut C,
 ) -> bool
@@ -206,7 +206,7 @@ fn reply_oldest<P: Packets, C: Clock>(
 /// Sends the replies that are owed, each once its outcome is there. Whether the turns sufficed.
 fn reply_all<P: Packets, C: Clock>(
     packets: &mut P,
-    line: &mut Line,
+    line: &mut WorkerLane,
     peers: &mut ArrayVec<u16, UNDER_WAY_MAX>,
     clock: &mut C,
 ) -> bool
@@ -249,7 +249,7 @@ fn receive_next<P: Packets>(
 /// No datagram came: sends the oldest reply that is owed, or pauses where none is. Whether the turns sufficed.
 fn go_on<P: Packets, C: Clock>(
     packets: &mut P,
-    line: &mut Line,
+    line: &mut WorkerLane,
     peers: &mut ArrayVec<u16, UNDER_WAY_MAX>,
     clock: &mut C,
 ) -> bool
@@ -268,9 +268,9 @@ fn go_on<P: Packets, C: Clock>(
 }
 
 /// Puts Open and takes its outcome. Whether the turns sufficed.
-fn begin<C: Clock>(line: &mut Line, clock: &mut C) -> bool
+fn begin<C: Clock>(line: &mut WorkerLane, clock: &mut C) -> bool
     requires empty { (put_by line.old ≡ []) × (taken_by line.old ≡ []) }
-    ensures line { SameLine line.old line.new }
+    ensures line { SameWorkerLane line.old line.new }
     ensures traded { IsTrue result → (n : ℕ) → Traded [] [] n n (put_by line.new) (taken_by line.new) }
     ensures cut { IsFalse result → (n : ℕ) → Trades [] [] n n (put_by line.new) (taken_by line.new) }
     ensures moments { IsTrue C.is_observed → MomentsUsed (C.answers clock.old) (put_by line.old) (C.answers clock.new) (put_by line.new) }
@@ -291,13 +291,13 @@ fn begin<C: Clock>(line: &mut Line, clock: &mut C) -> bool
 /// One datagram after the other, of which some are under way.
 fn serve_packets<P: Packets, C: Clock, N: Nonces>(
     packets: &mut P,
-    line: &mut Line,
+    line: &mut WorkerLane,
     clock: &mut C,
     nonces: &mut N,
 ) -> EndReason
     requires empty { (put_by line.old ≡ []) × (taken_by line.old ≡ []) }
     requires first { IsTrue P.is_observed → (P.received packets.old ≡ []) × (P.sent packets.old ≡ []) }
-    ensures line { SameLine line.old line.new }
+    ensures line { SameWorkerLane line.old line.new }
     ensures stamps { StampsUsed C.Clock N.Nonces (clock.old, nonces.old, put_by line.old) (clock.new, nonces.new, put_by line.new) }
     ensures device { result ≡ Device → (P.fault_count packets.old < P.fault_count packets.new) ⊎ (P.fault_count packets.old ≡ 2 ^ 64 - 1) }
     ensures whole { IsTrue P.is_observed → result ≡ Device → Traded (P.received packets.new) (P.sent packets.new) (P.fault_count packets.old) (P.fault_count packets.new) (put_by line.new) (taken_by line.new) }
@@ -357,7 +357,7 @@ pub fn packet_worker<P: Packets, C: Clock, N: Nonces>(
     ensures trades { IsTrue P.is_observed → (events : List Item) × WithEnd events (all_put result.ended)
         × Trades (P.received packets.new) (P.sent packets.new) (P.fault_count packets.old) (P.fault_count packets.new) events (taken_from result.outlet) }
 {
-    let mut line = Line::new(alloc, side, turns);
+    let mut line = WorkerLane::new(alloc, side, turns);
     let reason = serve_packets(packets, &mut line, clock, nonces);
     finish(line, clock, reason)
 }

@@ -7,11 +7,11 @@ ghost use Rattle.hdl_workers.specs.declared.worker.Stop.TheVariants.{Broken};
 ghost use Rattle.hdl_workers.specs.Octets.{octets_of};
 ghost use Rattle.hdl_workers.specs.Door.{say};
 ghost use Rattle.hdl_workers.specs.Going.{GoesOn, StaysOpen};
-ghost use Rattle.hdl_workers.specs.Line.{put_by, taken_by, HasPlace, SameLine, Joins, Relayed, RelayedPart};
+ghost use Rattle.hdl_workers.specs.WorkerLane.{put_by, taken_by, HasPlace, SameWorkerLane, Joins, Relayed, RelayedPart};
 ghost use Rattle.hdl_workers.specs.Relaying.{Relays};
 
-use crate::line::Line;
 use crate::worker::{Stop, spend};
+use crate::worker_lane::WorkerLane;
 use crate::{Clock, Door};
 use arrayvec::ArrayVec;
 use hdl_events::Outcome;
@@ -63,8 +63,8 @@ fn write_outcome<D: Door>(door: &mut D, outcome: &Outcome, turns: &mut u64) -> R
 }
 
 /// Takes the outcomes that are there while their octets find room behind those that are joined. The one that found none.
-fn join_ready(line: &mut Line, joined: &mut ArrayVec<u8, JOINED>) -> Option<Outcome>
-    ensures line { SameLine line.old line.new }
+fn join_ready(line: &mut WorkerLane, joined: &mut ArrayVec<u8, JOINED>) -> Option<Outcome>
+    ensures line { SameWorkerLane line.old line.new }
     ensures put { put_by line.new ≡ put_by line.old }
     ensures joined { MatchOption result
         (Joins (taken_by line.old) joined.old.items (taken_by line.new) joined.new.items)
@@ -84,11 +84,11 @@ fn join_ready(line: &mut Line, joined: &mut ArrayVec<u8, JOINED>) -> Option<Outc
 
 /// As `join_ready`. Where outcomes are still owed then, it pauses once, and takes those that came meanwhile too.
 fn join<C: Clock>(
-    line: &mut Line,
+    line: &mut WorkerLane,
     clock: &mut C,
     joined: &mut ArrayVec<u8, JOINED>,
 ) -> Option<Outcome>
-    ensures line { SameLine line.old line.new }
+    ensures line { SameWorkerLane line.old line.new }
     ensures put { put_by line.new ≡ put_by line.old }
     ensures answers { IsTrue C.is_observed → C.answers clock.new ≡ C.answers clock.old }
     ensures joined { MatchOption result
@@ -107,7 +107,7 @@ fn join<C: Clock>(
 /// Writes an outcome that was taken, and in the same write those that come soon and find room in it.
 fn write_joined<D: Door, C: Clock>(
     door: &mut D,
-    line: &mut Line,
+    line: &mut WorkerLane,
     clock: &mut C,
     first: Outcome,
 ) -> Result<(), Stop>
@@ -133,7 +133,7 @@ fn write_joined<D: Door, C: Clock>(
 }
 
 /// One try to take an outcome, which is then written, and with it those that are there.
-fn relay<D: Door, C: Clock>(door: &mut D, line: &mut Line, clock: &mut C) -> Result<(), Stop>
+fn relay<D: Door, C: Clock>(door: &mut D, line: &mut WorkerLane, clock: &mut C) -> Result<(), Stop>
     ensures turns { OnOk result (line.new.turns < line.old.turns) }
     ensures relays { Relays D.Door door.old line.old result door.new line.new }
     ensures put { put_by line.new ≡ put_by line.old }
@@ -159,7 +159,7 @@ fn relay<D: Door, C: Clock>(door: &mut D, line: &mut Line, clock: &mut C) -> Res
 /// Waits until each event put has its outcome, and that was written.
 pub(crate) fn await_outcomes<D: Door, C: Clock>(
     door: &mut D,
-    line: &mut Line,
+    line: &mut WorkerLane,
     clock: &mut C,
 ) -> Result<(), Stop>
     ensures relays { Relays D.Door door.old line.old result door.new line.new }
@@ -176,7 +176,7 @@ pub(crate) fn await_outcomes<D: Door, C: Clock>(
 /// Waits until the ring has room. Meanwhile outcomes are taken and written.
 pub(crate) fn await_room<D: Door, C: Clock>(
     door: &mut D,
-    line: &mut Line,
+    line: &mut WorkerLane,
     clock: &mut C,
 ) -> Result<(), Stop>
     ensures turns { OnOk result (line.new.turns < line.old.turns) }

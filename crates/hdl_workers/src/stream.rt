@@ -12,16 +12,16 @@ ghost use Rattle.hdl_workers.specs.Door.{fresh, Gives};
 ghost use Rattle.hdl_workers.specs.Found.{Finds, fault_found};
 ghost use Rattle.hdl_workers.specs.Going.{GoesOn};
 ghost use Rattle.hdl_workers.specs.Joined.{EndsLane};
-ghost use Rattle.hdl_workers.specs.Line.{put_by, taken_by, SameLine};
+ghost use Rattle.hdl_workers.specs.WorkerLane.{put_by, taken_by, SameWorkerLane};
 ghost use Rattle.hdl_workers.specs.Relaying.{Relays};
 ghost use Rattle.hdl_workers.specs.Sign.{framed, moments_of, nonces_of, PutOne, WithEnd};
 ghost use Rattle.hdl_workers.specs.Stamps.{StampsUsed};
 ghost use Rattle.hdl_workers.specs.Talk.{fault_sign, FramesSoFar, Waiting, AllFrames, SomeFrames, AnyBeginning, Underway, CutOff, CanClose, History, Serves};
 
 use crate::intake::Intake;
-use crate::line::Line;
 use crate::relay::{await_outcomes, await_room};
 use crate::worker::{EndReason, Stop, WorkerEnd, finish, open, spend};
+use crate::worker_lane::WorkerLane;
 use crate::{Clock, Door, Nonces, WorkerSide};
 use hdl_events::Happening;
 use hdl_frame::{Cutter, FrameFault};
@@ -85,7 +85,7 @@ fn find(alloc: Global, cutter: &mut Cutter, turns: &mut u64) -> Result<Found, St
 #[tactic(auto, using(crate::proofs::Used::used_rules))]
 fn submit_frame<D: Door, C: Clock, N: Nonces>(
     door: &mut D,
-    line: &mut Line,
+    line: &mut WorkerLane,
     clock: &mut C,
     nonces: &mut N,
     bytes: Octets,
@@ -111,7 +111,7 @@ fn submit_frame<D: Door, C: Clock, N: Nonces>(
 /// Puts the fault that stands next.
 fn submit_fault<D: Door, C: Clock>(
     door: &mut D,
-    line: &mut Line,
+    line: &mut WorkerLane,
     clock: &mut C,
     session: u32,
     request: u32,
@@ -131,7 +131,7 @@ fn submit_fault<D: Door, C: Clock>(
 #[tactic(auto, using(crate::proofs::Used::used_rules))]
 fn submit_frames<D: Door, C: Clock, N: Nonces>(
     door: &mut D,
-    line: &mut Line,
+    line: &mut WorkerLane,
     clock: &mut C,
     nonces: &mut N,
     cutter: &mut Cutter,
@@ -163,7 +163,7 @@ fn submit_frames<D: Door, C: Clock, N: Nonces>(
 #[tactic(auto, using(crate::proofs::Used::used_rules))]
 fn converse<D: Door, C: Clock, N: Nonces>(
     door: &mut D,
-    line: &mut Line,
+    line: &mut WorkerLane,
     clock: &mut C,
     nonces: &mut N,
 ) -> Result<(), Stop>
@@ -192,7 +192,7 @@ fn converse<D: Door, C: Clock, N: Nonces>(
 #[tactic(auto, using(crate::proofs::Used::used_rules))]
 fn converse_to_end<D: Door, C: Clock, N: Nonces>(
     door: &mut D,
-    line: &mut Line,
+    line: &mut WorkerLane,
     clock: &mut C,
     nonces: &mut N,
 ) -> bool
@@ -210,8 +210,8 @@ fn converse_to_end<D: Door, C: Clock, N: Nonces>(
 }
 
 /// Puts Close. Outcomes that are taken meanwhile go nowhere.
-fn put_close<C: Clock>(line: &mut Line, clock: &mut C) -> bool
-    ensures line { SameLine line.old line.new }
+fn put_close<C: Clock>(line: &mut WorkerLane, clock: &mut C) -> bool
+    ensures line { SameWorkerLane line.old line.new }
     ensures taken { (more : List Outcome) × (taken_by line.new ≡ taken_by line.old ++ more) }
     ensures put { IsTrue result → put_by line.new ≡ put_by line.old ++ Event Close ∷ [] }
     ensures kept { IsFalse result → put_by line.new ≡ put_by line.old }
@@ -232,8 +232,8 @@ fn put_close<C: Clock>(line: &mut Line, clock: &mut C) -> bool
 }
 
 /// Takes the outcomes that are left, which go nowhere.
-fn drop_outcomes<C: Clock>(line: &mut Line, clock: &mut C) -> bool
-    ensures line { SameLine line.old line.new }
+fn drop_outcomes<C: Clock>(line: &mut WorkerLane, clock: &mut C) -> bool
+    ensures line { SameWorkerLane line.old line.new }
     ensures taken { (more : List Outcome) × (taken_by line.new ≡ taken_by line.old ++ more) }
     ensures put { put_by line.new ≡ put_by line.old }
     ensures answers { IsTrue C.is_observed → C.answers clock.new ≡ C.answers clock.old }
@@ -256,7 +256,7 @@ fn drop_outcomes<C: Clock>(line: &mut Line, clock: &mut C) -> bool
 #[tactic(auto, using(crate::proofs::Used::used_rules))]
 fn serve_connection<D: Door, C: Clock, N: Nonces>(
     door: &mut D,
-    line: &mut Line,
+    line: &mut WorkerLane,
     clock: &mut C,
     nonces: &mut N,
 ) -> bool
@@ -265,7 +265,7 @@ fn serve_connection<D: Door, C: Clock, N: Nonces>(
     requires history { IsTrue D.is_observed → History (D.ended door.old) (put_by line.old) (taken_by line.old) }
     requires settled { length (taken_by line.old) ≡ length (put_by line.old) }
     ensures faults { D.fault_count door.old ≤ D.fault_count door.new }
-    ensures line { SameLine line.old line.new }
+    ensures line { SameWorkerLane line.old line.new }
     ensures stamps { StampsUsed C.Clock N.Nonces (clock.old, nonces.old, put_by line.old) (clock.new, nonces.new, put_by line.new) }
     ensures settled { IsTrue result → length (taken_by line.new) ≡ length (put_by line.new) }
     ensures history { IsTrue D.is_observed → IsTrue result → History (D.ended door.new) (put_by line.new) (taken_by line.new) }
@@ -294,13 +294,13 @@ fn serve_connection<D: Door, C: Clock, N: Nonces>(
 #[tactic(auto, using(crate::proofs::Used::used_rules))]
 fn serve_door<D: Door, C: Clock, N: Nonces>(
     door: &mut D,
-    line: &mut Line,
+    line: &mut WorkerLane,
     clock: &mut C,
     nonces: &mut N,
 ) -> EndReason
     requires history { IsTrue D.is_observed → History (D.ended door.old) (put_by line.old) (taken_by line.old) }
     requires settled { length (taken_by line.old) ≡ length (put_by line.old) }
-    ensures line { SameLine line.old line.new }
+    ensures line { SameWorkerLane line.old line.new }
     ensures stamps { StampsUsed C.Clock N.Nonces (clock.old, nonces.old, put_by line.old) (clock.new, nonces.new, put_by line.new) }
     ensures device { result ≡ Device → (D.fault_count door.old < D.fault_count door.new) ⊎ (D.fault_count door.old ≡ 2 ^ 64 - 1) }
     ensures whole { IsTrue D.is_observed → result ≡ Device → History (D.ended door.new) (put_by line.new) (taken_by line.new) }
@@ -344,7 +344,7 @@ pub fn stream_worker<D: Door, C: Clock, N: Nonces>(
     ensures whole { IsTrue D.is_observed → result.reason ≡ Device → (events : List Item) × WithEnd events (all_put result.ended) × History (D.ended door.new) events (taken_from result.outlet) }
     ensures serves { IsTrue D.is_observed → (events : List Item) × WithEnd events (all_put result.ended) × Serves (D.ended door.new) (D.current door.new) events (taken_from result.outlet) }
 {
-    let mut line = Line::new(alloc, side, turns);
+    let mut line = WorkerLane::new(alloc, side, turns);
     let reason = serve_door(door, &mut line, clock, nonces);
     finish(line, clock, reason)
 }

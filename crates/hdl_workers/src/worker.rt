@@ -6,9 +6,9 @@ ghost use Rattle.hdl_events.specs.declared.Happening.TheVariants.{Open};
 ghost use Rattle.hdl_lanes.specs.Lane.{put_into, all_put, SameInlet};
 ghost use Rattle.hdl_workers.specs.Joined.{EndsLane};
 ghost use Rattle.hdl_workers.specs.Sign.{WithEnd};
-ghost use Rattle.hdl_workers.specs.Line.{put_by, taken_by, SameLine};
+ghost use Rattle.hdl_workers.specs.WorkerLane.{put_by, taken_by, SameWorkerLane};
 
-use crate::line::Line;
+use crate::worker_lane::WorkerLane;
 use crate::{Clock, Item};
 use hdl_events::{Happening, Outcome};
 use hdl_lanes::{Ended, Inlet, Outlet};
@@ -50,8 +50,8 @@ pub(crate) fn spend(turns: &mut u64) -> bool
 }
 
 /// Puts Open, when no outcome is waited for.
-pub(crate) fn open<C: Clock>(line: &mut Line, clock: &mut C) -> bool
-    ensures line { SameLine line.old line.new }
+pub(crate) fn open<C: Clock>(line: &mut WorkerLane, clock: &mut C) -> bool
+    ensures line { SameWorkerLane line.old line.new }
     ensures taken { taken_by line.new ≡ taken_by line.old }
     ensures put { IsTrue result → put_by line.new ≡ put_by line.old ++ Event Open ∷ [] }
     ensures kept { IsFalse result → put_by line.new ≡ put_by line.old }
@@ -83,14 +83,14 @@ pub(crate) fn put_end<C: Clock>(inlet: &mut Inlet<Item>, clock: &mut C, turns: &
 }
 
 /// Puts End where the device ended the worker, and gives the ends of its lane.
-pub(crate) fn finish<C: Clock>(line: Line, clock: &mut C, reason: EndReason) -> WorkerEnd
+pub(crate) fn finish<C: Clock>(line: WorkerLane, clock: &mut C, reason: EndReason) -> WorkerEnd
     ensures reason { result.reason ≡ reason }
     ensures inlet { EndsLane line.inlet result.ended }
     ensures outlet { result.outlet ≡ line.outcomes }
     ensures put { WithEnd (put_by line) (all_put result.ended) }
     ensures answers { IsTrue C.is_observed → C.answers clock.new ≡ C.answers clock.old }
 {
-    let Line {
+    let WorkerLane {
         mut inlet,
         outcomes,
         waiting: _,

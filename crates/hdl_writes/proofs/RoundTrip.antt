@@ -28,7 +28,7 @@ use Rattle.hdl_value.specs.Refs.{is_admin, is_list, admin_in, list_in, admin_rea
 use Rattle.hdl_value.specs.Permission.{bits}
 use Rattle.hdl_value.proofs.DataRead.{admin_in_is, list_in_is}
 use Rattle.hdl_lines.specs.Fields.{permissions_in}
-use Rattle.hdl_lines.specs.Lines.{unstamped}
+use Rattle.hdl_lines.specs.Lines.{without_stamp}
 use Rattle.hdl_lines.proofs.Readings.{either, mask_again, permissions_again}
 use Rattle.hdl_lines.proofs.RoundTrip.{if_some, ttl_again, ttl_number}
 use Rattle.hdl_proxy.specs.declared.words.KeptFor.TheVariants.{Seconds}
@@ -37,14 +37,14 @@ use Rattle.hdl_proxy.specs.Words.{text_of, value_digits, usual_permissions, ttl_
 use Rattle.hdl_writes.specs.declared.data.Format.TheVariants as format
 use Rattle.hdl_writes.specs.declared.fault.EntryFault.TheVariants as fault
 use Rattle.hdl_writes.specs.Data.{◌>>>◌, format_named, reference_in, admin_parts, references_from, each, spelt_list, data_by, data_fault, formatted_in, data_in}
-use Rattle.hdl_writes.specs.Entry.{first_fault, sound, data_told, fields_told, value_told}
-use Rattle.hdl_writes.specs.Fields.{number_told, number_of, text_of as text_in, ttl_told, permissions_told}
+use Rattle.hdl_writes.specs.Entry.{first_fault, sound, data_in_json, fields_in_json, value_in_json}
+use Rattle.hdl_writes.specs.Fields.{number_in_json, number_of, text_of as text_in, ttl_in_json, permissions_in_json}
 use Rattle.hdl_writes.specs.Laws.{CanBeTold}
 use Rattle.hdl_writes.proofs.Items.{each_items_of}
 
 -- ---- numbers
 
-number_again : (n : ℕ) → n < 2 ^ 32 → number_told (number (unsigned n)) ≡ Some n
+number_again : (n : ℕ) → n < 2 ^ 32 → number_in_json (number (unsigned n)) ≡ Some n
 number_again n lt = rw (lt-ltb n (2 ^ 32) lt) refl
 
 digits_same : (n : ℕ) → n < 2 ^ 4 → permissions_in (value_digits n) ≡ Some n
@@ -99,18 +99,18 @@ octets_again : (kind octets : List ℕ) → AreOctets octets → data_in (octets
 octets_again kind octets fits =
     cond_both (is_text kind) (text_json octets) (base64_json octets) (λ d. data_in d ≡ Ok octets) (λ _. text_again octets fits) (λ _. base64_again octets fits)
 
-list_told : (v : Value) → Fits v → (o : Option (List RawRef)) → list_read v ≡ o → data_in (unwrap_or (option_map list_json o) (octets_json v.kind v.bytes)) ≡ Ok v.bytes
-list_told v fits None e = octets_again v.kind v.bytes fits.bytes.each
-list_told v fits (Some rs) e = list_again rs v.bytes (list_in_is v.bytes rs fits.bytes.each (if_some (is_list v) (list_in v.bytes) rs e))
+list_data_again : (v : Value) → Fits v → (o : Option (List RawRef)) → list_read v ≡ o → data_in (unwrap_or (option_map list_json o) (octets_json v.kind v.bytes)) ≡ Ok v.bytes
+list_data_again v fits None e = octets_again v.kind v.bytes fits.bytes.each
+list_data_again v fits (Some rs) e = list_again rs v.bytes (list_in_is v.bytes rs fits.bytes.each (if_some (is_list v) (list_in v.bytes) rs e))
 
-admin_told : (v : Value) → Fits v → (o : Option (ℕ × RawRef)) → admin_read v ≡ o → IfSome o (λ x. x.0 < 2 ^ 12)
+admin_data_again : (v : Value) → Fits v → (o : Option (ℕ × RawRef)) → admin_read v ≡ o → IfSome o (λ x. x.0 < 2 ^ 12)
     → data_in (unwrap_or (option_map admin_json o) (unwrap_or (option_map list_json (list_read v)) (octets_json v.kind v.bytes))) ≡ Ok v.bytes
-admin_told v fits None e small = list_told v fits (list_read v) refl
-admin_told v fits (Some x) e small = admin_again x.0 x.1 v.bytes (admin_in_is v.bytes x.0 x.1 fits.bytes.each (if_some (is_admin v) (admin_in v.bytes) x e)) small
+admin_data_again v fits None e small = list_data_again v fits (list_read v) refl
+admin_data_again v fits (Some x) e small = admin_again x.0 x.1 v.bytes (admin_in_is v.bytes x.0 x.1 fits.bytes.each (if_some (is_admin v) (admin_in v.bytes) x e)) small
 
 data_again : (v : Value) → CanBeTold v → data_in (data_json v) ≡ Ok v.bytes
 unfolding data_json
-data_again v h = admin_told v h.fits (admin_read v) refl h.mask
+data_again v h = admin_data_again v h.fits (admin_read v) refl h.mask
 
 -- ---- members
 
@@ -136,12 +136,12 @@ past q v ms other =
     (λ _. refl) (λ _. get_member-put_other q (codes "permissions") digits ms other)
 
 permissions_kept : (v : Value) (written : Option (List ℕ)) → v.permissions < 2 ^ 4
-    → permissions_told v.kind (get_member (codes "permissions") (put_permissions v (timed v written))) ≡ Some v.permissions
+    → permissions_in_json v.kind (get_member (codes "permissions") (put_permissions v (timed v written))) ≡ Some v.permissions
 permissions_kept v written small =
     let digits = string (value_digits v.permissions) in
-    cond_both (v.permissions == usual_permissions v.kind) (timed v written) (put (codes "permissions") digits (timed v written)) (λ m. permissions_told v.kind (get_member (codes "permissions") m) ≡ Some v.permissions)
-    (λ e. ap (permissions_told v.kind) (past_written (codes "permissions") v written (λ q. absurd cc)) ∙ ap Some (sym (eqb-true v.permissions (usual_permissions v.kind) e)))
-    (λ _. ap (permissions_told v.kind) (get_member-put (codes "permissions") digits (timed v written)) ∙ digits_same v.permissions small)
+    cond_both (v.permissions == usual_permissions v.kind) (timed v written) (put (codes "permissions") digits (timed v written)) (λ m. permissions_in_json v.kind (get_member (codes "permissions") m) ≡ Some v.permissions)
+    (λ e. ap (permissions_in_json v.kind) (past_written (codes "permissions") v written (λ q. absurd cc)) ∙ ap Some (sym (eqb-true v.permissions (usual_permissions v.kind) e)))
+    (λ _. ap (permissions_in_json v.kind) (get_member-put (codes "permissions") digits (timed v written)) ∙ digits_same v.permissions small)
 
 index_kept : (v : Value) (written : Option (List ℕ)) → get_member (codes "index") (put_permissions v (timed v written)) ≡ Some (number (unsigned v.index))
 index_kept v written = past (codes "index") v (timed v written) (λ e. absurd cc) ∙ past_written (codes "index") v written (λ e. absurd cc)
@@ -157,7 +157,7 @@ ttl_kept v written = past (codes "ttl") v (timed v written) (λ e. absurd cc) �
 
 -- ---- the value
 
-value_made : (v : Value) → CanBeTold v → record { index = v.index; kind = v.kind; bytes = v.bytes; ttl = 0 ∷ to_be_bytes w32 (ttl_seconds v); permissions = v.permissions; timestamp = 0; references = [] } ≡ unstamped v
+value_made : (v : Value) → CanBeTold v → record { index = v.index; kind = v.kind; bytes = v.bytes; ttl = 0 ∷ to_be_bytes w32 (ttl_seconds v); permissions = v.permissions; timestamp = 0; references = [] } ≡ without_stamp v
 value_made v h =
     let ttl = ttl_again v.ttl h.fits.ttl h.fits.ttl_octets h.how in
     let refs = sym h.references in
@@ -165,30 +165,30 @@ value_made v h =
 
 -- what five members say
 fields_from : (d : Data) (index ttl permissions : ℕ) (kind bytes : List ℕ) → number_of (codes "index") d ≡ Some index → text_in (codes "type") d ≡ Some kind
-    → data_told (get (codes "data") d) ≡ Ok bytes → ttl_told (get (codes "ttl") d) ≡ Some ttl → permissions_told kind (get (codes "permissions") d) ≡ Some permissions
-    → fields_told d ≡ Ok (record { index = index; kind = kind; bytes = bytes; ttl = 0 ∷ to_be_bytes w32 ttl; permissions = permissions; timestamp = 0; references = [] })
-unfolding fields_told
+    → data_in_json (get (codes "data") d) ≡ Ok bytes → ttl_in_json (get (codes "ttl") d) ≡ Some ttl → permissions_in_json kind (get (codes "permissions") d) ≡ Some permissions
+    → fields_in_json d ≡ Ok (record { index = index; kind = kind; bytes = bytes; ttl = 0 ∷ to_be_bytes w32 ttl; permissions = permissions; timestamp = 0; references = [] })
+unfolding fields_in_json
 fields_from d index ttl permissions kind bytes i k b t p = rw i (rw k (rw b (rw t (rw p refl))))
 
 kind_text : (v : Value) → CanBeTold v → as_str (string (text_of v.kind)) ≡ Some v.kind
 kind_text v h = ap Some (cond-true (is_utf8 v.kind) v.kind (encode_lower v.kind) h.kind)
 
-fields_again : (v : Value) (written : Option (List ℕ)) → CanBeTold v → fields_told (value_json v (Seconds (ttl_seconds v)) written) ≡ Ok (unstamped v)
+fields_again : (v : Value) (written : Option (List ℕ)) → CanBeTold v → fields_in_json (value_json v (Seconds (ttl_seconds v)) written) ≡ Ok (without_stamp v)
 unfolding value_json
 fields_again v written h =
     let d = object (put_permissions v (timed v written)) in
     fields_from d v.index (ttl_seconds v) v.permissions v.kind v.bytes
-    (ap (λ (o : Option Data). o >>= number_told) (index_kept v written) ∙ number_again v.index h.fits.index)
+    (ap (λ (o : Option Data). o >>= number_in_json) (index_kept v written) ∙ number_again v.index h.fits.index)
     (ap (λ (o : Option Data). o >>= as_str) (type_kept v written) ∙ kind_text v h)
-    (ap data_told (data_kept v written) ∙ data_again v h)
-    (ap ttl_told (ttl_kept v written) ∙ number_again (ttl_seconds v) (ttl_number v h.fits))
+    (ap data_in_json (data_kept v written) ∙ data_again v h)
+    (ap ttl_in_json (ttl_kept v written) ∙ number_again (ttl_seconds v) (ttl_number v h.fits))
     (permissions_kept v written h.permissions)
     ∙ ap Ok (value_made v h)
 
-unstamped_sound : (v : Value) → first_fault v ≡ None → first_fault (unstamped v) ≡ None
+unstamped_sound : (v : Value) → first_fault v ≡ None → first_fault (without_stamp v) ≡ None
 unfolding first_fault
 unstamped_sound v h = h
 
-pub written_is_read_lem : (v : Value) (written : Option (List ℕ)) → CanBeTold v → value_told (value_json v (Seconds (ttl_seconds v)) written) ≡ Ok (unstamped v)
-unfolding value_told
+pub written_is_read_lem : (v : Value) (written : Option (List ℕ)) → CanBeTold v → value_in_json (value_json v (Seconds (ttl_seconds v)) written) ≡ Ok (without_stamp v)
+unfolding value_in_json
 written_is_read_lem v written h = rw (fields_again v written h) (rw (unstamped_sound v h.sound) refl)

@@ -37,8 +37,8 @@ key_by user secret =
     Ok (record { handle = u.handle; index = u.index; secret = s }))
 
 -- the key of user, colon and secret
-unfoldable pub key_told : List ℕ → Result Key KeyFault
-key_told text = ok_or (cut_at colon text) fault.Base64 >>> λ x. key_by x.0 x.1
+unfoldable pub key_in_text : List ℕ → Result Key KeyFault
+key_in_text text = ok_or (cut_at colon text) fault.Base64 >>> λ x. key_by x.0 x.1
 
 abbrev pub decode : List ℕ → Option (List ℕ)
 decode text = result_ok (base64_of standard text)
@@ -48,7 +48,7 @@ unfoldable pub key_in : Option (List ℕ) → Result Key KeyFault
 key_in field =
     ok_or field fault.Missing >>> λ octets.
     (ok_or (basic_in octets) fault.Scheme >>> λ text.
-    (ok_or (decode text) fault.Base64 >>> λ told. key_told told))
+    (ok_or (decode text) fault.Base64 >>> λ told. key_in_text told))
 
 -- why there is no key: there was no memory, or what is wrong
 abbrev pub IsKeyFault : Result Key KeyFault → KeyFault → Type 0

@@ -11,7 +11,7 @@ use Rattle.hdl_value.specs.Refs.{is_admin, is_list, admin_read, list_read}
 use Rattle.hdl_writes.specs.declared.fault.EntryFault.{EntryFault}
 use Rattle.hdl_writes.specs.declared.fault.EntryFault.TheVariants as fault
 use Rattle.hdl_writes.specs.Data.{◌>>>◌, data_in}
-use Rattle.hdl_writes.specs.Fields.{number_of, text_of, ttl_told, permissions_told}
+use Rattle.hdl_writes.specs.Fields.{number_of, text_of, ttl_in_json, permissions_in_json}
 
 -- the first fault of a value without references; `first_faults` says that it is `hdl_value`'s
 unfoldable pub first_fault : Value → Option ValueFault
@@ -28,20 +28,20 @@ sound v None = Ok v
 sound v (Some f) = Err (fault.Value f)
 
 -- the data, which has to be there
-abbrev pub data_told : Option Data → Result (List ℕ) EntryFault
-data_told None = Err fault.Data
-data_told (Some d) = data_in d
+abbrev pub data_in_json : Option Data → Result (List ℕ) EntryFault
+data_in_json None = Err fault.Data
+data_in_json (Some d) = data_in d
 
 -- the value that the members say, sound or not: its timestamp is none, and it has no references
-unfoldable pub fields_told : Data → Result Value EntryFault
-fields_told d =
+unfoldable pub fields_in_json : Data → Result Value EntryFault
+fields_in_json d =
     ok_or (number_of (codes "index") d) fault.Index >>> λ index.
     (ok_or (text_of (codes "type") d) fault.Type >>> λ kind.
-    (data_told (get (codes "data") d) >>> λ bytes.
-    (ok_or (ttl_told (get (codes "ttl") d)) fault.Ttl >>> λ ttl.
-    (ok_or (permissions_told kind (get (codes "permissions") d)) fault.Permissions >>> λ permissions.
+    (data_in_json (get (codes "data") d) >>> λ bytes.
+    (ok_or (ttl_in_json (get (codes "ttl") d)) fault.Ttl >>> λ ttl.
+    (ok_or (permissions_in_json kind (get (codes "permissions") d)) fault.Permissions >>> λ permissions.
     Ok (record { index = index; kind = kind; bytes = bytes; ttl = 0 ∷ to_be_bytes w32 ttl; permissions = permissions; timestamp = 0; references = [] })))))
 
 -- the value that is meant
-unfoldable pub value_told : Data → Result Value EntryFault
-value_told d = fields_told d >>> λ v. sound v (first_fault v)
+unfoldable pub value_in_json : Data → Result Value EntryFault
+value_in_json d = fields_in_json d >>> λ v. sound v (first_fault v)

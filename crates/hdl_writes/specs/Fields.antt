@@ -12,12 +12,12 @@ abbrev pub small : ℕ → Option ℕ
 small n = if nat_lt n (2 ^ 32) then Some n else None
 
 -- the number that is meant: a number, or the text of its decimal digits without a leading zero
-abbrev pub number_told : Data → Option ℕ
-number_told d = if is_some (as_number d >>= as_u64) then (as_number d >>= as_u64 >>= small) else (as_str d >>= decimal_in)
+abbrev pub number_in_json : Data → Option ℕ
+number_in_json d = if is_some (as_number d >>= as_u64) then (as_number d >>= as_u64 >>= small) else (as_str d >>= decimal_in)
 
 -- a member that is a number
 abbrev pub number_of : List ℕ → Data → Option ℕ
-number_of key d = get key d >>= number_told
+number_of key d = get key d >>= number_in_json
 
 -- a member that is text
 abbrev pub text_of : List ℕ → Data → Option (List ℕ)
@@ -27,11 +27,11 @@ text_of key d = get key d >>= as_str
 abbrev pub day : ℕ
 day = 86400
 
-abbrev pub ttl_told : Option Data → Option ℕ
-ttl_told None = Some day
-ttl_told (Some d) = number_told d
+abbrev pub ttl_in_json : Option Data → Option ℕ
+ttl_in_json None = Some day
+ttl_in_json (Some d) = number_in_json d
 
 -- four digits, and where none are said the usual permissions of the type
-abbrev pub permissions_told : List ℕ → Option Data → Option ℕ
-permissions_told kind None = Some (usual_permissions kind)
-permissions_told kind (Some d) = as_str d >>= digits_in
+abbrev pub permissions_in_json : List ℕ → Option Data → Option ℕ
+permissions_in_json kind None = Some (usual_permissions kind)
+permissions_in_json kind (Some d) = as_str d >>= digits_in

@@ -5,11 +5,11 @@ use Rattle.std.specs.Str.{is_utf8}
 use Rattle.hdl_value.specs.declared.value.Value.{Value}
 use Rattle.hdl_value.specs.Spelling.{Fits}
 use Rattle.hdl_value.specs.Refs.{admin_read}
-use Rattle.hdl_lines.specs.Lines.{unstamped}
+use Rattle.hdl_lines.specs.Lines.{without_stamp}
 use Rattle.hdl_proxy.specs.declared.words.KeptFor.TheVariants.{Seconds}
 use Rattle.hdl_proxy.specs.Json.{value_json}
 use Rattle.hdl_proxy.specs.Words.{ttl_seconds}
-use Rattle.hdl_writes.specs.Entry.{first_fault, value_told}
+use Rattle.hdl_writes.specs.Entry.{first_fault, value_in_json}
 use Rattle.hdl_writes.specs.Plan.{is_among, known_values, fresh, missing_indexes}
 use Rattle.hdl_writes.specs.Record.{has_index}
 
@@ -26,7 +26,7 @@ pub record CanBeTold (v : Value) : Type 0 where
 -- the JSON of such a value is read as it, but for its timestamp
 abbrev pub WrittenIsRead : Type 0
 WrittenIsRead =
-    (v : Value) (written : Option (List ℕ)) → CanBeTold v → value_told (value_json v (Seconds (ttl_seconds v)) written) ≡ Ok (unstamped v)
+    (v : Value) (written : Option (List ℕ)) → CanBeTold v → value_in_json (value_json v (Seconds (ttl_seconds v)) written) ≡ Ok (without_stamp v)
 
 -- A change loses nothing: each given value is written once, what is there by a modification and what isn't by an addition, and what is
 -- removed at the end was not given.

@@ -5,4 +5,4 @@ pub mod Entry
 pub mod Laws
 pub mod Plan
 pub mod Record
-pub mod Told
+pub mod ChangeAnswers

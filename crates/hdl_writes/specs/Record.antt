@@ -12,7 +12,7 @@ use Rattle.hdl_writes.specs.declared.fault.EntryFault.{EntryFault}
 use Rattle.hdl_writes.specs.declared.fault.RecordFault.{RecordFault}
 use Rattle.hdl_writes.specs.declared.fault.RecordFault.TheVariants as fault
 use Rattle.hdl_writes.specs.Data.{◌>>>◌, each}
-use Rattle.hdl_writes.specs.Entry.{value_told}
+use Rattle.hdl_writes.specs.Entry.{value_in_json}
 
 -- why nothing is read: there was no memory, or what is wrong
 abbrev pub IsRecordFault : {A : Type 0} → Result A RecordFault → RecordFault → Type 0
@@ -27,7 +27,7 @@ value_in_record place (Err e) = Err (fault.Entry place e)
 abbrev pub values_from : ℕ → List Data → Result (List Value) RecordFault
 values_from place [] = Ok []
 values_from place (d ∷ ds) =
-    value_in_record place (value_told d) >>> λ v. (values_from (place + 1) ds >>> λ vs. Ok (v ∷ vs))
+    value_in_record place (value_in_json d) >>> λ v. (values_from (place + 1) ds >>> λ vs. Ok (v ∷ vs))
 
 -- one of these has this index
 abbrev pub has_index : ℕ → List Value → Bool
@@ -43,8 +43,8 @@ distinct_at None vs = Ok vs
 distinct_at (Some place) vs = Err (fault.Twice place)
 
 -- these values, of which there is one, and not too many
-unfoldable pub entries_told : List Data → Result (List Value) RecordFault
-entries_told ds =
+unfoldable pub entries_in_json : List Data → Result (List Value) RecordFault
+entries_in_json ds =
     if length ds == 0 then Err fault.Empty
     else if nat_lt WRITTEN_MAX (length ds) then Err fault.Many
     else (values_from 1 ds >>> λ vs. distinct_at (twice_from 1 vs) vs)
@@ -58,23 +58,23 @@ abbrev pub is_single : Data → Bool
 is_single d = is_some (as_object d) && not (is_some (get (codes "values") d))
 
 abbrev pub record_by : Option Items → Data → Result (List Value) RecordFault
-record_by (Some ds) d = entries_told (each ds)
-record_by None d = if is_single d then entries_told (d ∷ []) else Err fault.Shape
+record_by (Some ds) d = entries_in_json (each ds)
+record_by None d = if is_single d then entries_in_json (d ∷ []) else Err fault.Shape
 
-unfoldable pub record_told : Data → Result (List Value) RecordFault
-record_told d = record_by (listed_in d) d
+unfoldable pub record_in_json : Data → Result (List Value) RecordFault
+record_in_json d = record_by (listed_in d) d
 
 -- the JSON that a body is, in UTF-8
 abbrev pub text_in : List ℕ → Option (List ℕ)
 text_in body = if is_utf8 body then Some body else None
 
-abbrev pub body_told : List ℕ → Option Data
-body_told body = text_in body >>= read
+abbrev pub json_in_body : List ℕ → Option Data
+json_in_body body = text_in body >>= read
 
 abbrev pub record_of : Option Data → Result (List Value) RecordFault
 record_of None = Err fault.Json
-record_of (Some d) = record_told d
+record_of (Some d) = record_in_json d
 
 -- the record that a body means
 unfoldable pub record_in : List ℕ → Result (List Value) RecordFault
-record_in body = record_of (body_told body)
+record_in body = record_of (json_in_body body)

@@ -1,12 +1,12 @@
 //! An order that is carried out.
 
+use crate::change_answers::{change_words, failure, status_of_change, success};
 use crate::fault::RecordFault;
 use crate::listing::list_answer;
 use crate::order::{Act, Order, Way};
 use crate::plan::{is_among, merging, replacing};
 use crate::record::read_record;
-use crate::service::Service;
-use crate::told::{change_words, failure, status_of_change, success};
+use crate::service::ChangeServer;
 use hdl_client::Reply;
 use hdl_limits::{Items, MESSAGE_MAX, Octets, WRITTEN_MAX};
 use hdl_msg::{ContentView, ReplyView, RequestBody, ResponseCode, Values, request_len};
@@ -95,7 +95,7 @@ fn is_short(body: &RequestBody) -> bool {
 }
 
 /// The reply to a request, whatever its code is.
-pub(crate) fn reply_to<S: Service>(
+pub(crate) fn reply_to<S: ChangeServer>(
     service: &mut S,
     order: &Order,
     body: &RequestBody,
@@ -107,7 +107,11 @@ pub(crate) fn reply_to<S: Service>(
 }
 
 /// Asks for a change. It is done where the reply says so.
-fn make_change<S: Service>(service: &mut S, order: &Order, body: &RequestBody) -> Result<(), Stop> {
+fn make_change<S: ChangeServer>(
+    service: &mut S,
+    order: &Order,
+    body: &RequestBody,
+) -> Result<(), Stop> {
     let reply = reply_to(service, order, body)?;
     let view = reply.view();
     if view.code() == Some(ResponseCode::Success) {
@@ -118,7 +122,7 @@ fn make_change<S: Service>(service: &mut S, order: &Order, body: &RequestBody) -
 }
 
 /// One request, and what is answered to it.
-fn carry_one<S: Service>(
+fn carry_one<S: ChangeServer>(
     alloc: Global,
     service: &mut S,
     order: &Order,
@@ -132,7 +136,7 @@ fn carry_one<S: Service>(
 }
 
 /// Requests one after the other, until one isn't done: how many were done, and why the next one wasn't.
-fn steps_done<S: Service>(
+fn steps_done<S: ChangeServer>(
     service: &mut S,
     order: &Order,
     steps: &[RequestBody],
@@ -148,7 +152,7 @@ fn steps_done<S: Service>(
     (steps.len(), None)
 }
 
-fn carry_steps<S: Service>(
+fn carry_steps<S: ChangeServer>(
     alloc: Global,
     service: &mut S,
     order: &Order,
@@ -176,7 +180,7 @@ fn indexes_in(alloc: Global, mut values: Values<'_>) -> Result<Vec<u32>, Stop> {
 }
 
 /// The indexes that a reply to the reading of this handle tells.
-fn indexes_told(alloc: Global, handle: &[u8], reply: &ReplyView<'_>) -> Result<Vec<u32>, Stop> {
+fn indexes_in_reply(alloc: Global, handle: &[u8], reply: &ReplyView<'_>) -> Result<Vec<u32>, Stop> {
     match reply.content {
         ContentView::Values {
             handle: answered,
@@ -189,7 +193,7 @@ fn indexes_told(alloc: Global, handle: &[u8], reply: &ReplyView<'_>) -> Result<V
 }
 
 /// Of these indexes, or of all, those that are there and that the key may read.
-fn indexes_there<S: Service>(
+fn indexes_there<S: ChangeServer>(
     alloc: Global,
     service: &mut S,
     order: &Order,
@@ -201,7 +205,7 @@ fn indexes_there<S: Service>(
         types: Items::new(Vec::new(alloc)),
     };
     let reply = reply_to(service, order, &body)?;
-    indexes_told(alloc, order.name.sent(), &reply.view())
+    indexes_in_reply(alloc, order.name.sent(), &reply.view())
 }
 
 fn indexes_of(alloc: Global, values: &[Value]) -> Result<Vec<u32>, AllocError> {
@@ -220,7 +224,7 @@ fn copies(alloc: Global, values: &[Value]) -> Result<Items<Value>, AllocError> {
     Ok(Items::new(all))
 }
 
-fn create<S: Service>(
+fn create<S: ChangeServer>(
     alloc: Global,
     service: &mut S,
     order: &Order,
@@ -233,7 +237,7 @@ fn create<S: Service>(
     carry_one(alloc, service, order, &body, Status::Created)
 }
 
-fn add<S: Service>(
+fn add<S: ChangeServer>(
     alloc: Global,
     service: &mut S,
     order: &Order,
@@ -246,7 +250,7 @@ fn add<S: Service>(
     carry_one(alloc, service, order, &body, Status::Success)
 }
 
-fn merge<S: Service>(
+fn merge<S: ChangeServer>(
     alloc: Global,
     service: &mut S,
     order: &Order,
@@ -263,7 +267,7 @@ fn merge<S: Service>(
 }
 
 /// Puts the values in the place of all that is there.
-fn overwrite<S: Service>(
+fn overwrite<S: ChangeServer>(
     alloc: Global,
     service: &mut S,
     order: &Order,
@@ -281,7 +285,7 @@ fn overwrite<S: Service>(
 }
 
 /// Creates the handle, or where it is there puts the values in the place of all that it has.
-fn replace<S: Service>(
+fn replace<S: ChangeServer>(
     alloc: Global,
     service: &mut S,
     order: &Order,
@@ -334,7 +338,7 @@ fn bad_record(alloc: Global, handle: &[u8], fault: RecordFault) -> Result<Answer
     refusal(alloc, Status::BadRequest, handle, code, &why)
 }
 
-fn carry_put<S: Service>(
+fn carry_put<S: ChangeServer>(
     alloc: Global,
     service: &mut S,
     order: &Order,
@@ -354,7 +358,7 @@ fn carry_put<S: Service>(
     }
 }
 
-fn carry_delete<S: Service>(
+fn carry_delete<S: ChangeServer>(
     alloc: Global,
     service: &mut S,
     order: &Order,
@@ -365,7 +369,7 @@ fn carry_delete<S: Service>(
     carry_one(alloc, service, order, &body, Status::Success)
 }
 
-fn carry_remove<S: Service>(
+fn carry_remove<S: ChangeServer>(
     alloc: Global,
     service: &mut S,
     order: &Order,
@@ -392,7 +396,11 @@ fn whole_values(alloc: Global, mut values: Values<'_>) -> Result<Option<Vec<Valu
 }
 
 /// What the reply to a reading with a key says of this handle.
-fn read_told(alloc: Global, handle: &[u8], reply: &ReplyView<'_>) -> Result<Answer, AllocError> {
+fn reading_answer(
+    alloc: Global,
+    handle: &[u8],
+    reply: &ReplyView<'_>,
+) -> Result<Answer, AllocError> {
     match reply.content {
         ContentView::Values {
             handle: answered,
@@ -417,7 +425,7 @@ fn type_copies(alloc: Global, types: &[Octets]) -> Result<Items<Octets>, AllocEr
     Ok(Items::new(all))
 }
 
-fn carry_read<S: Service>(
+fn carry_read<S: ChangeServer>(
     alloc: Global,
     service: &mut S,
     order: &Order,
@@ -430,14 +438,14 @@ fn carry_read<S: Service>(
         types: type_copies(alloc, types)?,
     };
     match reply_to(service, order, &body) {
-        Ok(reply) => read_told(alloc, order.name.sent(), &reply.view()),
+        Ok(reply) => reading_answer(alloc, order.name.sent(), &reply.view()),
         Err(stop) => answer_to_stop(alloc, order.name.sent(), stop, &[]),
     }
 }
 
 /// Carries out an order: reads the body of its request, where it takes one, asks for one thing after the other, and makes the answer.
 /// Nothing is asked where the body is refused. Where a request isn't done, none behind it is sent, and the answer says what was done.
-pub fn carry_out<S: Service>(
+pub fn carry_out<S: ChangeServer>(
     alloc: Global,
     service: &mut S,
     order: &Order,

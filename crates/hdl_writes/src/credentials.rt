@@ -3,7 +3,7 @@
 ghost use Rattle.std.specs.Prelude.{◌≡◌, ◌⊎◌, IfOk, IfErr, option_map, option_copied};
 ghost use Rattle.percent_encoding.specs.Percent.{percent_decode};
 ghost use Rattle.hdl_value.specs.Reading.{Reads};
-ghost use Rattle.hdl_writes.specs.Credentials.{basic_in, user_in, key_by, key_told, decode, key_in, IsKeyFault};
+ghost use Rattle.hdl_writes.specs.Credentials.{basic_in, user_in, key_by, key_in_text, decode, key_in, IsKeyFault};
 ghost use Rattle.hdl_writes.specs.declared.credentials.KeyFault.TheVariants as key_fault;
 
 use crate::data::is_named;
@@ -101,10 +101,10 @@ fn key_by(alloc: Global, user: &[u8], secret: &[u8]) -> Result<Key, KeyFault>
 }
 
 /// The key of user, colon and secret.
-#[tactic(auto, unfolding(crate::specs::Credentials::key_told))]
-fn key_told(alloc: Global, text: &[u8]) -> Result<Key, KeyFault>
-    ensures key { IfOk result (λ key. key_told text.now ≡ Ok key) }
-    ensures fault { IfErr result (IsKeyFault (key_told text.now)) }
+#[tactic(auto, unfolding(crate::specs::Credentials::key_in_text))]
+fn key_in_text(alloc: Global, text: &[u8]) -> Result<Key, KeyFault>
+    ensures key { IfOk result (λ key. key_in_text text.now ≡ Ok key) }
+    ensures fault { IfErr result (IsKeyFault (key_in_text text.now)) }
 {
     match cut_at(text, b':') {
         Some((user, secret)) => key_by(alloc, user, secret),
@@ -136,7 +136,7 @@ pub fn read_key(alloc: Global, field: Option<&[u8]>) -> Result<Key, KeyFault>
         return Err(KeyFault::Scheme);
     };
     match decode(alloc, text)? {
-        Some(told) => key_told(alloc, &told),
+        Some(told) => key_in_text(alloc, &told),
         None => Err(KeyFault::Base64),
     }
 }

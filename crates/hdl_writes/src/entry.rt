@@ -2,11 +2,11 @@
 
 ghost use Rattle.std.specs.Prelude.{◌≡◌, ◌⊎◌, IfOk, IfErr, option_map, option_copied};
 ghost use Rattle.serde_json.specs.View.{view};
-ghost use Rattle.hdl_writes.specs.Entry.{first_fault, data_told, fields_told, value_told};
+ghost use Rattle.hdl_writes.specs.Entry.{first_fault, data_in_json, fields_in_json, value_in_json};
 
 use crate::data::data_in;
 use crate::fault::EntryFault;
-use crate::fields::{number_of, permissions_told, text_of, ttl_told};
+use crate::fields::{number_of, permissions_in_json, text_of, ttl_in_json};
 use hdl_limits::{DATA_MAX, Octets, TYPE_MAX};
 use hdl_value::{RawRefs, Value, ValueFault, admin_of, vlist_of};
 use serde_json::Value as Json;
@@ -35,9 +35,9 @@ fn first_fault(alloc: Global, value: &Value) -> Result<Option<ValueFault>, Alloc
     Ok(None)
 }
 
-fn data_told(alloc: Global, json: Option<&Json>) -> Result<Vec<u8>, EntryFault>
-    ensures value { IfOk result (λ v. data_told (option_map view (option_copied json.entry)) ≡ Ok v.items) }
-    ensures fault { IfErr result (λ e. (e ≡ EntryFault.Memory) ⊎ (data_told (option_map view (option_copied json.entry)) ≡ Err e)) }
+fn data_in_json(alloc: Global, json: Option<&Json>) -> Result<Vec<u8>, EntryFault>
+    ensures value { IfOk result (λ v. data_in_json (option_map view (option_copied json.entry)) ≡ Ok v.items) }
+    ensures fault { IfErr result (λ e. (e ≡ EntryFault.Memory) ⊎ (data_in_json (option_map view (option_copied json.entry)) ≡ Err e)) }
 {
     match json {
         Some(told) => data_in(alloc, told),
@@ -46,10 +46,10 @@ fn data_told(alloc: Global, json: Option<&Json>) -> Result<Vec<u8>, EntryFault>
 }
 
 /// The value that the members of an object say.
-#[tactic(auto, unfolding(crate::specs::Entry::fields_told))]
-fn fields_told(alloc: Global, json: &Json) -> Result<Value, EntryFault>
-    ensures value { IfOk result (λ v. fields_told (view json.now) ≡ Ok v) }
-    ensures fault { IfErr result (λ e. (e ≡ EntryFault.Memory) ⊎ (fields_told (view json.now) ≡ Err e)) }
+#[tactic(auto, unfolding(crate::specs::Entry::fields_in_json))]
+fn fields_in_json(alloc: Global, json: &Json) -> Result<Value, EntryFault>
+    ensures value { IfOk result (λ v. fields_in_json (view json.now) ≡ Ok v) }
+    ensures fault { IfErr result (λ e. (e ≡ EntryFault.Memory) ⊎ (fields_in_json (view json.now) ≡ Err e)) }
 {
     let Some(index) = number_of(json, "index") else {
         return Err(EntryFault::Index);
@@ -58,11 +58,11 @@ fn fields_told(alloc: Global, json: &Json) -> Result<Value, EntryFault>
         return Err(EntryFault::Type);
     };
     let kind = kind.as_bytes();
-    let bytes = data_told(alloc, json.get("data"))?;
-    let Some(ttl) = ttl_told(json.get("ttl")) else {
+    let bytes = data_in_json(alloc, json.get("data"))?;
+    let Some(ttl) = ttl_in_json(json.get("ttl")) else {
         return Err(EntryFault::Ttl);
     };
-    let Some(permissions) = permissions_told(kind, json.get("permissions")) else {
+    let Some(permissions) = permissions_in_json(kind, json.get("permissions")) else {
         return Err(EntryFault::Permissions);
     };
     let [a, b, c, d] = ttl.to_be_bytes();
@@ -78,12 +78,12 @@ fn fields_told(alloc: Global, json: &Json) -> Result<Value, EntryFault>
 }
 
 /// The value that is meant, or the first thing that is wrong with it: its fields in their order, then the value itself.
-#[tactic(auto, unfolding(crate::specs::Entry::value_told))]
-pub(crate) fn value_told(alloc: Global, json: &Json) -> Result<Value, EntryFault>
-    ensures value { IfOk result (λ v. value_told (view json.now) ≡ Ok v) }
-    ensures fault { IfErr result (λ e. (e ≡ EntryFault.Memory) ⊎ (value_told (view json.now) ≡ Err e)) }
+#[tactic(auto, unfolding(crate::specs::Entry::value_in_json))]
+pub(crate) fn value_in_json(alloc: Global, json: &Json) -> Result<Value, EntryFault>
+    ensures value { IfOk result (λ v. value_in_json (view json.now) ≡ Ok v) }
+    ensures fault { IfErr result (λ e. (e ≡ EntryFault.Memory) ⊎ (value_in_json (view json.now) ≡ Err e)) }
 {
-    let value = fields_told(alloc, json)?;
+    let value = fields_in_json(alloc, json)?;
     match first_fault(alloc, &value)? {
         None => Ok(value),
         Some(fault) => Err(EntryFault::Value(fault)),

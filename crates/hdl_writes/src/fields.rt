@@ -3,7 +3,7 @@
 ghost use Rattle.std.specs.Prelude.{◌≡◌, option_map, option_copied};
 ghost use Rattle.hdl_value.specs.Reading.{Reads};
 ghost use Rattle.serde_json.specs.View.{view};
-ghost use Rattle.hdl_writes.specs.Fields.{number_told, number_of, text_of, ttl_told, permissions_told};
+ghost use Rattle.hdl_writes.specs.Fields.{number_in_json, number_of, text_of, ttl_in_json, permissions_in_json};
 
 use hdl_lines::{number_in, permissions_in};
 use hdl_proxy::usual_permissions;
@@ -13,8 +13,8 @@ use serde_json::Value as Json;
 const DAY: u32 = 86_400;
 
 /// The number below 2^32 that is meant: a number, or the text of its decimal digits without a leading zero.
-fn number_told(json: &Json) -> Option<u32>
-    ensures { result ≡ number_told (view json.now) }
+fn number_in_json(json: &Json) -> Option<u32>
+    ensures { result ≡ number_in_json (view json.now) }
 {
     if let Some(number) = json.as_u64() {
         return u32::try_from(number).ok();
@@ -26,7 +26,7 @@ fn number_told(json: &Json) -> Option<u32>
 pub(crate) fn number_of(json: &Json, key: &str) -> Option<u32>
     ensures { result ≡ number_of key.now (view json.now) }
 {
-    number_told(json.get(key)?)
+    number_in_json(json.get(key)?)
 }
 
 /// A member that is text.
@@ -37,18 +37,18 @@ pub(crate) fn text_of<'a>(json: &'a Json, key: &str) -> Option<&'a str>
 }
 
 /// For how many seconds a value may be kept: a day where nothing is said.
-pub(crate) fn ttl_told(json: Option<&Json>) -> Option<u32>
-    ensures { result ≡ ttl_told (option_map view (option_copied json.entry)) }
+pub(crate) fn ttl_in_json(json: Option<&Json>) -> Option<u32>
+    ensures { result ≡ ttl_in_json (option_map view (option_copied json.entry)) }
 {
     match json {
-        Some(told) => number_told(told),
+        Some(told) => number_in_json(told),
         None => Some(DAY),
     }
 }
 
 /// The permissions of a value of this type: four digits, administrator reads, administrator writes, anybody reads, anybody writes.
-pub(crate) fn permissions_told(kind: &[u8], json: Option<&Json>) -> Option<u8>
-    ensures { result ≡ permissions_told kind.now (option_map view (option_copied json.entry)) }
+pub(crate) fn permissions_in_json(kind: &[u8], json: Option<&Json>) -> Option<u8>
+    ensures { result ≡ permissions_in_json kind.now (option_map view (option_copied json.entry)) }
 {
     match json {
         Some(told) => permissions_in(told.as_str()?.as_bytes()),

@@ -2,10 +2,10 @@
 //!
 //! ```text
 //! method, path, query, the field Authorization -> begin_with_key -> Begun::Answer, Begun::Order, or Begun::Other
-//! Order, the body -> carry_out: read_record, then a Service is asked one request after the other -> Answer
+//! Order, the body -> carry_out: read_record, then a ChangeServer is asked one request after the other -> Answer
 //! ```
 //!
-//! This crate has no sockets and no clock: [`Service`] is who is asked. A secret is in the key of an order alone, which nothing prints,
+//! This crate has no sockets and no clock: [`ChangeServer`] is who is asked. A secret is in the key of an order alone, which nothing prints,
 //! and no function that makes an answer is handed one.
 //!
 //! What it promises: `specs/Record.antt` defines the record that a body in JSON means, or the first thing that is wrong with it
@@ -21,6 +21,7 @@
 #![tactic(auto)]
 
 mod carry;
+mod change_answers;
 mod credentials;
 mod data;
 mod entry;
@@ -32,7 +33,6 @@ mod order;
 mod plan;
 mod record;
 mod service;
-mod told;
 
 pub use carry::carry_out;
 pub use credentials::{KeyFault, read_key};
@@ -41,4 +41,4 @@ pub use laws::{nothing_is_lost, written_is_read};
 pub use order::{Act, Begun, Order, Sent, Way, Window, begin_with_key};
 pub use plan::{merging, replacing};
 pub use record::read_record;
-pub use service::Service;
+pub use service::ChangeServer;

@@ -1,9 +1,9 @@
 //! The handles of a prefix.
 
 use crate::carry::{Stop, answer_to_stop, reply_to};
+use crate::change_answers::{failure, status_of_change};
 use crate::order::{Order, Window};
-use crate::service::Service;
-use crate::told::{failure, status_of_change};
+use crate::service::ChangeServer;
 use hdl_limits::Octets;
 use hdl_msg::{ContentView, ReplyView, RequestBody, ResponseCode, Strings};
 use hdl_proxy::{Answer, Status, json_answer, put_text};
@@ -84,7 +84,7 @@ fn page_answer(
 const LONG_LIST: &str =
     "The prefix has more handles than one answer of the server says. Who runs it writes all of them by `handled export`.";
 
-fn list_told(
+fn listing_answer(
     alloc: Global,
     handle: &[u8],
     reply: &ReplyView<'_>,
@@ -104,7 +104,7 @@ fn list_told(
 }
 
 /// Lists the handles of the prefix whose administrative handle the order names.
-pub(crate) fn list_answer<S: Service>(
+pub(crate) fn list_answer<S: ChangeServer>(
     alloc: Global,
     service: &mut S,
     order: &Order,
@@ -113,7 +113,7 @@ pub(crate) fn list_answer<S: Service>(
     let handle = Octets::new(Vec::from_slice(alloc, order.name.sent())?);
     let body = RequestBody::List { handle };
     match reply_to(service, order, &body) {
-        Ok(reply) => list_told(alloc, order.name.sent(), &reply.view(), window),
+        Ok(reply) => listing_answer(alloc, order.name.sent(), &reply.view(), window),
         Err(stop) => answer_to_stop(alloc, order.name.sent(), stop, &[]),
     }
 }

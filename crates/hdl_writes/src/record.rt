@@ -5,10 +5,10 @@ ghost use Rattle.hdl_limits.specs.declared.TheConstants.{WRITTEN_MAX};
 ghost use Rattle.hdl_value.specs.Reading.{Reads};
 ghost use Rattle.serde_json.specs.Data.{Data};
 ghost use Rattle.serde_json.specs.View.{view, items_view};
-ghost use Rattle.hdl_writes.specs.Entry.{value_told};
-ghost use Rattle.hdl_writes.specs.Record.{value_in_record, values_from, has_index, twice_from, distinct_at, entries_told, listed_in, is_single, record_told, text_in, body_told, record_in, IsRecordFault};
+ghost use Rattle.hdl_writes.specs.Entry.{value_in_json};
+ghost use Rattle.hdl_writes.specs.Record.{value_in_record, values_from, has_index, twice_from, distinct_at, entries_in_json, listed_in, is_single, record_in_json, text_in, json_in_body, record_in, IsRecordFault};
 
-use crate::entry::value_told;
+use crate::entry::value_in_json;
 use crate::fault::{EntryFault, RecordFault};
 use hdl_limits::WRITTEN_MAX;
 use hdl_value::Value;
@@ -17,10 +17,10 @@ use std::alloc::{AllocError, Global};
 
 /// The value at this place of a record.
 fn value_in_record(alloc: Global, place: u64, json: &Json) -> Result<Value, RecordFault>
-    ensures value { IfOk result (λ v. value_in_record place (value_told (view json.now)) ≡ Ok v) }
-    ensures fault { IfErr result (IsRecordFault (value_in_record place (value_told (view json.now)))) }
+    ensures value { IfOk result (λ v. value_in_record place (value_in_json (view json.now)) ≡ Ok v) }
+    ensures fault { IfErr result (IsRecordFault (value_in_record place (value_in_json (view json.now)))) }
 {
-    match value_told(alloc, json) {
+    match value_in_json(alloc, json) {
         Ok(value) => Ok(value),
         Err(EntryFault::Memory) => Err(RecordFault::Memory),
         Err(fault) => Err(RecordFault::Entry { place, fault }),
@@ -63,10 +63,10 @@ fn twice_from(place: u64, values: &[Value]) -> Option<u64>
 }
 
 /// A record of these values: one or more, not too many, no index twice.
-#[tactic(auto, unfolding(crate::specs::Record::entries_told))]
-fn entries_told(alloc: Global, list: &[Json]) -> Result<Vec<Value>, RecordFault>
-    ensures value { IfOk result (λ v. entries_told (map view list.now) ≡ Ok v.items) }
-    ensures fault { IfErr result (IsRecordFault (entries_told (map view list.now))) }
+#[tactic(auto, unfolding(crate::specs::Record::entries_in_json))]
+fn entries_in_json(alloc: Global, list: &[Json]) -> Result<Vec<Value>, RecordFault>
+    ensures value { IfOk result (λ v. entries_in_json (map view list.now) ≡ Ok v.items) }
+    ensures fault { IfErr result (IsRecordFault (entries_in_json (map view list.now))) }
 {
     if list.is_empty() {
         return Err(RecordFault::Empty);
@@ -92,10 +92,10 @@ fn listed_in(json: &Json) -> Option<&[Json]>
 }
 
 /// A record that is one value.
-#[tactic(auto, unfolding(crate::specs::Record::entries_told))]
-fn single_told(alloc: Global, json: &Json) -> Result<Vec<Value>, RecordFault>
-    ensures value { IfOk result (λ v. entries_told (view json.now ∷ []) ≡ Ok v.items) }
-    ensures fault { IfErr result (IsRecordFault (entries_told (view json.now ∷ []))) }
+#[tactic(auto, unfolding(crate::specs::Record::entries_in_json))]
+fn single_in_json(alloc: Global, json: &Json) -> Result<Vec<Value>, RecordFault>
+    ensures value { IfOk result (λ v. entries_in_json (view json.now ∷ []) ≡ Ok v.items) }
+    ensures fault { IfErr result (IsRecordFault (entries_in_json (view json.now ∷ []))) }
 {
     let mut values = Vec::new(alloc);
     values.push(value_in_record(alloc, 1, json)?)?;
@@ -103,16 +103,16 @@ fn single_told(alloc: Global, json: &Json) -> Result<Vec<Value>, RecordFault>
 }
 
 /// The record that a body means: an object with a list of values as its `values`, such a list, or one value.
-#[tactic(auto, using(crate::proofs::Items::each_items_of), unfolding(crate::specs::Record::record_told))]
-fn record_told(alloc: Global, json: &Json) -> Result<Vec<Value>, RecordFault>
-    ensures value { IfOk result (λ v. record_told (view json.now) ≡ Ok v.items) }
-    ensures fault { IfErr result (IsRecordFault (record_told (view json.now))) }
+#[tactic(auto, using(crate::proofs::Items::each_items_of), unfolding(crate::specs::Record::record_in_json))]
+fn record_in_json(alloc: Global, json: &Json) -> Result<Vec<Value>, RecordFault>
+    ensures value { IfOk result (λ v. record_in_json (view json.now) ≡ Ok v.items) }
+    ensures fault { IfErr result (IsRecordFault (record_in_json (view json.now))) }
 {
     if let Some(list) = listed_in(json) {
-        return entries_told(alloc, list);
+        return entries_in_json(alloc, list);
     }
     if json.is_object() && json.get("values").is_none() {
-        return single_told(alloc, json);
+        return single_in_json(alloc, json);
     }
     Err(RecordFault::Shape)
 }
@@ -128,8 +128,8 @@ fn text_in(body: &[u8]) -> Option<&str>
 }
 
 /// The JSON that a body is, if it is some.
-fn body_told(alloc: Global, body: &[u8]) -> Result<Option<Json>, AllocError>
-    ensures { IfOk result (λ o. option_map view o ≡ body_told body.now) }
+fn json_in_body(alloc: Global, body: &[u8]) -> Result<Option<Json>, AllocError>
+    ensures { IfOk result (λ o. option_map view o ≡ json_in_body body.now) }
 {
     let Some(text) = text_in(body) else {
         return Ok(None);
@@ -148,8 +148,8 @@ pub fn read_record(alloc: Global, body: &[u8]) -> Result<Vec<Value>, RecordFault
     ensures value { IfOk result (λ v. record_in body.now ≡ Ok v.items) }
     ensures fault { IfErr result (IsRecordFault (record_in body.now)) }
 {
-    match body_told(alloc, body)? {
-        Some(json) => record_told(alloc, &json),
+    match json_in_body(alloc, body)? {
+        Some(json) => record_in_json(alloc, &json),
         None => Err(RecordFault::Json),
     }
 }

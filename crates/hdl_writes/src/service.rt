@@ -5,7 +5,7 @@ use hdl_msg::RequestBody;
 use hdl_proxy::NoAnswer;
 
 /// A way to ask with a key: servers over sockets.
-pub trait Service: Drop {
+pub trait ChangeServer: Drop {
     /// Lets go of what connections there are, so that the next request begins on a new one: none of an order's requests fails just
     /// because its connection was old, and none is sent twice.
     fn renew(&mut self);

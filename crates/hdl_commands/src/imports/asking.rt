@@ -2,7 +2,7 @@
 
 use crate::batches::is_watched;
 use crate::fault::WordFault;
-use crate::imports::rows::{Faults, Rows};
+use crate::imports::rows::{Faults, HandleRows};
 use crate::key::key_of;
 use crate::words::code_name;
 use hdl_client::{Batch, ClientFault, Key, Outcomes, Session, Task, connect, request_message};
@@ -253,7 +253,7 @@ fn compare<S: Read + Write>(
 fn ask_part<S: Read + Write>(
     rt: &HostRuntime,
     session: &mut Session<S>,
-    rows: &mut Rows<'_>,
+    rows: &mut HandleRows<'_>,
     batch: &mut Batch,
     counts: &mut Counts,
 ) -> Result<bool, ClientFault> {
@@ -311,7 +311,7 @@ impl Progress<'_> {
 fn ask_parts<S: Read + Write>(
     rt: &HostRuntime,
     session: &mut Session<S>,
-    rows: &mut Rows<'_>,
+    rows: &mut HandleRows<'_>,
     batch: &mut Batch,
     counts: &mut Counts,
     progress: &mut Progress<'_>,
@@ -345,7 +345,7 @@ fn batch_of(alloc: Global, key: Key) -> Result<Batch, ClientFault> {
 fn ask_all(
     rt: &HostRuntime,
     server: &str,
-    rows: &mut Rows<'_>,
+    rows: &mut HandleRows<'_>,
     key: Key,
     counts: &mut Counts,
     all: usize,
@@ -377,7 +377,7 @@ fn import_rows(rt: &HostRuntime, import: &Import, counts: &mut Counts) -> Result
         handle: Octets::new(Vec::from_slice(alloc, key.handle.as_slice())?),
         index: key.index,
     };
-    let mut rows = match Rows::new(alloc, reference, &text) {
+    let mut rows = match HandleRows::new(alloc, reference, &text) {
         Ok(rows) => rows,
         Err(fault) => return Err(ImportFault::Header(fault)),
     };

@@ -59,7 +59,7 @@ impl Entry {
 
 /// The rows that are left of a file.
 #[derive(Drop)]
-pub(crate) struct Rows<'t> {
+pub(crate) struct HandleRows<'t> {
     alloc: Global,
     /// The key of the administrator whom a handle without one gets.
     key: RawRef,
@@ -86,9 +86,9 @@ fn has_return(line: &[u8]) -> bool {
     line.contains(&b'\r')
 }
 
-impl<'t> Rows<'t> {
+impl<'t> HandleRows<'t> {
     /// The rows behind the header of this text.
-    pub fn new(alloc: Global, key: RawRef, text: &'t [u8]) -> Result<Rows<'t>, WordFault> {
+    pub fn new(alloc: Global, key: RawRef, text: &'t [u8]) -> Result<HandleRows<'t>, WordFault> {
         let (header, rest) = line_of(text);
         if has_return(header) {
             return Err(WordFault::Return);
@@ -96,7 +96,7 @@ impl<'t> Rows<'t> {
         let Some(names) = fields_in(alloc, header)? else {
             return Err(WordFault::Column);
         };
-        Ok(Rows {
+        Ok(HandleRows {
             alloc,
             key,
             columns: columns_of(&names)?,

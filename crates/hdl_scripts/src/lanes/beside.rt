@@ -7,7 +7,7 @@ ghost use Rattle.hdl_scripts.specs.Same.{IsEach};
 
 use crate::lanes::pair::Pair;
 use crate::lanes::server::Serving;
-use hdl_core::Outcome;
+use hdl_events::Outcome;
 use hdl_serve::{
     Clock, EndReason, Item, LaneEnds, MemoryDoor, MemoryNonces, MemoryPackets, WorkerEnd,
     packet_worker, stream_worker,

@@ -5,7 +5,7 @@ ghost use Rattle.hdl_workers.specs.Ends.{AreDistinct};
 use crate::lanes::server::Serving;
 use crate::lanes::words::{bad, event_of, number, or_other, short, tell_outcome};
 use crate::table::{Table, empty_rows};
-use hdl_core::{Event, Outcome};
+use hdl_events::{Event, Outcome};
 use hdl_lanes::{Inlet, Outlet};
 use hdl_replay::{events_of, parts_of, replay};
 use hdl_serve::{Item, LaneEnds, WorkerSide, lanes_of};

@@ -5,7 +5,7 @@ ghost use Rattle.std.specs.Prelude.{◌≡◌, []};
 use crate::lanes::beside::{Plan, source};
 use crate::lanes::pair::{Pair, pair_of};
 use crate::lanes::words::{tell_item, word_of};
-use hdl_core::Outcome;
+use hdl_events::Outcome;
 use hdl_limits::Octets;
 use hdl_serve::{
     Clock, Door, DoorFault, EndReason, LaneEnds, MemoryDoor, MemoryNonces, stream_worker,

@@ -40,7 +40,7 @@ impl Ring {
 
     /// Tells what is left.
     #[tactic(auto, using(crate::proofs::Same::still))]
-    fn settle(self, told: &mut Vec<u8>) -> io::Result<()> {
+    fn tell_rest(self, told: &mut Vec<u8>) -> io::Result<()> {
         let Ring { inlet, outlet } = self;
         write!(told, " leaves")?;
         for item in outlet.settle(inlet.finish()) {
@@ -59,7 +59,7 @@ fn fill_ring(alloc: Global, capacity: usize, count: u32, told: &mut Vec<u8>) -> 
     }
     ring.take(told)?;
     ring.put(count, told)?;
-    ring.settle(told)
+    ring.tell_rest(told)
 }
 
 /// Passes items one at a time.
@@ -70,7 +70,7 @@ fn pass_items(alloc: Global, capacity: usize, count: u32, told: &mut Vec<u8>) ->
         ring.put(item, told)?;
         ring.take(told)?;
     }
-    ring.settle(told)
+    ring.tell_rest(told)
 }
 
 /// Rings of room for three items, for one and for none.

@@ -1,6 +1,6 @@
 //! Words of the texts, and of what is printed.
 
-use hdl_core::{Event, Happening, Outcome};
+use hdl_events::{Event, Happening, Outcome};
 use hdl_replay::{Fault, events_of, line_of};
 use hdl_serve::{EndReason, Item};
 use hdl_tenants::decimal;

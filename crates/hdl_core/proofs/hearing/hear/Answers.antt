@@ -31,14 +31,14 @@ pub returns-in-Answered-clause-heard : goal.returns-in-Answered-clause-heard
 returns-in-Answered-clause-heard g c =
     let r = c.in-Ok.request in
     let is : None ≡ response_of r.operation = sym (ap (option_map response_view) c.in_default-response_of.is) ∙ c.response_of.ensures ∙ ap response_of c.body.ensures in
-    answered (hosted_by c.args.owner.now) (algorithms_by c.args.owner.now) (g.R.Rows.content c.args.rows.now) c.args.origin.now c.args.lanes.now c.args.origin.now.lane c.args.message.items r c.in-Answered.octets (g.R.Rows.content c.ask.new.rows) c.in_ok-octets.field-0 c.next_number-next.result
+    answered (hosted_by c.args.owner.now) (algorithms_by c.args.owner.now) (g.R.Rows.content c.args.rows.now) c.args.origin.now c.args.lanes.now c.args.origin.now.lane c.args.message.items r c.in-Answered.octets (g.R.Rows.content c.hear_for_anyone.new.rows) c.in_ok-octets.field-0 c.next_number-next.result
     (subst (λ (b : List ℕ). SpellsRequest b r) c.deref.ensures.value c.in-Ok.ensures.read) is c.in-Answered.is c.in_ok-octets.ensures.asked
 
 pub returns-in-Challenged-clause-heard : goal.returns-in-Challenged-clause-heard
 returns-in-Challenged-clause-heard g c =
     let r = c.in-Ok.request in
     let is : None ≡ response_of r.operation = sym (ap (option_map response_view) c.in_default-response_of.is) ∙ c.response_of.ensures ∙ ap response_of c.body.ensures in
-    challenges (hosted_by c.args.owner.now) (algorithms_by c.args.owner.now) (g.R.Rows.content c.args.rows.now) c.args.origin.now c.args.lanes.now c.args.origin.now.lane c.args.message.items r c.in-Challenged.octets c.in-Challenged.digest (g.R.Rows.content c.ask.new.rows) c.challenge.new.self c.in_ok-octets.field-0 c.next_number-next.result
+    challenges (hosted_by c.args.owner.now) (algorithms_by c.args.owner.now) (g.R.Rows.content c.args.rows.now) c.args.origin.now c.args.lanes.now c.args.origin.now.lane c.args.message.items r c.in-Challenged.octets c.in-Challenged.digest (g.R.Rows.content c.hear_for_anyone.new.rows) c.challenge.new.self c.in_ok-octets.field-0 c.next_number-next.result
     (subst (λ (b : List ℕ). SpellsRequest b r) c.deref.ensures.value c.in-Ok.ensures.read) is c.in-Challenged.is c.next_number-next.ensures c.in_ok-octets.ensures.asked
     (c.challenge.ensures ∙ ap (λ (message : List ℕ). with_state c.args.lanes.now c.args.origin.now.lane (record {
       is_open = (state_at c.args.lanes.now c.args.origin.now.lane).is_open;

@@ -3,7 +3,7 @@ use Rattle.sqlite.specs.Effect.{Database}
 use Rattle.sqlite.specs.State.{HasCleanDisk}
 use Rattle.sqlite.specs.Held.{state}
 use Rattle.hdl_rows.specs.Table.{IsPlaced}
-use Rattle.hdl_sqlrows.specs.Kept.{table_in}
+use Rattle.hdl_sqlrows.specs.Stored.{table_in}
 use Rattle.hdl_sqlrows.specs.Filed.{filed_table}
 use Rattle.hdl_lastingrows.proofs.opening.reopen.Goals as goal
 

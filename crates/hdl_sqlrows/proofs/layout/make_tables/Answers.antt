@@ -4,7 +4,7 @@ use Rattle.sqlite.specs.State.{HasCleanDisk, Survives}
 use Rattle.sqlite.specs.Held.{state}
 use Rattle.hdl_rows.specs.Table.{Table, no_rows}
 use Rattle.hdl_sqlrows.specs.Layout.{no_schema}
-use Rattle.hdl_sqlrows.specs.Kept.{IsSettled, table_in}
+use Rattle.hdl_sqlrows.specs.Stored.{IsBetweenCalls, table_in}
 use Rattle.hdl_sqlrows.specs.Filed.{WhereOpen, KeepsCommitted, IsFiled}
 use Rattle.hdl_sqlrows.proofs.Filed.{of_now, inside_written, surely, done_by, kept_by, crash_surely, on_ok}
 use Rattle.hdl_sqlrows.proofs.layout.make_tables.Goals as goal
@@ -20,7 +20,7 @@ finish-requires g c = record { inside = inside_written g.S.Store c.transaction-t
 pub returns-clause-settled : goal.returns-clause-settled
 returns-clause-settled g c =
     let end : c.finish.new.tx.0 ≡ c.conn-1.given.0 = search rules in
-    subst (λ h. OnOk c.finish.result (WhereOpen (state g.S.Store h) (IsSettled (state g.S.Store h)))) end c.finish.ensures.settled
+    subst (λ h. OnOk c.finish.result (WhereOpen (state g.S.Store h) (IsBetweenCalls (state g.S.Store h)))) end c.finish.ensures.settled
 
 pub returns-clause-done : goal.returns-clause-done
 returns-clause-done g c =

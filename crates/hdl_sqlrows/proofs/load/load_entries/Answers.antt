@@ -6,7 +6,7 @@ use Rattle.sqlite.proofs.Callers.{unchanged_then}
 use Rattle.hdl_rows.specs.Table.{IsPlaced}
 use Rattle.hdl_rows.specs.Write.{Add}
 use Rattle.hdl_rows.proofs.Writes.{stay_placed_lem}
-use Rattle.hdl_sqlrows.specs.Kept.{handle_in, value_in}
+use Rattle.hdl_sqlrows.specs.Stored.{handle_in, value_in}
 use Rattle.hdl_sqlrows.specs.Loaded.{IsLoaded, entry_shown}
 use Rattle.hdl_sqlrows.proofs.Filed.{survives_both}
 use Rattle.hdl_sqlrows.proofs.LoadTexts.{load_entries, load_plain}

@@ -6,7 +6,7 @@ use Rattle.sqlite.proofs.Callers.{unchanged_then}
 use Rattle.hdl_rows.specs.Table.{IsPlaced}
 use Rattle.hdl_rows.specs.Write.{Create}
 use Rattle.hdl_rows.proofs.Writes.{stay_placed_lem}
-use Rattle.hdl_sqlrows.specs.Kept.{handle_in}
+use Rattle.hdl_sqlrows.specs.Stored.{handle_in}
 use Rattle.hdl_sqlrows.proofs.Placed.{none_placed}
 use Rattle.hdl_sqlrows.specs.Loaded.{handles_alone, IsLoaded}
 use Rattle.hdl_sqlrows.proofs.Filed.{survives_both}

@@ -1,5 +1,5 @@
 use Rattle.std.proofs.Common.{◌≡◌, false}
-use Rattle.hdl_rows.specs.Table.{Table, has, created, indexes, AreAbsent}
+use Rattle.hdl_rows.specs.Table.{Table, has, with_new_handle, indexes, AreAbsent}
 use Rattle.hdl_sqlrows.proofs.InMemory.{idle, settled_where, settled_here, allowed_where, done_here, undone_here}
 use Rattle.hdl_sqlrows.proofs.memory.create.Goals as goal
 
@@ -19,7 +19,7 @@ pub returns-clause-settled : goal.returns-clause-settled
 returns-clause-settled c = settled_here c.create.new.conn c.create.ensures.settled
 
 pub returns-clause-done : goal.returns-clause-done
-returns-clause-done c = done_here c.args.conn.now c.create.new.conn (λ (t : Table). created t c.args.name.now c.args.values.now) c.create.result c.requires.settled (settled_here c.create.new.conn c.create.ensures.settled) c.create.ensures.done
+returns-clause-done c = done_here c.args.conn.now c.create.new.conn (λ (t : Table). with_new_handle t c.args.name.now c.args.values.now) c.create.result c.requires.settled (settled_here c.create.new.conn c.create.ensures.settled) c.create.ensures.done
 
 pub returns-clause-undone : goal.returns-clause-undone
 returns-clause-undone c = undone_here c.args.conn.now c.create.new.conn c.create.result c.requires.settled (settled_here c.create.new.conn c.create.ensures.settled) c.create.ensures.undone

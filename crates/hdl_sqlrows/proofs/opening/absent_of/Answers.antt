@@ -2,7 +2,7 @@ use Rattle.std.proofs.Common.{◌∙◌, not, ap, arith}
 use Rattle.sqlite.specs.State.{HasCleanDisk}
 use Rattle.sqlite.specs.Held.{state}
 use Rattle.hdl_rows.specs.Table.{has}
-use Rattle.hdl_sqlrows.specs.Kept.{table_in}
+use Rattle.hdl_sqlrows.specs.Stored.{table_in}
 use Rattle.hdl_sqlrows.specs.Filed.{draft_table}
 use Rattle.hdl_sqlrows.specs.Opening.{First, handle}
 use Rattle.hdl_sqlrows.proofs.Filed.{survives_both, keeps_both}

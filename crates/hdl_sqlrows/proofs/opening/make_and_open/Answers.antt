@@ -4,7 +4,7 @@ use Rattle.std.specs.List.{AllByRecursion}
 use Rattle.sqlite.specs.State.{HasCleanDisk}
 use Rattle.sqlite.specs.Held.{state}
 use Rattle.hdl_rows.specs.Table.{Table, IsPlaced}
-use Rattle.hdl_sqlrows.specs.Kept.{handle_in}
+use Rattle.hdl_sqlrows.specs.Stored.{handle_in}
 use Rattle.hdl_sqlrows.specs.Opening.{base_in, no_base, opened_with, IsOpenedRow}
 use Rattle.hdl_sqlrows.proofs.Filed.{on_ok}
 use Rattle.hdl_sqlrows.proofs.Firsts.{nothing_placed}

@@ -2,7 +2,7 @@ use Rattle.std.proofs.Common.{◌≡◌, drop, map, IsTrue}
 use Rattle.std.specs.List.{AllByRecursion}
 use Rattle.sqlite.specs.State.{HasCleanDisk, Survives}
 use Rattle.sqlite.specs.Held.{state}
-use Rattle.hdl_sqlrows.specs.Kept.{IsInside}
+use Rattle.hdl_sqlrows.specs.Stored.{IsInside}
 use Rattle.hdl_sqlrows.specs.Filed.{WhereOpen, KeepsCommitted}
 use Rattle.hdl_sqlrows.specs.Opening.{base_in, noted_with, first_at, IsOpenedRow}
 use Rattle.hdl_sqlrows.proofs.opening.note_firsts.Given as goal

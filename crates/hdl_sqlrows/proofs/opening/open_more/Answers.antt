@@ -4,7 +4,7 @@ use Rattle.sqlite.specs.Effect.{Database}
 use Rattle.sqlite.specs.State.{HasCleanDisk, Survives}
 use Rattle.sqlite.specs.Held.{state}
 use Rattle.hdl_rows.specs.Table.{Table, IsPlaced}
-use Rattle.hdl_sqlrows.specs.Kept.{IsSettled}
+use Rattle.hdl_sqlrows.specs.Stored.{IsBetweenCalls}
 use Rattle.hdl_sqlrows.specs.Filed.{WhereOpen}
 use Rattle.hdl_sqlrows.specs.Opening.{base_in, filed_base, opened_with, HasFiled, IsOpenedRow}
 use Rattle.hdl_sqlrows.proofs.Filed.{of_now, even, inside_first, at_first, made_by, kept_by, leaves_if_open, settled_again, on_ok, on_err}
@@ -29,7 +29,7 @@ finish-requires g c = record { inside = on_ok c.open_within-written.result _ _ (
 pub returns-clause-settled : goal.returns-clause-settled
 returns-clause-settled g c =
     let end : c.finish.new.tx.0 ≡ c.conn-1.given.0 = search rules in
-    subst (λ h. WhereOpen (state g.S.Store h) (IsSettled (state g.S.Store h))) end (λ clean up.
+    subst (λ h. WhereOpen (state g.S.Store h) (IsBetweenCalls (state g.S.Store h))) end (λ clean up.
     let before : HasCleanDisk (state g.S.Store c.args.conn.now) = omega (
       arith,
       clean,

@@ -4,7 +4,7 @@ use Rattle.sqlite.specs.State.{HasCleanDisk, Survives}
 use Rattle.sqlite.specs.Held.{state}
 use Rattle.hdl_rows.specs.Table.{Table}
 use Rattle.hdl_sqlrows.specs.Layout.{no_schema}
-use Rattle.hdl_sqlrows.specs.Kept.{IsSettled}
+use Rattle.hdl_sqlrows.specs.Stored.{IsBetweenCalls}
 use Rattle.hdl_sqlrows.specs.Filed.{WhereOpen, KeepsCommitted}
 use Rattle.hdl_sqlrows.specs.Opening.{base_in, no_base, opened_with, HasFiled}
 use Rattle.hdl_sqlrows.proofs.Filed.{of_now, made_by, kept_by, leaves_surely, on_ok}
@@ -21,7 +21,7 @@ finish-requires g c = record { inside = on_ok c.make_and_open-written.result _ _
 pub returns-clause-settled : goal.returns-clause-settled
 returns-clause-settled g c =
     let end : c.finish.new.tx.0 ≡ c.conn-1.given.0 = search rules in
-    subst (λ h. OnOk c.finish.result (WhereOpen (state g.S.Store h) (IsSettled (state g.S.Store h)))) end c.finish.ensures.settled
+    subst (λ h. OnOk c.finish.result (WhereOpen (state g.S.Store h) (IsBetweenCalls (state g.S.Store h)))) end c.finish.ensures.settled
 
 pub returns-clause-done : goal.returns-clause-done
 returns-clause-done g c =

@@ -1,7 +1,7 @@
 use Rattle.std.proofs.Common.{◌≡◌, drop, map, fold, IsTrue}
 use Rattle.sqlite.specs.State.{HasCleanDisk, Survives}
 use Rattle.sqlite.specs.Held.{state}
-use Rattle.hdl_sqlrows.specs.Kept.{IsInside}
+use Rattle.hdl_sqlrows.specs.Stored.{IsInside}
 use Rattle.hdl_sqlrows.specs.Filed.{WhereOpen, KeepsCommitted, draft_table}
 use Rattle.hdl_sqlrows.specs.Opening.{with_first, first_at, AreFree}
 use Rattle.hdl_sqlrows.proofs.opening.put_firsts.Given as goal

@@ -1,5 +1,5 @@
 use Rattle.std.proofs.Common.{false, sym, ◌==◌, length, rules, ◌≡◌}
-use Rattle.hdl_sqlrows.specs.Kept.{table_of}
+use Rattle.hdl_sqlrows.specs.Stored.{table_of}
 use Rattle.hdl_sqlrows.proofs.Placed.{there_if_some}
 use Rattle.hdl_sqlrows.proofs.queries.look.Goals as goal
 

@@ -1,7 +1,7 @@
 use Rattle.std.proofs.Common.{◌≡◌, ◌∙◌, ◌++◌, ◌∷◌, [], ap}
 use Rattle.hdl_events.specs.declared.Happening.TheVariants.{Open}
 use Rattle.hdl_workers.specs.declared.item.Item.TheVariants.{Event}
-use Rattle.hdl_workers.specs.Line.{put_by}
+use Rattle.hdl_workers.specs.WorkerLane.{put_by}
 use Rattle.hdl_workers.proofs.Mails.{begun}
 use Rattle.hdl_workers.proofs.packet.begin.Goals as goal
 

@@ -1,5 +1,5 @@
 use Rattle.std.proofs.Common.{rules, ◌≡◌, ◌∙◌, [], sym}
-use Rattle.hdl_workers.specs.Line.{put_by, taken_by}
+use Rattle.hdl_workers.specs.WorkerLane.{put_by, taken_by}
 use Rattle.hdl_workers.specs.Mail.{Replies}
 use Rattle.hdl_workers.proofs.Mails.{replies_both, may_reply_then, none_waits}
 use Rattle.hdl_workers.proofs.packet.reply_all.Goals as goal

@@ -1,5 +1,5 @@
 use Rattle.std.proofs.Common.{◌≡◌, IsTrue, length}
-use Rattle.hdl_workers.specs.Line.{put_by, taken_by}
+use Rattle.hdl_workers.specs.WorkerLane.{put_by, taken_by}
 use Rattle.hdl_workers.specs.Replying.{OnlyReplies}
 use Rattle.hdl_workers.specs.Mail.{Replies}
 use Rattle.hdl_workers.proofs.packet.reply_all.Given as goal

@@ -1,5 +1,5 @@
 use Rattle.std.proofs.Common.{◌≡◌, ◌∷◌}
-use Rattle.hdl_workers.specs.Line.{put_by, taken_by}
+use Rattle.hdl_workers.specs.WorkerLane.{put_by, taken_by}
 use Rattle.hdl_workers.specs.Mail.{Sends, SendsReply, BeginsReply}
 use Rattle.hdl_workers.specs.Octets.{octets_of}
 use Rattle.hdl_workers.proofs.Mails.{first_out, replied, replied_part}

@@ -1,5 +1,5 @@
 use Rattle.std.proofs.Common.{rules, arith, ◌≡◌, ◌≤◌, ◌∙◌, refl, inr, take, ◌++◌, ◌∷◌, []}
-use Rattle.hdl_workers.specs.Line.{put_by, taken_by}
+use Rattle.hdl_workers.specs.WorkerLane.{put_by, taken_by}
 use Rattle.hdl_workers.specs.Mail.{Trading}
 use Rattle.hdl_workers.proofs.Used.{stamps_both, used_still}
 use Rattle.hdl_workers.proofs.Mails.{trading_of, traded_of, trading_later, most_of, later_by}

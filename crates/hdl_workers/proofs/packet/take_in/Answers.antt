@@ -1,4 +1,4 @@
-use Rattle.hdl_workers.specs.Line.{put_by, taken_by}
+use Rattle.hdl_workers.specs.WorkerLane.{put_by, taken_by}
 use Rattle.hdl_workers.proofs.Mails.{passed, taken_in}
 use Rattle.hdl_workers.proofs.packet.take_in.Goals as goal
 

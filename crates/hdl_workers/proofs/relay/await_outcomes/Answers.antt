@@ -1,5 +1,5 @@
 use Rattle.std.proofs.Common.{rules}
-use Rattle.hdl_workers.specs.Line.{taken_by}
+use Rattle.hdl_workers.specs.WorkerLane.{taken_by}
 use Rattle.hdl_workers.proofs.Writes.{relayed_both, relayed_then_part}
 use Rattle.hdl_workers.proofs.relay.await_outcomes.Goals as goal
 

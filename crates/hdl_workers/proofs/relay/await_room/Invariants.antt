@@ -1,5 +1,5 @@
 use Rattle.std.proofs.Common.{◌≡◌, IsTrue}
-use Rattle.hdl_workers.specs.Line.{put_by, taken_by, Relayed}
+use Rattle.hdl_workers.specs.WorkerLane.{put_by, taken_by, Relayed}
 use Rattle.hdl_workers.specs.Going.{GoesOn}
 use Rattle.hdl_workers.proofs.relay.await_room.Given as goal
 

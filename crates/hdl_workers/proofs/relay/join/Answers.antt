@@ -1,4 +1,4 @@
-use Rattle.hdl_workers.specs.Line.{taken_by}
+use Rattle.hdl_workers.specs.WorkerLane.{taken_by}
 use Rattle.hdl_workers.proofs.Writes.{joins_then}
 use Rattle.hdl_workers.proofs.relay.join.Goals as goal
 

@@ -1,7 +1,7 @@
 use Rattle.std.proofs.Common.{◌≡◌, MatchOption, List, [], ◌∷◌, ◌++◌, subst, sym, rules}
 use Rattle.hdl_events.specs.declared.Outcome.{Outcome}
 use Rattle.hdl_workers.specs.Octets.{octets_of}
-use Rattle.hdl_workers.specs.Line.{taken_by, Joins}
+use Rattle.hdl_workers.specs.WorkerLane.{taken_by, Joins}
 use Rattle.hdl_workers.proofs.Writes.{first_part, second_whole, second_part, if_ok}
 use Rattle.hdl_workers.proofs.relay.write_joined.Goals as goal
 

@@ -1,5 +1,5 @@
 use Rattle.std.proofs.Common.{[], ◌++◌, append_assoc, append-nil, ◌∙◌, ap, refl, sym}
-use Rattle.hdl_workers.specs.Line.{taken_by}
+use Rattle.hdl_workers.specs.WorkerLane.{taken_by}
 use Rattle.hdl_workers.proofs.Used.{stamps_both, stamps_still, no_stamp}
 use Rattle.hdl_workers.proofs.Closes.{opened_on, not_opened, unclosed, closed_cut, left_on}
 use Rattle.hdl_workers.proofs.stream.serve_connection.Goals as goal

@@ -1,5 +1,5 @@
 use Rattle.std.proofs.Common.{◌≡◌, IsTrue, None}
-use Rattle.hdl_workers.specs.Line.{put_by, taken_by}
+use Rattle.hdl_workers.specs.WorkerLane.{put_by, taken_by}
 use Rattle.hdl_workers.specs.Stamps.{StampsUsed}
 use Rattle.hdl_workers.specs.Talk.{FramesSoFar, Underway}
 use Rattle.hdl_workers.specs.Going.{GoesOn}

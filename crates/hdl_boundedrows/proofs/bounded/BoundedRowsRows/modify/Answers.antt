@@ -1,7 +1,8 @@
 use Rattle.std.proofs.Common.{ap, sym, ◌∙◌, sum_by}
 use Rattle.hdl_name.specs.Name.{canonical, prefix}
 use Rattle.hdl_rows.specs.Table.{values_of, indexes}
-use Rattle.hdl_boundedrows.specs.Amount.{in_values, in_octets, values_at, capped}
+use Rattle.hdl_boundedrows.specs.Amount.{in_values, in_octets, values_at}
+use Rattle.hdl_limits.specs.Counts.{at_most_u64}
 use Rattle.hdl_boundedrows.specs.Bounded.{Bounded}
 use Rattle.hdl_boundedrows.proofs.Counts.{settled_as, within_as, uncounted, uncounted_within}
 use Rattle.hdl_boundedrows.proofs.bounded.BoundedRowsRows.modify.Goals as goal
@@ -20,8 +21,8 @@ returns-clause-settled g c =
     settled_as c.prefix-prefix.result.now (prefix c.args.name.now) c.prefix-prefix.ensures (λ m. sum_by m.value c.args.values.now) (λ m. values_at m (values_of c.args.self.now.table (canonical c.args.name.now)) (indexes c.args.values.now)) c.self.inside.accounts c.args.self.now.holdings (ap (λ (b : Bounded). b.holdings) c.self.view_is) _ (record {
       gain_values = c.values_amount.ensures.values;
       gain_octets = c.values_amount.ensures.octets;
-      back_values = c.amount_of_replaced.ensures.values ∙ ap (λ vs. capped (values_at in_values vs (indexes c.args.values.now))) there;
-      back_octets = c.amount_of_replaced.ensures.octets ∙ ap (λ vs. capped (values_at in_octets vs (indexes c.args.values.now))) there;
+      back_values = c.amount_of_replaced.ensures.values ∙ ap (λ vs. at_most_u64 (values_at in_values vs (indexes c.args.values.now))) there;
+      back_octets = c.amount_of_replaced.ensures.octets ∙ ap (λ vs. at_most_u64 (values_at in_octets vs (indexes c.args.values.now))) there;
     }) _ c.count_change.ensures
 
 pub returns-clause-within : goal.returns-clause-within
@@ -30,6 +31,6 @@ returns-clause-within g c =
     within_as c.prefix-prefix.result.now (prefix c.args.name.now) c.prefix-prefix.ensures (λ m. sum_by m.value c.args.values.now) (λ m. values_at m (values_of c.args.self.now.table (canonical c.args.name.now)) (indexes c.args.values.now)) c.self.inside.accounts c.args.self.now.holdings (ap (λ (b : Bounded). b.holdings) c.self.view_is) _ (record {
       gain_values = c.values_amount.ensures.values;
       gain_octets = c.values_amount.ensures.octets;
-      back_values = c.amount_of_replaced.ensures.values ∙ ap (λ vs. capped (values_at in_values vs (indexes c.args.values.now))) there;
-      back_octets = c.amount_of_replaced.ensures.octets ∙ ap (λ vs. capped (values_at in_octets vs (indexes c.args.values.now))) there;
+      back_values = c.amount_of_replaced.ensures.values ∙ ap (λ vs. at_most_u64 (values_at in_values vs (indexes c.args.values.now))) there;
+      back_octets = c.amount_of_replaced.ensures.octets ∙ ap (λ vs. at_most_u64 (values_at in_octets vs (indexes c.args.values.now))) there;
     }) (sym c.in_ok-permit.ensures.permitted)

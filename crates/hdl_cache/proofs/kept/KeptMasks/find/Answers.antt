@@ -1,7 +1,7 @@
 use Rattle.std.proofs.Common.{sym, ap, ◌∙◌, subst}
 use Rattle.hdl_name.specs.Name.{canonical}
 use Rattle.hdl_value.specs.Refs.{place_of}
-use Rattle.hdl_cache.specs.Kept.{subject, kept_in, AreMasks}
+use Rattle.hdl_cache.specs.Masks.{subject, kept_in, AreMasks}
 use Rattle.hdl_cache.proofs.Views.{found, used}
 use Rattle.hdl_cache.proofs.Truth.{found_true, used_true}
 use Rattle.hdl_cache.proofs.kept.KeptMasks.find.Goals as goal

@@ -1,7 +1,7 @@
 use Rattle.hdl_name.specs.Name.{canonical}
 use Rattle.hdl_value.specs.Refs.{place_of}
 use Rattle.hdl_reach.specs.Views.{mask_of}
-use Rattle.hdl_cache.specs.Kept.{subject}
+use Rattle.hdl_cache.specs.Masks.{subject}
 use Rattle.hdl_cache.proofs.Views.{kept_or_not}
 use Rattle.hdl_cache.proofs.Truth.{kept_true}
 use Rattle.hdl_cache.proofs.kept.KeptMasks.keep.Goals as goal

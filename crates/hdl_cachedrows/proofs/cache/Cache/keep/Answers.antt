@@ -1,13 +1,14 @@
 use Rattle.std.proofs.Common.{ap, sym, ◌∙◌, arith, ◌+◌, ◌≡◌, ◌≤◌, ◌<◌, ◌-◌}
-use Rattle.hdl_cachedrows.specs.Cost.{cost, entry_cost, total, capped}
+use Rattle.hdl_cachedrows.specs.Cost.{cost, entry_cost, total}
+use Rattle.hdl_limits.specs.Counts.{at_most_u64}
 use Rattle.hdl_cachedrows.proofs.Totals.{given, let_go, total-put}
 use Rattle.hdl_cachedrows.proofs.Truth.{kept_true}
 use Rattle.hdl_cachedrows.proofs.cache.Cache.keep.Goals as goal
 use Rattle.hdl_cachedrows.proofs.cache.Cache.keep.Goals.{In-Ok-push, After-entry_cost}
 
 -- the copies cost what was asked
-paid : (c : In-Ok-push) → c.entry_cost-cost.result ≡ capped (entry_cost (c.in-Ok.key, c.in-Ok-copies.copy))
-paid c = c.entry_cost-cost.ensures ∙ ap (λ h. capped (cost h c.args.values.now)) (sym c.in-Ok.ensures.items) ∙ ap (λ vs. capped (cost c.in-Ok.key.items vs)) (sym c.in-Ok-copies.ensures)
+paid : (c : In-Ok-push) → c.entry_cost-cost.result ≡ at_most_u64 (entry_cost (c.in-Ok.key, c.in-Ok-copies.copy))
+paid c = c.entry_cost-cost.ensures ∙ ap (λ h. at_most_u64 (cost h c.args.values.now)) (sym c.in-Ok.ensures.items) ∙ ap (λ vs. at_most_u64 (cost c.in-Ok.key.items vs)) (sym c.in-Ok-copies.ensures)
 
 put : (c : In-Ok-push) → total c.push.new.self.entries + given c.in-Ok-push.displaced ≡ c.shrink.new.self.octets + c.entry_cost-cost.result
 put c =

@@ -1,7 +1,7 @@
 use Rattle.std.proofs.Common.{◌≡◌, false, subst}
 use Rattle.sqlite_trees.specs.Tree.{Trees}
 use Rattle.sqlite.specs.State.{HasCleanDisk}
-use Rattle.hdl_sqlrows.specs.Kept.{table_in}
+use Rattle.hdl_sqlrows.specs.Stored.{table_in}
 use Rattle.hdl_sqlrows.specs.Filed.{CrashLeaves}
 use Rattle.hdl_lastingrows.specs.Lasting.{IsNear}
 use Rattle.hdl_lastingrows.specs.Beside.{IfHere, MayLeave}

@@ -4,7 +4,7 @@ use Rattle.hdl_rows.specs.Write.{CanWrite}
 use Rattle.hdl_lastingrows.specs.Lasting.{IsKept, Leaves}
 use Rattle.hdl_lastingrows.specs.Writes.{write_in}
 use Rattle.hdl_lastingrows.specs.Beside.{IsKeptAt}
-use Rattle.hdl_lastingrows.specs.declared.threaded.Place.TheVariants.{Here}
+use Rattle.hdl_lastingrows.specs.declared.threaded.Whereabouts.TheVariants.{Here}
 use Rattle.hdl_lastingrows.proofs.threaded.ThreadedFile.begin.Goals as goal
 
 pub start-requires : goal.start-requires

@@ -3,7 +3,7 @@ use Rattle.hdl_rows.specs.Write.{CanWrite}
 use Rattle.hdl_lastingrows.specs.Lasting.{Leaves}
 use Rattle.hdl_lastingrows.specs.Writes.{write_of, write_in}
 use Rattle.hdl_lastingrows.specs.Beside.{IsKeptAt}
-use Rattle.hdl_lastingrows.specs.declared.threaded.Place.TheVariants.{Here}
+use Rattle.hdl_lastingrows.specs.declared.threaded.Whereabouts.TheVariants.{Here}
 use Rattle.hdl_lastingrows.proofs.Ended.{as_ended}
 use Rattle.hdl_lastingrows.proofs.threaded.ThreadedFile.end.Goals as goal
 

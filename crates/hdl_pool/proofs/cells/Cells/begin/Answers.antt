@@ -1,17 +1,17 @@
 use Rattle.std.proofs.Common.{◌≡◌, ◌∙◌, sym, ap}
-use Rattle.hdl_pool.specs.Taking.{made_whole, kept, grown, fate_of}
+use Rattle.hdl_pool.specs.Taking.{made_whole, kept, after_piece, fate_of}
 use Rattle.hdl_pool.specs.Arrival.{piece_in}
 use Rattle.hdl_pool.proofs.TakenLemmas.{missed_kept, missed_one, missed_other, fate-not_kept}
 use Rattle.hdl_pool.proofs.cells.Cells.begin.Goals as goal
 
 pub returns-in-Kept-clause-fate : goal.returns-in-Kept-clause-fate
 returns-in-Kept-clause-fate c =
-    let is : kept ≡ (grown c.in_ok-first.first (piece_in c.args.piece)).0 = sym (ap fate_of c.in-Kept.is) ∙ c.in_ok-taken.ensures.fate in
+    let is : kept ≡ (after_piece c.in_ok-first.first (piece_in c.args.piece)).0 = sym (ap fate_of c.in-Kept.is) ∙ c.in_ok-taken.ensures.fate in
     rw (missed_kept c.args.self.now c.args.lane (piece_in c.args.piece) c.in_ok-first.first c.take.new.self c.requires.lane c.requires.fours c.requires.new c.in_ok-first.ensures is c.in_ok-taken.ensures.grown) c.store.ensures.fate
 
 pub returns-in-Kept-clause-lanes : goal.returns-in-Kept-clause-lanes
 returns-in-Kept-clause-lanes c =
-    let is : kept ≡ (grown c.in_ok-first.first (piece_in c.args.piece)).0 = sym (ap fate_of c.in-Kept.is) ∙ c.in_ok-taken.ensures.fate in
+    let is : kept ≡ (after_piece c.in_ok-first.first (piece_in c.args.piece)).0 = sym (ap fate_of c.in-Kept.is) ∙ c.in_ok-taken.ensures.fate in
     rw (missed_kept c.args.self.now c.args.lane (piece_in c.args.piece) c.in_ok-first.first c.take.new.self c.requires.lane c.requires.fours c.requires.new c.in_ok-first.ensures is c.in_ok-taken.ensures.grown) c.store.ensures.lanes
 
 pub returns-in_default : goal.returns-in_default

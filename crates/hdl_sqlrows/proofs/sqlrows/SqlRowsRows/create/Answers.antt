@@ -2,7 +2,7 @@ use Rattle.std.proofs.Common.{◌≡◌, ◌∙◌, sym, ap, false}
 use Rattle.hdl_name.specs.Name.{authority}
 use Rattle.hdl_rows.specs.Table.{has, indexes}
 use Rattle.hdl_rows.specs.Write.{Create}
-use Rattle.hdl_sqlrows.specs.Kept.{table_of}
+use Rattle.hdl_sqlrows.specs.Stored.{table_of}
 use Rattle.hdl_sqlrows.proofs.Placed.{absent_from, placed_by, at_canon}
 use Rattle.hdl_sqlrows.proofs.sqlrows.SqlRowsRows.create.Goals as goal
 

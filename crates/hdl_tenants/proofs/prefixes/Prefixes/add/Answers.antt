@@ -1,6 +1,6 @@
 use Rattle.std.proofs.Common.{ap}
 use Rattle.hdl_tenants.specs.Register.{Hosting}
-use Rattle.hdl_tenants.specs.Kept.{hosting_in, hostings_in}
+use Rattle.hdl_tenants.specs.Record.{hosting_in, hostings_in}
 use Rattle.hdl_tenants.proofs.Maps.{shown-push}
 use Rattle.hdl_tenants.proofs.Hosts.{kept_push}
 use Rattle.hdl_tenants.proofs.prefixes.Prefixes.add.Goals as goal

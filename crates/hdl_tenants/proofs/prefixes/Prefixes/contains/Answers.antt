@@ -1,5 +1,5 @@
 use Rattle.std.proofs.Common.{◌≡◌, sym, ◌∙◌, arith}
-use Rattle.hdl_tenants.specs.Kept.{hostings_in, hosts_of}
+use Rattle.hdl_tenants.specs.Record.{hostings_in, hosts_of}
 use Rattle.hdl_tenants.proofs.Hosts.{found_some, found_none, some_hosted, none_hosted}
 use Rattle.hdl_tenants.proofs.prefixes.Prefixes.contains.Goals as goal
 

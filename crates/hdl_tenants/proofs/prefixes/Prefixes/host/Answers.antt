@@ -1,6 +1,6 @@
 use Rattle.std.proofs.Common.{◌≡◌, ◌==◌, sym, ap, ◌∙◌}
 use Rattle.std.specs.Prelude.{find}
-use Rattle.hdl_tenants.specs.Kept.{hostings_in, hosts_of}
+use Rattle.hdl_tenants.specs.Record.{hostings_in, hosts_of}
 use Rattle.hdl_tenants.proofs.Hosts.{found_some, found_none}
 use Rattle.hdl_tenants.proofs.prefixes.Prefixes.host.Goals as goal
 

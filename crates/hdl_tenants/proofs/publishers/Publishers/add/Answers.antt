@@ -4,7 +4,7 @@ use Rattle.std.specs.String.{string_bytes}
 use Rattle.std.specs.Map.{lookup}
 use Rattle.std.proofs.lemmas.List.Sums.{sum_by-append}
 use Rattle.indexmap.proofs.CallerLemmas.{insert_entry-new}
-use Rattle.hdl_tenants.specs.Kept.{publisher_in}
+use Rattle.hdl_tenants.specs.Record.{publisher_in}
 use Rattle.hdl_tenants.proofs.Maps.{found-Contains, absent-Contains, none-from_is_some, shown-push}
 use Rattle.hdl_tenants.proofs.publishers.Publishers.add.Goals as goal
 

@@ -1,7 +1,7 @@
 use Rattle.std.proofs.Common.{◌+◌, ◌∙◌, ap, sym, arith}
 use Rattle.std.specs.Option.{option_map}
 use Rattle.std.proofs.lemmas.Option.{slice_get-map}
-use Rattle.hdl_tenants.specs.Kept.{publisher_in, publishers_in}
+use Rattle.hdl_tenants.specs.Record.{publisher_in, publishers_in}
 use Rattle.hdl_tenants.proofs.Lanes.{first_lane-more, first_lane-within}
 use Rattle.hdl_tenants.proofs.publishers.Publishers.first_lane.Goals as goal
 

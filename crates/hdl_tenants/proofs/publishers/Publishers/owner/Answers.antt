@@ -1,7 +1,7 @@
 use Rattle.std.proofs.Common.{sym, ◌∙◌, ap}
 use Rattle.std.specs.Option.{option_map}
 use Rattle.std.proofs.lemmas.Option.{slice_get-map}
-use Rattle.hdl_tenants.specs.Kept.{publisher_in, publishers_in}
+use Rattle.hdl_tenants.specs.Record.{publisher_in, publishers_in}
 use Rattle.hdl_tenants.proofs.Lanes.{so_far_here, so_far_more}
 use Rattle.hdl_tenants.proofs.publishers.Publishers.owner.Goals as goal
 

@@ -1,4 +1,4 @@
-use Rattle.hdl_tenants.specs.Kept.{publishers_in}
+use Rattle.hdl_tenants.specs.Record.{publishers_in}
 use Rattle.hdl_tenants.proofs.Lanes.{SoFar}
 use Rattle.hdl_tenants.proofs.publishers.Publishers.owner.Given as goal
 

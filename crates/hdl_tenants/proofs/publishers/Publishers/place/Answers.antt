@@ -2,7 +2,7 @@ use Rattle.std.proofs.Common.{refl}
 use Rattle.std.specs.Str.{bytes_eq}
 use Rattle.std.specs.String.{string_bytes}
 use Rattle.std.specs.Map.{keys_of}
-use Rattle.hdl_tenants.specs.Kept.{publisher_in}
+use Rattle.hdl_tenants.specs.Record.{publisher_in}
 use Rattle.hdl_tenants.proofs.Maps.{found-Contains, absent-Contains, place-is, place_some, when_some, when_none}
 use Rattle.hdl_tenants.proofs.publishers.Publishers.place.Goals as goal
 

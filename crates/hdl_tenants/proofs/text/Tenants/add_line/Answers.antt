@@ -1,7 +1,7 @@
 use Rattle.std.proofs.Common.{sym, ◌∙◌, true≢false}
 use Rattle.hdl_tenants.specs.Register.{Publisher}
 use Rattle.hdl_tenants.specs.Text.{publisher, hosted, IsSkipped}
-use Rattle.hdl_tenants.specs.Kept.{publisher_on}
+use Rattle.hdl_tenants.specs.Record.{publisher_on}
 use Rattle.hdl_tenants.proofs.Sayings.{both_ok, if_ok, if_fault, opened_fault, no_line, opens_adds}
 use Rattle.hdl_tenants.proofs.text.Tenants.add_line.Goals as goal
 

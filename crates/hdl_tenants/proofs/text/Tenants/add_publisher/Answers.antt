@@ -1,5 +1,5 @@
 use Rattle.hdl_tenants.specs.Register.{Register}
-use Rattle.hdl_tenants.specs.Kept.{publisher_on}
+use Rattle.hdl_tenants.specs.Record.{publisher_on}
 use Rattle.hdl_tenants.proofs.Registers.{publisher_added}
 use Rattle.hdl_tenants.proofs.text.Tenants.add_publisher.Goals as goal
 

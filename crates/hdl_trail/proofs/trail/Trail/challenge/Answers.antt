@@ -2,7 +2,7 @@ use Rattle.std.proofs.Common.{◌≡◌, ◌∙◌, List, ap, eqb, not, filter, 
 use Rattle.std.proofs.lemmas.Bool.{eq-eqb}
 use Rattle.arrayvec.proofs.ArrayVecLemmas.{filter-from_retain}
 use Rattle.hdl_trail.specs.declared.kept.Sent.{Sent}
-use Rattle.hdl_trail.specs.Kept.{put_behind}
+use Rattle.hdl_trail.specs.Followed.{put_behind}
 use Rattle.hdl_trail.proofs.trail.Trail.challenge.Goals as goal
 
 pub returns-then-code-eq-CHALLENGE-clause-challenges : goal.returns-then-code-eq-CHALLENGE-clause-challenges

@@ -1,5 +1,5 @@
 use Rattle.std.proofs.Common.{◌≡◌, ℕ, ◌+◌, ◌<◌, ◌||◌, true}
-use Rattle.hdl_trail.specs.Kept.{is_held}
+use Rattle.hdl_trail.specs.Followed.{is_held}
 use Rattle.hdl_trail.specs.Peers.{is_under_way}
 use Rattle.hdl_trail.specs.Trail.{followed_by}
 use Rattle.hdl_trail.proofs.trail.Trail.free_place.Given as goal

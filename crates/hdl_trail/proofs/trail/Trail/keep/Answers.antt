@@ -1,5 +1,5 @@
 use Rattle.std.proofs.Common.{◌∙◌, ap, sym, set}
-use Rattle.hdl_trail.specs.Kept.{grown, put_behind}
+use Rattle.hdl_trail.specs.Followed.{with_frame, put_behind}
 use Rattle.hdl_trail.proofs.KeptLemmas.{with_piece_begun, with_piece_found}
 use Rattle.hdl_trail.proofs.trail.Trail.keep.Goals as goal
 
@@ -11,5 +11,5 @@ returns-in_default-clause-partials c =
 pub returns-in-Some-get_mut-clause-partials : goal.returns-in-Some-get_mut-clause-partials
 returns-in-Some-get_mut-clause-partials c =
     let items = c.args.self.now.partials.items in
-    ap (set items c.in-Some.place) (c.grown.ensures ∙ ap (grown c.args.exchange) c.in-Some-get_mut.ensures.value)
+    ap (set items c.in-Some.place) (c.with_frame.ensures ∙ ap (with_frame c.args.exchange) c.in-Some-get_mut.ensures.value)
     ∙ with_piece_found c.args.exchange items c.in-Some.place c.in-Some-get_mut.mark.now (sym c.place.ensures ∙ c.in-Some.is)

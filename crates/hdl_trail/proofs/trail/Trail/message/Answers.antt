@@ -2,7 +2,7 @@ use Rattle.std.proofs.Common.{◌∙◌, ◌<◌, List, ap, sym, get_or, length,
 use Rattle.std.proofs.lemmas.Bool.{lt-ltb}
 use Rattle.std.proofs.lemmas.List.Quantifiers.{position-Some}
 use Rattle.hdl_trail.specs.declared.kept.Mark.{Mark}
-use Rattle.hdl_trail.specs.Kept.{is_of}
+use Rattle.hdl_trail.specs.Followed.{is_of}
 use Rattle.hdl_trail.proofs.KeptLemmas.{find_found, find_missed, some_copied}
 use Rattle.hdl_trail.proofs.trail.Trail.message.Goals as goal
 

@@ -1,6 +1,6 @@
 use Rattle.std.proofs.Common.{ap, sym, ◌∙◌, option_copied}
 use Rattle.hdl_routes.proofs.Replies.{copied_kept}
-use Rattle.hdl_routes.proofs.kept.Kept.find.Goals as goal
+use Rattle.hdl_routes.proofs.kept.KeptReplies.find.Goals as goal
 
 pub returns-in-Some : goal.returns-in-Some
 returns-in-Some c =

@@ -9,7 +9,7 @@ use hdl_lanes::{Inlet, Outlet};
 use std::alloc::Global;
 
 #[derive(Drop)]
-pub(crate) struct Line {
+pub(crate) struct WorkerLane {
     pub(crate) inlet: Inlet<Item>,
     pub(crate) outcomes: Outlet<Outcome>,
     /// How many events have no outcome yet.
@@ -21,18 +21,18 @@ pub(crate) struct Line {
     ghost balanced: { length (taken_from outcomes) + waiting ≡ length (put_into inlet) },
 }
 
-impl Line {
+impl WorkerLane {
     ghost use Rattle.std.specs.Prelude.{◌≡◌, ◌<◌, ◌++◌, ◌∷◌, [], IsSome, IsTrue, MatchOption};
     ghost use Rattle.hdl_workers.specs.declared.item.Item.TheVariants.{Event};
-    ghost use Rattle.hdl_workers.specs.Line.{put_by, taken_by, HasPlace, SameLine};
+    ghost use Rattle.hdl_workers.specs.WorkerLane.{put_by, taken_by, HasPlace, SameWorkerLane};
 
     /// The line of a lane through which nothing went yet.
-    pub(crate) fn new(alloc: Global, side: WorkerSide, turns: u64) -> Line
+    pub(crate) fn new(alloc: Global, side: WorkerSide, turns: u64) -> WorkerLane
         ensures ends { (result.inlet ≡ side.inlet) × (result.outcomes ≡ side.outcomes) }
         ensures empty { (put_by result ≡ []) × (taken_by result ≡ []) }
     {
         let WorkerSide { inlet, outcomes } = side;
-        Line {
+        WorkerLane {
             inlet,
             outcomes,
             waiting: 0,
@@ -43,7 +43,7 @@ impl Line {
 
     /// Whether the next event is put at once.
     pub(crate) fn has_room(&mut self) -> bool
-        ensures line { SameLine self.old self.new }
+        ensures line { SameWorkerLane self.old self.new }
         ensures room { IsTrue result → HasPlace self.new }
         ensures put { put_by self.new ≡ put_by self.old }
         ensures taken { taken_by self.new ≡ taken_by self.old }
@@ -54,7 +54,7 @@ impl Line {
     /// Puts an event.
     pub(crate) fn put(&mut self, what: Happening)
         requires room { HasPlace self.old }
-        ensures line { SameLine self.old self.new }
+        ensures line { SameWorkerLane self.old self.new }
         ensures put { put_by self.new ≡ put_by self.old ++ Event what ∷ [] }
         ensures taken { taken_by self.new ≡ taken_by self.old }
     {
@@ -66,7 +66,7 @@ impl Line {
 
     /// One try to take the outcome of the oldest event that waits for one.
     pub(crate) fn next(&mut self) -> Option<Outcome>
-        ensures line { SameLine self.old self.new }
+        ensures line { SameWorkerLane self.old self.new }
         ensures taken { MatchOption result (taken_by self.new ≡ taken_by self.old) (λ outcome. taken_by self.new ≡ taken_by self.old ++ outcome ∷ []) }
         ensures put { put_by self.new ≡ put_by self.old }
         ensures waiting { IsSome result → self.new.waiting < self.old.waiting }

@@ -5,24 +5,24 @@ use mathlib.Core.List.{IsPrefix}
 use Rattle.hdl_events.specs.declared.Outcome.{Outcome}
 use Rattle.hdl_lanes.specs.Lane.{put_into, taken_from, known_room, SameInlet, SameOutlet}
 use Rattle.hdl_workers.specs.declared.item.Item.{Item}
-use Rattle.hdl_workers.specs.declared.line.Line.{Line}
+use Rattle.hdl_workers.specs.declared.worker_lane.WorkerLane.{WorkerLane}
 use Rattle.hdl_workers.specs.Octets.{octets_of}
 use Rattle.hdl_workers.specs.Door.{Connection}
 
 -- every item put, and every outcome taken, oldest first
-abbrev pub put_by : Line → List Item
+abbrev pub put_by : WorkerLane → List Item
 put_by line = put_into line.inlet
 
-abbrev pub taken_by : Line → List Outcome
+abbrev pub taken_by : WorkerLane → List Outcome
 taken_by line = taken_from line.outcomes
 
 -- the next event is put at once
-abbrev pub HasPlace : Line → Type 0
+abbrev pub HasPlace : WorkerLane → Type 0
 HasPlace line = (0 < known_room line.inlet) × (line.waiting < 2 ^ 64 - 1)
 
 -- the lane's ends are the same, and no turn came back
-abbrev pub SameLine : Line → Line → Type 0
-SameLine a b = SameInlet a.inlet b.inlet × SameOutlet a.outcomes b.outcomes × (b.turns ≤ a.turns)
+abbrev pub SameWorkerLane : WorkerLane → WorkerLane → Type 0
+SameWorkerLane a b = SameInlet a.inlet b.inlet × SameOutlet a.outcomes b.outcomes × (b.turns ≤ a.turns)
 
 -- more outcomes were taken, and all their octets were written
 abbrev pub Relayed : List Outcome → Connection → List Outcome → Connection → Type 0

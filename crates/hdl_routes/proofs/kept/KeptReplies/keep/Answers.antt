@@ -1,5 +1,5 @@
 use Rattle.hdl_routes.proofs.Replies.{put_keeps}
-use Rattle.hdl_routes.proofs.kept.Kept.keep.Goals as goal
+use Rattle.hdl_routes.proofs.kept.KeptReplies.keep.Goals as goal
 
 pub returns : goal.returns
 returns c =

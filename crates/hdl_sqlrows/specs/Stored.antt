@@ -118,7 +118,7 @@ pub record IsWhole (db : Database) : Type 0 where
 -- ---- a connection
 
 -- between two calls
-pub record IsSettled (s : State) : Type 0 where
+pub record IsBetweenCalls (s : State) : Type 0 where
   pub whole : IsWhole s.now
   pub autocommit : s.in_transaction ≡ false
   pub committed : s.committed ≡ s.now

@@ -36,17 +36,17 @@ abbrev pub first_mark : Exchange → Mark
 first_mark e = record { key = e.key; length = e.length; operation = e.operation }
 
 -- the message with the frame's piece: its operation is known once its front came; a piece of another length is ignored
-abbrev pub grown : Exchange → Mark → Mark
-grown e m = if m.length == e.length && is_none m.operation then record m { operation = e.operation } else m
+abbrev pub with_frame : Exchange → Mark → Mark
+with_frame e m = if m.length == e.length && is_none m.operation then record m { operation = e.operation } else m
 
 -- the messages, where the first of the frame's key has its piece
-abbrev pub grown_among : Exchange → List Mark → List Mark
-grown_among e [] = []
-grown_among e (m ∷ ms) = if is_of e.key m then grown e m ∷ ms else m ∷ grown_among e ms
+abbrev pub with_frame_among : Exchange → List Mark → List Mark
+with_frame_among e [] = []
+with_frame_among e (m ∷ ms) = if is_of e.key m then with_frame e m ∷ ms else m ∷ with_frame_among e ms
 
 -- a piece goes to its message, or begins it
 abbrev pub with_piece : Exchange → List Mark → List Mark
-with_piece e ms = if list_any (is_of e.key) ms then grown_among e ms else put_behind PARTIALS_MAX ms (first_mark e)
+with_piece e ms = if list_any (is_of e.key) ms then with_frame_among e ms else put_behind PARTIALS_MAX ms (first_mark e)
 
 -- what isn't answered is a piece that is kept or ignored, or is of no account
 abbrev pub leave_unanswered : Followed → Exchange → Followed
@@ -89,11 +89,11 @@ leave_answered f e code session = record {
 }
 
 -- a busy answer (code 3) changes nothing
-abbrev pub settle_by : Followed → Exchange → Option (ℕ × ℕ) → Followed
-settle_by f e None = leave_unanswered f e
-settle_by f e (Some reply) = if reply.0 == 3 then f else leave_answered f e reply.0 reply.1
+abbrev pub finish_by : Followed → Exchange → Option (ℕ × ℕ) → Followed
+finish_by f e None = leave_unanswered f e
+finish_by f e (Some reply) = if reply.0 == 3 then f else leave_answered f e reply.0 reply.1
 
 -- what is followed once the last frame and its reply, if any, are settled
-abbrev pub settle : Followed → Option Exchange → Followed
-settle f None = f
-settle f (Some e) = settle_by f e e.reply
+abbrev pub finish_exchange : Followed → Option Exchange → Followed
+finish_exchange f None = f
+finish_exchange f (Some e) = finish_by f e e.reply

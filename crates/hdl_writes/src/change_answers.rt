@@ -2,7 +2,7 @@
 
 ghost use Rattle.std.specs.Prelude.{◌≡◌, ◌++◌, map, IfOk, OnOk};
 ghost use Rattle.hdl_proxy.specs.Answer.{Tells};
-ghost use Rattle.hdl_writes.specs.Told.{status_of_change, change_words};
+ghost use Rattle.hdl_writes.specs.ChangeAnswers.{status_of_change, change_words};
 
 use hdl_msg::{RequestBody, ResponseCode};
 use hdl_proxy::{Answer, Media, Status, json_answer, put_text, refusal};

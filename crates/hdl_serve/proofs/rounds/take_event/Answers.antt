@@ -1,6 +1,6 @@
 use Rattle.std.proofs.Common.{rules}
 use Rattle.hdl_serve.proofs.Steps.{took_event, took_end}
-use Rattle.hdl_serve.proofs.rounds.ask.Goals as goal
+use Rattle.hdl_serve.proofs.rounds.take_event.Goals as goal
 
 pub returns-in-Some-End : goal.returns-in-Some-End
 returns-in-Some-End c =

@@ -6,10 +6,10 @@ use Rattle.hdl_ops.specs.declared.decision.HashedRequest.{HashedRequest}
 use Rattle.hdl_ops.specs.Tables.{apply_if}
 use Rattle.hdl_ops.specs.Views.{decision_of, hosted_by}
 use Rattle.hdl_laws.specs.Effects.{answer_octets}
-use Rattle.hdl_core.specs.Serving.{challenge_of_request, context, HasItsCode, IsAsked}
+use Rattle.hdl_core.specs.Serving.{challenge_of_request, context, HasItsCode, IsHeardForAnyone}
 use Rattle.hdl_core.specs.declared.hearing.Heard.{Heard}
 use Rattle.hdl_core.proofs.Heard.{on_ok, named_decides}
-use Rattle.hdl_core.proofs.hearing.ask.Goals as goal
+use Rattle.hdl_core.proofs.hearing.hear_for_anyone.Goals as goal
 
 pub returns-then-is_challenged-clause-asked : goal.returns-then-is_challenged-clause-asked
 returns-then-is_challenged-clause-asked g c =
@@ -19,7 +19,7 @@ returns-then-is_challenged-clause-asked g c =
     let needed : (response_number c.in_ok-decision.decision.code == 402) ≡ true = sym c.is_challenged.ensures ∙ c.if-is_challenged.true in
     let named = c.in_ok-named.ensures.asked in
     on_ok c.challenge.result _ _
-    (λ heard is. subst (λ (h : Heard). IsAsked (context c.args.owner.now t) m c.args.next r h (g.R.Rows.content c.decide.new.rows)) (sym (is ∙ ap (λ (x : HashedRequest). challenge_of_request x.algorithm m c.args.next x.request.now) named)) (
+    (λ heard is. subst (λ (h : Heard). IsHeardForAnyone (context c.args.owner.now t) m c.args.next r h (g.R.Rows.content c.decide.new.rows)) (sym (is ∙ ap (λ (x : HashedRequest). challenge_of_request x.algorithm m c.args.next x.request.now) named)) (
       decision_of c.in_ok-decision.decision,
       named_decides t Anyone (decision_of c.in_ok-decision.decision) c.in_ok-named.ensures.owner named c.in_ok-decision.ensures.decided,
       needed,
