@@ -1,6 +1,9 @@
 -- What the front of a reply says (docs/PROTOCOL.md, "Envelope" and "Message").
 use Rattle.std.specs.Prelude.{ℕ, Bool, not, ◌==◌, ◌&&◌, nat_le, if◌then◌else◌, List, length, Option, Some, None}
 use Rattle.hdl_frame.specs.Envelope.{envelope_at, u32_at}
+use Rattle.hdl_msg.specs.declared.codes.OpCode.TheVariants.{CreateHandle, ModifyValue}
+use Rattle.hdl_msg.specs.declared.codes.ResponseCode.TheVariants.{AuthenticationNeeded, Success}
+use Rattle.hdl_msg.specs.Codes.{op_number, response_number}
 use Rattle.hdl_audit.specs.declared.answer.Answer.{Answer}
 
 -- operation and code of a reply, by a frame that has the front of its message
@@ -12,11 +15,11 @@ answer_of frame =
 
 -- the operations that change a handle: create, delete, add, remove, modify
 abbrev pub changes : ℕ → Bool
-changes operation = nat_le 100 operation && nat_le operation 104
+changes operation = nat_le (op_number CreateHandle) operation && nat_le operation (op_number ModifyValue)
 
 -- the reply is a challenge
 abbrev pub is_challenge : Answer → Bool
-is_challenge answer = answer.code == 402
+is_challenge answer = answer.code == response_number AuthenticationNeeded
 
 -- the reply ends a change: it is accepted or refused, and not challenged
 abbrev pub ends_change : Answer → Bool
@@ -24,4 +27,4 @@ ends_change answer = changes answer.operation && not (is_challenge answer)
 
 -- the reply says that a change was accepted
 abbrev pub accepts_change : Answer → Bool
-accepts_change answer = changes answer.operation && answer.code == 1
+accepts_change answer = changes answer.operation && answer.code == response_number Success

@@ -1,6 +1,8 @@
 -- How much of a reply may go to an address that nothing shows to be there (docs/PROTOCOL.md, "Replies to strangers").
 use Rattle.std.specs.Prelude.{ℕ, ◌+◌, ◌*◌, Bool, false, ◌==◌, ◌&&◌, ◌||◌, nat_le, if◌then◌else◌, Option, Some, None}
 use Rattle.hdl_frame.specs.Pieces.{datagram_count, piece_count}
+use Rattle.hdl_msg.specs.declared.codes.ResponseCode.TheVariants.{Success}
+use Rattle.hdl_msg.specs.Codes.{response_number}
 use Rattle.hdl_trail.specs.declared.exchange.Exchange.{Exchange}
 use Rattle.hdl_trail.specs.Followed.{Followed, is_response, operation_of}
 
@@ -28,7 +30,7 @@ is_within_last times length (Some e) = is_within times length e
 -- the code is that of success
 abbrev pub is_success : Option (ℕ × ℕ) → Bool
 is_success None = false
-is_success (Some reply) = reply.0 == 1
+is_success (Some reply) = reply.0 == response_number Success
 
 -- who sent this answered a challenge: it was a challenge response, and the reply to it says success
 abbrev pub answers_challenge : Followed → Option Exchange → Bool

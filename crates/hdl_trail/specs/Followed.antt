@@ -3,6 +3,9 @@ use Rattle.std.specs.Prelude.{ℕ, Bool, false, not, ◌==◌, ◌&&◌, ◌||�
 use Rattle.std.specs.List.{list_any}
 use Rattle.std.specs.Option.{option_and_then, option_or}
 use Rattle.hdl_limits.specs.declared.TheConstants.{CHALLENGES_MAX, PARTIALS_MAX}
+use Rattle.hdl_msg.specs.declared.codes.OpCode.TheVariants.{ChallengeResponse}
+use Rattle.hdl_msg.specs.declared.codes.ResponseCode.TheVariants.{AuthenticationNeeded, ProtocolError, ServerBusy}
+use Rattle.hdl_msg.specs.Codes.{op_number, response_number}
 use Rattle.hdl_trail.specs.declared.kept.Key.{Key}
 use Rattle.hdl_trail.specs.declared.kept.Mark.{Mark}
 use Rattle.hdl_trail.specs.declared.kept.Sent.{Sent}
@@ -62,22 +65,22 @@ operation_of e ms = option_or e.operation (if e.is_piece then option_and_then (�
 abbrev pub end_message : Exchange → List Mark → List Mark
 end_message e ms = if e.is_piece then filter (λ m. not (is_of e.key m)) ms else ms
 
--- operation 200 is a challenge response
+-- the operation is a challenge response
 abbrev pub is_response : Option ℕ → Bool
 is_response None = false
-is_response (Some operation) = operation == 200
+is_response (Some operation) = operation == op_number ChallengeResponse
 
--- a challenge response spends the challenge of its peer and SessionId, unless it is out of the grammar (code 4)
+-- a challenge response spends the challenge of its peer and SessionId, unless it is out of the grammar
 abbrev pub redeem : Key → Option ℕ → ℕ → List Sent → List Sent
 redeem key operation code sent =
-    if is_response operation && not (code == 4)
+    if is_response operation && not (code == response_number ProtocolError)
     then filter (λ s. not (is_from key.number key.session s)) sent
     else sent
 
--- a challenge (code 402) is put under its SessionId, which no other has then
+-- a challenge is put under its SessionId, which no other has then
 abbrev pub add_challenge : ℕ → ℕ → ℕ → List Sent → List Sent
 add_challenge number code session sent =
-    if code == 402
+    if code == response_number AuthenticationNeeded
     then put_behind CHALLENGES_MAX (filter (λ s. not (s.session == session)) sent) (record { number = number; session = session })
     else sent
 
@@ -88,10 +91,10 @@ leave_answered f e code session = record {
   challenges = add_challenge e.key.number code session (redeem e.key (operation_of e f.partials) code f.challenges);
 }
 
--- a busy answer (code 3) changes nothing
+-- a busy answer changes nothing
 abbrev pub finish_by : Followed → Exchange → Option (ℕ × ℕ) → Followed
 finish_by f e None = leave_unanswered f e
-finish_by f e (Some reply) = if reply.0 == 3 then f else leave_answered f e reply.0 reply.1
+finish_by f e (Some reply) = if reply.0 == response_number ServerBusy then f else leave_answered f e reply.0 reply.1
 
 -- what is followed once the last frame and its reply, if any, are settled
 abbrev pub finish_exchange : Followed → Option Exchange → Followed

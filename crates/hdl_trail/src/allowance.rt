@@ -7,9 +7,10 @@ ghost use Rattle.hdl_trail.specs.Allowance.{asked_octets, is_success, is_within,
 use crate::exchange::Exchange;
 use hdl_frame::ENVELOPE_LEN;
 use hdl_limits::PIECE_LEN;
+use hdl_msg::ResponseCode;
 
 /// The code of success.
-const SUCCESS: u32 = 1;
+const SUCCESS: u32 = ResponseCode::Success as u32;
 
 /// How many pieces a message of so many octets has.
 fn piece_count(length: u32) -> u64

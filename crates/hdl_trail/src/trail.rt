@@ -26,16 +26,17 @@ use crate::kept::{Key, Mark, Sent, put};
 use arrayvec::ArrayVec;
 use hdl_frame::Frame;
 use hdl_limits::{CHALLENGES_MAX, PARTIALS_MAX, UNDER_WAY_MAX};
+use hdl_msg::{OpCode, ResponseCode};
 
 /// Codes of replies: busy, out of the grammar, and a challenge.
-const BUSY: u32 = 3;
+const BUSY: u32 = ResponseCode::ServerBusy as u32;
 
-const MALFORMED: u32 = 4;
+const MALFORMED: u32 = ResponseCode::ProtocolError as u32;
 
-const CHALLENGE: u32 = 402;
+const CHALLENGE: u32 = ResponseCode::AuthenticationNeeded as u32;
 
 /// The operation of a challenge response.
-const RESPONSE: u32 = 200;
+const RESPONSE: u32 = OpCode::ChallengeResponse as u32;
 
 /// What the service keeps of a lane, by the frames that came and the replies that were sent. Frames that come are seen by `note_frame`, each datagram of
 /// the reply to the oldest by `note_reply`, and `finish_oldest` says that this reply is whole.
