@@ -79,6 +79,16 @@ def json(status, kept, body, **how):
     return whole(status, fields_of(JSON, status, kept, body, methods="GET, HEAD, OPTIONS"), body, **how)
 
 
+def words(status, text, **how):
+    """What the proxy tells of itself."""
+    return whole(status, [("content-type", "text/plain; charset=utf-8"), ("cache-control", NEVER)], text, **how)
+
+
+def counts(text):
+    """What the proxy counts, in the text format of Prometheus."""
+    return whole(200, [("content-type", "text/plain; version=0.0.4; charset=utf-8"), ("cache-control", NEVER)], text)
+
+
 def file(media, kept, body, **how):
     return whole(200, fields_of(media, 200, kept, body), body, **how)
 

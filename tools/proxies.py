@@ -2,11 +2,12 @@
 program crates/handled/out/handled), of servers in this program that answer badly, and of none; heads that are too long, clients that are
 slow, and a thousand that are idle.
 
-It takes some 12 seconds, of which most is waiting. Its last line is 'N passed, M failed', a case counting one."""
+It takes some 25 seconds, of which most is waiting. Its last line is 'N passed, M failed', a case counting one."""
 
 import contextlib
 import html
 import os
+import re
 import resource
 import socket
 import struct
@@ -22,6 +23,9 @@ import answers
 import repository
 import servers
 import wire
+from proxy_pages import (
+    ABSENT, BEYOND, CALLBACK, CIRCLE, CONTACT, CROWDED, ELSEWHERE, FOLLOW, FORM, FRONT, HIDDEN, ICON, INDEX, LATER, LOOK, OTHERS, READING, ROBOTS, SITE, SLASH, UNANSWERED,
+    answered_nowhere, empty, json_refusal, json_text, json_value, json_values, led_to, link, nameless, nowhere, refusal, text, value, values, way)
 
 PROGRAM = os.environ.get("PROXY", repository.program("hdl_web"))
 WORDS = os.environ.get("HDL", repository.program("hdl"))
@@ -42,6 +46,7 @@ value 10/script 1 URL 86400 1110 UTF8 javascript:alert(1)
 value 10/script 2 URL 86400 1110 UTF8 https://example.org/
 value 10/admin 100 HS_ADMIN 86400 1110 ADMIN 300:111111111111:0.NA/10
 value 10/admin 101 HS_VLIST 86400 1110 LIST 200:10/x 201:10/y
+value 10/some 100 HS_ADMIN 86400 1110 ADMIN 300:000010000001:0.NA/10
 value 10/admin 102 OCTETS 86400 1110 HEX 00ff41
 value 10/admin 103 HS_SITE 86400 1110 UTF8 site
 value 10/admin 300 HS_SECKEY 86400 1100 UTF8 never-shown
@@ -72,11 +77,12 @@ value 20/circle 1 HS_ALIAS 86400 1110 UTF8 10/circle
 value 10/\u00fc?q=a&"<b>%% 1 HS_ALIAS 86400 1110 UTF8 20/wild
 value 20/wild 1 HS_ALIAS 86400 1110 UTF8 10/\u00fc?q=a&"<b>%%
 %svalue 10/11 1 URL 86400 1110 UTF8 https://example.org/eleven
-value 20/archive 1 URL 86400 1110 UTF8 https://example.org/archive
+%svalue 20/archive 1 URL 86400 1110 UTF8 https://example.org/archive
 value 20/host 1 URL 60 1110 UTF8 https://example.org
 """
 # ten aliases lead from 10/1 to 10/11, and eleven from 10/0
 CHAIN = "".join("value 10/%d 1 HS_ALIAS 86400 1110 UTF8 10/%d\n" % (number, number + 1) for number in range(11))
+MANY = "".join("value 10/many %d NOTE 86400 1110 UTF8 note %d\n" % (index, index) for index in range(1, 51))
 # a name with what has a meaning in a path, in a page or in an attribute
 WILD = '10/\u00fc?q=a&"<b>%'
 
@@ -84,79 +90,6 @@ WILD = '10/\u00fc?q=a&"<b>%'
 OPTIONS = answers.JSON + [("allow", "GET, HEAD, OPTIONS"), ("access-control-allow-methods", "GET, HEAD, OPTIONS"), ("access-control-allow-headers", "*, Authorization"),
                           ("access-control-max-age", "86400"), ("cache-control", answers.NEVER)]
 KEPT, NEVER, DAY = answers.KEPT, answers.NEVER, 86400
-SITE, CONTACT = "Tom & Jerry's <handles>", "help@example.org"
-SITE_TEXT = "Tom &amp; Jerry&#39;s &lt;handles&gt;"
-HEADER = '<header><a href="/">%s</a></header>\n<main>\n' % SITE_TEXT
-FOOTER = '<footer>Questions? <a href="mailto:help@example.org">help@example.org</a></footer>\n</body>\n</html>\n'
-ANOTHER = '<p><a href="/">Find another handle</a></p>\n</main>\n' + FOOTER
-COLUMNS = ('<table>\n<thead><tr><th scope="col">Type, index</th><th scope="col">Value</th><th scope="col">May be kept</th></tr></thead>\n'
-           "<tbody>\n%s</tbody>\n</table>\n")
-
-
-def refusal(asked, why, advice, word="Not found"):
-    return "%s: %s - %s" % (word, asked, SITE_TEXT), "%s<h1>%s</h1>\n<p>%s</p>\n<p>%s</p>\n%s" % (HEADER, asked, why, advice, ANOTHER)
-
-
-def values(handle, *parts, wrong=""):
-    return "%s - %s" % (handle, SITE_TEXT), "%s<h1>%s</h1>\n%s%s%s" % (HEADER, handle, wrong, COLUMNS % "".join(parts), ANOTHER)
-
-
-def hop(name):
-    """A handle's name, as a link to the page of its own values."""
-    return '<a href="/%s?noredirect">%s</a>' % (urllib.parse.quote(name, safe="/"), html.escape(name))
-
-
-def led_to(asked, page):
-    """A page to which an alias led: it says which handle was asked for."""
-    title, main = page
-    note = '<p class="note">%s is an alias, which leads to this handle:</p>\n' % hop(asked)
-    return "%s, an alias: %s" % (html.escape(asked), title), HEADER + note + main[len(HEADER):]
-
-
-def nowhere(why, *names):
-    """That the aliases of handles lead nowhere, by a link to each."""
-    asked, hops = html.escape(names[0]), "".join("<li>%s</li>\n" % hop(name) for name in names)
-    return ("Leads nowhere: %s - %s" % (asked, SITE_TEXT),
-            "%s<h1>%s</h1>\n<p>%s</p>\n<ol>\n%s</ol>\n<p>%s</p>\n%s" % (HEADER, asked, why, hops, ELSEWHERE_PLEASE, ANOTHER))
-
-
-def empty(handle):
-    none = "<p>This handle is there, and has no value that anybody may read.</p>\n"
-    return "%s - %s" % (handle, SITE_TEXT), "%s<h1>%s</h1>\n%s%s" % (HEADER, handle, none, ANOTHER)
-
-
-def value(kind, index, data, times="for a day"):
-    return '<tr><th scope="row">%s <small>%d</small></th>\n<td>%s</td>\n<td>%s</td></tr>\n' % (kind, index, data, times)
-
-
-def text(shown):
-    return '<p class="data">%s</p>\n' % shown
-
-
-def link(to, shown):
-    return text('<a rel="noreferrer" href="%s">%s</a>' % (to, shown))
-
-
-def way(title, to):
-    return title, '<!DOCTYPE html>\n<meta charset="utf-8">\n<title>%s</title>\n<a href="%s">%s</a>\n' % (title, to, to)
-
-
-def json_value(index, kind, data, ttl=86400):
-    return '{"data":%s,"index":%d,"ttl":%d,"type":"%s"}' % (data, index, ttl, kind)
-
-
-def json_text(shown):
-    return '{"format":"string","value":"%s"}' % shown
-
-
-def json_values(handle, *parts):
-    return '{"handle":"%s","responseCode":1,"values":[%s]}' % (handle, ",".join(parts))
-
-
-def json_refusal(handle, why, code):
-    return '{"handle":"%s","message":"%s","responseCode":%d}' % (handle, why, code)
-
-
 ONE = "https://example.org/one?q=1&amp;r=%22%C3%BC%22"
 A_PAGE = values("10/a", value("URL", 1, link(ONE, "https://example.org/one?q=1&amp;r=&quot;\u00fc&quot;")),
                 value("TEXT", 2, text("&lt;b&gt;Tom &amp; &quot;Jerry&quot;&lt;/b&gt;"), "for an hour"),
@@ -179,6 +112,8 @@ def unread(handle, written, *more):
 ADMINISTRATOR = '<p>Whoever has the key <span class="data">300:0.NA/10</span> may</p>\n<ul class="may">%s</ul>\n'
 ALL = "".join("<li>%s</li>" % may for may in ("create handles", "delete them", "list them", "read what isn't public", "add values", "change values", "remove values",
                                              "add administrators", "change administrators", "remove administrators"))
+SOME_PAGE = values("10/some", value("HS_ADMIN", 100, ADMINISTRATOR % "<li>list them</li><li>change values</li>"))
+MANY_PAGE = values("10/many", *(value("NOTE", index, text("note %d" % index)) for index in range(1, 51)))
 ADMIN_PAGE = values("10/admin", value("HS_ADMIN", 100, ADMINISTRATOR % ALL),
                     value("HS_VLIST", 101, text("200:10/x") + text("201:10/y")), value("OCTETS", 102, "<p>3 octets</p>\n" + text("00ff41")), value("HS_SITE", 103, text("site")))
 A_ONE = json_value(1, "URL", json_text('https://example.org/one?q=1&r=\\"\u00fc\\"'))
@@ -188,22 +123,6 @@ ADMIN = json_values("10/admin", json_value(100, "HS_ADMIN", '{"format":"admin","
                     json_value(101, "HS_VLIST", '{"format":"vlist","value":[{"handle":"10/x","index":200},{"handle":"10/y","index":201}]}'),
                     json_value(102, "OCTETS", '{"format":"base64","value":"AP9B"}'),
                     json_value(103, "HS_SITE", '{"format":"base64","value":"c2l0ZQ=="}'))
-ABSENT = "This handle isn&#39;t there."
-ELSEWHERE = "No server that was asked has handles of this prefix."
-UNANSWERED = "No server answered."
-HIDDEN = "This handle is there, and has no such value that anybody may read."
-READING = "A handle is asked for by GET or HEAD."
-INDEX = "An index is a number below 4294967296."
-CALLBACK = "The word callback isn&#39;t taken: pages of any site may read this JSON."
-LOOK = "Please look for a mistake in the name. If there is none, ask who gave it to you."
-ELSEWHERE_PLEASE = "Please tell who gave it to you: one of these handles has to lead elsewhere."
-CIRCLE = "Its aliases lead in a circle:"
-BEYOND = "Its aliases lead on beyond ten handles:"
-SLASH = "Please look for a mistake in the name, such as the slash at its end. If there is none, ask who gave it to you."
-FORM = "A handle is a prefix, a slash and a local name, such as 10/a."
-FOLLOW = "Follow a link to a handle, or type its address."
-LATER = "Please come back in a few minutes."
-
 # What real servers' values are answered by: what is asked, the status, how long others may keep it, the Location if there is one, and the body from its
 # heading on.
 A_WAY = (302, KEPT % 3600, ONE.replace("&amp;", "&"), way("10/a", ONE))
@@ -233,6 +152,12 @@ PAGES = (
     ("GET /10/%61?noredirect", 200, KEPT % 3600, None, A_PAGE),
     ("GET /10/script", 200, KEPT % 86400, None, SCRIPT_PAGE),
     ("GET /10/admin", 200, KEPT % 86400, None, ADMIN_PAGE),
+    ("GET /10/some", 200, KEPT % 86400, None, SOME_PAGE),
+    ("GET /10/many", 200, KEPT % 86400, None, MANY_PAGE),
+    ("GET /10/a?index=4", 200, NEVER, None, refusal("10/a", HIDDEN, OTHERS, "Not public")),
+    ("GET /https://doi.org/20/archive", *ARCHIVE_WAY),
+    ("GET /%3Cb%3E%22", 400, NEVER, None, refusal("&lt;b&gt;&quot;", "This is no handle: the name has no slash.", FORM, "No handle")),
+    ("POST /%3Cb%3E%22", 405, NEVER, None, refusal("/%3Cb%3E%22", READING, FOLLOW, "Not done")),
     ("GET /10/%2561", 404, NEVER, None, refusal("10/%61", ABSENT, LOOK)),
     ("GET /10/a/", 404, NEVER, None, refusal("10/a/", ABSENT, SLASH)),
     ("GET /10/%3Cscript%3E", 404, NEVER, None, refusal("10/&lt;script&gt;", ABSENT, LOOK)),
@@ -262,7 +187,7 @@ PAGES = (
     ("GET /10/kept", 302, KEPT % 86400, "https://example.org/own", way("10/kept", "https://example.org/own")),
     ("GET /10/odd", 302, KEPT % 86400, "https://example.org/own", way("10/odd", "https://example.org/own")),
     ("GET /10/gone", 404, NEVER, None, led_to("10/gone", refusal("20/none", ABSENT, LOOK))),
-    ("GET /10/off", 404, NEVER, None, refusal("30/a", ELSEWHERE, LOOK)),
+    ("GET /10/off", 404, NEVER, None, led_to("10/off", refusal("30/a", ELSEWHERE, LOOK))),
     ("GET /10/shown", 200, KEPT % 3600, None, led_to("10/shown", SCRIPT_PAGE)),
     ("GET /10/circle", 404, NEVER, None, nowhere(CIRCLE, "10/circle", "20/circle", "10/circle")),
     ("GET /10/self", 404, NEVER, None, nowhere(CIRCLE, "10/self", "10/self")),
@@ -307,6 +232,8 @@ JSONS = (
     ("GET /10/a?callback=f", 400, NEVER, json_refusal("10/a", CALLBACK.replace("&#39;", "'"), 102)),
     ("GET /ten", 400, NEVER, json_refusal("ten", "This is no handle: the name has no slash.", 102)),
     ("GET ?prefix=10", 403, NEVER, json_refusal("/api/handles", "This proxy takes no keys, and so lists no handles.", 5)),
+    ("GET ", 403, NEVER, json_refusal("/api/handles", "This proxy takes no keys, and so lists no handles.", 5)),
+    ("GET /", 400, NEVER, json_refusal("", "This is no handle: the name has no slash.", 102)),
     ("GET /../sites", 404, NEVER, json_refusal("/api/sites", "Nothing is at this address. Handles are at /api/handles/ and the handle.", 5)),
     ("POST /10/a", 405, NEVER, json_refusal("/api/handles/10/a", READING, 5)),
     ("DELETE ", 405, NEVER, json_refusal("/api/handles", READING, 5)),
@@ -328,6 +255,8 @@ def until(index, data):
 
 READABLE = wire.ADMIN_READ | wire.ADMIN_WRITE | wire.PUBLIC_READ
 ASKED = wire.resolution(b"10/a", flags=wire.PUBLIC_ONLY)
+# 2026-11-25T18:20:41.07Z, in milliseconds
+WRITTEN = 1795630841070
 HIDDEN_VALUES = (wire.value(1, b"NOTE", SECRET, wire.ADMIN_READ | wire.ADMIN_WRITE, 5), wire.value(2, b"HS_SECKEY", SECRET, READABLE, 5))
 HIDDEN_ALONE = shown(*HIDDEN_VALUES)
 LEAKING = shown(*HIDDEN_VALUES, wire.value(3, b"TEXT", b"open", READABLE, 60))
@@ -336,9 +265,20 @@ LONG = shown(wire.value(1, b"URL", b"https://example.org/long", READABLE, 429496
 GOOD = shown(url(2, b"https://example.org/second"), url(1, b"HTTPS://example.org/first"))
 
 
+def stamped(index, data, ttl, is_moment=False):
+    """A TEXT value with a timestamp, and a TTL in seconds or until a moment."""
+    return (wire.number(index) + wire.string(b"TEXT") + wire.string(data) + bytes([is_moment]) + wire.number(ttl) + bytes([READABLE]) + struct.pack(">Q", WRITTEN)
+            + wire.number(0))
+
+
 def short(code):
     """The frame of a reply with nothing but its code."""
     return lambda request: wire.frame(wire.message(wire.RESOLVE, wire.number(0), code), 0, request)
+
+
+def silence(_):
+    time.sleep(2)
+    return b""
 
 
 # What a server in this program answers to the first question of a connection, and how the proxy answers then.
@@ -348,7 +288,13 @@ REPLIES = (
     ("values that nobody may read", lambda n: wire.frame(HIDDEN_ALONE, 0, n), 200, NEVER, empty("10/a")),
     ("a moment as a TTL, and one beyond a day", lambda n: wire.frame(UNTIL, 0, n), 302, KEPT % 0, way("10/a", "https://example.org/until")),
     ("a TTL beyond a day", lambda n: wire.frame(LONG, 0, n), 302, KEPT % 86400, way("10/a", "https://example.org/long")),
-    ("it is busy", short(3), 503, NEVER, refusal("10/a", "The server is busy.", LATER, "No answer")),
+    ("when it was written", lambda n: wire.frame(shown(stamped(1, b"open", 45)), 0, n), 200, KEPT % 45,
+     values("10/a", value("TEXT", 1, text("open"), "for 45 seconds<br>written 2026-11-25T18:20:41.07Z"))),
+    ("until a moment", lambda n: wire.frame(shown(stamped(1, b"open", 4294967295, True)), 0, n), 200, KEPT % 0,
+     values("10/a", value("TEXT", 1, text("open"), "until 2106-02-07T06:28:15Z<br>written 2026-11-25T18:20:41.07Z"))),
+    ("it is busy", short(3), 503, NEVER, refusal("10/a", CROWDED, LATER, "No answer")),
+    ("it says that this is no handle", short(102), 400, NEVER, refusal("10/a", "The server says that this is no handle.", FORM, "No handle")),
+    ("it is silent", silence, 502, NEVER, refusal("10/a", UNANSWERED, LATER, "No answer")),
     ("another code", short(2), 502, NEVER, refusal("10/a", "The server couldn&#39;t answer.", LATER, "No answer")),
     ("another handle", lambda n: wire.frame(wire.values_reply(b"10/b"), 0, n), 502, NEVER, refusal("10/a", UNANSWERED, LATER, "No answer")),
     ("another request", lambda n: wire.frame(GOOD, 0, n + 7), 502, NEVER, refusal("10/a", UNANSWERED, LATER, "No answer")),
@@ -365,12 +311,12 @@ def more_files():
 
 
 @contextlib.contextmanager
-def proxy(behind):
-    """A proxy before the servers at these ports: its own port."""
+def proxy(behind, *options, site=("--site", SITE, "--contact", CONTACT), prefixes=None, host="127.0.0.1"):
+    """A proxy before the servers at these ports, each with its prefix where there are some: its own port."""
     (port,) = servers.free_ports(1)
-    words = [PROGRAM, "--listen", "127.0.0.1:%d" % port, "--site", SITE, "--contact", CONTACT]
-    for server in behind:
-        words += ["--server", "127.0.0.1:%d" % server]
+    words = [PROGRAM, "--listen", "%s:%d" % (host, port), *site, *options]
+    for place, server in enumerate(behind):
+        words += ["--server", "127.0.0.1:%d%s" % (server, "=" + prefixes[place] if prefixes else "")]
     with servers.running(words, 1):
         yield port
 
@@ -385,8 +331,8 @@ def heard(stream, patience=30):
     return octets
 
 
-def said(port, octets):
-    with socket.create_connection(("127.0.0.1", port)) as stream:
+def said(port, octets, host="127.0.0.1"):
+    with socket.create_connection((host, port)) as stream:
         stream.sendall(octets)
         return heard(stream)
 
@@ -395,9 +341,9 @@ def request(line, close=True, more=""):
     return ("%s HTTP/1.1\r\nhost: h\r\n%s%s\r\n" % (line, more, "connection: close\r\n" if close else "")).encode()
 
 
-def answered(port, line, more=""):
+def answered(port, line, more="", host="127.0.0.1"):
     """The whole answer to a request, without its moment."""
-    return answers.undated(said(port, request(line, more=more)))
+    return answers.undated(said(port, request(line, more=more), host))
 
 
 def wanted(status, kept, location, body, **how):
@@ -411,20 +357,6 @@ def asked(line, path):
     """A line with its path under /api/handles, in which `..` stands for /api."""
     method, rest = line.split(" ", 1)
     return "%s %s" % (method, (path + rest).replace("/handles/..", ""))
-
-
-FRONT = "Find a handle - " + SITE_TEXT, HEADER + """<h1>Find a handle</h1>
-<form action="/" method="get">
-<p><label for="handle">A handle, as you found it:</label></p>
-<p class="find"><input id="handle" name="handle" placeholder="10/a" autocapitalize="off" autocomplete="off" spellcheck="false" required> <button>Go to it</button></p>
-</form>
-<p>A handle such as <code>10/a</code> is a lasting name of a text, a picture or data, which may move. Its address here leads to where that is now.</p>
-<p><small>With <code>?noredirect</code> behind a handle its values are shown. <code>/api/handles/</code> and a handle gives them as JSON.</small></p>
-</main>
-""" + FOOTER
-ROBOTS = "User-agent: *\nDisallow: /api/\n"
-ICON = ('<svg xmlns="http://www.w3.org/2000/svg" viewBox="0 0 16 16"><rect width="16" height="16" rx="3" fill="#1d6b57"/>'
-        '<path d="M5 3.5v9M11 3.5v9M5 8h6" stroke="#fff" stroke-width="2"/></svg>\n')
 
 
 def pages(port):
@@ -556,14 +488,93 @@ def replies():
         came = []
         with socket.create_server(("127.0.0.1", 0)) as listener:
             threading.Thread(target=serve_badly, args=(listener, reply, came), daemon=True).start()
-            with proxy([listener.getsockname()[1]]) as port:
-                for _ in range(4):
+            with proxy([listener.getsockname()[1]], "--timeout", "1") as port:
+                for _ in range(1 if reply is silence else 4):
                     yield name, answered(port, "GET /10/a") == wanted(status, kept, LOCATIONS.get(name), body)
             yield name + ": what is asked", {asked[20:] for asked in came} == {ASKED}
 
 
+def otherwise(behind):
+    """All answers are the same before servers that are named with their prefixes, and where answers are kept, asked for once and again."""
+    for options, prefixes in (((), ("10", "20")), (("--cache", "600", "--threads", "2"), None)):
+        with proxy(behind, *options, prefixes=prefixes) as port:
+            for _ in range(2):
+                yield from (("%s %s" % (name, " ".join(options) or prefixes), holds) for name, holds in pages(port))
+
+
+def without_servers():
+    """What is kept is answered as it was once the servers are gone: of refusals that a handle isn't there alone."""
+    process, behind = servers.serve(tenants, 2)
+    with proxy(behind, "--cache", "600") as port:
+        for line, *_ in PAGES:
+            answered(port, line)
+        servers.end(process)
+        for line, status, kept, to, body in PAGES:
+            if ELSEWHERE in body[1] or HIDDEN in body[1]:
+                status, body = 502, answered_nowhere(body)
+            yield line + " without servers", answered(port, line) == wanted(status, kept, to, body)
+
+
+# Whom readers ask, and how that stands at the foot of a page.
+CONTACTS = (
+    (("--contact", 'https://example.org/?a=1&b="<x>"'),
+     '<footer>Questions? <a href="https://example.org/?a=1&amp;b=%22%3Cx%3E%22">https://example.org/?a=1&amp;b=&quot;&lt;x&gt;&quot;</a></footer>\n'),
+    (("--contact", "Tom <t@example.org>"), '<footer>Questions? <a href="mailto:Tom%20%3Ct@example.org%3E">Tom &lt;t@example.org&gt;</a></footer>\n'),
+    ((), ""),
+)
+# What is counted before anything was asked, of a server.
+METRICS = """# HELP hdl_proxy_info The program's version.
+# TYPE hdl_proxy_info gauge
+hdl_proxy_info{version="%s"} 1
+# HELP hdl_proxy_answers_total Answers, by kind and status.
+# TYPE hdl_proxy_answers_total counter
+# HELP hdl_proxy_answers_kept_total Answers by what was kept.
+# TYPE hdl_proxy_answers_kept_total counter
+hdl_proxy_answers_kept_total 0
+# HELP hdl_proxy_log_lines_lost_total Lines of the log that were lost.
+# TYPE hdl_proxy_log_lines_lost_total counter
+hdl_proxy_log_lines_lost_total 0
+# HELP hdl_proxy_server_asked_total Questions asked, by server.
+# TYPE hdl_proxy_server_asked_total counter
+hdl_proxy_server_asked_total{server="127.0.0.1:%d"} 0
+# HELP hdl_proxy_server_failed_total Questions that got no good answer, by server.
+# TYPE hdl_proxy_server_failed_total counter
+hdl_proxy_server_failed_total{server="127.0.0.1:%d"} 0
+# HELP hdl_proxy_server_left_out 1 where a server is left out for a while, since it failed.
+# TYPE hdl_proxy_server_left_out gauge
+hdl_proxy_server_left_out{server="127.0.0.1:%d"} 0
+# HELP hdl_proxy_server_waiting Questions that wait, by server.
+# TYPE hdl_proxy_server_waiting gauge
+hdl_proxy_server_waiting{server="127.0.0.1:%d"} 0
+"""
+VERSION = re.search(r'VERSION: &str = "(.*)"', repository.text_of("crates", "hdl_status", "src", "lib.rt"))[1]
+
+
+def contacts():
+    page = refusal("10/none", UNANSWERED, LATER, "No answer")
+    for site, foot in CONTACTS:
+        with proxy(servers.free_ports(1), site=site) as port:
+            yield " ".join(site) or "no contact", answered(port, "GET /10/none") == answers.page(502, NEVER, *nameless(page, foot))
+
+
+def of_itself(behind):
+    """What the proxy tells of itself, and an answer, by IPv6."""
+    with proxy(behind[:1], host="[::1]") as port:
+        method = wanted(405, NEVER, None, refusal("/health", READING, FOLLOW, "Not done"))
+        for line, answer in (("GET /metrics", answers.counts(METRICS % (VERSION, *behind[:1] * 4))), ("GET /health", answers.words(200, "ok\n")),
+                             ("HEAD /health", answers.words(200, "ok\n", has_body=False)), ("POST /health", method), ("GET /10/a", wanted(*A_WAY))):
+            yield line + " by IPv6", answered(port, line, host="::1") == answer
+
+
+def alone(port):
+    """A proxy whose servers aren't there."""
+    yield "nobody listens", answered(port, "GET /10/a") == answers.page(502, NEVER, *refusal("10/a", UNANSWERED, LATER, "No answer"))
+    yield "nobody listens: JSON", answered(port, "GET /api/handles/10/a") == answers.json(502, NEVER, json_refusal("10/a", UNANSWERED, 2))
+    yield "it isn't well", answered(port, "GET /health") == answers.words(503, "no server answers\n")
+
+
 def tenants(*ports):
-    return subprocess.run([WORDS, "tenants"], input=(TENANTS % (*ports, CHAIN)).encode(), capture_output=True, check=True, timeout=60).stdout
+    return subprocess.run([WORDS, "tenants"], input=(TENANTS % (*ports, CHAIN, MANY)).encode(), capture_output=True, check=True, timeout=60).stdout
 
 
 def main():
@@ -572,10 +583,12 @@ def main():
     with servers.serving(tenants, 2) as behind, proxy(behind) as port:
         for part in (pages, files, again, spread, too_long, idle):
             cases += part(port)
-    cases += replies()
+        cases += otherwise(behind)
+        cases += of_itself(behind)
+    for part in (without_servers, replies, contacts):
+        cases += part()
     with proxy(servers.free_ports(2)) as port:
-        cases.append(("nobody listens", answered(port, "GET /10/a") == answers.page(502, NEVER, *refusal("10/a", UNANSWERED, LATER, "No answer"))))
-        cases.append(("nobody listens: JSON", answered(port, "GET /api/handles/10/a") == answers.json(502, NEVER, json_refusal("10/a", UNANSWERED, 2))))
+        cases += alone(port)
     return servers.tally(cases, "another answer than the one that should be")
 
 

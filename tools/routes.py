@@ -21,6 +21,7 @@ import answers
 import repository
 import servers
 import wire
+from proxy_pages import CROWDED, LATER, UNANSWERED, nameless, refusal
 
 PROGRAM = os.environ.get("PROXY", repository.program("hdl_web"))
 READABLE = wire.ADMIN_READ | wire.ADMIN_WRITE | wire.PUBLIC_READ
@@ -106,27 +107,36 @@ def proxy(*named, options=()):
         servers.end(process)
 
 
-def ask(port, handle, method="GET"):
-    """The status of what is answered, and how many seconds that took."""
-    began = time.monotonic()
+def whole_of(port, path):
+    """The whole answer, without its moment."""
     with socket.create_connection(("127.0.0.1", port)) as stream:
         stream.settimeout(30)
-        stream.sendall(("%s /%s HTTP/1.1\r\nhost: h\r\nconnection: close\r\n\r\n" % (method, handle)).encode())
+        stream.sendall(("GET %s HTTP/1.1\r\nhost: h\r\nconnection: close\r\n\r\n" % path).encode())
         octets = b""
         while piece := stream.recv(65536):
             octets += piece
-    return int(octets[9:12] or 0), time.monotonic() - began
+    return answers.undated(octets)
+
+
+def status_of(whole):
+    return int(whole[9:12] or 0)
+
+
+def ask(port, handle):
+    """The status of what is answered, and how many seconds that took."""
+    began = time.monotonic()
+    return status_of(whole_of(port, "/" + handle)), time.monotonic() - began
 
 
 def at_once(port, handles):
-    """The statuses of questions that are asked at the same time, and the seconds of the longest."""
-    found = []
-    threads = [threading.Thread(target=lambda handle=handle: found.append(ask(port, handle))) for handle in handles]
+    """The whole answers to questions that are asked at the same time, by their handles, and the seconds of the longest."""
+    found, began = {}, time.monotonic()
+    threads = [threading.Thread(target=lambda handle=handle: found.update({handle: (whole_of(port, "/" + handle), time.monotonic() - began)})) for handle in handles]
     for thread in threads:
         thread.start()
     for thread in threads:
         thread.join()
-    return [status for status, _ in found], max((seconds for _, seconds in found), default=0)
+    return {handle: whole for handle, (whole, _) in found.items()}, max((seconds for _, seconds in found.values()), default=0)
 
 
 def prefixes():
@@ -159,8 +169,8 @@ def silence():
         status, seconds = ask(port, "10/a")
         yield "then it is left out", status == 502 and seconds < SOON and len(silent.asked) == 1
         time.sleep(LEFT_OUT)
-        statuses, seconds = at_once(port, ["10/%d" % n for n in range(20)] + ["20/%d" % n for n in range(20)])
-        yield "one question tries it", len(silent.asked) == 2 and sorted(statuses) == [302] * 20 + [502] * 20
+        found, seconds = at_once(port, ["10/%d" % n for n in range(20)] + ["20/%d" % n for n in range(20)])
+        yield "one question tries it", len(silent.asked) == 2 and sorted(map(status_of, found.values())) == [302] * 20 + [502] * 20
         status, seconds = ask(port, "20/a")
         yield "another server's answers come at once", status == 302 and seconds < SOON
         silent.answer = url
@@ -191,9 +201,12 @@ def crowds():
         status, seconds = ask(port, "20/a")
         yield "beside a crowd another server's answers come at once", status == 302 and seconds < SOON
         crowd.join()
-        statuses, seconds = found[0]
+        wholes, seconds = found[0]
         # who waited is told either, as its own time or that of the question before it was over first
-        yield "who is too many is told to come again", len(statuses) - WAITING - ASKERS <= statuses.count(503) and statuses.count(502) == len(statuses) - statuses.count(503)
+        told = {503: CROWDED, 502: UNANSWERED}
+        pages = {handle: {answers.page(status, answers.NEVER, *nameless(refusal(handle, why, LATER, "No answer"))) for status, why in told.items()} for handle in wholes}
+        busy = [status_of(whole) for whole in wholes.values()].count(503)
+        yield "who is too many is told to come again", len(wholes) - WAITING - ASKERS <= busy and all(whole in pages[handle] for handle, whole in wholes.items())
         yield "a crowd is answered in time", seconds < 2 * TIMEOUT + SOON and len(silent.asked) <= ASKERS
 
 
@@ -217,21 +230,10 @@ def changes():
             stream.close()
 
 
-def whole_of(port, path):
-    """The whole answer, without its moment."""
-    with socket.create_connection(("127.0.0.1", port)) as stream:
-        stream.settimeout(30)
-        stream.sendall(("GET %s HTTP/1.1\r\nhost: h\r\nconnection: close\r\n\r\n" % path).encode())
-        octets = b""
-        while piece := stream.recv(65536):
-            octets += piece
-    return answers.undated(octets)
-
-
 def body_of(port, path):
     """The status and the body of what is answered."""
     octets = whole_of(port, path)
-    return int(octets[9:12] or 0), octets.partition(b"\r\n\r\n")[2].decode()
+    return status_of(octets), octets.partition(b"\r\n\r\n")[2].decode()
 
 
 def short(code):
@@ -355,8 +357,7 @@ def told():
         path = os.path.join(folder, "visits")
         with proxy((silent, "10"), (other, ""), options=["--log", path, "--writes"]) as port:
             yield "it is well", body_of(port, "/health") == (200, "ok\n")
-            for asked in ("20/a", "20/%22%20x", "10/a", "20/a?secret"):
-                ask(port, asked)
+            octets = [str(len(body_of(port, "/" + asked)[1].encode())) for asked in ("20/a", "20/%22%20x", "10/a", "20/a?secret")]
             status, text = body_of(port, "/metrics")
             wanted = ['hdl_proxy_answers_total{kind="redirect",code="302"} 3', 'hdl_proxy_answers_total{kind="page",code="502"} 1',
                       'hdl_proxy_server_asked_total{server="127.0.0.1:%d"} 1' % silent.port, 'hdl_proxy_server_failed_total{server="127.0.0.1:%d"} 1' % silent.port,
@@ -364,13 +365,16 @@ def told():
             yield "what is counted", status == 200 and not set(wanted) - set(text.splitlines())
             with socket.create_connection(("127.0.0.1", port)) as stream:
                 stream.sendall(("PUT /api/handles/20/b HTTP/1.1\r\nhost: h\r\nconnection: close\r\nauthorization: %s\r\ncontent-length: 8\r\n\r\n\"hidden\"" % SECRET).encode())
-                stream.recv(65536)
-            text = lines_of(path, 7)
-        found = [LINE.fullmatch(line) for line in text.splitlines()]
-        yield "a line a visit", all(found) and [one.group(2, 3, 4) for one in found] == [
-            ("GET", "/health", "200"), ("GET", "/20/a", "302"), ("GET", "/20/%22%20x", "302"), ("GET", "/10/a", "502"), ("GET", "/20/a", "302"),
-            ("GET", "/metrics", "200"), ("PUT", "/api/handles/20/b", "400")]
-        yield "no secret, no body", not {"hidden", "secret", SECRET.split()[1]} & set(re.split(r"[\s\"?]", text))
+                refused = b""
+                while piece := stream.recv(65536):
+                    refused += piece
+            refused = refused.partition(b"\r\n\r\n")[2]
+            lines = lines_of(path, 7)
+        found = [LINE.fullmatch(line) for line in lines.splitlines()]
+        yield "a line a visit", all(found) and [one.group(2, 3, 4, 5) for one in found] == [
+            ("GET", "/health", "200", "3"), ("GET", "/20/a", "302", octets[0]), ("GET", "/20/%22%20x", "302", octets[1]), ("GET", "/10/a", "502", octets[2]),
+            ("GET", "/20/a", "302", octets[3]), ("GET", "/metrics", "200", str(len(text.encode()))), ("PUT", "/api/handles/20/b", "400", str(len(refused)))]
+        yield "no secret, no body", not {"hidden", "secret", SECRET.split()[1]} & set(re.split(r"[\s\"?]", lines))
     gone = Server(lambda _: None)
     with proxy((gone, ""), options=["--log", "-"]) as port:
         ask(port, "10/a")

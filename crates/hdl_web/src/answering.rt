@@ -1,16 +1,15 @@
 //! An answer that is on its way.
 
 ghost use Rattle.std.specs.Prelude.{◌≡◌, ◌⊎◌, None, IfSome, IsSomeAnd};
-ghost use Rattle.futures.specs.Channel.{completed_source};
+ghost use Rattle.hdl_web.specs.Turn.{Waits};
 
 use crate::asks::Made;
 use crate::gathering::{Gathered, Gathering, Turn};
 use crate::log::Open;
 use crate::response::response_of;
-use crate::text::text_response;
+use crate::text::OwnText;
 use crate::ways::Way;
 use bytes::Bytes;
-use futures::channel::oneshot;
 use futures::task::{Context, Poll};
 use futures::{Future, ready};
 use hdl_proxy::{Answer, Site, with_tag};
@@ -42,11 +41,11 @@ impl Seen {
     }
 }
 
-/// Who asks: what the response needs of that, and the visit, where it can be counted.
+/// Who asks: the visit, where it can be counted, and what the response needs of the request. That is None where it needs nothing, or memory was refused.
 #[derive(Drop)]
 pub(crate) struct Guest<R> {
-    pub(crate) seen: Result<Seen, AllocError>,
     pub(crate) visit: Option<Open<R>>,
+    pub(crate) seen: Option<Seen>,
 }
 
 /// The response to a request: one that is there, that a thread makes, or that waits for the request's body.
@@ -55,10 +54,7 @@ pub struct Answering<R, B> {
     alloc: Global,
     guest: Guest<R>,
     gathering: Option<Gathering<R, B>>,
-    made: Option<Made>,
-    told: Option<(u16, String)>,
-    led: Option<Arc<Way>>,
-    coming: Option<oneshot::Receiver<Made>>,
+    turn: Option<Turn>,
 }
 
 impl<R: Wait + Clock + Drop, B: Drop> Answering<R, B> {
@@ -66,20 +62,11 @@ impl<R: Wait + Clock + Drop, B: Drop> Answering<R, B> {
     pub(crate) fn next(alloc: Global, guest: Guest<R>, turn: Turn) -> Answering<R, B>
         ensures { result.gathering ≡ None }
     {
-        let (made, told, led, coming) = match turn {
-            Turn::Made(answer) => (Some(answer), None, None, None),
-            Turn::Text(status, text) => (None, Some((status, text)), None, None),
-            Turn::Led(way) => (None, None, Some(way), None),
-            Turn::Coming(from) => (None, None, None, Some(from)),
-        };
         Answering {
             alloc,
             guest,
             gathering: None,
-            made,
-            told,
-            led,
-            coming,
+            turn: Some(turn),
         }
     }
 
@@ -95,10 +82,7 @@ impl<R: Wait + Clock + Drop, B: Drop> Answering<R, B> {
             alloc,
             guest,
             gathering: Some(gathering),
-            made: None,
-            told: None,
-            led: None,
-            coming: None,
+            turn: None,
         }
     }
 
@@ -106,14 +90,18 @@ impl<R: Wait + Clock + Drop, B: Drop> Answering<R, B> {
     fn go_on_with(&mut self, gathered: Gathered)
         ensures { self.new.gathering ≡ None }
     {
-        let Some(gathering) = self.gathering.take() else {
-            return;
-        };
-        match gathering.end(gathered) {
-            Turn::Made(answer) => self.made = Some(answer),
-            Turn::Text(status, text) => self.told = Some((status, text)),
-            Turn::Led(way) => self.led = Some(way),
-            Turn::Coming(from) => self.coming = Some(from),
+        if let Some(gathering) = self.gathering.take() {
+            self.turn = Some(gathering.end(gathered));
+        }
+    }
+
+    /// The response, where nothing is waited for.
+    fn respond(&mut self) -> Result<Response<Full<Bytes>>, AllocError> {
+        match self.turn.take() {
+            Some(Turn::Made(answer)) => response(self.alloc, &mut self.guest, answer),
+            Some(Turn::Text(text)) => response_of_text(self.alloc, &mut self.guest, &text),
+            Some(Turn::Led(way)) => response_of_way(self.alloc, &mut self.guest, &way),
+            Some(Turn::Coming(_)) | None => Err(AllocError),
         }
     }
 }
@@ -124,7 +112,7 @@ fn response<R: Wait + Clock>(
     guest: &mut Guest<R>,
     answer: Made,
 ) -> Result<Response<Full<Bytes>>, AllocError> {
-    let Ok(seen) = &guest.seen else {
+    let Some(seen) = &guest.seen else {
         return Err(AllocError);
     };
     let answer = seen.answer(alloc, answer?)?;
@@ -134,17 +122,16 @@ fn response<R: Wait + Clock>(
     response_of(alloc, &answer, seen.changes)
 }
 
-/// The response of a text, with which the visit is over.
+/// The response of a text of the proxy's own, with which the visit is over.
 fn response_of_text<R: Wait + Clock>(
     alloc: Global,
     guest: &mut Guest<R>,
-    status: u16,
-    text: &str,
+    text: &OwnText,
 ) -> Result<Response<Full<Bytes>>, AllocError> {
     if let Some(visit) = &mut guest.visit {
-        visit.note_end(status, text.len());
+        visit.note_end(text.status, text.text.len());
     }
-    text_response(alloc, status, text)
+    text.response(alloc)
 }
 
 /// The response of a redirect that was kept, with which the visit is over.
@@ -165,29 +152,19 @@ impl<R: Wait + Clock + Drop, B: Future<Output = Gathered>> Future for Answering<
     ghost can_poll = { λ answering. IfSome answering.gathering (λ g. B.can_poll g.body) };
 
     ghost needs = { λ answering s. IsSomeAnd answering.gathering (λ g. B.needs g.body s)
-        ⊎ ((answering.gathering ≡ None) × IsSomeAnd answering.coming (λ from. s ≡ completed_source from)) };
+        ⊎ ((answering.gathering ≡ None) × IsSomeAnd answering.turn (Waits s)) };
 
     fn poll(&mut self, cx: &mut Context<'_>) -> Poll<Self::Output> {
         if let Some(gathering) = &mut self.gathering {
             let gathered = ready!(gathering.body.poll(cx));
             self.go_on_with(gathered);
         }
-        if let Some(answer) = self.made.take() {
-            return Poll::Ready(response(self.alloc, &mut self.guest, answer));
+        if let Some(Turn::Coming(from)) = &mut self.turn {
+            return match ready!(from.poll(cx)) {
+                Ok(answer) => Poll::Ready(response(self.alloc, &mut self.guest, answer)),
+                Err(_) => Poll::Ready(Err(AllocError)),
+            };
         }
-        if let Some((status, text)) = self.told.take() {
-            let response = response_of_text(self.alloc, &mut self.guest, status, &text);
-            return Poll::Ready(response);
-        }
-        if let Some(way) = self.led.take() {
-            return Poll::Ready(response_of_way(self.alloc, &mut self.guest, &way));
-        }
-        let Some(from) = &mut self.coming else {
-            return Poll::Ready(Err(AllocError));
-        };
-        match ready!(from.poll(cx)) {
-            Ok(answer) => Poll::Ready(response(self.alloc, &mut self.guest, answer)),
-            Err(_) => Poll::Ready(Err(AllocError)),
-        }
+        Poll::Ready(self.respond())
     }
 }

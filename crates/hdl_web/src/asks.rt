@@ -1,7 +1,7 @@
 //! A question on its way from server to server.
 
 use futures::channel::oneshot;
-use hdl_proxy::{Answer, Next, NoAnswer, Question, finish, next_step};
+use hdl_proxy::{Answer, Next, NoAnswer, Question, next_step};
 use hdl_routes::{Miss, worst};
 use std::alloc::{AllocError, Global};
 use std::vec::IntoIter;
@@ -49,16 +49,17 @@ impl Ask {
 
     /// Answers that there was no memory.
     pub(crate) fn refuse(self) {
-        self.give(Err(AllocError));
+        let _ = self.answer.send(Err(AllocError));
     }
 
     /// Answers with what all servers came to.
     pub(crate) fn end(self) {
-        let made = finish(self.alloc, &self.question, Err(no_answer(self.missed)), 0);
-        self.give(made);
-    }
-
-    fn give(self, made: Made) {
+        let missed = no_answer(self.missed);
+        let made = match next_step(self.alloc, self.question, Err(missed), 0) {
+            Ok(Next::Answer(answer)) => Ok(answer),
+            // without a reply there is no alias to follow
+            Ok(Next::Ask(_)) | Err(_) => Err(AllocError),
+        };
         let _ = self.answer.send(made);
     }
 }

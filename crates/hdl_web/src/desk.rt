@@ -4,6 +4,7 @@ use crate::answering::{Answering, Guest, Seen};
 use crate::board::Board;
 use crate::gathering::{BODY_MOST, BODY_SECONDS, Counter, Gathering, Turn};
 use crate::log::Open;
+use crate::text::{OwnText, TextKind};
 use crate::ways::Way;
 use bytes::Bytes;
 use hdl_proxy::{Next, begin};
@@ -51,9 +52,9 @@ fn sent_by<B>(req: &Request<B>) -> Sent<'_> {
 }
 
 /// The path of a request that is answered by its path alone.
-fn plain_path(sent: Sent<'_>) -> Option<&str> {
-    if sent.method == "GET" && sent.query.is_empty() {
-        Some(sent.path)
+fn plain_path<'a>(method: &str, path: &'a str, query: &str) -> Option<&'a str> {
+    if method == "GET" && query.is_empty() {
+        Some(path)
     } else {
         None
     }
@@ -79,7 +80,10 @@ impl<R: Wait + Clock + Copy + Drop> Desk<R> {
     fn take(&self, sent: Sent<'_>) -> Result<Turn, AllocError> {
         match begin(self.alloc, sent.method, sent.path, sent.query)? {
             Next::Answer(answer) => Ok(Turn::Made(Ok(answer))),
-            Next::Ask(question) => self.board.take(question, plain_path(sent)),
+            Next::Ask(question) => {
+                let path = plain_path(sent.method, sent.path, sent.query);
+                self.board.take(question, path)
+            }
         }
     }
 
@@ -117,29 +121,30 @@ impl<R: Wait + Clock + Copy + Drop> Desk<R> {
         })
     }
 
-    /// Who asks.
-    fn guest<B>(&self, req: &Request<B>) -> Guest<R> {
-        Guest {
-            seen: self.read_fields(req),
-            visit: self.visit(req),
-        }
-    }
-
     /// The redirect that is kept for a request, if one is. No path under `/api/` has one, so a key that came along says nothing.
-    fn way(&self, sent: Sent<'_>) -> Option<Arc<Way>> {
-        self.board.way(plain_path(sent)?)
+    fn way<B>(&self, req: &Request<B>) -> Option<Arc<Way>> {
+        let query = req.uri().query().unwrap_or("");
+        let path = plain_path(req.method().as_str(), req.uri().path(), query)?;
+        self.board.way(path)
     }
 
     /// What is told of the proxy itself, where that is asked for.
-    fn tell_of_itself(&self, path: &str) -> Result<Option<Turn>, AllocError> {
-        match path {
-            "/metrics" => Ok(Some(Turn::Text(200, self.board.metrics()?))),
+    fn own_text(&self, sent: Sent<'_>) -> Result<Option<OwnText>, AllocError> {
+        if !matches!(sent.method, "GET" | "HEAD") {
+            return Ok(None);
+        }
+        match sent.path {
+            "/metrics" => Ok(Some(OwnText {
+                status: 200,
+                kind: TextKind::Metrics,
+                text: self.board.metrics()?,
+            })),
             "/health" if self.board.is_fit() => {
-                Ok(Some(Turn::Text(200, String::from_str(self.alloc, "ok\n")?)))
+                Ok(Some(OwnText::of_words(self.alloc, 200, "ok\n")?))
             }
             "/health" => {
-                let text = String::from_str(self.alloc, "no server answers\n")?;
-                Ok(Some(Turn::Text(503, text)))
+                let words = "no server answers\n";
+                Ok(Some(OwnText::of_words(self.alloc, 503, words)?))
             }
             _ => Ok(None),
         }
@@ -148,11 +153,8 @@ impl<R: Wait + Clock + Copy + Drop> Desk<R> {
     /// What a request is, by its head.
     fn start<B>(&self, req: &Request<B>) -> Result<Start<R>, AllocError> {
         let sent = sent_by(req);
-        if let Some(way) = self.way(sent) {
-            return Ok(Start::Turn(Turn::Led(way)));
-        }
-        if let Some(told) = self.tell_of_itself(sent.path)? {
-            return Ok(Start::Turn(told));
+        if let Some(text) = self.own_text(sent)? {
+            return Ok(Start::Turn(Turn::Text(text)));
         }
         self.begin(sent)
     }
@@ -169,7 +171,13 @@ impl<R: Wait + Clock + Copy + Drop, I: Drop> Service<Request<Incoming<I>>> for D
     type Future = Answering<R, Limits<I>>;
 
     fn call(&self, req: Request<Incoming<I>>) -> Answering<R, Limits<I>> {
-        let guest = self.guest(&req);
+        let visit = self.visit(&req);
+        if let Some(way) = self.way(&req) {
+            let guest = Guest { visit, seen: None };
+            return Answering::next(self.alloc, guest, Turn::Led(way));
+        }
+        let seen = self.read_fields(&req).ok();
+        let guest = Guest { visit, seen };
         let (order, counter) = match self.start(&req) {
             Ok(Start::Order(order, counter)) => (order, counter),
             Ok(Start::Turn(turn)) => return Answering::next(self.alloc, guest, turn),

@@ -4,6 +4,7 @@ ghost use Rattle.std.specs.Prelude.{◌≡◌};
 
 use crate::asks::Made;
 use crate::board::{Board, WAITING_MOST};
+use crate::text::OwnText;
 use crate::ways::Way;
 use crate::worker::Errand;
 use crossbeam_channel::Sender;
@@ -31,8 +32,8 @@ pub(crate) type Gathered = Result<Result<Collected, LimitedError<hyper::Error>>,
 pub(crate) enum Turn {
     Made(Made),
     Coming(oneshot::Receiver<Made>),
-    /// A text with this status.
-    Text(u16, String),
+    /// A text of the proxy's own.
+    Text(OwnText),
     /// A redirect that was kept.
     Led(Arc<Way>),
 }

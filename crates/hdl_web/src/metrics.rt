@@ -2,7 +2,7 @@
 
 use crate::board::{Board, Post};
 use hdl_proxy::{Answer, Media};
-use hdl_routes::Route;
+use hdl_status::VERSION;
 use std::alloc::{AllocError, Global};
 use std::fmt;
 use std::sync::atomic::{AtomicU64, Ordering};
@@ -83,7 +83,7 @@ impl Counts {
     }
 
     fn put<R: Wait>(&self, rt: &R, text: &mut String) -> Result<(), AllocError> {
-        text.push_str("# TYPE hdl_proxy_answers_total counter\n")?;
+        text.push_str("# HELP hdl_proxy_answers_total Answers, by kind and status.\n# TYPE hdl_proxy_answers_total counter\n")?;
         for one in self.answers.lock(rt).iter() {
             writeln!(
                 text,
@@ -93,66 +93,79 @@ impl Counts {
         }
         let kept = self.kept.load(Ordering::Relaxed);
         let lost = self.lost.load(Ordering::Relaxed);
-        writeln!(text, "# TYPE hdl_proxy_answers_kept_total counter")?;
-        writeln!(text, "hdl_proxy_answers_kept_total {kept}")?;
-        writeln!(text, "# TYPE hdl_proxy_log_lines_lost_total counter")?;
-        writeln!(text, "hdl_proxy_log_lines_lost_total {lost}")
+        writeln!(
+            text,
+            "# HELP hdl_proxy_answers_kept_total Answers by what was kept.\n# TYPE hdl_proxy_answers_kept_total counter\nhdl_proxy_answers_kept_total {kept}"
+        )?;
+        writeln!(
+            text,
+            "# HELP hdl_proxy_log_lines_lost_total Lines of the log that were lost.\n# TYPE hdl_proxy_log_lines_lost_total counter\nhdl_proxy_log_lines_lost_total {lost}"
+        )
     }
 }
 
-/// What is told of a server.
+/// What is counted of each server.
 #[derive(Clone, Copy)]
-struct ServerState {
-    asked: u64,
-    failed: u64,
-    left_out: u64,
-    waiting: u64,
+enum ServerMetric {
+    Asked,
+    Failed,
+    LeftOut,
+    Waiting,
 }
 
-fn put_server(text: &mut String, server: &str, told: ServerState) -> Result<(), AllocError> {
-    let ServerState {
-        asked,
-        failed,
-        left_out,
-        waiting,
-    } = told;
-    writeln!(
-        text,
-        "hdl_proxy_server_asked_total{{server=\"{server}\"}} {asked}"
-    )?;
-    writeln!(
-        text,
-        "hdl_proxy_server_failed_total{{server=\"{server}\"}} {failed}"
-    )?;
-    writeln!(
-        text,
-        "hdl_proxy_server_left_out{{server=\"{server}\"}} {left_out}"
-    )?;
-    writeln!(
-        text,
-        "hdl_proxy_server_waiting{{server=\"{server}\"}} {waiting}"
-    )
+const SERVER_METRICS: [ServerMetric; 4] = [
+    ServerMetric::Asked,
+    ServerMetric::Failed,
+    ServerMetric::LeftOut,
+    ServerMetric::Waiting,
+];
+
+impl ServerMetric {
+    /// Its name behind `hdl_proxy_server_`, its type, and what it says.
+    fn words(self) -> (&'static str, &'static str, &'static str) {
+        match self {
+            ServerMetric::Asked => ("asked_total", "counter", "Questions asked, by server."),
+            ServerMetric::Failed => (
+                "failed_total",
+                "counter",
+                "Questions that got no good answer, by server.",
+            ),
+            ServerMetric::LeftOut => (
+                "left_out",
+                "gauge",
+                "1 where a server is left out for a while, since it failed.",
+            ),
+            ServerMetric::Waiting => ("waiting", "gauge", "Questions that wait, by server."),
+        }
+    }
 }
 
 impl<R: Wait + Clock> Board<R> {
-    fn state_of(&self, post: &Post) -> ServerState {
-        ServerState {
-            asked: post.asked.load(Ordering::Relaxed),
-            failed: post.failed.load(Ordering::Relaxed),
-            left_out: u64::from(post.standing.lock(&self.rt).is_left_out(self.now())),
-            waiting: post.asks.len() as u64,
+    fn count_of(&self, metric: ServerMetric, post: &Post) -> u64 {
+        match metric {
+            ServerMetric::Asked => post.asked.load(Ordering::Relaxed),
+            ServerMetric::Failed => post.failed.load(Ordering::Relaxed),
+            ServerMetric::LeftOut => {
+                u64::from(post.standing.lock(&self.rt).is_left_out(self.now()))
+            }
+            ServerMetric::Waiting => post.asks.len() as u64,
         }
     }
 
-    fn put_servers(&self, text: &mut String) -> Result<(), AllocError> {
-        text.push_str(
-            "# TYPE hdl_proxy_server_asked_total counter\n# TYPE hdl_proxy_server_failed_total counter\n",
-        )?;
-        text.push_str(
-            "# TYPE hdl_proxy_server_left_out gauge\n# TYPE hdl_proxy_server_waiting gauge\n",
+    /// Puts what this metric is of each server.
+    fn put_servers(&self, text: &mut String, metric: ServerMetric) -> Result<(), AllocError> {
+        let (name, kind, help) = metric.words();
+        writeln!(
+            text,
+            "# HELP hdl_proxy_server_{name} {help}\n# TYPE hdl_proxy_server_{name} {kind}"
         )?;
         for (route, post) in self.routes.iter().zip(self.posts.iter()) {
-            put_server(text, &route.address, self.state_of(post))?;
+            let count = self.count_of(metric, post);
+            writeln!(
+                text,
+                "hdl_proxy_server_{name}{{server=\"{}\"}} {count}",
+                route.address
+            )?;
         }
         Ok(())
     }
@@ -160,8 +173,14 @@ impl<R: Wait + Clock> Board<R> {
     /// All that is counted, in the text format of Prometheus.
     pub(crate) fn metrics(&self) -> Result<String, AllocError> {
         let mut text = String::new(self.alloc);
+        writeln!(
+            text,
+            "# HELP hdl_proxy_info The program's version.\n# TYPE hdl_proxy_info gauge\nhdl_proxy_info{{version=\"{VERSION}\"}} 1"
+        )?;
         self.counts.put(&self.rt, &mut text)?;
-        self.put_servers(&mut text)?;
+        for metric in SERVER_METRICS {
+            self.put_servers(&mut text, metric)?;
+        }
         Ok(text)
     }
 
