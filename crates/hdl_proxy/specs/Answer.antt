@@ -1,5 +1,5 @@
 -- What is answered.
-use Rattle.std.specs.Prelude.{◌≡◌, ◌≢◌, ◌⊎◌, IfSome, ℕ, Bool, true, false, List, All, Option, Some, None, MatchOption, Result, codes, option_map, string_bytes}
+use Rattle.std.specs.Prelude.{◌≡◌, ◌≢◌, ◌⊎◌, ℕ, Bool, true, false, List, All, Option, Some, None, MatchOption, Result, codes, option_map, string_bytes}
 use Rattle.std.specs.Borrow.{Bor}
 use Rattle.hdl_value.specs.declared.value.Value.{Value}
 use Rattle.serde_json.specs.Written.{compact_text}
@@ -8,7 +8,7 @@ use Rattle.hdl_proxy.specs.Found.{IsFoundOf}
 use Rattle.hdl_proxy.specs.Json.{refusal_json, IsJsonOf, IsPrettyOf}
 use Rattle.hdl_proxy.specs.Keeping.{IsKeepingOf}
 use Rattle.hdl_proxy.specs.Link.{IsWayTo}
-use Rattle.hdl_proxy.specs.Locations.{IsChosenOf, SaysLocations}
+use Rattle.hdl_proxy.specs.Locations.{IsChoice, SaysLocations}
 use Rattle.hdl_proxy.specs.Pages.{refusal_page, redirect_page, IsPageOf}
 use Rattle.hdl_proxy.specs.Status.{status_of_code, refused_words}
 use Rattle.hdl_proxy.specs.Url.{IsGraphic, extend}
@@ -75,7 +75,7 @@ IsWayAt (Some chosen) values append way wrong = IsWayToMeant (extend chosen.now.
 
 abbrev pub IsWayAmong : List Location → List Value → List ℕ → Option (List ℕ) → Note → Type 0
 IsWayAmong locations values append way wrong =
-    (chosen : Option (Bor Location)) × (IfSome chosen (IsChosenOf locations) × IsWayAt chosen values append way wrong)
+    (chosen : Option (Bor Location)) × (IsChoice locations chosen × IsWayAt chosen values append way wrong)
 
 -- none, since locations can't be read
 abbrev pub IsUnread : Option (List ℕ) → Note → Type 0
