@@ -74,10 +74,11 @@ IsChosen locations wanted chosen = Contains locations chosen.now × (0 < weight_
 abbrev pub IsNoneChosen : List Location → Bool → Type 0
 IsNoneChosen locations wanted = All (λ one. weight_for wanted one ≡ 0) locations
 
--- one that weighs something, or none where none does, and where one has the attribute that is asked for, one of those
+-- one that weighs something, and none just where none does
 abbrev pub IsDrawn : List Location → Bool → Option (Bor Location) → Type 0
 IsDrawn locations wanted None = IsNoneChosen locations wanted
 IsDrawn locations wanted (Some chosen) = IsChosen locations wanted chosen
 
+-- where one has the attribute that is asked for, one of those that have it, and else one of all
 abbrev pub IsChoice : List Location → Option (Bor Location) → Type 0
 IsChoice locations chosen = IsDrawn locations (has_wanted locations) chosen
