@@ -8,9 +8,11 @@ use Rattle.hdl_proxy.specs.Link.{path_to}
 use Rattle.hdl_proxy.specs.Pasted.{IsPasted, IsWritten}
 use Rattle.hdl_proxy.specs.Query.{IsAppended, IsIndex, IsLast, IsLocatt, has_pair, index_of, values_named}
 use Rattle.hdl_proxy.specs.declared.answer.Answer.{Answer as Reply}
-use Rattle.hdl_proxy.specs.declared.answer.Keeping.TheVariants.{Seconds}
+use Rattle.hdl_proxy.specs.declared.answer.Keeping.TheVariants.{Never, Seconds}
+use Rattle.hdl_proxy.specs.declared.answer.Media.{Media}
 use Rattle.hdl_proxy.specs.declared.answer.Media.TheVariants as media
 use Rattle.hdl_proxy.specs.declared.answer.Status.TheVariants as status
+use Rattle.hdl_proxy.specs.declared.files.TheConstants.{ICON, ROBOTS}
 use Rattle.hdl_proxy.specs.declared.proxy.Next.{Next}
 use Rattle.hdl_proxy.specs.declared.proxy.Next.TheVariants.{Answer, Ask}
 use Rattle.hdl_proxy.specs.declared.question.Form.{Form}
@@ -102,11 +104,30 @@ IsOfHandle path = IsUnder json_path path ⊎ ¬ (IsUnder api_path path)
 
 -- ---- what is answered at once
 
+-- a file of this kind, whose octets are these, which others may keep for a day
+pub record IsFileOf (form : Media) (text : List ℕ) (answer : Reply) : Type 0 where
+  pub told : Tells status.Success form answer
+  pub kept : answer.keeping ≡ Seconds 86_400
+  pub body : answer.body.items ≡ text
+
+-- the text for crawlers
+abbrev pub IsRobots : Reply → Type 0
+IsRobots answer = IsFileOf media.Text ROBOTS.now answer
+
+abbrev pub IsIcon : Reply → Type 0
+IsIcon answer = IsFileOf media.Icon ICON.now answer
+
+-- nothing but the fields of the answer, which nobody may keep
+pub record IsBare (answer : Reply) : Type 0 where
+  pub told : Tells status.NoContent media.Json answer
+  pub kept : answer.keeping ≡ Never
+  pub body : answer.body.items ≡ []
+
 -- the text for crawlers, or the icon
 abbrev pub IsOfFile : List ℕ → Reply → Type 0
 IsOfFile path answer =
-    ((path ≡ robots_path) × Tells status.Success media.Text answer)
-    ⊎ ((path ≡ icon_path) × Tells status.Success media.Icon answer)
+    ((path ≡ robots_path) × IsRobots answer)
+    ⊎ ((path ≡ icon_path) × IsIcon answer)
 
 -- no list is given, and nothing else is there, in JSON
 abbrev pub IsNoHandle : List ℕ → Reply → Type 0
@@ -122,7 +143,7 @@ RefusesMethodIn form path answer = Refuses status.MethodNotAllowed form path 5 (
 abbrev pub RefusesMethod : List ℕ → List ℕ → Reply → Type 0
 RefusesMethod method path answer =
     (¬ (IsUnder api_path path) × RefusesMethodIn Page path answer)
-    ⊎ (IsUnder api_path path × (method ≡ codes "OPTIONS") × Tells status.NoContent media.Json answer)
+    ⊎ (IsUnder api_path path × (method ≡ codes "OPTIONS") × IsBare answer)
     ⊎ (IsUnder api_path path × (method ≢ codes "OPTIONS") × RefusesMethodIn Json path answer)
 
 -- ---- the address of a handle
