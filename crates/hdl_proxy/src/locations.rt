@@ -255,7 +255,7 @@ fn draw(locations: &[Location], wanted: bool, chance: u64) -> Option<&Location>
 
 /// One of the locations by weight, among those with the attribute that is asked for, or where there is none among all.
 pub(crate) fn choose(locations: &[Location], chance: u64) -> Option<&Location>
-    ensures { IsChoice locations.now result }
+    ensures choice { IsChoice locations.now result }
 {
     let wanted = has_wanted(locations);
     match draw(locations, wanted, chance) {

@@ -147,7 +147,7 @@ impl Site {
     /// A site with this name, and a contact where there is one: a URL that is followed, or an address of mail. One with a control octet is
     /// none.
     pub fn new(alloc: Global, name: &str, contact: Option<&str>) -> Result<Site, AllocError>
-        ensures { IfOk result (IsSiteOf name.now (option_copied contact.entry)) }
+        ensures site { IfOk result (IsSiteOf name.now (option_copied contact.entry)) }
     {
         let contact = contact_in(alloc, contact)?;
         Ok(Site {
