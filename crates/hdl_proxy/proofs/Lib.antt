@@ -11,6 +11,7 @@ pub mod NoName
 pub mod Pairs
 pub mod Paths
 pub mod Pieces
+pub mod Refused
 pub mod Sections
 pub mod Soonest
 pub mod Texts

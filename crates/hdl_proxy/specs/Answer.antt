@@ -1,5 +1,5 @@
 -- What is answered.
-use Rattle.std.specs.Prelude.{◌≡◌, ◌≢◌, ◌⊎◌, IfSome, ℕ, Bool, true, false, List, All, Option, Some, None, MatchOption, Result, codes, option_map, string_bytes}
+use Rattle.std.specs.Prelude.{◌≡◌, ◌≢◌, ◌⊎◌, ℕ, Bool, true, false, List, [], All, Option, Some, None, MatchOption, Result, codes, option_map, string_bytes}
 use Rattle.std.specs.Borrow.{Bor}
 use Rattle.hdl_value.specs.declared.value.Value.{Value}
 use Rattle.serde_json.specs.Written.{compact_text}
@@ -8,8 +8,8 @@ use Rattle.hdl_proxy.specs.Found.{IsFoundOf}
 use Rattle.hdl_proxy.specs.Json.{refusal_json, IsJsonOf, IsPrettyOf}
 use Rattle.hdl_proxy.specs.Keeping.{IsKeepingOf}
 use Rattle.hdl_proxy.specs.Link.{IsWayTo}
-use Rattle.hdl_proxy.specs.Locations.{IsChosenOf, SaysLocations}
-use Rattle.hdl_proxy.specs.Pages.{refusal_page, redirect_page, IsPageOf}
+use Rattle.hdl_proxy.specs.Locations.{IsChoice, SaysLocations}
+use Rattle.hdl_proxy.specs.Pages.{refusal_page, refusal_title, redirect_page, IsPageOf}
 use Rattle.hdl_proxy.specs.Status.{status_of_code, refused_words}
 use Rattle.hdl_proxy.specs.Url.{IsGraphic, extend}
 use Rattle.hdl_proxy.specs.declared.answer.Answer.{Answer}
@@ -75,7 +75,7 @@ IsWayAt (Some chosen) values append way wrong = IsWayToMeant (extend chosen.now.
 
 abbrev pub IsWayAmong : List Location → List Value → List ℕ → Option (List ℕ) → Note → Type 0
 IsWayAmong locations values append way wrong =
-    (chosen : Option (Bor Location)) × (IfSome chosen (IsChosenOf locations) × IsWayAt chosen values append way wrong)
+    (chosen : Option (Bor Location)) × (IsChoice locations chosen × IsWayAt chosen values append way wrong)
 
 -- none, since locations can't be read
 abbrev pub IsUnread : Option (List ℕ) → Note → Type 0
@@ -150,10 +150,18 @@ refusal_body Page handle code why = refusal_page handle code why
 refusal_body Json handle code why = compact_text (refusal_json handle code why)
 refusal_body Pretty handle code why = compact_text (refusal_json handle code why)
 
+-- the title of a page that refuses; JSON has none
+abbrev pub title_in : Form → ℕ → List ℕ → List ℕ
+title_in Follow code handle = refusal_title code handle
+title_in Page code handle = refusal_title code handle
+title_in Json code handle = []
+title_in Pretty code handle = []
+
 -- in this form, with this status, that there are no values, by code and reason; nobody may keep that
 pub record Refuses (given : Status) (form : Form) (handle : List ℕ) (code : ℕ) (why : List ℕ) (answer : Answer) : Type 0 where
   pub told : Tells given (media_of form) answer
   pub kept : answer.keeping ≡ Never
+  pub title : answer.title.items ≡ title_in form code handle
   pub body : answer.body.items ≡ refusal_body form handle code why
 
 -- in this form what was found: values, or the status of a code, or that no server answered

@@ -1,16 +1,18 @@
 -- What is done for a request.
 use Rattle.std.specs.Prelude.{◌≡◌, ◌≢◌, ◌⊎◌, ⊤, ◌==◌, ◌&&◌, ℕ, Bool, true, false, not, List, [], ◌∷◌, ◌++◌, All, Option, Some, None, codes, map, string_bytes, if◌then◌else◌}
-use Rattle.std.specs.Str.{trim}
+use Rattle.std.specs.Str.{IsUtf8, trim}
 use Rattle.percent_encoding.specs.Percent.{percent_decode}
 use Rattle.hdl_name.specs.Name.{IsHandle}
-use Rattle.hdl_proxy.specs.Answer.{LeadsTo, Tells, IsLocated, is_json, media_of}
+use Rattle.hdl_proxy.specs.Answer.{LeadsTo, Refuses, Tells, IsLocated, is_json}
 use Rattle.hdl_proxy.specs.Link.{path_to}
 use Rattle.hdl_proxy.specs.Pasted.{IsPasted, IsWritten}
 use Rattle.hdl_proxy.specs.Query.{IsAppended, IsIndex, IsLast, IsLocatt, has_pair, index_of, values_named}
 use Rattle.hdl_proxy.specs.declared.answer.Answer.{Answer as Reply}
-use Rattle.hdl_proxy.specs.declared.answer.Keeping.TheVariants.{Seconds}
+use Rattle.hdl_proxy.specs.declared.answer.Keeping.TheVariants.{Never, Seconds}
+use Rattle.hdl_proxy.specs.declared.answer.Media.{Media}
 use Rattle.hdl_proxy.specs.declared.answer.Media.TheVariants as media
 use Rattle.hdl_proxy.specs.declared.answer.Status.TheVariants as status
+use Rattle.hdl_proxy.specs.declared.files.TheConstants.{ICON, ROBOTS}
 use Rattle.hdl_proxy.specs.declared.proxy.Next.{Next}
 use Rattle.hdl_proxy.specs.declared.proxy.Next.TheVariants.{Answer, Ask}
 use Rattle.hdl_proxy.specs.declared.question.Form.{Form}
@@ -31,13 +33,27 @@ IsLocatedIfAnswered (Ask question) = ⊤
 abbrev pub IsReading : List ℕ → Type 0
 IsReading method = (method ≡ codes "GET") ⊎ (method ≡ codes "HEAD")
 
+-- ---- refusals
+
+-- that a name is none, and in some words why
+abbrev pub IsFaultSentence : List ℕ → Type 0
+IsFaultSentence why = (fault : List ℕ) × (why ≡ codes "This is no handle: " ++ (fault ++ codes "."))
+
+-- this name, which is none, is refused in this form
+abbrev pub RefusesName : Form → List ℕ → Reply → Type 0
+RefusesName form name answer = (why : List ℕ) × (IsFaultSentence why × Refuses status.BadRequest form name 102 why answer)
+
+-- a request for this name is refused for this reason, and told by the name, where that is text
+abbrev pub RefusesRequest : Form → List ℕ → List ℕ → Reply → Type 0
+RefusesRequest form name why answer = (asked : List ℕ) × ((IsUtf8 name → asked ≡ name) × Refuses status.BadRequest form asked 102 why answer)
+
 -- ---- the front page
 
 -- the way to its own address, and where it is no name a page that says so
 abbrev pub LeadsToName : List ℕ → Reply → Type 0
 LeadsToName name answer =
     (IsHandle name × LeadsTo name (path_to name) answer)
-    ⊎ (¬ (IsHandle name) × Tells status.BadRequest media.Page answer)
+    ⊎ (¬ (IsHandle name) × RefusesName Page name answer)
 
 -- the way to the name that was pasted, in which spaces at its ends don't count
 abbrev pub LeadsFromPasted : List ℕ → Reply → Type 0
@@ -88,24 +104,47 @@ IsOfHandle path = IsUnder json_path path ⊎ ¬ (IsUnder api_path path)
 
 -- ---- what is answered at once
 
+-- a file of this kind, whose octets are these, which others may keep for a day
+pub record IsFileOf (form : Media) (text : List ℕ) (answer : Reply) : Type 0 where
+  pub told : Tells status.Success form answer
+  pub kept : answer.keeping ≡ Seconds 86_400
+  pub body : answer.body.items ≡ text
+
+-- the text for crawlers
+abbrev pub IsRobots : Reply → Type 0
+IsRobots answer = IsFileOf media.Text ROBOTS.now answer
+
+abbrev pub IsIcon : Reply → Type 0
+IsIcon answer = IsFileOf media.Icon ICON.now answer
+
+-- nothing but the fields of the answer, which nobody may keep
+pub record IsBare (answer : Reply) : Type 0 where
+  pub told : Tells status.NoContent media.Json answer
+  pub kept : answer.keeping ≡ Never
+  pub body : answer.body.items ≡ []
+
 -- the text for crawlers, or the icon
 abbrev pub IsOfFile : List ℕ → Reply → Type 0
 IsOfFile path answer =
-    ((path ≡ robots_path) × Tells status.Success media.Text answer)
-    ⊎ ((path ≡ icon_path) × Tells status.Success media.Icon answer)
+    ((path ≡ robots_path) × IsRobots answer)
+    ⊎ ((path ≡ icon_path) × IsIcon answer)
 
 -- no list is given, and nothing else is there, in JSON
 abbrev pub IsNoHandle : List ℕ → Reply → Type 0
 IsNoHandle path answer =
-    ((path ≡ list_path) × Tells status.Forbidden media.Json answer)
-    ⊎ ((path ≢ list_path) × Tells status.NotFound media.Json answer)
+    ((path ≡ list_path) × Refuses status.Forbidden Json path 5 (codes "This proxy takes no keys, and so lists no handles.") answer)
+    ⊎ ((path ≢ list_path) × Refuses status.NotFound Json path 5 (codes "Nothing is at this address. Handles are at /api/handles/ and the handle.") answer)
+
+-- that method is refused in this form
+abbrev pub RefusesMethodIn : Form → List ℕ → Reply → Type 0
+RefusesMethodIn form path answer = Refuses status.MethodNotAllowed form path 5 (codes "A handle is asked for by GET or HEAD.") answer
 
 -- another method is refused, by a page or under `/api/` in JSON; OPTIONS is answered there
 abbrev pub RefusesMethod : List ℕ → List ℕ → Reply → Type 0
 RefusesMethod method path answer =
-    (¬ (IsUnder api_path path) × Tells status.MethodNotAllowed media.Page answer)
-    ⊎ (IsUnder api_path path × (method ≡ codes "OPTIONS") × Tells status.NoContent media.Json answer)
-    ⊎ (IsUnder api_path path × (method ≢ codes "OPTIONS") × Tells status.MethodNotAllowed media.Json answer)
+    (¬ (IsUnder api_path path) × RefusesMethodIn Page path answer)
+    ⊎ (IsUnder api_path path × (method ≡ codes "OPTIONS") × IsBare answer)
+    ⊎ (IsUnder api_path path × (method ≢ codes "OPTIONS") × RefusesMethodIn Json path answer)
 
 -- ---- the address of a handle
 
@@ -156,11 +195,17 @@ pub record IsAsked (asked : List ℕ) (wanted : Form) (pairs : List (List ℕ ×
   pub keeping : question.keeping ≡ Seconds 86_400
   pub no_call : is_called_back wanted pairs ≡ false
 
--- it is asked for; where the name or an index is none, or a call is asked for, the request is refused
+-- why a request for this name is refused: a call is asked for, an index is none, or the name is none
+abbrev pub IsReason : List ℕ → Form → List (List ℕ × List ℕ) → List ℕ → Type 0
+IsReason name form pairs why =
+    ((is_called_back form pairs ≡ true) × (why ≡ codes "The word callback isn't taken: pages of any site may read this JSON."))
+    ⊎ (¬ (All IsIndex (values_named (codes "index") pairs)) × (why ≡ codes "An index is a number below 4294967296."))
+    ⊎ (¬ (IsHandle name) × IsFaultSentence why)
+
+-- it is asked for, or where there is a reason the request is refused
 abbrev pub AsksFor : List ℕ → Form → List (List ℕ × List ℕ) → Next → Type 0
 AsksFor name form pairs (Ask question) = IsAsked name form pairs question
-AsksFor name form pairs (Answer answer) =
-    ¬ (IsHandle name × All IsIndex (values_named (codes "index") pairs) × (is_called_back form pairs ≡ false)) × Tells status.BadRequest (media_of form) answer
+AsksFor name form pairs (Answer answer) = (why : List ℕ) × (IsReason name form pairs why × RefusesRequest form name why answer)
 
 -- the name is what the text of the address stands for, its escapes read once
 abbrev pub AsksAddress : List ℕ → List (List ℕ × List ℕ) → Next → Type 0

@@ -1,5 +1,5 @@
 -- Which locations a value says, and which of them is chosen.
-use Rattle.std.specs.Prelude.{◌≡◌, ◌<◌, ◌⊎◌, ℕ, Bool, true, false, List, [], ◌++◌, codes, Contains, Option, Some, None, max, if◌then◌else◌}
+use Rattle.std.specs.Prelude.{◌≡◌, ◌<◌, ◌⊎◌, ℕ, Bool, true, false, List, [], ◌++◌, All, codes, Contains, Option, Some, None, max, if◌then◌else◌}
 use Rattle.std.specs.List.{AllPass, AllZip, concat, list_any}
 use Rattle.std.specs.Borrow.{Bor}
 use Rattle.std.specs.Str.{bytes_eq}
@@ -62,9 +62,23 @@ abbrev pub weight_for : Bool → Location → ℕ
 weight_for false location = location.weight
 weight_for true location = if location.is_wanted then max location.weight 1 else 0
 
+-- one of these has the attribute that is asked for
+abbrev pub has_wanted : List Location → Bool
+has_wanted locations = list_any (λ one. one.is_wanted) locations
+
 -- it is one of these, and weighs something
 abbrev pub IsChosen : List Location → Bool → Bor Location → Type 0
 IsChosen locations wanted chosen = Contains locations chosen.now × (0 < weight_for wanted chosen.now)
 
-abbrev pub IsChosenOf : List Location → Bor Location → Type 0
-IsChosenOf locations chosen = (wanted : Bool) × IsChosen locations wanted chosen
+-- none of these weighs anything
+abbrev pub IsNoneChosen : List Location → Bool → Type 0
+IsNoneChosen locations wanted = All (λ one. weight_for wanted one ≡ 0) locations
+
+-- one that weighs something, and none just where none does
+abbrev pub IsDrawn : List Location → Bool → Option (Bor Location) → Type 0
+IsDrawn locations wanted None = IsNoneChosen locations wanted
+IsDrawn locations wanted (Some chosen) = IsChosen locations wanted chosen
+
+-- where one has the attribute that is asked for, one of those that have it, and else one of all
+abbrev pub IsChoice : List Location → Option (Bor Location) → Type 0
+IsChoice locations chosen = IsDrawn locations (has_wanted locations) chosen

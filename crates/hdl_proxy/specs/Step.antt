@@ -3,7 +3,7 @@ use Rattle.std.specs.Prelude.{◌≡◌, ◌≢◌, ◌≤◌, ◌<◌, ◌⊎�
 use Rattle.std.specs.Borrow.{Bor}
 use Rattle.hdl_proxy.specs.Alias.{IsHop, is_among, way_words}
 use Rattle.serde_json.specs.Written.{compact_text}
-use Rattle.hdl_proxy.specs.Answer.{ShowsFound, Tells, media_of}
+use Rattle.hdl_proxy.specs.Answer.{ShowsFound, Tells, media_of, title_in}
 use Rattle.hdl_proxy.specs.Found.{IsFoundOf}
 use Rattle.hdl_proxy.specs.Hops.{alias_part, nowhere_page}
 use Rattle.hdl_proxy.specs.Json.{refusal_json}
@@ -92,6 +92,7 @@ nowhere_body Pretty front asked target = compact_text (refusal_json (first_of as
 pub record LeadsNowhere (form : Form) (front : List ℕ) (asked : List (List ℕ)) (target : List ℕ) (answer : Reply) : Type 0 where
   pub told : Tells status.NotFound (media_of form) answer
   pub kept : answer.keeping ≡ Never
+  pub title : answer.title.items ≡ title_in form 6 (first_of asked)
   pub body : answer.body.items ≡ nowhere_body form front asked target
 
 abbrev pub Hops : Question → Hop → Next → Type 0

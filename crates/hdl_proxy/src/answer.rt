@@ -1,6 +1,6 @@
 //! What is answered over HTTP.
 
-ghost use Rattle.std.specs.Prelude.{◌≡◌};
+ghost use Rattle.std.specs.Prelude.{◌≡◌, []};
 ghost use Rattle.hdl_proxy.specs.Answer.{Tells};
 ghost use Rattle.hdl_proxy.specs.Status.{status_number, status_of_code};
 
@@ -99,6 +99,7 @@ impl Answer {
     ) -> Answer
         ensures told { Tells status media result }
         ensures keeping { result.keeping ≡ keeping }
+        ensures title { result.title.items ≡ [] }
         ensures body { result.body ≡ body }
     {
         Answer {

@@ -1,7 +1,7 @@
 //! What browsers and crawlers ask every site for.
 
 ghost use Rattle.std.specs.Prelude.{IfOk};
-ghost use Rattle.hdl_proxy.specs.Answer.{Tells};
+ghost use Rattle.hdl_proxy.specs.Begin.{IsFileOf, IsIcon, IsRobots};
 
 use crate::answer::{Answer, Keeping, Media, Status};
 use crate::keeping::DAY;
@@ -18,7 +18,7 @@ const ICON: &str =
 ";
 
 fn file(alloc: Global, media: Media, text: &str) -> Result<Answer, AllocError>
-    ensures { IfOk result (Tells Status.Success media) }
+    ensures { IfOk result (IsFileOf media text.now) }
 {
     let body = Vec::from_slice(alloc, text.as_bytes())?;
     Ok(Answer::new(alloc, Status::Success, media, Keeping::Seconds(DAY), body))
@@ -26,14 +26,14 @@ fn file(alloc: Global, media: Media, text: &str) -> Result<Answer, AllocError>
 
 /// `robots.txt` (RFC 9309).
 pub(crate) fn robots(alloc: Global) -> Result<Answer, AllocError>
-    ensures { IfOk result (Tells Status.Success Media.Text) }
+    ensures { IfOk result IsRobots }
 {
     file(alloc, Media::Text, ROBOTS)
 }
 
 /// The icon of the site.
 pub(crate) fn icon(alloc: Global) -> Result<Answer, AllocError>
-    ensures { IfOk result (Tells Status.Success Media.Icon) }
+    ensures { IfOk result IsIcon }
 {
     file(alloc, Media::Icon, ICON)
 }

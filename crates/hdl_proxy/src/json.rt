@@ -1,6 +1,6 @@
 //! Values as JSON, in the form of the Handle.Net proxy's REST interface.
 
-ghost use Rattle.std.specs.Prelude.{◌≡◌, false, List, IfOk, OnOk, option_map, string_bytes};
+ghost use Rattle.std.specs.Prelude.{◌≡◌, false, List, [], IfOk, OnOk, option_map, string_bytes};
 ghost use Rattle.std.specs.List.{AllZip};
 ghost use Rattle.serde_json.specs.Data.{Data, array, object, no_members};
 ghost use Rattle.serde_json.specs.View.{view, items_of, members_view};
@@ -34,6 +34,7 @@ fn kept_answer(
 ) -> Result<Answer, AllocError>
     ensures told { IfOk result (Tells status Media.Json) }
     ensures kept { IfOk result (λ a. a.keeping ≡ keeping) }
+    ensures title { IfOk result (λ a. a.title.items ≡ []) }
     ensures body { IfOk result (λ a. has_float (view json.now) ≡ false → a.body.items ≡ compact_text (view json.now)) }
 {
     let text = json.to_string(alloc)?;
@@ -44,6 +45,7 @@ fn kept_answer(
 pub fn json_answer(alloc: Global, status: Status, json: &Json) -> Result<Answer, AllocError>
     ensures told { IfOk result (Tells status Media.Json) }
     ensures kept { IfOk result (λ a. a.keeping ≡ Keeping.Never) }
+    ensures title { IfOk result (λ a. a.title.items ≡ []) }
     ensures body { IfOk result (λ a. has_float (view json.now) ≡ false → a.body.items ≡ compact_text (view json.now)) }
 {
     kept_answer(alloc, status, Keeping::Never, json)
@@ -83,6 +85,7 @@ pub fn refusal(
 ) -> Result<Answer, AllocError>
     ensures told { IfOk result (Tells status Media.Json) }
     ensures kept { IfOk result (λ a. a.keeping ≡ Keeping.Never) }
+    ensures title { IfOk result (λ a. a.title.items ≡ []) }
     ensures body { IfOk result (λ a. a.body.items ≡ compact_text (refusal_json asked.now code why.now)) }
 {
     let json = refusal_json(alloc, asked, code, why)?;

@@ -3,7 +3,7 @@
 ghost use Rattle.std.specs.Prelude.{◌≡◌, ◌++◌, List, ℕ, IfOk, IfSome, option_copied};
 ghost use Rattle.std.specs.Str.{bytes_eq};
 ghost use Rattle.std.specs.Str.Parse.{IsNumeral, digits_value};
-ghost use Rattle.hdl_proxy.specs.Locations.{AreLocations, IsChosen, IsChosenOf, IsEnd, IsInside, IsLocation, IsLocationOf, IsWeight, SaysLocations, is_wanted, weight_for, wanted_text};
+ghost use Rattle.hdl_proxy.specs.Locations.{AreLocations, IsChoice, IsChosen, IsDrawn, IsEnd, IsInside, IsLocation, IsLocationOf, IsWeight, SaysLocations, has_wanted, is_wanted, weight_for, wanted_text};
 
 use crate::xml::{Attribute, after, attribute_value, cut_between, cut_blank, read_tag};
 use std::alloc::{AllocError, Global};
@@ -226,13 +226,40 @@ fn at(locations: &[Location], wanted: bool, place: u64) -> Option<&Location>
     None
 }
 
+/// The first location that weighs something.
+fn first_weighing(locations: &[Location], wanted: bool) -> Option<&Location>
+    ensures { IsDrawn locations.now wanted result }
+{
+    for location in locations {
+        if weight_for(location, wanted) > 0 {
+            return Some(location);
+        }
+    }
+    None
+}
+
+/// Whether one of them has the attribute that is asked for.
+fn has_wanted(locations: &[Location]) -> bool
+    ensures { result ≡ has_wanted locations.now }
+{
+    locations.iter().any(|one| one.is_wanted)
+}
+
+/// The location that this chance gives, where it gives one.
+fn draw(locations: &[Location], wanted: bool, chance: u64) -> Option<&Location>
+    ensures { IfSome result (IsChosen locations.now wanted) }
+{
+    let place = chance.checked_rem(total(locations, wanted))?;
+    at(locations, wanted, place)
+}
+
 /// One of the locations by weight, among those with the attribute that is asked for, or where there is none among all.
 pub(crate) fn choose(locations: &[Location], chance: u64) -> Option<&Location>
-    ensures { IfSome result (λ chosen. IsChosenOf locations.now chosen) }
+    ensures choice { IsChoice locations.now result }
 {
-    let wanted = total(locations, true) > 0;
-    match chance.checked_rem(total(locations, wanted)) {
-        Some(place) => at(locations, wanted, place),
-        None => None,
+    let wanted = has_wanted(locations);
+    match draw(locations, wanted, chance) {
+        Some(location) => Some(location),
+        None => first_weighing(locations, wanted),
     }
 }

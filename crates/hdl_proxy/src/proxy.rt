@@ -1,9 +1,10 @@
 //! From a request of HTTP to a question, and from its reply to an answer.
 
 ghost use Rattle.std.specs.Prelude.{◌≡◌, ◌≢◌, IfOk, codes, string_bytes};
+ghost use Rattle.std.specs.Str.{IsUtf8};
 ghost use Rattle.percent_encoding.specs.Percent.{percent_decode};
-ghost use Rattle.hdl_proxy.specs.Answer.{Answers, Goes, IsLocated, Refuses, ShowsFound, ShowsValues, Tells, is_json, media_of};
-ghost use Rattle.hdl_proxy.specs.Begin.{AsksAddress, AsksFor, IsAnswered, IsFile, IsFront, IsLocatedIfAnswered, IsNoHandle, IsOfFile, IsOfHandle, IsOwn, IsReading, LeadsFromPasted, LeadsToName, RefusesMethod, follows_aliases, is_called_back, json_form, page_form, without_slash};
+ghost use Rattle.hdl_proxy.specs.Answer.{Answers, Goes, IsLocated, Refuses, ShowsFound, ShowsValues, is_json};
+ghost use Rattle.hdl_proxy.specs.Begin.{AsksAddress, AsksFor, IsAnswered, IsBare, IsFaultSentence, IsFile, IsFront, IsLocatedIfAnswered, IsNoHandle, IsOfFile, IsOfHandle, IsOwn, IsReading, LeadsFromPasted, LeadsToName, RefusesMethod, RefusesMethodIn, RefusesRequest, follows_aliases, is_called_back, json_form, page_form, without_slash};
 ghost use Rattle.hdl_proxy.specs.Query.{pairs_of, texts_of};
 ghost use Rattle.hdl_proxy.specs.Status.{refused_words};
 
@@ -74,33 +75,47 @@ fn lead(alloc: Global, sent: &[u8]) -> Result<Answer, AllocError>
             let to = Link::of_name(alloc, &name)?;
             pages::redirect(alloc, name.sent(), to, Keeping::Never)
         }
-        Err(fault) => bad_name(alloc, sent, Form::Page, fault),
+        Err(fault) => {
+            let why = fault_sentence(alloc, fault)?;
+            bad_request(alloc, sent, Form::Page, why.as_str())
+        }
     }
 }
 
-fn bad_name(alloc: Global, asked: &[u8], form: Form, fault: NameFault) -> Result<Answer, AllocError>
-    ensures { IfOk result (Tells Status.BadRequest (media_of form)) }
+/// That a name is none, and why.
+fn fault_sentence(alloc: Global, fault: NameFault) -> Result<String, AllocError>
+    ensures { IfOk result (λ why. IsFaultSentence (string_bytes why)) }
 {
-    let why = format!(in alloc; "This is no handle: {fault}.")?;
-    bad_request(alloc, asked, form, why.as_str())
+    let words = format!(in alloc; "{fault}")?;
+    let fault = words.as_str();
+    format!(in alloc; "This is no handle: {fault}.")
 }
 
 fn bad_request(alloc: Global, asked: &[u8], form: Form, why: &str) -> Result<Answer, AllocError>
-    ensures { IfOk result (Tells Status.BadRequest (media_of form)) }
+    ensures refuses { IfOk result (Refuses Status.BadRequest form asked.now 102 why.now) }
+    ensures located { IfOk result IsLocated }
 {
     let code = ResponseCode::InvalidHandle.number();
-    match form {
-        Form::Json | Form::Pretty => json::refusal(alloc, Status::BadRequest, asked, code, why),
-        Form::Follow | Form::Page => pages::refusal(alloc, Status::BadRequest, asked, code, why),
-    }
+    refusal_of(alloc, form, asked, Status::BadRequest, code, why)
 }
 
 /// What was asked, as text: the octets that the path stands for, or where they are none the path as it was sent.
-fn asked_text<'a>(octets: &'a [u8], sent: &'a str) -> &'a [u8] {
+fn asked_text<'a>(octets: &'a [u8], sent: &'a str) -> &'a [u8]
+    ensures { IsUtf8 octets.now → result.now ≡ octets.now }
+{
     match str::from_utf8(octets) {
         Ok(_) => octets,
         Err(_) => sent.as_bytes(),
     }
+}
+
+/// The refusal of a request for this name, which stands so in the address.
+fn refuse(alloc: Global, form: Form, name: &[u8], sent: &str, why: &str) -> Result<Next, AllocError>
+    ensures refuses { IfOk result (IsAnswered (RefusesRequest form name.now why.now)) }
+    ensures located { IfOk result IsLocatedIfAnswered }
+{
+    let asked = asked_text(name, sent);
+    Ok(Next::Answer(bad_request(alloc, asked, form, why)?))
 }
 
 /// Whether the form is JSON.
@@ -138,13 +153,11 @@ fn begin_handle(
     let octets = decode(alloc, text)?;
     if is_called_back(form, pairs) {
         let why = "The word callback isn't taken: pages of any site may read this JSON.";
-        let asked = asked_text(&octets, sent);
-        return Ok(Next::Answer(bad_request(alloc, asked, form, why)?));
+        return refuse(alloc, form, &octets, sent, why);
     }
     let Some(indexes) = indexes_of(alloc, pairs)? else {
         let why = "An index is a number below 4294967296.";
-        let asked = asked_text(&octets, sent);
-        return Ok(Next::Answer(bad_request(alloc, asked, form, why)?));
+        return refuse(alloc, form, &octets, sent, why);
     };
     let types = types_of(alloc, pairs)?;
     let append = text_to_append(alloc, pairs)?;
@@ -162,8 +175,8 @@ fn begin_handle(
             keeping: Keeping::Seconds(DAY),
         })),
         Err(fault) => {
-            let asked = asked_text(&octets, sent);
-            Ok(Next::Answer(bad_name(alloc, asked, form, fault)?))
+            let why = fault_sentence(alloc, fault)?;
+            refuse(alloc, form, &octets, sent, why.as_str())
         }
     }
 }
@@ -198,24 +211,31 @@ fn without_slash(path: &str) -> &str
     }
 }
 
-/// An address under `/api/` that is none of a handle.
-fn begin_interface(alloc: Global, path: &str) -> Result<Next, AllocError>
-    ensures none { IfOk result (IsAnswered (IsNoHandle path.now)) }
-    ensures located { IfOk result IsLocatedIfAnswered }
+/// That what is asked at this path isn't done.
+fn refuse_path(
+    alloc: Global,
+    form: Form,
+    path: &str,
+    status: Status,
+    why: &str,
+) -> Result<Answer, AllocError>
+    ensures refuses { IfOk result (Refuses status form path.now 5 why.now) }
 {
     let code = ResponseCode::OperationDenied.number();
-    let (status, why) = if path == LIST_PATH {
-        (
-            Status::Forbidden,
-            "This proxy takes no keys, and so lists no handles.",
-        )
-    } else {
-        (
-            Status::NotFound,
-            "Nothing is at this address. Handles are at /api/handles/ and the handle.",
-        )
-    };
-    Ok(Next::Answer(json::refusal(alloc, status, path.as_bytes(), code, why)?))
+    refusal_of(alloc, form, path.as_bytes(), status, code, why)
+}
+
+/// What is told at an address under `/api/` that is none of a handle.
+fn no_handle(alloc: Global, path: &str) -> Result<Answer, AllocError>
+    ensures none { IfOk result (IsNoHandle path.now) }
+    ensures located { IfOk result IsLocated }
+{
+    if path == LIST_PATH {
+        let why = "This proxy takes no keys, and so lists no handles.";
+        return refuse_path(alloc, Form::Json, path, Status::Forbidden, why);
+    }
+    let why = "Nothing is at this address. Handles are at /api/handles/ and the handle.";
+    refuse_path(alloc, Form::Json, path, Status::NotFound, why)
 }
 
 /// The question of an address that is neither the front page nor a file.
@@ -229,7 +249,7 @@ fn begin_address(alloc: Global, path: &str, query: &str) -> Result<Next, AllocEr
         return begin_handle(alloc, text, text.as_bytes(), json_form(&pairs), &pairs);
     }
     if path.starts_with(API_PATH) {
-        return begin_interface(alloc, path);
+        return Ok(Next::Answer(no_handle(alloc, path)?));
     }
     let sent = without_slash(path);
     begin_handle(
@@ -241,26 +261,32 @@ fn begin_address(alloc: Global, path: &str, query: &str) -> Result<Next, AllocEr
     )
 }
 
+/// That a handle is asked for by another method.
+fn refuse_method(alloc: Global, form: Form, path: &str) -> Result<Answer, AllocError>
+    ensures refuses { IfOk result (RefusesMethodIn form path.now) }
+    ensures located { IfOk result IsLocated }
+{
+    let why = "A handle is asked for by GET or HEAD.";
+    refuse_path(alloc, form, path, Status::MethodNotAllowed, why)
+}
+
 /// What is answered to a request that doesn't read.
 fn begin_other(alloc: Global, method: &str, path: &str) -> Result<Answer, AllocError>
     ensures refuses { IfOk result (RefusesMethod method.now path.now) }
     ensures located { IfOk result IsLocated }
 {
-    let why = "A handle is asked for by GET or HEAD.";
-    let code = ResponseCode::OperationDenied.number();
-    let asked = path.as_bytes();
     if !path.starts_with(API_PATH) {
-        return pages::refusal(alloc, Status::MethodNotAllowed, asked, code, why);
+        return refuse_method(alloc, Form::Page, path);
     }
     if method == "OPTIONS" {
         return Ok(options(alloc));
     }
-    json::refusal(alloc, Status::MethodNotAllowed, asked, code, why)
+    refuse_method(alloc, Form::Json, path)
 }
 
 /// What browsers are told that ask whether another page may send such a request: nothing but the fields of the answer.
 pub fn options(alloc: Global) -> Answer
-    ensures { Tells Status.NoContent Media.Json result }
+    ensures { IsBare result }
 {
     Answer::new(
         alloc,

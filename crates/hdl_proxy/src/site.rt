@@ -1,7 +1,7 @@
 //! What all pages of a site have: its name, its style, and whom to ask.
 
-ghost use Rattle.std.specs.Prelude.{◌≡◌, ◌++◌, IfOk, OnOk};
-ghost use Rattle.hdl_proxy.specs.Site.{Dresses, IsDressed, contact_part, foot, front_part, page_of};
+ghost use Rattle.std.specs.Prelude.{◌≡◌, ◌++◌, IfOk, OnOk, option_copied};
+ghost use Rattle.hdl_proxy.specs.Site.{Dresses, IsContactIn, IsContactOf, IsContactWay, IsDressed, IsSiteOf, contact_part, foot, front_part, page_of};
 
 use crate::answer::{Answer, Media};
 use crate::link::Link;
@@ -82,7 +82,9 @@ pub struct Site {
 }
 
 /// The way to a contact: to a URL that is followed, and else by mail. None where it has a control octet.
-fn way_to(alloc: Global, contact: &str) -> Result<Option<Link>, AllocError> {
+fn way_to(alloc: Global, contact: &str) -> Result<Option<Link>, AllocError>
+    ensures { IfOk result (IsContactWay contact.now) }
+{
     if let Some(link) = Link::of_url(alloc, contact.as_bytes())? {
         return Ok(Some(link));
     }
@@ -90,12 +92,24 @@ fn way_to(alloc: Global, contact: &str) -> Result<Option<Link>, AllocError> {
     Link::of_url(alloc, mail.as_bytes())
 }
 
-fn contact_of(alloc: Global, contact: &str) -> Result<Option<Contact>, AllocError> {
+fn contact_of(alloc: Global, contact: &str) -> Result<Option<Contact>, AllocError>
+    ensures { IfOk result (IsContactOf contact.now) }
+{
     match way_to(alloc, contact)? {
         Some(to) => Ok(Some(Contact {
             to,
             text: String::from_str(alloc, contact)?,
         })),
+        None => Ok(None),
+    }
+}
+
+/// The contact of what was said, if anything was.
+fn contact_in(alloc: Global, said: Option<&str>) -> Result<Option<Contact>, AllocError>
+    ensures { IfOk result (IsContactIn (option_copied said.entry)) }
+{
+    match said {
+        Some(said) => contact_of(alloc, said),
         None => Ok(None),
     }
 }
@@ -132,11 +146,10 @@ fn put_foot(page: &mut Page, contact: &Option<Contact>) -> Result<(), AllocError
 impl Site {
     /// A site with this name, and a contact where there is one: a URL that is followed, or an address of mail. One with a control octet is
     /// none.
-    pub fn new(alloc: Global, name: &str, contact: Option<&str>) -> Result<Site, AllocError> {
-        let contact = match contact {
-            Some(contact) => contact_of(alloc, contact)?,
-            None => None,
-        };
+    pub fn new(alloc: Global, name: &str, contact: Option<&str>) -> Result<Site, AllocError>
+        ensures site { IfOk result (IsSiteOf name.now (option_copied contact.entry)) }
+    {
+        let contact = contact_in(alloc, contact)?;
         Ok(Site {
             name: String::from_str(alloc, name)?,
             contact,
