@@ -5,7 +5,7 @@ use Rattle.hex.specs.Hex.{encode_lower}
 use Rattle.hdl_proxy.specs.Escape.{escaped}
 use Rattle.hdl_proxy.specs.Pages.{digits_part, plain_part}
 use Rattle.hdl_proxy.proofs.Joined.{four, said}
-use Rattle.hdl_proxy.proofs.pages.put_digits.Goals as goal
+use Rattle.hdl_proxy.proofs.value_data.put_digits.Goals as goal
 
 pub returns : goal.returns
 unfolding digits_part

@@ -3,7 +3,7 @@ use Rattle.std.proofs.lemmas.Result.{on_ok_weaker}
 use Rattle.hdl_value.specs.declared.permission.AdminPermission.TheVariants as may
 use Rattle.hdl_proxy.specs.Pages.{admin_permissions, permission_part}
 use Rattle.hdl_proxy.proofs.Joined.{three}
-use Rattle.hdl_proxy.proofs.pages.put_admin_permissions.Goals as goal
+use Rattle.hdl_proxy.proofs.value_data.put_admin_permissions.Goals as goal
 
 pub returns : goal.returns
 unfolding admin_permissions

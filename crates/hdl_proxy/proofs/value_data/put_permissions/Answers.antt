@@ -2,7 +2,7 @@ use Rattle.std.specs.Prelude.{codes}
 use Rattle.std.proofs.lemmas.Result.{on_ok_weaker}
 use Rattle.hdl_proxy.specs.Pages.{admin_permissions, handle_permissions, permissions_part, value_permissions}
 use Rattle.hdl_proxy.proofs.Joined.{five}
-use Rattle.hdl_proxy.proofs.pages.put_permissions.Goals as goal
+use Rattle.hdl_proxy.proofs.value_data.put_permissions.Goals as goal
 
 pub returns : goal.returns
 unfolding permissions_part

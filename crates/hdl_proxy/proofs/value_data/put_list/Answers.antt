@@ -5,7 +5,7 @@ use Rattle.std.proofs.lemmas.List.Folds.{flat_map-map}
 use Rattle.hdl_value.specs.declared.admin.Reference.{Reference}
 use Rattle.hdl_value.specs.Refs.{raw}
 use Rattle.hdl_proxy.specs.Pages.{reference_part}
-use Rattle.hdl_proxy.proofs.pages.put_list.Goals as goal
+use Rattle.hdl_proxy.proofs.value_data.put_list.Goals as goal
 
 pub returns : goal.returns
 returns c =

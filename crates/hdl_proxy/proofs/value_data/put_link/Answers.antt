@@ -3,7 +3,7 @@ use Rattle.std.proofs.lemmas.Result.{on_ok_weaker}
 use Rattle.hdl_proxy.specs.Escape.{escaped}
 use Rattle.hdl_proxy.specs.Pages.{link_part}
 use Rattle.hdl_proxy.proofs.Joined.{five, said}
-use Rattle.hdl_proxy.proofs.pages.put_link.Goals as goal
+use Rattle.hdl_proxy.proofs.value_data.put_link.Goals as goal
 
 pub returns : goal.returns
 unfolding link_part

@@ -4,7 +4,7 @@ use Rattle.std.specs.List.{list_all}
 use Rattle.std.proofs.lemmas.Bool.{false_from_ne_true}
 use Rattle.std.proofs.lemmas.Str.{IsUtf8-from_is_utf8, is_utf8-from_IsUtf8}
 use Rattle.hdl_proxy.specs.Pages.{is_plain_octet}
-use Rattle.hdl_proxy.proofs.pages.is_plain.Goals as goal
+use Rattle.hdl_proxy.proofs.value_data.is_plain.Goals as goal
 
 pub returns-in_default : goal.returns-in_default
 returns-in_default c =

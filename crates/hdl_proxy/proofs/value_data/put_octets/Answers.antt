@@ -3,7 +3,7 @@ use Rattle.std.proofs.lemmas.Bool.{cond-true}
 use Rattle.std.proofs.lemmas.Result.{on_ok_weaker}
 use Rattle.hdl_proxy.specs.Pages.{is_plain, plain_part, digits_part}
 use Rattle.hdl_proxy.specs.Url.{IsFollowed}
-use Rattle.hdl_proxy.proofs.pages.put_octets.Goals as goal
+use Rattle.hdl_proxy.proofs.value_data.put_octets.Goals as goal
 
 pub returns-in-None : goal.returns-in-None
 returns-in-None c =
