@@ -1,7 +1,6 @@
 //! From a request of HTTP to a question, and from its reply to an answer.
 
 ghost use Rattle.std.specs.Prelude.{◌≡◌, ◌≢◌, IfOk, codes, string_bytes};
-ghost use Rattle.percent_encoding.specs.Percent.{percent_decode};
 ghost use Rattle.hdl_proxy.specs.Answer.{Answers, Goes, IsLocated, Refuses, ShowsFound, ShowsValues, Tells, is_json, media_of};
 ghost use Rattle.hdl_proxy.specs.Begin.{AsksAddress, AsksFor, IsAnswered, IsFile, IsFront, IsLocatedIfAnswered, IsNoHandle, IsOfFile, IsOfHandle, IsOwn, IsReading, LeadsFromPasted, LeadsToName, RefusesMethod, follows_aliases, is_called_back, json_form, page_form, without_slash};
 ghost use Rattle.hdl_proxy.specs.Query.{pairs_of, texts_of};
@@ -11,9 +10,9 @@ use crate::answer::{Answer, Keeping, Media, Status};
 use crate::found::{Found, read_answer};
 use crate::keeping::{DAY, keeping_of};
 use crate::link::Link;
-use crate::names::{decode, read_name};
+use crate::names::{decode, read_name, unescape};
 use crate::note::Note;
-use crate::pasted::{name_within, pasted_name};
+use crate::pasted::{between_spaces, name_within, pasted_name};
 use crate::query::{
     Pair, has_pair, indexes_of, last_named, location_asked, read_pairs, text_to_append, types_of,
 };
@@ -60,8 +59,8 @@ fn lead_from(alloc: Global, sent: &str) -> Result<Answer, AllocError>
     ensures leads { IfOk result (LeadsFromPasted sent.now) }
     ensures located { IfOk result IsLocated }
 {
-    let name = pasted_name(alloc, sent.trim().as_bytes())?;
-    lead(alloc, &name)
+    let name = pasted_name(alloc, between_spaces(sent.as_bytes()))?;
+    lead(alloc, between_spaces(&name))
 }
 
 /// The way to a handle's own address.
@@ -124,32 +123,31 @@ fn follows_aliases(form: Form, pairs: &[Pair]) -> bool
     matches!(form, Form::Follow) && !has_pair(pairs, "ignore_aliases")
 }
 
-/// The question of an address: `sent` is the part of its path that names a handle, `text` the name in it with its escapes.
+/// The question of an address: `sent` is the part of its path that names a handle, `octets` the name in it.
 fn begin_handle(
     alloc: Global,
     sent: &str,
-    text: &[u8],
+    octets: &[u8],
     form: Form,
     pairs: &[Pair],
 ) -> Result<Next, AllocError>
-    ensures asks { IfOk result (AsksFor (percent_decode text.now) form (texts_of pairs.now)) }
+    ensures asks { IfOk result (AsksFor octets.now form (texts_of pairs.now)) }
     ensures located { IfOk result IsLocatedIfAnswered }
 {
-    let octets = decode(alloc, text)?;
     if is_called_back(form, pairs) {
         let why = "The word callback isn't taken: pages of any site may read this JSON.";
-        let asked = asked_text(&octets, sent);
+        let asked = asked_text(octets, sent);
         return Ok(Next::Answer(bad_request(alloc, asked, form, why)?));
     }
     let Some(indexes) = indexes_of(alloc, pairs)? else {
         let why = "An index is a number below 4294967296.";
-        let asked = asked_text(&octets, sent);
+        let asked = asked_text(octets, sent);
         return Ok(Next::Answer(bad_request(alloc, asked, form, why)?));
     };
     let types = types_of(alloc, pairs)?;
     let append = text_to_append(alloc, pairs)?;
     let locatt = location_asked(alloc, pairs)?;
-    match read_name(alloc, &octets)? {
+    match read_name(alloc, octets)? {
         Ok(name) => Ok(Next::Ask(Question {
             name,
             form,
@@ -162,7 +160,7 @@ fn begin_handle(
             keeping: Keeping::Seconds(DAY),
         })),
         Err(fault) => {
-            let asked = asked_text(&octets, sent);
+            let asked = asked_text(octets, sent);
             Ok(Next::Answer(bad_name(alloc, asked, form, fault)?))
         }
     }
@@ -226,19 +224,16 @@ fn begin_address(alloc: Global, path: &str, query: &str) -> Result<Next, AllocEr
 {
     let pairs = read_pairs(alloc, query)?;
     if let Some(text) = path.strip_prefix(JSON_PATH) {
-        return begin_handle(alloc, text, text.as_bytes(), json_form(&pairs), &pairs);
+        let octets = unescape(alloc, text)?;
+        return begin_handle(alloc, text, &octets, json_form(&pairs), &pairs);
     }
     if path.starts_with(API_PATH) {
         return begin_interface(alloc, path);
     }
     let sent = without_slash(path);
-    begin_handle(
-        alloc,
-        sent,
-        name_within(sent.as_bytes()),
-        page_form(&pairs),
-        &pairs,
-    )
+    let octets = decode(alloc, name_within(sent.as_bytes()))?;
+    let name = between_spaces(&octets);
+    begin_handle(alloc, sent, name, page_form(&pairs), &pairs)
 }
 
 /// What is answered to a request that doesn't read.
