@@ -1,15 +1,14 @@
 -- What a page says of a value, and one section more.
-use Rattle.std.proofs.Common.{◌≡◌, ℕ, ◌+◌, ◌<◌, List, [], ◌∷◌, ◌++◌, None, length, get_or, take, sym, ap, subst, ◌∙◌, append_assoc}
-use Rattle.std.specs.List.{concat}
-use Rattle.std.proofs.lemmas.List.{append-nil, take_more}
+use Rattle.std.proofs.Common.{◌≡◌, ℕ, ◌+◌, ◌<◌, List, [], ◌∷◌, ◌++◌, None, length, get_or, take, sym, ap, subst, ◌∙◌}
+use Rattle.std.proofs.lemmas.List.{take_more}
 use Rattle.std.proofs.lemmas.Slice.Zip.{all_zipped_more}
 use Rattle.hdl_value.specs.declared.value.Value.{Value}
 use Rattle.hdl_value.specs.Refs.{admin_read, list_read}
 use Rattle.hdl_proxy.proofs.Pieces.{concat_push}
-use Rattle.hdl_proxy.specs.Pages.{IsOctetsPart, IsDataPart, IsSection, IsSections}
+use Rattle.hdl_proxy.specs.Pages.{IsDataPart, IsSection, IsSections, IsTextPart}
 
-pub octets_told : (v : Value) (octets part : List ℕ) → admin_read v ≡ None → list_read v ≡ None → octets ≡ v.bytes → IsOctetsPart octets part → IsDataPart v part
-octets_told v octets part no_admin no_list same h = rw (no_admin, no_list) (subst (λ (o : List ℕ). IsOctetsPart o part) same h)
+pub text_told : (v : Value) (part : List ℕ) → admin_read v ≡ None → list_read v ≡ None → IsTextPart v part → IsDataPart v part
+text_told v part no_admin no_list h = rw (no_admin, no_list) h
 
 sections_push : (values : List Value) (v : Value) (part section : List ℕ) → IsSections values part → IsSection v section → IsSections (values ++ v ∷ []) (part ++ section)
 sections_push values v part section h s =

@@ -1,11 +1,11 @@
 -- What is done for a request.
 use Rattle.std.specs.Prelude.{◌≡◌, ◌≢◌, ◌⊎◌, ⊤, ◌==◌, ◌&&◌, ℕ, Bool, true, false, not, List, [], ◌∷◌, ◌++◌, All, Option, Some, None, codes, map, string_bytes, if◌then◌else◌}
-use Rattle.std.specs.Str.{IsUtf8, trim}
+use Rattle.std.specs.Str.{IsUtf8}
 use Rattle.percent_encoding.specs.Percent.{percent_decode}
 use Rattle.hdl_name.specs.Name.{IsHandle}
 use Rattle.hdl_proxy.specs.Answer.{LeadsTo, Refuses, Tells, IsLocated, is_json}
 use Rattle.hdl_proxy.specs.Link.{path_to}
-use Rattle.hdl_proxy.specs.Pasted.{IsPasted, IsWritten}
+use Rattle.hdl_proxy.specs.Pasted.{IsPasted, IsWritten, between_spaces}
 use Rattle.hdl_proxy.specs.Query.{IsAppended, IsIndex, IsLast, IsLocatt, has_pair, index_of, values_named}
 use Rattle.hdl_proxy.specs.declared.answer.Answer.{Answer as Reply}
 use Rattle.hdl_proxy.specs.declared.answer.Keeping.TheVariants.{Never, Seconds}
@@ -55,9 +55,9 @@ LeadsToName name answer =
     (IsHandle name × LeadsTo name (path_to name) answer)
     ⊎ (¬ (IsHandle name) × RefusesName Page name answer)
 
--- the way to the name that was pasted, in which spaces at its ends don't count
+-- the way to the name that was pasted; spaces at its ends, and at those of all that was pasted, don't count
 abbrev pub LeadsFromPasted : List ℕ → Reply → Type 0
-LeadsFromPasted sent answer = (name : List ℕ) × (IsPasted (trim sent) name × LeadsToName name answer)
+LeadsFromPasted sent answer = (name : List ℕ) × (IsPasted (between_spaces sent) name × LeadsToName (between_spaces name) answer)
 
 -- without a handle a page, and with one the way to it
 abbrev pub LeadsFrom : Option (List ℕ) → Reply → Type 0
@@ -165,11 +165,19 @@ json_form pairs = if has_pair (codes "pretty") pairs then Pretty else Json
 abbrev pub is_called_back : Form → List (List ℕ × List ℕ) → Bool
 is_called_back form pairs = is_json form && has_pair (codes "callback") pairs
 
--- the form that an address asks for, and the text of the name in it: JSON where its path begins so, and else the name that the path has
+-- the name that a program asks for: what the rest of the path stands for, its escapes read once
+abbrev pub IsExact : List ℕ → List ℕ → Type 0
+IsExact path name = (text : List ℕ) × ((path ≡ json_path ++ text) × (name ≡ percent_decode text))
+
+-- the name that a reader asks for: what the text in the path stands for, its escapes read once, without the spaces at its ends
+abbrev pub IsMeant : List ℕ → List ℕ → Type 0
+IsMeant path name = (text : List ℕ) × (IsWritten (without_slash path) text × (name ≡ between_spaces (percent_decode text)))
+
+-- the form that an address asks for, and the name in it: JSON where its path begins so, and else a page or the way
 abbrev pub IsAddress : List ℕ → List (List ℕ × List ℕ) → Form → List ℕ → Type 0
-IsAddress path pairs form text =
-    ((form ≡ json_form pairs) × (path ≡ json_path ++ text))
-    ⊎ ((form ≡ page_form pairs) × ¬ (IsUnder api_path path) × IsWritten (without_slash path) text)
+IsAddress path pairs form name =
+    ((form ≡ json_form pairs) × IsExact path name)
+    ⊎ ((form ≡ page_form pairs) × ¬ (IsUnder api_path path) × IsMeant path name)
 
 -- aliases are followed where a URL is, unless the query has `ignore_aliases`
 abbrev pub is_way : Form → Bool
@@ -207,8 +215,7 @@ abbrev pub AsksFor : List ℕ → Form → List (List ℕ × List ℕ) → Next 
 AsksFor name form pairs (Ask question) = IsAsked name form pairs question
 AsksFor name form pairs (Answer answer) = (why : List ℕ) × (IsReason name form pairs why × RefusesRequest form name why answer)
 
--- the name is what the text of the address stands for, its escapes read once
+-- it asks in this form for this name
 abbrev pub AsksAddress : List ℕ → List (List ℕ × List ℕ) → Next → Type 0
 AsksAddress path pairs next =
-    (form : Form) × (text : List ℕ)
-    × (IsAddress path pairs form text × AsksFor (percent_decode text) form pairs next)
+    (form : Form) × (name : List ℕ) × (IsAddress path pairs form name × AsksFor name form pairs next)

@@ -1,12 +1,6 @@
 -- How a page says through which handles aliases led: the name of each is a link to the page of its own values.
 use Rattle.std.specs.Prelude.{ℕ, List, ◌++◌, codes, flat_map}
-use Rattle.hdl_proxy.specs.Escape.{escaped}
-use Rattle.hdl_proxy.specs.Link.{path_to_values}
-use Rattle.hdl_proxy.specs.Pages.{advice_part, element, top}
-
--- a handle's name, which leads to the page of its own values
-unfoldable pub handle_link : List ℕ → List ℕ
-handle_link name = codes "<a href=\"" ++ (escaped (path_to_values name) ++ element (codes "\">") name (codes "</a>"))
+use Rattle.hdl_proxy.specs.Pages.{advice_part, element, handle_link, top}
 
 -- above a page: which handle was asked for, whose alias led there
 unfoldable pub alias_part : List ℕ → List ℕ

@@ -3,6 +3,7 @@ use Rattle.std.specs.Prelude.{◌≡◌, ◌<◌, ℕ, ◌==◌, nat_le, Bool, t
 use Rattle.std.specs.List.{AllZip, concat, list_all}
 use Rattle.std.specs.Str.{is_utf8}
 use Rattle.hex.specs.Hex.{encode_lower}
+use Rattle.hdl_name.specs.Name.{IsHandle}
 use Rattle.hdl_value.specs.declared.references.RawRef.{RawRef}
 use Rattle.hdl_value.specs.declared.value.Value.{Value}
 use Rattle.hdl_value.specs.Refs.{admin_read, list_read}
@@ -12,8 +13,9 @@ use Rattle.hdl_value.specs.declared.permission.AdminPermission.TheVariants as ma
 use Rattle.hdl_proxy.specs.declared.pages.TheConstants.{ANOTHER, COLUMNS, END, NO_VALUES}
 use Rattle.hdl_proxy.specs.declared.words.KeptFor.{KeptFor}
 use Rattle.hdl_proxy.specs.declared.words.KeptFor.TheVariants.{Seconds, Until}
+use Rattle.hdl_proxy.specs.Choice.{is_of}
 use Rattle.hdl_proxy.specs.Escape.{escaped}
-use Rattle.hdl_proxy.specs.Link.{address_of}
+use Rattle.hdl_proxy.specs.Link.{address_of, path_to_values}
 use Rattle.hdl_proxy.specs.Note.{note_part}
 use Rattle.hdl_proxy.specs.declared.note.Note.{Note}
 use Rattle.hdl_proxy.specs.Status.{advice}
@@ -29,6 +31,10 @@ element front text back = front ++ (escaped text ++ back)
 -- the top of a page's main part: its heading
 unfoldable pub top : List ℕ → List ℕ
 top heading = element (codes "<h1>") heading (codes "</h1>\n")
+
+-- a handle's name, which leads to the page of its own values
+unfoldable pub handle_link : List ℕ → List ℕ
+handle_link name = codes "<a href=\"" ++ (escaped (path_to_values name) ++ element (codes "\">") name (codes "</a>"))
 
 -- ---- the data of a value
 
@@ -94,11 +100,23 @@ IsLinked octets = IsFollowed octets × (is_plain octets ≡ true)
 abbrev pub IsOctetsPart : List ℕ → List ℕ → Type 0
 IsOctetsPart octets part = (IsLinked octets × (part ≡ link_part (address_of octets) octets)) ⊎ ((IsLinked octets → ⊥) × (part ≡ octets_part octets))
 
--- what the data is: an administrator, a list of references, or octets
+-- an alias, whose data is a handle and plain
+abbrev pub NamesHandle : Value → Type 0
+NamesHandle v = (is_of (codes "HS_ALIAS") v ≡ true) × IsHandle v.bytes × (is_plain v.bytes ≡ true)
+
+-- the handle that it names, which leads to the page of that handle's own values
+unfoldable pub alias_link : List ℕ → List ℕ
+alias_link name = codes "<p class=\"data\">" ++ (handle_link name ++ codes "</p>\n")
+
+-- an alias that names a handle is a link to it, and any other value's octets stand by themselves
+abbrev pub IsTextPart : Value → List ℕ → Type 0
+IsTextPart v part = (NamesHandle v × (part ≡ alias_link v.bytes)) ⊎ (¬ (NamesHandle v) × IsOctetsPart v.bytes part)
+
+-- what the data is: an administrator, a list of references, or text
 abbrev pub IsDataPart : Value → List ℕ → Type 0
 IsDataPart v part =
     MatchOption (admin_read v)
-    (MatchOption (list_read v) (IsOctetsPart v.bytes part) (λ rs. part ≡ flat_map reference_part rs))
+    (MatchOption (list_read v) (IsTextPart v part) (λ rs. part ≡ flat_map reference_part rs))
     (λ x. part ≡ admin_part x)
 
 -- ---- the times of a value

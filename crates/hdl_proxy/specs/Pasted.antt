@@ -1,7 +1,12 @@
 -- Names as people paste them: with a scheme, or with the address of a proxy in front.
-use Rattle.std.specs.Prelude.{◌≡◌, ◌⊎◌, ℕ, List, codes, length, drop}
+use Rattle.std.specs.Prelude.{◌≡◌, ◌⊎◌, ℕ, List, codes, length, drop, if◌then◌else◌}
+use Rattle.std.specs.Str.{is_utf8, trim}
 use Rattle.percent_encoding.specs.Percent.{percent_decode}
 use Rattle.hdl_proxy.specs.Url.{Begins}
+
+-- text without the spaces at its ends, of any kind; octets that are no text stay as they are
+unfoldable pub between_spaces : List ℕ → List ℕ
+between_spaces octets = if is_utf8 octets then trim octets else octets
 
 -- the text begins with this front, in any case of letters, and the rest stands behind it
 abbrev pub IsBehind : List ℕ → List ℕ → List ℕ → Type 0

@@ -28,6 +28,13 @@ fn is_of(kind: &[u8], value: &Value) -> bool
     value.kind.as_slice() == kind
 }
 
+/// Whether a value names another handle, by its type.
+pub(crate) fn is_alias(value: &Value) -> bool
+    ensures { result ≡ is_of (codes "HS_ALIAS") value.now }
+{
+    is_of(ALIAS, value)
+}
+
 /// Whether a value comes before the one that was chosen so far, if one was.
 fn comes_first(value: &Value, chosen: Option<&Value>) -> bool
     ensures { result ≡ comes_first value.now (option_copied chosen.entry) }

@@ -2,11 +2,10 @@
 
 ghost use Rattle.std.specs.Prelude.{◌≡◌, ◌++◌, IfOk, OnOk, flat_map};
 ghost use Rattle.hdl_proxy.specs.Answer.{Tells};
-ghost use Rattle.hdl_proxy.specs.Hops.{alias_part, handle_link, hop_part, hops_part, nowhere_page};
+ghost use Rattle.hdl_proxy.specs.Hops.{alias_part, hop_part, hops_part, nowhere_page};
 ghost use Rattle.hdl_proxy.specs.Pages.{refusal_title};
 
 use crate::answer::{Answer, Keeping, Media, Status};
-use crate::link::Link;
 use crate::page::Page;
 use crate::pages::{page_answer, put_advice, refusal_title};
 use hdl_name::Name;
@@ -15,24 +14,13 @@ use std::alloc::{AllocError, Global};
 /// The code of a request that would go on too far (RFC 3652, section 2.2.2.3).
 pub(crate) const TOO_FAR: u32 = 6;
 
-/// A handle's name, as a link to the page of its own values.
-#[tactic(auto, unfolding(crate::specs::Hops::handle_link))]
-fn put_handle(page: &mut Page, name: &Name) -> Result<(), AllocError>
-    ensures { OnOk result (page.new.octets.items ≡ page.old.octets.items ++ handle_link name.now) }
-{
-    let to = Link::to_values(page.alloc, name)?;
-    page.markup("<a href=\"")?;
-    page.text(to.octets())?;
-    page.element("\">", name.sent(), "</a>")
-}
-
 /// Which handle was asked for, whose alias led to what stands below.
 #[tactic(auto, unfolding(crate::specs::Hops::alias_part))]
 pub(crate) fn put_alias(page: &mut Page, asked: &Name) -> Result<(), AllocError>
     ensures { OnOk result (page.new.octets.items ≡ page.old.octets.items ++ alias_part asked.now) }
 {
     page.markup("<p class=\"note\">")?;
-    put_handle(page, asked)?;
+    page.handle(asked)?;
     page.markup(" is an alias, which leads to this handle:</p>\n")
 }
 
@@ -41,7 +29,7 @@ fn put_hop(page: &mut Page, name: &Name) -> Result<(), AllocError>
     ensures { OnOk result (page.new.octets.items ≡ page.old.octets.items ++ hop_part name.now) }
 {
     page.markup("<li>")?;
-    put_handle(page, name)?;
+    page.handle(name)?;
     page.markup("</li>\n")
 }
 

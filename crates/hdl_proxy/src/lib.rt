@@ -46,6 +46,7 @@ mod site;
 mod step;
 mod tag;
 mod url;
+mod value_data;
 mod way;
 mod words;
 mod xml;

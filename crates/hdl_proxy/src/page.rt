@@ -2,9 +2,11 @@
 
 ghost use Rattle.std.specs.Prelude.{◌≡◌, ◌++◌, [], IfOk, OnOk, decimal};
 ghost use Rattle.hdl_proxy.specs.Escape.{escaped};
-ghost use Rattle.hdl_proxy.specs.Pages.{element, top};
+ghost use Rattle.hdl_proxy.specs.Pages.{element, handle_link, top};
 
 use crate::escape::put_escaped;
+use crate::link::Link;
+use hdl_name::Name;
 use std::alloc::{AllocError, Global};
 
 /// A page of HTML. Markup comes from this crate, all else is text.
@@ -76,6 +78,17 @@ impl Page {
     {
         let digits = format!(in self.alloc; "{number}")?;
         self.text(digits.as_bytes())
+    }
+
+    /// Adds a handle's name, as a link to the page of its own values.
+    #[tactic(auto, unfolding(crate::specs::Pages::handle_link))]
+    pub(crate) fn handle(&mut self, name: &Name) -> Result<(), AllocError>
+        ensures { OnOk result (self.new.octets.items ≡ self.old.octets.items ++ handle_link name.now) }
+    {
+        let to = Link::to_values(self.alloc, name)?;
+        self.markup("<a href=\"")?;
+        self.text(to.octets())?;
+        self.element("\">", name.sent(), "</a>")
     }
 
     /// The octets so far.

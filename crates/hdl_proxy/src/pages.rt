@@ -1,9 +1,7 @@
 //! The pages of the proxy.
 
-ghost use Rattle.std.specs.Prelude.{◌≡◌, ◌++◌, List, ℕ, IfOk, OnOk, flat_map, option_map, string_bytes};
-ghost use Rattle.std.specs.List.{list_all};
-ghost use Rattle.hdl_value.specs.Refs.{raw, raws};
-ghost use Rattle.hdl_proxy.specs.Pages.{advice_part, heading, permission_part, handle_permissions, value_permissions, admin_permissions, permissions_part, refusal_title, lead_word, IsTable, is_plain, is_plain_octet, kept_part, link_part, octets_part, digits_part, admin_part, reference_part, written_part, refusal_page, redirect_page, IsDataPart, IsOctetsPart, IsTimesPart, IsSection, IsSections, IsValuesPart, IsPageOf};
+ghost use Rattle.std.specs.Prelude.{◌≡◌, ◌++◌, List, ℕ, IfOk, OnOk, option_map, string_bytes};
+ghost use Rattle.hdl_proxy.specs.Pages.{advice_part, heading, refusal_title, lead_word, IsTable, kept_part, written_part, refusal_page, redirect_page, IsTimesPart, IsSection, IsSections, IsValuesPart, IsPageOf};
 ghost use Rattle.hdl_proxy.specs.Answer.{IsLocated, LeadsTo, Tells};
 ghost use Rattle.hdl_proxy.specs.Keeping.{IsKeepingOf};
 ghost use Rattle.hdl_proxy.specs.Status.{advice, ends_with_slash, look_again};
@@ -13,8 +11,9 @@ use crate::keeping::keeping_of;
 use crate::link::Link;
 use crate::note::Note;
 use crate::page::Page;
+use crate::value_data::put_data;
 use crate::words::{KeptFor, kept_for, span_words, written_words};
-use hdl_value::{AdminMask, AdminPermission, Reference, Value, admin_of, vlist_of};
+use hdl_value::Value;
 use std::alloc::{AllocError, Global};
 
 const NO_VALUES: &str = "<p>This handle is there, and has no value that anybody may read.</p>\n";
@@ -186,208 +185,6 @@ pub(crate) fn redirect(
         title: Vec::new(alloc),
         body: page.into_octets(),
     })
-}
-
-/// Whether an octet of a text stands on a page: control octets don't, but for tabs and line ends.
-fn is_plain_octet(octet: u8) -> bool
-    ensures { result ≡ is_plain_octet octet }
-{
-    octet == b'\t' || octet == b'\n' || (octet >= b' ' && octet != 127)
-}
-
-fn are_plain(octets: &[u8]) -> bool
-    ensures { result ≡ list_all is_plain_octet octets.now }
-{
-    octets.iter().all(|octet| is_plain_octet(*octet))
-}
-
-/// Whether the octets are text without control octets but tabs and line ends.
-fn is_plain(octets: &[u8]) -> bool
-    ensures { result ≡ is_plain octets.now }
-{
-    let Ok(text) = str::from_utf8(octets) else {
-        return false;
-    };
-    are_plain(text.as_bytes())
-}
-
-/// An item of a list, where the mask has this permission.
-fn put_permission(
-    page: &mut Page,
-    mask: AdminMask,
-    permission: AdminPermission,
-    item: &'static str,
-) -> Result<(), AllocError>
-    ensures { OnOk result (page.new.octets.items ≡ page.old.octets.items ++ permission_part mask.0 permission item.now) }
-{
-    if mask.permits(permission) {
-        return page.markup(item);
-    }
-    Ok(())
-}
-
-#[tactic(auto, unfolding(crate::specs::Pages::handle_permissions))]
-fn put_handle_permissions(page: &mut Page, mask: AdminMask) -> Result<(), AllocError>
-    ensures { OnOk result (page.new.octets.items ≡ page.old.octets.items ++ handle_permissions mask.0) }
-{
-    put_permission(
-        page,
-        mask,
-        AdminPermission::AddHandle,
-        "<li>create handles</li>",
-    )?;
-    put_permission(
-        page,
-        mask,
-        AdminPermission::DeleteHandle,
-        "<li>delete them</li>",
-    )?;
-    put_permission(
-        page,
-        mask,
-        AdminPermission::ListHandle,
-        "<li>list them</li>",
-    )?;
-    put_permission(
-        page,
-        mask,
-        AdminPermission::AuthorizedRead,
-        "<li>read what isn't public</li>",
-    )
-}
-
-#[tactic(auto, unfolding(crate::specs::Pages::value_permissions))]
-fn put_value_permissions(page: &mut Page, mask: AdminMask) -> Result<(), AllocError>
-    ensures { OnOk result (page.new.octets.items ≡ page.old.octets.items ++ value_permissions mask.0) }
-{
-    put_permission(page, mask, AdminPermission::AddValue, "<li>add values</li>")?;
-    put_permission(
-        page,
-        mask,
-        AdminPermission::ModifyValue,
-        "<li>change values</li>",
-    )?;
-    put_permission(
-        page,
-        mask,
-        AdminPermission::DeleteValue,
-        "<li>remove values</li>",
-    )
-}
-
-#[tactic(auto, unfolding(crate::specs::Pages::admin_permissions))]
-fn put_admin_permissions(page: &mut Page, mask: AdminMask) -> Result<(), AllocError>
-    ensures { OnOk result (page.new.octets.items ≡ page.old.octets.items ++ admin_permissions mask.0) }
-{
-    put_permission(
-        page,
-        mask,
-        AdminPermission::AddAdmin,
-        "<li>add administrators</li>",
-    )?;
-    put_permission(
-        page,
-        mask,
-        AdminPermission::ModifyAdmin,
-        "<li>change administrators</li>",
-    )?;
-    put_permission(
-        page,
-        mask,
-        AdminPermission::RemoveAdmin,
-        "<li>remove administrators</li>",
-    )
-}
-
-/// What an administrator may do, but for what nothing asks for.
-#[tactic(auto, unfolding(crate::specs::Pages::permissions_part))]
-fn put_permissions(page: &mut Page, mask: AdminMask) -> Result<(), AllocError>
-    ensures { OnOk result (page.new.octets.items ≡ page.old.octets.items ++ permissions_part mask.0) }
-{
-    page.markup("<ul class=\"may\">")?;
-    put_handle_permissions(page, mask)?;
-    put_value_permissions(page, mask)?;
-    put_admin_permissions(page, mask)?;
-    page.markup("</ul>\n")
-}
-
-#[tactic(auto, unfolding(crate::specs::Pages::admin_part))]
-fn put_admin(page: &mut Page, mask: AdminMask, key: &Reference) -> Result<(), AllocError>
-    ensures { OnOk result (page.new.octets.items ≡ page.old.octets.items ++ admin_part (mask.0, raw key.now)) }
-{
-    page.markup("<p>Whoever has the key <span class=\"data\">")?;
-    page.number(key.index)?;
-    page.markup(":")?;
-    page.text(key.name.sent())?;
-    page.markup("</span> may</p>\n")?;
-    put_permissions(page, mask)
-}
-
-#[tactic(auto, unfolding(crate::specs::Pages::reference_part))]
-fn put_reference(page: &mut Page, reference: &Reference) -> Result<(), AllocError>
-    ensures { OnOk result (page.new.octets.items ≡ page.old.octets.items ++ reference_part (raw reference.now)) }
-{
-    page.markup("<p class=\"data\">")?;
-    page.number(reference.index)?;
-    page.markup(":")?;
-    page.text(reference.name.sent())?;
-    page.markup("</p>\n")
-}
-
-fn put_list(page: &mut Page, references: &[Reference]) -> Result<(), AllocError>
-    ensures { OnOk result (page.new.octets.items ≡ page.old.octets.items ++ flat_map reference_part (raws references.now)) }
-{
-    for reference in references {
-        put_reference(page, reference)?;
-    }
-    Ok(())
-}
-
-#[tactic(auto, unfolding(crate::specs::Pages::link_part))]
-fn put_link(page: &mut Page, to: &Link, text: &[u8]) -> Result<(), AllocError>
-    ensures { OnOk result (page.new.octets.items ≡ page.old.octets.items ++ link_part to.now text.now) }
-{
-    page.markup("<p class=\"data\"><a rel=\"noreferrer\" href=\"")?;
-    page.text(to.octets())?;
-    page.markup("\">")?;
-    page.text(text)?;
-    page.markup("</a></p>\n")
-}
-
-#[tactic(auto, unfolding(crate::specs::Pages::digits_part))]
-fn put_digits(page: &mut Page, octets: &[u8]) -> Result<(), AllocError>
-    ensures { OnOk result (page.new.octets.items ≡ page.old.octets.items ++ digits_part octets.now) }
-{
-    let digits = hex::encode(page.alloc, octets)?;
-    let count = format!(in page.alloc; "{}", octets.len())?;
-    page.markup("<p>")?;
-    page.text(count.as_bytes())?;
-    page.markup(" octets</p>\n")?;
-    page.element("<p class=\"data\">", digits.as_bytes(), "</p>\n")
-}
-
-fn put_octets(page: &mut Page, octets: &[u8]) -> Result<(), AllocError>
-    ensures { OnOk result ((part : List ℕ) × IsOctetsPart octets.now part × (page.new.octets.items ≡ page.old.octets.items ++ part)) }
-{
-    if !is_plain(octets) {
-        return put_digits(page, octets);
-    }
-    match Link::of_url(page.alloc, octets)? {
-        Some(link) => put_link(page, &link, octets),
-        None => page.element("<p class=\"data\">", octets, "</p>\n"),
-    }
-}
-
-fn put_data(page: &mut Page, value: &Value) -> Result<(), AllocError>
-    ensures { OnOk result ((part : List ℕ) × IsDataPart value.now part × (page.new.octets.items ≡ page.old.octets.items ++ part)) }
-{
-    if let Some((mask, key)) = admin_of(page.alloc, value)? {
-        return put_admin(page, mask, &key);
-    }
-    if let Some(references) = vlist_of(page.alloc, value)? {
-        return put_list(page, &references);
-    }
-    put_octets(page, value.bytes.as_slice())
 }
 
 fn put_kept(page: &mut Page, kept: KeptFor) -> Result<(), AllocError>

@@ -1,10 +1,20 @@
 //! Names as people paste them: with a scheme, or with the address of a proxy in front.
 
-ghost use Rattle.std.specs.Prelude.{IfOk, MatchOption};
-ghost use Rattle.hdl_proxy.specs.Pasted.{IsBehind, IsBehindAddress, IsBehindDoi, IsBehindEither, IsBehindScheme, IsPasted, IsWritten, Lacks};
+ghost use Rattle.std.specs.Prelude.{◌≡◌, IfOk, MatchOption};
+ghost use Rattle.hdl_proxy.specs.Pasted.{IsBehind, IsBehindAddress, IsBehindDoi, IsBehindEither, IsBehindScheme, IsPasted, IsWritten, Lacks, between_spaces};
 
 use crate::names::decode;
 use std::alloc::{AllocError, Global};
+
+/// The text between the spaces at its ends. Octets that are no text stay as they are.
+pub(crate) fn between_spaces(octets: &[u8]) -> &[u8]
+    ensures { result.now ≡ between_spaces octets.now }
+{
+    match str::from_utf8(octets) {
+        Ok(text) => text.trim().as_bytes(),
+        Err(_) => octets,
+    }
+}
 
 /// What stands behind this front, in any case of letters.
 fn behind<'a>(text: &'a [u8], front: &[u8]) -> Option<&'a [u8]>

@@ -2,7 +2,6 @@
 
 ghost use Rattle.std.specs.Prelude.{◌≡◌, ◌≢◌, IfOk, codes, string_bytes};
 ghost use Rattle.std.specs.Str.{IsUtf8};
-ghost use Rattle.percent_encoding.specs.Percent.{percent_decode};
 ghost use Rattle.hdl_proxy.specs.Answer.{Answers, Goes, IsLocated, Refuses, ShowsFound, ShowsValues, is_json};
 ghost use Rattle.hdl_proxy.specs.Begin.{AsksAddress, AsksFor, IsAnswered, IsBare, IsFaultSentence, IsFile, IsFront, IsLocatedIfAnswered, IsNoHandle, IsOfFile, IsOfHandle, IsOwn, IsReading, LeadsFromPasted, LeadsToName, RefusesMethod, RefusesMethodIn, RefusesRequest, follows_aliases, is_called_back, json_form, page_form, without_slash};
 ghost use Rattle.hdl_proxy.specs.Query.{pairs_of, texts_of};
@@ -12,9 +11,9 @@ use crate::answer::{Answer, Keeping, Media, Status};
 use crate::found::{Found, read_answer};
 use crate::keeping::{DAY, keeping_of};
 use crate::link::Link;
-use crate::names::{decode, read_name};
+use crate::names::{decode, read_name, unescape};
 use crate::note::Note;
-use crate::pasted::{name_within, pasted_name};
+use crate::pasted::{between_spaces, name_within, pasted_name};
 use crate::query::{
     Pair, has_pair, indexes_of, last_named, location_asked, read_pairs, text_to_append, types_of,
 };
@@ -61,8 +60,8 @@ fn lead_from(alloc: Global, sent: &str) -> Result<Answer, AllocError>
     ensures leads { IfOk result (LeadsFromPasted sent.now) }
     ensures located { IfOk result IsLocated }
 {
-    let name = pasted_name(alloc, sent.trim().as_bytes())?;
-    lead(alloc, &name)
+    let name = pasted_name(alloc, between_spaces(sent.as_bytes()))?;
+    lead(alloc, between_spaces(&name))
 }
 
 /// The way to a handle's own address.
@@ -139,30 +138,29 @@ fn follows_aliases(form: Form, pairs: &[Pair]) -> bool
     matches!(form, Form::Follow) && !has_pair(pairs, "ignore_aliases")
 }
 
-/// The question of an address: `sent` is the part of its path that names a handle, `text` the name in it with its escapes.
+/// The question of an address: `sent` is the part of its path that names a handle, `octets` the name in it.
 fn begin_handle(
     alloc: Global,
     sent: &str,
-    text: &[u8],
+    octets: &[u8],
     form: Form,
     pairs: &[Pair],
 ) -> Result<Next, AllocError>
-    ensures asks { IfOk result (AsksFor (percent_decode text.now) form (texts_of pairs.now)) }
+    ensures asks { IfOk result (AsksFor octets.now form (texts_of pairs.now)) }
     ensures located { IfOk result IsLocatedIfAnswered }
 {
-    let octets = decode(alloc, text)?;
     if is_called_back(form, pairs) {
         let why = "The word callback isn't taken: pages of any site may read this JSON.";
-        return refuse(alloc, form, &octets, sent, why);
+        return refuse(alloc, form, octets, sent, why);
     }
     let Some(indexes) = indexes_of(alloc, pairs)? else {
         let why = "An index is a number below 4294967296.";
-        return refuse(alloc, form, &octets, sent, why);
+        return refuse(alloc, form, octets, sent, why);
     };
     let types = types_of(alloc, pairs)?;
     let append = text_to_append(alloc, pairs)?;
     let locatt = location_asked(alloc, pairs)?;
-    match read_name(alloc, &octets)? {
+    match read_name(alloc, octets)? {
         Ok(name) => Ok(Next::Ask(Question {
             name,
             form,
@@ -176,7 +174,7 @@ fn begin_handle(
         })),
         Err(fault) => {
             let why = fault_sentence(alloc, fault)?;
-            refuse(alloc, form, &octets, sent, why.as_str())
+            refuse(alloc, form, octets, sent, why.as_str())
         }
     }
 }
@@ -246,19 +244,16 @@ fn begin_address(alloc: Global, path: &str, query: &str) -> Result<Next, AllocEr
 {
     let pairs = read_pairs(alloc, query)?;
     if let Some(text) = path.strip_prefix(JSON_PATH) {
-        return begin_handle(alloc, text, text.as_bytes(), json_form(&pairs), &pairs);
+        let octets = unescape(alloc, text)?;
+        return begin_handle(alloc, text, &octets, json_form(&pairs), &pairs);
     }
     if path.starts_with(API_PATH) {
         return Ok(Next::Answer(no_handle(alloc, path)?));
     }
     let sent = without_slash(path);
-    begin_handle(
-        alloc,
-        sent,
-        name_within(sent.as_bytes()),
-        page_form(&pairs),
-        &pairs,
-    )
+    let octets = decode(alloc, name_within(sent.as_bytes()))?;
+    let name = between_spaces(&octets);
+    begin_handle(alloc, sent, name, page_form(&pairs), &pairs)
 }
 
 /// That a handle is asked for by another method.

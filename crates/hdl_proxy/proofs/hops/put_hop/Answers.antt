@@ -1,6 +1,7 @@
 use Rattle.std.specs.Prelude.{codes}
 use Rattle.std.proofs.lemmas.Result.{on_ok_weaker}
-use Rattle.hdl_proxy.specs.Hops.{handle_link, hop_part}
+use Rattle.hdl_proxy.specs.Hops.{hop_part}
+use Rattle.hdl_proxy.specs.Pages.{handle_link}
 use Rattle.hdl_proxy.proofs.Joined.{three}
 use Rattle.hdl_proxy.proofs.hops.put_hop.Goals as goal
 
@@ -11,6 +12,6 @@ returns c =
     three c.args.page.now.octets.items _ _ _
     (codes "<li>") (handle_link c.args.name.now) (codes "</li>\n")
     c.in_ok-markup.ensures
-    c.in_ok-put_handle.ensures
+    c.in_ok-handle.ensures
     put)
     c.markup-2.ensures
