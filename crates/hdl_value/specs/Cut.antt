@@ -1,7 +1,7 @@
 -- The reader of an administrator, and what stands in octets that were cut.
 use Rattle.std.specs.Prelude.{◌≡◌, ℕ, List, [], length, Option, Some}
 use Rattle.std.specs.Option.{option_map_or}
-use Rattle.std.specs.Int.{w16, w32, w64}
+use Rattle.std.specs.Int.{w16}
 use Rattle.hdl_value.specs.declared.references.RawRef.{RawRef}
 use Rattle.hdl_value.specs.declared.references.RawReference.{RawReference}
 use Rattle.hdl_value.specs.declared.references.RawReferences.{RawReferences}

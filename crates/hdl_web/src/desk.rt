@@ -37,6 +37,16 @@ enum Start<R> {
     Order(Order, Counter<R>),
 }
 
+/// What a request says in its first line.
+fn first_line<B>(req: &Request<B>) -> Sent<'_> {
+    Sent {
+        method: req.method().as_str(),
+        path: req.uri().path(),
+        query: req.uri().query().unwrap_or(""),
+        authorization: None,
+    }
+}
+
 /// What a request says in its head.
 fn sent_by<B>(req: &Request<B>) -> Sent<'_> {
     let authorization = match req.headers().get(AUTHORIZATION) {
@@ -44,17 +54,15 @@ fn sent_by<B>(req: &Request<B>) -> Sent<'_> {
         None => None,
     };
     Sent {
-        method: req.method().as_str(),
-        path: req.uri().path(),
-        query: req.uri().query().unwrap_or(""),
         authorization,
+        ..first_line(req)
     }
 }
 
 /// The path of a request that is answered by its path alone.
-fn plain_path<'a>(method: &str, path: &'a str, query: &str) -> Option<&'a str> {
-    if method == "GET" && query.is_empty() {
-        Some(path)
+fn plain_path(sent: Sent<'_>) -> Option<&str> {
+    if sent.method == "GET" && sent.query.is_empty() {
+        Some(sent.path)
     } else {
         None
     }
@@ -80,10 +88,7 @@ impl<R: Wait + Clock + Copy + Drop> Desk<R> {
     fn take(&self, sent: Sent<'_>) -> Result<Turn, AllocError> {
         match begin(self.alloc, sent.method, sent.path, sent.query)? {
             Next::Answer(answer) => Ok(Turn::Made(Ok(answer))),
-            Next::Ask(question) => {
-                let path = plain_path(sent.method, sent.path, sent.query);
-                self.board.take(question, path)
-            }
+            Next::Ask(question) => self.board.take(question, plain_path(sent)),
         }
     }
 
@@ -123,9 +128,7 @@ impl<R: Wait + Clock + Copy + Drop> Desk<R> {
 
     /// The redirect that is kept for a request, if one is. No path under `/api/` has one, so a key that came along says nothing.
     fn way<B>(&self, req: &Request<B>) -> Option<Arc<Way>> {
-        let query = req.uri().query().unwrap_or("");
-        let path = plain_path(req.method().as_str(), req.uri().path(), query)?;
-        self.board.way(path)
+        self.board.way(plain_path(first_line(req))?)
     }
 
     /// What is told of the proxy itself, where that is asked for.
