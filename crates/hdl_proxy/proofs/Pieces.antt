@@ -3,8 +3,6 @@ use Rattle.std.proofs.Common.{◌≡◌, ℕ, List, [], ◌∷◌, ◌++◌, sym
 use Rattle.std.specs.List.{AllByRecursion, AllZip, concat}
 use Rattle.std.proofs.lemmas.List.{append-nil}
 use Rattle.std.proofs.lemmas.Slice.Zip.{all_zipped_more}
-use Rattle.hdl_proxy.specs.declared.xml.Attribute.{Attribute}
-use Rattle.hdl_proxy.specs.Xml.{StandsFor, Says, IsAttribute}
 
 pub concat_push : (parts : List (List ℕ)) (part : List ℕ) → concat parts ++ part ≡ concat (parts ++ part ∷ [])
 concat_push [] part = sym (append-nil part)

@@ -1,4 +1,4 @@
-use Rattle.std.proofs.Common.{◌≡◌, true, rules}
+use Rattle.std.proofs.Common.{◌≡◌, true}
 use Rattle.std.proofs.lemmas.List.Elements.{All-more}
 use Rattle.hdl_proxy.specs.Xml.{is_in_name}
 use Rattle.hdl_proxy.proofs.xml.count_name.Goals as goal

@@ -1,4 +1,4 @@
-use Rattle.std.proofs.Common.{◌≡◌, ◌⊎◌, ℕ, List, [], ◌++◌, refl, inl, inr}
+use Rattle.std.proofs.Common.{◌⊎◌, ℕ, List, [], refl, inl, inr}
 use Rattle.std.specs.List.{AllPass, concat}
 use Rattle.hdl_proxy.specs.Xml.{IsComment, is_blank}
 use Rattle.hdl_proxy.proofs.Pieces.{more_pieces}

@@ -1,5 +1,4 @@
 use Rattle.std.proofs.Common.{Option, IfSome, subst, ◌≡◌, ◌⊎◌, ℕ, List, [], ◌∷◌, ◌++◌, ap, sym, ◌∙◌, refl, append_assoc, arith}
-use Rattle.std.proofs.lemmas.Grind.{common_steps}
 use Rattle.std.specs.Global.{Vec}
 use Rattle.hdl_proxy.specs.Xml.{Says}
 use Rattle.hdl_proxy.proofs.xml.read_quoted.Goals as goal

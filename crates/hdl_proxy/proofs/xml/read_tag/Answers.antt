@@ -1,4 +1,4 @@
-use Rattle.std.proofs.Common.{◌≡◌, ℕ, List, ◌++◌, ap, sym, ◌∙◌, refl, append_assoc}
+use Rattle.std.proofs.Common.{ℕ, List, ◌++◌, ap, sym, ◌∙◌, refl, append_assoc}
 use Rattle.std.specs.List.{concat}
 use Rattle.hdl_proxy.proofs.xml.read_tag.Goals as goal
 

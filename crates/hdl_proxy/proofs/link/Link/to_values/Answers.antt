@@ -1,4 +1,4 @@
-use Rattle.std.proofs.Common.{◌≡◌, ℕ, List, ◌++◌, inr, ap, ◌∙◌}
+use Rattle.std.proofs.Common.{ℕ, List, ◌++◌, inr, ap, ◌∙◌}
 use Rattle.std.specs.Prelude.{codes}
 use Rattle.hdl_proxy.specs.Link.{path_to}
 use Rattle.hdl_proxy.proofs.link.Link.to_values.Goals as goal
