@@ -18,6 +18,7 @@ use Rattle.hdl_proxy.specs.declared.proxy.Next.TheVariants.{Answer, Ask}
 use Rattle.hdl_proxy.specs.declared.question.Form.{Form}
 use Rattle.hdl_proxy.specs.declared.question.Form.TheVariants.{Follow, Page, Json, Pretty}
 use Rattle.hdl_proxy.specs.declared.question.Question.{Question}
+use Rattle.hdl_proxy.specs.declared.codes.TheConstants.{INVALID_HANDLE, OPERATION_DENIED}
 
 -- it is answered at once, so
 abbrev pub IsAnswered : (Reply → Type 0) → Next → Type 0
@@ -41,11 +42,11 @@ IsFaultSentence why = (fault : List ℕ) × (why ≡ codes "This is no handle: "
 
 -- this name, which is none, is refused in this form
 abbrev pub RefusesName : Form → List ℕ → Reply → Type 0
-RefusesName form name answer = (why : List ℕ) × (IsFaultSentence why × Refuses status.BadRequest form name 102 why answer)
+RefusesName form name answer = (why : List ℕ) × (IsFaultSentence why × Refuses status.BadRequest form name INVALID_HANDLE why answer)
 
 -- a request for this name is refused for this reason, and told by the name, where that is text
 abbrev pub RefusesRequest : Form → List ℕ → List ℕ → Reply → Type 0
-RefusesRequest form name why answer = (asked : List ℕ) × ((IsUtf8 name → asked ≡ name) × Refuses status.BadRequest form asked 102 why answer)
+RefusesRequest form name why answer = (asked : List ℕ) × ((IsUtf8 name → asked ≡ name) × Refuses status.BadRequest form asked INVALID_HANDLE why answer)
 
 -- ---- the front page
 
@@ -132,12 +133,12 @@ IsOfFile path answer =
 -- no list is given, and nothing else is there, in JSON
 abbrev pub IsNoHandle : List ℕ → Reply → Type 0
 IsNoHandle path answer =
-    ((path ≡ list_path) × Refuses status.Forbidden Json path 5 (codes "This proxy takes no keys, and so lists no handles.") answer)
-    ⊎ ((path ≢ list_path) × Refuses status.NotFound Json path 5 (codes "Nothing is at this address. Handles are at /api/handles/ and the handle.") answer)
+    ((path ≡ list_path) × Refuses status.Forbidden Json path OPERATION_DENIED (codes "This proxy takes no keys, and so lists no handles.") answer)
+    ⊎ ((path ≢ list_path) × Refuses status.NotFound Json path OPERATION_DENIED (codes "Nothing is at this address. Handles are at /api/handles/ and the handle.") answer)
 
 -- that method is refused in this form
 abbrev pub RefusesMethodIn : Form → List ℕ → Reply → Type 0
-RefusesMethodIn form path answer = Refuses status.MethodNotAllowed form path 5 (codes "A handle is asked for by GET or HEAD.") answer
+RefusesMethodIn form path answer = Refuses status.MethodNotAllowed form path OPERATION_DENIED (codes "A handle is asked for by GET or HEAD.") answer
 
 -- another method is refused, by a page or under `/api/` in JSON; OPTIONS is answered there
 abbrev pub RefusesMethod : List ℕ → List ℕ → Reply → Type 0

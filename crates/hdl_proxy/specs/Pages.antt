@@ -21,6 +21,7 @@ use Rattle.hdl_proxy.specs.declared.note.Note.{Note}
 use Rattle.hdl_proxy.specs.Status.{advice}
 use Rattle.hdl_proxy.specs.Url.{IsFollowed}
 use Rattle.hdl_proxy.specs.Words.{span_words, IsKeptFor, IsWritten}
+use Rattle.hdl_proxy.specs.declared.codes.TheConstants.{HANDLE_NOT_FOUND, INVALID_HANDLE, OPERATION_DENIED, SERVICE_REFERRAL, TOO_FAR, VALUE_NOT_FOUND}
 
 -- ---- pieces of a page
 
@@ -167,11 +168,11 @@ IsPageOf handle note values body = (part : List ℕ) × IsValuesPart values part
 -- its title, by the code
 abbrev pub lead_word : ℕ → List ℕ
 lead_word code =
-    if (code == 100) || (code == 302) then codes "Not found: "
-    else if code == 102 then codes "No handle: "
-    else if code == 200 then codes "Not public: "
-    else if code == 5 then codes "Not done: "
-    else if code == 6 then codes "Leads nowhere: "
+    if (code == HANDLE_NOT_FOUND) || (code == SERVICE_REFERRAL) then codes "Not found: "
+    else if code == INVALID_HANDLE then codes "No handle: "
+    else if code == VALUE_NOT_FOUND then codes "Not public: "
+    else if code == OPERATION_DENIED then codes "Not done: "
+    else if code == TOO_FAR then codes "Leads nowhere: "
     else codes "No answer: "
 
 abbrev pub refusal_title : ℕ → List ℕ → List ℕ

@@ -2,6 +2,7 @@
 use Rattle.std.specs.Prelude.{ℕ, ◌==◌, ◌||◌, Bool, List, codes, eqb, if◌then◌else◌}
 use Rattle.std.specs.List.{ends_with}
 use Rattle.hdl_proxy.specs.declared.answer.Status.{Status}
+use Rattle.hdl_proxy.specs.declared.codes.TheConstants.{SUCCESS, SERVER_BUSY, OPERATION_DENIED, HANDLE_NOT_FOUND, INVALID_HANDLE, VALUE_NOT_FOUND, SERVICE_REFERRAL, TOO_FAR}
 use Rattle.hdl_proxy.specs.declared.answer.Status.TheVariants.{Success, Created, NoContent, Found, NotModified, BadRequest, Unauthorized, Forbidden, NotFound, MethodNotAllowed, RequestTimeout, Conflict, ContentTooLarge, BadGateway, Unavailable}
 
 abbrev pub status_number : Status → ℕ
@@ -24,20 +25,20 @@ status_number Unavailable = 503
 -- that of a reply that isn't followed, by its code
 abbrev pub status_of_code : ℕ → Status
 status_of_code code =
-    if (code == 1) || (code == 200) then Success
-    else if (code == 100) || (code == 302) then NotFound
-    else if code == 102 then BadRequest
-    else if code == 3 then Unavailable
+    if (code == SUCCESS) || (code == VALUE_NOT_FOUND) then Success
+    else if (code == HANDLE_NOT_FOUND) || (code == SERVICE_REFERRAL) then NotFound
+    else if code == INVALID_HANDLE then BadRequest
+    else if code == SERVER_BUSY then Unavailable
     else BadGateway
 
 -- why there are no values, by the code
 abbrev pub refused_words : ℕ → List ℕ
 refused_words code =
-    if code == 100 then codes "This handle isn't there."
-    else if code == 102 then codes "The server says that this is no handle."
-    else if code == 200 then codes "This handle is there, and has no such value that anybody may read."
-    else if code == 302 then codes "No server that was asked has handles of this prefix."
-    else if code == 3 then codes "The server is busy."
+    if code == HANDLE_NOT_FOUND then codes "This handle isn't there."
+    else if code == INVALID_HANDLE then codes "The server says that this is no handle."
+    else if code == VALUE_NOT_FOUND then codes "This handle is there, and has no such value that anybody may read."
+    else if code == SERVICE_REFERRAL then codes "No server that was asked has handles of this prefix."
+    else if code == SERVER_BUSY then codes "The server is busy."
     else codes "The server couldn't answer."
 
 -- a page's advice to who asked for this name, by the code
@@ -51,9 +52,9 @@ look_again asked =
 
 abbrev pub advice : ℕ → List ℕ → List ℕ
 advice code asked =
-    if (code == 100) || (code == 302) then look_again asked
-    else if code == 102 then codes "A handle is a prefix, a slash and a local name, such as 10/a."
-    else if code == 200 then codes "Its values aren't public, or the words behind the question mark of its address ask for others."
-    else if code == 5 then codes "Follow a link to a handle, or type its address."
-    else if code == 6 then codes "Please tell who gave it to you: one of these handles has to lead elsewhere."
+    if (code == HANDLE_NOT_FOUND) || (code == SERVICE_REFERRAL) then look_again asked
+    else if code == INVALID_HANDLE then codes "A handle is a prefix, a slash and a local name, such as 10/a."
+    else if code == VALUE_NOT_FOUND then codes "Its values aren't public, or the words behind the question mark of its address ask for others."
+    else if code == OPERATION_DENIED then codes "Follow a link to a handle, or type its address."
+    else if code == TOO_FAR then codes "Please tell who gave it to you: one of these handles has to lead elsewhere."
     else codes "Please come back in a few minutes."

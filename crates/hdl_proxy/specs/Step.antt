@@ -21,6 +21,7 @@ use Rattle.hdl_proxy.specs.declared.question.Form.{Form}
 use Rattle.hdl_proxy.specs.declared.question.Form.TheVariants.{Follow, Page, Json, Pretty}
 use Rattle.hdl_proxy.specs.declared.question.Question.{Question}
 use Rattle.hdl_proxy.specs.declared.resolver.NoAnswer.{NoAnswer}
+use Rattle.hdl_proxy.specs.declared.codes.TheConstants.{TOO_FAR}
 
 -- ---- no alias is followed
 
@@ -85,14 +86,14 @@ pub record IsNext (question : Question) (hop : Hop) (next : Question) : Type 0 w
 abbrev pub nowhere_body : Form → List ℕ → List (List ℕ) → List ℕ → List ℕ
 nowhere_body Follow front asked target = nowhere_page (first_of asked) front asked target
 nowhere_body Page front asked target = nowhere_page (first_of asked) front asked target
-nowhere_body Json front asked target = compact_text (refusal_json (first_of asked) 6 (way_words front asked target))
-nowhere_body Pretty front asked target = compact_text (refusal_json (first_of asked) 6 (way_words front asked target))
+nowhere_body Json front asked target = compact_text (refusal_json (first_of asked) TOO_FAR (way_words front asked target))
+nowhere_body Pretty front asked target = compact_text (refusal_json (first_of asked) TOO_FAR (way_words front asked target))
 
 -- it isn't there, and nobody may keep that
 pub record LeadsNowhere (form : Form) (front : List ℕ) (asked : List (List ℕ)) (target : List ℕ) (answer : Reply) : Type 0 where
   pub told : Tells status.NotFound (media_of form) answer
   pub kept : answer.keeping ≡ Never
-  pub title : answer.title.items ≡ title_in form 6 (first_of asked)
+  pub title : answer.title.items ≡ title_in form TOO_FAR (first_of asked)
   pub body : answer.body.items ≡ nowhere_body form front asked target
 
 abbrev pub Hops : Question → Hop → Next → Type 0

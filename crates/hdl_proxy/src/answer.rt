@@ -4,6 +4,9 @@ ghost use Rattle.std.specs.Prelude.{◌≡◌, []};
 ghost use Rattle.hdl_proxy.specs.Answer.{Tells};
 ghost use Rattle.hdl_proxy.specs.Status.{status_number, status_of_code};
 
+use crate::codes::{
+    HANDLE_NOT_FOUND, INVALID_HANDLE, SERVER_BUSY, SERVICE_REFERRAL, SUCCESS, VALUE_NOT_FOUND,
+};
 use std::alloc::Global;
 
 /// The statuses of HTTP that the proxy answers.
@@ -40,10 +43,10 @@ impl Status {
         ensures { result ≡ status_of_code code }
     {
         match code {
-            1 | 200 => Status::Success,
-            100 | 302 => Status::NotFound,
-            102 => Status::BadRequest,
-            3 => Status::Unavailable,
+            SUCCESS | VALUE_NOT_FOUND => Status::Success,
+            HANDLE_NOT_FOUND | SERVICE_REFERRAL => Status::NotFound,
+            INVALID_HANDLE => Status::BadRequest,
+            SERVER_BUSY => Status::Unavailable,
             _ => Status::BadGateway,
         }
     }

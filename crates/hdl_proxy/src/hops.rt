@@ -6,13 +6,11 @@ ghost use Rattle.hdl_proxy.specs.Hops.{alias_part, hop_part, hops_part, nowhere_
 ghost use Rattle.hdl_proxy.specs.Pages.{refusal_title};
 
 use crate::answer::{Answer, Keeping, Media, Status};
+use crate::codes::TOO_FAR;
 use crate::page::Page;
 use crate::pages::{page_answer, put_advice, refusal_title};
 use hdl_name::Name;
 use std::alloc::{AllocError, Global};
-
-/// The code of a request that would go on too far (RFC 3652, section 2.2.2.3).
-pub(crate) const TOO_FAR: u32 = 6;
 
 /// Which handle was asked for, whose alias led to what stands below.
 #[tactic(auto, unfolding(crate::specs::Hops::alias_part))]

@@ -24,6 +24,7 @@
 mod alias;
 mod answer;
 mod choice;
+mod codes;
 mod escape;
 mod files;
 mod found;

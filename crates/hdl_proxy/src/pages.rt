@@ -7,6 +7,9 @@ ghost use Rattle.hdl_proxy.specs.Keeping.{IsKeepingOf};
 ghost use Rattle.hdl_proxy.specs.Status.{advice, ends_with_slash, look_again};
 
 use crate::answer::{Answer, Keeping, Media, Status};
+use crate::codes::{
+    HANDLE_NOT_FOUND, INVALID_HANDLE, OPERATION_DENIED, SERVICE_REFERRAL, TOO_FAR, VALUE_NOT_FOUND,
+};
 use crate::keeping::keeping_of;
 use crate::link::Link;
 use crate::note::Note;
@@ -70,12 +73,12 @@ fn advice(code: u32, asked: &[u8]) -> &'static str
     ensures { result.now ≡ advice code asked.now }
 {
     match code {
-        100 | 302 => look_again(asked),
-        102 => "A handle is a prefix, a slash and a local name, such as 10/a.",
-        200 =>
+        HANDLE_NOT_FOUND | SERVICE_REFERRAL => look_again(asked),
+        INVALID_HANDLE => "A handle is a prefix, a slash and a local name, such as 10/a.",
+        VALUE_NOT_FOUND =>
             "Its values aren't public, or the words behind the question mark of its address ask for others.",
-        5 => "Follow a link to a handle, or type its address.",
-        6 => "Please tell who gave it to you: one of these handles has to lead elsewhere.",
+        OPERATION_DENIED => "Follow a link to a handle, or type its address.",
+        TOO_FAR => "Please tell who gave it to you: one of these handles has to lead elsewhere.",
         _ => "Please come back in a few minutes.",
     }
 }
@@ -85,11 +88,11 @@ fn lead_word(code: u32) -> &'static str
     ensures { result.now ≡ lead_word code }
 {
     match code {
-        100 | 302 => "Not found: ",
-        102 => "No handle: ",
-        200 => "Not public: ",
-        5 => "Not done: ",
-        6 => "Leads nowhere: ",
+        HANDLE_NOT_FOUND | SERVICE_REFERRAL => "Not found: ",
+        INVALID_HANDLE => "No handle: ",
+        VALUE_NOT_FOUND => "Not public: ",
+        OPERATION_DENIED => "Not done: ",
+        TOO_FAR => "Leads nowhere: ",
         _ => "No answer: ",
     }
 }

@@ -8,6 +8,10 @@ ghost use Rattle.hdl_proxy.specs.Query.{pairs_of, texts_of};
 ghost use Rattle.hdl_proxy.specs.Status.{refused_words};
 
 use crate::answer::{Answer, Keeping, Media, Status};
+use crate::codes::{
+    HANDLE_NOT_FOUND, INVALID_HANDLE, OPERATION_DENIED, SERVER_BUSY, SERVICE_REFERRAL,
+    VALUE_NOT_FOUND,
+};
 use crate::found::{Found, read_answer};
 use crate::keeping::{DAY, keeping_of};
 use crate::link::Link;
@@ -91,7 +95,7 @@ fn fault_sentence(alloc: Global, fault: NameFault) -> Result<String, AllocError>
 }
 
 fn bad_request(alloc: Global, asked: &[u8], form: Form, why: &str) -> Result<Answer, AllocError>
-    ensures refuses { IfOk result (Refuses Status.BadRequest form asked.now 102 why.now) }
+    ensures refuses { IfOk result (Refuses Status.BadRequest form asked.now INVALID_HANDLE why.now) }
     ensures located { IfOk result IsLocated }
 {
     let code = ResponseCode::InvalidHandle.number();
@@ -217,7 +221,7 @@ fn refuse_path(
     status: Status,
     why: &str,
 ) -> Result<Answer, AllocError>
-    ensures refuses { IfOk result (Refuses status form path.now 5 why.now) }
+    ensures refuses { IfOk result (Refuses status form path.now OPERATION_DENIED why.now) }
 {
     let code = ResponseCode::OperationDenied.number();
     refusal_of(alloc, form, path.as_bytes(), status, code, why)
@@ -319,11 +323,11 @@ fn refused_words(code: u32) -> &'static str
     ensures { result.now ≡ refused_words code }
 {
     match code {
-        100 => "This handle isn't there.",
-        102 => "The server says that this is no handle.",
-        200 => "This handle is there, and has no such value that anybody may read.",
-        302 => "No server that was asked has handles of this prefix.",
-        3 => "The server is busy.",
+        HANDLE_NOT_FOUND => "This handle isn't there.",
+        INVALID_HANDLE => "The server says that this is no handle.",
+        VALUE_NOT_FOUND => "This handle is there, and has no such value that anybody may read.",
+        SERVICE_REFERRAL => "No server that was asked has handles of this prefix.",
+        SERVER_BUSY => "The server is busy.",
         _ => "The server couldn't answer.",
     }
 }

@@ -7,8 +7,9 @@ ghost use Rattle.hdl_proxy.specs.Step.{Ends, Hops, IsNamed, IsOfAlias, IsStep, I
 
 use crate::alias::{Hop, hop_in, is_among, way_words};
 use crate::answer::{Answer, Keeping, Media, Status};
+use crate::codes::TOO_FAR;
 use crate::found::{Found, read_answer};
-use crate::hops::{TOO_FAR, nowhere_page, put_alias};
+use crate::hops::{nowhere_page, put_alias};
 use crate::json::refusal;
 use crate::keeping::sooner;
 use crate::page::Page;
