@@ -50,10 +50,10 @@ RefusesRequest form name why answer = (asked : List ℕ) × ((IsUtf8 name → as
 
 -- ---- the front page
 
--- the way to its own address, and where it is no name a page that says so
+-- the way to its own address, which nobody may keep, and where it is no name a page that says so
 abbrev pub LeadsToName : List ℕ → Reply → Type 0
 LeadsToName name answer =
-    (IsHandle name × LeadsTo name (path_to name) answer)
+    (IsHandle name × LeadsTo name (path_to name) answer × (answer.keeping ≡ Never))
     ⊎ (¬ (IsHandle name) × RefusesName Page name answer)
 
 -- the way to the name that was pasted; spaces at its ends, and at those of all that was pasted, don't count
