@@ -89,7 +89,7 @@ fn way_of(alloc: Global, message: Vec<u8>, reply: Vec<u8>, answer: &Answer) -> O
 #[derive(Drop)]
 struct Ways {
     alloc: Global,
-    ways: LruCache<Vec<u8>, Arc<Way>, RandomState>,
+    ways: LruCache<String, Arc<Way>, RandomState>,
 }
 
 impl Ways {
@@ -100,13 +100,13 @@ impl Ways {
     }
 
     fn find(&mut self, path: &str) -> Option<Arc<Way>> {
-        let way = self.ways.get(path.as_bytes())?;
+        let way = self.ways.get(path)?;
         Arc::try_clone(way).ok()
     }
 
     /// Keeps a redirect. Want of memory keeps nothing.
     fn keep(&mut self, path: &str, way: Way) {
-        let Ok(key) = Vec::from_slice(self.alloc, path.as_bytes()) else {
+        let Ok(key) = String::from_str(self.alloc, path) else {
             return;
         };
         if let Ok(way) = Arc::new(self.alloc, way) {
