@@ -129,14 +129,18 @@ def ask(port, handle):
 
 
 def at_once(port, handles):
-    """The whole answers to questions that are asked at the same time, by their handles, and the seconds of the longest."""
-    found, began = {}, time.monotonic()
-    threads = [threading.Thread(target=lambda handle=handle: found.update({handle: (whole_of(port, "/" + handle), time.monotonic() - began)})) for handle in handles]
+    """Questions that are asked at the same time: each handle with its whole answer, and the seconds until the last."""
+    found, began = [], time.monotonic()
+    threads = [threading.Thread(target=lambda handle=handle: found.append((handle, whole_of(port, "/" + handle)))) for handle in handles]
     for thread in threads:
         thread.start()
     for thread in threads:
         thread.join()
-    return {handle: whole for handle, (whole, _) in found.items()}, max((seconds for _, seconds in found.values()), default=0)
+    return found, time.monotonic() - began
+
+
+def statuses(found):
+    return sorted(status_of(whole) for _, whole in found)
 
 
 def prefixes():
@@ -170,7 +174,7 @@ def silence():
         yield "then it is left out", status == 502 and seconds < SOON and len(silent.asked) == 1
         time.sleep(LEFT_OUT)
         found, seconds = at_once(port, ["10/%d" % n for n in range(20)] + ["20/%d" % n for n in range(20)])
-        yield "one question tries it", len(silent.asked) == 2 and sorted(map(status_of, found.values())) == [302] * 20 + [502] * 20
+        yield "one question tries it", len(silent.asked) == 2 and statuses(found) == [302] * 20 + [502] * 20
         status, seconds = ask(port, "20/a")
         yield "another server's answers come at once", status == 302 and seconds < SOON
         silent.answer = url
@@ -204,9 +208,8 @@ def crowds():
         wholes, seconds = found[0]
         # who waited is told either, as its own time or that of the question before it was over first
         told = {503: CROWDED, 502: UNANSWERED}
-        pages = {handle: {answers.page(status, answers.NEVER, *nameless(refusal(handle, why, LATER, "No answer"))) for status, why in told.items()} for handle in wholes}
-        busy = [status_of(whole) for whole in wholes.values()].count(503)
-        yield "who is too many is told to come again", len(wholes) - WAITING - ASKERS <= busy and all(whole in pages[handle] for handle, whole in wholes.items())
+        pages = [{answers.page(status, answers.NEVER, *nameless(refusal(handle, why, LATER, "No answer"))) for status, why in told.items()} for handle, _ in wholes]
+        yield "who is too many is told to come again", len(wholes) - WAITING - ASKERS <= statuses(wholes).count(503) and all(one[1] in page for one, page in zip(wholes, pages))
         yield "a crowd is answered in time", seconds < 2 * TIMEOUT + SOON and len(silent.asked) <= ASKERS
 
 
@@ -407,7 +410,7 @@ def listeners():
     with servers.running(words, 2):
         wanted = redirect("10/a", "https://example.org/10/a", 86400)
         yield "a handle is asked for once", [whole_of(port, "/10/a") for port in (first, second) * 3] == [wanted] * 6 and server.asked == [b"10/a"]
-        found = [at_once(port, ["10/%d" % (one % 8) for one in range(40)])[0] for port in (first, second)]
+        found = [statuses(at_once(port, ["10/%d" % (one % 8) for one in range(40)])[0]) for port in (first, second)]
         yield "many at once", found == [[302] * 40] * 2 and set(server.asked[1:]) == {b"10/%d" % one for one in range(8)}
         yield "all are counted", 'hdl_proxy_answers_total{kind="redirect",code="302"} 86' in body_of(second, "/metrics")[1]
     same = ["--listen", "127.0.0.1:%d" % first]
