@@ -1,5 +1,5 @@
 -- What is next for a request.
-use Rattle.std.specs.Prelude.{◌≡◌, ℕ, ⊥}
+use Rattle.std.specs.Prelude.{◌≡◌, ℕ}
 use Rattle.futures.specs.Channel.{completed_source}
 use Rattle.hdl_web.specs.declared.gathering.Turn.{Turn}
 use Rattle.hdl_web.specs.declared.gathering.Turn.TheVariants.{Made, Coming, Text, Led}
