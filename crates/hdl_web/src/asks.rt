@@ -31,6 +31,18 @@ fn no_answer(missed: Miss) -> NoAnswer {
     }
 }
 
+/// The answer where no server gave a reply, so that there is no alias to follow.
+fn last_answer(next: Result<Next, AllocError>) -> Made {
+    match next {
+        Ok(Next::Answer(answer)) => Ok(answer),
+        Ok(Next::Ask(question)) => {
+            drop(question);
+            Err(AllocError)
+        }
+        Err(refused) => Err(refused),
+    }
+}
+
 impl Ask {
     /// A server gave no good answer.
     pub(crate) fn miss(&mut self, miss: Miss) {
@@ -55,11 +67,7 @@ impl Ask {
     /// Answers with what all servers came to.
     pub(crate) fn end(self) {
         let missed = no_answer(self.missed);
-        let made = match next_step(self.alloc, self.question, Err(missed), 0) {
-            Ok(Next::Answer(answer)) => Ok(answer),
-            // without a reply there is no alias to follow
-            Ok(Next::Ask(_)) | Err(_) => Err(AllocError),
-        };
-        let _ = self.answer.send(made);
+        let next = next_step(self.alloc, self.question, Err(missed), 0);
+        let _ = self.answer.send(last_answer(next));
     }
 }

@@ -83,7 +83,9 @@ impl Counts {
     }
 
     fn put<R: Wait>(&self, rt: &R, text: &mut String) -> Result<(), AllocError> {
-        text.push_str("# HELP hdl_proxy_answers_total Answers, by kind and status.\n# TYPE hdl_proxy_answers_total counter\n")?;
+        text.push_str(
+            "# HELP hdl_proxy_answers_total Answers, by kind and status.\n# TYPE hdl_proxy_answers_total counter\n",
+        )?;
         for one in self.answers.lock(rt).iter() {
             writeln!(
                 text,
