@@ -23,7 +23,7 @@ import servers
 import wire
 from proxy_cases import ARCHIVE_WAY, A_ONE, A_PAGE, A_THREE, A_TWO, A_WAY, CHAIN, DAY, JSONS, KEPT, MANY, NEVER, OPTIONS, PAGES, PRETTY, SCRIPT_PAGE, TENANTS
 from proxy_pages import (
-    ABSENT, CONTACT, CROWDED, ELSEWHERE, FOLLOW, FORM, FRONT, HIDDEN, ICON, LATER, LOOK, READING, ROBOTS, SITE, UNANSWERED, answered_nowhere, empty, json_refusal, json_values,
+    ABSENT, CONTACT, CROWDED, ELSEWHERE, FOLLOW, FORM, FRONT, HIDDEN, ICON, LATER, LOOK, READING, ROBOTS, SITE, UNANSWERED, answered_nowhere, empty, json_refusal, json_text, json_values,
     nameless, refusal, text, value, values, way)
 
 PROGRAM = os.environ.get("PROXY", repository.program("hdl_web"))
@@ -95,6 +95,8 @@ REPLIES = (
     ("no frame", lambda n: b"HTTP/1.1 400 Bad Request\r\n\r\n", 502, NEVER, refusal("10/a", UNANSWERED, LATER, "No answer")),
     ("it closes at once", lambda n: b"", 502, NEVER, refusal("10/a", UNANSWERED, LATER, "No answer")),
 )
+# A value that was written at a moment, as JSON.
+STAMPED = '{"data":%s,"index":1,"timestamp":"2026-11-25T18:20:41.07Z","ttl":45,"type":"TEXT"}' % json_text("open")
 LOCATIONS = {"values in any order": "HTTPS://example.org/first", "a moment as a TTL, and one beyond a day": "https://example.org/until",
              "a TTL beyond a day": "https://example.org/long"}
 
@@ -285,6 +287,8 @@ def replies():
             with proxy([listener.getsockname()[1]], "--timeout", "1") as port:
                 for _ in range(1 if reply is silence else 4):
                     yield name, answered(port, "GET /10/a") == wanted(status, kept, LOCATIONS.get(name), body)
+                if name == "when it was written":
+                    yield name + ": JSON", answered(port, "GET /api/handles/10/a") == answers.json(200, kept, json_values("10/a", STAMPED))
             yield name + ": what is asked", {asked[20:] for asked in came} == {ASKED}
 
 

@@ -21,6 +21,7 @@ value 10/script 2 URL 86400 1110 UTF8 https://example.org/
 value 10/admin 100 HS_ADMIN 86400 1110 ADMIN 300:111111111111:0.NA/10
 value 10/admin 101 HS_VLIST 86400 1110 LIST 200:10/x 201:10/y
 value 10/some 100 HS_ADMIN 86400 1110 ADMIN 300:000010000001:0.NA/10
+value 10/some 101 HS_PUBKEY 86400 1110 UTF8 key
 value 10/admin 102 OCTETS 86400 1110 HEX 00ff41
 value 10/admin 103 HS_SITE 86400 1110 UTF8 site
 value 10/admin 300 HS_SECKEY 86400 1100 UTF8 never-shown
@@ -86,7 +87,7 @@ def unread(handle, written, *more):
 ADMINISTRATOR = '<p>Whoever has the key <span class="data">300:0.NA/10</span> may</p>\n<ul class="may">%s</ul>\n'
 ALL = "".join("<li>%s</li>" % may for may in ("create handles", "delete them", "list them", "read what isn't public", "add values", "change values", "remove values",
                                              "add administrators", "change administrators", "remove administrators"))
-SOME_PAGE = values("10/some", value("HS_ADMIN", 100, ADMINISTRATOR % "<li>list them</li><li>change values</li>"))
+SOME_PAGE = values("10/some", value("HS_ADMIN", 100, ADMINISTRATOR % "<li>list them</li><li>change values</li>"), value("HS_PUBKEY", 101, text("key")))
 MANY_PAGE = values("10/many", *(value("NOTE", index, text("note %d" % index)) for index in range(1, 51)))
 ADMIN_PAGE = values("10/admin", value("HS_ADMIN", 100, ADMINISTRATOR % ALL),
                     value("HS_VLIST", 101, text("200:10/x") + text("201:10/y")), value("OCTETS", 102, "<p>3 octets</p>\n" + text("00ff41")), value("HS_SITE", 103, text("site")))
@@ -208,6 +209,9 @@ JSONS = (
     ("GET /10/a?index=4", 200, NEVER, json_refusal("10/a", HIDDEN, 200)),
     ("GET /10/admin?type=HS_SECKEY", 200, NEVER, json_refusal("10/admin", HIDDEN, 200)),
     ("GET /10/admin", 200, KEPT % 86400, ADMIN),
+    ("GET /10/some", 200, KEPT % 86400, json_values(
+        "10/some", json_value(100, "HS_ADMIN", '{"format":"admin","value":{"handle":"0.NA/10","index":300,"permissions":"000010000001"}}'),
+        json_value(101, "HS_PUBKEY", '{"format":"base64","value":"a2V5"}'))),
     ("GET /10/circle", 200, KEPT % 86400, json_values("10/circle", json_value(1, "HS_ALIAS", json_text("20/circle")))),
     ("GET /10/none", 404, NEVER, json_refusal("10/none", "This handle isn't there.", 100)),
     ("GET /10/a%20", 404, NEVER, json_refusal("10/a ", "This handle isn't there.", 100)),
