@@ -191,7 +191,7 @@ impl<R: Rows + Drop, A: Alarm + Drop> Rows for BoundedRows<R, A> {
         ensures done { OnOk result (self.new.table ≡ with_new_handle self.old.table (canonical name.now) values.now) }
         ensures undone { OnErr result (self.new.table ≡ self.old.table) }
         ensures count { self.new.refused ≡ refusals_after result self.old.refused }
-        ensures kept { OnErr result (self.new.holdings ≡ self.old.holdings) }
+        ensures unchanged { OnErr result (self.new.holdings ≡ self.old.holdings) }
         ensures settled { OnOk result (self.new.holdings ≡ map (holding_after (prefix name.now) (λ m. with_handle m (canonical name.now) values.now) none) self.old.holdings) }
         ensures within { OnOk result (AllByRecursion (λ h. IsWithin (prefix name.now) h (holding_after (prefix name.now) (λ m. with_handle m (canonical name.now) values.now) none h)) self.old.holdings) }
     {
@@ -222,7 +222,7 @@ impl<R: Rows + Drop, A: Alarm + Drop> Rows for BoundedRows<R, A> {
         ensures done { OnOk result (self.new.table ≡ with_values self.old.table (canonical name.now) values.now) }
         ensures undone { OnErr result (self.new.table ≡ self.old.table) }
         ensures count { self.new.refused ≡ refusals_after result self.old.refused }
-        ensures kept { OnErr result (self.new.holdings ≡ self.old.holdings) }
+        ensures unchanged { OnErr result (self.new.holdings ≡ self.old.holdings) }
         ensures settled { OnOk result (self.new.holdings ≡ map (holding_after (prefix name.now) (λ m. sum_by m.value values.now) none) self.old.holdings) }
         ensures within { OnOk result (AllByRecursion (λ h. IsWithin (prefix name.now) h (holding_after (prefix name.now) (λ m. sum_by m.value values.now) none h)) self.old.holdings) }
     {
@@ -253,7 +253,7 @@ impl<R: Rows + Drop, A: Alarm + Drop> Rows for BoundedRows<R, A> {
         ensures done { OnOk result (self.new.table ≡ with_values self.old.table (canonical name.now) values.now) }
         ensures undone { OnErr result (self.new.table ≡ self.old.table) }
         ensures count { self.new.refused ≡ refusals_after result self.old.refused }
-        ensures kept { OnErr result (self.new.holdings ≡ self.old.holdings) }
+        ensures unchanged { OnErr result (self.new.holdings ≡ self.old.holdings) }
         ensures settled { OnOk result (self.new.holdings ≡ map (holding_after (prefix name.now) (λ m. sum_by m.value values.now) (λ m. values_at m (values_of self.old.table (canonical name.now)) (indexes values.now))) self.old.holdings) }
         ensures within { OnOk result (AllByRecursion (λ h. IsWithin (prefix name.now) h (holding_after (prefix name.now) (λ m. sum_by m.value values.now) (λ m. values_at m (values_of self.old.table (canonical name.now)) (indexes values.now)) h)) self.old.holdings) }
     {
@@ -285,7 +285,7 @@ impl<R: Rows + Drop, A: Alarm + Drop> Rows for BoundedRows<R, A> {
         ensures done { OnOk result (self.new.table ≡ without_values self.old.table (canonical name.now) indexes.now) }
         ensures undone { OnErr result (self.new.table ≡ self.old.table) }
         ensures count { self.new.refused ≡ refusals_after result self.old.refused }
-        ensures kept { OnErr result (self.new.holdings ≡ self.old.holdings) }
+        ensures unchanged { OnErr result (self.new.holdings ≡ self.old.holdings) }
         ensures settled { OnOk result (self.new.holdings ≡ map (holding_after (prefix name.now) none (λ m. values_at m (values_of self.old.table (canonical name.now)) indexes.now)) self.old.holdings) }
     {
         let prefix = name.prefix();
@@ -307,7 +307,7 @@ impl<R: Rows + Drop, A: Alarm + Drop> Rows for BoundedRows<R, A> {
         ensures done { OnOk result (self.new.table ≡ without_handle self.old.table (canonical name.now)) }
         ensures undone { OnErr result (self.new.table ≡ self.old.table) }
         ensures count { self.new.refused ≡ refusals_after result self.old.refused }
-        ensures kept { OnErr result (self.new.holdings ≡ self.old.holdings) }
+        ensures unchanged { OnErr result (self.new.holdings ≡ self.old.holdings) }
         ensures settled { OnOk result (self.new.holdings ≡ map (holding_after (prefix name.now) none (λ m. with_handle m (canonical name.now) (values_of self.old.table (canonical name.now)))) self.old.holdings) }
     {
         let prefix = name.prefix();

@@ -39,15 +39,15 @@ use Rattle.hdl_core.specs.Held.{Held, state_at, with_state}
 
 -- what was received, in the words of the laws
 abbrev pub received_of : code.Received → Received
-received_of x = record { peer = x.peer; moment = x.moment; nonce = x.nonce; bytes = x.bytes }
+received_of received = record { peer = received.peer; moment = received.moment; nonce = received.nonce; bytes = received.bytes }
 
 -- what was received, where the message came as these octets
 abbrev pub received_as : Origin → List ℕ → Received
-received_as m bytes = record { peer = m.peer; moment = m.moment; nonce = m.nonce; bytes = bytes }
+received_as origin bytes = record { peer = origin.peer; moment = origin.moment; nonce = origin.nonce; bytes = bytes }
 
 -- a message with where it came from
 abbrev pub message_as : Origin → List ℕ → tasks.Message
-message_as m message = record { peer = m.peer; moment = m.moment; nonce = m.nonce; envelope = m.envelope; message = message }
+message_as origin message = record { peer = origin.peer; moment = origin.moment; nonce = origin.nonce; envelope = origin.envelope; message = message }
 
 -- What an event of a lane is decided by: the prefixes that are hosted for the lane's publisher, their hash functions, and the table.
 pub record Context : Type 0 where
@@ -57,7 +57,7 @@ pub record Context : Type 0 where
 
 -- the context of the owner's lanes
 abbrev pub context : Owner → Table → Context
-context owner t = record { hosts = hosted_by owner; algorithms = algorithms_by owner; table = t }
+context owner table = record { hosts = hosted_by owner; algorithms = algorithms_by owner; table = table }
 
 -- The context of a lane, and all lanes.
 pub record Scene : Type 0 where
@@ -65,7 +65,7 @@ pub record Scene : Type 0 where
   pub lanes : List Held
 
 abbrev pub scene : Owner → Table → List Held → Scene
-scene owner t lanes = record { context = context owner t; lanes = lanes }
+scene owner table lanes = record { context = context owner table; lanes = lanes }
 
 -- A challenge response as it came: from where, its request, and what it answers.
 pub record Returned : Type 0 where
@@ -75,11 +75,11 @@ pub record Returned : Type 0 where
 
 -- the header of the reply to this request, with this code and content, announces what it carries
 abbrev pub Announces : Algorithm → Envelope → Content → ℕ → ReplyContent → Type 0
-Announces a e r code content = IsAnnounced (reply_parts (reply_to a e.session e.request r code content))
+Announces algorithm envelope request code content = IsAnnounced (reply_parts (reply_to algorithm envelope.session envelope.request request code content))
 
 -- the request's header has the code of its operation
 abbrev pub HasItsCode : Content → Type 0
-HasItsCode r = IsNumberOf (code_of r.operation) r.header.op_code
+HasItsCode request = IsNumberOf (code_of request.operation) request.header.op_code
 
 -- what is sent to a request that is decided for anyone
 abbrev pub sent_of : Heard → List ℕ
@@ -88,99 +88,99 @@ sent_of (Challenged octets digest) = octets
 
 -- the challenge of a request of this algorithm under this number
 abbrev pub challenge_of_request : Algorithm → Origin → ℕ → Content → Heard
-challenge_of_request a m next r = Challenged (challenge_octets a next m.envelope r m.nonce) (digest_of a r)
+challenge_of_request algorithm origin next request = Challenged (challenge_octets algorithm next origin.envelope request origin.nonce) (digest_of algorithm request)
 
 -- the decision about a request for anyone
 abbrev pub DecidesForAnyone : Context → Content → Decision → Type 0
-DecidesForAnyone x r d = Decides x.hosts (request_algorithm x.algorithms r) x.table r Anyone d
+DecidesForAnyone given request decision = Decides given.hosts (request_algorithm given.algorithms request) given.table request Anyone decision
 
 -- a request is decided for anyone: it is answered, or challenged under the lane's next number
 abbrev pub IsHeardForAnyone : Context → Origin → ℕ → Content → Heard → Table → Type 0
-IsHeardForAnyone x m next r (Answered octets) t' =
-    (d : Decision) × DecidesForAnyone x r d × ((d.code == response_number AuthenticationNeeded) ≡ false)
-    × (octets ≡ answer_octets (request_algorithm x.algorithms r) m.envelope r d.code d.content) × (t' ≡ apply_if x.table m.moment d.change)
-IsHeardForAnyone x m next r (Challenged octets digest) t' =
-    (d : Decision) × DecidesForAnyone x r d × ((d.code == response_number AuthenticationNeeded) ≡ true)
-    × (octets ≡ challenge_octets (request_algorithm x.algorithms r) next m.envelope r m.nonce) × (digest ≡ digest_of (request_algorithm x.algorithms r) r) × (t' ≡ x.table)
+IsHeardForAnyone given origin next request (Answered octets) table' =
+    (decision : Decision) × DecidesForAnyone given request decision × ((decision.code == response_number AuthenticationNeeded) ≡ false)
+    × (octets ≡ answer_octets (request_algorithm given.algorithms request) origin.envelope request decision.code decision.content) × (table' ≡ apply_if given.table origin.moment decision.change)
+IsHeardForAnyone given origin next request (Challenged octets digest) table' =
+    (decision : Decision) × DecidesForAnyone given request decision × ((decision.code == response_number AuthenticationNeeded) ≡ true)
+    × (octets ≡ challenge_octets (request_algorithm given.algorithms request) next origin.envelope request origin.nonce) × (digest ≡ digest_of (request_algorithm given.algorithms request) request) × (table' ≡ given.table)
 
 -- the task has this effect
 abbrev pub HasEffect : Context → Task → Effect → Type 0
-HasEffect x k eff = Does x.hosts x.algorithms x.table k eff
+HasEffect given task effect = Does given.hosts given.algorithms given.table task effect
 
 -- the task has this reply, and leaves the lane and the table so
 abbrev pub Replies : Context → ℕ → Task → List ℕ → LaneState → Table → Type 0
-Replies x moment k octets s' t' =
-    (eff : Effect) × HasEffect x k eff × (eff.outcome ≡ Reply octets) × (eff.state ≡ s') × (t' ≡ apply_if x.table moment eff.change)
+Replies given moment task octets state' table' =
+    (effect : Effect) × HasEffect given task effect × (effect.outcome ≡ Reply octets) × (effect.state ≡ state') × (table' ≡ apply_if given.table moment effect.change)
 
 -- a challenge response that names this challenge has this reply, whatever else the lane holds
 abbrev pub IsRedeemed : Context → Origin → Response → Pending → List ℕ → Table → Type 0
-IsRedeemed x m a p octets t' =
-    (s : LaneState) (message : List ℕ) → (o : Option Content) × IsReading (SpellsRequest p.message) o
-    × Replies x m.moment (redeem_task s (message_as m message) a p o) octets (without_challenge s (message_as m message)) t'
+IsRedeemed given origin response pending octets table' =
+    (state : LaneState) (message : List ℕ) → (reading : Option Content) × IsReading (SpellsRequest pending.message) reading
+    × Replies given origin.moment (redeem_task state (message_as origin message) response pending reading) octets (without_challenge state (message_as origin message)) table'
 
 -- what was returned, as a task of a lane in this state
 abbrev pub IsReturnedTask : LaneState → Returned → List ℕ → Task → Type 0
-IsReturnedTask s b message k = IsResponseTask s (message_as b.origin message) b.request b.response (challenge_of s.challenges.challenges b.origin.peer b.origin.envelope.session) k
+IsReturnedTask state returned message task = IsResponseTask state (message_as returned.origin message) returned.request returned.response (challenge_of state.challenges.challenges returned.origin.peer returned.origin.envelope.session) task
 
 -- a challenge response on a lane has this reply
 abbrev pub RespondsAt : Scene → ℕ → Returned → List ℕ → List Held → Table → Type 0
-RespondsAt x number b octets lanes' t' =
-    (message : List ℕ) → (s' : LaneState) × (lanes' ≡ with_state x.lanes number s') × (k : Task)
-    × IsReturnedTask (state_at x.lanes number) b message k × Replies x.context b.origin.moment k octets s' t'
+RespondsAt given number returned octets lanes' table' =
+    (message : List ℕ) → (state' : LaneState) × (lanes' ≡ with_state given.lanes number state') × (task : Task)
+    × IsReturnedTask (state_at given.lanes number) returned message task × Replies given.context returned.origin.moment task octets state' table'
 
 -- a message on a lane has this reply
 abbrev pub IsHeard : Context → LaneState → tasks.Message → List ℕ → LaneState → Table → Type 0
-IsHeard x s m octets s' t' = (k : Task) × IsMessageTask s m k × Replies x m.moment k octets s' t'
+IsHeard given state message octets state' table' = (task : Task) × IsMessageTask state message task × Replies given message.moment task octets state' table'
 
 -- the lanes after that
 abbrev pub HearsAt : Scene → ℕ → tasks.Message → List ℕ → List Held → Table → Type 0
-HearsAt x number m octets lanes' t' =
-    (s' : LaneState) × (lanes' ≡ with_state x.lanes number s') × IsHeard x.context (state_at x.lanes number) m octets s' t'
+HearsAt given number message octets lanes' table' =
+    (state' : LaneState) × (lanes' ≡ with_state given.lanes number state') × IsHeard given.context (state_at given.lanes number) message octets state' table'
 
 -- the outcome of a frame with this envelope: its reply if it has one, or busy
 abbrev pub outcome_of : Envelope → Result (Option (List ℕ)) Refused → Outcome
-outcome_of e (Ok (Some octets)) = Reply octets
-outcome_of e (Ok None) = Silent
-outcome_of e (Err refused) = Busy (short_reply (response_number ServerBusy) e)
+outcome_of envelope (Ok (Some octets)) = Reply octets
+outcome_of envelope (Ok None) = Silent
+outcome_of envelope (Err refused) = Busy (short_reply (response_number ServerBusy) envelope)
 
 -- a piece that came on an open lane has this reply, or none yet
 abbrev pub IsAssembled : Context → LaneState → Received → Option (List ℕ) → LaneState → Table → Type 0
-IsAssembled x s piece reply s' t' =
-    (eff : Effect) × (k : Task) × IsPieceTask s piece (take_piece s.partials (piece_of piece.peer piece.bytes)) k × HasEffect x k eff
-    × (eff.outcome ≡ option_map_or Reply reply Silent) × (eff.state ≡ s') × (t' ≡ apply_if x.table piece.moment eff.change)
+IsAssembled given state piece reply state' table' =
+    (effect : Effect) × (task : Task) × IsPieceTask state piece (take_piece state.partials (piece_of piece.peer piece.bytes)) task × HasEffect given task effect
+    × (effect.outcome ≡ option_map_or Reply reply Silent) × (effect.state ≡ state') × (table' ≡ apply_if given.table piece.moment effect.change)
 
 abbrev pub AssemblesAt : Scene → ℕ → Received → Option (List ℕ) → List Held → Table → Type 0
-AssemblesAt x number piece reply lanes' t' =
-    (s' : LaneState) × (lanes' ≡ with_state x.lanes number s') × IsAssembled x.context (state_at x.lanes number) piece reply s' t'
+AssemblesAt given number piece reply lanes' table' =
+    (state' : LaneState) × (lanes' ≡ with_state given.lanes number state') × IsAssembled given.context (state_at given.lanes number) piece reply state' table'
 
 -- octets that came on an open lane have this outcome, or are refused and nothing changed
 abbrev pub IsReceived : Context → LaneState → Received → Outcome → LaneState → Table → Type 0
-IsReceived x s came o s' t' =
-    ((eff : Effect) × (k : Task) × IsOctetsTask s came k × HasEffect x k eff × (o ≡ eff.outcome) × (s' ≡ eff.state) × (t' ≡ apply_if x.table came.moment eff.change))
-    ⊎ (IsFrame came.bytes × (o ≡ Busy (short_reply (response_number ServerBusy) (envelope_at came.bytes))) × (s' ≡ s) × (t' ≡ x.table))
+IsReceived given state came outcome state' table' =
+    ((effect : Effect) × (task : Task) × IsOctetsTask state came task × HasEffect given task effect × (outcome ≡ effect.outcome) × (state' ≡ effect.state) × (table' ≡ apply_if given.table came.moment effect.change))
+    ⊎ (IsFrame came.bytes × (outcome ≡ Busy (short_reply (response_number ServerBusy) (envelope_at came.bytes))) × (state' ≡ state) × (table' ≡ given.table))
 
 abbrev pub ReceivesAt : Scene → ℕ → Received → Outcome → List Held → Table → Type 0
-ReceivesAt x number came o lanes' t' =
-    (s' : LaneState) × (lanes' ≡ with_state x.lanes number s') × IsReceived x.context (state_at x.lanes number) came o s' t'
+ReceivesAt given number came outcome lanes' table' =
+    (state' : LaneState) × (lanes' ≡ with_state given.lanes number state') × IsReceived given.context (state_at given.lanes number) came outcome state' table'
 
 -- an event of the lane has this outcome, and leaves the lane and the table so
 abbrev pub IsAnswered : Context → LaneState → Happening → Outcome → LaneState → Table → Type 0
-IsAnswered x s what o s' t' =
-    (eff : Effect) × (k : Task) × IsTask s what k × HasEffect x k eff × (o ≡ eff.outcome) × (s' ≡ eff.state) × (t' ≡ apply_if x.table (moment_of what) eff.change)
+IsAnswered given state what outcome state' table' =
+    (effect : Effect) × (task : Task) × IsTask state what task × HasEffect given task effect × (outcome ≡ effect.outcome) × (state' ≡ effect.state) × (table' ≡ apply_if given.table (moment_of what) effect.change)
 
 -- a frame on the open lane is refused, and the lane stays
-pub record IsTurnedDown (t : Table) (s : LaneState) (what : Happening) (o : Outcome) (s' : LaneState) (t' : Table) : Type 0 where
+pub record IsTurnedDown (table : Table) (state : LaneState) (what : Happening) (answer : Outcome) (state' : LaneState) (table' : Table) : Type 0 where
   pub received : Received
   pub frame_event : what ≡ happening_of received
   pub frame : IsFrame received.bytes
-  pub is_open : s.is_open ≡ true
-  pub outcome : o ≡ Busy (short_reply (response_number ServerBusy) (envelope_at received.bytes))
-  pub lane_stays : s' ≡ s
-  pub table_stays : t' ≡ t
+  pub is_open : state.is_open ≡ true
+  pub outcome : answer ≡ Busy (short_reply (response_number ServerBusy) (envelope_at received.bytes))
+  pub lane_stays : state' ≡ state
+  pub table_stays : table' ≡ table
 
 abbrev pub IsServed : Context → LaneState → Happening → Outcome → LaneState → Table → Type 0
-IsServed x s what o s' t' = IsAnswered x s what o s' t' ⊎ IsTurnedDown x.table s what o s' t'
+IsServed given state what outcome state' table' = IsAnswered given state what outcome state' table' ⊎ IsTurnedDown given.table state what outcome state' table'
 
 abbrev pub ServesAt : Scene → ℕ → Happening → Outcome → List Held → Table → Type 0
-ServesAt x number what o lanes' t' =
-    (s' : LaneState) × (lanes' ≡ with_state x.lanes number s') × IsServed x.context (state_at x.lanes number) what o s' t'
+ServesAt given number what outcome lanes' table' =
+    (state' : LaneState) × (lanes' ≡ with_state given.lanes number state') × IsServed given.context (state_at given.lanes number) what outcome state' table'

@@ -132,7 +132,7 @@ fn respond<R: Masked>(
     ensures responded { IfOk result (λ octets. RespondsAt (scene owner.now (R.content rows.old) lanes.old) origin.now.lane (record { origin = origin.now; request = request.now; response = response_view response.entry }) octets lanes.new (R.content rows.new)) }
     ensures read { IfOk result (λ octets. IsReplyFrame octets) }
     ensures undone { OnErr result (R.content rows.new ≡ R.content rows.old) }
-    ensures kept { OnErr result (lanes.new ≡ lanes.old) }
+    ensures unchanged { OnErr result (lanes.new ≡ lanes.old) }
 {
     let session = origin.envelope.session;
     let Some(pending) = lanes.find(origin.lane, origin.peer, session) else {
@@ -159,7 +159,7 @@ pub(crate) fn hear<R: Masked>(
     ensures heard { IfOk result (λ octets. HearsAt (scene owner.now (R.content rows.old) lanes.old) origin.now.lane (message_as origin.now message.items) octets lanes.new (R.content rows.new)) }
     ensures read { IfOk result (λ octets. IsReplyFrame octets) }
     ensures undone { OnErr result (R.content rows.new ≡ R.content rows.old) }
-    ensures kept { OnErr result (lanes.new ≡ lanes.old) }
+    ensures unchanged { OnErr result (lanes.new ≡ lanes.old) }
 {
     let Ok(request) = read_request(&message) else {
         return malformed_reply(owner.alloc, &origin.envelope);

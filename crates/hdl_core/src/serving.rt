@@ -44,7 +44,7 @@ fn assemble<R: Masked>(
     ensures assembled { IfOk result (λ reply. AssemblesAt (scene owner.now (R.content rows.old) lanes.old) origin.now.lane (received_as origin.now frame.now.bytes.now) reply lanes.new (R.content rows.new)) }
     ensures read { IfOk result (λ reply. IfSome reply IsReplyFrame) }
     ensures undone { OnErr result (R.content rows.new ≡ R.content rows.old) }
-    ensures kept { OnErr result (lanes.new ≡ lanes.old) }
+    ensures unchanged { OnErr result (lanes.new ≡ lanes.old) }
 {
     let Ok(taken) = lanes.take_piece(origin.lane, origin.peer, frame) else {
         return Err(Refused);

@@ -26,69 +26,69 @@ use Rattle.hdl_laws.specs.Tasks.{Task, IsTask, Ignore, Break, Malformed, Unknown
 use Rattle.hdl_laws.specs.Steps.{Turn}
 use Rattle.hdl_laws.specs.Runs.{is_busy}
 
--- the owner of a lane is u
+-- a lane's owner is this publisher
 abbrev pub is_owned_by : Option ℕ → ℕ → Bool
-is_owned_by None u = false
-is_owned_by (Some v) u = v == u
+is_owned_by None publisher = false
+is_owned_by (Some other) publisher = other == publisher
 
--- the lane is u's
+-- the lane is the publisher's
 abbrev pub owns : Site → ℕ → ℕ → Bool
-owns s u lane = is_owned_by (owner s lane) u
+owns site publisher lane = is_owned_by (owner site lane) publisher
 
--- the event is on a lane of u
+-- the event is on a lane of the publisher
 abbrev pub is_mine : Site → ℕ → Event → Bool
-is_mine s u e = owns s u e.lane
+is_mine site publisher event = owns site publisher event.lane
 
 -- ---- the restricted world
 
--- the foreign handles at which a value of C stands
+-- the foreign handles at which a value of the cover stands
 abbrev pub foreign_handles : (List ℕ → Bool) → List Place → Table → List (List ℕ)
-foreign_handles hosted C t = map (λ c. c.handle) (filter (λ c. not (hosted (prefix c.handle)) && is_some (at t c)) C)
+foreign_handles hosted cover table = map (λ place. place.handle) (filter (λ place. not (hosted (prefix place.handle)) && is_some (at table place)) cover)
 
--- the place is a row's of a hosted prefix, or in C
+-- the place is a row's of a hosted prefix, or in the cover
 abbrev pub is_retained : (List ℕ → Bool) → List Place → Place → Bool
-is_retained hosted C p = hosted (prefix p.handle) || is_among p C
+is_retained hosted cover place = hosted (prefix place.handle) || is_among place cover
 
--- the rows of the hosted prefixes and the values at C; a foreign handle is there just where such a value is
+-- the rows of the hosted prefixes and the values at the cover; a foreign handle is there just where such a value is
 unfoldable pub restrict_table : (List ℕ → Bool) → List Place → Table → Table
-restrict_table hosted C t = record {
-  handles = set.union (set.retain t.handles (λ h. hosted (prefix h))) (set.from_list (foreign_handles hosted C t));
-  values = map.retain_keys t.values (is_retained hosted C);
+restrict_table hosted cover table = record {
+  handles = set.union (set.retain table.handles (λ handle. hosted (prefix handle))) (set.from_list (foreign_handles hosted cover table));
+  values = map.retain_keys table.values (is_retained hosted cover);
 }
 
--- u's lanes, and the prefixes hosted for u
+-- the publisher's lanes, and the prefixes hosted for it
 abbrev pub restrict_site : Site → ℕ → Site
-restrict_site s u = record {
-  owners = map.retain_keys s.owners (owns s u);
-  hostings = filter (λ h. h.publisher == u) s.hostings;
+restrict_site site publisher = record {
+  owners = map.retain_keys site.owners (owns site publisher);
+  hostings = filter (λ hosting. hosting.publisher == publisher) site.hostings;
 }
 
--- what u has of the world, and the values at C
+-- what the publisher has of the world, and the values at the cover
 abbrev pub restrict : World → ℕ → List Place → World
-restrict w u C = record {
-  site = restrict_site w.site u;
-  table = restrict_table (hosts w.site u) C w.table;
-  lanes = map.retain_keys w.lanes (owns w.site u);
+restrict world publisher cover = record {
+  site = restrict_site world.site publisher;
+  table = restrict_table (hosts world.site publisher) cover world.table;
+  lanes = map.retain_keys world.lanes (owns world.site publisher);
 }
 
--- the turn is u's, and wasn't answered busy
+-- the turn is the publisher's, and wasn't answered busy
 abbrev pub is_turn_of : Site → ℕ → Turn → Bool
-is_turn_of s u t = is_mine s u t.event && not (is_busy t.outcome)
+is_turn_of site publisher step = is_mine site publisher step.event && not (is_busy step.outcome)
 
--- u's turns that weren't answered busy, in order
+-- the publisher's turns that weren't answered busy, in order
 abbrev pub turns_of : Site → ℕ → List Turn → List Turn
-turns_of s u ts = filter (is_turn_of s u) ts
+turns_of site publisher turns = filter (is_turn_of site publisher) turns
 
 -- ---- covers
 
--- each of these places is in C
+-- each of these places is in the cover
 abbrev pub Covers : List Place → List Place → Type 0
-Covers C ps = (p : Place) → IsTrue (is_among p ps) → IsTrue (is_among p C)
+Covers cover places = (place : Place) → IsTrue (is_among place places) → IsTrue (is_among place cover)
 
--- each place that one of these values refers to is in C
+-- each place that one of these values refers to is in the cover
 abbrev pub EachCovered : List Place → List Value → Type 0
-EachCovered C [] = ⊤
-EachCovered C (v ∷ vs) = Covers C (refs_of v) × EachCovered C vs
+EachCovered cover [] = ⊤
+EachCovered cover (value ∷ values) = Covers cover (refs_of value) × EachCovered cover values
 
 -- the values that a change writes
 abbrev pub changed_values : Change → List Value
@@ -101,64 +101,64 @@ changed_values (Modify name values) = values
 -- the same where there is a change, and none where there is none
 abbrev pub values_written : Option Change → List Value
 values_written None = []
-values_written (Some c) = changed_values c
+values_written (Some change) = changed_values change
 
--- the values in the changes that events of u's lanes made
+-- the values in the changes that events of the publisher's lanes made
 abbrev pub own_writes : Site → ℕ → List Turn → List Value
-own_writes s u [] = []
-own_writes s u (t ∷ ts) = (if is_mine s u t.event then values_written t.change else []) ++ own_writes s u ts
+own_writes site publisher [] = []
+own_writes site publisher (step ∷ turns) = (if is_mine site publisher step.event then values_written step.change else []) ++ own_writes site publisher turns
 
--- C holds what the rows of the hosted prefixes refer to, and with each of its places what is listed there
-pub record IsClosed (hosted : List ℕ → Bool) (C : List Place) (t : Table) : Type 0 where
-  pub rows : (p : Place) (v : Value) → IsTrue (hosted (prefix p.handle)) → at t p ≡ Some v → Covers C (refs_of v)
-  pub onward : IsOnward t C
+-- the cover holds what the rows of the hosted prefixes refer to, and with each of its places what is listed there
+pub record IsClosed (hosted : List ℕ → Bool) (cover : List Place) (table : Table) : Type 0 where
+  pub rows : (place : Place) (value : Value) → IsTrue (hosted (prefix place.handle)) → at table place ≡ Some value → Covers cover (refs_of value)
+  pub onward : IsOnward table cover
 
--- C is closed at the start, and holds what the values refer to that u writes
-pub record IsCover (u : ℕ) (C : List Place) (w : World) (ts : List Turn) : Type 0 where
-  pub start : IsClosed (hosts w.site u) C w.table
-  pub written : EachCovered C (own_writes w.site u ts)
+-- the cover is closed at the start, and holds what the values refer to that the publisher writes
+pub record IsCover (publisher : ℕ) (cover : List Place) (world : World) (turns : List Turn) : Type 0 where
+  pub start : IsClosed (hosts world.site publisher) cover world.table
+  pub written : EachCovered cover (own_writes world.site publisher turns)
 
 -- ---- quiet runs
 
--- two tables agree on the rows of the hosted prefixes and at C
-pub record Agrees (hosted : List ℕ → Bool) (C : List Place) (t t' : Table) : Type 0 where
-  pub handles : (h : List ℕ) → IsTrue (hosted (prefix h)) → has t h ≡ has t' h
-  pub rows : (p : Place) → IsTrue (hosted (prefix p.handle)) → at t p ≡ at t' p
-  pub covered : AgreeAt t t' C
+-- two tables agree on the rows of the hosted prefixes and at the cover
+pub record Agrees (hosted : List ℕ → Bool) (cover : List Place) (before after : Table) : Type 0 where
+  pub handles : (handle : List ℕ) → IsTrue (hosted (prefix handle)) → has before handle ≡ has after handle
+  pub rows : (place : Place) → IsTrue (hosted (prefix place.handle)) → at before place ≡ at after place
+  pub covered : AgreeAt before after cover
 
--- no event of another lane changes a row of u, or what stands at C
+-- no event of another lane changes a row of the publisher, or what stands at the cover
 abbrev pub IsQuiet : Site → ℕ → List Place → World → List Turn → Type 0
-IsQuiet s u C w [] = ⊤
-IsQuiet s u C w (t ∷ ts) = (IsFalse (is_mine s u t.event) → Agrees (hosts s u) C w.table t.after.table) × IsQuiet s u C t.after ts
+IsQuiet site publisher cover world [] = ⊤
+IsQuiet site publisher cover world (step ∷ turns) = (IsFalse (is_mine site publisher step.event) → Agrees (hosts site publisher) cover world.table step.after.table) × IsQuiet site publisher cover step.after turns
 
 -- ---- twins
 
--- the handle is one of H
+-- the handle is one of those for which a resolution was authorised
 abbrev pub is_held : List (List ℕ) → List ℕ → Bool
-is_held H h = list_any (same_handle h) H
+is_held authorised handle = list_any (same_handle handle) authorised
 
--- the value may be read: it is public, or kept at a handle of H
+-- the value may be read: it is public, or kept at such a handle
 abbrev pub may_be_read : List (List ℕ) → List ℕ → Value → Bool
-may_be_read H h v = is_public v || (is_kept v && is_held H h)
+may_be_read authorised handle value = is_public value || (is_kept value && is_held authorised handle)
 
 -- the index and the permission alone
 abbrev pub without_content : Value → Value
-without_content v = record { index = v.index; kind = []; bytes = []; ttl = []; permissions = v.permissions; timestamp = 0; references = [] }
+without_content value = record { index = value.index; kind = []; bytes = []; ttl = []; permissions = value.permissions; timestamp = 0; references = [] }
 
 -- what may be read of a value at the handle
 abbrev pub readable : List (List ℕ) → List ℕ → Value → Value
-readable H h v = if may_be_read H h v then v else without_content v
+readable authorised handle value = if may_be_read authorised handle value then value else without_content value
 
 -- the same handles, the same indexes and permissions, and equal values where they may be read
-pub record AreTwins (H : List (List ℕ)) (t t' : Table) : Type 0 where
-  pub handles : t.handles ≡ t'.handles
-  pub values : (p : Place) → option_map (readable H p.handle) (at t p) ≡ option_map (readable H p.handle) (at t' p)
+pub record AreTwins (authorised : List (List ℕ)) (one other : Table) : Type 0 where
+  pub handles : one.handles ≡ other.handles
+  pub values : (place : Place) → option_map (readable authorised place.handle) (at one place) ≡ option_map (readable authorised place.handle) (at other place)
 
 -- worlds that are equal but for their tables, which are twins
-pub record AreTwinWorlds (H : List (List ℕ)) (w w' : World) : Type 0 where
-  pub site : w.site ≡ w'.site
-  pub lanes : w.lanes ≡ w'.lanes
-  pub tables : AreTwins H w.table w'.table
+pub record AreTwinWorlds (authorised : List (List ℕ)) (one other : World) : Type 0 where
+  pub site : one.site ≡ other.site
+  pub lanes : one.lanes ≡ other.lanes
+  pub tables : AreTwins authorised one.table other.table
 
 -- a reply's ResponseCode, and a number for each other outcome
 abbrev pub code_of : Outcome → ℕ
@@ -169,20 +169,20 @@ code_of (CloseAfter octets) = response_number ProtocolError
 
 -- the challenged request that a task decides
 abbrev pub proven_request : Task → Option Content
-proven_request (Redeem m r p s) = Some r
-proven_request (Ignore s) = None
-proven_request (Break session request s) = None
-proven_request (Malformed m s) = None
-proven_request (Unknown m r s) = None
-proven_request (Late m r a s) = None
-proven_request (Ask m r s) = None
+proven_request (Redeem message request proof state) = Some request
+proven_request (Ignore state) = None
+proven_request (Break session request state) = None
+proven_request (Malformed message state) = None
+proven_request (Unknown message request state) = None
+proven_request (Late message request algorithm state) = None
+proven_request (Ask message request state) = None
 
--- if the event's task decides a challenged resolution, and its outcome has code Success, then H holds the resolution's handle
+-- if the event's task decides a challenged resolution, and its outcome has code Success, then the resolution's handle is authorised
 abbrev pub AllowsTurn : List (List ℕ) → World → Turn → Type 0
-AllowsTurn H w t =
-    (k : Task) (r : Content) → IsTask (lane_of w t.event.lane) t.event.what k → proven_request k ≡ Some r → IsTrue (resolves r.operation) → code_of t.outcome ≡ response_number Success → IsTrue (is_held H (handle_of r))
+AllowsTurn authorised world step =
+    (task : Task) (request : Content) → IsTask (lane_of world step.event.lane) step.event.what task → proven_request task ≡ Some request → IsTrue (resolves request.operation) → code_of step.outcome ≡ response_number Success → IsTrue (is_held authorised (handle_of request))
 
--- H holds the handle of each authorised resolution that is answered Success
+-- so is the handle of each challenged resolution that is answered Success
 abbrev pub Allows : List (List ℕ) → World → List Turn → Type 0
-Allows H w [] = ⊤
-Allows H w (t ∷ ts) = AllowsTurn H w t × Allows H t.after ts
+Allows authorised world [] = ⊤
+Allows authorised world (step ∷ turns) = AllowsTurn authorised world step × Allows authorised step.after turns

@@ -11,76 +11,76 @@ use Rattle.hdl_laws.specs.Isolation.{IsClosed, IsCover, IsQuiet, is_mine, restri
 
 -- two runs in a row are one run
 abbrev pub JoinsRuns : Type 0
-JoinsRuns = (w mid new : World) (es es' : List Event) (os os' : List Outcome) → Run w es os mid → Run mid es' os' new → Run w (es ++ es') (os ++ os') new
+JoinsRuns = (world mid new : World) (es es' : List Event) (os os' : List Outcome) → Run world es os mid → Run mid es' os' new → Run world (es ++ es') (os ++ os') new
 
 -- ---- isolation
 
 -- nobody hosts the prefix of the administrative handles
 abbrev pub HostsNoRoot : Site → Type 0
-HostsNoRoot s = (u : ℕ) → IsFalse (hosts s u root)
+HostsNoRoot site = (publisher : ℕ) → IsFalse (hosts site publisher root)
 
--- C is closed in the first world and in each that a turn leaves
+-- the cover is closed in the first world and in each that a turn leaves
 abbrev pub ClosedAlong : ℕ → List Place → World → List Turn → Type 0
-ClosedAlong u C w [] = IsClosed (hosts w.site u) C w.table
-ClosedAlong u C w (t ∷ ts) = IsClosed (hosts w.site u) C w.table × ClosedAlong u C t.after ts
+ClosedAlong publisher cover world [] = IsClosed (hosts world.site publisher) cover world.table
+ClosedAlong publisher cover world (step ∷ turns) = IsClosed (hosts world.site publisher) cover world.table × ClosedAlong publisher cover step.after turns
 
 -- in each world of a quiet run a cover is closed
 abbrev pub KeepsCovers : Type 0
-KeepsCovers = (w : World) (ts : List Turn) (u : ℕ) (C : List Place) → IsRun w ts → IsCover u C w ts → IsQuiet w.site u C w ts → ClosedAlong u C w ts
+KeepsCovers = (world : World) (turns : List Turn) (publisher : ℕ) (cover : List Place) → IsRun world turns → IsCover publisher cover world turns → IsQuiet world.site publisher cover world turns → ClosedAlong publisher cover world turns
 
--- for each publisher u and each cover C for u, where the run is quiet: u's outcomes and what u has of the last world are those of
--- u's events alone, none of them answered busy, from what u has of the first world and the values at C
+-- for each publisher and each cover for it, where the run is quiet: its outcomes and what it has of the last world are those of
+-- its events alone, none of them answered busy, from what it has of the first world and the values at the cover
 abbrev pub Isolates : World → List Turn → Type 0
-Isolates w ts =
-    (u : ℕ) (C : List Place) → IsCover u C w ts → IsQuiet w.site u C w ts
-    → RunWithoutBusy (restrict w u C) (events (turns_of w.site u ts)) (outcomes (turns_of w.site u ts)) (restrict (last w ts) u C)
+Isolates world turns =
+    (publisher : ℕ) (cover : List Place) → IsCover publisher cover world turns → IsQuiet world.site publisher cover world turns
+    → RunWithoutBusy (restrict world publisher cover) (events (turns_of world.site publisher turns)) (outcomes (turns_of world.site publisher turns)) (restrict (last world turns) publisher cover)
 
 -- the events with these outcomes isolate each publisher, whatever run they are
 abbrev pub Isolated : World → List Event → List Outcome → Type 0
-Isolated w es os = (ts : List Turn) → IsRun w ts → events ts ≡ es → outcomes ts ≡ os → Isolates w ts
+Isolated world es os = (turns : List Turn) → IsRun world turns → events turns ≡ es → outcomes turns ≡ os → Isolates world turns
 
 -- each run isolates each publisher
 abbrev pub RestrictsRuns : Type 0
-RestrictsRuns = (w : World) (ts : List Turn) → HostsNoRoot w.site → IsRun w ts → Isolates w ts
+RestrictsRuns = (world : World) (turns : List Turn) → HostsNoRoot world.site → IsRun world turns → Isolates world turns
 
 -- a run in which no event is answered busy is determined by its events
 abbrev pub RunWithoutBusyIsOne : Type 0
-RunWithoutBusyIsOne = (w new new' : World) (es : List Event) (os os' : List Outcome) → RunWithoutBusy w es os new → RunWithoutBusy w es os' new' → (os ≡ os') × (new ≡ new')
+RunWithoutBusyIsOne = (world new new' : World) (es : List Event) (os os' : List Outcome) → RunWithoutBusy world es os new → RunWithoutBusy world es os' new' → (os ≡ os') × (new ≡ new')
 
--- two quiet runs that agree in u's events and in the restricted first worlds give u equal outcomes, and end in equal restricted
+-- two quiet runs that agree in the publisher's events and in the restricted first worlds give it equal outcomes, and end in equal restricted
 -- worlds
 abbrev pub TwoRunsAgree : Type 0
 TwoRunsAgree =
-    (w w' : World) (ts ts' : List Turn) (u : ℕ) (C : List Place) → HostsNoRoot w.site → HostsNoRoot w'.site → IsRun w ts → IsRun w' ts'
-    → IsCover u C w ts → IsCover u C w' ts' → IsQuiet w.site u C w ts → IsQuiet w'.site u C w' ts'
-    → restrict w u C ≡ restrict w' u C → events (turns_of w.site u ts) ≡ events (turns_of w'.site u ts')
-    → (outcomes (turns_of w.site u ts) ≡ outcomes (turns_of w'.site u ts')) × (restrict (last w ts) u C ≡ restrict (last w' ts') u C)
+    (world world' : World) (turns turns' : List Turn) (publisher : ℕ) (cover : List Place) → HostsNoRoot world.site → HostsNoRoot world'.site → IsRun world turns → IsRun world' turns'
+    → IsCover publisher cover world turns → IsCover publisher cover world' turns' → IsQuiet world.site publisher cover world turns → IsQuiet world'.site publisher cover world' turns'
+    → restrict world publisher cover ≡ restrict world' publisher cover → events (turns_of world.site publisher turns) ≡ events (turns_of world'.site publisher turns')
+    → (outcomes (turns_of world.site publisher turns) ≡ outcomes (turns_of world'.site publisher turns')) × (restrict (last world turns) publisher cover ≡ restrict (last world' turns') publisher cover)
 
 -- ---- twins
 
 -- runs of the same events from twins, with the same codes, have the same octets and end in twins
 abbrev pub HidesUnread : World → List Turn → Type 0
-HidesUnread w ts =
-    (H : List (List ℕ)) (w' : World) (ts' : List Turn) → Allows H w ts → AreTwinWorlds H w w' → IsRun w' ts' → events ts ≡ events ts' → map code_of (outcomes ts) ≡ map code_of (outcomes ts')
-    → (outcomes ts ≡ outcomes ts') × AreTwinWorlds H (last w ts) (last w' ts')
+HidesUnread world turns =
+    (authorised : List (List ℕ)) (twin : World) (turns' : List Turn) → Allows authorised world turns → AreTwinWorlds authorised world twin → IsRun twin turns' → events turns ≡ events turns' → map code_of (outcomes turns) ≡ map code_of (outcomes turns')
+    → (outcomes turns ≡ outcomes turns') × AreTwinWorlds authorised (last world turns) (last twin turns')
 
 -- the events with these outcomes hide what may not be read, whatever run they are
 abbrev pub Hidden : World → List Event → List Outcome → Type 0
-Hidden w es os = (ts : List Turn) → IsRun w ts → events ts ≡ es → outcomes ts ≡ os → HidesUnread w ts
+Hidden world es os = (turns : List Turn) → IsRun world turns → events turns ≡ es → outcomes turns ≡ os → HidesUnread world turns
 
 -- each run hides what may not be read
 abbrev pub TwinsReplyAlike : Type 0
-TwinsReplyAlike = (w : World) (ts : List Turn) → IsRun w ts → HidesUnread w ts
+TwinsReplyAlike = (world : World) (turns : List Turn) → IsRun world turns → HidesUnread world turns
 
 -- each run has a cover for each publisher
 abbrev pub HasCover : Type 0
-HasCover = (w : World) (ts : List Turn) (u : ℕ) → (C : List Place) × IsCover u C w ts
+HasCover = (world : World) (turns : List Turn) (publisher : ℕ) → (cover : List Place) × IsCover publisher cover world turns
 
 -- no event of another lane changes the table
 abbrev pub IsCalm : Site → ℕ → World → List Turn → Type 0
-IsCalm s u w [] = ⊤
-IsCalm s u w (t ∷ ts) = (IsFalse (is_mine s u t.event) → t.after.table ≡ w.table) × IsCalm s u t.after ts
+IsCalm site publisher world [] = ⊤
+IsCalm site publisher world (step ∷ turns) = (IsFalse (is_mine site publisher step.event) → step.after.table ≡ world.table) × IsCalm site publisher step.after turns
 
--- such a run is quiet for every C
+-- such a run is quiet for every cover
 abbrev pub CalmIsQuiet : Type 0
-CalmIsQuiet = (s : Site) (u : ℕ) (C : List Place) (w : World) (ts : List Turn) → IsCalm s u w ts → IsQuiet s u C w ts
+CalmIsQuiet = (site : Site) (publisher : ℕ) (cover : List Place) (world : World) (turns : List Turn) → IsCalm site publisher world turns → IsQuiet site publisher cover world turns

@@ -25,39 +25,39 @@ use Rattle.hdl_laws.specs.Runs.{Steps}
 
 -- the reply with this code to a request that came as it is
 abbrev pub asked_octets : Algorithm → Table → Message → Content → LaneState → ℕ → List ℕ
-asked_octets a t m r s code =
-    if code == response_number AuthenticationNeeded then challenge_octets a s.challenges.next m.envelope r m.nonce
-    else answer_octets a m.envelope r code (content_by_code t r Anyone code)
+asked_octets algorithm table message request state code =
+    if code == response_number AuthenticationNeeded then challenge_octets algorithm state.challenges.next message.envelope request message.nonce
+    else answer_octets algorithm message.envelope request code (content_by_code table request Anyone code)
 
 -- The octets are the reply with this code to what the event comes to, where prefixes have these hash functions. Of the table they
 -- hold what is told with the code at the level of the caller, and nothing else.
 abbrev pub IsReplyBy : (List ℕ → Algorithm) → Table → Task → ℕ → List ℕ → Type 0
-IsReplyBy algorithms t (Ignore s) code octets = ⊥
-IsReplyBy algorithms t (Break session request s) code octets = ⊥
-IsReplyBy algorithms t (Malformed m s) code octets = octets ≡ short_reply code m.envelope
-IsReplyBy algorithms t (Unknown m r s) code octets = octets ≡ answer_octets Sha1 m.envelope r code Empty
-IsReplyBy algorithms t (Late m r a s) code octets = octets ≡ answer_octets a m.envelope r code Empty
-IsReplyBy algorithms t (Ask m r s) code octets = octets ≡ asked_octets (request_algorithm algorithms r) t m r s code
-IsReplyBy algorithms t (Redeem m r p s) code octets = octets ≡ answer_octets (algorithm_of p.digest) m.envelope r code (content_by_code t r (Proven p) code)
+IsReplyBy algorithms table (Ignore state) code octets = ⊥
+IsReplyBy algorithms table (Break session request state) code octets = ⊥
+IsReplyBy algorithms table (Malformed message state) code octets = octets ≡ short_reply code message.envelope
+IsReplyBy algorithms table (Unknown message request state) code octets = octets ≡ answer_octets Sha1 message.envelope request code Empty
+IsReplyBy algorithms table (Late message request algorithm state) code octets = octets ≡ answer_octets algorithm message.envelope request code Empty
+IsReplyBy algorithms table (Ask message request state) code octets = octets ≡ asked_octets (request_algorithm algorithms request) table message request state code
+IsReplyBy algorithms table (Redeem message request proof state) code octets = octets ≡ answer_octets (algorithm_of proof.digest) message.envelope request code (content_by_code table request (Proven proof) code)
 
 -- the same in this world and on this lane
 abbrev pub IsReplyTo : World → ℕ → Task → ℕ → List ℕ → Type 0
-IsReplyTo w lane k code octets = IsReplyBy (algorithms_for w.site (owner w.site lane)) w.table k code octets
+IsReplyTo world lane task code octets = IsReplyBy (algorithms_for world.site (owner world.site lane)) world.table task code octets
 
 -- if the outcome is a reply, it is the one with its code to what the event comes to
 abbrev pub Reveals : World → Event → Outcome → Type 0
-Reveals w e o = (octets : List ℕ) → o ≡ Reply octets → (k : Task) × IsTask (lane_of w e.lane) e.what k × IsReplyTo w e.lane k (response_code_at octets) octets
+Reveals world event outcome = (octets : List ℕ) → outcome ≡ Reply octets → (task : Task) × IsTask (lane_of world event.lane) event.what task × IsReplyTo world event.lane task (response_code_at octets) octets
 
 -- each step does
 abbrev pub StepsTell : Type 0
-StepsTell = (w new : World) (e : Event) (o : Outcome) → Steps w e o new → Reveals w e o
+StepsTell = (world new : World) (event : Event) (outcome : Outcome) → Steps world event outcome new → Reveals world event outcome
 
 -- ---- what a reply announces
 
 -- The octets of a frame have the message of a reply whose header announces what it carries. So it is read as this reply where its
 -- parts fit their fields, whatever was asked.
 abbrev pub IsSelfTold : List ℕ → Type 0
-IsSelfTold octets = (p : ReplyParts) × IsAnnounced p × (drop 20 octets ≡ parts_message p) × (PartsFit p → IsShort (parts_body p) → reply_at (drop 20 octets) ≡ Some p)
+IsSelfTold octets = (parts : ReplyParts) × IsAnnounced parts × (drop 20 octets ≡ parts_message parts) × (PartsFit parts → IsShort (parts_body parts) → reply_at (drop 20 octets) ≡ Some parts)
 
 -- the octets that an outcome sends, if any
 abbrev pub sent_by : Outcome → Option (List ℕ)
@@ -68,10 +68,10 @@ sent_by (CloseAfter octets) = Some octets
 
 -- what each step sends is such a reply
 abbrev pub StepsAnnounce : Type 0
-StepsAnnounce = (w new : World) (e : Event) (o : Outcome) (octets : List ℕ) → Steps w e o new → sent_by o ≡ Some octets → IsSelfTold octets
+StepsAnnounce = (world new : World) (event : Event) (outcome : Outcome) (octets : List ℕ) → Steps world event outcome new → sent_by outcome ≡ Some octets → IsSelfTold octets
 
 -- ---- what is read
 
 -- what the outcome sends, if anything, is one frame, and `read_reply` reads its message
 abbrev pub IsReadable : Outcome → Type 0
-IsReadable o = IfSome (sent_by o) IsReplyFrame
+IsReadable outcome = IfSome (sent_by outcome) IsReplyFrame

@@ -8,27 +8,27 @@ use Rattle.hdl_laws.specs.Steps.{Turn, IsStep, IsAnswer}
 
 -- each turn is a step from the world that the one before it left
 abbrev pub IsRun : World → List Turn → Type 0
-IsRun w [] = ⊤
-IsRun w (t ∷ ts) = IsStep w t × IsRun t.after ts
+IsRun world [] = ⊤
+IsRun world (step ∷ turns) = IsStep world step × IsRun step.after turns
 
 -- the world after the turns
 abbrev pub last : World → List Turn → World
-last w [] = w
-last w (t ∷ ts) = last t.after ts
+last world [] = world
+last world (step ∷ turns) = last step.after turns
 
 abbrev pub events : List Turn → List Event
-events ts = map (λ t. t.event) ts
+events turns = map (λ step. step.event) turns
 
 abbrev pub outcomes : List Turn → List Outcome
-outcomes ts = map (λ t. t.outcome) ts
+outcomes turns = map (λ step. step.outcome) turns
 
 -- the events can have these outcomes, and lead from one world to the other
 abbrev pub Run : World → List Event → List Outcome → World → Type 0
-Run w es os new = (ts : List Turn) × IsRun w ts × (events ts ≡ es) × (outcomes ts ≡ os) × (last w ts ≡ new)
+Run world es os new = (turns : List Turn) × IsRun world turns × (events turns ≡ es) × (outcomes turns ≡ os) × (last world turns ≡ new)
 
 -- the event has this outcome, and leads from one world to the other
 abbrev pub Steps : World → Event → Outcome → World → Type 0
-Steps w e o new = (t : Turn) × IsStep w t × (t.event ≡ e) × (t.outcome ≡ o) × (t.after ≡ new)
+Steps world event outcome new = (step : Turn) × IsStep world step × (step.event ≡ event) × (step.outcome ≡ outcome) × (step.after ≡ new)
 
 -- ---- runs without Busy
 
@@ -38,9 +38,9 @@ is_busy _ = false
 
 -- each turn is the answer in the world that the one before it left
 abbrev pub IsRunWithoutBusy : World → List Turn → Type 0
-IsRunWithoutBusy w [] = ⊤
-IsRunWithoutBusy w (t ∷ ts) = IsAnswer w t × IsRunWithoutBusy t.after ts
+IsRunWithoutBusy world [] = ⊤
+IsRunWithoutBusy world (step ∷ turns) = IsAnswer world step × IsRunWithoutBusy step.after turns
 
 -- the events have these outcomes where none is answered busy, and lead from one world to the other
 abbrev pub RunWithoutBusy : World → List Event → List Outcome → World → Type 0
-RunWithoutBusy w es os new = (ts : List Turn) × IsRunWithoutBusy w ts × (events ts ≡ es) × (outcomes ts ≡ os) × (last w ts ≡ new)
+RunWithoutBusy world es os new = (turns : List Turn) × IsRunWithoutBusy world turns × (events turns ≡ es) × (outcomes turns ≡ os) × (last world turns ≡ new)

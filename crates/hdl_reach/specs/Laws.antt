@@ -7,11 +7,11 @@ use Rattle.hdl_reach.specs.Reach.{is_among, lists, grants, IsChain, IsMask}
 
 -- what these places list is among them
 abbrev pub IsOnward : Table → List Place → Type 0
-IsOnward t ps = (r p : Place) → IsTrue (is_among r ps) → IsTrue (is_among p (lists t r)) → IsTrue (is_among p ps)
+IsOnward table places = (list place : Place) → IsTrue (is_among list places) → IsTrue (is_among place (lists table list)) → IsTrue (is_among place places)
 
 -- both tables have the same at each of these places
 abbrev pub AgreeAt : Table → Table → List Place → Type 0
-AgreeAt t u ps = (p : Place) → IsTrue (is_among p ps) → at t p ≡ at u p
+AgreeAt one other places = (place : Place) → IsTrue (is_among place places) → at one place ≡ at other place
 
 -- the place of each grant is among these
 abbrev pub GrantsAmong : List Place → List (ℕ × Place) → Type 0

@@ -235,7 +235,7 @@ fn follow<S: Serving + Drop>(
         doors.peers.push(octets(doors.alloc, fields)?)?;
         return Ok(());
     }
-    if word == "letter" {
+    if word == "datagram" {
         doors.datagrams.push(datagram_of(doors.alloc, fields)?)?;
         return Ok(());
     }

@@ -7,10 +7,10 @@ use Rattle.hdl_core.proofs.Assembled.{waits, unchanged, whole}
 use Rattle.hdl_core.proofs.Heard.{on_any_err}
 use Rattle.hdl_core.proofs.serving.assemble.Goals as goal
 
-pub returns-in_err-reply-in-Whole-clause-kept : goal.returns-in_err-reply-in-Whole-clause-kept
-returns-in_err-reply-in-Whole-clause-kept g c =
+pub returns-in_err-reply-in-Whole-clause-unchanged : goal.returns-in_err-reply-in-Whole-clause-unchanged
+returns-in_err-reply-in-Whole-clause-unchanged g c =
     on_any_err c.from_residual.result _
-    (c.in_err-reply-in-Whole.ensures.kept ∙ unchanged (hosted_by c.args.owner.now) (algorithms_by c.args.owner.now) (g.R.Rows.content c.args.rows.now) c.args.lanes.now c.args.origin.now.lane c.args.origin.now c.args.frame.now.bytes.now c.requires.envelope c.in-Whole.message.items c.take_piece.new.self (sym (ap fate_of c.in-Whole.is) ∙ c.in-Ok.ensures.fate) c.in-Ok.ensures.lanes)
+    (c.in_err-reply-in-Whole.ensures.unchanged ∙ unchanged (hosted_by c.args.owner.now) (algorithms_by c.args.owner.now) (g.R.Rows.content c.args.rows.now) c.args.lanes.now c.args.origin.now.lane c.args.origin.now c.args.frame.now.bytes.now c.requires.envelope c.in-Whole.message.items c.take_piece.new.self (sym (ap fate_of c.in-Whole.is) ∙ c.in-Ok.ensures.fate) c.in-Ok.ensures.lanes)
 
 pub returns-in_ok-reply-in-Whole-clause-assembled : goal.returns-in_ok-reply-in-Whole-clause-assembled
 returns-in_ok-reply-in-Whole-clause-assembled g c =

@@ -26,7 +26,7 @@ returns-then-is_truncated-clause-received g c =
     (λ (b : List ℕ). IfOk c.assemble-reply.result (λ reply. AssemblesAt (scene c.args.owner.now (g.R.Rows.content c.args.rows.now) c.args.lanes.now) c.args.received.lane (record { peer = c.args.received.peer; moment = c.args.received.moment; nonce = c.args.received.nonce; bytes = b }) reply c.assemble-reply.new.lanes (g.R.Rows.content c.assemble-reply.new.rows)))
     found.bytes c.assemble-reply.ensures.assembled in
     piece (hosted_by c.args.owner.now) (algorithms_by c.args.owner.now) (g.R.Rows.content c.args.rows.now) c.args.lanes.now c.args.received.lane x c.in-Ok.frame c.assemble-reply.result c.outcome_of.result c.assemble-reply.new.lanes (g.R.Rows.content c.assemble-reply.new.rows)
-    found (sym c.is_truncated.ensures ∙ c.if-is_truncated.true) c.outcome_of.ensures assembled c.assemble-reply.ensures.undone c.assemble-reply.ensures.kept
+    found (sym c.is_truncated.ensures ∙ c.if-is_truncated.true) c.outcome_of.ensures assembled c.assemble-reply.ensures.undone c.assemble-reply.ensures.unchanged
 
 pub returns-in-Ok-hear-clause-received : goal.returns-in-Ok-hear-clause-received
 returns-in-Ok-hear-clause-received g c =
@@ -39,7 +39,7 @@ pub returns-in-Err-clause-received : goal.returns-in-Err-clause-received
 returns-in-Err-clause-received g c =
     let x = received_of c.args.received in
     refused (hosted_by c.args.owner.now) (algorithms_by c.args.owner.now) (g.R.Rows.content c.args.rows.now) c.args.lanes.now c.args.received.lane x c.in-Ok.frame (Busy c.busy.result) c.hear.new.lanes (g.R.Rows.content c.hear.new.rows)
-    (subst (λ (b : List ℕ). IsFrameOf b c.in-Ok.frame) c.as_slice.ensures c.in-Ok.ensures.ok) (ap Busy c.busy.ensures) c.in-Err.ensures.kept c.in-Err.ensures.undone
+    (subst (λ (b : List ℕ). IsFrameOf b c.in-Ok.frame) c.as_slice.ensures c.in-Ok.ensures.ok) (ap Busy c.busy.ensures) c.in-Err.ensures.unchanged c.in-Err.ensures.undone
 
 pub returns-then-is_truncated-clause-read : goal.returns-then-is_truncated-clause-read
 returns-then-is_truncated-clause-read g c = read_of c.in-Ok.frame.envelope c.assemble-reply.result c.outcome_of.result c.outcome_of.ensures c.assemble-reply.ensures.read
