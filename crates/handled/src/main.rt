@@ -34,14 +34,14 @@ use std::sync::Arc;
 use std::thread::Threads;
 use supervising::{log_at, stop};
 use tabled::{
-    Desk, TabledFault, close_served, empty_table, export_on, is_new, open_desk, replay_in,
+    FileService, TabledFault, close_served, empty_table, export_on, is_new, open_desk, replay_in,
     replay_on,
 };
 use words::{Invocation, TableFile, read_words};
 
 /// What is left to do once the command line and the input were read.
 #[derive(Drop)]
-enum Next<R: Threads + Drop> {
+enum Job<R: Threads + Drop> {
     /// Nothing: this is the exit status.
     Ended(u8),
     /// Serve these tenants.
@@ -52,7 +52,7 @@ enum Next<R: Threads + Drop> {
     },
     /// Serve over the table in a file.
     ServeOn {
-        desk: Desk<R>,
+        desk: FileService<R>,
         setting: Setting,
     },
 }
@@ -80,18 +80,18 @@ fn run_serve<R: Threads + Copy + Drop>(
     bounds: Vec<BoundWord>,
     row_cache: usize,
     table: Option<TableFile>,
-) -> Result<Next<R>, TabledFault> {
+) -> Result<Job<R>, TabledFault> {
     let text = read_text(rt)?;
     let tenants = tenants_of(rt.alloc(), text.as_str())?;
     match bounds_of(rt.alloc(), bounds, text.as_str(), &tenants) {
         Ok(bounds) => setting.bounds = bounds,
         Err(fault) => {
             let _ = eprintln!(rt; "{fault}");
-            return Ok(Next::Ended(fault.status()));
+            return Ok(Job::Ended(fault.status()));
         }
     }
     match table {
-        None => Ok(Next::Serve {
+        None => Ok(Job::Serve {
             tenants,
             setting,
             row_cache,
@@ -103,33 +103,33 @@ fn run_serve<R: Threads + Copy + Drop>(
             }
             let desk = open_desk(*machine, rt, file, tenants, &setting.supervision.health)?;
             setting.signals = Some(Arc::try_clone(&desk.signals).map_err(HostFault::from)?);
-            Ok(Next::ServeOn { desk, setting })
+            Ok(Job::ServeOn { desk, setting })
         }
     }
 }
 
-fn run<R: Threads + Copy + Drop>(machine: &R, rt: &HostRuntime) -> Result<Next<R>, TabledFault> {
+fn run<R: Threads + Copy + Drop>(machine: &R, rt: &HostRuntime) -> Result<Job<R>, TabledFault> {
     match read_words(rt)? {
-        Invocation::Ended(status) => Ok(Next::Ended(status)),
+        Invocation::Ended(status) => Ok(Job::Ended(status)),
         Invocation::Check => {
             let text = read_text(rt)?;
-            Ok(Next::Ended(check_text(rt, text.as_str())?))
+            Ok(Job::Ended(check_text(rt, text.as_str())?))
         }
         Invocation::Export { table, publisher } => {
             let text = read_text(rt)?;
-            Ok(Next::Ended(export_on(*machine, rt, &table, text.as_str(), publisher)?))
+            Ok(Job::Ended(export_on(*machine, rt, &table, text.as_str(), publisher)?))
         }
-        Invocation::Replay { table: None } => Ok(Next::Ended(replay_script::<R>(rt)?)),
+        Invocation::Replay { table: None } => Ok(Job::Ended(replay_script::<R>(rt)?)),
         Invocation::Replay { table: Some(file) } => {
             let text = read_text(rt)?;
             replay_on(*machine, rt, &file, text.as_str())?;
-            Ok(Next::Ended(0))
+            Ok(Job::Ended(0))
         }
         Invocation::Copy { from, to } => {
             copy_table(rt, from.as_str(), to.as_str())?;
-            Ok(Next::Ended(0))
+            Ok(Job::Ended(0))
         }
-        Invocation::Stop { control } => Ok(Next::Ended(stop(rt, control.as_str()))),
+        Invocation::Stop { control } => Ok(Job::Ended(stop(rt, control.as_str()))),
         Invocation::Serve {
             mut setting,
             bounds,
@@ -201,8 +201,8 @@ fn serve_on<
         + Send
         + Drop
         + 'static,
->(machine: &R, rt: &HostRuntime, desk: Desk<R>, setting: Setting) -> ExitCode {
-    let Desk {
+>(machine: &R, rt: &HostRuntime, desk: FileService<R>, setting: Setting) -> ExitCode {
+    let FileService {
         tenants,
         table,
         path,
@@ -220,15 +220,15 @@ fn serve_on<
 
 fn main(rt: HostRuntime) -> ExitCode {
     match run(&rt, &rt) {
-        Ok(Next::Ended(status)) => ExitCode::from(status),
+        Ok(Job::Ended(status)) => ExitCode::from(status),
         Ok(
-            Next::Serve {
+            Job::Serve {
                 tenants,
                 setting,
                 row_cache,
             },
         ) => serve_in_memory(&rt, &rt, tenants, setting, row_cache),
-        Ok(Next::ServeOn { desk, setting }) => serve_on(&rt, &rt, desk, setting),
+        Ok(Job::ServeOn { desk, setting }) => serve_on(&rt, &rt, desk, setting),
         Err(fault) => report_fault(&rt, fault),
     }
 }

@@ -304,7 +304,7 @@ pub fn close_copy(rt: &HostRuntime, path: &str) -> Result<(), TabledFault> {
 
 /// What is served: the tenants of the text, and the table in the file at this path, whose writes threads make.
 #[derive(Drop)]
-pub struct Desk<R: Threads + Drop> {
+pub struct FileService<R: Threads + Drop> {
     pub tenants: Tenants,
     pub table: Table<R>,
     pub path: String,
@@ -319,12 +319,12 @@ pub fn open_desk<R: Threads + Drop>(
     file: TableFile,
     tenants: Tenants,
     health: &Arc<Health>,
-) -> Result<Desk<R>, TableFault> {
+) -> Result<FileService<R>, TableFault> {
     let health = Arc::try_clone(health)?;
     let signals = Arc::new(rt.alloc(), Signals::new())?;
     let theirs = Arc::try_clone(&signals)?;
     let table = open_served(machine, rt, &file, &tenants, health, Some(theirs))?;
-    Ok(Desk {
+    Ok(FileService {
         tenants,
         table,
         path: file.path,

@@ -16,7 +16,7 @@
 mod words;
 
 use hdl_commands::{
-    BatchFault, Page, explain, fresh_secret, import_file, run_batch_text, run_question,
+    BatchFault, Printout, explain, fresh_secret, import_file, run_batch_text, run_question,
     write_fresh_tenants, write_script, write_tenants,
 };
 use std::io::{self, Read};
@@ -31,9 +31,9 @@ fn explain_all(rt: &HostRuntime, shows_keys: bool) -> io::Result<()> {
         if rt.read_line(&mut line)? == 0 {
             break;
         }
-        let mut page = Page::new(rt.alloc(), shows_keys);
-        explain(&mut page, line.trim_end())?;
-        print!(rt; "{}", page.as_str())?;
+        let mut printout = Printout::new(rt.alloc(), shows_keys);
+        explain(&mut printout, line.trim_end())?;
+        print!(rt; "{}", printout.as_str())?;
     }
     Ok(())
 }

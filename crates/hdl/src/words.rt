@@ -1,7 +1,7 @@
 //! The words of the command line.
 
 use clap::{Arg, ArgAction, ArgMatches, Command, Error};
-use hdl_commands::{Import, Question, operation_in};
+use hdl_commands::{Import, Inquiry, operation_in};
 use hdl_msg::OpCode;
 use hdl_status::{VERSION, status_of_words, words_of};
 use std::alloc::{AllocError, Global};
@@ -15,7 +15,7 @@ pub enum Invocation {
     /// The lines on standard input in words, with the data of keys or without.
     Explain { shows_keys: bool },
     /// One request.
-    Ask(Question),
+    Ask(Inquiry),
     /// The batch on standard input.
     Batch { server: String },
     /// The handles of a CSV file.
@@ -271,9 +271,9 @@ fn question_of(
     alloc: Global,
     operation: OpCode,
     matches: &ArgMatches<'_>,
-) -> Result<Question, AllocError> {
+) -> Result<Inquiry, AllocError> {
     let is_resolution = operation == OpCode::Resolution;
-    Ok(Question {
+    Ok(Inquiry {
         operation,
         handle: word(alloc, matches, "handle")?,
         words: words(

@@ -1,7 +1,7 @@
 //! What the front of a reply says.
 
 ghost use Rattle.std.specs.Prelude.{◌≡◌, ◌≤◌, ◌+◌, length};
-ghost use Rattle.hdl_audit.specs.Answer.{accepts_change, answer_of, changes, ends_change, is_challenge};
+ghost use Rattle.hdl_audit.specs.ReplySummary.{accepts_change, answer_of, changes, ends_change, is_challenge};
 ghost use Rattle.hdl_frame.specs.Envelope.{u32_at};
 
 use hdl_frame::{ENVELOPE_LEN, Envelope};
@@ -12,7 +12,7 @@ const FRONT_LEN: usize = ENVELOPE_LEN + 8;
 
 /// What a reply says first.
 #[derive(Clone, Copy, Debug, PartialEq, Eq)]
-pub struct Answer {
+pub struct ReplySummary {
     pub session: u32,
     pub request: u32,
     /// The number of the operation; 0 in a short reply.
@@ -40,9 +40,9 @@ pub(crate) fn changes(operation: u32) -> bool
     OpCode::CreateHandle as u32 <= operation && operation <= OpCode::ModifyValue as u32
 }
 
-impl Answer {
+impl ReplySummary {
     /// What a frame of a reply says, or a datagram, where it has the reply's front.
-    pub fn of(frame: &[u8]) -> Option<Answer>
+    pub fn of(frame: &[u8]) -> Option<ReplySummary>
         ensures { result ≡ answer_of frame.now }
     {
         if frame.len() < FRONT_LEN {
@@ -52,7 +52,7 @@ impl Answer {
         if envelope.sequence != 0 {
             return None;
         }
-        Some(Answer {
+        Some(ReplySummary {
             session: envelope.session,
             request: envelope.request,
             operation: u32_at(frame, ENVELOPE_LEN),

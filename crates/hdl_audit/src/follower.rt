@@ -1,11 +1,11 @@
 //! Following the frames of a lane, and the replies to them.
 
 ghost use Rattle.std.specs.Prelude.{◌≡◌, Some, IfSome, IsSome, IsTrue, option_map};
-ghost use Rattle.hdl_audit.specs.Answer.{answer_of, ends_change};
+ghost use Rattle.hdl_audit.specs.ReplySummary.{answer_of, ends_change};
 
-use crate::answer::Answer;
+use crate::answer::ReplySummary;
 use crate::entry::{Entry, KeyName};
-use crate::question::{Matter, Question, copy_of};
+use crate::question::{Matter, UnansweredFrame, copy_of};
 use std::alloc::{AllocError, Global};
 use std::collections::VecDeque;
 
@@ -29,7 +29,7 @@ struct Challenged {
 #[derive(Drop)]
 pub struct Follower {
     alloc: Global,
-    unanswered: VecDeque<Question>,
+    unanswered: VecDeque<UnansweredFrame>,
     challenged: Vec<Challenged>,
     /// Whether it isn't certain any more which frame is answered next.
     is_lost: bool,
@@ -67,7 +67,7 @@ impl Follower {
         if self.is_lost || self.unanswered.len() >= UNANSWERED {
             return Err(AllocError);
         }
-        if let Some(question) = Question::of(self.alloc, peer, frame)? {
+        if let Some(question) = UnansweredFrame::of(self.alloc, peer, frame)? {
             self.unanswered.push_back(question)?;
         }
         Ok(())
@@ -130,7 +130,12 @@ impl Follower {
     }
 
     /// The change whose challenge was answered by this reply's request. It stays where the reply says busy.
-    fn take_challenged(&mut self, peer: u16, session: u32, answer: Answer) -> Option<Challenged> {
+    fn take_challenged(
+        &mut self,
+        peer: u16,
+        session: u32,
+        answer: ReplySummary,
+    ) -> Option<Challenged> {
         let mut all = self.challenged.iter();
         let place = all.position(|one| one.peer == peer && one.session == session)?;
         if !answer.is_busy() {
@@ -151,7 +156,7 @@ impl Follower {
         peer: u16,
         challenge: u32,
         key: KeyName,
-        answer: Answer,
+        answer: ReplySummary,
     ) -> Option<Entry>
         ensures told { IsTrue (ends_change answer) → IsSome result }
         ensures code { IfSome result (λ entry. entry.code ≡ answer.code) }
@@ -172,7 +177,7 @@ impl Follower {
         ensures told { IfSome (answer_of frame.now) (λ answer. IsTrue (ends_change answer) → IsSome result) }
         ensures code { IfSome result (λ entry. option_map (λ answer. answer.code) (answer_of frame.now) ≡ Some entry.code) }
     {
-        let answer = Answer::of(frame)?;
+        let answer = ReplySummary::of(frame)?;
         match self.take_matter(answer.request) {
             Matter::Change { operation, handle } if answer.is_challenge() => {
                 self.put_challenged(Challenged {
@@ -198,7 +203,7 @@ impl Follower {
 }
 
 /// The entry of a reply of which nothing else is certain.
-fn entry_without_name(answer: Answer) -> Option<Entry>
+fn entry_without_name(answer: ReplySummary) -> Option<Entry>
     ensures told { IsTrue (ends_change answer) → IsSome result }
     ensures code { IfSome result (λ entry. entry.code ≡ answer.code) }
 {

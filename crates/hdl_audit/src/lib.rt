@@ -3,18 +3,18 @@
 //! ```text
 //! a frame from the client -> Follower::note_request
 //! a frame to the client   -> Follower::note_reply -> Entry: operation, handle, key, code    (where a change was accepted or refused)
-//! a frame to the client   -> Answer::of         -> operation and code, to be counted
+//! a frame to the client   -> ReplySummary::of   -> operation and code, to be counted
 //! ```
 //!
 //! A [`Follower`] reads along, between the socket and the service, and decides nothing: the service answers as it would without it. Promised is
-//! that each reply which names a change's operation gives an entry, unless it is a challenge, and that an entry's code is that of the reply (`specs/Answer.antt`). Which handle and key it names is found
+//! that each reply which names a change's operation gives an entry, unless it is a challenge, and that an entry's code is that of the reply (`specs/ReplySummary.antt`). Which handle and key it names is found
 //! by the order of frames and replies; where that isn't certain it names none.
 //!
 //! It stands on frames and on the fields of messages, and knows no sockets and no service.
 //!
 //! ```rust
 //! // crates/hdl_host/src/recorder.rt
-//! let answer = Answer::of(frame)?;
+//! let answer = ReplySummary::of(frame)?;
 //! self.counts.count(answer);
 //! if answer.accepts_change() {
 //!     self.counts.set_changed(self.moment());
@@ -36,7 +36,7 @@ mod follower;
 mod moment;
 mod question;
 
-pub use answer::Answer;
+pub use answer::ReplySummary;
 pub use entry::{Entry, KeyName};
 pub use follower::Follower;
 pub use moment::Moment;

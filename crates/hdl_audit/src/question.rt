@@ -25,7 +25,7 @@ pub enum Matter {
 
 /// A frame that came, and isn't answered.
 #[derive(Drop)]
-pub struct Question {
+pub struct UnansweredFrame {
     pub peer: u16,
     pub request: u32,
     pub matter: Matter,
@@ -87,14 +87,18 @@ fn matter_of(alloc: Global, session: u32, message: &[u8]) -> Result<Matter, Allo
     }
 }
 
-impl Question {
+impl UnansweredFrame {
     /// Whether it is a piece of a message.
     pub fn is_piece(&self) -> bool {
         matches!(self.matter, Matter::Piece)
     }
 
     /// What a frame asks, which a peer sent. None: it has no envelope.
-    pub fn of(alloc: Global, peer: u16, frame: &[u8]) -> Result<Option<Question>, AllocError> {
+    pub fn of(
+        alloc: Global,
+        peer: u16,
+        frame: &[u8],
+    ) -> Result<Option<UnansweredFrame>, AllocError> {
         let Some((head, message)) = frame.split_at_checked(ENVELOPE_LEN) else {
             return Ok(None);
         };
@@ -104,7 +108,7 @@ impl Question {
         } else {
             matter_of(alloc, envelope.session, message)?
         };
-        Ok(Some(Question {
+        Ok(Some(UnansweredFrame {
             peer,
             request: envelope.request,
             matter,

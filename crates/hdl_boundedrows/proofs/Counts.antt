@@ -3,13 +3,13 @@ use Rattle.std.proofs.Common.{◌≡◌, ◌≤◌, max, Bool, true, false, cond
 use Rattle.std.specs.List.{AllByRecursion}
 use Rattle.std.proofs.lemmas.Bool.Decides.{nat_tests}
 use Rattle.hdl_boundedrows.specs.declared.account.Account.{Account}
-use Rattle.hdl_boundedrows.specs.declared.account.Change.{Change}
+use Rattle.hdl_boundedrows.specs.declared.account.CountChange.{CountChange}
 use Rattle.hdl_boundedrows.specs.Amount.{Measure, in_values, in_octets, moved_count, may_become}
 use Rattle.hdl_limits.specs.Counts.{at_most_u64}
 use Rattle.hdl_boundedrows.specs.Bounded.{has_prefix, is_counted, held_after, may_change, is_permitted, are_permitted, after_change, Holding, holding_of, moved_by, holding_after, IsBelow, IsWithin}
 
 -- the change is this gain and what is given back
-pub record IsChange (c : Change) (gain back : Measure → ℕ) : Type 0 where
+pub record IsChange (c : CountChange) (gain back : Measure → ℕ) : Type 0 where
   pub gain_values : c.gain.values ≡ at_most_u64 (gain in_values)
   pub gain_octets : c.gain.octets ≡ at_most_u64 (gain in_octets)
   pub back_values : c.back.values ≡ at_most_u64 (back in_values)
@@ -26,7 +26,7 @@ neither false b is = (refl, is)
 below : (bound held next : ℕ) → may_become bound held next ≡ true → next ≤ max bound held
 below bound held next may = grind (arith, nat_tests)
 
-module _ (p : List ℕ) (c : Change) (gain back : Measure → ℕ) (is : IsChange c gain back) where
+module _ (p : List ℕ) (c : CountChange) (gain back : Measure → ℕ) (is : IsChange c gain back) where
   seen : (a : Account) → holding_of (after_change p c a) ≡ holding_after p gain back (holding_of a)
   seen a = by_test (has_prefix a p)
     where
@@ -82,10 +82,10 @@ on_ok (Ok x) P is = is
 on_ok (Err e) P is = tt
 
 module _ (q p : List ℕ) (read : q ≡ p) (gain back : Measure → ℕ) (all : List Account) (hs : List Holding) (was : map holding_of all ≡ hs) where
-  pub settled_as : (c : Change) → IsChange c gain back → (new : List Account) → new ≡ map (after_change q c) all → map holding_of new ≡ map (holding_after p gain back) hs
+  pub settled_as : (c : CountChange) → IsChange c gain back → (new : List Account) → new ≡ map (after_change q c) all → map holding_of new ≡ map (holding_after p gain back) hs
   settled_as c is new made = ap (map holding_of) (made ∙ ap (λ r. map (after_change r c) all) read) ∙ all_seen p c gain back is all ∙ ap (map (holding_after p gain back)) was
 
-  pub within_as : (c : Change) → IsChange c gain back → are_permitted all q c ≡ true → AreWithin p gain back hs
+  pub within_as : (c : CountChange) → IsChange c gain back → are_permitted all q c ≡ true → AreWithin p gain back hs
   within_as c is permitted = subst (AreWithin p gain back) was (all_within p c gain back is all (subst (λ r. are_permitted all r c ≡ true) read permitted))
 
   module _ {A E : Type 0} (r : Result A E) (b : Bool) (counts : b ≡ is_counted all q) (none : b ≡ false) where

@@ -7,7 +7,7 @@ use Rattle.hdl_name.specs.Name.{prefix}
 use Rattle.hdl_rows.specs.Table.{Table, table_code}
 use Rattle.hdl_boundedrows.specs.declared.amount.Amount.{Amount}
 use Rattle.hdl_boundedrows.specs.declared.account.Account.{Account}
-use Rattle.hdl_boundedrows.specs.declared.account.Change.{Change}
+use Rattle.hdl_boundedrows.specs.declared.account.CountChange.{CountChange}
 use Rattle.hdl_boundedrows.specs.Amount.{Measure, in_values, in_octets, moved_count, may_become}
 use Rattle.hdl_limits.specs.Counts.{at_most_u64}
 
@@ -25,22 +25,22 @@ abbrev pub is_counted : List Account → List ℕ → Bool
 is_counted accounts p = list_any (λ a. has_prefix a p) accounts
 
 -- what is held after a change
-abbrev pub held_after : Change → Amount → Amount
+abbrev pub held_after : CountChange → Amount → Amount
 held_after c held = record { values = moved_count held.values c.gain.values c.back.values; octets = moved_count held.octets c.gain.octets c.back.octets }
 
 -- whether the publisher may hold that
-abbrev pub may_change : Account → Change → Bool
+abbrev pub may_change : Account → CountChange → Bool
 may_change a c = may_become a.bound.most.values a.held.values (held_after c a.held).values && may_become a.bound.most.octets a.held.octets (held_after c a.held).octets
 
 -- an account once a handle of this prefix changed
-abbrev pub after_change : List ℕ → Change → Account → Account
+abbrev pub after_change : List ℕ → CountChange → Account → Account
 after_change p c a = if has_prefix a p then record a { held = held_after c a.held } else a
 
 -- the change is nothing to the publisher, or one that it may make
-abbrev pub is_permitted : List ℕ → Change → Account → Bool
+abbrev pub is_permitted : List ℕ → CountChange → Account → Bool
 is_permitted p c a = not (has_prefix a p) || may_change a c
 
-abbrev pub are_permitted : List Account → List ℕ → Change → Bool
+abbrev pub are_permitted : List Account → List ℕ → CountChange → Bool
 are_permitted accounts p c = list_all (is_permitted p c) accounts
 
 -- ---- what a contract sees

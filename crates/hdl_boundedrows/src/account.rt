@@ -83,7 +83,7 @@ impl Bound {
 
 /// What a write makes of a count.
 #[derive(Clone, Copy, Debug, Drop)]
-pub(crate) struct Change {
+pub(crate) struct CountChange {
     pub(crate) gain: Amount,
     pub(crate) back: Amount,
 }
@@ -114,7 +114,7 @@ fn may_become(bound: u64, held: u64, next: u64) -> bool
 
 impl Amount {
     /// What is held after a change.
-    fn after(self, change: Change) -> Amount
+    fn after(self, change: CountChange) -> Amount
         ensures values { result.values ≡ spec.moved_count self.values change.gain.values change.back.values }
         ensures octets { result.octets ≡ spec.moved_count self.octets change.gain.octets change.back.octets }
     {
@@ -134,7 +134,7 @@ impl Account {
     }
 
     /// Whether the publisher may hold what a change makes of it.
-    fn may_take(&self, change: Change) -> bool
+    fn may_take(&self, change: CountChange) -> bool
         ensures { result ≡ may_change self.now change }
     {
         let next = self.held.after(change);
@@ -143,14 +143,14 @@ impl Account {
     }
 
     /// Whether the change of a handle of this prefix is nothing to the publisher, or one that it may make.
-    fn is_permitted(&self, prefix: &[u8], change: Change) -> bool
+    fn is_permitted(&self, prefix: &[u8], change: CountChange) -> bool
         ensures { result ≡ bounded.is_permitted prefix.now change self.now }
     {
         !self.counts(prefix) || self.may_take(change)
     }
 
     /// Counts the change of a handle of this prefix.
-    fn take(&mut self, prefix: &[u8], change: Change)
+    fn take(&mut self, prefix: &[u8], change: CountChange)
         ensures { self.new ≡ after_change prefix.now change self.old }
     {
         if self.counts(prefix) {
@@ -202,7 +202,7 @@ impl Accounts {
     }
 
     /// Whether everybody for whom handles of this prefix count may hold what a change makes of it.
-    pub(crate) fn permit(&self, prefix: &[u8], change: Change) -> bool
+    pub(crate) fn permit(&self, prefix: &[u8], change: CountChange) -> bool
         ensures { result ≡ are_permitted self.now prefix.now change }
     {
         self.all
@@ -211,7 +211,11 @@ impl Accounts {
     }
 
     /// The place of the first publisher that may not, and its bound.
-    pub(crate) fn first_beyond(&self, prefix: &[u8], change: Change) -> Option<(usize, &Bound)> {
+    pub(crate) fn first_beyond(
+        &self,
+        prefix: &[u8],
+        change: CountChange,
+    ) -> Option<(usize, &Bound)> {
         for place in 0..self.all.len() {
             let account = &self.all[place];
             if !account.is_permitted(prefix, change) {
@@ -222,7 +226,7 @@ impl Accounts {
     }
 
     /// Counts the change of a handle of this prefix.
-    pub(crate) fn count_change(&mut self, prefix: &[u8], change: Change)
+    pub(crate) fn count_change(&mut self, prefix: &[u8], change: CountChange)
         ensures { self.new ≡ map (after_change prefix.now change) self.old }
     {
         for account in self.all.iter_mut() {

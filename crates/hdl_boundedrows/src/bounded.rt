@@ -8,7 +8,7 @@ ghost use Rattle.hdl_name.specs.Name.{canonical, prefix};
 ghost use Rattle.hdl_value.specs.Refs.{place_of};
 ghost use Rattle.hdl_rows.specs.Table.{most, refusals_after, has, at, values_of, values_in, names_of, HaveTheirIndexes, with_new_handle, with_values, without_values, without_handle, AreDistinct, AreAbsent, ArePresent, indexes};
 
-use crate::account::{Account, Accounts, Bound, Change};
+use crate::account::{Account, Accounts, Bound, CountChange};
 use crate::amount::{Amount, amount_of_indexes, amount_of_replaced, handle_amount, values_amount};
 use hdl_limits::Octets;
 use hdl_name::Name;
@@ -51,7 +51,7 @@ fn permit<A: Alarm>(
     refusals: &mut u64,
     alarm: &mut A,
     prefix: &[u8],
-    change: Change,
+    change: CountChange,
 ) -> Result<(), Refused>
     ensures permitted { is_ok result ≡ are_permitted accounts.now prefix.now change }
     ensures count { refusals.new ≡ refusals_after result refusals.old }
@@ -199,7 +199,7 @@ impl<R: Rows + Drop, A: Alarm + Drop> Rows for BoundedRows<R, A> {
         if !self.accounts.count(prefix) {
             return self.rows.create(name, values);
         }
-        let change = Change {
+        let change = CountChange {
             gain: handle_amount(name.canon(), values),
             back: Amount::NONE,
         };
@@ -230,7 +230,7 @@ impl<R: Rows + Drop, A: Alarm + Drop> Rows for BoundedRows<R, A> {
         if !self.accounts.count(prefix) {
             return self.rows.add(name, values);
         }
-        let change = Change {
+        let change = CountChange {
             gain: values_amount(values),
             back: Amount::NONE,
         };
@@ -262,7 +262,7 @@ impl<R: Rows + Drop, A: Alarm + Drop> Rows for BoundedRows<R, A> {
             return self.rows.modify(name, values);
         }
         let held = self.rows.values(name)?;
-        let change = Change {
+        let change = CountChange {
             gain: values_amount(values),
             back: amount_of_replaced(&held, values),
         };
@@ -293,7 +293,7 @@ impl<R: Rows + Drop, A: Alarm + Drop> Rows for BoundedRows<R, A> {
             return self.rows.remove(name, indexes);
         }
         let held = self.rows.values(name)?;
-        let change = Change {
+        let change = CountChange {
             gain: Amount::NONE,
             back: amount_of_indexes(&held, indexes),
         };
@@ -315,7 +315,7 @@ impl<R: Rows + Drop, A: Alarm + Drop> Rows for BoundedRows<R, A> {
             return self.rows.delete(name);
         }
         let held = self.rows.values(name)?;
-        let change = Change {
+        let change = CountChange {
             gain: Amount::NONE,
             back: handle_amount(name.canon(), &held),
         };

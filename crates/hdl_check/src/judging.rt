@@ -10,7 +10,7 @@ const PUBLISHERS: &[u8] = b"";
 
 /// What a line says, as far as that decides what it rests on.
 #[derive(Drop)]
-pub(crate) enum Kind<'a> {
+pub(crate) enum LineKind<'a> {
     Publisher,
     Prefix(&'a str),
     Value(Name),
@@ -18,25 +18,25 @@ pub(crate) enum Kind<'a> {
 }
 
 /// The kind of the line with these fields.
-pub(crate) fn kind_of<'a>(alloc: Global, fields: &[&'a str]) -> Kind<'a> {
+pub(crate) fn kind_of<'a>(alloc: Global, fields: &[&'a str]) -> LineKind<'a> {
     let Some(word) = fields.first() else {
-        return Kind::Other;
+        return LineKind::Other;
     };
     let Some(subject) = fields.get(1) else {
-        return Kind::Other;
+        return LineKind::Other;
     };
     if *word == "publisher" {
-        return Kind::Publisher;
+        return LineKind::Publisher;
     }
     if *word == "prefix" {
-        return Kind::Prefix(*subject);
+        return LineKind::Prefix(*subject);
     }
     if *word != "value" {
-        return Kind::Other;
+        return LineKind::Other;
     }
     match Name::read(alloc, subject.as_bytes()) {
-        Ok(name) => Kind::Value(name),
-        Err(_) => Kind::Other,
+        Ok(name) => LineKind::Value(name),
+        Err(_) => LineKind::Other,
     }
 }
 
@@ -61,20 +61,20 @@ impl<'a> Accepted<'a> {
     }
 
     /// The accepted lines that a line of this kind rests on.
-    fn ground(&self, kind: &Kind<'_>) -> Result<String, AllocError> {
+    fn ground(&self, kind: &LineKind<'_>) -> Result<String, AllocError> {
         let mut text = String::new(self.alloc);
         match kind {
-            Kind::Publisher => self.publishers.push_to(&mut text, PUBLISHERS)?,
-            Kind::Prefix(prefix) => {
+            LineKind::Publisher => self.publishers.push_to(&mut text, PUBLISHERS)?,
+            LineKind::Prefix(prefix) => {
                 self.publishers.push_to(&mut text, PUBLISHERS)?;
                 self.prefixes.push_to(&mut text, prefix.as_bytes())?;
             }
-            Kind::Value(name) => {
+            LineKind::Value(name) => {
                 self.publishers.push_to(&mut text, PUBLISHERS)?;
                 self.prefixes.push_to(&mut text, name.prefix())?;
                 self.values.push_to(&mut text, name.canon())?;
             }
-            Kind::Other => {}
+            LineKind::Other => {}
         }
         Ok(text)
     }
@@ -82,7 +82,7 @@ impl<'a> Accepted<'a> {
     /// What the service says of the line behind those that it rests on.
     pub(crate) fn judge(
         &self,
-        kind: &Kind<'_>,
+        kind: &LineKind<'_>,
         line: &str,
     ) -> Result<Option<TenantFault>, AllocError> {
         let mut text = self.ground(kind)?;
@@ -94,12 +94,12 @@ impl<'a> Accepted<'a> {
         }
     }
 
-    pub(crate) fn add(&mut self, kind: &Kind<'_>, line: &'a str) -> Result<(), AllocError> {
+    pub(crate) fn add(&mut self, kind: &LineKind<'_>, line: &'a str) -> Result<(), AllocError> {
         match kind {
-            Kind::Publisher => self.publishers.add(PUBLISHERS, line),
-            Kind::Prefix(prefix) => self.prefixes.add(prefix.as_bytes(), line),
-            Kind::Value(name) => self.values.add(name.canon(), line),
-            Kind::Other => Ok(()),
+            LineKind::Publisher => self.publishers.add(PUBLISHERS, line),
+            LineKind::Prefix(prefix) => self.prefixes.add(prefix.as_bytes(), line),
+            LineKind::Value(name) => self.values.add(name.canon(), line),
+            LineKind::Other => Ok(()),
         }
     }
 

@@ -1,6 +1,6 @@
 //! Why a line is refused, and what to do, in words.
 
-use crate::judging::{Accepted, Kind};
+use crate::judging::{Accepted, LineKind};
 use hdl_limits::{LANES, PUBLISHER_NAME_MAX, VALUES_MAX};
 use hdl_name::{Name, is_authority};
 use hdl_tenants::{TenantFault, decimal_u16};
@@ -127,14 +127,14 @@ fn value_reason(
 fn value_words(
     alloc: Global,
     accepted: &Accepted<'_>,
-    kind: &Kind<'_>,
+    kind: &LineKind<'_>,
     fields: &[&str],
 ) -> Result<String, AllocError> {
     let [_, handle, digits] = fields else {
         return String::from_str(alloc, VALUE_FORM);
     };
     match kind {
-        Kind::Value(name) => {
+        LineKind::Value(name) => {
             if !accepted.has_prefix(name.prefix()) {
                 return String::from_str(alloc, UNKNOWN_PREFIX);
             }
@@ -165,7 +165,7 @@ pub(crate) fn words_of(alloc: Global, fault: TenantFault) -> Result<String, Allo
 pub(crate) fn reason_of(
     alloc: Global,
     accepted: &Accepted<'_>,
-    kind: &Kind<'_>,
+    kind: &LineKind<'_>,
     fields: &[&str],
     fault: TenantFault,
 ) -> Result<String, AllocError> {

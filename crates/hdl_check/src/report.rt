@@ -1,6 +1,6 @@
 //! What a tenants text has, or all of its faults.
 
-use crate::judging::{Accepted, Kind, kind_of};
+use crate::judging::{Accepted, LineKind, kind_of};
 use crate::reasons::{reason_of, words_of};
 use hdl_tenants::{TenantFault, Tenants};
 use std::alloc::{AllocError, AllocFailed, Global};

@@ -3,7 +3,7 @@
 use crate::fault::WordFault;
 use crate::key::key_of;
 use crate::request::{Details, request_of, takes_values};
-use crate::words::{Page, code_name, push_reply, push_short_reply};
+use crate::words::{Printout, code_name, push_reply, push_short_reply};
 use hdl_client::{ClientFault, Key, Reply, connect};
 use hdl_frame::Envelope;
 use hdl_msg::{OpCode, ReplyView, RequestBody, ResponseCode};
@@ -14,7 +14,7 @@ use thiserror::Error;
 
 /// What is asked of which server, and how the answer is shown.
 #[derive(Drop)]
-pub struct Question {
+pub struct Inquiry {
     pub operation: OpCode,
     pub handle: String,
     /// Values in words, none a key, or indexes, as the operation takes them; of a resolution the indexes of values.
@@ -78,7 +78,7 @@ impl From<io::Error> for AskFault {
 }
 
 /// The handle that is asked for. A list may name the naming authority alone.
-fn handle_of(alloc: Global, question: &Question) -> Result<String, AllocError> {
+fn handle_of(alloc: Global, question: &Inquiry) -> Result<String, AllocError> {
     let handle = question.handle.as_str();
     if question.operation == OpCode::ListHandles && !handle.contains('/') {
         return format!(in alloc; "0.NA/{handle}");
@@ -86,7 +86,7 @@ fn handle_of(alloc: Global, question: &Question) -> Result<String, AllocError> {
     String::from_str(alloc, handle)
 }
 
-fn body_of(alloc: Global, question: &Question) -> Result<RequestBody, WordFault> {
+fn body_of(alloc: Global, question: &Inquiry) -> Result<RequestBody, WordFault> {
     let mut details = Details::new(alloc);
     for word in &question.words {
         if takes_values(question.operation) {
@@ -104,17 +104,17 @@ fn body_of(alloc: Global, question: &Question) -> Result<RequestBody, WordFault>
 
 fn print_reply(
     rt: &HostRuntime,
-    question: &Question,
+    question: &Inquiry,
     envelope: &Envelope,
     reply: &ReplyView<'_>,
 ) -> Result<(), AskFault> {
-    let mut page = Page::new(rt.alloc(), question.shows_keys);
+    let mut printout = Printout::new(rt.alloc(), question.shows_keys);
     if question.is_short {
-        push_short_reply(&mut page, reply)?;
+        push_short_reply(&mut printout, reply)?;
     } else {
-        push_reply(&mut page, envelope, reply)?;
+        push_reply(&mut printout, envelope, reply)?;
     }
-    print!(rt; "{}", page.as_str())?;
+    print!(rt; "{}", printout.as_str())?;
     Ok(())
 }
 
@@ -135,7 +135,7 @@ fn way_on(operation: OpCode, code: Option<ResponseCode>) -> &'static str {
 }
 
 /// Prints a reply; answers 0 where its code is that of success, and else 1 with the code's name on standard error.
-fn show(rt: &HostRuntime, question: &Question, reply: &Reply) -> Result<u8, AskFault> {
+fn show(rt: &HostRuntime, question: &Inquiry, reply: &Reply) -> Result<u8, AskFault> {
     let view = reply.view();
     print_reply(rt, question, &reply.envelope(), &view)?;
     if view.code() == Some(ResponseCode::Success) {
@@ -149,7 +149,7 @@ fn show(rt: &HostRuntime, question: &Question, reply: &Reply) -> Result<u8, AskF
 
 fn reply_to(
     rt: &HostRuntime,
-    question: &Question,
+    question: &Inquiry,
     body: &RequestBody,
     key: Option<&Key>,
 ) -> Result<Reply, ClientFault> {
@@ -157,13 +157,13 @@ fn reply_to(
     session.ask(body, key)
 }
 
-fn ask_and_show(rt: &HostRuntime, question: &Question, key: Option<&Key>) -> Result<u8, AskFault> {
+fn ask_and_show(rt: &HostRuntime, question: &Inquiry, key: Option<&Key>) -> Result<u8, AskFault> {
     let body = body_of(rt.alloc(), question)?;
     let reply = reply_to(rt, question, &body, key)?;
     show(rt, question, &reply)
 }
 
-fn ask_with_key(rt: &HostRuntime, question: &Question) -> Result<u8, AskFault> {
+fn ask_with_key(rt: &HostRuntime, question: &Inquiry) -> Result<u8, AskFault> {
     match &question.key {
         Some(words) => {
             let key = key_of(rt, words)?;
@@ -175,7 +175,7 @@ fn ask_with_key(rt: &HostRuntime, question: &Question) -> Result<u8, AskFault> {
 
 /// Asks, and prints the answer in words. Answers the exit status: 0 for code 1, 1 for another code, whose name is then on standard
 /// error, 2 for words that are no request, 3 where the server can't be reached or says nothing that can be read.
-pub fn run_question(rt: &HostRuntime, question: &Question) -> u8 {
+pub fn run_question(rt: &HostRuntime, question: &Inquiry) -> u8 {
     match ask_with_key(rt, question) {
         Ok(status) => status,
         Err(fault) => {

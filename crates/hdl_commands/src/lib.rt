@@ -10,15 +10,15 @@
 //! ```
 //!
 //! Requests are read from words and written by `hdl_msg`'s `write_request`, so what is sent is in the grammar; a value's words are
-//! those of `hdl_lines`. Promised is that everything here is total, that a line of a [`Page`] has no control character, that the
+//! those of `hdl_lines`. Promised is that everything here is total, that a line of a [`Printout`] has no control character, that the
 //! line of a hidden key is a function of its index and the length of its data, and that a handle is imported with just the values that
 //! its rows say (`specs/Rows.antt`); what else is printed is tested.
 //!
 //! ```rust
 //! // crates/hdl/src/main.rt
-//! let mut page = Page::new(rt.alloc(), shows_keys);
-//! explain(&mut page, line.trim_end())?;
-//! print!(rt; "{}", page.as_str())?;
+//! let mut printout = Printout::new(rt.alloc(), shows_keys);
+//! explain(&mut printout, line.trim_end())?;
+//! print!(rt; "{}", printout.as_str())?;
 //! ```
 #![tactic(auto)]
 
@@ -34,7 +34,7 @@ mod scripts;
 mod tenants;
 mod words;
 
-pub use asking::{Question, run_question};
+pub use asking::{Inquiry, run_question};
 pub use batch_text::{BatchFault, read_batch};
 pub use batches::run_batch_text;
 pub use fault::WordFault;
@@ -43,4 +43,4 @@ pub use imports::{Import, import_file};
 pub use key::SECRET_VARIABLE;
 pub use scripts::write_script;
 pub use tenants::write_tenants;
-pub use words::{Page, explain, operation_in};
+pub use words::{Printout, explain, operation_in};

@@ -9,12 +9,12 @@
 
 mod lines;
 mod naming;
-mod page;
+mod printout;
 mod reply;
 mod request;
 mod value;
 
 pub use lines::explain;
 pub use naming::{code_name, operation_in, operation_name};
-pub use page::Page;
+pub use printout::Printout;
 pub use reply::{push_reply, push_short_reply};

@@ -8,7 +8,7 @@ use Rattle.hdl_auth.specs.Digest.{algorithm_of}
 use Rattle.hdl_frame.specs.Envelope.{envelope_at}
 use Rattle.hdl_msg.specs.Message.{Content, SpellsRequest}
 use Rattle.hdl_msg.specs.Reply.{short_reply}
-use Rattle.hdl_pool.specs.declared.piece.Key.{Key}
+use Rattle.hdl_pool.specs.declared.piece.MessageKey.{MessageKey}
 use Rattle.hdl_pool.specs.Partial.{Partial, key_of, piece_of, is_of}
 use Rattle.hdl_pool.specs.Taking.{Fate, made_whole, kept, ignored, displaced, so_far, after_piece, replace_partial, store_partial, begin_partial, store_if_kept, take_piece, whole_message, free_partial}
 use Rattle.hdl_rows.specs.Table.{Table}
@@ -156,11 +156,11 @@ pick : (b : Bool) (x y : Fate × List Partial) → whole_message x.0 ≡ None �
 pick true x y h g = h
 pick false x y h g = g
 
-stored_kept : (lane : List Partial) (key : Key) (more : Partial) → whole_message (store_partial lane key more).0 ≡ None
+stored_kept : (lane : List Partial) (key : MessageKey) (more : Partial) → whole_message (store_partial lane key more).0 ≡ None
 stored_kept lane key more =
     pick (is_some (find (is_of key) lane)) (kept, replace_partial key more lane) (begin_partial lane more) refl (pick (nat_lt (length lane) 4) (kept, lane ++ more ∷ []) (displaced, drop 1 lane ++ more ∷ []) refl refl)
 
-whole_stays : (lane : List Partial) (key : Key) (f : Fate) (more : Partial) (message : List ℕ) → (store_if_kept lane key f more).0 ≡ made_whole message → (store_if_kept lane key f more).1 ≡ lane
+whole_stays : (lane : List Partial) (key : MessageKey) (f : Fate) (more : Partial) (message : List ℕ) → (store_if_kept lane key f more).0 ≡ made_whole message → (store_if_kept lane key f more).1 ≡ lane
 whole_stays lane key kept more message is = absurd (not_whole (store_partial lane key more).0 message (stored_kept lane key more) is)
 whole_stays lane key (made_whole other) more message is = refl
 whole_stays lane key ignored more message is = refl

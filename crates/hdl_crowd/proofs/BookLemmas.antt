@@ -2,19 +2,19 @@
 use Rattle.std.proofs.Common.{◌≡◌, ◌⊎◌, ℕ, List, [], ◌∷◌, Option, Some, MatchOption, refl, sym, subst, inl, inr}
 use Rattle.slab.specs.Slab.{Slab, get, with_value, Updates, SameValues}
 use Rattle.slab.proofs.SlabLemmas.{Updates-with_value}
-use Rattle.hdl_crowd.specs.declared.entry.Entry.{Entry}
+use Rattle.hdl_crowd.specs.declared.entry.ConnectionEntry.{ConnectionEntry}
 use Rattle.hdl_crowd.specs.Talk.{Talking, Step, is_observed, says, refusal_of, Takes, TakesAll, TurnsAway}
 use Rattle.hdl_crowd.specs.Book.{Goes, Rests}
 
-pub goes : (s : Slab Entry) (place : ℕ) (e f : Entry) (steps : List Step) → get s place ≡ Some e → f.serial ≡ e.serial → TakesAll e.talk steps f.talk
+pub goes : (s : Slab ConnectionEntry) (place : ℕ) (e f : ConnectionEntry) (steps : List Step) → get s place ≡ Some e → f.serial ≡ e.serial → TakesAll e.talk steps f.talk
     → Goes s (with_value s place f) place steps
 goes s place e f steps here same run = (e, f, here, Updates-with_value s place f (rw here refl), same, run)
 
-pub goes_one : (s : Slab Entry) (place : ℕ) (e f : Entry) (step : Step) → get s place ≡ Some e → f.serial ≡ e.serial → Takes e.talk step f.talk
+pub goes_one : (s : Slab ConnectionEntry) (place : ℕ) (e f : ConnectionEntry) (step : Step) → get s place ≡ Some e → f.serial ≡ e.serial → Takes e.talk step f.talk
     → Goes s (with_value s place f) place (step ∷ [])
 goes_one s place e f step here same takes = goes s place e f (step ∷ []) here same (f.talk, takes, refl)
 
-pub rests : (s : Slab Entry) (place : ℕ) (e f : Entry) → get s place ≡ Some e → f.serial ≡ e.serial → (f.talk ≡ e.talk) ⊎ TurnsAway e.talk f.talk
+pub rests : (s : Slab ConnectionEntry) (place : ℕ) (e f : ConnectionEntry) → get s place ≡ Some e → f.serial ≡ e.serial → (f.talk ≡ e.talk) ⊎ TurnsAway e.talk f.talk
     → Rests s (with_value s place f) place
 rests s place e f here same (inl stays) = inl (goes s place e f [] here same stays)
 rests s place e f here same (inr (fault, v, told, said)) =
@@ -22,8 +22,8 @@ rests s place e f here same (inr (fault, v, told, said)) =
     inr (fault, goes s place e f (is_observed fault ∷ says (refusal_of fault) ∷ []) here same run)
 
 -- the same of the connection that is at a place
-pub goes_at : (s : Slab Entry) (place : ℕ) (e f : Entry) (steps : Entry → List Step) → get s place ≡ Some e → f.serial ≡ e.serial → TakesAll e.talk (steps e) f.talk
+pub goes_at : (s : Slab ConnectionEntry) (place : ℕ) (e f : ConnectionEntry) (steps : ConnectionEntry → List Step) → get s place ≡ Some e → f.serial ≡ e.serial → TakesAll e.talk (steps e) f.talk
     → MatchOption (get s place) (SameValues s (with_value s place f)) (λ x. Goes s (with_value s place f) place (steps x))
 goes_at s place e f steps here same run =
     let gone = goes s place e f (steps e) here same run in
-    subst (λ (o : Option Entry). MatchOption o (SameValues s (with_value s place f)) (λ x. Goes s (with_value s place f) place (steps x))) (sym here) gone
+    subst (λ (o : Option ConnectionEntry). MatchOption o (SameValues s (with_value s place f)) (λ x. Goes s (with_value s place f) place (steps x))) (sym here) gone

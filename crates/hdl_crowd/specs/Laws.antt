@@ -8,13 +8,13 @@ use Rattle.hdl_frame.specs.Frames.{BeginsWithFrame, IsCut}
 use Rattle.hdl_frame.specs.Pieces.{datagrams}
 use Rattle.hdl_crowd.specs.Joining.{said_by}
 use Rattle.slab.specs.Slab.{Slab, get}
-use Rattle.hdl_crowd.specs.declared.entry.Entry.{Entry}
+use Rattle.hdl_crowd.specs.declared.entry.ConnectionEntry.{ConnectionEntry}
 use Rattle.hdl_crowd.specs.Run.{Move, MovesAll, steps_at, IsEmpty}
 use Rattle.hdl_crowd.specs.Talk.{Talking, Step, fresh, TakesAll, all_read, all_handed, all_said, all_written}
 
 -- what a connection has under way is what its steps made of a new one, whatever happened to others
 abbrev pub HasItsOwn : Type 0
-HasItsOwn = (empty book : Slab Entry) (moves : List Move) (place : ℕ) (e : Entry)
+HasItsOwn = (empty book : Slab ConnectionEntry) (moves : List Move) (place : ℕ) (e : ConnectionEntry)
     → IsEmpty empty → MovesAll empty moves book → get book place ≡ Some e → TakesAll fresh (steps_at place [] moves) e.talk
 
 -- what was handed out is a beginning of the frames of what was read

@@ -10,7 +10,7 @@ ghost use Rattle.hdl_crowd.specs.Joining.{said_of};
 ghost use Rattle.hdl_crowd.specs.Pace.{at_first};
 ghost use Rattle.hdl_crowd.specs.Talk.{fresh, reads, hands, says, writes};
 
-use crate::entry::{Entry, Member};
+use crate::entry::{ConnectionEntry, Member};
 use crate::pace::Pace;
 use crate::talk::Talk;
 use hdl_frame::ENVELOPE_LEN;
@@ -27,7 +27,7 @@ pub struct Left;
 #[derive(Drop)]
 pub struct Book {
     alloc: Global,
-    entries: Slab<Entry>,
+    entries: Slab<ConnectionEntry>,
     /// The serial of the connection that came last.
     last: u64,
     peers: Peers<Member>,
@@ -56,7 +56,7 @@ impl Book {
         let Some(serial) = self.last.checked_add(1) else {
             return None;
         };
-        let entry = Entry {
+        let entry = ConnectionEntry {
             serial,
             talk: Talk::new(self.alloc),
             pace: Pace::new(now),

@@ -19,13 +19,13 @@ pub struct Member {
 
 /// What is kept of a connection.
 #[derive(Drop)]
-pub(crate) struct Entry {
+pub(crate) struct ConnectionEntry {
     pub serial: u64,
     pub talk: Talk,
     pub pace: Pace,
 }
 
-impl Entry {
+impl ConnectionEntry {
     /// Octets were read. An `Err` changes nothing.
     pub(crate) fn note_octets(&mut self, octets: &[u8], now: u64) -> Result<(), FrameFault>
         ensures ok { OnOk result (Takes self.old.talk (reads octets.now) self.new.talk) }

@@ -22,8 +22,8 @@
 //! ```rust
 //! // crates/hdl_host/src/crowd.rt
 //! Ok(count) => match self.book.note_octets(place, &octets[..count], self.now) {
-//!     Ok(()) => Next::More,
-//!     Err(_) => Next::End,
+//!     Ok(()) => NextAtPlace::More,
+//!     Err(_) => NextAtPlace::End,
 //! },
 //! ```
 //!

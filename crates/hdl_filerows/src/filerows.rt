@@ -10,7 +10,7 @@ ghost use Rattle.hdl_sqlrows.specs.Stored.{IsBlank, IsBetweenCalls, table_in};
 ghost use Rattle.hdl_sqlrows.specs.Opening.{base_in, filed_base};
 
 use hdl_name::Name;
-use hdl_sqlrows::{Fault, layout, writes};
+use hdl_sqlrows::{StoreFault, layout, writes};
 use hdl_value::Value;
 use sqlite::{Alter, Connection};
 use std::alloc::Global;
@@ -41,7 +41,7 @@ impl<S: Alter + Drop> Model for FileRows<S> {
 
 impl<S: Alter + Drop> FileRows<S> {
     /// Makes the tables in a database that has none. A crash leaves none of them or all.
-    pub fn in_new_file(alloc: Global, mut conn: Connection<S>) -> Result<FileRows<S>, Fault>
+    pub fn in_new_file(alloc: Global, mut conn: Connection<S>) -> Result<FileRows<S>, StoreFault>
         requires mode { conn.in_transaction ≡ false }
         requires blank { WhereOpen (state S.Store conn) (IsBlank (state S.Store conn)) }
         ensures empty { IfOk result (λ rows. HasCleanDisk (state S.Store rows) → IsFiled (state S.Store rows) no_rows) }
@@ -82,7 +82,7 @@ impl<S: Alter + Drop> FileRows<S> {
     }
 
     /// Makes an absent handle, with these values.
-    pub fn create(&mut self, name: &Name, values: &[Value]) -> Result<(), Fault>
+    pub fn create(&mut self, name: &Name, values: &[Value]) -> Result<(), StoreFault>
         requires none { WhereOpen (state S.Store self.old) (has (filed_table (state S.Store self.old)) (canonical name.now) ≡ false) }
         requires absent { WhereOpen (state S.Store self.old) (AreAbsent (filed_table (state S.Store self.old)) (canonical name.now) (indexes values.now)) }
         requires distinct { AreDistinct (indexes values.now) }
@@ -99,7 +99,7 @@ impl<S: Alter + Drop> FileRows<S> {
     }
 
     /// Puts values at indexes of a handle where none stands.
-    pub fn add(&mut self, name: &Name, values: &[Value]) -> Result<(), Fault>
+    pub fn add(&mut self, name: &Name, values: &[Value]) -> Result<(), StoreFault>
         requires absent { WhereOpen (state S.Store self.old) (AreAbsent (filed_table (state S.Store self.old)) (canonical name.now) (indexes values.now)) }
         requires distinct { AreDistinct (indexes values.now) }
         ensures done { OnOk result (HasCleanDisk (state S.Store self.new) → IsFiled (state S.Store self.new) (with_values (filed_table (state S.Store self.old)) (canonical name.now) values.now)) }
@@ -114,7 +114,7 @@ impl<S: Alter + Drop> FileRows<S> {
     }
 
     /// Replaces the values at indexes of a handle, each whole.
-    pub fn modify(&mut self, name: &Name, values: &[Value]) -> Result<(), Fault>
+    pub fn modify(&mut self, name: &Name, values: &[Value]) -> Result<(), StoreFault>
         requires there { WhereOpen (state S.Store self.old) (ArePresent (filed_table (state S.Store self.old)) (canonical name.now) (indexes values.now)) }
         ensures done { OnOk result (HasCleanDisk (state S.Store self.new) → IsFiled (state S.Store self.new) (with_values (filed_table (state S.Store self.old)) (canonical name.now) values.now)) }
         ensures undone { OnErr result (WhereOpen (state S.Store self.new) (filed_table (state S.Store self.new) ≡ filed_table (state S.Store self.old))) }
@@ -128,7 +128,7 @@ impl<S: Alter + Drop> FileRows<S> {
     }
 
     /// Takes away what stands at these indexes of a handle, which stays.
-    pub fn remove(&mut self, name: &Name, indexes: &[u32]) -> Result<(), Fault>
+    pub fn remove(&mut self, name: &Name, indexes: &[u32]) -> Result<(), StoreFault>
         ensures done { OnOk result (HasCleanDisk (state S.Store self.new) → IsFiled (state S.Store self.new) (without_values (filed_table (state S.Store self.old)) (canonical name.now) indexes.now)) }
         ensures undone { OnErr result (WhereOpen (state S.Store self.new) (filed_table (state S.Store self.new) ≡ filed_table (state S.Store self.old))) }
         ensures durable { OnOk result (HasCleanDisk (state S.Store self.new) → CrashLeaves (state S.Store self.new) (without_values (filed_table (state S.Store self.old)) (canonical name.now) indexes.now)) }
@@ -141,7 +141,7 @@ impl<S: Alter + Drop> FileRows<S> {
     }
 
     /// Takes a handle away with all its values.
-    pub fn delete(&mut self, name: &Name) -> Result<(), Fault>
+    pub fn delete(&mut self, name: &Name) -> Result<(), StoreFault>
         requires there { WhereOpen (state S.Store self.old) (has (filed_table (state S.Store self.old)) (canonical name.now) ≡ true) }
         ensures done { OnOk result (HasCleanDisk (state S.Store self.new) → IsFiled (state S.Store self.new) (without_handle (filed_table (state S.Store self.old)) (canonical name.now))) }
         ensures undone { OnErr result (WhereOpen (state S.Store self.new) (filed_table (state S.Store self.new) ≡ filed_table (state S.Store self.old))) }

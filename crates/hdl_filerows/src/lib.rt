@@ -19,4 +19,4 @@
 mod filerows;
 
 pub use filerows::FileRows;
-pub use hdl_sqlrows::Fault;
+pub use hdl_sqlrows::StoreFault;

@@ -8,8 +8,8 @@ use Rattle.hdl_slots.specs.declared.pending.Challenge.{Challenge}
 use Rattle.hdl_slots.specs.Lanes as slots
 use Rattle.hdl_slots.specs.Lanes.{next_after, last_eight, without}
 use Rattle.hdl_slots.proofs.LawLemmas.{at_most_eight_lem}
-use Rattle.hdl_trail.specs.declared.kept.Key.{Key}
-use Rattle.hdl_trail.specs.declared.kept.Sent.{Sent}
+use Rattle.hdl_trail.specs.declared.kept.MessageKey.{MessageKey}
+use Rattle.hdl_trail.specs.declared.kept.SentChallenge.{SentChallenge}
 use Rattle.hdl_trail.specs.Followed.{put_behind, is_from, is_response, redeem, add_challenge}
 use Rattle.hdl_follows.specs.Follows.{sent_of, CanBeRead}
 use Rattle.hdl_follows.proofs.Lists.{filter_seen, map_push, map_drop, each_filter, each_drop, each_push, length_filter}
@@ -32,7 +32,7 @@ pushed_seen cs c few =
         sym (map_push sent_of cs c) ∙ ap (λ (n : ℕ). map sent_of (drop n (cs ++ c ∷ []))) (sym none)
     by_test false full =
         let one : length (cs ++ c ∷ []) - 8 ≡ 1 = omega (arith, length-append cs (c ∷ []), ltb-false (length cs) 8 full) in
-        ap (λ (t : List Sent). t ++ sent_of c ∷ []) (sym (map_drop sent_of 1 cs))
+        ap (λ (t : List SentChallenge). t ++ sent_of c ∷ []) (sym (map_drop sent_of 1 cs))
         ∙ sym (map_push sent_of (drop 1 cs) c)
         ∙ ap (map sent_of) (sym (drop_one cs c (omega (arith, ltb-false (length cs) 8 full))))
         ∙ ap (λ (n : ℕ). map sent_of (drop n (cs ++ c ∷ []))) (sym one)
@@ -44,7 +44,7 @@ put_seen s p few =
     let left = filter_seen sent_of (λ t. not (eqb t.session s.next)) s.challenges in
     let fewer = length_filter (λ (c : Challenge). not (eqb c.number s.next)) s.challenges in
     let newest : Challenge = record { number = s.next; pending = p } in
-    ap (λ (t : List Sent). put_behind 8 t (sent_of newest)) left ∙ pushed_seen (without s.next s.challenges) newest (omega arith)
+    ap (λ (t : List SentChallenge). put_behind 8 t (sent_of newest)) left ∙ pushed_seen (without s.next s.challenges) newest (omega arith)
 
 pub next_fits : (n : ℕ) → n < 2 ^ 32 → next_after n < 2 ^ 32
 next_fits n fits = by_test (eqb n 4294967295) refl
@@ -65,16 +65,16 @@ put_read s p each here =
 -- ---- what the trail does
 
 -- a reply that is no challenge, and answers no response or is out of the grammar, changes nothing
-pub unchanged : (key : Key) (operation : Option ℕ) (code session : ℕ) (ts : List Sent) → eqb code 402 ≡ false → is_response operation && not (eqb code 4) ≡ false
+pub unchanged : (key : MessageKey) (operation : Option ℕ) (code session : ℕ) (ts : List SentChallenge) → eqb code 402 ≡ false → is_response operation && not (eqb code 4) ≡ false
     → add_challenge key.number code session (redeem key operation code ts) ≡ ts
 unchanged key operation code session ts none other = rw (none, other) refl
 
 -- one that answers a response spends its challenge
-pub spends : (key : Key) (operation : Option ℕ) (code session : ℕ) (ts : List Sent) → eqb code 402 ≡ false → is_response operation && not (eqb code 4) ≡ true
+pub spends : (key : MessageKey) (operation : Option ℕ) (code session : ℕ) (ts : List SentChallenge) → eqb code 402 ≡ false → is_response operation && not (eqb code 4) ≡ true
     → add_challenge key.number code session (redeem key operation code ts) ≡ filter (λ t. not (is_from key.number key.session t)) ts
 spends key operation code session ts none answers = rw (none, answers) refl
 
 -- a challenge is put
-pub puts : (key : Key) (operation : Option ℕ) (session : ℕ) (ts : List Sent) → is_response operation ≡ false
+pub puts : (key : MessageKey) (operation : Option ℕ) (session : ℕ) (ts : List SentChallenge) → is_response operation ≡ false
     → add_challenge key.number 402 session (redeem key operation 402 ts) ≡ put_behind 8 (filter (λ t. not (eqb t.session session)) ts) (record { number = key.number; session = session })
 puts key operation session ts other = rw other refl

@@ -3,7 +3,7 @@ use Rattle.std.proofs.Common.{◌≡◌, ◌⊎◌, inl, inr, ℕ, Bool, true, f
 use Rattle.std.specs.List.{list_any}
 use Rattle.std.proofs.lemmas.List.Folds.{list_any-append}
 use Rattle.hdl_trail.specs.declared.kept.Mark.{Mark}
-use Rattle.hdl_trail.specs.declared.kept.Sent.{Sent}
+use Rattle.hdl_trail.specs.declared.kept.SentChallenge.{SentChallenge}
 use Rattle.hdl_trail.specs.declared.exchange.Exchange.{Exchange}
 use Rattle.hdl_trail.specs.Followed.{Followed, is_of, is_from, is_held, put_behind, first_mark, with_frame, with_frame_among, with_piece, leave_unanswered, operation_of, end_message, is_response, redeem, add_challenge, leave_answered, finish_by, finish_exchange}
 use Rattle.hdl_trail.specs.Peers.{is_under_way}
@@ -74,7 +74,7 @@ module _ (n : ℕ) where
   abbrev of_mark : Mark → Bool
   of_mark m = m.key.number == n
 
-  abbrev of_sent : Sent → Bool
+  abbrev of_sent : SentChallenge → Bool
   of_sent s = s.number == n
 
   grown_same : (e : Exchange) (m : Mark) → of_mark (with_frame e m) ≡ of_mark m
@@ -99,10 +99,10 @@ module _ (n : ℕ) where
       by_test true is = inl (sym (grown_any e ms) ∙ is)
       by_test false is = any_behind of_mark 4 ms (first_mark e) is
 
-  challenge_any : (number code session : ℕ) (ss : List Sent) → list_any of_sent (add_challenge number code session ss) ≡ true → (list_any of_sent ss ≡ true) ⊎ (number == n ≡ true)
+  challenge_any : (number code session : ℕ) (ss : List SentChallenge) → list_any of_sent (add_challenge number code session ss) ≡ true → (list_any of_sent ss ≡ true) ⊎ (number == n ≡ true)
   challenge_any number code session ss is = by_test (code == 402) is
     where
-      others : List Sent
+      others : List SentChallenge
       others = filter (λ s. not (s.session == session)) ss
 
       older : (list_any of_sent others ≡ true) ⊎ (number == n ≡ true) → (list_any of_sent ss ≡ true) ⊎ (number == n ≡ true)
@@ -138,7 +138,7 @@ module _ (n : ℕ) where
   answered_held : (f : Followed) (e : Exchange) (code session : ℕ) → is_held (leave_answered f e code session) n ≡ true → Held f e
   answered_held f e code session is = by_side (either (list_any of_mark (end_message e f.partials)) (list_any of_sent (add_challenge e.key.number code session left)) is)
     where
-      left : List Sent
+      left : List SentChallenge
       left = redeem e.key (operation_of e f.partials) code f.challenges
 
       by_left : (list_any of_sent left ≡ true) ⊎ (e.key.number == n ≡ true) → Held f e

@@ -22,7 +22,7 @@ use Rattle.hdl_laws.specs.Tasks.{Received, message_from, Task, Ignore, IsTask, I
 use Rattle.hdl_laws.specs.Effects.{Effect, Does}
 use Rattle.hdl_laws.specs.Steps.{Turn, IsAnswerFor, IsBusy, IsStep}
 use Rattle.hdl_trail.specs.declared.kept.Mark.{Mark}
-use Rattle.hdl_trail.specs.declared.kept.Sent.{Sent}
+use Rattle.hdl_trail.specs.declared.kept.SentChallenge.{SentChallenge}
 use Rattle.hdl_trail.specs.declared.exchange.Exchange.{Exchange}
 use Rattle.hdl_trail.specs.Exchange.{number_at, reply_of}
 use Rattle.hdl_trail.specs.Followed.{Followed, is_held, finish_exchange, leave_answered, leave_unanswered, with_piece, end_message, operation_of, redeem, add_challenge}
@@ -52,7 +52,7 @@ view_is f s is = λ i. record { partials = (sym is.partials) i; challenges = (sy
 pub holds : HoldsWhatIsKept
 holds f s number follows =
     ap (λ (g : Followed). is_held g number) (sym (view_is f s follows))
-    ∙ ap (λ (b : Bool). b || list_any (λ (t : Sent). eqb t.number number) (map sent_of s.challenges.challenges)) (list_any_seen mark_of (λ m. eqb m.key.number number) s.partials)
+    ∙ ap (λ (b : Bool). b || list_any (λ (t : SentChallenge). eqb t.number number) (map sent_of s.challenges.challenges)) (list_any_seen mark_of (λ m. eqb m.key.number number) s.partials)
     ∙ ap (λ (b : Bool). list_any (λ (p : Partial). eqb p.key.peer number) s.partials || b) (list_any_seen sent_of (λ t. eqb t.number number) s.challenges.challenges)
 
 -- the trail follows the lane after the effect

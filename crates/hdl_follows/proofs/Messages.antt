@@ -29,8 +29,8 @@ use Rattle.hdl_laws.specs.Tasks.{Message, Task, Ignore, Break, Malformed, Unknow
 use Rattle.hdl_laws.specs.Tasks as laws
 use Rattle.hdl_laws.specs.Effects.{Effect, Does, pending, answer_octets, challenge_octets, answer_effect, challenge_effect}
 use Rattle.hdl_laws.proofs.Codes.{reply_code, challenge_code}
-use Rattle.hdl_trail.specs.declared.kept.Key.{Key}
-use Rattle.hdl_trail.specs.declared.kept.Sent.{Sent}
+use Rattle.hdl_trail.specs.declared.kept.MessageKey.{MessageKey}
+use Rattle.hdl_trail.specs.declared.kept.SentChallenge.{SentChallenge}
 use Rattle.hdl_trail.specs.Exchange.{key_of, number_at, reply_of}
 use Rattle.hdl_trail.specs.Followed.{is_response, redeem, add_challenge}
 use Rattle.hdl_follows.specs.Follows.{sent_of, IsInUse, CanBeRead}
@@ -98,10 +98,10 @@ spent_in_use s m u = record {
 }
 
 module _ (hosted : List ℕ → Bool) (algorithms : List ℕ → Algorithm) (t : Table) (s : LaneState) (u : IsInUse s) (m : Message) where
-  abbrev key : Key
+  abbrev key : MessageKey
   key = key_of m.peer m.envelope
 
-  abbrev sent : List Sent
+  abbrev sent : List SentChallenge
   sent = map sent_of s.challenges.challenges
 
   -- a reply that leaves the challenges

@@ -10,7 +10,7 @@ use Rattle.hdl_frame.specs.declared.envelope.Envelope.{Envelope}
 use Rattle.hdl_frame.specs.Envelope.{envelope_at, fault_of, is_truncated, payload_len}
 use Rattle.hdl_frame.specs.Frames.{IsFrame}
 use Rattle.hdl_frame.specs.Pieces.{piece_count}
-use Rattle.hdl_pool.specs.declared.piece.Key.{Key}
+use Rattle.hdl_pool.specs.declared.piece.MessageKey.{MessageKey}
 use Rattle.hdl_pool.specs.Partial as pool
 use Rattle.hdl_pool.specs.Partial.{Partial, Piece, piece_of, nothing_of, payload_at, whole}
 use Rattle.hdl_pool.specs.Taking as taking
@@ -45,7 +45,7 @@ no_front zero k = refl
 no_front (suc n) zero = refl
 no_front (suc n) (suc k) = no_front n k
 
-nothing_partial : (key : Key) (len : ℕ) → IsPartial (nothing_of key len)
+nothing_partial : (key : MessageKey) (len : ℕ) → IsPartial (nothing_of key len)
 nothing_partial key len = record {
   places = length-replicate {A = Option (List ℕ)} (piece_count len) None;
   front = subst (λ (o : Option (List ℕ)). IfSome o (λ y. length y ≡ min 492 len)) (sym (no_front (piece_count len) 0)) tt;
@@ -68,7 +68,7 @@ front_set len [] n x first sized = tt
 front_set len (q ∷ qs) zero x first sized = sized refl
 front_set len (q ∷ qs) (suc n) x first sized = first
 
-replaced_same : (key : Key) (p : Partial) (lane : List Partial) → find (pool.is_of key) lane ≡ Some p → replace_partial key p lane ≡ lane
+replaced_same : (key : MessageKey) (p : Partial) (lane : List Partial) → find (pool.is_of key) lane ≡ Some p → replace_partial key p lane ≡ lane
 replaced_same key p [] found = refl
 replaced_same key p (q ∷ qs) found = by_test (pool.is_of key q) refl found (λ below. replaced_same key p qs below)
   where
@@ -76,7 +76,7 @@ replaced_same key p (q ∷ qs) found = by_test (pool.is_of key q) refl found (λ
     by_test true e found below = let same : q ≡ p = cc in rw e (ap (λ (r : Partial). r ∷ qs) (sym same))
     by_test false e found below = rw e (ap (λ (t : List Partial). q ∷ t) (below found))
 
-each_replaced : (key : Key) (more : Partial) (lane : List Partial) → AllByRecursion IsPartial lane → IsPartial more → AllByRecursion IsPartial (replace_partial key more lane)
+each_replaced : (key : MessageKey) (more : Partial) (lane : List Partial) → AllByRecursion IsPartial lane → IsPartial more → AllByRecursion IsPartial (replace_partial key more lane)
 each_replaced key more [] ps p = tt
 each_replaced key more (q ∷ qs) ps p = by_test (pool.is_of key q) (each_replaced key more qs ps.1 p)
   where
@@ -107,7 +107,7 @@ module _ (peer : ℕ) (bytes : List ℕ) where
   abbrev e : Exchange
   e = arrival bytes peer
 
-  abbrev k : Key
+  abbrev k : MessageKey
   k = pool.key_of peer v
 
   abbrev piece : Piece

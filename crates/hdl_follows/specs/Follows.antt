@@ -12,7 +12,7 @@ use Rattle.hdl_events.specs.declared.Outcome.{Outcome}
 use Rattle.hdl_laws.specs.Lanes.{LaneState}
 use Rattle.hdl_laws.specs.Reveals.{sent_by}
 use Rattle.hdl_trail.specs.declared.kept.Mark.{Mark}
-use Rattle.hdl_trail.specs.declared.kept.Sent.{Sent}
+use Rattle.hdl_trail.specs.declared.kept.SentChallenge.{SentChallenge}
 use Rattle.hdl_trail.specs.declared.exchange.Exchange.{Exchange}
 use Rattle.hdl_trail.specs.Exchange.{number_at, with_reply}
 use Rattle.hdl_trail.specs.Followed.{Followed, finish_exchange}
@@ -28,7 +28,7 @@ mark_of p = record {
 }
 
 -- a pending challenge, by whom it was sent to, and its number, which is its SessionId
-abbrev pub sent_of : Challenge → Sent
+abbrev pub sent_of : Challenge → SentChallenge
 sent_of c = record { number = c.pending.peer; session = c.number }
 
 -- the trail has the keys of what the lane keeps, the oldest first

@@ -1,6 +1,6 @@
 //! What the lanes of a publisher answered, in numbers.
 
-use hdl_audit::Answer;
+use hdl_audit::ReplySummary;
 use hdl_msg::{OpCode, ResponseCode};
 use std::alloc::{AllocError, Global};
 use std::fmt;
@@ -92,7 +92,7 @@ impl Counts {
     }
 
     /// Counts a reply.
-    pub fn count(&self, answer: Answer) {
+    pub fn count(&self, answer: ReplySummary) {
         let mut operations = OPERATIONS.iter();
         let row = operations
             .position(|operation| operation.number() == answer.operation)

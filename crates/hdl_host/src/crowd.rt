@@ -38,7 +38,7 @@ const WRITES: u32 = 64;
 const TICK: u64 = 1000;
 
 /// What stands next at a place.
-enum Next {
+enum NextAtPlace {
     /// A frame of so many octets, from the peer with this number.
     Frame(u16, usize),
     /// Something more may stand there.
@@ -199,50 +199,50 @@ impl Crowd {
     }
 
     /// Reads once at this place.
-    fn hear(&mut self, place: usize) -> Next {
+    fn hear(&mut self, place: usize) -> NextAtPlace {
         let Some(stream) = self.wires.stream(place) else {
-            return Next::End;
+            return NextAtPlace::End;
         };
         let mut octets = [0; READ_AT_ONCE];
         match stream.read(&mut octets) {
-            Ok(0) => Next::End,
+            Ok(0) => NextAtPlace::End,
             Ok(count) => match self.book.note_octets(place, &octets[..count], self.now) {
-                Ok(()) => Next::More,
-                Err(_) => Next::End,
+                Ok(()) => NextAtPlace::More,
+                Err(_) => NextAtPlace::End,
             },
             Err(e) if nothing_came(e.kind()) => {
                 self.book.waits(place, self.now);
                 self.is_watched = self.is_watched || self.keeps_waiting(place);
-                Next::Nothing
+                NextAtPlace::Nothing
             }
-            Err(_) => Next::End,
+            Err(_) => NextAtPlace::End,
         }
     }
 
     /// What stands next at this place. Nothing is read where something is owed.
-    fn next_at(&mut self, place: usize, buffer: &mut [u8]) -> Next {
+    fn next_at(&mut self, place: usize, buffer: &mut [u8]) -> NextAtPlace {
         if buffer.len() < ENVELOPE_LEN + MESSAGE_MAX as usize || !self.flush(place) {
-            return Next::End;
+            return NextAtPlace::End;
         }
         if !self.book.owed(place).is_empty() {
-            return Next::Nothing;
+            return NextAtPlace::Nothing;
         }
         if self.book.is_over(place) {
-            return Next::End;
+            return NextAtPlace::End;
         }
         match self.book.next_frame(place, buffer) {
-            Ok(Some((number, len))) => Next::Frame(number, len),
+            Ok(Some((number, len))) => NextAtPlace::Frame(number, len),
             Ok(None) => self.hear_or_turn_away(place),
-            Err(_) => Next::End,
+            Err(_) => NextAtPlace::End,
         }
     }
 
     /// Reads on, unless a refusal is owed.
-    fn hear_or_turn_away(&mut self, place: usize) -> Next {
+    fn hear_or_turn_away(&mut self, place: usize) -> NextAtPlace {
         if self.book.owed(place).is_empty() {
             self.hear(place)
         } else {
-            Next::More
+            NextAtPlace::More
         }
     }
 
@@ -250,14 +250,14 @@ impl Crowd {
     fn take_first(&mut self, buffer: &mut [u8]) -> Option<(u16, usize)> {
         let place = self.wires.next()?;
         match self.next_at(place, buffer) {
-            Next::Frame(number, len) => {
+            NextAtPlace::Frame(number, len) => {
                 self.wires.queue(place);
                 self.asked = Some(place);
                 return Some((number, len));
             }
-            Next::More => self.wires.queue(place),
-            Next::Nothing => {}
-            Next::End => self.close(place),
+            NextAtPlace::More => self.wires.queue(place),
+            NextAtPlace::Nothing => {}
+            NextAtPlace::End => self.close(place),
         }
         None
     }

@@ -12,7 +12,7 @@ const LIFE: u64 = 60;
 
 /// An address that answered a challenge, and when.
 #[derive(Clone, Copy)]
-struct Proof<A> {
+struct ProvenAddress<A> {
     address: A,
     moment: Instant,
 }
@@ -21,7 +21,7 @@ struct Proof<A> {
 #[derive(Drop)]
 pub struct Proven<R, A> {
     rt: R,
-    proofs: Vec<Proof<A>>,
+    proofs: Vec<ProvenAddress<A>>,
     /// The place of the next one to be displaced, once there are as many as are kept.
     next: usize,
 }
@@ -46,7 +46,7 @@ impl<R: Clock, A: Eq + Copy> Proven<R, A> {
         let Ok(moment) = Instant::now(&self.rt) else {
             return;
         };
-        let proof = Proof { address, moment };
+        let proof = ProvenAddress { address, moment };
         let place = match self.place(address) {
             Some(place) => place,
             None if self.proofs.len() < KEPT => {

@@ -2,7 +2,7 @@
 
 use crate::counts::Counts;
 use crate::log::Log;
-use hdl_audit::{Answer, Entry, Follower, Moment};
+use hdl_audit::{Entry, Follower, Moment, ReplySummary};
 use hdl_frame::Cutter;
 use std::alloc::{AllocError, Global};
 use std::collections::VecDeque;
@@ -84,7 +84,7 @@ impl<R: Clock + Eprint + Drop> Recorder<R> {
 
     /// A frame of a reply goes. The entry of the change that it ends, where there is a log.
     pub fn note_reply(&mut self, peer: u16, frame: &[u8]) -> Option<Entry> {
-        let answer = Answer::of(frame)?;
+        let answer = ReplySummary::of(frame)?;
         self.counts.count(answer);
         if answer.accepts_change() {
             self.counts.set_changed(self.moment());

@@ -6,7 +6,7 @@ use std::collections::VecDeque;
 
 /// A connection's socket.
 #[derive(Drop)]
-struct Wire {
+struct ClientSocket {
     stream: TcpStream,
     is_queued: bool,
 }
@@ -14,7 +14,7 @@ struct Wire {
 /// Sockets by place, and a queue of places at which something may stand next.
 #[derive(Drop)]
 pub struct Wires {
-    wires: Vec<Option<Wire>>,
+    wires: Vec<Option<ClientSocket>>,
     queue: VecDeque<usize>,
     /// Whether a socket was closed for want of memory.
     has_lost: bool,
@@ -41,7 +41,7 @@ impl Wires {
             self.wires.push(None)?;
         }
         if let Some(slot) = self.wires.get_mut(place) {
-            *slot = Some(Wire {
+            *slot = Some(ClientSocket {
                 stream,
                 is_queued: false,
             });

@@ -1,7 +1,7 @@
 //! Why the file of a table can't be opened.
 
 use hdl_rows::Refused;
-use hdl_sqlrows::{Fault, LoadFault};
+use hdl_sqlrows::{LoadFault, StoreFault};
 use sqlite::{Error as StoreError, ErrorCode};
 use std::alloc::{AllocError, AllocFailed};
 use thiserror::Error;
@@ -68,8 +68,8 @@ impl<T: Drop> From<AllocFailed<T>> for TableFault {
 }
 
 /// A write of the file or of the table in memory was refused.
-impl From<Fault> for TableFault {
-    fn from(_fault: Fault) -> TableFault {
+impl From<StoreFault> for TableFault {
+    fn from(_fault: StoreFault) -> TableFault {
         TableFault::Device
     }
 }

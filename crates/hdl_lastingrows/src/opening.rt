@@ -20,7 +20,7 @@ use crate::threaded::{Store, ThreadedFile, Writer};
 use hdl_filerows::FileRows;
 use hdl_name::Name;
 use hdl_rows::Rows;
-use hdl_sqlrows::known::{Found, tables_of};
+use hdl_sqlrows::known::{FoundDatabase, tables_of};
 use hdl_sqlrows::load::{Progress, load};
 use hdl_sqlrows::opening::{are_opened, open_more, open_new};
 use hdl_value::Value;
@@ -200,13 +200,13 @@ fn rows_over<R: Rows + Drop, S: Alter, P: Progress>(
     ensures found { (state S.Store conn.old).now.schema ≡ layout → IfOk result (λ r. HasCleanDisk (state S.Store conn.new) → R.content r ≡ (opened_with (filed_base (state S.Store conn.old)) opening.now).table) }
 {
     match tables_of(conn) {
-        Found::Nothing => {
+        FoundDatabase::Nothing => {
             let mut rows = rows;
             begin(conn, alloc, &mut rows, opening, progress)?;
             Ok(rows)
         }
-        Found::Tables => resume(conn, alloc, rows, spare, opening, progress),
-        Found::Other => Err(TableFault::Layout),
+        FoundDatabase::Tables => resume(conn, alloc, rows, spare, opening, progress),
+        FoundDatabase::Other => Err(TableFault::Layout),
     }
 }
 

@@ -6,17 +6,17 @@ use Rattle.std.proofs.lemmas.List.{map-set, length-map}
 use Rattle.std.proofs.lemmas.List.Sums.{sum_by-set, sum_by-cons, get_or-le-sum_by}
 use Rattle.hdl_frame.specs.Pieces.{piece_count}
 use Rattle.hdl_frame.specs.Whole.{before, whole_payload}
-use Rattle.hdl_pool.specs.declared.piece.Key.{Key}
+use Rattle.hdl_pool.specs.declared.piece.MessageKey.{MessageKey}
 use Rattle.hdl_pool.specs.Partial.{Partial, with_payload, payload_at, nothing_of, whole}
 use Rattle.hdl_pool.specs.Assembly.{lists, count_missing}
 
-abbrev partial : Key → ℕ → List (Option (List ℕ)) → Partial
+abbrev partial : MessageKey → ℕ → List (Option (List ℕ)) → Partial
 partial key len pieces = record { key = key; length = len; pieces = pieces }
 
 abbrev lack : Option (List ℕ) → ℕ
 lack o = cond (is_none o) 1 0
 
-pub put_is : (p : Partial) (key : Key) (len k : ℕ) (xs : List (Option (Vec ℕ))) (v : Vec ℕ) (payload : List ℕ) → partial key len (lists xs) ≡ p → v.items ≡ payload
+pub put_is : (p : Partial) (key : MessageKey) (len k : ℕ) (xs : List (Option (Vec ℕ))) (v : Vec ℕ) (payload : List ℕ) → partial key len (lists xs) ≡ p → v.items ≡ payload
     → partial key len (lists (set xs k (Some v))) ≡ with_payload p k payload
 put_is p key len k xs v payload view e =
     rw (← view, ← e) (ap (partial key len) (map-set (option_map (λ (w : Vec ℕ). w.items)) xs k (Some v)))
@@ -25,7 +25,7 @@ lists-replicate : (n : ℕ) → lists (replicate n None) ≡ replicate n None
 lists-replicate zero = refl
 lists-replicate (suc n) = ap (λ (t : List (Option (List ℕ))). None ∷ t) (lists-replicate n)
 
-pub new_is : (key : Key) (len count i : ℕ) (xs : List (Option (Vec ℕ))) → count ≡ piece_count len → i ≤ count → count ≤ i → xs ≡ replicate i None → partial key len (lists xs) ≡ nothing_of key len
+pub new_is : (key : MessageKey) (len count i : ℕ) (xs : List (Option (Vec ℕ))) → count ≡ piece_count len → i ≤ count → count ≤ i → xs ≡ replicate i None → partial key len (lists xs) ≡ nothing_of key len
 new_is key len count i xs counted le ge e =
     let same : i ≡ piece_count len = omega arith in
     rw (e, same) (ap (partial key len) (lists-replicate (piece_count len)))
@@ -63,7 +63,7 @@ length-lists : (xs : List (Option (Vec ℕ))) → length (lists xs) ≡ length x
 length-lists xs = length-map xs (option_map (λ (w : Vec ℕ). w.items))
 
 -- a payload that didn't come is one of those that are lacking
-pub put_missing : (p : Partial) (key : Key) (len k missing : ℕ) (xs : List (Option (Vec ℕ))) (v : Vec ℕ) → partial key len (lists xs) ≡ p → length xs ≡ piece_count len
+pub put_missing : (p : Partial) (key : MessageKey) (len k missing : ℕ) (xs : List (Option (Vec ℕ))) (v : Vec ℕ) → partial key len (lists xs) ≡ p → length xs ≡ piece_count len
     → missing ≡ count_missing (lists xs) → k < piece_count p.length → payload_at p k ≡ None → missing - 1 ≡ count_missing (lists (set xs k (Some v)))
 put_missing p key len k missing xs v view sized counted lt none =
     let within : k < piece_count len = rw (← view) at lt in
@@ -73,7 +73,7 @@ put_missing p key len k missing xs v view sized counted lt none =
     omega arith
 
 -- unless just one is lacking, no payload completes the message
-pub not_completed : (p : Partial) (key : Key) (len k missing : ℕ) (xs : List (Option (Vec ℕ))) (payload : List ℕ) → partial key len (lists xs) ≡ p → length xs ≡ piece_count len
+pub not_completed : (p : Partial) (key : MessageKey) (len k missing : ℕ) (xs : List (Option (Vec ℕ))) (payload : List ℕ) → partial key len (lists xs) ≡ p → length xs ≡ piece_count len
     → missing ≡ count_missing (lists xs) → missing ≢ 1 → k < piece_count p.length → payload_at p k ≡ None → None ≡ whole (with_payload p k payload)
 not_completed p key len k missing xs payload view sized counted several lt none =
     let within : k < piece_count len = rw (← view) at lt in

@@ -5,7 +5,7 @@ use Rattle.std.proofs.lemmas.Bool.{cases_eq, lt-ltb, le-ltb}
 use Rattle.std.proofs.lemmas.List.{length-set, length-map, length-take-le, get_or-set_same, get_or-set_other, get_or-map, get_or-replicate, set-set, set-get_or, set_at, get_or_at, map-set, map-append, take_all, drop_all, drop_more, take_more, take-set, drop-set, append-nil, take-append-drop, drop-append-le, length-append}
 use Rattle.std.proofs.lemmas.List.Elements.{filter_map-append}
 use Rattle.std.proofs.lemmas.List.Sums.{position_or_len_is}
-use Rattle.hdl_pool.specs.declared.piece.Key.{Key}
+use Rattle.hdl_pool.specs.declared.piece.MessageKey.{MessageKey}
 use Rattle.hdl_pool.specs.Partial.{Partial, is_of}
 use Rattle.hdl_pool.specs.Taking.{lane_at, begin_partial, free_partial, kept, displaced}
 use Rattle.hdl_pool.specs.Cells.{cells_at, cell_at, contents, lanes_of, AreFours, holds}
@@ -117,14 +117,14 @@ IsWrittenTo-all f c lane i now lt past fours was =
 abbrev pub none_of : Cell → Cell
 none_of content = None
 
-abbrev pub freed_of : Key → Cell → Cell
+abbrev pub freed_of : MessageKey → Cell → Cell
 freed_of key content = cond (holds key content) None content
 
 pub contents_none : (b : List Cell) → contents (map none_of b) ≡ []
 contents_none [] = refl
 contents_none (content ∷ b) = contents_none b
 
-pub contents_freed : (key : Key) (b : List Cell) → contents (map (freed_of key) b) ≡ free_partial (contents b) key
+pub contents_freed : (key : MessageKey) (b : List Cell) → contents (map (freed_of key) b) ≡ free_partial (contents b) key
 contents_freed key [] = refl
 contents_freed key (None ∷ b) = contents_freed key b
 contents_freed key (Some p ∷ b) = by_test (is_of key p) refl (contents_freed key b)
@@ -133,19 +133,19 @@ contents_freed key (Some p ∷ b) = by_test (is_of key p) refl (contents_freed k
     by_test true e below = rw e below
     by_test false e below = rw e (ap (λ (t : List Partial). p ∷ t) below)
 
-pub freed_more : (key : Key) (c : Lanes) (lane i : ℕ) (now new : Lanes) (t : Bool) → lane < 64 → i < 4 → AreFours c → IsWrittenTo (freed_of key) c lane i now
+pub freed_more : (key : MessageKey) (c : Lanes) (lane i : ℕ) (now new : Lanes) (t : Bool) → lane < 64 → i < 4 → AreFours c → IsWrittenTo (freed_of key) c lane i now
     → t ≡ holds key (cell_at now lane i) → t ≡ true → new ≡ set now lane (set (cells_at now lane) i None) → IsWrittenTo (freed_of key) c lane (i + 1) new
 freed_more key c lane i now new t lt within fours was test passed write =
     let here : holds key (cell_at c lane i) ≡ true = ap (holds key) (sym (IsWrittenTo-at (freed_of key) c lane i now lt within fours was)) ∙ sym test ∙ passed in
     IsWrittenTo-more (freed_of key) c lane i now new None lt within fours was write (rw here refl)
 
-pub freed_same : (key : Key) (c : Lanes) (lane i : ℕ) (now : Lanes) (t : Bool) → lane < 64 → i < 4 → AreFours c → IsWrittenTo (freed_of key) c lane i now
+pub freed_same : (key : MessageKey) (c : Lanes) (lane i : ℕ) (now : Lanes) (t : Bool) → lane < 64 → i < 4 → AreFours c → IsWrittenTo (freed_of key) c lane i now
     → t ≡ holds key (cell_at now lane i) → t ≡ false → IsWrittenTo (freed_of key) c lane (i + 1) now
 freed_same key c lane i now t lt within fours was test failed =
     let here : holds key (cell_at c lane i) ≡ false = ap (holds key) (sym (IsWrittenTo-at (freed_of key) c lane i now lt within fours was)) ∙ sym test ∙ failed in
     IsWrittenTo-same (freed_of key) c lane i now lt within fours was (rw here refl)
 
-pub freed_all : (key : Key) (c : Lanes) (lane i : ℕ) (now : Lanes) → lane < 64 → 4 ≤ i → AreFours c → IsWrittenTo (freed_of key) c lane i now
+pub freed_all : (key : MessageKey) (c : Lanes) (lane i : ℕ) (now : Lanes) → lane < 64 → 4 ≤ i → AreFours c → IsWrittenTo (freed_of key) c lane i now
     → (lanes_of now ≡ set (lanes_of c) lane (free_partial (lane_at (lanes_of c) lane) key)) × AreFours now
 freed_all key c lane i now lt past fours was =
     let all = IsWrittenTo-all (freed_of key) c lane i now lt past fours was in

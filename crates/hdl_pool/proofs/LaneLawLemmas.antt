@@ -4,7 +4,7 @@ use Rattle.std.specs.Prelude.{unwrap_or}
 use Rattle.std.specs.Option.{option_or, option_map_or}
 use Rattle.std.proofs.lemmas.Bool.{cases_Bool, eqb-true, eq-eqb}
 use Rattle.std.proofs.lemmas.List.Folds.{find-append}
-use Rattle.hdl_pool.specs.declared.piece.Key.{Key}
+use Rattle.hdl_pool.specs.declared.piece.MessageKey.{MessageKey}
 use Rattle.hdl_pool.specs.Partial.{Piece, Partial, is_of, nothing_of, whole}
 use Rattle.hdl_pool.specs.Taking.{Fate, made_whole, kept, ignored, displaced, so_far, is_ignored, with_piece, after_piece, replace_partial, begin_partial, store_if_kept, take_piece}
 use Rattle.hdl_pool.specs.Laws.{TakenIsSoFar, OthersStay}
@@ -12,7 +12,7 @@ use Rattle.hdl_pool.proofs.TakenLemmas.{after_piece_stays, taken_found, taken_mi
 
 -- ---- keys
 
-is_of-own : (key : Key) (p : Partial) → p.key ≡ key → is_of key p ≡ true
+is_of-own : (key : MessageKey) (p : Partial) → p.key ≡ key → is_of key p ≡ true
 is_of-own key p own = rw (own, eq-eqb key.peer key.peer refl, eq-eqb key.session key.session refl, eq-eqb key.request key.request refl) refl
 
 all_true : (a b c : Bool) → a && b && c ≡ true → (a ≡ true) × (b ≡ true) × (c ≡ true)
@@ -21,7 +21,7 @@ all_true true true false e = absurd (cc)
 all_true true false c e = absurd (cc)
 all_true false b c e = absurd (cc)
 
-own-is_of : (key : Key) (p : Partial) → is_of key p ≡ true → p.key ≡ key
+own-is_of : (key : MessageKey) (p : Partial) → is_of key p ≡ true → p.key ≡ key
 own-is_of key p passed =
     let parts = all_true (eqb p.key.peer key.peer) (eqb p.key.session key.session) (eqb p.key.request key.request) passed in
     let peer = eqb-true p.key.peer key.peer parts.0 in
@@ -29,11 +29,11 @@ own-is_of key p passed =
     let request = eqb-true p.key.request key.request parts.2 in
     same p.key key peer session request
   where
-    same : (a b : Key) → a.peer ≡ b.peer → a.session ≡ b.session → a.request ≡ b.request → a ≡ b
+    same : (a b : MessageKey) → a.peer ≡ b.peer → a.session ≡ b.session → a.request ≡ b.request → a ≡ b
     same a b peer session request = ap (λ (x : ℕ). record { peer = x; session = a.session; request = a.request }) peer ∙ ap (λ (x : ℕ). record { peer = b.peer; session = x; request = a.request }) session
         ∙ ap (λ (x : ℕ). record { peer = b.peer; session = b.session; request = x }) request
 
-not_of : (key : Key) (p : Partial) → p.key ≢ key → is_of key p ≡ false
+not_of : (key : MessageKey) (p : Partial) → p.key ≢ key → is_of key p ≡ false
 not_of key p other =
     elim (cases_Bool (is_of key p)) [
       | inl passed ↦ absurd (other (own-is_of key p passed))
@@ -62,7 +62,7 @@ find_passes test (q ∷ qs) p found = by_test (test q) refl found (λ below. fin
     by_test true e found below = let same : q ≡ p = cc in rw (← same) e
     by_test false e found below = below found
 
-find_replaced : (key : Key) (more : Partial) (lane : List Partial) (p : Partial) → find (is_of key) lane ≡ Some p → is_of key more ≡ true → find (is_of key) (replace_partial key more lane) ≡ Some more
+find_replaced : (key : MessageKey) (more : Partial) (lane : List Partial) (p : Partial) → find (is_of key) lane ≡ Some p → is_of key more ≡ true → find (is_of key) (replace_partial key more lane) ≡ Some more
 find_replaced key more [] p found own = absurd (cc)
 find_replaced key more (q ∷ qs) p found own = by_test (is_of key q) refl found (λ below. find_replaced key more qs p below own)
   where
@@ -91,7 +91,7 @@ find_begun false test lane more missed own = find_last test (drop 1 lane) more (
 found_or : (o : Option Partial) (d : Partial) (p : Partial) → o ≡ Some p → unwrap_or o d ≡ p
 found_or o d p e = rw e refl
 
-settled_new : (lane : List Partial) (key : Key) (fate : Fate) (more d : Partial) → find (is_of key) lane ≡ None → is_of key more ≡ true → (fate ≢ kept → more ≡ d)
+settled_new : (lane : List Partial) (key : MessageKey) (fate : Fate) (more d : Partial) → find (is_of key) lane ≡ None → is_of key more ≡ true → (fate ≢ kept → more ≡ d)
     → unwrap_or (find (is_of key) (store_if_kept lane key fate more).1) d ≡ more
 settled_new lane key kept more d missed own stays =
     rw (stored_missed lane key more missed) (found_or (find (is_of key) (begin_partial lane more).1) d more (find_begun (ltb (length lane) 4) (is_of key) lane more missed own))
@@ -114,7 +114,7 @@ taken_is_so_far_lem lane piece = taken_so_far lane piece (find (is_of piece.key)
 
 -- ---- the others
 
-find_other : (key other : Key) (more : Partial) (lane : List Partial) → other ≢ key → is_of other more ≡ false → find (is_of other) (replace_partial key more lane) ≡ find (is_of other) lane
+find_other : (key other : MessageKey) (more : Partial) (lane : List Partial) → other ≢ key → is_of other more ≡ false → find (is_of other) (replace_partial key more lane) ≡ find (is_of other) lane
 find_other key other more [] apart absent = refl
 find_other key other more (q ∷ qs) apart absent = by_test (is_of key q) refl (find_other key other more qs apart absent)
   where
@@ -132,12 +132,12 @@ begun_other : (b : Bool) (test : Partial → Bool) (lane : List Partial) (more :
 begun_other true test lane more absent stays = find-append test lane (more ∷ []) ∙ rw absent (or_none (find test lane))
 begun_other false test lane more absent stays = absurd (stays refl)
 
-stored_other : (b : Bool) (lane : List Partial) (key other : Key) (more : Partial) → other ≢ key → is_of other more ≡ false → (cond b (kept, replace_partial key more lane) (begin_partial lane more)).0 ≢ displaced
+stored_other : (b : Bool) (lane : List Partial) (key other : MessageKey) (more : Partial) → other ≢ key → is_of other more ≡ false → (cond b (kept, replace_partial key more lane) (begin_partial lane more)).0 ≢ displaced
     → find (is_of other) (cond b (kept, replace_partial key more lane) (begin_partial lane more)).1 ≡ find (is_of other) lane
 stored_other true lane key other more apart absent stays = find_other key other more lane apart absent
 stored_other false lane key other more apart absent stays = begun_other (ltb (length lane) 4) (is_of other) lane more absent stays
 
-settled_others : (lane : List Partial) (key other : Key) (fate : Fate) (more : Partial) → other ≢ key → is_of other more ≡ false → (store_if_kept lane key fate more).0 ≢ displaced
+settled_others : (lane : List Partial) (key other : MessageKey) (fate : Fate) (more : Partial) → other ≢ key → is_of other more ≡ false → (store_if_kept lane key fate more).0 ≢ displaced
     → find (is_of other) (store_if_kept lane key fate more).1 ≡ find (is_of other) lane
 settled_others lane key other kept more apart absent stays = stored_other (is_some (find (is_of key) lane)) lane key other more apart absent stays
 settled_others lane key other (made_whole message) more apart absent stays = refl

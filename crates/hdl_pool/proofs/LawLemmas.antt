@@ -9,7 +9,7 @@ use Rattle.std.proofs.lemmas.List.FromFn.{get_or-map-range_with_len, length-map-
 use Rattle.hdl_frame.specs.Pieces.{piece_count}
 use Rattle.hdl_frame.specs.Whole.{Piece as Numbered, payload_of, payloads_of, message_of}
 use Rattle.hdl_frame.proofs.WholeLemmas.{message_is_joined_lem, joined_is_message_lem}
-use Rattle.hdl_pool.specs.declared.piece.Key.{Key}
+use Rattle.hdl_pool.specs.declared.piece.MessageKey.{MessageKey}
 use Rattle.hdl_pool.specs.Partial.{Piece, Partial, IsPiece, is_of, payload_at, whole}
 use Rattle.hdl_pool.specs.Taking.{Fate, made_whole, kept, ignored, displaced, so_far, is_ignored, with_piece, after_piece, replace_partial, begin_partial, store_if_kept}
 use Rattle.hdl_pool.specs.Laws.{numbered_piece, collect, NothingCame, KeptIsCollected, RepeatedIsIgnored, WholeIsMessage, MessageIsWhole, FreedIsGone, AtMostFour}
@@ -174,7 +174,7 @@ none_left test (p ∷ ps) = left_step test p (filter (λ q. not (test q)) ps) (t
 pub freed_is_gone_lem : FreedIsGone
 freed_is_gone_lem lane key = none_left (is_of key) lane
 
-length-replaced : (key : Key) (more : Partial) (lane : List Partial) → length (replace_partial key more lane) ≡ length lane
+length-replaced : (key : MessageKey) (more : Partial) (lane : List Partial) → length (replace_partial key more lane) ≡ length lane
 length-replaced key more [] = refl
 length-replaced key more (p ∷ ps) = by_test (is_of key p) refl (length-replaced key more ps)
   where
@@ -189,11 +189,11 @@ begun_four lane first le =
       | inr ge ↦ rw (le-ltb (length lane) 4 ge) (omega (arith, length_push (drop 1 lane) first, length-drop 1 lane))
     ]
 
-stored_if : (b : Bool) (lane : List Partial) (key : Key) (more : Partial) → length lane ≤ 4 → length (cond b (kept, replace_partial key more lane) (begin_partial lane more)).1 ≤ 4
+stored_if : (b : Bool) (lane : List Partial) (key : MessageKey) (more : Partial) → length lane ≤ 4 → length (cond b (kept, replace_partial key more lane) (begin_partial lane more)).1 ≤ 4
 stored_if true lane key more le = omega (arith, length-replaced key more lane)
 stored_if false lane key more le = begun_four lane more le
 
-settled_four : (lane : List Partial) (key : Key) (fate : Fate) (more : Partial) → length lane ≤ 4 → length (store_if_kept lane key fate more).1 ≤ 4
+settled_four : (lane : List Partial) (key : MessageKey) (fate : Fate) (more : Partial) → length lane ≤ 4 → length (store_if_kept lane key fate more).1 ≤ 4
 settled_four lane key kept more le = stored_if (is_some (find (is_of key) lane)) lane key more le
 settled_four lane key (made_whole message) more le = le
 settled_four lane key ignored more le = le

@@ -6,7 +6,7 @@ use Rattle.std.proofs.lemmas.Bool.{eq-eqb, ltb-false}
 use Rattle.std.proofs.lemmas.List.{append-nil, length-set, get_or-set_same, set-set, set-get_or}
 use Rattle.std.proofs.lemmas.List.Quantifiers.{position-Some}
 use Rattle.std.proofs.lemmas.List.Sums.{fails_before_first}
-use Rattle.hdl_pool.specs.declared.piece.Key.{Key}
+use Rattle.hdl_pool.specs.declared.piece.MessageKey.{MessageKey}
 use Rattle.hdl_pool.specs.declared.taken.Taken.{Taken}
 use Rattle.hdl_pool.specs.declared.taken.Taken.TheVariants.{Whole, Kept, Ignored, Displaced}
 use Rattle.hdl_pool.specs.Partial.{Piece, Partial, IsPiece, is_of, nothing_of, whole}
@@ -17,7 +17,7 @@ use Rattle.hdl_pool.proofs.CellLemmas.{Cell, Lanes, lane-lanes_of, lanes_of-set,
 -- ---- the message that is found
 
 -- the first cell of the key has the message that is found, and what is put there takes its place
-first_is : (key : Key) (b : List Cell) (i : ℕ) (p : Partial) → get_or b i None ≡ Some p → is_of key p ≡ true → ((k : ℕ) → k < i → holds key (get_or b k None) ≡ false)
+first_is : (key : MessageKey) (b : List Cell) (i : ℕ) (p : Partial) → get_or b i None ≡ Some p → is_of key p ≡ true → ((k : ℕ) → k < i → holds key (get_or b k None) ≡ false)
     → (find (is_of key) (contents b) ≡ Some p) × ((more : Partial) → contents (set b i (Some more)) ≡ replace_partial key more (contents b))
 first_is key [] i p at here before = absurd (cc)
 first_is key (content ∷ b) zero p at here before = rw (at, here) (refl, λ more. refl)
@@ -27,17 +27,17 @@ first_is key (Some q ∷ b) (suc i) p at here before =
     let other : is_of key q ≡ false = before 0 (omega arith) in
     rw other (below.0, λ more. ap (λ (t : List Partial). q ∷ t) (below.1 more))
 
-holds_some : (key : Key) (content : Cell) (p : Partial) → content ≡ Some p → holds key content ≡ true → is_of key p ≡ true
+holds_some : (key : MessageKey) (content : Cell) (p : Partial) → content ≡ Some p → holds key content ≡ true → is_of key p ≡ true
 holds_some key content p e test = rw e at test
 
-pub found_is : (key : Key) (b : List Cell) (i : ℕ) (p : Partial) → Some i ≡ position (holds key) b → Some p ≡ get_or b i None
+pub found_is : (key : MessageKey) (b : List Cell) (i : ℕ) (p : Partial) → Some i ≡ position (holds key) b → Some p ≡ get_or b i None
     → (find (is_of key) (contents b) ≡ Some p) × ((more : Partial) → contents (set b i (Some more)) ≡ replace_partial key more (contents b))
 found_is key b i p first at =
     let some = position-Some (holds key) b i None (sym first) in
     first_is key b i p (sym at) (holds_some key (get_or b i None) p (sym at) some.1) some.2
 
 -- the found cell isn't empty
-pub found_some : (key : Key) (b : List Cell) (i : ℕ) → Some i ≡ position (holds key) b → get_or b i None ≢ None
+pub found_some : (key : MessageKey) (b : List Cell) (i : ℕ) → Some i ≡ position (holds key) b → get_or b i None ≢ None
 found_some key b i first none =
     let some = position-Some (holds key) b i None (sym first) in
     let no_one : holds key (get_or b i None) ≡ false = rw none refl in
@@ -47,14 +47,14 @@ not_some : (b : Bool) (i : ℕ) → cond b (Some i) None ≡ None → b ≡ fals
 not_some true i e = absurd (cc)
 not_some false i e = refl
 
-none_is : (key : Key) (b : List Cell) → ((k : ℕ) → k < length b → holds key (get_or b k None) ≡ false) → find (is_of key) (contents b) ≡ None
+none_is : (key : MessageKey) (b : List Cell) → ((k : ℕ) → k < length b → holds key (get_or b k None) ≡ false) → find (is_of key) (contents b) ≡ None
 none_is key [] before = refl
 none_is key (None ∷ b) before = none_is key b (λ k lt. before (suc k) (omega arith))
 none_is key (Some p ∷ b) before =
     let other : is_of key p ≡ false = before 0 (omega arith) in
     rw other (none_is key b (λ k lt. before (suc k) (omega arith)))
 
-pub missed_is : (key : Key) (b : List Cell) → None ≡ position (holds key) b → find (is_of key) (contents b) ≡ None
+pub missed_is : (key : MessageKey) (b : List Cell) → None ≡ position (holds key) b → find (is_of key) (contents b) ≡ None
 missed_is key b none =
     let past = ltb-false _ _ (not_some _ _ (sym none)) in
     none_is key b (λ k lt. fails_before_first (holds key) b k None (omega (arith, past)))
@@ -81,7 +81,7 @@ after_piece_stays p piece other = grown_if (is_ignored p piece) p (with_piece p 
 
 -- ---- a piece of a message that is there
 
-replaced_same : (key : Key) (p : Partial) (lane : List Partial) → find (is_of key) lane ≡ Some p → replace_partial key p lane ≡ lane
+replaced_same : (key : MessageKey) (p : Partial) (lane : List Partial) → find (is_of key) lane ≡ Some p → replace_partial key p lane ≡ lane
 replaced_same key p [] found = refl
 replaced_same key p (q ∷ qs) found = by_test (is_of key q) refl found (λ below. replaced_same key p qs below)
   where
@@ -89,11 +89,11 @@ replaced_same key p (q ∷ qs) found = by_test (is_of key q) refl found (λ belo
     by_test true e found below = let same : q ≡ p = cc in rw e (ap (λ (r : Partial). r ∷ qs) (sym same))
     by_test false e found below = rw e (ap (λ (t : List Partial). q ∷ t) (below found))
 
-stored_found : (lane : List Partial) (key : Key) (p more : Partial) → find (is_of key) lane ≡ Some p → store_partial lane key more ≡ (kept, replace_partial key more lane)
+stored_found : (lane : List Partial) (key : MessageKey) (p more : Partial) → find (is_of key) lane ≡ Some p → store_partial lane key more ≡ (kept, replace_partial key more lane)
 stored_found lane key p more found = rw found refl
 
 -- the lane has the message as the piece leaves it
-settled_found : (lane : List Partial) (key : Key) (p more : Partial) (fate : Fate) → find (is_of key) lane ≡ Some p → (fate ≢ kept → more ≡ p) → store_if_kept lane key fate more ≡ (fate, replace_partial key more lane)
+settled_found : (lane : List Partial) (key : MessageKey) (p more : Partial) (fate : Fate) → find (is_of key) lane ≡ Some p → (fate ≢ kept → more ≡ p) → store_if_kept lane key fate more ≡ (fate, replace_partial key more lane)
 settled_found lane key p more kept found stays = stored_found lane key p more found
 settled_found lane key p more (made_whole message) found stays =
     let same = stays (λ e. cc) in rw same (ap (λ (t : List Partial). (made_whole message, t)) (sym (replaced_same key p lane found)))
@@ -140,7 +140,7 @@ found_lanes c mid new lane place piece p more lt fours first was out back is =
 
 -- ---- a piece of a message that isn't there
 
-pub stored_missed : (lane : List Partial) (key : Key) (more : Partial) → find (is_of key) lane ≡ None → store_partial lane key more ≡ begin_partial lane more
+pub stored_missed : (lane : List Partial) (key : MessageKey) (more : Partial) → find (is_of key) lane ≡ None → store_partial lane key more ≡ begin_partial lane more
 stored_missed lane key more missed = rw missed refl
 
 pub taken_missed : (lane : List Partial) (piece : Piece) (first : Partial) → find (is_of piece.key) lane ≡ None → first ≡ nothing_of piece.key piece.length → take_piece lane piece ≡ store_if_kept lane piece.key (after_piece first piece).0 (after_piece first piece).1
@@ -153,7 +153,7 @@ missed_kept c lane piece first more lt fours none new is left =
     let missed : find (is_of piece.key) (lane_at (lanes_of c) lane) ≡ None = rw start (missed_is piece.key (cells_at c lane) none) in
     taken_missed (lane_at (lanes_of c) lane) piece first missed new ∙ rw (← is, ← left) (stored_missed (lane_at (lanes_of c) lane) piece.key more missed)
 
-settled_other : (lane : List Partial) (key : Key) (fate : Fate) (more : Partial) → fate ≢ kept → store_if_kept lane key fate more ≡ (fate, lane)
+settled_other : (lane : List Partial) (key : MessageKey) (fate : Fate) (more : Partial) → fate ≢ kept → store_if_kept lane key fate more ≡ (fate, lane)
 settled_other lane key kept more other = absurd (other refl)
 settled_other lane key (made_whole message) more other = refl
 settled_other lane key ignored more other = refl

@@ -3,7 +3,7 @@ use Rattle.std.specs.Prelude.{◌≡◌, ◌<◌, ℕ, Bool, false, List, [], le
 use Rattle.std.specs.List.{filter_map}
 use Rattle.std.specs.Option.{option_map_or}
 use Rattle.hdl_limits.specs.declared.TheConstants.{LANES, PARTIALS_MAX}
-use Rattle.hdl_pool.specs.declared.piece.Key.{Key}
+use Rattle.hdl_pool.specs.declared.piece.MessageKey.{MessageKey}
 use Rattle.hdl_pool.specs.Partial.{Partial, is_of}
 
 -- the cells of a lane
@@ -28,5 +28,5 @@ pub record AreFours (cells : List (List (Option Partial))) : Type 0 where
   pub four : (lane : ℕ) → lane < LANES → length (cells_at cells lane) ≡ PARTIALS_MAX
 
 -- a cell has a partial message of this key
-abbrev pub holds : Key → Option Partial → Bool
+abbrev pub holds : MessageKey → Option Partial → Bool
 holds key content = option_map_or (is_of key) content false

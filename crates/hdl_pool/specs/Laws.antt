@@ -3,7 +3,7 @@
 use Rattle.std.specs.Prelude.{◌≡◌, ◌≢◌, ℕ, ◌≤◌, List, [], ◌∷◌, ◌++◌, length, find, Some, None}
 use Rattle.hdl_frame.specs.Whole.{Piece as Numbered, payload_of, payloads_of, MakeMessage, HaveTheirLength}
 use Rattle.hdl_limits.specs.declared.TheConstants.{PARTIALS_MAX}
-use Rattle.hdl_pool.specs.declared.piece.Key.{Key}
+use Rattle.hdl_pool.specs.declared.piece.MessageKey.{MessageKey}
 use Rattle.hdl_pool.specs.Partial.{Piece, Partial, IsPiece, is_of, nothing_of}
 use Rattle.hdl_pool.specs.Taking.{made_whole, kept, ignored, displaced, so_far, after_piece, take_piece, free_partial}
 
@@ -12,12 +12,12 @@ abbrev pub numbered_piece : Piece → Numbered
 numbered_piece piece = record { number = piece.number; payload = piece.payload }
 
 -- the partial message of which these pieces came, in this order
-abbrev pub collect : Key → ℕ → List Numbered → Partial
+abbrev pub collect : MessageKey → ℕ → List Numbered → Partial
 collect key len pieces = record { key = key; length = len; pieces = payloads_of pieces len }
 
 -- before the first piece nothing came
 abbrev pub NothingCame : Type 0
-NothingCame = (key : Key) (len : ℕ) → nothing_of key len ≡ collect key len []
+NothingCame = (key : MessageKey) (len : ℕ) → nothing_of key len ≡ collect key len []
 
 -- a kept piece is the last that came
 abbrev pub KeptIsCollected : Type 0
@@ -45,11 +45,11 @@ TakenIsSoFar = (lane : List Partial) (piece : Piece) → so_far (take_piece lane
 
 -- a piece that displaces nothing changes no other message of its lane
 abbrev pub OthersStay : Type 0
-OthersStay = (lane : List Partial) (piece : Piece) (key : Key) → key ≢ piece.key → (take_piece lane piece).0 ≢ displaced → find (is_of key) (take_piece lane piece).1 ≡ find (is_of key) lane
+OthersStay = (lane : List Partial) (piece : Piece) (key : MessageKey) → key ≢ piece.key → (take_piece lane piece).0 ≢ displaced → find (is_of key) (take_piece lane piece).1 ≡ find (is_of key) lane
 
 -- what was freed isn't found
 abbrev pub FreedIsGone : Type 0
-FreedIsGone = (lane : List Partial) (key : Key) → find (is_of key) (free_partial lane key) ≡ None
+FreedIsGone = (lane : List Partial) (key : MessageKey) → find (is_of key) (free_partial lane key) ≡ None
 
 -- a lane keeps to four
 abbrev pub AtMostFour : Type 0

@@ -5,11 +5,11 @@ use Rattle.hdl_frame.specs.Envelope.{envelope_at}
 use Rattle.hdl_frame.specs.Pieces.{piece_count}
 use Rattle.hdl_frame.specs.Whole.{whole_payload}
 use Rattle.hdl_limits.specs.declared.TheConstants.{MESSAGE_MAX, PIECE_LEN}
-use Rattle.hdl_pool.specs.declared.piece.Key.{Key}
+use Rattle.hdl_pool.specs.declared.piece.MessageKey.{MessageKey}
 
 -- a piece: whose message it belongs to, how long that message is, the piece's number and its payload
 pub record Piece : Type 0 where
-  pub key : Key
+  pub key : MessageKey
   pub length : ℕ
   pub number : ℕ
   pub payload : List ℕ
@@ -21,12 +21,12 @@ pub record IsPiece (piece : Piece) : Type 0 where
 
 -- a partial message: whose it is, how long, and by number the payload of the first piece with it, where one came
 pub record Partial : Type 0 where
-  pub key : Key
+  pub key : MessageKey
   pub length : ℕ
   pub pieces : List (Option (List ℕ))
 
 -- whose message a frame of this peer belongs to
-abbrev pub key_of : ℕ → Envelope → Key
+abbrev pub key_of : ℕ → Envelope → MessageKey
 key_of peer e = record { peer = peer; session = e.session; request = e.request }
 
 -- the piece that a frame of this peer is, by the frame's octets
@@ -39,11 +39,11 @@ piece_of peer octets = record {
 }
 
 -- the partial message is this key's
-abbrev pub is_of : Key → Partial → Bool
+abbrev pub is_of : MessageKey → Partial → Bool
 is_of key p = nat_eq p.key.peer key.peer && nat_eq p.key.session key.session && nat_eq p.key.request key.request
 
 -- one of which nothing came
-abbrev pub nothing_of : Key → ℕ → Partial
+abbrev pub nothing_of : MessageKey → ℕ → Partial
 nothing_of key len = record { key = key; length = len; pieces = replicate (piece_count len) None }
 
 -- the payload with this number, if it came

@@ -3,7 +3,7 @@
 use Rattle.std.specs.Prelude.{ℕ, Bool, nat_eq, nat_lt, not, ◌||◌, if◌then◌else◌, List, [], ◌∷◌, ◌++◌, length, drop, filter, find, slice_index_or, Option, Some, None, is_some, unwrap_or}
 use Rattle.std.specs.Option.{option_map_or}
 use Rattle.hdl_limits.specs.declared.TheConstants.{PARTIALS_MAX}
-use Rattle.hdl_pool.specs.declared.piece.Key.{Key}
+use Rattle.hdl_pool.specs.declared.piece.MessageKey.{MessageKey}
 use Rattle.hdl_pool.specs.declared.taken.Taken.{Taken}
 use Rattle.hdl_pool.specs.declared.taken.Taken.TheVariants.{Whole, Kept, Ignored, Displaced}
 use Rattle.hdl_pool.specs.Partial.{Piece, Partial, is_of, nothing_of, payload_at, with_payload, whole}
@@ -38,7 +38,7 @@ after_piece p piece =
     else option_map_or (λ message. (made_whole message, p)) (whole (with_piece p piece)) (kept, with_piece p piece)
 
 -- the lane with this partial message in the place of the one with this key
-abbrev pub replace_partial : Key → Partial → List Partial → List Partial
+abbrev pub replace_partial : MessageKey → Partial → List Partial → List Partial
 replace_partial key more [] = []
 replace_partial key more (p ∷ ps) = if is_of key p then more ∷ ps else p ∷ replace_partial key more ps
 
@@ -47,11 +47,11 @@ abbrev pub begin_partial : List Partial → Partial → Fate × List Partial
 begin_partial lane first = if nat_lt (length lane) PARTIALS_MAX then (kept, lane ++ first ∷ []) else (displaced, drop 1 lane ++ first ∷ [])
 
 -- the lane with a partial message that has one more piece
-abbrev pub store_partial : List Partial → Key → Partial → Fate × List Partial
+abbrev pub store_partial : List Partial → MessageKey → Partial → Fate × List Partial
 store_partial lane key more = if is_some (find (is_of key) lane) then (kept, replace_partial key more lane) else begin_partial lane more
 
 -- only a piece that is kept changes the lane
-abbrev pub store_if_kept : List Partial → Key → Fate → Partial → Fate × List Partial
+abbrev pub store_if_kept : List Partial → MessageKey → Fate → Partial → Fate × List Partial
 store_if_kept lane key kept more = store_partial lane key more
 store_if_kept lane key (made_whole message) more = (made_whole message, lane)
 store_if_kept lane key ignored more = (ignored, lane)
@@ -69,7 +69,7 @@ whole_message ignored = None
 whole_message displaced = None
 
 -- the lane without the partial message of this key
-abbrev pub free_partial : List Partial → Key → List Partial
+abbrev pub free_partial : List Partial → MessageKey → List Partial
 free_partial lane key = filter (λ p. not (is_of key p)) lane
 
 -- the answer of `take`

@@ -7,7 +7,7 @@ ghost use Rattle.hdl_pool.specs.Taking.{after_piece, fate_of};
 ghost use Rattle.hdl_pool.specs.Arrival.{piece_in};
 
 use crate::joining::joined_with;
-use crate::piece::{Arrival, Key};
+use crate::piece::{Arrival, MessageKey};
 use crate::taken::Taken;
 use hdl_limits::{MESSAGE_MAX, PIECE_LEN};
 use std::alloc::{AllocError, Global};
@@ -16,7 +16,7 @@ use std::marker::Model;
 /// A message of which pieces came. Each payload is a copy of its own, so that memory follows what really came.
 #[derive(Drop)]
 pub(crate) struct Assembly {
-    key: Key,
+    key: MessageKey,
     message_len: u32,
     /// The payloads by number, each where it came.
     payloads: Vec<Option<Vec<u8>>>,
@@ -39,7 +39,11 @@ impl Model for Assembly {
 
 impl Assembly {
     /// A message of which nothing came yet, of so many octets in all.
-    pub(crate) fn new(alloc: Global, key: Key, message_len: u32) -> Result<Assembly, AllocError>
+    pub(crate) fn new(
+        alloc: Global,
+        key: MessageKey,
+        message_len: u32,
+    ) -> Result<Assembly, AllocError>
         requires { message_len ≤ MESSAGE_MAX }
         ensures { IfOk result (λ a. a ≡ nothing_of key message_len) }
     {
@@ -57,7 +61,7 @@ impl Assembly {
     }
 
     /// Whether this is the message of this key.
-    pub(crate) fn is_of(&self, key: Key) -> bool
+    pub(crate) fn is_of(&self, key: MessageKey) -> bool
         ensures { result ≡ is_of key self.now }
     {
         self.key.peer == key.peer

@@ -8,14 +8,14 @@ ghost use Rattle.hdl_pool.specs.Cells.{AreFours, cells_at, cell_at, lanes_of, ho
 
 use crate::assembly::Assembly;
 use crate::cells::Cells;
-use crate::piece::{Arrival, Key};
+use crate::piece::{Arrival, MessageKey};
 use crate::taken::Taken;
 use hdl_limits::{LANES, PARTIALS_MAX, PIECE_LEN};
 use std::alloc::{AllocError, Global};
 
 impl Cells {
     /// Whether a cell has the partial message of this key.
-    fn holds(&self, lane: usize, place: usize, key: Key) -> bool
+    fn holds(&self, lane: usize, place: usize, key: MessageKey) -> bool
         requires lane { lane < LANES }
         requires place { place < PARTIALS_MAX }
         ensures { result ≡ holds key (cell_at self.now lane place) }
@@ -34,7 +34,7 @@ impl Cells {
     }
 
     /// Where in its lane the partial message of this key stands.
-    fn find(&self, lane: usize, key: Key) -> Option<usize>
+    fn find(&self, lane: usize, key: MessageKey) -> Option<usize>
         requires lane { lane < LANES }
         requires fours { AreFours self.now }
         ensures first { result ≡ position (holds key) (cells_at self.now lane) }
@@ -49,7 +49,7 @@ impl Cells {
     }
 
     /// Empties the cell with the partial message of this key, if there is one.
-    pub(crate) fn free(&mut self, lane: usize, key: Key)
+    pub(crate) fn free(&mut self, lane: usize, key: MessageKey)
         requires lane { lane < LANES }
         requires fours { AreFours self.old }
         ensures lanes { lanes_of self.new ≡ slice_set (lanes_of self.old) lane (free_partial (lane_at (lanes_of self.old) lane) key) }

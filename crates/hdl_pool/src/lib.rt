@@ -61,6 +61,6 @@ pub use laws::{
     at_most_four, freed_is_gone, kept_is_collected, message_is_whole, nothing_came, others_stay,
     repeated_is_ignored, taken_is_so_far, whole_is_message,
 };
-pub use piece::Key;
+pub use piece::MessageKey;
 pub use pool::Pool;
 pub use taken::{PoolFault, Taken};

@@ -8,21 +8,21 @@ use hdl_frame::{Envelope, Frame};
 
 /// Whose message a piece belongs to, within a lane: the peer that sent it, and the SessionId and RequestId of its envelope.
 #[derive(Clone, Copy, Debug, PartialEq, Eq)]
-pub struct Key {
+pub struct MessageKey {
     /// Who sent it: on a stream 0, of datagrams the peer's number.
     pub peer: u16,
     pub session: u32,
     pub request: u32,
 }
 
-impl Key {
+impl MessageKey {
     ghost use Rattle.hdl_pool.specs.Partial.{key_of};
 
     /// The key of a frame with this envelope from this peer.
-    pub(crate) fn of(peer: u16, envelope: &Envelope) -> Key
+    pub(crate) fn of(peer: u16, envelope: &Envelope) -> MessageKey
         ensures key { result ≡ key_of peer envelope.now }
     {
-        Key {
+        MessageKey {
             peer,
             session: envelope.session,
             request: envelope.request,
@@ -33,7 +33,7 @@ impl Key {
 /// What a frame with TC says of its message.
 #[derive(Clone, Copy, Debug)]
 pub(crate) struct Arrival<'a> {
-    pub(crate) key: Key,
+    pub(crate) key: MessageKey,
     /// How many octets the whole message has.
     pub(crate) message_len: u32,
     /// The piece's number, from 0 on.
@@ -55,7 +55,7 @@ impl<'a> Arrival<'a> {
     {
         let envelope = frame.envelope;
         Arrival {
-            key: Key::of(peer, &envelope),
+            key: MessageKey::of(peer, &envelope),
             message_len: envelope.length,
             number: envelope.sequence,
             payload: frame.payload(),

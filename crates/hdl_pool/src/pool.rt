@@ -7,7 +7,7 @@ ghost use Rattle.hdl_pool.specs.Partial.{key_of, piece_of};
 ghost use Rattle.hdl_pool.specs.Taking.{lane_at, take_piece, free_partial, fate_of};
 
 use crate::cells::Cells;
-use crate::piece::{Arrival, Key};
+use crate::piece::{Arrival, MessageKey};
 use crate::taken::{PoolFault, Taken};
 use hdl_frame::{Envelope, Frame};
 use hdl_limits::LANES;
@@ -67,7 +67,8 @@ impl Pool {
         requires { lane < LANES }
         ensures lanes { self.new ≡ slice_set self.old lane (free_partial (lane_at self.old lane) (key_of peer envelope.now)) }
     {
-        self.cells.free(lane as usize, Key::of(peer, envelope));
+        self.cells
+            .free(lane as usize, MessageKey::of(peer, envelope));
     }
 
     /// Drops all partial messages of the lane. It takes no memory.

@@ -6,7 +6,7 @@ use crate::rows::are;
 use hdl_name::Name;
 use hdl_rows::{PlainRows, Rows};
 use hdl_sqlrows::LoadFault;
-use hdl_sqlrows::known::{Found, tables_of};
+use hdl_sqlrows::known::{FoundDatabase, tables_of};
 use hdl_sqlrows::load::load;
 use sqlite::{Connection, MemStore};
 use std::alloc::Global;
@@ -78,7 +78,7 @@ const UNSOUND: [(&str, &str, LoadFault); 9] = [
 /// The rows of a database, in a table in memory.
 fn load_rows(alloc: Global, conn: &mut Connection<MemStore>) -> Result<PlainRows, LoadFault> {
     let mut rows = PlainRows::new(alloc);
-    if tables_of(conn) != Found::Tables || !conn.is_autocommit() {
+    if tables_of(conn) != FoundDatabase::Tables || !conn.is_autocommit() {
         return Err(LoadFault::Store);
     }
     load(conn, alloc, &mut rows, &mut Deaf)?;

@@ -28,7 +28,7 @@ mod table;
 use hdl_replay::replay;
 use hdl_rows::Rows;
 use lanes::{print_rings, print_text};
-use play::{Ending, each_call, play};
+use play::{PlayResult, each_call, play};
 use row::row_of;
 use std::alloc::Global;
 use std::io::Read;
@@ -112,7 +112,7 @@ fn compare_tables(rt: &HostRuntime, name: &str) -> io::Result<bool> {
 }
 
 /// Plays a row in the way that the word says. None: there's no such way.
-fn played_as(rt: &HostRuntime, way: &str, name: &str) -> Option<Ending> {
+fn played_as(rt: &HostRuntime, way: &str, name: &str) -> Option<PlayResult> {
     let Some(row) = row_of(rt, name) else {
         return None;
     };
@@ -132,15 +132,15 @@ fn print_play(rt: &HostRuntime, line: &str) -> io::Result<bool> {
         None => None,
     };
     match played {
-        Some(Ending::Right { refusals: 0 | 1 }) => println!(rt; "{line}: as expected")?,
-        Some(Ending::Right { refusals }) => println!(rt; "{line}: refused {refusals} times")?,
-        Some(Ending::Wrong { event }) => println!(rt;
+        Some(PlayResult::Right { refusals: 0 | 1 }) => println!(rt; "{line}: as expected")?,
+        Some(PlayResult::Right { refusals }) => println!(rt; "{line}: refused {refusals} times")?,
+        Some(PlayResult::Wrong { event }) => println!(rt;
             "{line}: event {event} came to another outcome"
         )?,
-        Some(Ending::Unopened) => println!(rt; "{line}: not opened")?,
+        Some(PlayResult::Unopened) => println!(rt; "{line}: not opened")?,
         None => println!(rt; "{line}: no such row")?,
     }
-    Ok(matches!(played, Some(Ending::Right { refusals: 0 | 1 })))
+    Ok(matches!(played, Some(PlayResult::Right { refusals: 0 | 1 })))
 }
 
 /// Fills the room with standard input, and tells how many octets there were.

@@ -4,7 +4,7 @@ ghost use Rattle.std.specs.Prelude.{◌≡◌, IfSome, false};
 ghost use Rattle.hdl_laws.specs.Runs.{is_busy};
 ghost use Rattle.hdl_rows.specs.Table.{no_rows};
 
-use crate::row::{Row, TRIES};
+use crate::row::{StoredScript, TRIES};
 use crate::table::{Table, empty_rows};
 use hdl_core::{Early, Rows, Service, Tenants};
 use hdl_events::{Event, Outcome};
@@ -15,7 +15,7 @@ const MOST_CALLS: u64 = 1000;
 
 /// What came of playing a row.
 #[derive(Clone, Copy)]
-pub(crate) enum Ending {
+pub(crate) enum PlayResult {
     /// The service couldn't be opened.
     Unopened,
     /// Each event came to its outcome, and so many were Busy or came back before.
@@ -103,7 +103,7 @@ fn play_events<R: Rows + Drop>(
     service: &mut Service<R>,
     script: &str,
     expected: &str,
-) -> Ending {
+) -> PlayResult {
     let mut refusals = 0;
     let mut expected = expected.lines();
     let mut event = 0usize;
@@ -111,48 +111,48 @@ fn play_events<R: Rows + Drop>(
         event = event.saturating_add(1);
         let wanted = expected.next().unwrap_or("");
         if !is_answered(rt, service, line, wanted, &mut refusals) {
-            return Ending::Wrong { event };
+            return PlayResult::Wrong { event };
         }
     }
     match expected.next() {
-        Some("status 0") => Ending::Right { refusals },
-        _ => Ending::Wrong { event },
+        Some("status 0") => PlayResult::Right { refusals },
+        _ => PlayResult::Wrong { event },
     }
 }
 
 /// Plays a row over an empty table.
-fn play_over<R: Rows + Drop>(rt: &HostRuntime, row: &Row, rows: R) -> Ending
+fn play_over<R: Rows + Drop>(rt: &HostRuntime, row: &StoredScript, rows: R) -> PlayResult
     requires empty { R.content rows ≡ no_rows }
 {
     let parts = parts_of(&row.script);
     match open_service(rt, parts.tenants, rows) {
         Some(mut service) => play_events(rt, &mut service, parts.script, &row.expected),
-        None => Ending::Unopened,
+        None => PlayResult::Unopened,
     }
 }
 
 /// Plays a row over an empty table whose nth call is refused, none with 0. What can't be opened is tried once more.
-pub(crate) fn play(rt: &HostRuntime, row: &Row, table: Table, nth: u64) -> Ending {
+pub(crate) fn play(rt: &HostRuntime, row: &StoredScript, table: Table, nth: u64) -> PlayResult {
     for _ in 0..TRIES {
         let ending = match empty_rows(rt.alloc(), table, nth) {
             Some(rows) => play_over(rt, row, rows),
-            None => Ending::Unopened,
+            None => PlayResult::Unopened,
         };
-        if !matches!(ending, Ending::Unopened) {
+        if !matches!(ending, PlayResult::Unopened) {
             return ending;
         }
     }
-    Ending::Unopened
+    PlayResult::Unopened
 }
 
 /// Plays a row with each call of the table refused in turn that follows the opening, until a whole row meets none.
-pub(crate) fn each_call(rt: &HostRuntime, row: &Row, table: Table) -> Ending {
+pub(crate) fn each_call(rt: &HostRuntime, row: &StoredScript, table: Table) -> PlayResult {
     for nth in 1..=MOST_CALLS {
         match play(rt, row, table, nth) {
             // a call of the opening, or one behind it
-            Ending::Unopened | Ending::Right { refusals: 1 } => {}
+            PlayResult::Unopened | PlayResult::Right { refusals: 1 } => {}
             ending => return ending,
         }
     }
-    Ending::Unopened
+    PlayResult::Unopened
 }

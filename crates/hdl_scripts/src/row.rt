@@ -7,19 +7,19 @@ pub(crate) const TRIES: u32 = 2;
 
 /// A script, and the lines that it is to print with its exit status behind them.
 #[derive(Drop)]
-pub(crate) struct Row {
+pub(crate) struct StoredScript {
     pub script: String,
     pub expected: String,
 }
 
-fn read(rt: &HostRuntime, name: &str) -> io::Result<Row> {
+fn read(rt: &HostRuntime, name: &str) -> io::Result<StoredScript> {
     let script = fs::read_to_string(rt, format!(in rt.alloc(); "{name}.script")?)?;
     let expected = fs::read_to_string(rt, format!(in rt.alloc(); "{name}.expected")?)?;
-    Ok(Row { script, expected })
+    Ok(StoredScript { script, expected })
 }
 
 /// The row of this name in the folder. None: it can't be read.
-pub(crate) fn row_of(rt: &HostRuntime, name: &str) -> Option<Row> {
+pub(crate) fn row_of(rt: &HostRuntime, name: &str) -> Option<StoredScript> {
     for _ in 0..TRIES {
         if let Ok(row) = read(rt, name) {
             return Some(row);

@@ -14,7 +14,7 @@ use sqlite_value::value::{Bytes, Value};
 
 /// What a database that was there already is.
 #[derive(Clone, Copy, Debug, PartialEq, Eq, Drop)]
-pub enum Found {
+pub enum FoundDatabase {
     /// Without a table, as a new file is.
     Nothing,
     /// The tables of the layout, and nothing else.
@@ -24,17 +24,17 @@ pub enum Found {
 }
 
 /// Whether a database has the tables of the layout and nothing else, or no table at all.
-pub fn tables_of<S: Alter>(conn: &Connection<S>) -> Found
-    ensures nothing { (result ≡ Found.Nothing) ↔ ((state S.Store conn.now).now.schema ≡ no_schema) }
-    ensures tables { (result ≡ Found.Tables) ↔ ((state S.Store conn.now).now.schema ≡ layout) }
+pub fn tables_of<S: Alter>(conn: &Connection<S>) -> FoundDatabase
+    ensures nothing { (result ≡ FoundDatabase.Nothing) ↔ ((state S.Store conn.now).now.schema ≡ no_schema) }
+    ensures tables { (result ≡ FoundDatabase.Tables) ↔ ((state S.Store conn.now).now.schema ≡ layout) }
 {
     let schema = conn.schema();
     if is_layout(schema) {
-        Found::Tables
+        FoundDatabase::Tables
     } else if is_empty(schema) {
-        Found::Nothing
+        FoundDatabase::Nothing
     } else {
-        Found::Other
+        FoundDatabase::Other
     }
 }
 

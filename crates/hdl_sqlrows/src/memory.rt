@@ -5,14 +5,14 @@ ghost use Rattle.hdl_name.specs.Name.{authority as authority_of};
 ghost use Rattle.hdl_rows.specs.Table.{no_rows, has, with_new_handle, with_values, without_values, without_handle, AreDistinct, AreAbsent, ArePresent, indexes};
 ghost use Rattle.hdl_sqlrows.specs.Stored.{IsBlank, IsBetweenCalls, state_of, table_of};
 
-use crate::fault::Fault;
+use crate::fault::StoreFault;
 use crate::{layout, writes};
 use hdl_value::Value;
 use sqlite::{Connection, MemStore};
 use std::alloc::Global;
 
 /// Makes the tables in a database that has none.
-pub(crate) fn make_tables(conn: &mut Connection<MemStore>) -> Result<(), Fault>
+pub(crate) fn make_tables(conn: &mut Connection<MemStore>) -> Result<(), StoreFault>
     requires mode { conn.old.in_transaction ≡ false }
     requires blank { IsBlank (state_of conn.old) }
     ensures settled { OnOk result (IsBetweenCalls (state_of conn.new)) }
@@ -28,7 +28,7 @@ pub(crate) fn create(
     name: &[u8],
     authority: &[u8],
     values: &[Value],
-) -> Result<(), Fault>
+) -> Result<(), StoreFault>
     requires settled { IsBetweenCalls (state_of conn.old) }
     requires authority { authority.now ≡ authority_of name.now }
     requires none { has (table_of conn.old) name.now ≡ false }
@@ -47,7 +47,7 @@ pub(crate) fn add(
     alloc: Global,
     name: &[u8],
     values: &[Value],
-) -> Result<(), Fault>
+) -> Result<(), StoreFault>
     requires settled { IsBetweenCalls (state_of conn.old) }
     requires absent { AreAbsent (table_of conn.old) name.now (indexes values.now) }
     requires distinct { AreDistinct (indexes values.now) }
@@ -64,7 +64,7 @@ pub(crate) fn modify(
     alloc: Global,
     name: &[u8],
     values: &[Value],
-) -> Result<(), Fault>
+) -> Result<(), StoreFault>
     requires settled { IsBetweenCalls (state_of conn.old) }
     requires there { ArePresent (table_of conn.old) name.now (indexes values.now) }
     ensures settled { IsBetweenCalls (state_of conn.new) }
@@ -79,7 +79,7 @@ pub(crate) fn remove(
     conn: &mut Connection<MemStore>,
     name: &[u8],
     indexes: &[u32],
-) -> Result<(), Fault>
+) -> Result<(), StoreFault>
     requires settled { IsBetweenCalls (state_of conn.old) }
     ensures settled { IsBetweenCalls (state_of conn.new) }
     ensures done { OnOk result (table_of conn.new ≡ without_values (table_of conn.old) name.now indexes.now) }
@@ -89,7 +89,7 @@ pub(crate) fn remove(
 }
 
 /// Takes a handle away, and its values with it.
-pub(crate) fn delete(conn: &mut Connection<MemStore>, name: &[u8]) -> Result<(), Fault>
+pub(crate) fn delete(conn: &mut Connection<MemStore>, name: &[u8]) -> Result<(), StoreFault>
     requires settled { IsBetweenCalls (state_of conn.old) }
     requires there { has (table_of conn.old) name.now ≡ true }
     ensures settled { IsBetweenCalls (state_of conn.new) }

@@ -13,7 +13,7 @@ ghost use Rattle.hdl_sqlrows.specs.Layout.{no_schema};
 ghost use Rattle.hdl_sqlrows.specs.Stored.{IsInside, IsBetweenCalls, IsBlank, IsBare};
 ghost use Rattle.hdl_sqlrows.specs.Opening.{First, Base, handle, base_in, filed_base, no_base, HasFiled, CrashKeeps, with_first, noted_with, opened_with, left_to_open, absent, place_of, first_at, AreFree, IsOpenedRow, OnlyLooks};
 
-use crate::fault::Fault;
+use crate::fault::StoreFault;
 use crate::layout::make_within;
 use crate::put::{put_entry, put_handle};
 use crate::transaction::finish;
@@ -30,7 +30,7 @@ pub fn open_new<S: Alter>(
     conn: &mut Connection<S>,
     alloc: Global,
     opening: &[(Name, Value)],
-) -> Result<(), Fault>
+) -> Result<(), StoreFault>
     requires mode { conn.old.in_transaction ≡ false }
     requires blank { WhereOpen (state S.Store conn.old) (IsBlank (state S.Store conn.old)) }
     requires distinct { AllPairs (λ (p q : Place). p ≢ q) (map place_of opening.now) }
@@ -54,7 +54,7 @@ pub fn open_more<S: Alter>(
     conn: &mut Connection<S>,
     alloc: Global,
     opening: &[(Name, Value)],
-) -> Result<(), Fault>
+) -> Result<(), StoreFault>
     requires mode { conn.old.in_transaction ≡ false }
     requires settled { WhereOpen (state S.Store conn.old) (IsBetweenCalls (state S.Store conn.old)) }
     requires placed { WhereOpen (state S.Store conn.old) (IsPlaced (filed_table (state S.Store conn.old))) }
@@ -81,7 +81,7 @@ pub fn are_opened<S: Alter>(
     conn: &mut Connection<S>,
     alloc: Global,
     opening: &[(Name, Value)],
-) -> Result<bool, Fault>
+) -> Result<bool, StoreFault>
     requires mode { conn.old.in_transaction ≡ false }
     requires settled { WhereOpen (state S.Store conn.old) (IsBetweenCalls (state S.Store conn.old)) }
     ensures mode { conn.new.in_transaction ≡ false }
@@ -94,7 +94,7 @@ pub fn are_opened<S: Alter>(
     let _ = conn.schema();
     let mut tx = conn.transaction();
     let unopened = unopened_of(&mut tx, alloc, opening);
-    let _taken_back = finish(tx, Err(Fault));
+    let _taken_back = finish(tx, Err(StoreFault));
     Ok(unopened?.is_empty())
 }
 
@@ -110,7 +110,7 @@ fn make_and_open<S: Alter>(
     tx: &mut Transaction<'_, S>,
     alloc: Global,
     opening: &[(Name, Value)],
-) -> Result<(), Fault>
+) -> Result<(), StoreFault>
     requires bare { WhereOpen (state S.Store tx.old.conn.now) (IsBare no_schema (state S.Store tx.old.conn.now)) }
     requires distinct { AllPairs (λ (p q : Place). p ≢ q) (map place_of opening.now) }
     ensures same_reference { tx.new.conn.ghost_name ≡ tx.old.conn.ghost_name }
@@ -124,7 +124,7 @@ fn make_and_open<S: Alter>(
 }
 
 /// Whether the handle is in the table.
-fn is_there<S: Alter>(tx: &mut Transaction<'_, S>, name: &[u8]) -> Result<bool, Fault>
+fn is_there<S: Alter>(tx: &mut Transaction<'_, S>, name: &[u8]) -> Result<bool, StoreFault>
     requires inside { WhereOpen (state S.Store tx.old.conn.now) (IsInside (state S.Store tx.old.conn.now)) }
     ensures same_reference { tx.new.conn.ghost_name ≡ tx.old.conn.ghost_name }
     ensures survives { Survives (state S.Store tx.old.conn.now) (state S.Store tx.new.conn.now) (λ _. ⊥) }
@@ -137,7 +137,7 @@ fn is_there<S: Alter>(tx: &mut Transaction<'_, S>, name: &[u8]) -> Result<bool, 
 }
 
 /// Whether the handle was opened.
-fn was_opened<S: Alter>(tx: &mut Transaction<'_, S>, name: &[u8]) -> Result<bool, Fault>
+fn was_opened<S: Alter>(tx: &mut Transaction<'_, S>, name: &[u8]) -> Result<bool, StoreFault>
     requires inside { WhereOpen (state S.Store tx.old.conn.now) (IsInside (state S.Store tx.old.conn.now)) }
     requires named { WhereOpen (state S.Store tx.old.conn.now) (AllByRecursion IsOpenedRow ((state S.Store tx.old.conn.now).now.trees 4)) }
     ensures same_reference { tx.new.conn.ghost_name ≡ tx.old.conn.ghost_name }
@@ -151,7 +151,7 @@ fn was_opened<S: Alter>(tx: &mut Transaction<'_, S>, name: &[u8]) -> Result<bool
 }
 
 /// Notes that a handle was opened, which isn't noted yet.
-fn note<S: Alter>(tx: &mut Transaction<'_, S>, name: &[u8]) -> Result<(), Fault>
+fn note<S: Alter>(tx: &mut Transaction<'_, S>, name: &[u8]) -> Result<(), StoreFault>
     requires inside { WhereOpen (state S.Store tx.old.conn.now) (IsInside (state S.Store tx.old.conn.now)) }
     requires named { WhereOpen (state S.Store tx.old.conn.now) (AllByRecursion IsOpenedRow ((state S.Store tx.old.conn.now).now.trees 4)) }
     ensures same_reference { tx.new.conn.ghost_name ≡ tx.old.conn.ghost_name }
@@ -170,7 +170,7 @@ fn put_missing<S: Alter>(
     tx: &mut Transaction<'_, S>,
     name: &[u8],
     authority: &[u8],
-) -> Result<(), Fault>
+) -> Result<(), StoreFault>
     requires inside { WhereOpen (state S.Store tx.old.conn.now) (IsInside (state S.Store tx.old.conn.now)) }
     requires authority { authority.now ≡ authority_of name.now }
     ensures same_reference { tx.new.conn.ghost_name ≡ tx.old.conn.ghost_name }
@@ -192,7 +192,7 @@ fn put_first<S: Alter>(
     alloc: Global,
     name: &Name,
     value: &Value,
-) -> Result<(), Fault>
+) -> Result<(), StoreFault>
     requires inside { WhereOpen (state S.Store tx.old.conn.now) (IsInside (state S.Store tx.old.conn.now)) }
     requires free { WhereOpen (state S.Store tx.old.conn.now) (at (draft_table (state S.Store tx.old.conn.now)) (place_of (name.now, value.now)) ≡ None) }
     ensures same_reference { tx.new.conn.ghost_name ≡ tx.old.conn.ghost_name }
@@ -211,7 +211,7 @@ fn put_firsts<S: Alter>(
     tx: &mut Transaction<'_, S>,
     alloc: Global,
     firsts: &[&(Name, Value)],
-) -> Result<(), Fault>
+) -> Result<(), StoreFault>
     requires inside { WhereOpen (state S.Store tx.old.conn.now) (IsInside (state S.Store tx.old.conn.now)) }
     requires free { WhereOpen (state S.Store tx.old.conn.now) (AreFree (draft_table (state S.Store tx.old.conn.now)) (map first_at firsts.now)) }
     ensures same_reference { tx.new.conn.ghost_name ≡ tx.old.conn.ghost_name }
@@ -228,7 +228,7 @@ fn put_firsts<S: Alter>(
 }
 
 /// Notes that a handle was opened, unless it is noted already.
-fn note_once<S: Alter>(tx: &mut Transaction<'_, S>, name: &[u8]) -> Result<(), Fault>
+fn note_once<S: Alter>(tx: &mut Transaction<'_, S>, name: &[u8]) -> Result<(), StoreFault>
     requires inside { WhereOpen (state S.Store tx.old.conn.now) (IsInside (state S.Store tx.old.conn.now)) }
     requires named { WhereOpen (state S.Store tx.old.conn.now) (AllByRecursion IsOpenedRow ((state S.Store tx.old.conn.now).now.trees 4)) }
     ensures same_reference { tx.new.conn.ghost_name ≡ tx.old.conn.ghost_name }
@@ -249,7 +249,7 @@ fn note_once<S: Alter>(tx: &mut Transaction<'_, S>, name: &[u8]) -> Result<(), F
 fn note_firsts<S: Alter>(
     tx: &mut Transaction<'_, S>,
     firsts: &[&(Name, Value)],
-) -> Result<(), Fault>
+) -> Result<(), StoreFault>
     requires inside { WhereOpen (state S.Store tx.old.conn.now) (IsInside (state S.Store tx.old.conn.now)) }
     requires named { WhereOpen (state S.Store tx.old.conn.now) (AllByRecursion IsOpenedRow ((state S.Store tx.old.conn.now).now.trees 4)) }
     ensures same_reference { tx.new.conn.ghost_name ≡ tx.old.conn.ghost_name }
@@ -270,7 +270,7 @@ fn push_unless<'a>(
     firsts: &mut Vec<&'a (Name, Value)>,
     first: &'a (Name, Value),
     is_out: bool,
-) -> Result<(), Fault>
+) -> Result<(), StoreFault>
     ensures { OnOk result (map first_at firsts.new.items ≡ map first_at firsts.old.items ++ filter (λ (_ : First). not is_out) (first.now ∷ [])) }
 {
     if !is_out {
@@ -284,7 +284,7 @@ fn unopened_of<'a, S: Alter>(
     tx: &mut Transaction<'_, S>,
     alloc: Global,
     opening: &'a [(Name, Value)],
-) -> Result<Vec<&'a (Name, Value)>, Fault>
+) -> Result<Vec<&'a (Name, Value)>, StoreFault>
     requires inside { WhereOpen (state S.Store tx.old.conn.now) (IsInside (state S.Store tx.old.conn.now)) }
     requires named { WhereOpen (state S.Store tx.old.conn.now) (AllByRecursion IsOpenedRow ((state S.Store tx.old.conn.now).now.trees 4)) }
     ensures same_reference { tx.new.conn.ghost_name ≡ tx.old.conn.ghost_name }
@@ -306,7 +306,7 @@ fn absent_of<'a, S: Alter>(
     tx: &mut Transaction<'_, S>,
     alloc: Global,
     opening: &[&'a (Name, Value)],
-) -> Result<Vec<&'a (Name, Value)>, Fault>
+) -> Result<Vec<&'a (Name, Value)>, StoreFault>
     requires inside { WhereOpen (state S.Store tx.old.conn.now) (IsInside (state S.Store tx.old.conn.now)) }
     ensures same_reference { tx.new.conn.ghost_name ≡ tx.old.conn.ghost_name }
     ensures survives { Survives (state S.Store tx.old.conn.now) (state S.Store tx.new.conn.now) (λ _. ⊥) }
@@ -328,7 +328,7 @@ fn open_within<S: Alter>(
     tx: &mut Transaction<'_, S>,
     alloc: Global,
     opening: &[(Name, Value)],
-) -> Result<(), Fault>
+) -> Result<(), StoreFault>
     requires inside { WhereOpen (state S.Store tx.old.conn.now) (IsInside (state S.Store tx.old.conn.now)) }
     requires named { WhereOpen (state S.Store tx.old.conn.now) (AllByRecursion IsOpenedRow ((state S.Store tx.old.conn.now).now.trees 4)) }
     requires placed { WhereOpen (state S.Store tx.old.conn.now) (IsPlaced (draft_table (state S.Store tx.old.conn.now))) }

@@ -10,7 +10,7 @@ ghost use Rattle.hdl_sqlrows.specs.Filed.{WhereOpen, KeepsCommitted, IsDraft, dr
 ghost use Rattle.hdl_sqlrows.specs.Stored.{IsInside};
 ghost use Rattle.hdl_sqlrows.specs.Shows.{AreShort};
 
-use crate::fault::Fault;
+use crate::fault::StoreFault;
 use crate::put::refs_of;
 use hdl_value::Value;
 use sqlite::{Alter, Transaction, params};
@@ -22,7 +22,7 @@ fn replace_cells<'x, S: Alter>(
     name: &'x [u8],
     value: &'x Value,
     refs: &'x [u8],
-) -> Result<(), Fault>
+) -> Result<(), StoreFault>
     requires inside { WhereOpen (state S.Store tx.old.conn.now) (IsInside (state S.Store tx.old.conn.now)) }
     requires spelt { refs.now ≡ references value.now.references }
     requires short { AreShort value.now.references }
@@ -56,7 +56,7 @@ fn replace_entry<S: Alter>(
     alloc: Global,
     name: &[u8],
     value: &Value,
-) -> Result<(), Fault>
+) -> Result<(), StoreFault>
     requires inside { WhereOpen (state S.Store tx.old.conn.now) (IsInside (state S.Store tx.old.conn.now)) }
     requires there { WhereOpen (state S.Store tx.old.conn.now) (at (draft_table (state S.Store tx.old.conn.now)) (place name.now value.now.index) ≢ None) }
     ensures same_reference { tx.new.conn.ghost_name ≡ tx.old.conn.ghost_name }
@@ -75,7 +75,7 @@ pub(crate) fn replace_entries<S: Alter>(
     alloc: Global,
     name: &[u8],
     values: &[Value],
-) -> Result<(), Fault>
+) -> Result<(), StoreFault>
     requires inside { WhereOpen (state S.Store tx.old.conn.now) (IsInside (state S.Store tx.old.conn.now)) }
     requires there { WhereOpen (state S.Store tx.old.conn.now) (ArePresent (draft_table (state S.Store tx.old.conn.now)) name.now (indexes values.now)) }
     ensures same_reference { tx.new.conn.ghost_name ≡ tx.old.conn.ghost_name }

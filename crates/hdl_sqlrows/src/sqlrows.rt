@@ -3,7 +3,7 @@
 ghost use Rattle.std.specs.Prelude.{◌≡◌, IfOk, MatchResult, IsErr, Ok};
 ghost use Rattle.hdl_rows.specs.Table.{no_rows, refusals_after};
 
-use crate::fault::Fault;
+use crate::fault::StoreFault;
 use crate::{memory, queries};
 use hdl_limits::Octets;
 use hdl_name::Name;
@@ -55,7 +55,7 @@ impl SqlRows {
 }
 
 /// Counts a call that was refused.
-fn tally<T>(refusals: &mut u64, outcome: Result<T, Fault>) -> Result<T, Refused>
+fn tally<T>(refusals: &mut u64, outcome: Result<T, StoreFault>) -> Result<T, Refused>
     ensures count { refusals.new ≡ refusals_after outcome refusals.old }
     ensures same { MatchResult outcome (λ x. result ≡ Ok x) (λ _. IsErr result) }
 {

@@ -8,7 +8,7 @@ use Rattle.std.proofs.lemmas.Bool.{ltb-false}
 use Rattle.std.proofs.lemmas.List.Folds.{list_any_at}
 use Rattle.std.proofs.lemmas.List.Quantifiers.{position-Some}
 use Rattle.std.proofs.lemmas.List.Sums.{fails_before_first}
-use Rattle.hdl_trail.specs.declared.kept.Key.{Key}
+use Rattle.hdl_trail.specs.declared.kept.MessageKey.{MessageKey}
 use Rattle.hdl_trail.specs.declared.kept.Mark.{Mark}
 use Rattle.hdl_trail.specs.declared.exchange.Exchange.{Exchange}
 use Rattle.hdl_trail.specs.Followed.{is_of, is_response, with_frame, with_frame_among, with_piece, put_behind, first_mark}
@@ -50,22 +50,22 @@ response_of_eq None b is e = absurd (cc)
 response_of_eq (Some n) b is e = sym is ∙ e
 
 -- the one that is found stands at the place that is found
-found_first : (key : Key) (ms : List Mark) (i : ℕ) (d : Mark) → i < length ms → is_of key (get_or ms i d) ≡ true → ((k : ℕ) → k < i → is_of key (get_or ms k d) ≡ false) → find (is_of key) ms ≡ Some (get_or ms i d)
+found_first : (key : MessageKey) (ms : List Mark) (i : ℕ) (d : Mark) → i < length ms → is_of key (get_or ms i d) ≡ true → ((k : ℕ) → k < i → is_of key (get_or ms k d) ≡ false) → find (is_of key) ms ≡ Some (get_or ms i d)
 found_first key [] i d lt here before = absurd (omega arith)
 found_first key (m ∷ ms) zero d lt here before = rw here refl
 found_first key (m ∷ ms) (suc i) d lt here before =
     let other : is_of key m ≡ false = before 0 (omega arith) in
     rw other (found_first key ms i d (omega arith) here (λ k below. before (suc k) (omega arith)))
 
-pub find_found : (key : Key) (ms : List Mark) (i : ℕ) (d : Mark) → position (is_of key) ms ≡ Some i → find (is_of key) ms ≡ Some (get_or ms i d)
+pub find_found : (key : MessageKey) (ms : List Mark) (i : ℕ) (d : Mark) → position (is_of key) ms ≡ Some i → find (is_of key) ms ≡ Some (get_or ms i d)
 find_found key ms i d found = let first = position-Some (is_of key) ms i d found in found_first key ms i d first.0 first.1 first.2
 
-pub find_missed : (key : Key) (ms : List Mark) → position (is_of key) ms ≡ None → find (is_of key) ms ≡ None
+pub find_missed : (key : MessageKey) (ms : List Mark) → position (is_of key) ms ≡ None → find (is_of key) ms ≡ None
 find_missed key ms none =
     let past = ltb-false _ _ (not_some _ _ none) in
     missing key ms (λ k d lt. fails_before_first (is_of key) ms k d (omega (arith, past)))
   where
-    missing : (key : Key) (ms : List Mark) → ((k : ℕ) (d : Mark) → k < length ms → is_of key (get_or ms k d) ≡ false) → find (is_of key) ms ≡ None
+    missing : (key : MessageKey) (ms : List Mark) → ((k : ℕ) (d : Mark) → k < length ms → is_of key (get_or ms k d) ≡ false) → find (is_of key) ms ≡ None
     missing key [] each = refl
     missing key (m ∷ ms) each =
         let other : is_of key m ≡ false = each 0 m (omega arith) in

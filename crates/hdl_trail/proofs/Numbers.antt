@@ -6,7 +6,7 @@ use Rattle.std.proofs.lemmas.List.{length-append, length-map}
 use Rattle.std.proofs.lemmas.List.Folds.{list_any-append}
 use Rattle.std.proofs.lemmas.Map.Views.{any-filter_same}
 use Rattle.hdl_trail.specs.declared.kept.Mark.{Mark}
-use Rattle.hdl_trail.specs.declared.kept.Sent.{Sent}
+use Rattle.hdl_trail.specs.declared.kept.SentChallenge.{SentChallenge}
 use Rattle.hdl_trail.specs.declared.exchange.Exchange.{Exchange}
 use Rattle.hdl_trail.specs.Followed.{Followed, is_held}
 use Rattle.hdl_trail.specs.Peers.{is_under_way}
@@ -56,7 +56,7 @@ marks_any : (n : ℕ) (ms : List Mark) → list_any (λ x. eqb x n) (map (λ m. 
 marks_any n [] = refl
 marks_any n (m ∷ ms) = ap (λ (b : Bool). eqb m.key.number n || b) (marks_any n ms)
 
-sent_any : (n : ℕ) (ss : List Sent) → list_any (λ x. eqb x n) (map (λ s. s.number) ss) ≡ list_any (λ s. eqb s.number n) ss
+sent_any : (n : ℕ) (ss : List SentChallenge) → list_any (λ x. eqb x n) (map (λ s. s.number) ss) ≡ list_any (λ s. eqb s.number n) ss
 sent_any n [] = refl
 sent_any n (s ∷ ss) = ap (λ (b : Bool). eqb s.number n || b) (sent_any n ss)
 
@@ -64,15 +64,15 @@ frames_any : (n : ℕ) (es : List Exchange) → list_any (λ x. eqb x n) (map (�
 frames_any n [] = refl
 frames_any n (e ∷ es) = ap (λ (b : Bool). eqb e.key.number n || b) (frames_any n es)
 
-kept_any : (f : Followed) (n : ℕ) → list_any (λ x. eqb x n) (map (λ (m : Mark). m.key.number) f.partials ++ map (λ (s : Sent). s.number) f.challenges) ≡ is_held f n
+kept_any : (f : Followed) (n : ℕ) → list_any (λ x. eqb x n) (map (λ (m : Mark). m.key.number) f.partials ++ map (λ (s : SentChallenge). s.number) f.challenges) ≡ is_held f n
 kept_any f n =
-    list_any-append (λ x. eqb x n) (map (λ (m : Mark). m.key.number) f.partials) (map (λ (s : Sent). s.number) f.challenges)
-    ∙ ap (λ (b : Bool). b || list_any (λ x. eqb x n) (map (λ (s : Sent). s.number) f.challenges)) (marks_any n f.partials)
+    list_any-append (λ x. eqb x n) (map (λ (m : Mark). m.key.number) f.partials) (map (λ (s : SentChallenge). s.number) f.challenges)
+    ∙ ap (λ (b : Bool). b || list_any (λ x. eqb x n) (map (λ (s : SentChallenge). s.number) f.challenges)) (marks_any n f.partials)
     ∙ ap (λ (b : Bool). list_any (λ (m : Mark). eqb m.key.number n) f.partials || b) (sent_any n f.challenges)
 
 held_any : (f : Followed) (es : List Exchange) (n : ℕ) → list_any (λ x. eqb x n) (numbers f es) ≡ is_held f n || is_under_way es n
 held_any f es n =
-    list_any-append (λ x. eqb x n) (map (λ (m : Mark). m.key.number) f.partials ++ map (λ (s : Sent). s.number) f.challenges) (map (λ (e : Exchange). e.key.number) es)
+    list_any-append (λ x. eqb x n) (map (λ (m : Mark). m.key.number) f.partials ++ map (λ (s : SentChallenge). s.number) f.challenges) (map (λ (e : Exchange). e.key.number) es)
     ∙ ap (λ (b : Bool). b || list_any (λ x. eqb x n) (map (λ (e : Exchange). e.key.number) es)) (kept_any f n)
     ∙ ap (λ (b : Bool). is_held f n || b) (frames_any n es)
 
@@ -80,9 +80,9 @@ held_any f es n =
 pub all_held : (f : Followed) (es : List Exchange) (n : ℕ) → ((k : ℕ) → k < n → is_held f (k + 1) || is_under_way es (k + 1) ≡ true) → n ≤ length f.partials + length f.challenges + length es
 all_held f es n each =
     let le = within n (numbers f es) (λ k lt. held_any f es (k + 1) ∙ each k lt) in
-    let a = length-append (map (λ (m : Mark). m.key.number) f.partials) (map (λ (s : Sent). s.number) f.challenges) in
+    let a = length-append (map (λ (m : Mark). m.key.number) f.partials) (map (λ (s : SentChallenge). s.number) f.challenges) in
     let b = length-map f.partials (λ (m : Mark). m.key.number) in
-    let c = length-map f.challenges (λ (s : Sent). s.number) in
-    let d = length-append (map (λ (m : Mark). m.key.number) f.partials ++ map (λ (s : Sent). s.number) f.challenges) (map (λ (e : Exchange). e.key.number) es) in
+    let c = length-map f.challenges (λ (s : SentChallenge). s.number) in
+    let d = length-append (map (λ (m : Mark). m.key.number) f.partials ++ map (λ (s : SentChallenge). s.number) f.challenges) (map (λ (e : Exchange). e.key.number) es) in
     let e = length-map es (λ (e : Exchange). e.key.number) in
     omega arith

@@ -2,7 +2,7 @@
 use Rattle.std.specs.Prelude.{ℕ, ◌+◌, Bool, not, ◌==◌, ◌||◌, nat_le, if◌then◌else◌, List, length, Option, Some, None, option_map}
 use Rattle.hdl_frame.specs.declared.envelope.Envelope.{Envelope}
 use Rattle.hdl_frame.specs.Envelope.{envelope_at, is_truncated, u32_at}
-use Rattle.hdl_trail.specs.declared.kept.Key.{Key}
+use Rattle.hdl_trail.specs.declared.kept.MessageKey.{MessageKey}
 use Rattle.hdl_trail.specs.declared.exchange.Exchange.{Exchange}
 
 -- the number in the four octets from this place on, if there are so many
@@ -10,7 +10,7 @@ abbrev pub number_at : List ℕ → ℕ → Option ℕ
 number_at octets place = if nat_le (place + 4) (length octets) then Some (u32_at octets place) else None
 
 -- whose message a frame of the peer with this number belongs to
-abbrev pub key_of : ℕ → Envelope → Key
+abbrev pub key_of : ℕ → Envelope → MessageKey
 key_of number e = record { number = number; session = e.session; request = e.request }
 
 -- a frame has the front of its message, unless it is a later piece

@@ -6,22 +6,22 @@ use Rattle.hdl_limits.specs.declared.TheConstants.{CHALLENGES_MAX, PARTIALS_MAX}
 use Rattle.hdl_msg.specs.declared.codes.OpCode.TheVariants.{ChallengeResponse}
 use Rattle.hdl_msg.specs.declared.codes.ResponseCode.TheVariants.{AuthenticationNeeded, ProtocolError, ServerBusy}
 use Rattle.hdl_msg.specs.Codes.{op_number, response_number}
-use Rattle.hdl_trail.specs.declared.kept.Key.{Key}
+use Rattle.hdl_trail.specs.declared.kept.MessageKey.{MessageKey}
 use Rattle.hdl_trail.specs.declared.kept.Mark.{Mark}
-use Rattle.hdl_trail.specs.declared.kept.Sent.{Sent}
+use Rattle.hdl_trail.specs.declared.kept.SentChallenge.{SentChallenge}
 use Rattle.hdl_trail.specs.declared.exchange.Exchange.{Exchange}
 
 -- what is followed: the messages of which pieces are kept, and the challenges, each the oldest first
 pub record Followed : Type 0 where
   pub partials : List Mark
-  pub challenges : List Sent
+  pub challenges : List SentChallenge
 
 -- the message is this key's
-abbrev pub is_of : Key → Mark → Bool
+abbrev pub is_of : MessageKey → Mark → Bool
 is_of key m = m.key.number == key.number && m.key.session == key.session && m.key.request == key.request
 
 -- the challenge was sent to this peer, under this SessionId
-abbrev pub is_from : ℕ → ℕ → Sent → Bool
+abbrev pub is_from : ℕ → ℕ → SentChallenge → Bool
 is_from number session s = s.number == number && s.session == session
 
 -- pieces of a message, or a challenge, are kept under the number
@@ -71,14 +71,14 @@ is_response None = false
 is_response (Some operation) = operation == op_number ChallengeResponse
 
 -- a challenge response spends the challenge of its peer and SessionId, unless it is out of the grammar
-abbrev pub redeem : Key → Option ℕ → ℕ → List Sent → List Sent
+abbrev pub redeem : MessageKey → Option ℕ → ℕ → List SentChallenge → List SentChallenge
 redeem key operation code sent =
     if is_response operation && not (code == response_number ProtocolError)
     then filter (λ s. not (is_from key.number key.session s)) sent
     else sent
 
 -- a challenge is put under its SessionId, which no other has then
-abbrev pub add_challenge : ℕ → ℕ → ℕ → List Sent → List Sent
+abbrev pub add_challenge : ℕ → ℕ → ℕ → List SentChallenge → List SentChallenge
 add_challenge number code session sent =
     if code == response_number AuthenticationNeeded
     then put_behind CHALLENGES_MAX (filter (λ s. not (s.session == session)) sent) (record { number = number; session = session })

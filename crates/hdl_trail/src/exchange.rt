@@ -3,13 +3,13 @@
 ghost use Rattle.std.specs.Prelude.{◌≡◌};
 ghost use Rattle.hdl_trail.specs.Exchange.{exchange_of, number_at, reply_of, with_reply};
 
-use crate::kept::Key;
+use crate::kept::MessageKey;
 use hdl_frame::{ENVELOPE_LEN, Envelope, Frame};
 
 /// A frame that came, and what the reply to it said so far.
 #[derive(Clone, Copy, Debug, Default)]
 pub struct Exchange {
-    pub key: Key,
+    pub key: MessageKey,
     /// Whether it is a piece of its message, and how many octets that has.
     pub is_piece: bool,
     pub length: u32,
@@ -56,7 +56,7 @@ impl Exchange {
         let is_piece = envelope.is_truncated();
         let is_front = !is_piece || envelope.sequence == 0;
         Exchange {
-            key: Key {
+            key: MessageKey {
                 number,
                 session: envelope.session,
                 request: envelope.request,

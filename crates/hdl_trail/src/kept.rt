@@ -8,7 +8,7 @@ use arrayvec::ArrayVec;
 
 /// Whose message a frame belongs to: the number of its peer, and its SessionId and RequestId.
 #[derive(Clone, Copy, Debug, Default, PartialEq, Eq)]
-pub struct Key {
+pub struct MessageKey {
     pub number: u16,
     pub session: u32,
     pub request: u32,
@@ -17,7 +17,7 @@ pub struct Key {
 /// A message of which pieces are kept.
 #[derive(Clone, Copy, Debug, Default)]
 pub struct Mark {
-    pub key: Key,
+    pub key: MessageKey,
     /// How many octets the message has.
     pub length: u32,
     /// Its operation, once the piece came in which that stands.
@@ -51,7 +51,7 @@ impl Mark {
     }
 
     /// Whether it is the message of this key.
-    pub fn is_of(&self, key: Key) -> bool
+    pub fn is_of(&self, key: MessageKey) -> bool
         ensures { result ≡ is_of key self.now }
     {
         self.key.number == key.number
@@ -62,12 +62,12 @@ impl Mark {
 
 /// A challenge: to whom it was sent, and under which number of the lane, which is its SessionId.
 #[derive(Clone, Copy, Debug, Default)]
-pub struct Sent {
+pub struct SentChallenge {
     pub number: u16,
     pub session: u32,
 }
 
-impl Sent {
+impl SentChallenge {
     /// Whether it was sent to this peer under this SessionId.
     pub fn is_from(&self, number: u16, session: u32) -> bool
         ensures { result ≡ is_from number session self.now }

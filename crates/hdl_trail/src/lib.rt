@@ -34,6 +34,6 @@ mod peers;
 mod trail;
 
 pub use exchange::Exchange;
-pub use kept::{Key, Mark, Sent};
+pub use kept::{Mark, MessageKey, SentChallenge};
 pub use peers::Peers;
 pub use trail::Trail;

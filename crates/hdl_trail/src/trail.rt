@@ -22,7 +22,7 @@ ghost use Rattle.hdl_trail.specs.Peers.{is_under_way, oldest, reply_seen};
 ghost use Rattle.hdl_trail.specs.Trail.{followed_by};
 
 use crate::exchange::Exchange;
-use crate::kept::{Key, Mark, Sent, put};
+use crate::kept::{Mark, MessageKey, SentChallenge, put};
 use arrayvec::ArrayVec;
 use hdl_frame::Frame;
 use hdl_limits::{CHALLENGES_MAX, PARTIALS_MAX, UNDER_WAY_MAX};
@@ -45,7 +45,7 @@ pub struct Trail {
     /// The partial messages, the oldest first.
     partials: ArrayVec<Mark, PARTIALS_MAX>,
     /// The challenges, the oldest first.
-    challenges: ArrayVec<Sent, CHALLENGES_MAX>,
+    challenges: ArrayVec<SentChallenge, CHALLENGES_MAX>,
     /// The frames that aren't settled, the oldest first.
     under_way: ArrayVec<Exchange, UNDER_WAY_MAX>,
 }
@@ -223,7 +223,7 @@ impl Trail {
     }
 
     /// The message of this key.
-    fn message(&self, key: Key) -> Option<Mark>
+    fn message(&self, key: MessageKey) -> Option<Mark>
         ensures { result ≡ find (is_of key) self.now.partials.items }
     {
         let Some(place) = self.place(key) else {
@@ -233,7 +233,7 @@ impl Trail {
     }
 
     /// The place of the message of this key.
-    fn place(&self, key: Key) -> Option<usize>
+    fn place(&self, key: MessageKey) -> Option<usize>
         ensures { result ≡ position (is_of key) self.now.partials.items }
     {
         let mut partials = self.partials.as_slice().iter();
@@ -267,7 +267,7 @@ impl Trail {
     }
 
     /// A response of this key spends its challenge, if there is one.
-    fn redeem(&mut self, key: Key, operation: Option<u32>, code: u32)
+    fn redeem(&mut self, key: MessageKey, operation: Option<u32>, code: u32)
         ensures under_way { self.new.under_way.items ≡ self.old.under_way.items }
         ensures partials { self.new.partials.items ≡ self.old.partials.items }
         ensures challenges { self.new.challenges.items ≡ redeem key operation code self.old.challenges.items }
@@ -286,7 +286,7 @@ impl Trail {
     {
         if code == CHALLENGE {
             self.challenges.retain(|sent| sent.session != session);
-            put(&mut self.challenges, Sent { number, session });
+            put(&mut self.challenges, SentChallenge { number, session });
         }
     }
 }

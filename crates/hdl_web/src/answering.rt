@@ -8,7 +8,7 @@ use crate::gathering::{Gathered, Gathering, Turn};
 use crate::log::Open;
 use crate::response::response_of;
 use crate::text::OwnText;
-use crate::ways::Way;
+use crate::ways::KeptRedirect;
 use bytes::Bytes;
 use futures::task::{Context, Poll};
 use futures::{Future, ready};
@@ -21,7 +21,7 @@ use std::time::Clock;
 
 /// What a response needs besides its answer.
 #[derive(Drop)]
-pub(crate) struct Seen {
+pub(crate) struct ResponseContext {
     pub(crate) site: Arc<Site>,
     /// The field `If-None-Match` of the request: the tags of what the client has.
     pub(crate) known: Option<String>,
@@ -29,7 +29,7 @@ pub(crate) struct Seen {
     pub(crate) changes: bool,
 }
 
-impl Seen {
+impl ResponseContext {
     /// An answer as the client gets it: a page as the site gives it, or that the client has it already.
     fn answer(&self, alloc: Global, answer: Answer) -> Result<Answer, AllocError> {
         let known = match &self.known {
@@ -45,7 +45,7 @@ impl Seen {
 #[derive(Drop)]
 pub(crate) struct Guest<R> {
     pub(crate) visit: Option<Open<R>>,
-    pub(crate) seen: Option<Seen>,
+    pub(crate) seen: Option<ResponseContext>,
 }
 
 /// The response to a request: one that is there, that a thread makes, or that waits for the request's body.
@@ -138,7 +138,7 @@ fn response_of_text<R: Wait + Clock>(
 fn response_of_way<R: Wait + Clock>(
     alloc: Global,
     guest: &mut Guest<R>,
-    way: &Way,
+    way: &KeptRedirect,
 ) -> Result<Response<Full<Bytes>>, AllocError> {
     if let Some(visit) = &mut guest.visit {
         visit.end_redirect(way.octets());

@@ -7,7 +7,7 @@ use crate::lifetime::lifetime;
 use crate::log::Visit;
 use crate::metrics::Counts;
 use crate::servers::Resolver;
-use crate::ways::{Shelf, Way};
+use crate::ways::{KeptAnswers, KeptRedirect};
 use crate::worker::Errand;
 use crossbeam_channel::Sender;
 use futures::channel::oneshot;
@@ -26,7 +26,7 @@ pub(crate) const WAITING_MOST: usize = 256;
 
 /// What all know of a server.
 #[derive(Drop)]
-pub(crate) struct Post {
+pub(crate) struct ServerRecord {
     pub(crate) asks: Sender<Ask>,
     pub(crate) errands: Option<Sender<Errand>>,
     pub(crate) standing: Mutex<Standing>,
@@ -43,7 +43,7 @@ pub struct Board<R> {
     /// The site of all pages.
     pub(crate) site: Arc<Site>,
     pub(crate) routes: Vec<Route>,
-    pub(crate) posts: Vec<Post>,
+    pub(crate) posts: Vec<ServerRecord>,
     pub(crate) holders: Mutex<Holders>,
     pub(crate) began: Instant,
     /// How many milliseconds an answer of a server may take.
@@ -51,7 +51,7 @@ pub struct Board<R> {
     /// Whether handles are changed.
     pub(crate) writes: bool,
     /// What is kept, and replies for how many milliseconds at most, where any are.
-    pub(crate) shelf: Option<Mutex<Shelf>>,
+    pub(crate) shelf: Option<Mutex<KeptAnswers>>,
     pub(crate) keeps: u64,
     pub(crate) counts: Counts,
     /// How many numbers were drawn, from a random one on, in steps that are odd.
@@ -112,7 +112,7 @@ impl<R: Wait + Clock> Board<R> {
     }
 
     /// The redirect that answers a request of this path alone, if one is kept.
-    pub(crate) fn way(&self, path: &str) -> Option<Arc<Way>> {
+    pub(crate) fn way(&self, path: &str) -> Option<Arc<KeptRedirect>> {
         let shelf = self.shelf.as_ref()?;
         let now = self.now();
         let way = shelf.lock(&self.rt).way(path, now)?;
@@ -219,7 +219,7 @@ impl<R: Wait + Clock> Board<R> {
     }
 
     /// Why the server at this place isn't to be asked, if it isn't.
-    fn obstacle(&self, post: &Post, now: u64) -> Option<Miss> {
+    fn obstacle(&self, post: &ServerRecord, now: u64) -> Option<Miss> {
         if post.standing.lock(&self.rt).is_left_out(now) {
             Some(Miss::Unreachable)
         } else if post.asks.len() >= WAITING_MOST {
@@ -230,7 +230,7 @@ impl<R: Wait + Clock> Board<R> {
     }
 
     /// The next server that is to be asked, if there is one; why those before it aren't is noted.
-    fn next_post(&self, ask: &mut Ask) -> Option<&Post> {
+    fn next_post(&self, ask: &mut Ask) -> Option<&ServerRecord> {
         let Ask { turn, missed, .. } = ask;
         for place in turn {
             let Some(post) = self.posts.get(place) else {
@@ -256,7 +256,7 @@ impl<R: Wait + Clock> Board<R> {
     }
 
     /// Whether a question that waited may be asked now at the server of this post; why not is noted.
-    fn admits(&self, post: &Post, ask: &mut Ask) -> bool {
+    fn admits(&self, post: &ServerRecord, ask: &mut Ask) -> bool {
         let now = self.now();
         if now.saturating_sub(ask.since) > self.limit {
             ask.miss(Miss::Crowded);
@@ -326,7 +326,7 @@ impl<R: Wait + Clock> Board<R> {
         };
         match self.posts.get(*first) {
             Some(
-                Post {
+                ServerRecord {
                     errands: Some(errands),
                     ..
                 },

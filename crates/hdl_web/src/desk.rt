@@ -1,14 +1,14 @@
 //! Where requests come in.
 
-use crate::answering::{Answering, Guest, Seen};
+use crate::answering::{Answering, Guest, ResponseContext};
 use crate::board::Board;
 use crate::gathering::{BODY_MOST, BODY_SECONDS, Counter, Gathering, Turn};
 use crate::log::Open;
 use crate::text::{OwnText, TextKind};
-use crate::ways::Way;
+use crate::ways::KeptRedirect;
 use bytes::Bytes;
 use hdl_proxy::{Next, begin};
-use hdl_writes::{Begun, Order, Sent, begin_with_key};
+use hdl_writes::{Begun, Order, SentRequest, begin_with_key};
 use http::header::{AUTHORIZATION, IF_NONE_MATCH};
 use http_body_util::combinators::Collect;
 use http_body_util::{BodyExt, Full, Limited};
@@ -38,8 +38,8 @@ enum Start<R> {
 }
 
 /// What a request says in its first line.
-fn first_line<B>(req: &Request<B>) -> Sent<'_> {
-    Sent {
+fn first_line<B>(req: &Request<B>) -> SentRequest<'_> {
+    SentRequest {
         method: req.method().as_str(),
         path: req.uri().path(),
         query: req.uri().query().unwrap_or(""),
@@ -48,19 +48,19 @@ fn first_line<B>(req: &Request<B>) -> Sent<'_> {
 }
 
 /// What a request says in its head.
-fn sent_by<B>(req: &Request<B>) -> Sent<'_> {
+fn sent_by<B>(req: &Request<B>) -> SentRequest<'_> {
     let authorization = match req.headers().get(AUTHORIZATION) {
         Some(value) => Some(value.as_bytes()),
         None => None,
     };
-    Sent {
+    SentRequest {
         authorization,
         ..first_line(req)
     }
 }
 
 /// The path of a request that is answered by its path alone.
-fn plain_path(sent: Sent<'_>) -> Option<&str> {
+fn plain_path(sent: SentRequest<'_>) -> Option<&str> {
     if sent.method == "GET" && sent.query.is_empty() {
         Some(sent.path)
     } else {
@@ -85,14 +85,14 @@ impl<R: Wait + Clock + Copy + Drop> Desk<R> {
     }
 
     /// What becomes of a request that comes without a key.
-    fn take(&self, sent: Sent<'_>) -> Result<Turn, AllocError> {
+    fn take(&self, sent: SentRequest<'_>) -> Result<Turn, AllocError> {
         match begin(self.alloc, sent.method, sent.path, sent.query)? {
             Next::Answer(answer) => Ok(Turn::Made(Ok(answer))),
             Next::Ask(question) => self.board.take(question, plain_path(sent)),
         }
     }
 
-    fn begin(&self, sent: Sent<'_>) -> Result<Start<R>, AllocError> {
+    fn begin(&self, sent: SentRequest<'_>) -> Result<Start<R>, AllocError> {
         if !self.board.writes {
             return Ok(Start::Turn(self.take(sent)?));
         }
@@ -111,7 +111,7 @@ impl<R: Wait + Clock + Copy + Drop> Desk<R> {
 
     /// What the response needs of a request. A field that is no text names no tag of ours, nor does one for which there is no memory: then
     /// the whole answer is sent.
-    fn read_fields<B>(&self, req: &Request<B>) -> Result<Seen, AllocError> {
+    fn read_fields<B>(&self, req: &Request<B>) -> Result<ResponseContext, AllocError> {
         let known = match req.headers().get(IF_NONE_MATCH) {
             Some(value) => match value.to_str() {
                 Ok(text) => String::from_str(self.alloc, text).ok(),
@@ -119,7 +119,7 @@ impl<R: Wait + Clock + Copy + Drop> Desk<R> {
             },
             None => None,
         };
-        Ok(Seen {
+        Ok(ResponseContext {
             site: Arc::try_clone(&self.board.site)?,
             known,
             changes: self.board.writes,
@@ -127,12 +127,12 @@ impl<R: Wait + Clock + Copy + Drop> Desk<R> {
     }
 
     /// The redirect that is kept for a request, if one is. No path under `/api/` has one, so a key that came along says nothing.
-    fn way<B>(&self, req: &Request<B>) -> Option<Arc<Way>> {
+    fn way<B>(&self, req: &Request<B>) -> Option<Arc<KeptRedirect>> {
         self.board.way(plain_path(first_line(req))?)
     }
 
     /// What is told of the proxy itself, where that is asked for.
-    fn own_text(&self, sent: Sent<'_>) -> Result<Option<OwnText>, AllocError> {
+    fn own_text(&self, sent: SentRequest<'_>) -> Result<Option<OwnText>, AllocError> {
         if !matches!(sent.method, "GET" | "HEAD") {
             return Ok(None);
         }
@@ -164,16 +164,16 @@ impl<R: Wait + Clock + Copy + Drop> Desk<R> {
 }
 
 /// The body of a request, up to its limits of length and time.
-type Limits<I> = Timeout<Collect<Limited<Incoming<I>>>>;
+type LimitedBody<I> = Timeout<Collect<Limited<Incoming<I>>>>;
 
 impl<R: Wait + Clock + Copy + Drop, I: Drop> Service<Request<Incoming<I>>> for Desk<R> {
     type Response = Response<Full<Bytes>>;
 
     type Error = AllocError;
 
-    type Future = Answering<R, Limits<I>>;
+    type Future = Answering<R, LimitedBody<I>>;
 
-    fn call(&self, req: Request<Incoming<I>>) -> Answering<R, Limits<I>> {
+    fn call(&self, req: Request<Incoming<I>>) -> Answering<R, LimitedBody<I>> {
         let visit = self.visit(&req);
         if let Some(way) = self.way(&req) {
             let guest = Guest { visit, seen: None };

@@ -5,7 +5,7 @@ ghost use Rattle.std.specs.Prelude.{◌≡◌};
 use crate::asks::Made;
 use crate::board::{Board, WAITING_MOST};
 use crate::text::OwnText;
-use crate::ways::Way;
+use crate::ways::KeptRedirect;
 use crate::worker::Errand;
 use crossbeam_channel::Sender;
 use futures::channel::oneshot;
@@ -35,7 +35,7 @@ pub(crate) enum Turn {
     /// A text of the proxy's own.
     Text(OwnText),
     /// A redirect that was kept.
-    Led(Arc<Way>),
+    Led(Arc<KeptRedirect>),
 }
 
 /// The way to who carries out orders.

@@ -1,7 +1,7 @@
 //! A line for each visit.
 
 use crate::board::Board;
-use crate::metrics::{Kind, kind_of};
+use crate::metrics::{AnswerKind, kind_of};
 use crossbeam_channel::{Receiver, Sender};
 use hdl_proxy::{Answer, Status};
 use jiff_core::Timestamp;
@@ -149,7 +149,7 @@ impl<R: Wait + Clock> Open<R> {
         let status = Status::Found.number();
         self.board
             .counts
-            .count_answer(&self.board.rt, Kind::Redirect, status);
+            .count_answer(&self.board.rt, AnswerKind::Redirect, status);
         self.note_end(status, octets);
     }
 

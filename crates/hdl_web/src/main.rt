@@ -37,7 +37,7 @@ use event_loop::listen_at;
 use hdl_proxy::Site;
 use hdl_routes::{Route, read_route};
 use log::Log;
-use servers::{Server, Writer};
+use servers::{OrderCarrier, Server};
 use serving::{Listening, serve_http};
 use staff::{Crew, Plan, Staff};
 use std::alloc::AllocError;
@@ -85,7 +85,7 @@ fn writer(
     rt: &HostRuntime,
     words: &ProxyWords,
     routes: &[Route],
-) -> Result<Option<Writer>, AllocError> {
+) -> Result<Option<OrderCarrier>, AllocError> {
     if !words.writes {
         return Ok(None);
     }
@@ -96,7 +96,7 @@ fn writer(
             Err(_) => return Err(AllocError),
         }
     }
-    Ok(Some(Writer::new(servers, Vec::new(rt.alloc()))))
+    Ok(Some(OrderCarrier::new(servers, Vec::new(rt.alloc()))))
 }
 
 /// The servers, and who asks each.
@@ -104,7 +104,7 @@ fn hire(
     rt: &HostRuntime,
     words: &ProxyWords,
     routes: Vec<Route>,
-) -> io::Result<Staff<Server, Writer>> {
+) -> io::Result<Staff<Server, OrderCarrier>> {
     let mut crews = Vec::new(rt.alloc());
     for route in &routes {
         let askers = askers(rt, words, route)?;

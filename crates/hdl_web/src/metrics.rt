@@ -1,6 +1,6 @@
 //! What is counted, and how it is told.
 
-use crate::board::{Board, Post};
+use crate::board::{Board, ServerRecord};
 use hdl_proxy::{Answer, Media};
 use hdl_status::VERSION;
 use std::alloc::{AllocError, Global};
@@ -11,34 +11,34 @@ use std::time::Clock;
 
 /// What an answer is.
 #[derive(Clone, Copy, Debug, PartialEq, Eq)]
-pub(crate) enum Kind {
+pub(crate) enum AnswerKind {
     Redirect,
     Page,
     Json,
 }
 
-impl fmt::Display for Kind {
+impl fmt::Display for AnswerKind {
     fn fmt<W: fmt::Write>(&self, f: &mut fmt::Formatter<W>) -> fmt::Result {
         f.write_str(match self {
-            Kind::Redirect => "redirect",
-            Kind::Page => "page",
-            Kind::Json => "json",
+            AnswerKind::Redirect => "redirect",
+            AnswerKind::Page => "page",
+            AnswerKind::Json => "json",
         })
     }
 }
 
-pub(crate) fn kind_of(answer: &Answer) -> Kind {
+pub(crate) fn kind_of(answer: &Answer) -> AnswerKind {
     match answer.media {
-        Media::Json => Kind::Json,
-        _ if answer.location.is_some() => Kind::Redirect,
-        _ => Kind::Page,
+        Media::Json => AnswerKind::Json,
+        _ if answer.location.is_some() => AnswerKind::Redirect,
+        _ => AnswerKind::Page,
     }
 }
 
 /// How many answers of a kind had a status.
 #[derive(Clone, Copy)]
 struct Count {
-    kind: Kind,
+    kind: AnswerKind,
     status: u16,
     count: u64,
 }
@@ -54,7 +54,7 @@ pub(crate) struct Counts {
 }
 
 /// Counts an answer among the others. Want of memory counts nothing.
-fn add_to(counts: &mut Vec<Count>, kind: Kind, status: u16) {
+fn add_to(counts: &mut Vec<Count>, kind: AnswerKind, status: u16) {
     for one in counts.iter_mut() {
         if one.kind == kind && one.status == status {
             one.count = one.count.wrapping_add(1);
@@ -78,7 +78,7 @@ impl Counts {
     }
 
     /// An answer was given.
-    pub(crate) fn count_answer<R: Wait>(&self, rt: &R, kind: Kind, status: u16) {
+    pub(crate) fn count_answer<R: Wait>(&self, rt: &R, kind: AnswerKind, status: u16) {
         add_to(&mut self.answers.lock(rt), kind, status);
     }
 
@@ -143,7 +143,7 @@ impl ServerMetric {
 }
 
 impl<R: Wait + Clock> Board<R> {
-    fn count_of(&self, metric: ServerMetric, post: &Post) -> u64 {
+    fn count_of(&self, metric: ServerMetric, post: &ServerRecord) -> u64 {
         match metric {
             ServerMetric::Asked => post.asked.load(Ordering::Relaxed),
             ServerMetric::Failed => post.failed.load(Ordering::Relaxed),

@@ -115,15 +115,15 @@ impl Resolver for Server {
 
 /// Who carries out orders: all servers, of which those of an order's prefix are asked in turn.
 #[derive(Drop)]
-pub struct Writer {
+pub struct OrderCarrier {
     servers: Vec<Server>,
     turn: Vec<usize>,
 }
 
-impl Writer {
+impl OrderCarrier {
     /// Who asks these servers, in their places.
-    pub fn new(servers: Vec<Server>, turn: Vec<usize>) -> Writer {
-        Writer { servers, turn }
+    pub fn new(servers: Vec<Server>, turn: Vec<usize>) -> OrderCarrier {
+        OrderCarrier { servers, turn }
     }
 
     /// The reply of the first server in turn that gives one which is no referral. A server that can't be reached is passed over; where one that was
@@ -159,13 +159,13 @@ pub trait Clerk: ChangeServer {
     fn turn_to(&mut self, turn: Vec<usize>);
 }
 
-impl Clerk for Writer {
+impl Clerk for OrderCarrier {
     fn turn_to(&mut self, turn: Vec<usize>) {
         self.turn = turn;
     }
 }
 
-impl ChangeServer for Writer {
+impl ChangeServer for OrderCarrier {
     fn renew(&mut self) {
         for server in &mut self.servers {
             server.session = None;

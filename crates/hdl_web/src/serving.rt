@@ -8,7 +8,7 @@ use crate::parting::Parting;
 use crate::patient::Patient;
 use crate::servers::{Clerk, Resolver};
 use crate::staff::{Staff, start_asking};
-use crate::visitors::{Host, Visitors};
+use crate::visitors::{ConnectionHandler, Visitors};
 use bytes::Bytes;
 use crossbeam_channel::{Sender, unbounded};
 use http_body_util::Full;
@@ -52,7 +52,7 @@ struct Reception<R> {
     board: Arc<Board<R>>,
 }
 
-impl<R: Wait + Clock + Copy + Drop> Host for Reception<R> {
+impl<R: Wait + Clock + Copy + Drop> ConnectionHandler for Reception<R> {
     type Served = Parting<R, Connection<Patient<R>, Desk<R>, Full<Bytes>, TokioTimer<R>>>;
 
     fn receive(&self, socket: TcpStream) -> Option<Self::Served> {
@@ -96,7 +96,7 @@ where
 fn serve_all<R, H>(rt: &R, runtime: &mut LocalRuntime, visitors: Visitors<H>) -> io::Result<()>
 where
     R: Wait + Clock + RandomSource + AllocGlobal,
-    H: Host,
+    H: ConnectionHandler,
 {
     runtime.run_all(rt, visitors)
 }

@@ -1,12 +1,12 @@
 //! Who asks each server.
 
 use crate::asks::Ask;
-use crate::board::{Board, Post};
+use crate::board::{Board, ServerRecord};
 use crate::holders::Holders;
 use crate::log::Visit;
 use crate::metrics::Counts;
 use crate::servers::{Clerk, Resolver};
-use crate::ways::Shelf;
+use crate::ways::KeptAnswers;
 use crate::worker::{Errand, work, work_on_orders};
 use crossbeam_channel::{Receiver, Sender, unbounded};
 use hdl_proxy::Site;
@@ -58,10 +58,10 @@ fn post_of<S: Drop, C: Drop>(
     alloc: Global,
     crew: Crew<S, C>,
     writes: bool,
-) -> io::Result<(Post, Waiting<S, C>)> {
+) -> io::Result<(ServerRecord, Waiting<S, C>)> {
     let (asks, asked) = unbounded(alloc)?;
     let (errands, given) = unbounded(alloc)?;
-    let post = Post {
+    let post = ServerRecord {
         asks,
         errands: if writes { Some(errands) } else { None },
         standing: Mutex::new(Standing::Fit),
@@ -81,7 +81,7 @@ fn all_posted<S: Drop, C: Drop>(
     alloc: Global,
     crews: Vec<Crew<S, C>>,
     writes: bool,
-) -> io::Result<(Vec<Post>, Vec<Waiting<S, C>>)> {
+) -> io::Result<(Vec<ServerRecord>, Vec<Waiting<S, C>>)> {
     let mut posts = Vec::new(alloc);
     let mut all = Vec::new(alloc);
     for crew in crews {
@@ -124,11 +124,14 @@ where
 }
 
 /// What replies are kept in, if any are.
-fn shelf<R: RandomSource + AllocGlobal>(rt: &R, keeps: u64) -> io::Result<Option<Mutex<Shelf>>> {
+fn shelf<R: RandomSource + AllocGlobal>(
+    rt: &R,
+    keeps: u64,
+) -> io::Result<Option<Mutex<KeptAnswers>>> {
     if keeps == 0 {
         return Ok(None);
     }
-    let shelf = Shelf::new(rt.alloc(), RandomState::new(rt)?, RandomState::new(rt)?)?;
+    let shelf = KeptAnswers::new(rt.alloc(), RandomState::new(rt)?, RandomState::new(rt)?)?;
     Ok(Some(Mutex::new(shelf)))
 }
 
@@ -142,7 +145,7 @@ fn random<R: RandomSource>(rt: &R) -> io::Result<u64> {
 fn board_of<R>(
     rt: &R,
     plan: Plan,
-    posts: Vec<Post>,
+    posts: Vec<ServerRecord>,
     visits: Option<Sender<Visit>>,
 ) -> io::Result<Arc<Board<R>>>
 where

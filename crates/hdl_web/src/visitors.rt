@@ -11,7 +11,7 @@ use tokio::net::{Incoming, TcpStream};
 use tokio::time::Sleep;
 
 /// Who receives connections.
-pub(crate) trait Host: Drop {
+pub(crate) trait ConnectionHandler: Drop {
     /// A connection that is served.
     type Served: Future<Output = ()>;
 
@@ -31,7 +31,7 @@ pub(crate) struct Visitors<H> {
     resting: Option<Sleep>,
 }
 
-impl<H: Host> Visitors<H> {
+impl<H: ConnectionHandler> Visitors<H> {
     pub(crate) fn new(incoming: Incoming, host: H) -> Visitors<H> {
         Visitors {
             incoming,
@@ -60,7 +60,7 @@ impl<H: Host> Visitors<H> {
     }
 }
 
-impl<H: Host> Stream for Visitors<H> {
+impl<H: ConnectionHandler> Stream for Visitors<H> {
     type Item = H::Served;
 
     ghost yields = { λ _. ItemsWhere H.Served.can_poll };

@@ -29,14 +29,14 @@ const LOCATIONS: &[u8] = b"10320/loc";
 
 /// A redirect as it was answered, and of which reply to which question it was made.
 #[derive(Drop)]
-pub(crate) struct Way {
+pub(crate) struct KeptRedirect {
     message: Vec<u8>,
     reply: Vec<u8>,
     headers: HeaderMap<HeaderValue>,
     body: Bytes,
 }
 
-impl Way {
+impl KeptRedirect {
     /// How many octets its body has.
     pub(crate) fn octets(&self) -> usize {
         self.body.len()
@@ -73,11 +73,16 @@ fn is_drawn(alloc: Global, reply: &[u8]) -> bool {
 
 /// What a question's reply was answered by, as it may be given again: a redirect that any such question has. None where it is anything else, or
 /// memory was refused.
-fn way_of(alloc: Global, message: Vec<u8>, reply: Vec<u8>, answer: &Answer) -> Option<Way> {
+fn way_of(
+    alloc: Global,
+    message: Vec<u8>,
+    reply: Vec<u8>,
+    answer: &Answer,
+) -> Option<KeptRedirect> {
     if answer.status != Status::Found || is_drawn(alloc, &reply) {
         return None;
     }
-    Some(Way {
+    Some(KeptRedirect {
         message,
         reply,
         headers: headers_of(alloc, answer, false).ok()?,
@@ -89,7 +94,7 @@ fn way_of(alloc: Global, message: Vec<u8>, reply: Vec<u8>, answer: &Answer) -> O
 #[derive(Drop)]
 struct Ways {
     alloc: Global,
-    ways: LruCache<String, Arc<Way>, RandomState>,
+    ways: LruCache<String, Arc<KeptRedirect>, RandomState>,
 }
 
 impl Ways {
@@ -99,13 +104,13 @@ impl Ways {
         Ok(Ways { alloc, ways })
     }
 
-    fn find(&mut self, path: &str) -> Option<Arc<Way>> {
+    fn find(&mut self, path: &str) -> Option<Arc<KeptRedirect>> {
         let way = self.ways.get(path)?;
         Arc::try_clone(way).ok()
     }
 
     /// Keeps a redirect. Want of memory keeps nothing.
-    fn keep(&mut self, path: &str, way: Way) {
+    fn keep(&mut self, path: &str, way: KeptRedirect) {
         let Ok(key) = String::from_str(self.alloc, path) else {
             return;
         };
@@ -117,25 +122,25 @@ impl Ways {
 
 /// What is kept: replies, and the redirects that were made of them.
 #[derive(Drop)]
-pub(crate) struct Shelf {
+pub(crate) struct KeptAnswers {
     pub(crate) kept: KeptReplies,
     ways: Ways,
 }
 
-impl Shelf {
+impl KeptAnswers {
     pub(crate) fn new(
         alloc: Global,
         hasher: RandomState,
         other: RandomState,
-    ) -> Result<Shelf, AllocError> {
-        Ok(Shelf {
+    ) -> Result<KeptAnswers, AllocError> {
+        Ok(KeptAnswers {
             kept: KeptReplies::new(alloc, hasher)?,
             ways: Ways::new(alloc, other)?,
         })
     }
 
     /// The redirect that answers this path, if one is kept, and just the reply that it was made of is kept too, and fresh at this moment.
-    pub(crate) fn way(&mut self, path: &str, now: u64) -> Option<Arc<Way>> {
+    pub(crate) fn way(&mut self, path: &str, now: u64) -> Option<Arc<KeptRedirect>> {
         let way = self.ways.find(path)?;
         if self.kept.holds(&way.message, &way.reply, now) {
             Some(way)

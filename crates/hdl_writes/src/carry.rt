@@ -3,7 +3,7 @@
 use crate::change_answers::{change_words, failure, status_of_change, success};
 use crate::fault::RecordFault;
 use crate::listing::list_answer;
-use crate::order::{Act, Order, Way};
+use crate::order::{Act, Order, WriteMode};
 use crate::plan::{is_among, merging, replacing};
 use crate::record::read_record;
 use crate::service::ChangeServer;
@@ -16,7 +16,7 @@ use std::alloc::{AllocError, Global};
 
 /// Why a change, or what it needs, wasn't done.
 #[derive(Clone, Copy)]
-pub(crate) enum Stop {
+pub(crate) enum ChangeFault {
     /// A reply of this code.
     Code(u32),
     /// No reply came that can be read, so what became of the request isn't known.
@@ -28,19 +28,19 @@ pub(crate) enum Stop {
     Memory,
 }
 
-impl From<AllocError> for Stop {
-    fn from(_: AllocError) -> Stop {
-        Stop::Memory
+impl From<AllocError> for ChangeFault {
+    fn from(_: AllocError) -> ChangeFault {
+        ChangeFault::Memory
     }
 }
 
-impl From<NoAnswer> for Stop {
-    fn from(none: NoAnswer) -> Stop {
+impl From<NoAnswer> for ChangeFault {
+    fn from(none: NoAnswer) -> ChangeFault {
         match none {
-            NoAnswer::Memory => Stop::Memory,
-            NoAnswer::Unreachable => Stop::Silent,
-            NoAnswer::Elsewhere => Stop::Code(ResponseCode::ServiceReferral.number()),
-            NoAnswer::Crowded => Stop::Code(ResponseCode::ServerBusy.number()),
+            NoAnswer::Memory => ChangeFault::Memory,
+            NoAnswer::Unreachable => ChangeFault::Silent,
+            NoAnswer::Elsewhere => ChangeFault::Code(ResponseCode::ServiceReferral.number()),
+            NoAnswer::Crowded => ChangeFault::Code(ResponseCode::ServerBusy.number()),
         }
     }
 }
@@ -55,17 +55,17 @@ const TOO_MANY: &str = "The change would remove more than 256 values. Nothing wa
 pub(crate) fn answer_to_stop(
     alloc: Global,
     handle: &[u8],
-    stop: Stop,
+    stop: ChangeFault,
     done: &[RequestBody],
 ) -> Result<Answer, AllocError> {
     let error = ResponseCode::Error.number();
     match stop {
-        Stop::Code(code) => {
+        ChangeFault::Code(code) => {
             let status = status_of_change(code);
             failure(alloc, handle, status, code, change_words(code), done)
         }
-        Stop::Silent => failure(alloc, handle, Status::BadGateway, error, SILENT, done),
-        Stop::TooLong => failure(
+        ChangeFault::Silent => failure(alloc, handle, Status::BadGateway, error, SILENT, done),
+        ChangeFault::TooLong => failure(
             alloc,
             handle,
             Status::ContentTooLarge,
@@ -73,7 +73,7 @@ pub(crate) fn answer_to_stop(
             TOO_LONG,
             done,
         ),
-        Stop::TooMany => failure(
+        ChangeFault::TooMany => failure(
             alloc,
             handle,
             Status::ContentTooLarge,
@@ -81,7 +81,7 @@ pub(crate) fn answer_to_stop(
             TOO_MANY,
             done,
         ),
-        Stop::Memory => Err(AllocError),
+        ChangeFault::Memory => Err(AllocError),
     }
 }
 
@@ -99,9 +99,9 @@ pub(crate) fn reply_to<S: ChangeServer>(
     service: &mut S,
     order: &Order,
     body: &RequestBody,
-) -> Result<Reply, Stop> {
+) -> Result<Reply, ChangeFault> {
     if !is_short(body) {
-        return Err(Stop::TooLong);
+        return Err(ChangeFault::TooLong);
     }
     Ok(service.ask(body, &order.key)?)
 }
@@ -111,13 +111,13 @@ fn make_change<S: ChangeServer>(
     service: &mut S,
     order: &Order,
     body: &RequestBody,
-) -> Result<(), Stop> {
+) -> Result<(), ChangeFault> {
     let reply = reply_to(service, order, body)?;
     let view = reply.view();
     if view.code() == Some(ResponseCode::Success) {
         Ok(())
     } else {
-        Err(Stop::Code(view.header.response_code))
+        Err(ChangeFault::Code(view.header.response_code))
     }
 }
 
@@ -140,9 +140,9 @@ fn steps_done<S: ChangeServer>(
     service: &mut S,
     order: &Order,
     steps: &[RequestBody],
-) -> (usize, Option<Stop>) {
+) -> (usize, Option<ChangeFault>) {
     if !steps.iter().all(is_short) {
-        return (0, Some(Stop::TooLong));
+        return (0, Some(ChangeFault::TooLong));
     }
     for (count, step) in steps.iter().enumerate() {
         if let Err(stop) = make_change(service, order, step) {
@@ -168,27 +168,31 @@ fn carry_steps<S: ChangeServer>(
 }
 
 /// The indexes of these values.
-fn indexes_in(alloc: Global, mut values: Values<'_>) -> Result<Vec<u32>, Stop> {
+fn indexes_in(alloc: Global, mut values: Values<'_>) -> Result<Vec<u32>, ChangeFault> {
     let mut indexes = Vec::new(alloc);
     while let Some(cut) = values.next() {
         match indexes.push(cut.index()) {
             Ok(()) => {}
-            Err(_) => return Err(Stop::Memory),
+            Err(_) => return Err(ChangeFault::Memory),
         }
     }
     Ok(indexes)
 }
 
 /// The indexes that a reply to the reading of this handle tells.
-fn indexes_in_reply(alloc: Global, handle: &[u8], reply: &ReplyView<'_>) -> Result<Vec<u32>, Stop> {
+fn indexes_in_reply(
+    alloc: Global,
+    handle: &[u8],
+    reply: &ReplyView<'_>,
+) -> Result<Vec<u32>, ChangeFault> {
     match reply.content {
         ContentView::Values {
             handle: answered,
             values,
         } if answered == handle => indexes_in(alloc, values),
-        ContentView::Values { .. } => Err(Stop::Silent),
+        ContentView::Values { .. } => Err(ChangeFault::Silent),
         _ if reply.code() == Some(ResponseCode::ValueNotFound) => Ok(Vec::new(alloc)),
-        _ => Err(Stop::Code(reply.header.response_code)),
+        _ => Err(ChangeFault::Code(reply.header.response_code)),
     }
 }
 
@@ -198,7 +202,7 @@ fn indexes_there<S: ChangeServer>(
     service: &mut S,
     order: &Order,
     asked: Vec<u32>,
-) -> Result<Vec<u32>, Stop> {
+) -> Result<Vec<u32>, ChangeFault> {
     let body = RequestBody::Resolution {
         handle: handle_of(alloc, order)?,
         indexes: Items::new(asked),
@@ -278,7 +282,7 @@ fn overwrite<S: ChangeServer>(
         Err(stop) => return answer_to_stop(alloc, order.name.sent(), stop, &[]),
     };
     if there.len() > WRITTEN_MAX {
-        return answer_to_stop(alloc, order.name.sent(), Stop::TooMany, &[]);
+        return answer_to_stop(alloc, order.name.sent(), ChangeFault::TooMany, &[]);
     }
     let steps = replacing(alloc, order.name.sent(), &there, values)?;
     carry_steps(alloc, service, order, &steps)
@@ -297,7 +301,7 @@ fn replace<S: ChangeServer>(
     };
     match make_change(service, order, &body) {
         Ok(()) => success(alloc, order.name.sent(), Status::Created),
-        Err(Stop::Code(code)) if code == ResponseCode::HandleAlreadyExists.number() => {
+        Err(ChangeFault::Code(code)) if code == ResponseCode::HandleAlreadyExists.number() => {
             overwrite(alloc, service, order, values)
         }
         Err(stop) => answer_to_stop(alloc, order.name.sent(), stop, &[]),
@@ -342,7 +346,7 @@ fn carry_put<S: ChangeServer>(
     alloc: Global,
     service: &mut S,
     order: &Order,
-    way: Way,
+    way: WriteMode,
     among: &Option<Vec<u32>>,
     body: &[u8],
 ) -> Result<Answer, AllocError> {
@@ -351,10 +355,10 @@ fn carry_put<S: ChangeServer>(
         Err(fault) => return bad_record(alloc, order.name.sent(), fault),
     };
     match way {
-        Way::Create => create(alloc, service, order, &values),
-        Way::Replace => replace(alloc, service, order, &values),
-        Way::Merge => merge(alloc, service, order, &values),
-        Way::Add => add(alloc, service, order, &values),
+        WriteMode::Create => create(alloc, service, order, &values),
+        WriteMode::Replace => replace(alloc, service, order, &values),
+        WriteMode::Merge => merge(alloc, service, order, &values),
+        WriteMode::Add => add(alloc, service, order, &values),
     }
 }
 
@@ -407,11 +411,11 @@ fn reading_answer(
             values,
         } if answered == handle => match whole_values(alloc, values)? {
             Some(all) => values_answer(alloc, handle, &all, Keeping::Never),
-            None => answer_to_stop(alloc, handle, Stop::Silent, &[]),
+            None => answer_to_stop(alloc, handle, ChangeFault::Silent, &[]),
         },
-        ContentView::Values { .. } => answer_to_stop(alloc, handle, Stop::Silent, &[]),
+        ContentView::Values { .. } => answer_to_stop(alloc, handle, ChangeFault::Silent, &[]),
         _ => {
-            let stop = Stop::Code(reply.header.response_code);
+            let stop = ChangeFault::Code(reply.header.response_code);
             answer_to_stop(alloc, handle, stop, &[])
         }
     }

@@ -38,7 +38,7 @@ pub use carry::carry_out;
 pub use credentials::{KeyFault, read_key};
 pub use fault::{EntryFault, RecordFault};
 pub use laws::{nothing_is_lost, written_is_read};
-pub use order::{Act, Begun, Order, Sent, Way, Window, begin_with_key};
+pub use order::{Act, Begun, Order, SentRequest, Window, WriteMode, begin_with_key};
 pub use plan::{merging, replacing};
 pub use record::read_record;
 pub use service::ChangeServer;

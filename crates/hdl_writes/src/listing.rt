@@ -1,6 +1,6 @@
 //! The handles of a prefix.
 
-use crate::carry::{Stop, answer_to_stop, reply_to};
+use crate::carry::{ChangeFault, answer_to_stop, reply_to};
 use crate::change_answers::{failure, status_of_change};
 use crate::order::{Order, Window};
 use crate::service::ChangeServer;
@@ -15,7 +15,7 @@ const FRONT_LEN: usize = 5;
 
 /// The handles in a page of a list, and how many the list has.
 #[derive(Drop)]
-struct Page {
+struct ListPage {
     handles: Vec<Json>,
     count: u32,
 }
@@ -39,7 +39,7 @@ fn page_of(
     alloc: Global,
     mut strings: Strings<'_>,
     window: Option<Window>,
-) -> Result<Page, AllocError> {
+) -> Result<ListPage, AllocError> {
     let mut handles = Vec::new(alloc);
     let mut count = 0u32;
     while let Some(handle) = strings.next() {
@@ -48,7 +48,7 @@ fn page_of(
         }
         count = count.saturating_add(1);
     }
-    Ok(Page { handles, count })
+    Ok(ListPage { handles, count })
 }
 
 /// The page and its size, as they were asked for: without a size one page has all.
@@ -65,10 +65,10 @@ fn told_window(window: Option<Window>, count: u32) -> Window {
 fn page_answer(
     alloc: Global,
     prefix: &[u8],
-    page: Page,
+    page: ListPage,
     window: Window,
 ) -> Result<Answer, AllocError> {
-    let Page { handles, count } = page;
+    let ListPage { handles, count } = page;
     let mut object = Map::new(alloc);
     let code = ResponseCode::Success.number();
     put(&mut object, alloc, "responseCode", Json::from(code))?;
@@ -95,7 +95,7 @@ fn listing_answer(
         if reply.code() == Some(ResponseCode::Error) {
             return failure(alloc, handle, status_of_change(code), code, LONG_LIST, &[]);
         }
-        return answer_to_stop(alloc, handle, Stop::Code(code), &[]);
+        return answer_to_stop(alloc, handle, ChangeFault::Code(code), &[]);
     };
     let page = page_of(alloc, handles, window)?;
     let told = told_window(window, page.count);

@@ -22,7 +22,7 @@ const JSON_PATH: &str = "/api/";
 
 /// How the values of a body are put into a handle.
 #[derive(Clone, Copy, Debug, PartialEq, Eq)]
-pub enum Way {
+pub enum WriteMode {
     /// The handle is created; it isn't there.
     Create,
     /// The handle is created, or the values are put in the place of all that it has.
@@ -45,7 +45,7 @@ pub struct Window {
 pub enum Act {
     /// The values of the body are put into the handle; where indexes are named, no others may be among them.
     Put {
-        way: Way,
+        way: WriteMode,
         among: Option<Vec<u32>>,
     },
     Delete,
@@ -92,7 +92,7 @@ pub enum Begun {
 
 /// A request's parts as they were sent: the query without its `?`, and the field `Authorization` if there is one.
 #[derive(Clone, Copy)]
-pub struct Sent<'a> {
+pub struct SentRequest<'a> {
     pub method: &'a str,
     pub path: &'a str,
     pub query: &'a str,
@@ -148,13 +148,17 @@ fn putting(alloc: Global, pairs: &[Pair]) -> Result<Act, AddressFault> {
     let overwrites = is_set(alloc, pairs, "overwrite")?.unwrap_or(true);
     if !has_pair(pairs, "index") {
         let way = if overwrites {
-            Way::Replace
+            WriteMode::Replace
         } else {
-            Way::Create
+            WriteMode::Create
         };
         return Ok(Act::Put { way, among: None });
     }
-    let way = if overwrites { Way::Merge } else { Way::Add };
+    let way = if overwrites {
+        WriteMode::Merge
+    } else {
+        WriteMode::Add
+    };
     let among = among(alloc, pairs)?;
     Ok(Act::Put { way, among })
 }
@@ -254,14 +258,14 @@ fn prefix_handle(alloc: Global, pairs: &[Pair]) -> Result<Vec<u8>, AllocError> {
     Ok(handle)
 }
 
-fn begin_list(alloc: Global, sent: Sent<'_>, pairs: &[Pair]) -> Result<Begun, AllocError> {
+fn begin_list(alloc: Global, sent: SentRequest<'_>, pairs: &[Pair]) -> Result<Begun, AllocError> {
     let octets = prefix_handle(alloc, pairs)?;
     order_of(alloc, &octets, listing(alloc, pairs), sent.authorization)
 }
 
 fn begin_handle(
     alloc: Global,
-    sent: Sent<'_>,
+    sent: SentRequest<'_>,
     text: &str,
     pairs: &[Pair],
 ) -> Result<Begun, AllocError> {
@@ -278,7 +282,7 @@ fn other_method(alloc: Global, path: &str) -> Result<Begun, AllocError> {
 }
 
 /// A request that reads: with a key where that is asked for.
-fn begin_reading(alloc: Global, sent: Sent<'_>) -> Result<Begun, AllocError> {
+fn begin_reading(alloc: Global, sent: SentRequest<'_>) -> Result<Begun, AllocError> {
     let pairs = read_pairs(alloc, sent.query)?;
     if sent.path == LIST_PATH {
         return begin_list(alloc, sent, &pairs);
@@ -293,7 +297,7 @@ fn begin_reading(alloc: Global, sent: Sent<'_>) -> Result<Begun, AllocError> {
     }
 }
 
-fn begin_changing(alloc: Global, sent: Sent<'_>) -> Result<Begun, AllocError> {
+fn begin_changing(alloc: Global, sent: SentRequest<'_>) -> Result<Begun, AllocError> {
     match sent.path.strip_prefix(HANDLES_PATH) {
         Some(text) => {
             let pairs = read_pairs(alloc, sent.query)?;
@@ -306,7 +310,7 @@ fn begin_changing(alloc: Global, sent: Sent<'_>) -> Result<Begun, AllocError> {
 /// What is to be done for a request, where the proxy changes handles: PUT and DELETE of a handle's address under `/api/handles/`, GET of
 /// it with `auth=true`, and GET of `/api/handles`, each with a key; OPTIONS of any address under `/api/`. Every other request that reads is
 /// [`Begun::Other`].
-pub fn begin_with_key(alloc: Global, sent: Sent<'_>) -> Result<Begun, AllocError> {
+pub fn begin_with_key(alloc: Global, sent: SentRequest<'_>) -> Result<Begun, AllocError> {
     if !sent.path.starts_with(JSON_PATH) {
         return Ok(Begun::Other);
     }

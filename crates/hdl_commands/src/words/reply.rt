@@ -1,51 +1,55 @@
 //! A reply in words.
 
 use crate::words::naming::{code_name, operation_name};
-use crate::words::page::Page;
+use crate::words::printout::Printout;
 use crate::words::value::{push_data, push_value};
 use hdl_frame::Envelope;
 use hdl_lines::printed_octets;
 use hdl_msg::{ContentView, Digest, ReplyView, Strings, Values};
 use std::alloc::AllocError;
 
-fn push_values(page: &mut Page, handle: &[u8], values: Values<'_>) -> Result<(), AllocError> {
-    page.push_octets(handle)?;
+fn push_values(
+    printout: &mut Printout,
+    handle: &[u8],
+    values: Values<'_>,
+) -> Result<(), AllocError> {
+    printout.push_octets(handle)?;
     for value in values {
-        push_value(page, &value)?;
+        push_value(printout, &value)?;
     }
     Ok(())
 }
 
-fn push_handles(page: &mut Page, handles: Strings<'_>) -> Result<(), AllocError> {
+fn push_handles(printout: &mut Printout, handles: Strings<'_>) -> Result<(), AllocError> {
     for handle in handles {
-        page.push_octets(handle)?;
+        printout.push_octets(handle)?;
     }
     Ok(())
 }
 
-fn push_digest(page: &mut Page, digest: &Digest) -> Result<(), AllocError> {
+fn push_digest(printout: &mut Printout, digest: &Digest) -> Result<(), AllocError> {
     let name = match digest {
         Digest::Sha1(_) => "SHA-1",
         Digest::Sha256(_) => "SHA-256",
     };
-    let digits = hex::encode(page.alloc, digest.as_slice())?;
-    let line = format!(in page.alloc; ";; digest {name} {digits}")?;
-    page.push(&line)
+    let digits = hex::encode(printout.alloc, digest.as_slice())?;
+    let line = format!(in printout.alloc; ";; digest {name} {digits}")?;
+    printout.push(&line)
 }
 
-fn push_content(page: &mut Page, content: ContentView<'_>) -> Result<(), AllocError> {
+fn push_content(printout: &mut Printout, content: ContentView<'_>) -> Result<(), AllocError> {
     match content {
-        ContentView::Values { handle, values } => push_values(page, handle, values),
-        ContentView::Handles { handles } => push_handles(page, handles),
+        ContentView::Values { handle, values } => push_values(printout, handle, values),
+        ContentView::Handles { handles } => push_handles(printout, handles),
         ContentView::Referral { prefix } => {
-            let name = printed_octets(page.alloc, prefix)?;
-            let line = format!(in page.alloc; ";; ask the service of 0.NA/{name}")?;
-            page.push(&line)
+            let name = printed_octets(printout.alloc, prefix)?;
+            let line = format!(in printout.alloc; ";; ask the service of 0.NA/{name}")?;
+            printout.push(&line)
         }
         ContentView::Nonce { nonce } => {
-            let digits = hex::encode(page.alloc, nonce.as_slice())?;
-            let line = format!(in page.alloc; ";; nonce {digits}")?;
-            page.push(&line)
+            let digits = hex::encode(printout.alloc, nonce.as_slice())?;
+            let line = format!(in printout.alloc; ";; nonce {digits}")?;
+            printout.push(&line)
         }
         ContentView::Nothing | ContentView::Empty => Ok(()),
     }
@@ -53,35 +57,35 @@ fn push_content(page: &mut Page, content: ContentView<'_>) -> Result<(), AllocEr
 
 /// Adds a reply with the numbers of its envelope: a comment with the numbers, the operation and the code, and what it carries.
 pub fn push_reply(
-    page: &mut Page,
+    printout: &mut Printout,
     envelope: &Envelope,
     reply: &ReplyView<'_>,
 ) -> Result<(), AllocError> {
     let code = reply.header.response_code;
-    let line = format!(in page.alloc;
+    let line = format!(in printout.alloc;
         ";; reply to {} {}, session {}: {code} {}",
         operation_name(reply.header.op_code),
         envelope.request,
         envelope.session,
         code_name(code)
     )?;
-    page.push(&line)?;
+    printout.push(&line)?;
     if let Some(digest) = &reply.digest {
-        push_digest(page, digest)?;
+        push_digest(printout, digest)?;
     }
-    push_content(page, reply.content)
+    push_content(printout, reply.content)
 }
 
 /// Adds only what was asked for, an item a line: of values the data, of a list the handles.
-pub fn push_short_reply(page: &mut Page, reply: &ReplyView<'_>) -> Result<(), AllocError> {
+pub fn push_short_reply(printout: &mut Printout, reply: &ReplyView<'_>) -> Result<(), AllocError> {
     match reply.content {
         ContentView::Values { values, .. } => {
             for value in values {
-                push_data(page, &value)?;
+                push_data(printout, &value)?;
             }
             Ok(())
         }
-        ContentView::Handles { handles } => push_handles(page, handles),
+        ContentView::Handles { handles } => push_handles(printout, handles),
         _ => Ok(()),
     }
 }

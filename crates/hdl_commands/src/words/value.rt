@@ -2,9 +2,9 @@
 
 ghost use Rattle.std.specs.Prelude.{◌≡◌, true, false, OnOk};
 ghost use Rattle.hdl_lines.specs.Hiding.{is_hidden, hidden_text, hidden_data, hidden_count, whole_line, whole_data};
-ghost use Rattle.hdl_commands.specs.Page.{with_line};
+ghost use Rattle.hdl_commands.specs.Printout.{with_line};
 
-use crate::words::page::Page;
+use crate::words::printout::Printout;
 use hdl_lines::{is_hidden, shown_data, shown_line};
 use hdl_value::{CutValue, Value};
 use jiff::Timestamp;
@@ -20,44 +20,44 @@ fn time_of_write(value: &Value) -> Option<Timestamp> {
 }
 
 /// Adds when a value was written, as a comment, if it is sound and says so.
-fn push_written(page: &mut Page, value: &CutValue<'_>) -> Result<(), AllocError> {
-    let Ok(value) = value.read(page.alloc) else {
+fn push_written(printout: &mut Printout, value: &CutValue<'_>) -> Result<(), AllocError> {
+    let Ok(value) = value.read(printout.alloc) else {
         return Ok(());
     };
     match time_of_write(&value) {
         Some(moment) => {
-            let line = format!(in page.alloc; ";; written {moment}")?;
-            page.push(&line)
+            let line = format!(in printout.alloc; ";; written {moment}")?;
+            printout.push(&line)
         }
         None => Ok(()),
     }
 }
 
-fn push_line(page: &mut Page, value: &CutValue<'_>) -> Result<(), AllocError>
-    ensures hidden { is_hidden value.now page.old.shows_keys ≡ true → OnOk result (page.new ≡ with_line page.old (hidden_text value.now.index value.now.kind (hidden_count value.now))) }
-    ensures shown { is_hidden value.now page.old.shows_keys ≡ false → OnOk result (page.new ≡ with_line page.old (whole_line value.now)) }
+fn push_line(printout: &mut Printout, value: &CutValue<'_>) -> Result<(), AllocError>
+    ensures hidden { is_hidden value.now printout.old.shows_keys ≡ true → OnOk result (printout.new ≡ with_line printout.old (hidden_text value.now.index value.now.kind (hidden_count value.now))) }
+    ensures shown { is_hidden value.now printout.old.shows_keys ≡ false → OnOk result (printout.new ≡ with_line printout.old (whole_line value.now)) }
 {
-    let line = shown_line(page.alloc, value, page.shows_keys)?;
-    page.push_octets(&line)
+    let line = shown_line(printout.alloc, value, printout.shows_keys)?;
+    printout.push_octets(&line)
 }
 
 /// Adds a value: when it was written, as a comment, and its line. Of a hidden key it adds just the line, which says no more of the
 /// data than how many octets.
-pub fn push_value(page: &mut Page, value: &CutValue<'_>) -> Result<(), AllocError>
-    ensures hidden { is_hidden value.now page.old.shows_keys ≡ true → OnOk result (page.new ≡ with_line page.old (hidden_text value.now.index value.now.kind (hidden_count value.now))) }
+pub fn push_value(printout: &mut Printout, value: &CutValue<'_>) -> Result<(), AllocError>
+    ensures hidden { is_hidden value.now printout.old.shows_keys ≡ true → OnOk result (printout.new ≡ with_line printout.old (hidden_text value.now.index value.now.kind (hidden_count value.now))) }
 {
-    if is_hidden(value, page.shows_keys) {
-        return push_line(page, value);
+    if is_hidden(value, printout.shows_keys) {
+        return push_line(printout, value);
     }
-    push_written(page, value)?;
-    push_line(page, value)
+    push_written(printout, value)?;
+    push_line(printout, value)
 }
 
 /// Adds the data of a value alone, as it stands in the value's line behind the format; of a hidden key just how many octets it has.
-pub fn push_data(page: &mut Page, value: &CutValue<'_>) -> Result<(), AllocError>
-    ensures hidden { is_hidden value.now page.old.shows_keys ≡ true → OnOk result (page.new ≡ with_line page.old (hidden_data (hidden_count value.now))) }
-    ensures shown { is_hidden value.now page.old.shows_keys ≡ false → OnOk result (page.new ≡ with_line page.old (whole_data value.now)) }
+pub fn push_data(printout: &mut Printout, value: &CutValue<'_>) -> Result<(), AllocError>
+    ensures hidden { is_hidden value.now printout.old.shows_keys ≡ true → OnOk result (printout.new ≡ with_line printout.old (hidden_data (hidden_count value.now))) }
+    ensures shown { is_hidden value.now printout.old.shows_keys ≡ false → OnOk result (printout.new ≡ with_line printout.old (whole_data value.now)) }
 {
-    let data = shown_data(page.alloc, value, page.shows_keys)?;
-    page.push_octets(&data)
+    let data = shown_data(printout.alloc, value, printout.shows_keys)?;
+    printout.push_octets(&data)
 }

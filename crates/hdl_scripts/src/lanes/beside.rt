@@ -5,7 +5,7 @@ ghost use Rattle.hdl_workers.specs.declared.ends.LaneEnds.{LaneEnds};
 ghost use Rattle.hdl_workers.specs.Ends.{AreDistinct, Meet};
 ghost use Rattle.hdl_scripts.specs.Same.{IsEach};
 
-use crate::lanes::pair::Pair;
+use crate::lanes::pair::LanePair;
 use crate::lanes::server::Serving;
 use hdl_events::Outcome;
 use hdl_serve::{
@@ -162,7 +162,7 @@ pub fn count_used(nonces: &MemoryNonces) -> usize {
 pub fn run_stream<L: Made, S: Serving + Drop>(
     alloc: Global,
     serving: S,
-    pair: Pair,
+    pair: LanePair,
     door: &mut MemoryDoor,
     nonces: &mut MemoryNonces,
     plan: Plan,
@@ -170,7 +170,7 @@ pub fn run_stream<L: Made, S: Serving + Drop>(
     requires made { L.ends ≡ pair.ends.items }
     requires first { door.old.left.items ≡ [] }
 {
-    let Pair { side, ends } = pair;
+    let LanePair { side, ends } = pair;
     let mut beside = beside_of::<L, S>(serving, ends, plan.idle);
     let end = stream_worker(alloc, door, &mut beside, nonces, side, plan.turns);
     beside.serve_on(plan.after);
@@ -181,7 +181,7 @@ pub fn run_stream<L: Made, S: Serving + Drop>(
 pub fn run_packets<L: Made, S: Serving + Drop>(
     alloc: Global,
     serving: S,
-    pair: Pair,
+    pair: LanePair,
     packets: &mut MemoryPackets,
     nonces: &mut MemoryNonces,
     plan: Plan,
@@ -189,7 +189,7 @@ pub fn run_packets<L: Made, S: Serving + Drop>(
     requires made { L.ends ≡ pair.ends.items }
     requires first { (packets.old.received.items ≡ []) × (packets.old.sent.items ≡ []) }
 {
-    let Pair { side, ends } = pair;
+    let LanePair { side, ends } = pair;
     let mut beside = beside_of::<L, S>(serving, ends, plan.idle);
     let end = packet_worker(alloc, packets, &mut beside, nonces, side, plan.turns);
     beside.serve_on(plan.after);

@@ -21,7 +21,7 @@ struct Side {
 
 /// Both sides of lanes.
 #[derive(Drop)]
-struct Lanes {
+struct LaneSides {
     alloc: Global,
     ends: Vec<LaneEnds>,
     sides: Vec<Side>,
@@ -38,13 +38,13 @@ fn sides_of(alloc: Global, given: Vec<WorkerSide>) -> Result<Vec<Side>, AllocErr
 }
 
 /// So many lanes, whose rings have room for so many items.
-fn both_sides(alloc: Global, count: u16, capacity: usize) -> Result<Lanes, AllocError> {
+fn both_sides(alloc: Global, count: u16, capacity: usize) -> Result<LaneSides, AllocError> {
     let (ends, sides) = lanes_of(alloc, count, capacity)?;
     let sides = sides_of(alloc, sides)?;
-    Ok(Lanes { alloc, ends, sides })
+    Ok(LaneSides { alloc, ends, sides })
 }
 
-impl Lanes {
+impl LaneSides {
     /// Puts an item, and tells where there was no room.
     fn put(&mut self, lane: u16, item: Item, told: &mut Vec<u8>) -> io::Result<()> {
         let Some(side) = self.sides.get_mut(usize::from(lane)) else {
@@ -112,7 +112,7 @@ impl Lanes {
 }
 
 /// The lanes of a line `COUNT CAPACITY`.
-fn lanes_asked(alloc: Global, line: &str) -> io::Result<Lanes> {
+fn lanes_asked(alloc: Global, line: &str) -> io::Result<LaneSides> {
     let Some((count, capacity)) = line.split_once(' ') else {
         return Err(bad());
     };
@@ -124,7 +124,7 @@ fn lanes_asked(alloc: Global, line: &str) -> io::Result<Lanes> {
 /// Does what the lines say.
 fn follow_all<S: Serving>(
     serving: &mut S,
-    lanes: &mut Lanes,
+    lanes: &mut LaneSides,
     steps: &str,
     told: &mut Vec<u8>,
 ) -> io::Result<()> {
@@ -154,7 +154,7 @@ pub fn run<S: Serving>(
 /// Passes each event through its lane.
 fn pass_all<S: Serving>(
     serving: &mut S,
-    lanes: &mut Lanes,
+    lanes: &mut LaneSides,
     events: Vec<Event>,
     told: &mut Vec<u8>,
 ) -> io::Result<()> {

@@ -9,7 +9,7 @@ use std::alloc::{AllocError, Global};
 
 /// A lane through which nothing went yet, with both sides.
 #[derive(Drop)]
-pub struct Pair {
+pub struct LanePair {
     pub side: WorkerSide,
     /// The service's side, one lane.
     pub ends: Vec<LaneEnds>,
@@ -18,7 +18,7 @@ pub struct Pair {
 }
 
 /// A lane with this number, whose rings have room for so many items.
-pub fn pair_of(alloc: Global, number: u16, capacity: usize) -> Result<Pair, AllocError> {
+pub fn pair_of(alloc: Global, number: u16, capacity: usize) -> Result<LanePair, AllocError> {
     let (inlet, items) = lane(alloc, capacity)?;
     let (given, outcomes) = lane(alloc, capacity)?;
     let mut ends = Vec::new(alloc);
@@ -28,5 +28,5 @@ pub fn pair_of(alloc: Global, number: u16, capacity: usize) -> Result<Pair, Allo
         outcomes: given,
     })?;
     let side = WorkerSide { inlet, outcomes };
-    Ok(Pair { side, ends })
+    Ok(LanePair { side, ends })
 }

@@ -3,7 +3,7 @@
 ghost use Rattle.std.specs.Prelude.{◌≡◌, []};
 
 use crate::lanes::beside::{Plan, source};
-use crate::lanes::pair::{Pair, pair_of};
+use crate::lanes::pair::{LanePair, pair_of};
 use crate::lanes::words::{tell_item, word_of};
 use hdl_events::Outcome;
 use hdl_limits::Octets;
@@ -116,13 +116,13 @@ impl<D: Door> Door for Counting<D> {
 /// Runs a stream worker beside a recorder, and answers why it ended.
 fn run_recorded<D: Door>(
     alloc: Global,
-    pair: Pair,
+    pair: LanePair,
     door: &mut Counting<D>,
     recorder: &mut Recorder,
     nonces: &mut MemoryNonces,
     turns: u64,
 ) -> EndReason {
-    let Pair { side, ends } = pair;
+    let LanePair { side, ends } = pair;
     recorder.ends = ends;
     let end = stream_worker(alloc, door, recorder, nonces, side, turns);
     end.reason

@@ -1,7 +1,7 @@
 //! Lines that grow.
 
 ghost use Rattle.std.specs.Prelude.{◌≡◌, [], OnOk};
-ghost use Rattle.hdl_commands.specs.Page.{with_line};
+ghost use Rattle.hdl_commands.specs.Printout.{with_line};
 
 use hdl_lines::printed_octets;
 use std::alloc::{AllocError, Global};
@@ -9,27 +9,27 @@ use std::marker::Model;
 
 /// Lines in words, and whether the data of keys is shown in them. Contracts see their text.
 #[derive(Drop)]
-pub struct Page {
+pub struct Printout {
     pub(crate) alloc: Global,
     pub(crate) shows_keys: bool,
     text: String,
 }
 
-impl Model for Page {
+impl Model for Printout {
     ghost use Rattle.std.specs.String.{string_bytes};
-    ghost use Rattle.hdl_commands.specs.Page.{PageText};
+    ghost use Rattle.hdl_commands.specs.Printout.{PageText};
 
     ghost Value = { PageText };
 
     ghost view = { λ p. record { shows_keys = p.shows_keys; text = string_bytes p.text } };
 }
 
-impl Page {
-    /// A page without a line.
-    pub fn new(alloc: Global, shows_keys: bool) -> Page
+impl Printout {
+    /// A printout without a line.
+    pub fn new(alloc: Global, shows_keys: bool) -> Printout
         ensures { result ≡ record { shows_keys = shows_keys; text = [] } }
     {
-        Page {
+        Printout {
             alloc,
             shows_keys,
             text: String::new(alloc),

@@ -4,10 +4,10 @@ use Rattle.hdl_frame.specs.Envelope.{envelope_at, u32_at}
 use Rattle.hdl_msg.specs.declared.codes.OpCode.TheVariants.{CreateHandle, ModifyValue}
 use Rattle.hdl_msg.specs.declared.codes.ResponseCode.TheVariants.{AuthenticationNeeded, Success}
 use Rattle.hdl_msg.specs.Codes.{op_number, response_number}
-use Rattle.hdl_audit.specs.declared.answer.Answer.{Answer}
+use Rattle.hdl_audit.specs.declared.answer.ReplySummary.{ReplySummary}
 
 -- operation and code of a reply, by a frame that has the front of its message
-abbrev pub answer_of : List ℕ → Option Answer
+abbrev pub answer_of : List ℕ → Option ReplySummary
 answer_of frame =
     if nat_le 28 (length frame) && (envelope_at frame).sequence == 0
     then Some (record { session = (envelope_at frame).session; request = (envelope_at frame).request; operation = u32_at frame 20; code = u32_at frame 24 })
@@ -18,13 +18,13 @@ abbrev pub changes : ℕ → Bool
 changes operation = nat_le (op_number CreateHandle) operation && nat_le operation (op_number ModifyValue)
 
 -- the reply is a challenge
-abbrev pub is_challenge : Answer → Bool
+abbrev pub is_challenge : ReplySummary → Bool
 is_challenge answer = answer.code == response_number AuthenticationNeeded
 
 -- the reply ends a change: it is accepted or refused, and not challenged
-abbrev pub ends_change : Answer → Bool
+abbrev pub ends_change : ReplySummary → Bool
 ends_change answer = changes answer.operation && not (is_challenge answer)
 
 -- the reply says that a change was accepted
-abbrev pub accepts_change : Answer → Bool
+abbrev pub accepts_change : ReplySummary → Bool
 accepts_change answer = changes answer.operation && answer.code == response_number Success

@@ -9,4 +9,4 @@ pub record PageText : Type 0 where
 
 -- the page with one line more, as it is printed: without a control character but the line end
 abbrev pub with_line : PageText → List ℕ → PageText
-with_line page line = record page { text = page.text ++ (printed_octets line ++ 10 ∷ []) }
+with_line printout line = record printout { text = printout.text ++ (printed_octets line ++ 10 ∷ []) }
