@@ -320,11 +320,7 @@ def main():
     for thread in threads:
         thread.join(60)
     cases = alike + (silent, full, without_descriptors)
-    for case in cases:
-        if case not in passed:
-            print("%s: it isn't so that %s" % (case.__name__, case.__doc__))
-    print("%d passed, %d failed" % (len(passed), len(cases) - len(passed)))
-    return 0 if len(passed) == len(cases) else 1
+    return servers.tally([("%s, %s" % (case.__name__, case.__doc__), case in passed) for case in cases], "it isn't so")
 
 
 sys.exit(main())
