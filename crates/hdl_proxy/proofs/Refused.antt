@@ -5,7 +5,7 @@ use Rattle.hdl_proxy.specs.declared.proxy.Next.{Next}
 use Rattle.hdl_proxy.specs.declared.proxy.Next.TheVariants.{Answer, Ask}
 use Rattle.hdl_proxy.specs.declared.question.Form.{Form}
 
-pub refused_for : {E : Type 0} (form : Form) (name : List ℕ) (pairs : List (List ℕ × List ℕ)) (why : List ℕ) (result : Result Next E) → IsReason name form pairs why → IfOk result (IsAnswered (RefusesRequest form name why)) → IfOk result (AsksFor name form pairs)
-refused_for form name pairs why (Ok (Answer answer)) reason h = (why, (reason, h))
-refused_for form name pairs why (Ok (Ask question)) reason h = absurd h
-refused_for form name pairs why (Err e) reason h = tt
+pub refused_for : {E : Type 0} (form : Form) (name sent : List ℕ) (pairs : List (List ℕ × List ℕ)) (why : List ℕ) (result : Result Next E) → IsReason name form pairs why → IfOk result (IsAnswered (RefusesRequest form name sent why)) → IfOk result (AsksFor sent name form pairs)
+refused_for form name sent pairs why (Ok (Answer answer)) reason h = (why, (reason, h))
+refused_for form name sent pairs why (Ok (Ask question)) reason h = absurd h
+refused_for form name sent pairs why (Err e) reason h = tt

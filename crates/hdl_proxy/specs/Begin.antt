@@ -1,8 +1,11 @@
 -- What is done for a request.
 use Rattle.std.specs.Prelude.{◌≡◌, ◌≢◌, ◌⊎◌, ⊤, ◌==◌, ◌&&◌, ℕ, Bool, true, false, not, List, [], ◌∷◌, ◌++◌, All, Option, Some, None, codes, map, string_bytes, if◌then◌else◌}
-use Rattle.std.specs.Str.{IsUtf8}
+use Rattle.std.specs.Str.{is_utf8}
 use Rattle.percent_encoding.specs.Percent.{percent_decode}
+use Rattle.hdl_name.specs.Fault.{IsFaultOf}
 use Rattle.hdl_name.specs.Name.{IsHandle}
+use Rattle.hdl_name.specs.declared.fault.NameFault.{NameFault}
+use Rattle.hdl_name.specs.declared.fault.NameFault.TheVariants.{TooLong, NotUtf8, NoSlash, BadSegment, Memory}
 use Rattle.hdl_proxy.specs.Answer.{LeadsTo, Refuses, Tells, IsLocated, is_json}
 use Rattle.hdl_proxy.specs.Link.{path_to}
 use Rattle.hdl_proxy.specs.Pasted.{IsPasted, IsWritten, between_spaces}
@@ -36,17 +39,29 @@ IsReading method = (method ≡ codes "GET") ⊎ (method ≡ codes "HEAD")
 
 -- ---- refusals
 
--- that a name is none, and in some words why
-abbrev pub IsFaultSentence : List ℕ → Type 0
-IsFaultSentence why = (fault : List ℕ) × (why ≡ codes "This is no handle: " ++ (fault ++ codes "."))
+-- that a name is none, and why, by its fault
+abbrev pub fault_sentence : NameFault → List ℕ
+fault_sentence TooLong = codes "This is no handle: the name is too long."
+fault_sentence NotUtf8 = codes "This is no handle: the name is not UTF-8."
+fault_sentence NoSlash = codes "This is no handle: the name has no slash."
+fault_sentence BadSegment = codes "This is no handle: the name has a bad segment."
+fault_sentence Memory = codes "This is no handle: no memory for the name."
+
+-- the sentence of the first fault that this name has
+abbrev pub IsFaultSentence : List ℕ → List ℕ → Type 0
+IsFaultSentence name why = (fault : NameFault) × (IsFaultOf name fault × (why ≡ fault_sentence fault))
 
 -- this name, which is none, is refused in this form
 abbrev pub RefusesName : Form → List ℕ → Reply → Type 0
-RefusesName form name answer = (why : List ℕ) × (IsFaultSentence why × Refuses status.BadRequest form name INVALID_HANDLE why answer)
+RefusesName form name answer = (why : List ℕ) × (IsFaultSentence name why × Refuses status.BadRequest form name INVALID_HANDLE why answer)
 
--- a request for this name is refused for this reason, and told by the name, where that is text
-abbrev pub RefusesRequest : Form → List ℕ → List ℕ → Reply → Type 0
-RefusesRequest form name why answer = (asked : List ℕ) × ((IsUtf8 name → asked ≡ name) × Refuses status.BadRequest form asked INVALID_HANDLE why answer)
+-- what is told of the name that the path means: its octets where they are text, and else the path, as it was sent
+abbrev pub asked_text : List ℕ → List ℕ → List ℕ
+asked_text name sent = if is_utf8 name then name else sent
+
+-- a request for this name, which was sent so, is refused for this reason
+abbrev pub RefusesRequest : Form → List ℕ → List ℕ → List ℕ → Reply → Type 0
+RefusesRequest form name sent why answer = Refuses status.BadRequest form (asked_text name sent) INVALID_HANDLE why answer
 
 -- ---- the front page
 
@@ -167,18 +182,19 @@ abbrev pub is_called_back : Form → List (List ℕ × List ℕ) → Bool
 is_called_back form pairs = is_json form && has_pair (codes "callback") pairs
 
 -- the name that a program asks for: what the rest of the path stands for, its escapes read once
-abbrev pub IsExact : List ℕ → List ℕ → Type 0
-IsExact path name = (text : List ℕ) × ((path ≡ json_path ++ text) × (name ≡ percent_decode text))
+abbrev pub IsExact : List ℕ → List ℕ → List ℕ → Type 0
+IsExact path sent name = (path ≡ json_path ++ sent) × (name ≡ percent_decode sent)
 
 -- the name that a reader asks for: what the text in the path stands for, its escapes read once, without the spaces at its ends
-abbrev pub IsMeant : List ℕ → List ℕ → Type 0
-IsMeant path name = (text : List ℕ) × (IsWritten (without_slash path) text × (name ≡ between_spaces (percent_decode text)))
+abbrev pub IsMeant : List ℕ → List ℕ → List ℕ → Type 0
+IsMeant path sent name =
+    (sent ≡ without_slash path) × ((text : List ℕ) × (IsWritten sent text × (name ≡ between_spaces (percent_decode text))))
 
--- the form that an address asks for, and the name in it: JSON where its path begins so, and else a page or the way
-abbrev pub IsAddress : List ℕ → List (List ℕ × List ℕ) → Form → List ℕ → Type 0
-IsAddress path pairs form name =
-    ((form ≡ json_form pairs) × IsExact path name)
-    ⊎ ((form ≡ page_form pairs) × ¬ (IsUnder api_path path) × IsMeant path name)
+-- the form that an address asks for, the part of its path that was sent for a name, and the name: JSON where the path begins so, and else a page or the way
+abbrev pub IsAddress : List ℕ → List (List ℕ × List ℕ) → Form → List ℕ → List ℕ → Type 0
+IsAddress path pairs form sent name =
+    ((form ≡ json_form pairs) × IsExact path sent name)
+    ⊎ ((form ≡ page_form pairs) × ¬ (IsUnder api_path path) × IsMeant path sent name)
 
 -- aliases are followed where a URL is, unless the query has `ignore_aliases`
 abbrev pub is_way : Form → Bool
@@ -209,14 +225,14 @@ abbrev pub IsReason : List ℕ → Form → List (List ℕ × List ℕ) → List
 IsReason name form pairs why =
     ((is_called_back form pairs ≡ true) × (why ≡ codes "The word callback isn't taken: pages of any site may read this JSON."))
     ⊎ (¬ (All IsIndex (values_named (codes "index") pairs)) × (why ≡ codes "An index is a number below 4294967296."))
-    ⊎ (¬ (IsHandle name) × IsFaultSentence why)
+    ⊎ (¬ (IsHandle name) × IsFaultSentence name why)
 
--- it is asked for, or where there is a reason the request is refused
-abbrev pub AsksFor : List ℕ → Form → List (List ℕ × List ℕ) → Next → Type 0
-AsksFor name form pairs (Ask question) = IsAsked name form pairs question
-AsksFor name form pairs (Answer answer) = (why : List ℕ) × (IsReason name form pairs why × RefusesRequest form name why answer)
+-- the name that was sent so is asked for, or where there is a reason the request is refused
+abbrev pub AsksFor : List ℕ → List ℕ → Form → List (List ℕ × List ℕ) → Next → Type 0
+AsksFor sent name form pairs (Ask question) = IsAsked name form pairs question
+AsksFor sent name form pairs (Answer answer) = (why : List ℕ) × (IsReason name form pairs why × RefusesRequest form name sent why answer)
 
 -- it asks in this form for this name
 abbrev pub AsksAddress : List ℕ → List (List ℕ × List ℕ) → Next → Type 0
 AsksAddress path pairs next =
-    (form : Form) × (name : List ℕ) × (IsAddress path pairs form name × AsksFor name form pairs next)
+    (form : Form) × (sent : List ℕ) × (name : List ℕ) × (IsAddress path pairs form sent name × AsksFor sent name form pairs next)

@@ -1,7 +1,8 @@
 //! Names where they stand in an address.
 
-ghost use Rattle.std.specs.Prelude.{◌≡◌, IfOk, MatchResult, string_bytes};
+ghost use Rattle.std.specs.Prelude.{◌≡◌, IfErr, IfOk, MatchResult, string_bytes};
 ghost use Rattle.percent_encoding.specs.Percent.{percent_decode};
+ghost use Rattle.hdl_name.specs.Fault.{IsFaultOf};
 ghost use Rattle.hdl_name.specs.Name.{IsHandle};
 ghost use Rattle.hdl_proxy.specs.Words.{text_of};
 
@@ -11,7 +12,8 @@ use std::alloc::{AllocError, Global};
 
 /// The name that these octets are, or its fault, which is never want of memory.
 pub fn read_name(alloc: Global, octets: &[u8]) -> Result<Result<Name, NameFault>, AllocError>
-    ensures { IfOk result (λ read. MatchResult read (λ name. (name ≡ octets.now) × IsHandle octets.now) (λ _. ¬ (IsHandle octets.now))) }
+    ensures name { IfOk result (λ read. MatchResult read (λ name. (name ≡ octets.now) × IsHandle octets.now) (λ _. ¬ (IsHandle octets.now))) }
+    ensures fault { IfOk result (λ read. IfErr read (IsFaultOf octets.now)) }
 {
     match Name::read(alloc, octets) {
         Ok(name) => Ok(Ok(name)),

@@ -1,9 +1,8 @@
 //! From a request of HTTP to a question, and from its reply to an answer.
 
 ghost use Rattle.std.specs.Prelude.{◌≡◌, ◌≢◌, IfOk, codes, string_bytes};
-ghost use Rattle.std.specs.Str.{IsUtf8};
 ghost use Rattle.hdl_proxy.specs.Answer.{Answers, Goes, IsLocated, Refuses, ShowsFound, ShowsValues, is_json};
-ghost use Rattle.hdl_proxy.specs.Begin.{AsksAddress, AsksFor, IsAnswered, IsBare, IsFaultSentence, IsFile, IsFront, IsLocatedIfAnswered, IsNoHandle, IsOfFile, IsOfHandle, IsOwn, IsReading, LeadsFromPasted, LeadsToName, RefusesMethod, RefusesMethodIn, RefusesRequest, follows_aliases, is_called_back, json_form, page_form, without_slash};
+ghost use Rattle.hdl_proxy.specs.Begin.{AsksAddress, AsksFor, IsAnswered, IsBare, IsFile, IsFront, IsLocatedIfAnswered, IsNoHandle, IsOfFile, IsOfHandle, IsOwn, IsReading, LeadsFromPasted, LeadsToName, RefusesMethod, RefusesMethodIn, RefusesRequest, asked_text, fault_sentence, follows_aliases, is_called_back, json_form, page_form, without_slash};
 ghost use Rattle.hdl_proxy.specs.Query.{pairs_of, texts_of};
 ghost use Rattle.hdl_proxy.specs.Status.{refused_words};
 
@@ -79,19 +78,23 @@ fn lead(alloc: Global, sent: &[u8]) -> Result<Answer, AllocError>
             pages::redirect(alloc, name.sent(), to, Keeping::Never)
         }
         Err(fault) => {
-            let why = fault_sentence(alloc, fault)?;
-            bad_request(alloc, sent, Form::Page, why.as_str())
+            let why = fault_sentence(fault);
+            bad_request(alloc, sent, Form::Page, why)
         }
     }
 }
 
 /// That a name is none, and why.
-fn fault_sentence(alloc: Global, fault: NameFault) -> Result<String, AllocError>
-    ensures { IfOk result (λ why. IsFaultSentence (string_bytes why)) }
+fn fault_sentence(fault: NameFault) -> &'static str
+    ensures { result.now ≡ fault_sentence fault }
 {
-    let words = format!(in alloc; "{fault}")?;
-    let fault = words.as_str();
-    format!(in alloc; "This is no handle: {fault}.")
+    match fault {
+        NameFault::TooLong => "This is no handle: the name is too long.",
+        NameFault::NotUtf8 => "This is no handle: the name is not UTF-8.",
+        NameFault::NoSlash => "This is no handle: the name has no slash.",
+        NameFault::BadSegment => "This is no handle: the name has a bad segment.",
+        NameFault::Memory => "This is no handle: no memory for the name.",
+    }
 }
 
 fn bad_request(alloc: Global, asked: &[u8], form: Form, why: &str) -> Result<Answer, AllocError>
@@ -104,7 +107,7 @@ fn bad_request(alloc: Global, asked: &[u8], form: Form, why: &str) -> Result<Ans
 
 /// What was asked, as text: the octets that the path stands for, or where they are none the path as it was sent.
 fn asked_text<'a>(octets: &'a [u8], sent: &'a str) -> &'a [u8]
-    ensures { IsUtf8 octets.now → result.now ≡ octets.now }
+    ensures { result.now ≡ asked_text octets.now sent.now }
 {
     match str::from_utf8(octets) {
         Ok(_) => octets,
@@ -114,7 +117,7 @@ fn asked_text<'a>(octets: &'a [u8], sent: &'a str) -> &'a [u8]
 
 /// The refusal of a request for this name, which stands so in the address.
 fn refuse(alloc: Global, form: Form, name: &[u8], sent: &str, why: &str) -> Result<Next, AllocError>
-    ensures refuses { IfOk result (IsAnswered (RefusesRequest form name.now why.now)) }
+    ensures refuses { IfOk result (IsAnswered (RefusesRequest form name.now sent.now why.now)) }
     ensures located { IfOk result IsLocatedIfAnswered }
 {
     let asked = asked_text(name, sent);
@@ -150,7 +153,7 @@ fn begin_handle(
     form: Form,
     pairs: &[Pair],
 ) -> Result<Next, AllocError>
-    ensures asks { IfOk result (AsksFor octets.now form (texts_of pairs.now)) }
+    ensures asks { IfOk result (AsksFor sent.now octets.now form (texts_of pairs.now)) }
     ensures located { IfOk result IsLocatedIfAnswered }
 {
     if is_called_back(form, pairs) {
@@ -177,8 +180,8 @@ fn begin_handle(
             keeping: Keeping::Seconds(DAY),
         })),
         Err(fault) => {
-            let why = fault_sentence(alloc, fault)?;
-            refuse(alloc, form, octets, sent, why.as_str())
+            let why = fault_sentence(fault);
+            refuse(alloc, form, octets, sent, why)
         }
     }
 }

@@ -1,6 +1,6 @@
 use Rattle.std.proofs.Common.{◌≡◌, ℕ, List, inl, inr, ap, subst, ◌∙◌}
 use Rattle.std.proofs.lemmas.Result.{IfOk-weaker}
-use Rattle.hdl_proxy.specs.Begin.{AsksAddress, AsksFor, IsExact, IsMeant, json_form, json_path, page_form, without_slash}
+use Rattle.hdl_proxy.specs.Begin.{AsksAddress, AsksFor, IsExact, IsMeant, json_form, json_path, page_form}
 use Rattle.hdl_proxy.specs.Pasted.{IsWritten, between_spaces}
 use Rattle.hdl_proxy.specs.Query.{pairs_of, texts_of}
 use Rattle.hdl_proxy.specs.declared.proxy.Next.{Next}
@@ -21,9 +21,9 @@ returns-in-Some-clause-asks c = λ of_handle.
     let first : texts_of c.deref-in-Some.result.now ≡ pairs = ap texts_of c.deref-in-Some.ensures.value ∙ c.in_ok-pairs.ensures in
     let second : texts_of c.deref-in-Some-2.result.now ≡ pairs = ap texts_of c.deref-in-Some-2.ensures.value ∙ c.in_ok-pairs.ensures in
     let stays : form ≡ json_form pairs = c.json_form.ensures ∙ ap json_form first in
-    let exact : IsExact path name = (text, (behind_front json_path path text c.in-Some.ensures.cases, c.deref.ensures.value ∙ c.in_ok-octets.ensures)) in
+    let exact : IsExact path text name = (behind_front json_path path text c.in-Some.ensures.cases, c.deref.ensures.value ∙ c.in_ok-octets.ensures) in
     IfOk-weaker c.begin_handle.result _ (AsksAddress path pairs)
-    (λ (next : Next) h. (form, name, (inl (stays, exact), subst (λ (ps : List (List ℕ × List ℕ)). AsksFor name form ps next) second h)))
+    (λ (next : Next) h. (form, text, name, (inl (stays, exact), subst (λ (ps : List (List ℕ × List ℕ)). AsksFor text name form ps next) second h)))
     c.begin_handle.ensures.asks
 
 pub returns-then-starts_with-clause-asks : goal.returns-then-starts_with-clause-asks
@@ -39,9 +39,10 @@ returns-clause-asks c = λ of_handle.
     let first : texts_of c.deref-3.result.now ≡ pairs = ap texts_of c.deref-3.ensures.value ∙ c.in_ok-pairs.ensures in
     let second : texts_of c.deref-4.result.now ≡ pairs = ap texts_of c.deref-4.ensures.value ∙ c.in_ok-pairs.ensures in
     let stays : form ≡ page_form pairs = c.page_form.ensures ∙ ap page_form first in
-    let sent : c.as_bytes.result.now ≡ without_slash path = c.as_bytes.ensures.value ∙ c.without_slash-sent.ensures in
-    let written : IsWritten (without_slash path) text = subst (λ (octets : List ℕ). IsWritten octets text) sent c.name_within.ensures in
-    let meant : IsMeant path name = (text, (written, c.between_spaces-name.ensures ∙ ap between_spaces (c.deref-2.ensures.value ∙ c.in_ok-octets-2.ensures))) in
+    let sent : List ℕ = c.without_slash-sent.result.now in
+    let written : IsWritten sent text = subst (λ (octets : List ℕ). IsWritten octets text) c.as_bytes.ensures.value c.name_within.ensures in
+    let spelt = c.between_spaces-name.ensures ∙ ap between_spaces (c.deref-2.ensures.value ∙ c.in_ok-octets-2.ensures) in
+    let meant : IsMeant path sent name = (c.without_slash-sent.ensures, (text, (written, spelt))) in
     IfOk-weaker c.begin_handle-2.result _ (AsksAddress path pairs)
-    (λ (next : Next) h. (form, name, (inr (stays, (λ under. c.if-starts_with.ensures.cases under.0 under.1), meant), subst (λ (ps : List (List ℕ × List ℕ)). AsksFor name form ps next) second h)))
+    (λ (next : Next) h. (form, sent, name, (inr (stays, (λ under. c.if-starts_with.ensures.cases under.0 under.1), meant), subst (λ (ps : List (List ℕ × List ℕ)). AsksFor sent name form ps next) second h)))
     c.begin_handle-2.ensures.asks
