@@ -79,7 +79,7 @@ impl<T: Drop> Inlet<T> {
         ensures lane { SameInlet self.old self.new }
         ensures put { put_into self.new ≡ put_into self.old }
         ensures room { IsTrue result ↔ (0 < known_room self.new) }
-        ensures kept { known_room self.old ≤ known_room self.new }
+        ensures no_room_lost { known_room self.old ≤ known_room self.new }
     {
         !self.producer.is_full()
     }

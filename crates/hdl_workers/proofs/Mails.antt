@@ -8,11 +8,14 @@ use Rattle.hdl_limits.specs.declared.TheConstants.{PIECE_LEN}
 use Rattle.hdl_frame.specs.Frames.{IsFrame}
 use Rattle.hdl_events.specs.declared.Outcome.{Outcome}
 use Rattle.hdl_events.specs.declared.Happening.TheVariants.{Open, Frame, Bad, Close}
+use Rattle.hdl_workers.specs.declared.door.Packets.{Ghosts}
 use Rattle.hdl_workers.specs.declared.item.Item.{Item}
 use Rattle.hdl_workers.specs.declared.item.Item.TheVariants.{Event, End}
+use Rattle.hdl_workers.specs.declared.worker_lane.WorkerLane.{WorkerLane}
 use Rattle.hdl_workers.specs.Octets.{octets_of}
 use Rattle.hdl_workers.specs.Sign.{Sign, opened, framed, faulty, closed, finished, sign_of, signs_of, PutOne}
-use Rattle.hdl_workers.specs.Mail.{FramesOf, to_peer, Failed, ArePieces, SendsReply, BeginsReply, Mails, Mailed, Traded, Trades, peer_of, Trading, TakesIn, MayTakeIn, Replies, MayReply, Sends}
+use Rattle.hdl_workers.specs.Mail.{FramesOf, to_peer, Failed, ArePieces, SendsReply, BeginsReply, Mails, Mailed, Traded, peer_of, Correspondence, correspondence_at, Trading, TakesIn, Replies, MayReply, Sends}
+use Rattle.hdl_workers.specs.WorkerLane.{put_by, taken_by}
 
 peer_in : Sign → ℕ
 peer_in (framed p b) = p
@@ -88,57 +91,58 @@ mails_frame : (i : Item) (peer : ℕ) (o : Outcome) (more : List (ℕ × List �
 mails_frame i peer o more n m e s = rw e s
 
 -- the last datagram was dropped
-pub passed : (d : ℕ × List ℕ) (peers : List ℕ) (items : List Item) (os : List Outcome) → (IsFrame d.1 → ⊥) → TakesIn d peers items peers items os
-passed d peers items os not received sent n m (frames, shown, far, mailed, way) = (frames, shown, frames_passed received d frames far not, mailed, way)
+pub passed : (d : ℕ × List ℕ) (c : Correspondence) → (IsFrame d.1 → ⊥) → TakesIn d c c
+passed d c not received n (frames, shown, far, mailed, way) = (frames, shown, frames_passed received d frames far not, mailed, way)
 
 -- the last datagram was put
 put_signs : (frames : List Sign) (items items' : List Item) (s : Sign) → signs_of items ≡ opened ∷ frames → PutOne s items items' → signs_of items' ≡ opened ∷ (frames ++ s ∷ [])
 put_signs frames items items' s shown (item, e, is) =
     ap signs_of e ∙ map-append sign_of items (item ∷ []) ∙ ap (λ w. w ++ sign_of item ∷ []) shown ∙ ap (λ (w : Sign). (opened ∷ frames) ++ w ∷ []) is
 
-pub taken_in : (d : ℕ × List ℕ) (peers : List ℕ) (items items' : List Item) (os : List Outcome) → IsFrame d.1 → PutOne (framed d.0 d.1) items items' → TakesIn d peers items (peers ++ d.0 ∷ []) items' os
-taken_in d peers items items' os is put received sent n m (frames, shown, far, mailed, way) =
-    let le = mailed_long items os sent n m mailed in
-    let mailed' : Mailed items' os sent n m = rw put.1 (mailed_put items (put.0 ∷ []) os sent n m mailed) in
-    let left : drop (length os) items' ≡ drop (length os) items ++ put.0 ∷ [] = ap (drop (length os)) put.1 ∙ drop-append-le (length os) items (put.0 ∷ []) le in
-    let way' : map peer_of (drop (length os) items') ≡ map Some (peers ++ d.0 ∷ []) =
-    ap (map peer_of) left ∙ map-append peer_of (drop (length os) items) (put.0 ∷ []) ∙ ap (λ w. w ++ peer_of put.0 ∷ []) way
-    ∙ ap (λ (w : Option ℕ). map Some peers ++ w ∷ []) (peer_framed put.0 d.0 d.1 put.2) ∙ sym (map-append Some peers (d.0 ∷ [])) in
-    (frames ++ framed d.0 d.1 ∷ [], put_signs frames items items' (framed d.0 d.1) shown put, frames_more received d frames far is, mailed', way')
+-- one more item was put, for whose frame this peer waits
+abbrev pub with_frame : Correspondence → ℕ → List Item → Correspondence
+with_frame c peer items = record { peers = c.peers ++ peer ∷ []; items = items; sent = c.sent; faults = c.faults; outcomes = c.outcomes }
 
--- nothing was put for the last datagram
-pub not_taken_in : (d : ℕ × List ℕ) (peers : List ℕ) (items items' : List Item) (os : List Outcome) → items' ≡ items → MayTakeIn d peers items items' os
-not_taken_in d peers items items' os same received sent n m (frames, shown, far, mailed, way) = rw same (frames, shown, inr (received, d, refl, far), inl mailed)
+pub taken_in : (d : ℕ × List ℕ) (c : Correspondence) (items : List Item) → IsFrame d.1 → PutOne (framed d.0 d.1) c.items items → TakesIn d c (with_frame c d.0 items)
+taken_in d c items is put received n (frames, shown, far, mailed, way) =
+    let le = mailed_long c.items c.outcomes c.sent n c.faults mailed in
+    let mailed' : Mailed items c.outcomes c.sent n c.faults = rw put.1 (mailed_put c.items (put.0 ∷ []) c.outcomes c.sent n c.faults mailed) in
+    let left : drop (length c.outcomes) items ≡ drop (length c.outcomes) c.items ++ put.0 ∷ [] = ap (drop (length c.outcomes)) put.1 ∙ drop-append-le (length c.outcomes) c.items (put.0 ∷ []) le in
+    let way' : map peer_of (drop (length c.outcomes) items) ≡ map Some (c.peers ++ d.0 ∷ []) =
+    ap (map peer_of) left ∙ map-append peer_of (drop (length c.outcomes) c.items) (put.0 ∷ []) ∙ ap (λ w. w ++ peer_of put.0 ∷ []) way
+    ∙ ap (λ (w : Option ℕ). map Some c.peers ++ w ∷ []) (peer_framed put.0 d.0 d.1 put.2) ∙ sym (map-append Some c.peers (d.0 ∷ [])) in
+    (frames ++ framed d.0 d.1 ∷ [], put_signs frames c.items items (framed d.0 d.1) shown put, frames_more received d frames far is, mailed', way')
 
 -- the first item without an outcome is that of the peer that waits longest
 first_waits : (peer : ℕ) (peers : List ℕ) (items : List Item) → map peer_of items ≡ Some peer ∷ map Some peers → (i : Item) × (left : List Item) × (items ≡ i ∷ left) × (peer_of i ≡ Some peer) × (map peer_of left ≡ map Some peers)
 first_waits peer peers [] e = absurd cc
 first_waits peer peers (i ∷ left) e = (i, left, refl, cc, cc)
 
-pub replied : (peer : ℕ) (peers : List ℕ) (items : List Item) (sent sent' : List (ℕ × List ℕ)) (m m' : ℕ) (os os' : List Outcome) (o : Outcome)
-    → os' ≡ os ++ o ∷ [] → Sends (SendsReply peer (octets_of o)) sent m sent' m' → Replies (peer ∷ peers) items sent m os peers sent' m' os'
-replied peer peers items sent sent' m m' os os' o q (more, w, sends) received n (frames, shown, far, mailed, way) =
-    let (i, left, at, of, rest) = first_waits peer peers (drop (length os) items) way in
-    let one = mails_frame i peer o more m m' of sends in
-    let mailed' : Mailed items os' sent' n m' = rw (q, w) (mailed_more items os sent more n m m' i left o mailed at one) in
-    let long = ap length q ∙ length-append os (o ∷ []) in
-    let count : length os' ≡ suc (length os) = omega arith in
-    let way' : map peer_of (drop (length os') items) ≡ map Some peers = ap (λ k. map peer_of (drop k items)) count ∙ ap (map peer_of) (drop_next items (length os) i left at) ∙ rest in
-    (frames, shown, far, mailed', way')
+pub replied : (peer : ℕ) (before after : Correspondence) (o : Outcome) → before.peers ≡ peer ∷ after.peers → after.items ≡ before.items → after.outcomes ≡ before.outcomes ++ o ∷ []
+    → Sends (SendsReply peer (octets_of o)) before.sent before.faults after.sent after.faults → Replies before after
+replied peer before after o first put q (more, w, sends) received n (frames, shown, far, mailed, way) =
+    let (i, left, at, of, rest) = first_waits peer after.peers (drop (length before.outcomes) before.items) (way ∙ ap (map Some) first) in
+    let one = mails_frame i peer o more before.faults after.faults of sends in
+    let mailed' : Mailed after.items after.outcomes after.sent n after.faults =
+    rw (put, q, w) (mailed_more before.items before.outcomes before.sent more n before.faults after.faults i left o mailed at one) in
+    let long = ap length q ∙ length-append before.outcomes (o ∷ []) in
+    let count : length after.outcomes ≡ suc (length before.outcomes) = omega arith in
+    let way' : map peer_of (drop (length after.outcomes) after.items) ≡ map Some after.peers =
+    rw (put, count) (ap (map peer_of) (drop_next before.items (length before.outcomes) i left at) ∙ rest) in
+    (frames, ap signs_of put ∙ shown, far, mailed', way')
 
--- no outcome came
-pub not_replied : (peers : List ℕ) (items : List Item) (sent sent' : List (ℕ × List ℕ)) (m m' : ℕ) (os os' : List Outcome) → os' ≡ os → sent' ≡ sent → m' ≡ m → MayReply peers items sent m os sent' m' os'
-not_replied peers items sent sent' m m' os os' a b q received n (frames, shown, far, mailed, way) = rw (a, b, q) (frames, shown, inl far, inl mailed)
-
-pub replied_part : (peer : ℕ) (peers : List ℕ) (items : List Item) (sent sent' : List (ℕ × List ℕ)) (m m' : ℕ) (os os' : List Outcome) (o : Outcome)
-    → os' ≡ os ++ o ∷ [] → Sends (BeginsReply peer (octets_of o)) sent m sent' m' → MayReply (peer ∷ peers) items sent m os sent' m' os'
-replied_part peer peers items sent sent' m m' os os' o q (more, w, (ds, are, le, (rest, x))) received n (frames, shown, far, mailed, way) =
-    let (i, left, at, of, others) = first_waits peer peers (drop (length os) items) way in
+-- a beginning of its reply was sent
+pub replied_part : (peer : ℕ) (before after : Correspondence) (o : Outcome) → before.peers ≡ peer ∷ after.peers → after.items ≡ before.items → after.outcomes ≡ before.outcomes ++ o ∷ []
+    → Sends (BeginsReply peer (octets_of o)) before.sent before.faults after.sent after.faults → MayReply before after
+replied_part peer before after o first put q (more, w, (ds, are, le, (rest, x))) received n (frames, shown, far, mailed, way) =
+    let (i, left, at, of, others) = first_waits peer after.peers (drop (length before.outcomes) before.items) (way ∙ ap (map Some) first) in
     let whole = map (to_peer peer) ds in
-    let one = mails_frame i peer o whole m m' of (ds, are, le, inl refl) in
-    let all : Mailed items os' (sent ++ whole) n m' = rw q (mailed_more items os sent whole n m m' i left o mailed at one) in
-    let same : sent' ++ rest ≡ sent ++ whole = ap (λ z. z ++ rest) w ∙ append_assoc sent more rest ∙ ap (λ z. sent ++ z) x in
-    (frames, shown, inl far, inr (os, o, sent, more, rest, m, q, w, mailed, rw same all))
+    let one = mails_frame i peer o whole before.faults after.faults of (ds, are, le, inl refl) in
+    let same : after.sent ++ rest ≡ before.sent ++ whole = ap (λ z. z ++ rest) w ∙ append_assoc before.sent more rest ∙ ap (λ z. before.sent ++ z) x in
+    let all : Mailed after.items after.outcomes (after.sent ++ rest) n after.faults =
+    rw (put, q, same) (mailed_more before.items before.outcomes before.sent whole n before.faults after.faults i left o mailed at one) in
+    let earlier : Mailed after.items before.outcomes before.sent n before.faults = rw put mailed in
+    (frames, ap signs_of put ∙ shown, inl far, inr (before.outcomes, o, before.sent, more, rest, before.faults, q, w, earlier, all))
 
 -- the peer that is taken out is the first
 pub first_out : (peers left : List ℕ) (peer : ℕ) → 0 < length peers → peer ≡ slice_index_or peers 0 peer → left ≡ remove peers 0 → peers ≡ peer ∷ left
@@ -149,40 +153,23 @@ pub none_waits : (peers : List ℕ) → length peers == 0 ≡ true → peers ≡
 none_waits [] e = refl
 none_waits (p ∷ ps) e = absurd (omega (arith, eqb-true (length (p ∷ ps)) 0 e))
 
--- several replies in a row
-pub replies_both : (peers peers' peers'' : List ℕ) (items : List Item) (sent sent' sent'' : List (ℕ × List ℕ)) (m m' m'' : ℕ) (os os' os'' : List Outcome)
-    → Replies peers items sent m os peers' sent' m' os' → Replies peers' items sent' m' os' peers'' sent'' m'' os'' → Replies peers items sent m os peers'' sent'' m'' os''
-replies_both peers peers' peers'' items sent sent' sent'' m m' m'' os os' os'' a b received n t = b received n (a received n t)
-
-pub may_reply_then : (peers peers' : List ℕ) (items : List Item) (sent sent' sent'' : List (ℕ × List ℕ)) (m m' m'' : ℕ) (os os' os'' : List Outcome)
-    → Replies peers items sent m os peers' sent' m' os' → MayReply peers' items sent' m' os' sent'' m'' os'' → MayReply peers items sent m os sent'' m'' os''
-may_reply_then peers peers' items sent sent' sent'' m m' m'' os os' os'' a b received n t = b received n (a received n t)
-
 -- nothing is under way where each item has its outcome, and else it isn't so
-pub trading_of : (received sent : List (ℕ × List ℕ)) (n m : ℕ) (items : List Item) (os : List Outcome) → Traded received sent n m items os → Trading [] received sent n m items os
-trading_of received sent n m items os (frames, shown, far, mailed, len) = (frames, shown, far, mailed, ap (map peer_of) (drop_all (length os) items (omega arith)))
+pub trading_of : (received : List (ℕ × List ℕ)) (n : ℕ) (c : Correspondence) → c.peers ≡ [] → Traded received c.sent n c.faults c.items c.outcomes → Trading received n c
+trading_of received n c none (frames, shown, far, mailed, len) =
+    (frames, shown, far, mailed, ap (map peer_of) (drop_all (length c.outcomes) c.items (omega arith)) ∙ sym (ap (map Some) none))
 
-pub traded_of : (received sent : List (ℕ × List ℕ)) (n m : ℕ) (items : List Item) (os : List Outcome) → Trading [] received sent n m items os → Traded received sent n m items os
-traded_of received sent n m items os (frames, shown, far, mailed, way) =
-    let le = mailed_long items os sent n m mailed in
-    let none : length (map peer_of (drop (length os) items)) ≡ 0 = ap length way in
-    let long = length-map (drop (length os) items) peer_of in
-    let left = length-drop (length os) items in
-    let len : length os ≡ length items = omega arith in
+pub traded_of : (received : List (ℕ × List ℕ)) (n : ℕ) (c : Correspondence) → c.peers ≡ [] → Trading received n c → Traded received c.sent n c.faults c.items c.outcomes
+traded_of received n c none (frames, shown, far, mailed, way) =
+    let le = mailed_long c.items c.outcomes c.sent n c.faults mailed in
+    let all : length (map peer_of (drop (length c.outcomes) c.items)) ≡ 0 = ap length (way ∙ ap (map Some) none) in
+    let long = length-map (drop (length c.outcomes) c.items) peer_of in
+    let left = length-drop (length c.outcomes) c.items in
+    let len : length c.outcomes ≡ length c.items = omega arith in
     (frames, shown, far, mailed, len)
 
 -- Open, and its outcome
 pub begun : (items : List Item) (os : List Outcome) (o : Outcome) (n : ℕ) → items ≡ Event Open ∷ [] → os ≡ o ∷ [] → Traded [] [] n n items os
 begun items os o n e f = rw (e, f) ([], refl, refl, ([], [], n, n, omega arith, refl, (refl, omega arith), (refl, omega arith)), refl)
-
-pub begun_part : (items : List Item) (os : List Outcome) (n : ℕ) → items ≡ Event Open ∷ [] → os ≡ [] → Trades [] [] n n items os
-begun_part items os n e f = rw (e, f) (inr ([], refl, inl refl, inl (refl, omega arith)))
-
-pub not_begun : (items : List Item) (os : List Outcome) (n : ℕ) → items ≡ [] → os ≡ [] → Trades [] [] n n items os
-not_begun items os n e f = inl (refl, refl, e, f)
-
-pub most_of : (peers : List ℕ) (received sent : List (ℕ × List ℕ)) (n m : ℕ) (items : List Item) (os : List Outcome) → Trading peers received sent n m items os → Trades received sent n m items os
-most_of peers received sent n m items os (frames, shown, far, mailed, way) = inr (frames, shown, inl far, inl mailed)
 
 -- receives that failed are counted too
 mailed_later : (items : List Item) (os : List Outcome) (sent : List (ℕ × List ℕ)) (n m p : ℕ) → Mailed items os sent n m → m ≤ p → Mailed items os sent n p
@@ -190,10 +177,12 @@ mailed_later items [] sent n m p (e, le) up = (e, omega arith)
 mailed_later [] (o ∷ os) sent n m p all up = absurd all
 mailed_later (i ∷ is) (o ∷ os) sent n m p (first, later, h, k, to, e, this, rest) up = (first, later, h, k, to, e, this, mailed_later is os later k m p rest up)
 
-pub trading_later : (peers : List ℕ) (received received' sent sent' : List (ℕ × List ℕ)) (n m p : ℕ) (items : List Item) (os : List Outcome) → Trading peers received sent n m items os → received' ≡ received → sent' ≡ sent → m ≤ p
-    → Trading peers received' sent' n p items os
-trading_later peers received received' sent sent' n m p items os (frames, shown, far, mailed, way) a b up =
-    rw (a, b) (frames, shown, far, mailed_later items os sent n m p mailed up, way)
+pub trading_later : {P : Type 0} (g : Ghosts P) (before after : P) (line : WorkerLane) (peers : List ℕ) (received : List (ℕ × List ℕ)) (n : ℕ) → Trading received n (correspondence_at g before line peers)
+    → g.sent after ≡ g.sent before → g.fault_count before ≤ g.fault_count after → Trading received n (correspondence_at g after line peers)
+trading_later g before after line peers received n (frames, shown, far, mailed, way) same up =
+    let mailed' : Mailed (put_by line) (taken_by line) (g.sent after) n (g.fault_count after) =
+    rw same (mailed_later (put_by line) (taken_by line) (g.sent before) n (g.fault_count before) (g.fault_count after) mailed up) in
+    (frames, shown, far, mailed', way)
 
 -- the pieces that an iterator gave, by their octets
 abbrev pub seen : List (List ℕ × Bor (List ℕ)) → List (List ℕ × List ℕ)

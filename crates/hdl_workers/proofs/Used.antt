@@ -69,24 +69,24 @@ nonces_all g p g' p' p'' used e f =
 
 -- both at once
 module _ {C N : Type 0} (c : Clock.Ghosts C) (n : Nonces.Ghosts N) where
-  pub stamps_both : (i : C) (j : N) (p : List Item) (i' : C) (j' : N) (p' : List Item) (i'' : C) (j'' : N) (p'' : List Item) → StampsUsed c n (i, j, p) (i', j', p') → StampsUsed c n (i', j', p') (i'', j'', p'') → StampsUsed c n (i, j, p) (i'', j'', p'')
-  stamps_both i j p i' j' p' i'' j'' p'' a b = record {
+  pub stamps_both : (x y z : C × N × List Item) → StampsUsed c n x y → StampsUsed c n y z → StampsUsed c n x z
+  stamps_both x y z a b = record {
     moments = λ t. used_both _ _ _ _ _ _ _ (a.moments t) (b.moments t);
     nonces = λ t. used_both _ _ _ _ _ _ _ (a.nonces t) (b.nonces t);
   }
 
-  pub stamps_still : (i i' : C) (j j' : N) (p p' : List Item) → (IsTrue c.is_observed → c.answers i' ≡ c.answers i) → (IsTrue n.is_observed → n.answers j' ≡ n.answers j) → p' ≡ p → StampsUsed c n (i, j, p) (i', j', p')
-  stamps_still i i' j j' p p' e f put = record {
+  pub stamps_still : (x y : C × N × List Item) → (IsTrue c.is_observed → c.answers y.0 ≡ c.answers x.0) → (IsTrue n.is_observed → n.answers y.1 ≡ n.answers x.1) → y.2 ≡ x.2 → StampsUsed c n x y
+  stamps_still x y e f put = record {
     moments = λ t. moments_still _ _ _ _ (e t) put;
     nonces = λ t. nonces_still _ _ _ _ (f t) put;
   }
 
   -- a frame was put
-  pub stamp_one : (i i' : C) (j j' : N) (p p' : List Item) (x : ℕ) (y : List ℕ) (item : Item) → (IsTrue c.is_observed → Takes 0 (c.answers i) x (c.answers i')) → (IsTrue n.is_observed → Takes (replicate 16 0) (n.answers j) y (n.answers j'))
-      → p' ≡ p ++ item ∷ [] → moment_of item ≡ x ∷ [] → nonce_of item ≡ y ∷ [] → StampsUsed c n (i, j, p) (i', j', p')
-  stamp_one i i' j j' p p' x y item e f put a b = record {
-    moments = λ t. moment_one _ _ _ _ x item (e t) put a;
-    nonces = λ t. nonce_one _ _ _ _ y item (f t) put b;
+  pub stamp_one : (x y : C × N × List Item) (moment : ℕ) (nonce : List ℕ) (item : Item) → (IsTrue c.is_observed → Takes 0 (c.answers x.0) moment (c.answers y.0)) → (IsTrue n.is_observed → Takes (replicate 16 0) (n.answers x.1) nonce (n.answers y.1))
+      → y.2 ≡ x.2 ++ item ∷ [] → moment_of item ≡ moment ∷ [] → nonce_of item ≡ nonce ∷ [] → StampsUsed c n x y
+  stamp_one x y moment nonce item e f put a b = record {
+    moments = λ t. moment_one _ _ _ _ moment item (e t) put a;
+    nonces = λ t. nonce_one _ _ _ _ nonce item (f t) put b;
   }
 
   -- an item that is no frame was put

@@ -7,10 +7,13 @@ use Rattle.hdl_frame.specs.Pieces.{datagrams}
 use Rattle.hdl_events.specs.declared.Happening.{Happening}
 use Rattle.hdl_events.specs.declared.Happening.TheVariants.{Open, Frame, Bad, Close}
 use Rattle.hdl_events.specs.declared.Outcome.{Outcome}
+use Rattle.hdl_workers.specs.declared.door.Packets.{Ghosts}
 use Rattle.hdl_workers.specs.declared.item.Item.{Item}
 use Rattle.hdl_workers.specs.declared.item.Item.TheVariants.{Event, End}
+use Rattle.hdl_workers.specs.declared.worker_lane.WorkerLane.{WorkerLane}
 use Rattle.hdl_workers.specs.Octets.{octets_of}
 use Rattle.hdl_workers.specs.Sign.{Sign, opened, framed, signs_of}
+use Rattle.hdl_workers.specs.WorkerLane.{put_by, taken_by}
 
 -- a Frame for each datagram that is one frame, in order
 abbrev pub FramesOf : List (ℕ × List ℕ) → List Sign → Type 0
@@ -99,25 +102,43 @@ Trades received sent n m items os =
 abbrev pub Sends : (List (ℕ × List ℕ) → ℕ → ℕ → Type 0) → List (ℕ × List ℕ) → ℕ → List (ℕ × List ℕ) → ℕ → Type 0
 Sends P old n new m = (more : List (ℕ × List ℕ)) × (new ≡ old ++ more) × P more n m
 
--- each datagram that is one frame was put, and each reply was sent but to these peers, the oldest first, whose frames have no outcome yet
-abbrev pub Trading : List ℕ → List (ℕ × List ℕ) → List (ℕ × List ℕ) → ℕ → ℕ → List Item → List Outcome → Type 0
-Trading peers received sent n m items os =
-    (frames : List Sign) × (signs_of items ≡ opened ∷ frames) × FramesOf received frames × Mailed items os sent n m × (map peer_of (drop (length os) items) ≡ map Some peers)
+-- what a datagram worker has at a moment: the peers that wait for a reply, the items that it put, the datagrams that it sent, the count of faults, and the outcomes that it took
+pub record Correspondence : Type 0 where
+  pub peers : List ℕ
+  pub items : List Item
+  pub sent : List (ℕ × List ℕ)
+  pub faults : ℕ
+  pub outcomes : List Outcome
+
+-- what it has by its lane and these peers, where it sent these datagrams and counted so many faults
+abbrev pub correspondence_with : List (ℕ × List ℕ) → ℕ → WorkerLane → List ℕ → Correspondence
+correspondence_with sent faults line peers = record { peers = peers; items = put_by line; sent = sent; faults = faults; outcomes = taken_by line }
+
+-- the same, where the door tells what was sent and the count of faults
+abbrev pub correspondence_at : {P : Type 0} → Ghosts P → P → WorkerLane → List ℕ → Correspondence
+correspondence_at g packets line peers = correspondence_with (g.sent packets) (g.fault_count packets) line peers
+
+-- from this count of faults on, each datagram that is one frame was put, and each reply was sent but to the peers that wait, the oldest first, whose frames have no outcome yet
+abbrev pub Trading : List (ℕ × List ℕ) → ℕ → Correspondence → Type 0
+Trading received n c =
+    (frames : List Sign) × (signs_of c.items ≡ opened ∷ frames) × FramesOf received frames × Mailed c.items c.outcomes c.sent n c.faults
+    × (map peer_of (drop (length c.outcomes) c.items) ≡ map Some c.peers)
+
+-- with this datagram more is under way
+abbrev pub TakesIn : ℕ × List ℕ → Correspondence → Correspondence → Type 0
+TakesIn datagram before after =
+    (received : List (ℕ × List ℕ)) (n : ℕ) → Trading received n before → Trading (received ++ datagram ∷ []) n after
 
 -- with this datagram more is under way, or the turns cut it off
-abbrev pub TakesIn : ℕ × List ℕ → List ℕ → List Item → List ℕ → List Item → List Outcome → Type 0
-TakesIn d peers items peers' items' os =
-    (received sent : List (ℕ × List ℕ)) (n m : ℕ) → Trading peers received sent n m items os → Trading peers' (received ++ d ∷ []) sent n m items' os
+abbrev pub MayTakeIn : ℕ × List ℕ → Correspondence → Correspondence → Type 0
+MayTakeIn datagram before after =
+    (received : List (ℕ × List ℕ)) (n : ℕ) → Trading received n before → MostTraded (received ++ datagram ∷ []) after.sent n after.faults after.items after.outcomes
 
-abbrev pub MayTakeIn : ℕ × List ℕ → List ℕ → List Item → List Item → List Outcome → Type 0
-MayTakeIn d peers items items' os =
-    (received sent : List (ℕ × List ℕ)) (n m : ℕ) → Trading peers received sent n m items os → MostTraded (received ++ d ∷ []) sent n m items' os
+-- with what was sent less is under way
+abbrev pub Replies : Correspondence → Correspondence → Type 0
+Replies before after = (received : List (ℕ × List ℕ)) (n : ℕ) → Trading received n before → Trading received n after
 
 -- with what was sent less is under way, or the turns cut it off
-abbrev pub Replies : List ℕ → List Item → List (ℕ × List ℕ) → ℕ → List Outcome → List ℕ → List (ℕ × List ℕ) → ℕ → List Outcome → Type 0
-Replies peers items sent m os peers' sent' m' os' =
-    (received : List (ℕ × List ℕ)) (n : ℕ) → Trading peers received sent n m items os → Trading peers' received sent' n m' items os'
-
-abbrev pub MayReply : List ℕ → List Item → List (ℕ × List ℕ) → ℕ → List Outcome → List (ℕ × List ℕ) → ℕ → List Outcome → Type 0
-MayReply peers items sent m os sent' m' os' =
-    (received : List (ℕ × List ℕ)) (n : ℕ) → Trading peers received sent n m items os → MostTraded received sent' n m' items os'
+abbrev pub MayReply : Correspondence → Correspondence → Type 0
+MayReply before after =
+    (received : List (ℕ × List ℕ)) (n : ℕ) → Trading received n before → MostTraded received after.sent n after.faults after.items after.outcomes

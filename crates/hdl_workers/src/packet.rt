@@ -11,7 +11,7 @@ ghost use Rattle.hdl_workers.specs.WorkerLane.{put_by, taken_by, SameWorkerLane}
 ghost use Rattle.hdl_workers.specs.Sign.{framed, moments_of, nonces_of, MomentsUsed, PutOne, WithEnd};
 ghost use Rattle.hdl_workers.specs.Stamps.{StampsUsed};
 ghost use Rattle.hdl_workers.specs.Replying.{OnlyReplies};
-ghost use Rattle.hdl_workers.specs.Mail.{to_peer, SendsReply, BeginsReply, Sends, Traded, Trades, TakesIn, MayTakeIn, Replies, MayReply};
+ghost use Rattle.hdl_workers.specs.Mail.{to_peer, SendsReply, BeginsReply, Sends, Traded, Trades, correspondence_at, correspondence_with, TakesIn, MayTakeIn, Replies, MayReply};
 
 use crate::relay::octets_of;
 use crate::stream::copy;
@@ -90,7 +90,7 @@ fn put_frame<C: Clock, N: Nonces>(
     ensures line { SameWorkerLane line.old line.new }
     ensures taken { taken_by line.new ≡ taken_by line.old }
     ensures put { IsTrue result → PutOne (framed peer bytes) (put_by line.old) (put_by line.new) }
-    ensures kept { IsFalse result → put_by line.new ≡ put_by line.old }
+    ensures unchanged { IsFalse result → put_by line.new ≡ put_by line.old }
     ensures stamps { StampsUsed C.Clock N.Nonces (clock.old, nonces.old, put_by line.old) (clock.new, nonces.new, put_by line.new) }
 {
     while spend(&mut line.turns) {
@@ -139,7 +139,7 @@ fn submit<C: Clock, N: Nonces>(
     ensures line { SameWorkerLane line.old line.new }
     ensures taken { taken_by line.new ≡ taken_by line.old }
     ensures put { IsTrue result → PutOne (framed peer octets.now) (put_by line.old) (put_by line.new) }
-    ensures kept { IsFalse result → put_by line.new ≡ put_by line.old }
+    ensures unchanged { IsFalse result → put_by line.new ≡ put_by line.old }
     ensures stamps { StampsUsed C.Clock N.Nonces (clock.old, nonces.old, put_by line.old) (clock.new, nonces.new, put_by line.new) }
 {
     match copy(line.alloc, octets, &mut line.turns) {
@@ -161,8 +161,10 @@ fn take_in<C: Clock, N: Nonces>(
     ensures line { SameWorkerLane line.old line.new }
     ensures taken { taken_by line.new ≡ taken_by line.old }
     ensures stamps { StampsUsed C.Clock N.Nonces (clock.old, nonces.old, put_by line.old) (clock.new, nonces.new, put_by line.new) }
-    ensures took { IsTrue result → TakesIn (peer, octets.now) peers.old.items (put_by line.old) peers.new.items (put_by line.new) (taken_by line.new) }
-    ensures cut { IsFalse result → MayTakeIn (peer, octets.now) peers.old.items (put_by line.old) (put_by line.new) (taken_by line.new) }
+    ensures took { IsTrue result → (sent : List (ℕ × List ℕ)) (faults : ℕ) → TakesIn (peer, octets.now)
+        (correspondence_with sent faults line.old peers.old.items) (correspondence_with sent faults line.new peers.new.items) }
+    ensures cut { IsFalse result → (sent : List (ℕ × List ℕ)) (faults : ℕ) → MayTakeIn (peer, octets.now)
+        (correspondence_with sent faults line.old peers.old.items) (correspondence_with sent faults line.new peers.new.items) }
 {
     match one_datagram(octets) {
         Err(_) => true,
@@ -187,10 +189,10 @@ fn reply_oldest<P: Packets, C: Clock>(
     ensures fewer { length peers.new.items < length peers.old.items }
     ensures only_replies { OnlyReplies P.Packets packets.old line.old packets.new line.new }
     ensures answers { IsTrue C.is_observed → C.answers clock.new ≡ C.answers clock.old }
-    ensures replied { IsTrue P.is_observed → IsTrue result → Replies peers.old.items (put_by line.new)
-        (P.sent packets.old) (P.fault_count packets.old) (taken_by line.old) peers.new.items (P.sent packets.new) (P.fault_count packets.new) (taken_by line.new) }
-    ensures cut { IsTrue P.is_observed → IsFalse result → MayReply peers.old.items (put_by line.new)
-        (P.sent packets.old) (P.fault_count packets.old) (taken_by line.old) (P.sent packets.new) (P.fault_count packets.new) (taken_by line.new) }
+    ensures replied { IsTrue P.is_observed → IsTrue result → Replies
+        (correspondence_at P.Packets packets.old line.old peers.old.items) (correspondence_at P.Packets packets.new line.new peers.new.items) }
+    ensures cut { IsTrue P.is_observed → IsFalse result → MayReply
+        (correspondence_at P.Packets packets.old line.old peers.old.items) (correspondence_at P.Packets packets.new line.new peers.new.items) }
 {
     let peer = peers.remove(0);
     match await_outcome(line, clock) {
@@ -212,10 +214,10 @@ fn reply_all<P: Packets, C: Clock>(
 ) -> bool
     ensures only_replies { OnlyReplies P.Packets packets.old line.old packets.new line.new }
     ensures answers { IsTrue C.is_observed → C.answers clock.new ≡ C.answers clock.old }
-    ensures replied { IsTrue P.is_observed → IsTrue result → Replies peers.old.items (put_by line.new)
-        (P.sent packets.old) (P.fault_count packets.old) (taken_by line.old) [] (P.sent packets.new) (P.fault_count packets.new) (taken_by line.new) }
-    ensures cut { IsTrue P.is_observed → IsFalse result → MayReply peers.old.items (put_by line.new)
-        (P.sent packets.old) (P.fault_count packets.old) (taken_by line.old) (P.sent packets.new) (P.fault_count packets.new) (taken_by line.new) }
+    ensures replied { IsTrue P.is_observed → IsTrue result → Replies
+        (correspondence_at P.Packets packets.old line.old peers.old.items) (correspondence_at P.Packets packets.new line.new []) }
+    ensures cut { IsTrue P.is_observed → IsFalse result → MayReply
+        (correspondence_at P.Packets packets.old line.old peers.old.items) (correspondence_at P.Packets packets.new line.new peers.new.items) }
 {
     while !peers.is_empty() {
         if !reply_oldest(packets, line, peers, clock) {
@@ -255,10 +257,10 @@ fn go_on<P: Packets, C: Clock>(
 ) -> bool
     ensures only_replies { OnlyReplies P.Packets packets.old line.old packets.new line.new }
     ensures answers { IsTrue C.is_observed → C.answers clock.new ≡ C.answers clock.old }
-    ensures replied { IsTrue P.is_observed → IsTrue result → Replies peers.old.items (put_by line.new)
-        (P.sent packets.old) (P.fault_count packets.old) (taken_by line.old) peers.new.items (P.sent packets.new) (P.fault_count packets.new) (taken_by line.new) }
-    ensures cut { IsTrue P.is_observed → IsFalse result → MayReply peers.old.items (put_by line.new)
-        (P.sent packets.old) (P.fault_count packets.old) (taken_by line.old) (P.sent packets.new) (P.fault_count packets.new) (taken_by line.new) }
+    ensures replied { IsTrue P.is_observed → IsTrue result → Replies
+        (correspondence_at P.Packets packets.old line.old peers.old.items) (correspondence_at P.Packets packets.new line.new peers.new.items) }
+    ensures cut { IsTrue P.is_observed → IsFalse result → MayReply
+        (correspondence_at P.Packets packets.old line.old peers.old.items) (correspondence_at P.Packets packets.new line.new peers.new.items) }
 {
     if peers.is_empty() {
         clock.pause();

@@ -93,7 +93,7 @@ fn submit_frame<D: Door, C: Clock, N: Nonces>(
     ensures turns { OnOk result (line.new.turns < line.old.turns) }
     ensures relays { Relays D.Door door.old line.old result door.new line.new }
     ensures put { OnOk result (PutOne (framed 0 bytes) (put_by line.old) (put_by line.new)) }
-    ensures kept { OnErr result (put_by line.new ≡ put_by line.old) }
+    ensures unchanged { OnErr result (put_by line.new ≡ put_by line.old) }
     ensures stamps { StampsUsed C.Clock N.Nonces (clock.old, nonces.old, put_by line.old) (clock.new, nonces.new, put_by line.new) }
 {
     await_room(door, line, clock)?;
@@ -119,7 +119,7 @@ fn submit_fault<D: Door, C: Clock>(
     ensures turns { OnOk result (line.new.turns < line.old.turns) }
     ensures relays { Relays D.Door door.old line.old result door.new line.new }
     ensures put { OnOk result (put_by line.new ≡ put_by line.old ++ Event (Bad session request) ∷ []) }
-    ensures kept { OnErr result (put_by line.new ≡ put_by line.old) }
+    ensures unchanged { OnErr result (put_by line.new ≡ put_by line.old) }
     ensures answers { IsTrue C.is_observed → C.answers clock.new ≡ C.answers clock.old }
 {
     await_room(door, line, clock)?;
@@ -214,7 +214,7 @@ fn put_close<C: Clock>(line: &mut WorkerLane, clock: &mut C) -> bool
     ensures line { SameWorkerLane line.old line.new }
     ensures taken { (more : List Outcome) × (taken_by line.new ≡ taken_by line.old ++ more) }
     ensures put { IsTrue result → put_by line.new ≡ put_by line.old ++ Event Close ∷ [] }
-    ensures kept { IsFalse result → put_by line.new ≡ put_by line.old }
+    ensures unchanged { IsFalse result → put_by line.new ≡ put_by line.old }
     ensures answers { IsTrue C.is_observed → C.answers clock.new ≡ C.answers clock.old }
 {
     while spend(&mut line.turns) {

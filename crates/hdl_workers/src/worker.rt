@@ -54,7 +54,7 @@ pub(crate) fn open<C: Clock>(line: &mut WorkerLane, clock: &mut C) -> bool
     ensures line { SameWorkerLane line.old line.new }
     ensures taken { taken_by line.new ≡ taken_by line.old }
     ensures put { IsTrue result → put_by line.new ≡ put_by line.old ++ Event Open ∷ [] }
-    ensures kept { IsFalse result → put_by line.new ≡ put_by line.old }
+    ensures unchanged { IsFalse result → put_by line.new ≡ put_by line.old }
     ensures answers { IsTrue C.is_observed → C.answers clock.new ≡ C.answers clock.old }
 {
     while spend(&mut line.turns) {

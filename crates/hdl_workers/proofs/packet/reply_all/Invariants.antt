@@ -1,15 +1,13 @@
 use Rattle.std.proofs.Common.{◌≡◌, IsTrue, length}
-use Rattle.hdl_workers.specs.WorkerLane.{put_by, taken_by}
 use Rattle.hdl_workers.specs.Replying.{OnlyReplies}
-use Rattle.hdl_workers.specs.Mail.{Replies}
+use Rattle.hdl_workers.specs.Mail.{correspondence_at, Replies}
 use Rattle.hdl_workers.proofs.packet.reply_all.Given as goal
 
 abbrev pub invariant-loop-packets : goal.invariant-loop-packets
 invariant-loop-packets g l = record {
   only_replies : OnlyReplies g.P.Packets l.initial.packets l.initial.line l.packets l.line;
   answers : IsTrue g.C.Clock.is_observed → g.C.Clock.answers l.clock ≡ g.C.Clock.answers l.initial.clock;
-  replied : IsTrue g.P.Packets.is_observed → Replies l.initial.peers.items (put_by l.initial.line) (g.P.Packets.sent l.initial.packets) (g.P.Packets.fault_count l.initial.packets) (taken_by l.initial.line)
-      l.peers.items (g.P.Packets.sent l.packets) (g.P.Packets.fault_count l.packets) (taken_by l.line);
+  replied : IsTrue g.P.Packets.is_observed → Replies (correspondence_at g.P.Packets l.initial.packets l.initial.line l.initial.peers.items) (correspondence_at g.P.Packets l.packets l.line l.peers.items);
 }
 
 abbrev pub decreases-loop-packets : goal.decreases-loop-packets

@@ -7,7 +7,7 @@ use Rattle.hdl_workers.proofs.stream.serve_connection.Goals as goal
 pub returns-then-not-open-clause-cut : goal.returns-then-not-open-clause-cut
 returns-then-not-open-clause-cut g c = λ t _.
     not_opened _ (g.D.Door.current c.args.door.now) _ _ _ _
-    (c.requires.fresh t) (c.requires.history t) c.requires.settled (c.open.ensures.kept c.if-not-open.true) c.open.ensures.taken
+    (c.requires.fresh t) (c.requires.history t) c.requires.settled (c.open.ensures.unchanged c.if-not-open.true) c.open.ensures.taken
 
 pub converse_to_end-requires : goal.converse_to_end-requires
 converse_to_end-requires g c = record {
@@ -24,7 +24,7 @@ pub returns-then-not-put_close-clause-cut : goal.returns-then-not-put_close-clau
 returns-then-not-put_close-clause-cut g c = λ t _.
     let more = c.put_close.ensures.taken in
     unclosed _ (g.D.Door.current c.converse_to_end.new.door) _ _ _ more.0 _
-    (c.converse_to_end.ensures.cut t) (c.put_close.ensures.kept c.if-not-put_close.true) more.1
+    (c.converse_to_end.ensures.cut t) (c.put_close.ensures.unchanged c.if-not-put_close.true) more.1
 
 pub returns-then-not-drop_outcomes-clause-cut : goal.returns-then-not-drop_outcomes-clause-cut
 returns-then-not-drop_outcomes-clause-cut g c = λ t _.
@@ -56,23 +56,23 @@ returns-clause-history g c = λ t _.
     (c.drop_outcomes.ensures.settled c.if-not-drop_outcomes.false))
 
 pub returns-then-not-open-clause-stamps : goal.returns-then-not-open-clause-stamps
-returns-then-not-open-clause-stamps g c = stamps_still _ _ _ _ _ _ _ _ c.open.ensures.answers (λ _. refl) (c.open.ensures.kept c.if-not-open.true)
+returns-then-not-open-clause-stamps g c = stamps_still _ _ _ _ c.open.ensures.answers (λ _. refl) (c.open.ensures.unchanged c.if-not-open.true)
 
 pub returns-then-not-converse_to_end-clause-stamps : goal.returns-then-not-converse_to_end-clause-stamps
-returns-then-not-converse_to_end-clause-stamps g c = stamps_both _ _ _ _ _ _ _ _ _ _ _ (no_stamp _ _ _ _ _ _ _ _ c.open.ensures.answers (c.open.ensures.put c.if-not-open.false) refl refl) c.converse_to_end.ensures.stamps
+returns-then-not-converse_to_end-clause-stamps g c = stamps_both _ _ _ _ _ (no_stamp _ _ _ _ _ _ _ _ c.open.ensures.answers (c.open.ensures.put c.if-not-open.false) refl refl) c.converse_to_end.ensures.stamps
 
 pub returns-then-not-put_close-clause-stamps : goal.returns-then-not-put_close-clause-stamps
-returns-then-not-put_close-clause-stamps g c = stamps_both _ _ _ _ _ _ _ _ _ _ _ (stamps_both _ _ _ _ _ _ _ _ _ _ _ (no_stamp _ _ _ _ _ _ _ _ c.open.ensures.answers (c.open.ensures.put c.if-not-open.false) refl refl) c.converse_to_end.ensures.stamps)
-    (stamps_still _ _ _ _ _ _ _ _ c.put_close.ensures.answers (λ _. refl) (c.put_close.ensures.kept c.if-not-put_close.true))
+returns-then-not-put_close-clause-stamps g c = stamps_both _ _ _ _ _ (stamps_both _ _ _ _ _ (no_stamp _ _ _ _ _ _ _ _ c.open.ensures.answers (c.open.ensures.put c.if-not-open.false) refl refl) c.converse_to_end.ensures.stamps)
+    (stamps_still _ _ _ _ c.put_close.ensures.answers (λ _. refl) (c.put_close.ensures.unchanged c.if-not-put_close.true))
 
 pub returns-then-not-drop_outcomes-clause-stamps : goal.returns-then-not-drop_outcomes-clause-stamps
-returns-then-not-drop_outcomes-clause-stamps g c = stamps_both _ _ _ _ _ _ _ _ _ _ _ (stamps_both _ _ _ _ _ _ _ _ _ _ _ (no_stamp _ _ _ _ _ _ _ _ c.open.ensures.answers (c.open.ensures.put c.if-not-open.false) refl refl) c.converse_to_end.ensures.stamps)
-    (stamps_both _ _ _ _ _ _ _ _ _ _ _ (no_stamp _ _ _ _ _ _ _ _ c.put_close.ensures.answers (c.put_close.ensures.put c.if-not-put_close.false) refl refl) (stamps_still _ _ _ _ _ _ _ _ c.drop_outcomes.ensures.answers (λ _. refl) c.drop_outcomes.ensures.put))
+returns-then-not-drop_outcomes-clause-stamps g c = stamps_both _ _ _ _ _ (stamps_both _ _ _ _ _ (no_stamp _ _ _ _ _ _ _ _ c.open.ensures.answers (c.open.ensures.put c.if-not-open.false) refl refl) c.converse_to_end.ensures.stamps)
+    (stamps_both _ _ _ _ _ (no_stamp _ _ _ _ _ _ _ _ c.put_close.ensures.answers (c.put_close.ensures.put c.if-not-put_close.false) refl refl) (stamps_still _ _ _ _ c.drop_outcomes.ensures.answers (λ _. refl) c.drop_outcomes.ensures.put))
 
 pub returns-then-not-spend-clause-stamps : goal.returns-then-not-spend-clause-stamps
-returns-then-not-spend-clause-stamps g c = stamps_both _ _ _ _ _ _ _ _ _ _ _ (stamps_both _ _ _ _ _ _ _ _ _ _ _ (no_stamp _ _ _ _ _ _ _ _ c.open.ensures.answers (c.open.ensures.put c.if-not-open.false) refl refl) c.converse_to_end.ensures.stamps)
-    (stamps_both _ _ _ _ _ _ _ _ _ _ _ (no_stamp _ _ _ _ _ _ _ _ c.put_close.ensures.answers (c.put_close.ensures.put c.if-not-put_close.false) refl refl) (stamps_still _ _ _ _ _ _ _ _ c.drop_outcomes.ensures.answers (λ _. refl) c.drop_outcomes.ensures.put))
+returns-then-not-spend-clause-stamps g c = stamps_both _ _ _ _ _ (stamps_both _ _ _ _ _ (no_stamp _ _ _ _ _ _ _ _ c.open.ensures.answers (c.open.ensures.put c.if-not-open.false) refl refl) c.converse_to_end.ensures.stamps)
+    (stamps_both _ _ _ _ _ (no_stamp _ _ _ _ _ _ _ _ c.put_close.ensures.answers (c.put_close.ensures.put c.if-not-put_close.false) refl refl) (stamps_still _ _ _ _ c.drop_outcomes.ensures.answers (λ _. refl) c.drop_outcomes.ensures.put))
 
 pub returns-clause-stamps : goal.returns-clause-stamps
-returns-clause-stamps g c = stamps_both _ _ _ _ _ _ _ _ _ _ _ (stamps_both _ _ _ _ _ _ _ _ _ _ _ (no_stamp _ _ _ _ _ _ _ _ c.open.ensures.answers (c.open.ensures.put c.if-not-open.false) refl refl) c.converse_to_end.ensures.stamps)
-    (stamps_both _ _ _ _ _ _ _ _ _ _ _ (no_stamp _ _ _ _ _ _ _ _ c.put_close.ensures.answers (c.put_close.ensures.put c.if-not-put_close.false) refl refl) (stamps_still _ _ _ _ _ _ _ _ c.drop_outcomes.ensures.answers (λ _. refl) c.drop_outcomes.ensures.put))
+returns-clause-stamps g c = stamps_both _ _ _ _ _ (stamps_both _ _ _ _ _ (no_stamp _ _ _ _ _ _ _ _ c.open.ensures.answers (c.open.ensures.put c.if-not-open.false) refl refl) c.converse_to_end.ensures.stamps)
+    (stamps_both _ _ _ _ _ (no_stamp _ _ _ _ _ _ _ _ c.put_close.ensures.answers (c.put_close.ensures.put c.if-not-put_close.false) refl refl) (stamps_still _ _ _ _ c.drop_outcomes.ensures.answers (λ _. refl) c.drop_outcomes.ensures.put))

@@ -11,7 +11,7 @@ loop-line-preserved g c =
     record {
       goes_on = search rules;
       sound = f.2;
-      stamps = stamps_both _ _ _ _ _ _ _ _ _ _ _ c.loop-line.invariant.stamps c.submit_frame.ensures.stamps;
+      stamps = stamps_both _ _ _ _ _ c.loop-line.invariant.stamps c.submit_frame.ensures.stamps;
       talk = λ t.
           framed_on _ _ (g.D.Door.current c.loop-line.door) (g.D.Door.current c.submit_frame.new.door) _ _ _ _ _ _ _
           (c.loop-line.invariant.talk t) f.1 f.0 c.in_ok-submit_frame-in-Whole.ensures.put (c.in_ok-submit_frame-in-Whole.ensures.relays.whole t) (c.submit_frame.ensures.relays.goes_on.connection.ended t);
@@ -26,12 +26,12 @@ returns-in-Nothing-clause-cut g c = λ t. far_cut _ (g.D.Door.current c.loop-lin
 pub returns-in_err-submit_frame-in-Whole-clause-cut : goal.returns-in_err-submit_frame-in-Whole-clause-cut
 returns-in_err-submit_frame-in-Whole-clause-cut g c = λ t.
     some_cut _ _ (g.D.Door.current c.loop-line.door) (g.D.Door.current c.submit_frame.new.door) _ _ _ _ _
-    (c.loop-line.invariant.talk t) (c.in_err-submit_frame-in-Whole.ensures.kept) (c.submit_frame.ensures.relays.part t) (c.submit_frame.ensures.relays.goes_on.connection.ended t)
+    (c.loop-line.invariant.talk t) (c.in_err-submit_frame-in-Whole.ensures.unchanged) (c.submit_frame.ensures.relays.part t) (c.submit_frame.ensures.relays.goes_on.connection.ended t)
 
 pub returns-in_err-submit_fault-in-Fault-clause-cut : goal.returns-in_err-submit_fault-in-Fault-clause-cut
 returns-in_err-submit_fault-in-Fault-clause-cut g c = λ t.
     some_cut _ _ (g.D.Door.current c.loop-line.door) (g.D.Door.current c.submit_fault.new.door) _ _ _ _ _
-    (c.loop-line.invariant.talk t) (c.in_err-submit_fault-in-Fault.ensures.kept) (c.submit_fault.ensures.relays.part t) (c.submit_fault.ensures.relays.goes_on.connection.ended t)
+    (c.loop-line.invariant.talk t) (c.in_err-submit_fault-in-Fault.ensures.unchanged) (c.submit_fault.ensures.relays.part t) (c.submit_fault.ensures.relays.goes_on.connection.ended t)
 
 pub returns-in-Fault-clause-stops : goal.returns-in-Fault-clause-stops
 returns-in-Fault-clause-stops g c = λ t _.
