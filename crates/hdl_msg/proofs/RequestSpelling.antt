@@ -13,7 +13,7 @@ use Rattle.hdl_msg.specs.declared.request_body.RequestBody.TheVariants.{Resoluti
 use Rattle.hdl_msg.specs.Codes.{op_number, IsNumberOf}
 use Rattle.hdl_msg.specs.Message.{number, count_prefixed, body, header_octets, IsShort, IsNumber, HeaderFits, OperationFits, code_of, SpellsRequest}
 use Rattle.hdl_limits.specs.declared.TheConstants.{MESSAGE_MAX}
-use Rattle.hdl_msg.specs.RequestBody.{requested, requested_code, request_content, request_message, request_length, CanBeRequested}
+use Rattle.hdl_msg.specs.RequestBody.{requested_operation, requested_code, request_content, request_message, request_length, CanBeRequested}
 use Rattle.hdl_msg.proofs.Written.{few_from, each_from, some_spelling, short_value}
 
 pub length-numbers : (ns : List ℕ) → length (flat_map number ns) ≡ length ns * 4
@@ -32,7 +32,7 @@ can_list handle values le =
     let s = short_string handle (count_prefixed spelling values) MESSAGE_MAX le in
     (omega (arith, s.0), (omega (arith, s.1, few_from spelling some_spelling values), each_from spelling CanBeSpelt (2 ^ 32) short_value values (omega (arith, s.1))))
 
-can : (b : RequestBody) → length (body (requested b)) ≤ MESSAGE_MAX → CanBeRequested b
+can : (b : RequestBody) → length (body (requested_operation b)) ≤ MESSAGE_MAX → CanBeRequested b
 can (Resolution handle indexes types) le =
     let s = short_string handle (count_prefixed number indexes ++ count_prefixed string types) MESSAGE_MAX le in
     let e = length-append (flat_map number indexes) (count_prefixed string types) in
@@ -57,9 +57,9 @@ can_request b le = can b (omega (arith, le))
 
 pub length-request_message : (h : Header) (b : RequestBody) → length (request_message h b) ≡ request_length b
 unfolding header_octets
-length-request_message h b = omega (arith, length-append (body (requested b)) (string []))
+length-request_message h b = omega (arith, length-append (body (requested_operation b)) (string []))
 
-has_number : (b : RequestBody) → IsNumberOf (code_of (requested b)) (op_number (requested_code b))
+has_number : (b : RequestBody) → IsNumberOf (code_of (requested_operation b)) (op_number (requested_code b))
 has_number (Resolution handle indexes types) = refl
 has_number (Create handle values) = refl
 has_number (Delete handle) = refl
@@ -80,7 +80,7 @@ small_code ListHandles = omega arith
 small_code ChallengeResponse = omega arith
 
 pub request_is_spelt : (h : Header) (n : ℕ) (b : RequestBody) → HeaderFits (record { op_code = n; response_code = h.response_code; op_flag = h.op_flag; serial = h.serial; recursion = h.recursion; reserved = h.reserved; expiration = h.expiration })
-    → OperationFits (requested b) → request_length b ≤ MESSAGE_MAX → SpellsRequest (request_message h b) (request_content h b)
+    → OperationFits (requested_operation b) → request_length b ≤ MESSAGE_MAX → SpellsRequest (request_message h b) (request_content h b)
 request_is_spelt h n b fits parts le = record {
   header_fits = record { op_code = small_code (requested_code b); response_code = fits.response_code; op_flag = fits.op_flag; serial = fits.serial; recursion = fits.recursion; reserved = fits.reserved; expiration = fits.expiration };
   operation_fits = parts;

@@ -12,15 +12,15 @@ use Rattle.hdl_msg.specs.Codes.{op_number}
 use Rattle.hdl_msg.specs.Message.{Operation, resolution, create, delete, add, remove, modify, list, response, body, IsShort, Content, signed_octets}
 
 -- the operation that is asked for
-abbrev pub requested : RequestBody → Operation
-requested (Resolution handle indexes types) = resolution handle indexes types
-requested (Create handle values) = create handle values
-requested (Delete handle) = delete handle
-requested (Add handle values) = add handle values
-requested (Remove handle indexes) = remove handle indexes
-requested (Modify handle values) = modify handle values
-requested (ListAll handle) = list handle
-requested (Response kind handle index answer) = response kind handle index answer
+abbrev pub requested_operation : RequestBody → Operation
+requested_operation (Resolution handle indexes types) = resolution handle indexes types
+requested_operation (Create handle values) = create handle values
+requested_operation (Delete handle) = delete handle
+requested_operation (Add handle values) = add handle values
+requested_operation (Remove handle indexes) = remove handle indexes
+requested_operation (Modify handle values) = modify handle values
+requested_operation (ListAll handle) = list handle
+requested_operation (Response kind handle index answer) = response kind handle index answer
 
 -- its code
 abbrev pub requested_code : RequestBody → OpCode
@@ -39,7 +39,7 @@ request_header h b = record { op_code = op_number (requested_code b); response_c
 
 -- what the request says
 abbrev pub request_content : Header → RequestBody → Content
-request_content h b = record { header = request_header h b; operation = requested b }
+request_content h b = record { header = request_header h b; operation = requested_operation b }
 
 -- its message: header and body, and an empty credential
 abbrev pub request_message : Header → RequestBody → List ℕ
@@ -47,7 +47,7 @@ request_message h b = signed_octets (request_content h b) ++ string []
 
 -- how many octets its message has
 abbrev pub request_length : RequestBody → ℕ
-request_length b = length (body (requested b)) + 28
+request_length b = length (body (requested_operation b)) + 28
 
 -- ---- what can be written
 

@@ -4,7 +4,7 @@ ghost use Rattle.std.specs.Prelude.{◌≡◌, ◌<◌, ◌^◌, length};
 ghost use Rattle.std.specs.List.{AllByRecursion};
 ghost use Rattle.hdl_value.specs.Spelling.{Fits, IsString, CanBeSpelt};
 ghost use Rattle.hdl_msg.specs.Message.{IsNumber, HeaderFits, OperationFits};
-ghost use Rattle.hdl_msg.specs.RequestBody.{requested, CanBeRequested};
+ghost use Rattle.hdl_msg.specs.RequestBody.{requested_operation, CanBeRequested};
 
 use crate::fields::Header;
 use crate::request_body::RequestBody;
@@ -65,7 +65,7 @@ pub(crate) fn values_fit(values: &[Value])
 /// The parts of a body fit their fields, where its lengths and counts do.
 pub(crate) fn body_fits(body: &RequestBody)
     requires { CanBeRequested body.now }
-    ensures { OperationFits (requested body.now) }
+    ensures { OperationFits (requested_operation body.now) }
 {
     match body {
         RequestBody::Resolution {

@@ -3,7 +3,7 @@
 ghost use Rattle.std.specs.Prelude.{◌≡◌, length};
 ghost use Rattle.hdl_msg.specs.Message.{body, count_prefixed, number};
 ghost use Rattle.hdl_limits.specs.Counts.{at_most_u64};
-ghost use Rattle.hdl_msg.specs.RequestBody.{requested, request_length};
+ghost use Rattle.hdl_msg.specs.RequestBody.{requested_operation, request_length};
 
 use crate::lengths::{OVERHEAD, handles_len, string_len, values_len};
 use crate::request_body::RequestBody;
@@ -15,7 +15,7 @@ fn numbers_len(numbers: &[u32]) -> usize
 }
 
 fn body_len(asked: &RequestBody) -> usize
-    ensures { result ≡ at_most_u64 (length (body (requested asked.now))) }
+    ensures { result ≡ at_most_u64 (length (body (requested_operation asked.now))) }
 {
     match asked {
         RequestBody::Resolution {

@@ -4,7 +4,7 @@ ghost use Rattle.std.specs.Prelude.{◌≡◌, ◌≤◌, ◌<◌, ◌^◌, ◌+
 ghost use Rattle.std.specs.List.{AllByRecursion};
 ghost use Rattle.hdl_value.specs.Spelling.{string, spelling, CanBeSpelt};
 ghost use Rattle.hdl_msg.specs.Message.{SpellsRequest, body, count_prefixed, number};
-ghost use Rattle.hdl_msg.specs.RequestBody.{requested, request_content, request_message, request_length, CanBeRequested};
+ghost use Rattle.hdl_msg.specs.RequestBody.{requested_operation, request_content, request_message, request_length, CanBeRequested};
 
 use crate::fields::{Header, put_header};
 use crate::lengths::OVERHEAD;
@@ -74,7 +74,7 @@ fn put_response(
 
 fn put_body(out: &mut Vec<u8>, asked: &RequestBody) -> Result<(), AllocError>
     requires { CanBeRequested asked.now }
-    ensures { OnOk result (out.new.items ≡ out.old.items ++ body (requested asked.now)) }
+    ensures { OnOk result (out.new.items ≡ out.old.items ++ body (requested_operation asked.now)) }
 {
     match asked {
         RequestBody::Resolution {

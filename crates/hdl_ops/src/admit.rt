@@ -15,7 +15,7 @@ use crate::written::is_bad_write;
 use hdl_auth::algorithm::Algorithm;
 use hdl_limits::{NAME_MAX, Octets};
 use hdl_msg::{ReplyContent, Request, ResponseCode};
-use hdl_name::{Name, names_decided};
+use hdl_name::{Name, NameFault, names_decided};
 use hdl_rows::Refused;
 use std::alloc::{AllocError, Global};
 
@@ -26,13 +26,6 @@ pub(crate) enum Admitted {
     Passed(Name),
 }
 
-fn is_name(octets: &[u8]) -> bool
-    ensures { result ≡ is_handle octets.now }
-{
-    names_decided();
-    hdl_name::is_name(octets)
-}
-
 /// The name that octets are, if they are one.
 #[tactic(auto, unfolding(crate::specs::Admission::handle_in))]
 pub(crate) fn read_name(alloc: Global, octets: &[u8]) -> Result<Option<Name>, Refused>
@@ -40,12 +33,11 @@ pub(crate) fn read_name(alloc: Global, octets: &[u8]) -> Result<Option<Name>, Re
     ensures sent { IfOk result (λ name. IfSome name (λ name. name ≡ octets.now)) }
     ensures there { IfOk result (λ name. is_some name ≡ is_handle octets.now) }
 {
-    if !is_name(octets) {
-        return Ok(None);
-    }
+    names_decided();
     match Name::read(alloc, octets) {
         Ok(name) => Ok(Some(name)),
-        Err(_) => Err(Refused),
+        Err(NameFault::Memory) => Err(Refused),
+        Err(_) => Ok(None),
     }
 }
 

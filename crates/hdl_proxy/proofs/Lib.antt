@@ -7,7 +7,6 @@ pub mod Joined
 pub mod Located
 pub mod Made
 pub mod NoFloats
-pub mod NoName
 pub mod Pairs
 pub mod Paths
 pub mod Pieces

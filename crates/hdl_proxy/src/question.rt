@@ -3,7 +3,7 @@
 ghost use Rattle.std.specs.Prelude.{◌≡◌, true, IfOk, IfNone, IfSome};
 ghost use Rattle.hdl_msg.specs.Codes.{has_flag};
 ghost use Rattle.hdl_msg.specs.Message.{resolution};
-ghost use Rattle.hdl_msg.specs.RequestBody.{requested};
+ghost use Rattle.hdl_msg.specs.RequestBody.{requested_operation};
 ghost use Rattle.hdl_msg.specs.declared.codes.OpFlag.TheVariants.{PublicOnly};
 ghost use Rattle.hdl_proxy.specs.Question.{AsksInPublic, IsTooLong};
 
@@ -73,7 +73,7 @@ fn public_header() -> Header
 
 impl Question {
     fn body(&self, alloc: Global) -> Result<RequestBody, AllocError>
-        ensures { IfOk result (λ body. requested body ≡ resolution self.now.name self.now.indexes.items self.now.types.items) }
+        ensures { IfOk result (λ body. requested_operation body ≡ resolution self.now.name self.now.indexes.items self.now.types.items) }
     {
         let handle = Octets::new(Vec::from_slice(alloc, self.name.sent())?);
         let indexes = Items::new(Vec::from_slice(alloc, &self.indexes)?);

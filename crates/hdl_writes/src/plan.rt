@@ -1,7 +1,7 @@
 //! The requests that a change takes.
 
 ghost use Rattle.std.specs.Prelude.{◌≡◌, ◌++◌, map, filter, IfOk, OnOk};
-ghost use Rattle.hdl_msg.specs.RequestBody.{requested};
+ghost use Rattle.hdl_msg.specs.RequestBody.{requested_operation};
 ghost use Rattle.hdl_writes.specs.Plan.{is_among, known_values, fresh, missing_indexes, modifying, adding, removing, merging, replacing};
 
 use crate::record::has_index;
@@ -67,7 +67,7 @@ fn push_modify(
     handle: &[u8],
     values: Vec<Value>,
 ) -> Result<(), AllocError>
-    ensures { OnOk result (map requested steps.new.items ≡ map requested steps.old.items ++ modifying handle.now values.items) }
+    ensures { OnOk result (map requested_operation steps.new.items ≡ map requested_operation steps.old.items ++ modifying handle.now values.items) }
 {
     if values.is_empty() {
         return Ok(());
@@ -85,7 +85,7 @@ fn push_add(
     handle: &[u8],
     values: Vec<Value>,
 ) -> Result<(), AllocError>
-    ensures { OnOk result (map requested steps.new.items ≡ map requested steps.old.items ++ adding handle.now values.items) }
+    ensures { OnOk result (map requested_operation steps.new.items ≡ map requested_operation steps.old.items ++ adding handle.now values.items) }
 {
     if values.is_empty() {
         return Ok(());
@@ -103,7 +103,7 @@ fn push_remove(
     handle: &[u8],
     indexes: Vec<u32>,
 ) -> Result<(), AllocError>
-    ensures { OnOk result (map requested steps.new.items ≡ map requested steps.old.items ++ removing handle.now indexes.items) }
+    ensures { OnOk result (map requested_operation steps.new.items ≡ map requested_operation steps.old.items ++ removing handle.now indexes.items) }
 {
     if indexes.is_empty() {
         return Ok(());
@@ -123,7 +123,7 @@ pub fn merging(
     there: &[u32],
     values: &[Value],
 ) -> Result<Vec<RequestBody>, AllocError>
-    ensures { IfOk result (λ steps. map requested steps.items ≡ merging handle.now there.now values.now) }
+    ensures { IfOk result (λ steps. map requested_operation steps.items ≡ merging handle.now there.now values.now) }
 {
     let Parts { known, fresh } = part(alloc, there, values)?;
     let mut steps = Vec::new(alloc);
@@ -141,7 +141,7 @@ pub fn replacing(
     there: &[u32],
     values: &[Value],
 ) -> Result<Vec<RequestBody>, AllocError>
-    ensures { IfOk result (λ steps. map requested steps.items ≡ replacing handle.now there.now values.now) }
+    ensures { IfOk result (λ steps. map requested_operation steps.items ≡ replacing handle.now there.now values.now) }
 {
     let gone = missing_indexes(alloc, there, values)?;
     let mut steps = merging(alloc, handle, there, values)?;
