@@ -10,7 +10,7 @@ ghost use Rattle.hdl_lastingrows.specs.Lasting.{IsKept, Leaves, MayMake};
 ghost use Rattle.hdl_lastingrows.specs.Writes.{write_of};
 
 use crate::write::Write;
-use hdl_filerows::{Fault, FileRows};
+use hdl_filerows::{FileRows, StoreFault};
 use sqlite::Alter;
 
 /// What is known of a write.
@@ -38,7 +38,7 @@ pub trait Filing {
 }
 
 /// Makes the write in a database that lasts.
-fn try_write<S: Alter + Drop>(file: &mut FileRows<S>, write: &Write<'_>) -> Result<(), Fault>
+fn try_write<S: Alter + Drop>(file: &mut FileRows<S>, write: &Write<'_>) -> Result<(), StoreFault>
     requires can { (t : Table) × IsKept t false (state S.Store file.old) × CanWrite t (write_of write.now) }
     ensures done { OnOk result (HasCleanDisk (state S.Store file.new) → IsFiled (state S.Store file.new) (after_write (filed_table (state S.Store file.old)) (write_of write.now))) }
     ensures undone { OnErr result (WhereOpen (state S.Store file.new) (filed_table (state S.Store file.new) ≡ filed_table (state S.Store file.old))) }
