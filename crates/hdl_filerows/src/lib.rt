@@ -11,8 +11,10 @@
 //!
 //! ```rust
 //! // crates/hdl_lastingrows/src/opening.rt
-//! let rows = rows_over(&mut conn, alloc, rows, spare, opening, &mut alarm)?;
-//! Ok(LastingRows::new(rows, FileRows::over(alloc, conn), alarm))
+//! let rows = rows_over(&mut conn, alloc, rows, spare, opening, progress)?;
+//! let file = FileRows::over(alloc, conn);
+//! file.after_a_crash();
+//! Ok((rows, file))
 //! ```
 #![tactic(auto)]
 

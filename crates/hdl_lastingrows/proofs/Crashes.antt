@@ -24,7 +24,7 @@ near_by s t w UnderWay left = left.near
 pub near : (p : Whereabouts) (t : Table) (shut : Bool) → IsKeptAt p t shut → (db : Trees) → MayLeave p db → IsNear t (table_in db)
 near (Here file) t shut kept db may = kept.near may.0 db may.1
 near (Away own thread) t shut handed db may =
-    near_by (file_state may.0) t (write_in thread.promise.write.value) may.1.0 (may.1.1 t handed.0 (subst (λ w. CanWrite t w) (sym handed.2) handed.1)) may.1.2 db may.1.3
+    near_by (file_state may.0.rows) t (write_in thread.promise.write.value) may.1.0 (may.1.1 t handed.0 (subst (λ w. CanWrite t w) (sym handed.2) handed.1)) may.1.2 db may.1.3
 near Nowhere t shut kept db may = absurd kept
 
 pub kept_exactly : (p : Whereabouts) (t : Table) (shut : Bool) → IsKeptAt p t shut → IfHere p (λ s. WhereOpen s (CrashLeaves s (filed_table s))) → shut ≡ false → IfHere p (λ s. HasCleanDisk s → CrashLeaves s t)
@@ -33,6 +33,6 @@ kept_exactly (Away own thread) t shut kept crash writable = tt
 kept_exactly Nowhere t shut kept crash writable = tt
 
 pub here_map : (p : Whereabouts) {P Q : State → Type 0} → ((s : State) → P s → Q s) → IfHere p P → IfHere p Q
-here_map (Here file) f it = f (file_state file) it
+here_map (Here file) f it = f (file_state file.rows) it
 here_map (Away own thread) f it = tt
 here_map Nowhere f it = tt

@@ -1,9 +1,17 @@
--- What a thread gives back may come from it.
+-- What goes to a thread and what it gives back may be sent.
+use mathlib.Core.List.{List, [], ◌∷◌}
+use Prim.Native.Nat.{ℕ}
 use denote.RattleType.{RattleType}
 use denote.Hole.{as_row}
 use denote.Param.Send.{IsSend, sendable}
-use denote.Param.SendFields.{FieldsHave, declared_send}
+use denote.Param.SendFields.{FieldsHave, as_row_send, declared_send}
+use denote.Struct.Field.{row_field}
+use denote.Struct.Tuple.{TupleAt, type_at}
 use Rattle.std.proofs.Crossing as heap
+use Rattle.std.specs.contracts.alloc.Global as memory
+use Rattle.std.specs.contracts.impls.GlobalAllocator.TheImpl as allocates
+use Rattle.std.specs.contracts.sync.Arc as arc
+use Rattle.hdl_queue.specs.contracts.signals.Signals as flags
 use Rattle.sqlite_trees.specs.declared.store.Store.{Ghosts}
 use Rattle.sqlite.specs.contracts.FileStore as store
 use Rattle.sqlite.specs.contracts.Wary as wary
@@ -17,8 +25,11 @@ use Rattle.sqlite.below.sqlite_store.proofs.store.FileStore.TheSendSync as store
 use Rattle.sqlite.below.sqlite_disk.proofs.modelled.Modelled.TheSendSync as disks
 use Rattle.hdl_filerows.specs.contracts.filerows.FileRows.{the_field}
 use Rattle.hdl_filerows.proofs.filerows.FileRows.TheSendSync as rows
+use Rattle.hdl_lastingrows.specs.contracts.disk.DiskRows as kept
 use Rattle.hdl_lastingrows.specs.contracts.filing.WriteState as state
 use Rattle.hdl_lastingrows.specs.contracts.threaded.Returned as returned
+use Rattle.hdl_lastingrows.specs.contracts.write.OwnWrite as own
+use Rattle.hdl_lastingrows.proofs.write.OwnWrite.TheSendSync as owned
 
 state_send : IsSend state.the_row
 state_send = search sendable depth 30
@@ -35,5 +46,18 @@ store_send = stores.the_send _ _ disk_send
 field_send : (S : RattleType) (g : Ghosts S.Denot) → IsSend S → IsSend (as_row (the_field S g))
 field_send = rows.the_send
 
+kept_send : IsSend kept.the_row
+kept_send = let fields : FieldsHave IsSend kept.the_type.parts = (field_send _ (stored.ghosts (modelled.the_row host.the_row wary.the_row calls.ghosts begins.ghosts) (disk.ghosts host.the_row wary.the_row calls.ghosts disk.no_dict begins.ghosts disk.no_dict disk.no_dict) stored.no_dict) store_send, tt) in declared_send kept.the_type fields
+
+abbrev pub signals : RattleType
+signals = arc.the_row flags.the_row memory.the_row allocates.ghosts
+
+signals_send : IsSend signals
+signals_send = search (sendable, heap.crosses) depth 30
+
+-- what a job takes with it: the file, the write and the signals
+pub job_send : (name : List ℕ) → IsSend (TupleAt name (kept.the_row ∷ own.the_row ∷ signals ∷ []))
+job_send name = declared_send (type_at name (kept.the_row ∷ own.the_row ∷ signals ∷ [])) (as_row_send (row_field kept.the_row) kept_send, (as_row_send (row_field own.the_row) owned.the_send, (as_row_send (row_field signals) signals_send, tt)))
+
 pub returned_send : IsSend returned.the_row
-returned_send = let fields : FieldsHave IsSend returned.the_type.parts = (field_send _ (stored.ghosts (modelled.the_row host.the_row wary.the_row calls.ghosts begins.ghosts) (disk.ghosts host.the_row wary.the_row calls.ghosts disk.no_dict begins.ghosts disk.no_dict disk.no_dict) stored.no_dict) store_send, (state_send, tt)) in declared_send returned.the_type fields
+returned_send = let fields : FieldsHave IsSend returned.the_type.parts = (kept_send, (state_send, tt)) in declared_send returned.the_type fields

@@ -134,16 +134,6 @@ impl<R: Rows + Drop, F: Filing + Drop, A: Alarm + Drop> LastingRows<R, F, A> {
 }
 
 impl<R: Rows + Drop, S: Alter + Drop, A: Alarm + Drop> LastingRows<R, FileRows<S>, A> {
-    /// A table in memory and a database, which have the same rows.
-    pub fn new(rows: R, file: FileRows<S>, alarm: A) -> LastingRows<R, FileRows<S>, A>
-        requires placed { IsPlaced (R.content rows) }
-        requires filed { HasCleanDisk (state S.Store file) → IsFiled (state S.Store file) (R.content rows) }
-        ensures { result ≡ record { table = R.content rows; refused = min (R.refused rows + 0) most; is_shut = false; file = file } }
-    {
-        file.after_a_crash();
-        LastingRows::over(rows, file, alarm)
-    }
-
     /// What a crash leaves between calls: this table, or this table after one write that it allows; and this table alone, unless it is shut.
     pub fn after_a_crash(&self)
         ensures near { HasCleanDisk (state S.Store self.now.file) → (db : _) → (state S.Store self.now.file).may_leave db → IsNear self.now.table (table_in db) }

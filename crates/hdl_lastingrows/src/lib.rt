@@ -23,6 +23,7 @@
 //!   is refused.
 #![tactic(auto)]
 
+mod disk;
 mod fault;
 mod filing;
 mod lastingrows;
@@ -30,9 +31,10 @@ mod opening;
 mod threaded;
 mod write;
 
+pub use disk::{DiskRows, Store};
 pub use fault::TableFault;
 pub use filing::{Filing, WriteState};
 pub use lastingrows::{Alarm, LastingRows};
 pub use opening::{FileTable, open_file, table_beside, table_over};
-pub use threaded::{OfWrite, Store, ThreadedFile, Whereabouts, Writer};
+pub use threaded::{OfWrite, ThreadedFile, Whereabouts, Writer};
 pub use write::{OwnWrite, Write};

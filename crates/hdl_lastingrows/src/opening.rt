@@ -12,11 +12,13 @@ ghost use Rattle.hdl_sqlrows.specs.Layout.{layout, no_schema};
 ghost use Rattle.hdl_sqlrows.specs.Filed.{WhereOpen, IsFiled, filed_table};
 ghost use Rattle.hdl_sqlrows.specs.Stored.{IsBetweenCalls};
 ghost use Rattle.hdl_sqlrows.specs.Opening.{place_of, opened_with, filed_base, no_base};
+ghost use Rattle.hdl_lastingrows.specs.Lasting.{IsKept};
 ghost use Rattle.hdl_lastingrows.specs.Beside.{IfHere};
 
+use crate::disk::{DiskRows, Store};
 use crate::fault::TableFault;
 use crate::lastingrows::{Alarm, LastingRows};
-use crate::threaded::{Store, ThreadedFile, Writer};
+use crate::threaded::{ThreadedFile, Writer};
 use hdl_filerows::FileRows;
 use hdl_name::Name;
 use hdl_rows::Rows;
@@ -210,6 +212,30 @@ fn rows_over<R: Rows + Drop, S: Alter, P: Progress>(
     }
 }
 
+/// The rows of a database, with the handles that weren't opened yet opened, in a table in memory, and the file that keeps this table.
+fn file_over<R: Rows + Drop, S: Alter + Drop, P: Progress>(
+    alloc: Global,
+    mut conn: Connection<S>,
+    rows: R,
+    spare: R,
+    opening: &[(Name, Value)],
+    progress: &mut P,
+) -> Result<(R, FileRows<S>), TableFault>
+    requires mode { conn.in_transaction ≡ false }
+    requires even { WhereOpen (state S.Store conn) ((state S.Store conn).committed ≡ (state S.Store conn).now) }
+    requires empty { R.content rows ≡ no_rows }
+    requires spare { R.content spare ≡ no_rows }
+    requires distinct { AllPairs (λ (p q : Place). p ≢ q) (map place_of opening.now) }
+    ensures kept { IfOk result (λ p. IsKept (R.content p.0) false (state S.Store p.1)) }
+    ensures made { (state S.Store conn).now.schema ≡ no_schema → IfOk result (λ p. HasCleanDisk (state S.Store p.1) → R.content p.0 ≡ (opened_with no_base opening.now).table) }
+    ensures found { (state S.Store conn).now.schema ≡ layout → IfOk result (λ p. HasCleanDisk (state S.Store p.1) → R.content p.0 ≡ (opened_with (filed_base (state S.Store conn)) opening.now).table) }
+{
+    let rows = rows_over(&mut conn, alloc, rows, spare, opening, progress)?;
+    let file = FileRows::over(alloc, conn);
+    file.after_a_crash();
+    Ok((rows, file))
+}
+
 /// The table over a database: with the handles that weren't opened yet opened, each once. Where the database has no table yet, they are made.
 /// The rows go into the first of the two tables in memory, both empty; where a handle is left to open they are read again, into the spare one.
 /// The alarm is told how far the load is.
@@ -217,7 +243,7 @@ fn rows_over<R: Rows + Drop, S: Alter, P: Progress>(
 /// Refused: where the database has other tables, an unsound row, or where memory or the store refused.
 pub fn table_over<R: Rows + Drop, S: Alter + Drop, A: Alarm + Progress + Drop>(
     alloc: Global,
-    mut conn: Connection<S>,
+    conn: Connection<S>,
     rows: R,
     spare: R,
     opening: &[(Name, Value)],
@@ -232,28 +258,8 @@ pub fn table_over<R: Rows + Drop, S: Alter + Drop, A: Alarm + Progress + Drop>(
     ensures found { (state S.Store conn).now.schema ≡ layout → IfOk result (λ t. HasCleanDisk (state S.Store t.file) → t.table ≡ (opened_with (filed_base (state S.Store conn)) opening.now).table) }
     ensures writable { IfOk result (λ t. t.is_shut ≡ false) }
 {
-    let rows = rows_over(&mut conn, alloc, rows, spare, opening, &mut alarm)?;
-    Ok(LastingRows::new(rows, FileRows::over(alloc, conn), alarm))
-}
-
-/// A table in memory and a database, which have the same rows, where threads make the writes.
-fn with_threads<R: Rows + Drop, T: Threads + Drop, A: Alarm + Drop>(
-    rows: R,
-    conn: Connection<Store>,
-    alarm: A,
-    writer: Writer<T>,
-) -> LastingRows<R, ThreadedFile<T>, A>
-    requires mode { conn.in_transaction ≡ false }
-    requires settled { HasCleanDisk (file_state conn) → IsBetweenCalls (file_state conn) }
-    requires placed { IsPlaced (R.content rows) }
-    requires filed { HasCleanDisk (file_state conn) → IsFiled (file_state conn) (R.content rows) }
-    ensures table { result.table ≡ R.content rows }
-    ensures writable { result.is_shut ≡ false }
-    ensures clean { IfHere result.file.place (λ s. HasCleanDisk s → HasCleanDisk (file_state conn)) }
-{
-    let file = FileRows::over(writer.alloc, conn);
-    file.after_a_crash();
-    LastingRows::over(rows, ThreadedFile::over(file, writer), alarm)
+    let (rows, file) = file_over(alloc, conn, rows, spare, opening, &mut alarm)?;
+    Ok(LastingRows::over(rows, file, alarm))
 }
 
 /// As [`table_over`], of a file whose writes threads make. The first of the two tables in memory gets the rows.
@@ -274,8 +280,8 @@ pub fn table_beside<R: Rows + Drop, T: Threads + Drop, A: Alarm + Progress + Dro
     ensures writable { IfOk result (λ t. t.is_shut ≡ false) }
 {
     let (rows, spare) = memory;
-    let mut conn = conn;
     let mut alarm = alarm;
-    let rows = rows_over(&mut conn, writer.alloc, rows, spare, opening, &mut alarm)?;
-    Ok(with_threads(rows, conn, alarm, writer))
+    let (rows, file) = file_over(writer.alloc, conn, rows, spare, opening, &mut alarm)?;
+    let file = ThreadedFile::over(DiskRows { rows: file }, writer);
+    Ok(LastingRows::over(rows, file, alarm))
 }

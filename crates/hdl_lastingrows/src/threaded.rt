@@ -10,31 +10,28 @@ ghost use Rattle.hdl_lastingrows.specs.Lasting.{IsKept, Leaves, LeavesIn};
 ghost use Rattle.hdl_lastingrows.specs.Writes.{write_of, write_in};
 ghost use Rattle.hdl_lastingrows.specs.Beside.{IsKeptAt, IsHandedOver, IfHere, behind};
 
+use crate::disk::{DiskRows, Store};
 use crate::filing::{Filing, WriteState};
 use crate::write::{OwnWrite, Write};
 use hdl_filerows::FileRows;
 use hdl_queue::Signals;
-use sqlite::{FileFrom, FileStore, Wary};
 use std::alloc::{AllocError, Global};
 use std::snapshot::Snapshot;
 use std::sync::Arc;
 use std::thread::{Promise, PromisedHandle, Threads};
 use std::{mem, thread};
 
-/// The store of a file that a thread may have.
-pub type Store = FileStore<FileFrom<Wary>>;
-
 /// What a thread gives back: the file, and what is known of its write.
 #[derive(Drop)]
 pub struct Returned {
-    pub file: FileRows<Store>,
+    pub file: DiskRows,
     pub state: WriteState,
 }
 
 /// That the file which a thread gives back is what its write left of the one that it was given.
 #[derive(Drop)]
 pub struct OfWrite {
-    pub file: Snapshot<FileRows<Store>>,
+    pub file: Snapshot<DiskRows>,
     pub write: Snapshot<OwnWrite>,
 }
 
@@ -43,13 +40,13 @@ impl Promise<Returned> for OfWrite {
     ghost use Rattle.hdl_lastingrows.specs.Lasting.{LeavesIn};
     ghost use Rattle.hdl_lastingrows.specs.Writes.{write_in};
 
-    ghost kept_by = { λ p r. LeavesIn (file_state p.file.value) (file_state r.file) (write_in p.write.value) r.state };
+    ghost kept_by = { λ p r. LeavesIn (file_state p.file.value.rows) (file_state r.file.rows) (write_in p.write.value) r.state };
 }
 
 /// Where a file is.
 #[derive(Drop)]
 pub enum Whereabouts {
-    Here(FileRows<Store>),
+    Here(DiskRows),
     /// A thread has it, and makes this write.
     Away(OwnWrite, PromisedHandle<Returned, OfWrite>),
     /// In the hands of a call.
@@ -75,21 +72,21 @@ pub struct ThreadedFile<T: Threads + Drop> {
 /// Gives the file and the write to a thread of their own, or makes the write where no thread can be started.
 fn start<T: Threads>(
     rt: &T,
-    file: FileRows<Store>,
+    file: DiskRows,
     write: OwnWrite,
     signals: Arc<Signals>,
 ) -> Result<PromisedHandle<Returned, OfWrite>, Returned>
-    requires can { (t : Table) × IsKept t false (file_state file) × CanWrite t (write_in write) }
+    requires can { (t : Table) × IsKept t false (file_state file.rows) × CanWrite t (write_in write) }
     ensures given { IfOk result (λ thread. (thread.promise.file.value ≡ file) × (thread.promise.write.value ≡ write)) }
-    ensures made { IfErr result (λ back. LeavesIn (file_state file) (file_state back.file) (write_in write) back.state) }
+    ensures made { IfErr result (λ back. LeavesIn (file_state file.rows) (file_state back.file.rows) (write_in write) back.state) }
 {
     let promise = OfWrite {
         file: Snapshot::of(&file),
         write: Snapshot::of(&write),
     };
     let job = move || -> Returned
-        requires { (t : Table) × IsKept t false (file_state file) × CanWrite t (write_in write) }
-        ensures { LeavesIn (file_state file) (file_state result.file) (write_in write) result.state }
+        requires { (t : Table) × IsKept t false (file_state file.rows) × CanWrite t (write_in write) }
+        ensures { LeavesIn (file_state file.rows) (file_state result.file.rows) (write_in write) result.state }
     {
         let mut file = file;
         let state = file.make(&write.as_write());
@@ -103,9 +100,9 @@ fn start<T: Threads>(
 }
 
 /// Makes the write by the call itself.
-fn make_here(mut file: FileRows<Store>, write: &Write<'_>) -> (Whereabouts, WriteState)
-    requires can { (t : Table) × IsKept t false (file_state file) × CanWrite t (write_of write.now) }
-    ensures { (t : Table) → IsKept t false (file_state file) → CanWrite t (write_of write.now) → Leaves (IsKeptAt result.0) t (write_of write.now) result.1 }
+fn make_here(mut file: DiskRows, write: &Write<'_>) -> (Whereabouts, WriteState)
+    requires can { (t : Table) × IsKept t false (file_state file.rows) × CanWrite t (write_of write.now) }
+    ensures { (t : Table) → IsKept t false (file_state file.rows) → CanWrite t (write_of write.now) → Leaves (IsKeptAt result.0) t (write_of write.now) result.1 }
 {
     let state = file.make(write);
     (Whereabouts::Here(file), state)
@@ -141,9 +138,9 @@ fn state_for(own: &OwnWrite, write: &Write<'_>, state: WriteState) -> WriteState
 
 impl<T: Threads + Drop> ThreadedFile<T> {
     /// A file that is here.
-    pub fn over(file: FileRows<Store>, writer: Writer<T>) -> ThreadedFile<T>
-        ensures kept { (t : Table) → (shut : Bool) → IsKept t shut (file_state file) → IsKeptAt result.place t shut }
-        ensures clean { IfHere result.place (λ s. HasCleanDisk s → HasCleanDisk (file_state file)) }
+    pub fn over(file: DiskRows, writer: Writer<T>) -> ThreadedFile<T>
+        ensures kept { (t : Table) → (shut : Bool) → IsKept t shut (file_state file.rows) → IsKeptAt result.place t shut }
+        ensures clean { IfHere result.place (λ s. HasCleanDisk s → HasCleanDisk (file_state file.rows)) }
     {
         ThreadedFile {
             writer,
@@ -164,8 +161,8 @@ impl<T: Threads + Drop> ThreadedFile<T> {
     pub fn into_file(self) -> Option<FileRows<Store>> {
         let ThreadedFile { writer, place } = self;
         match place {
-            Whereabouts::Here(file) => Some(file),
-            Whereabouts::Away(_own, thread) => Some(thread.join(&writer.rt).file),
+            Whereabouts::Here(file) => Some(file.rows),
+            Whereabouts::Away(_own, thread) => Some(thread.join(&writer.rt).file.rows),
             Whereabouts::Nowhere => None,
         }
     }
@@ -185,12 +182,12 @@ impl<T: Threads + Drop> ThreadedFile<T> {
     /// Begins to make the write in a thread.
     fn begin(
         &self,
-        file: FileRows<Store>,
+        file: DiskRows,
         write: &Write<'_>,
         signals: &Arc<Signals>,
     ) -> (Whereabouts, WriteState)
-        requires can { (t : Table) × IsKept t false (file_state file) × CanWrite t (write_of write.now) }
-        ensures { (t : Table) → IsKept t false (file_state file) → CanWrite t (write_of write.now) → Leaves (IsKeptAt result.0) t (write_of write.now) result.1 }
+        requires can { (t : Table) × IsKept t false (file_state file.rows) × CanWrite t (write_of write.now) }
+        ensures { (t : Table) → IsKept t false (file_state file.rows) → CanWrite t (write_of write.now) → Leaves (IsKeptAt result.0) t (write_of write.now) result.1 }
     {
         let Ok((stays, goes, theirs)) = copies(self.writer.alloc, write, signals) else {
             return (Whereabouts::Here(file), WriteState::Refused);

@@ -1,9 +1,17 @@
-use Rattle.std.proofs.Common.{◌∙◌}
+use Rattle.std.proofs.Common.{◌≡◌, sym, subst}
+use Rattle.sqlite.specs.State.{HasCleanDisk}
+use Rattle.sqlite.specs.Files.{file_state}
+use Rattle.hdl_sqlrows.specs.Opening.{opened_with, filed_base, no_base}
+use Rattle.hdl_lastingrows.specs.Beside.{IfHere}
 use Rattle.hdl_lastingrows.proofs.Crashes.{here_map}
 use Rattle.hdl_lastingrows.proofs.opening.table_beside.Goals as goal
 
 pub returns-clause-made : goal.returns-clause-made
-returns-clause-made g c schema = here_map c.with_threads.result.file.place (λ s to clean. c.with_threads.ensures.table ∙ c.in_ok-rows.ensures.made schema (to clean)) c.with_threads.ensures.clean
+returns-clause-made g c schema =
+    let here = here_map c.over-file.result.place (λ s to clean. c.in_ok-rows.ensures.made schema (to clean)) c.over-file.ensures.clean in
+    subst (λ l. IfHere l.file.place (λ s. HasCleanDisk s → l.table ≡ (opened_with no_base c.args.opening.now).table)) (sym c.over.ensures) here
 
 pub returns-clause-found : goal.returns-clause-found
-returns-clause-found g c schema = here_map c.with_threads.result.file.place (λ s to clean. c.with_threads.ensures.table ∙ c.in_ok-rows.ensures.found schema (to clean)) c.with_threads.ensures.clean
+returns-clause-found g c schema =
+    let here = here_map c.over-file.result.place (λ s to clean. c.in_ok-rows.ensures.found schema (to clean)) c.over-file.ensures.clean in
+    subst (λ l. IfHere l.file.place (λ s. HasCleanDisk s → l.table ≡ (opened_with (filed_base (file_state c.args.conn)) c.args.opening.now).table)) (sym c.over.ensures) here

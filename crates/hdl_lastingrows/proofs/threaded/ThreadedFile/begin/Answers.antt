@@ -13,7 +13,7 @@ start-requires g c = record { can = (c.requires.can.0, c.requires.can.1, subst (
 pub returns-in-Ok-start : goal.returns-in-Ok-start
 returns-in-Ok-start g c t kept can =
     let given = c.in-Ok-start.ensures.given in (
-      subst (λ f. IsKept t false (file_state f)) (sym given.0) kept,
+      subst (λ f. IsKept t false (file_state f.rows)) (sym given.0) kept,
       subst (λ w. CanWrite t w) (sym c.in-Ok.ensures.0) can,
       ap write_in given.1 ∙ c.in-Ok.ensures.1 ∙ sym c.in-Ok.ensures.0,
     )

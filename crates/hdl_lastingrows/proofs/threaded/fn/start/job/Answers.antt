@@ -8,4 +8,4 @@ pub make-state-requires : goal.make-state-requires
 make-state-requires c = record { can = (c.requires.0, c.requires.1, subst (λ w. CanWrite c.requires.0 w) (sym c.as_write.ensures) c.requires.2) }
 
 pub returns : goal.returns
-returns c t kept can = subst (λ w. Leaves (λ u shut. IsKept u shut (file_state c.make-state.new.self)) t w c.make-state.result) c.as_write.ensures (c.make-state.ensures t kept (subst (λ w. CanWrite t w) (sym c.as_write.ensures) can))
+returns c t kept can = subst (λ w. Leaves (λ u shut. IsKept u shut (file_state c.make-state.new.self.rows)) t w c.make-state.result) c.as_write.ensures (c.make-state.ensures t kept (subst (λ w. CanWrite t w) (sym c.as_write.ensures) can))
