@@ -164,6 +164,21 @@ fn crowd_at<R: Net>(
     Ok(Some(Crowd::new(rt, alloc, seat, most, patience)?))
 }
 
+/// The seats of a publisher with so many lanes, and its overflow lane, where there is to be one.
+fn seats_and_crowd<R: Net + Clock>(
+    rt: &R,
+    alloc: Global,
+    listeners: Vec<TcpListener>,
+    lanes: u16,
+    waits: &Waits,
+    limits: Limits,
+) -> io::Result<(Vec<Seat>, Option<Crowd>)> {
+    let streams = lanes.saturating_sub(1);
+    let mut seats = seats_at(rt, alloc, listeners.as_slice(), streams, waits)?;
+    let crowd = crowd_at(rt, alloc, lanes, &mut seats, limits)?;
+    Ok((seats, crowd))
+}
+
 /// The place of a publisher with so many lanes, of which the last is that of its datagrams.
 fn place_of<R: Net + Clock>(
     rt: &R,
@@ -180,9 +195,7 @@ fn place_of<R: Net + Clock>(
         idle: limits.idle,
         ending: Arc::try_clone(&setting.supervision.ending)?,
     };
-    let streams = lanes.saturating_sub(1);
-    let mut seats = seats_at(rt, alloc, listeners.as_slice(), streams, &waits)?;
-    let crowd = crowd_at(rt, alloc, lanes, &mut seats, limits)?;
+    let (seats, crowd) = seats_and_crowd(rt, alloc, listeners, lanes, &waits, limits)?;
     Ok(PublisherSockets {
         seats,
         crowd,

@@ -122,6 +122,26 @@ fn start_packets<R: Threads + Clock + RandomSource + Eprint + Copy + Send + Drop
     }
 }
 
+/// Starts the worker of each lane that serves a connection at a time.
+fn start_streams<R: Threads + Clock + RandomSource + Eprint + Copy + Send + Drop + 'static>(
+    rt: &R,
+    alloc: Global,
+    seats: Vec<Seat>,
+    record: &Option<Record>,
+    sides: &mut IntoIter<Side>,
+    workers: &mut Vec<JoinHandle<WorkerEnd>>,
+) -> Result<(), Fault> {
+    let mut lane = 0usize;
+    for seat in seats {
+        if let Some(side) = sides.next() {
+            let recorder = recorder_of(rt, alloc, record, lane)?;
+            workers.push(start_stream(rt, alloc, seat, recorder, side)?)?;
+        }
+        lane = lane.saturating_add(1);
+    }
+    Ok(())
+}
+
 /// Starts the workers of a publisher's lanes: the last is that of its datagrams, and that before it the overflow lane, if it has one.
 fn start_place<R: Threads + Clock + RandomSource + Eprint + Copy + Send + Drop + 'static>(
     rt: &R,
@@ -137,14 +157,8 @@ fn start_place<R: Threads + Clock + RandomSource + Eprint + Copy + Send + Drop +
         record,
         ending,
     } = place;
-    let mut lane = 0usize;
-    for seat in seats {
-        if let Some(side) = sides.next() {
-            let recorder = recorder_of(rt, alloc, &record, lane)?;
-            workers.push(start_stream(rt, alloc, seat, recorder, side)?)?;
-        }
-        lane = lane.saturating_add(1);
-    }
+    let mut lane = seats.len();
+    start_streams(rt, alloc, seats, &record, sides, workers)?;
     if let Some(crowd) = crowd {
         if let Some(side) = sides.next() {
             let recorder = recorder_of(rt, alloc, &record, lane)?;
