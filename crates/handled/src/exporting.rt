@@ -1,7 +1,7 @@
 //! Writing a table as a tenants text.
 
 use crate::bounds::has_publisher;
-use crate::tabled::TabledFault;
+use crate::tabled::{Closing, FileWork, TabledFault};
 use hdl_core::Tenants;
 use hdl_export::{ExportFault, LeftOut, export, export_publisher, left_out, left_out_of};
 use hdl_replay::{Fault, put_all};
@@ -47,14 +47,14 @@ pub fn has_named(rt: &HostRuntime, tenants: &Tenants, publisher: &Option<String>
 }
 
 /// Prints the table as a tenants text, with the publishers and prefixes of this one. Answers the exit status.
-pub fn put_export<R: Rows>(rt: &HostRuntime, text: &str, rows: &mut R) -> Result<u8, TabledFault> {
+fn put_export<R: Rows>(rt: &HostRuntime, text: &str, rows: &mut R) -> Result<u8, TabledFault> {
     let out = export(rt.alloc(), text, rows)?;
     put_all(&mut rt.stdout(), out.as_bytes())?;
     Ok(say_left_out(rt, left_out(rt.alloc(), text, rows)?))
 }
 
 /// Prints the part of this publisher as a tenants text, with the publishers and prefixes of this one. Answers the exit status.
-pub fn put_publisher<R: Rows>(
+fn put_publisher<R: Rows>(
     rt: &HostRuntime,
     text: &str,
     publisher: &str,
@@ -64,4 +64,28 @@ pub fn put_publisher<R: Rows>(
     put_all(&mut rt.stdout(), out.as_bytes())?;
     let left = left_out_of(rt.alloc(), text, publisher, rows)?;
     Ok(say_left_out(rt, left))
+}
+
+/// What prints the table in a file as a tenants text, or the part of the publisher of this name.
+#[derive(Drop)]
+pub struct Export<'a> {
+    pub tenants: Tenants,
+    pub text: &'a str,
+    pub publisher: Option<String>,
+}
+
+impl FileWork for Export<'_> {
+    fn tenants(&self) -> &Tenants {
+        &self.tenants
+    }
+
+    fn run<T: Rows + Closing + Drop>(self, rt: &HostRuntime, table: T) -> Result<u8, TabledFault> {
+        let mut table = table;
+        let status = match &self.publisher {
+            Some(name) => put_publisher(rt, self.text, name.as_str(), &mut table)?,
+            None => put_export(rt, self.text, &mut table)?,
+        };
+        table.close()?;
+        Ok(status)
+    }
 }

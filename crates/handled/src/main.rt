@@ -13,6 +13,8 @@ mod copying;
 mod exporting;
 mod notices;
 mod ports;
+mod replaying;
+mod serving;
 mod supervising;
 mod tabled;
 mod words;
@@ -20,11 +22,16 @@ mod words;
 use bounds::{BoundWord, bounds_of};
 use checking::check_text;
 use copying::copy_table;
+use exporting::{Export, has_named};
 use hdl_core::Tenants;
-use hdl_host::{Ending, HostFault, Setting, host_resumed, host_tenants};
+use hdl_host::{Health, HostFault, Setting};
+use hdl_lastingrows::TableFault;
+use hdl_queue::Signals;
 use hdl_replay::{Fault, read_input, tenants_of};
-use notices::{Notice, say_begins, say_ends};
+use hdl_status::status_of_words;
 use ports::can_listen;
+use replaying::{ReadScript, replay_input};
+use serving::{serve_memory, serve_table};
 use std::fs::Files;
 use std::net::{Net, TcpListener, TcpStream};
 use std::process::ExitCode;
@@ -33,29 +40,8 @@ use std::rt::Clock;
 use std::sync::Arc;
 use std::thread::Threads;
 use supervising::{log_at, stop};
-use tabled::{
-    FileService, TabledFault, close_served, empty_table, export_on, is_new, open_desk, replay_in,
-    replay_on,
-};
+use tabled::{TabledFault, empty_table, is_new, open_served, over_file};
 use words::{Invocation, TableFile, read_words};
-
-/// What is left to do once the command line and the input were read.
-#[derive(Drop)]
-enum Job<R: Threads + Drop> {
-    /// Nothing: this is the exit status.
-    Ended(u8),
-    /// Serve these tenants.
-    Serve {
-        tenants: Tenants,
-        setting: Setting,
-        row_cache: usize,
-    },
-    /// Serve over the table in a file.
-    ServeOn {
-        desk: FileService<R>,
-        setting: Setting,
-    },
-}
 
 /// The whole input as a text.
 fn read_text(rt: &HostRuntime) -> Result<String, Fault> {
@@ -66,70 +52,157 @@ fn read_text(rt: &HostRuntime) -> Result<String, Fault> {
     }
 }
 
-/// Runs the script over a table in SQL, in memory, and answers the exit status.
-fn replay_script<R: Threads + Drop>(rt: &HostRuntime) -> Result<u8, Fault> {
+/// Runs the script on standard input over a table in memory, and answers the exit status.
+fn replay_memory<R: Threads + Drop>(rt: &HostRuntime) -> Result<u8, Fault> {
     let rows = empty_table::<R>(rt, 0)?;
-    replay_in(rt, rows)
+    replay_input(rt, rows)
 }
 
-/// What is asked to be served, once its text was read.
-fn run_serve<R: Threads + Copy + Drop>(
+/// Whether each port of a server can be had, where the file of its table is new: a start that fails at one leaves no new file behind.
+fn try_ports(
+    rt: &HostRuntime,
+    file: &TableFile,
+    tenants: &Tenants,
+    setting: &Setting,
+) -> Result<(), HostFault> {
+    if is_new(rt, file) {
+        can_listen(rt, rt.alloc(), tenants, setting.addresses.as_slice())?;
+    }
+    Ok(())
+}
+
+/// What the table of a file shares with what serves in this setting: its health, and the signals by which it tells that a write is made.
+fn share_with(
+    rt: &HostRuntime,
+    setting: &mut Setting,
+) -> Result<(Arc<Health>, Arc<Signals>), TableFault> {
+    let health = Arc::try_clone(&setting.supervision.health)?;
+    let signals = Arc::new(rt.alloc(), Signals::new())?;
+    setting.signals = Some(Arc::try_clone(&signals)?);
+    Ok((health, signals))
+}
+
+/// Serves over the table in the file, and answers the exit status.
+fn serve_file<
+    R: Net<Listener = TcpListener, Stream = TcpStream>
+        + Threads
+        + Clock
+        + RandomSource
+        + Files
+        + Eprint
+        + Copy
+        + Send
+        + Drop
+        + 'static,
+>(
+    machine: &R,
+    rt: &HostRuntime,
+    file: &TableFile,
+    tenants: Tenants,
+    mut setting: Setting,
+) -> Result<u8, TabledFault> {
+    try_ports(rt, file, &tenants, &setting)?;
+    let (health, signals) = share_with(rt, &mut setting)?;
+    let table = open_served(*machine, rt, file, &tenants, health, Some(signals))?;
+    serve_table(machine, rt, table, tenants, setting, file.path.as_str())
+}
+
+/// Serves the tenants of the text on standard input, and answers the exit status.
+fn serve<
+    R: Net<Listener = TcpListener, Stream = TcpStream>
+        + Threads
+        + Clock
+        + RandomSource
+        + Files
+        + Eprint
+        + Copy
+        + Send
+        + Drop
+        + 'static,
+>(
     machine: &R,
     rt: &HostRuntime,
     mut setting: Setting,
     bounds: Vec<BoundWord>,
     row_cache: usize,
     table: Option<TableFile>,
-) -> Result<Job<R>, TabledFault> {
+) -> Result<u8, TabledFault> {
     let text = read_text(rt)?;
     let tenants = tenants_of(rt.alloc(), text.as_str())?;
     match bounds_of(rt.alloc(), bounds, text.as_str(), &tenants) {
         Ok(bounds) => setting.bounds = bounds,
         Err(fault) => {
             let _ = eprintln!(rt; "{fault}");
-            return Ok(Job::Ended(fault.status()));
+            return Ok(fault.status());
         }
     }
     match table {
-        None => Ok(Job::Serve {
-            tenants,
-            setting,
-            row_cache,
-        }),
-        Some(file) => {
-            // a start that fails at a port leaves no new file behind
-            if is_new(rt, &file) {
-                can_listen(rt, rt.alloc(), &tenants, setting.addresses.as_slice())?;
-            }
-            let desk = open_desk(*machine, rt, file, tenants, &setting.supervision.health)?;
-            setting.signals = Some(Arc::try_clone(&desk.signals).map_err(HostFault::from)?);
-            Ok(Job::ServeOn { desk, setting })
+        None => {
+            let rows = empty_table::<R>(rt, row_cache)?;
+            serve_memory(machine, rt, rows, tenants, setting, row_cache)
         }
+        Some(file) => serve_file(machine, rt, &file, tenants, setting),
     }
 }
 
-fn run<R: Threads + Copy + Drop>(machine: &R, rt: &HostRuntime) -> Result<Job<R>, TabledFault> {
+/// Prints the table in the file as a tenants text, or the part of the publisher of this name, and answers the exit status. The file is opened as
+/// a server's start opens it, but none is made.
+fn export_file<R: Threads + Drop>(
+    machine: R,
+    rt: &HostRuntime,
+    file: &TableFile,
+    text: &str,
+    publisher: Option<String>,
+) -> Result<u8, TabledFault> {
+    if is_new(rt, file) {
+        return Err(TabledFault::Table(TableFault::CannotOpen));
+    }
+    let tenants = tenants_of(rt.alloc(), text)?;
+    if !has_named(rt, &tenants, &publisher) {
+        return Ok(status_of_words(false));
+    }
+    let export = Export {
+        tenants,
+        text,
+        publisher,
+    };
+    over_file(machine, rt, file, export)
+}
+
+/// Does what the command line asks for, and answers the exit status.
+fn run<
+    R: Net<Listener = TcpListener, Stream = TcpStream>
+        + Threads
+        + Clock
+        + RandomSource
+        + Files
+        + Eprint
+        + Copy
+        + Send
+        + Drop
+        + 'static,
+>(machine: &R, rt: &HostRuntime) -> Result<u8, TabledFault> {
     match read_words(rt)? {
-        Invocation::Ended(status) => Ok(Job::Ended(status)),
+        Invocation::Ended(status) => Ok(status),
         Invocation::Check => {
             let text = read_text(rt)?;
-            Ok(Job::Ended(check_text(rt, text.as_str())?))
+            Ok(check_text(rt, text.as_str())?)
         }
         Invocation::Export { table, publisher } => {
             let text = read_text(rt)?;
-            Ok(Job::Ended(export_on(*machine, rt, &table, text.as_str(), publisher)?))
+            export_file(*machine, rt, &table, text.as_str(), publisher)
         }
-        Invocation::Replay { table: None } => Ok(Job::Ended(replay_script::<R>(rt)?)),
+        Invocation::Replay { table: None } => Ok(replay_memory::<R>(rt)?),
         Invocation::Replay { table: Some(file) } => {
             let text = read_text(rt)?;
-            replay_on(*machine, rt, &file, text.as_str())?;
-            Ok(Job::Ended(0))
+            let script = ReadScript::of_text(rt, text.as_str())?;
+            over_file(*machine, rt, &file, script)
         }
         Invocation::Copy { from, to } => {
             copy_table(rt, from.as_str(), to.as_str())?;
-            Ok(Job::Ended(0))
+            Ok(0)
         }
-        Invocation::Stop { control } => Ok(Job::Ended(stop(rt, control.as_str()))),
+        Invocation::Stop { control } => Ok(stop(rt, control.as_str())),
         Invocation::Serve {
             mut setting,
             bounds,
@@ -140,95 +213,17 @@ fn run<R: Threads + Copy + Drop>(machine: &R, rt: &HostRuntime) -> Result<Job<R>
             if let Some(path) = log {
                 setting.supervision.log = Some(log_at(rt, path.as_str())?);
             }
-            run_serve(machine, rt, setting, bounds, row_cache, table)
+            serve(machine, rt, setting, bounds, row_cache, table)
         }
     }
-}
-
-/// Says how a server ended, and answers the exit status.
-fn report_end(rt: &HostRuntime, served: Result<(), TabledFault>, ending: &Ending) -> ExitCode {
-    match served {
-        Ok(()) => {
-            say_ends(rt, ending.is_asked());
-            ExitCode::from(0)
-        }
-        Err(fault) => report_fault(rt, fault),
-    }
-}
-
-/// Prints the fault line, and answers the exit status.
-fn report_fault(rt: &HostRuntime, fault: TabledFault) -> ExitCode {
-    let _ = eprintln!(rt; "{fault}");
-    ExitCode::from(fault.status())
-}
-
-/// Serves over a table in memory, and answers the exit status.
-fn serve_in_memory<
-    R: Net<Listener = TcpListener, Stream = TcpStream>
-        + Threads
-        + Clock
-        + RandomSource
-        + Files
-        + Eprint
-        + Copy
-        + Send
-        + Drop
-        + 'static,
->(machine: &R, rt: &HostRuntime, tenants: Tenants, setting: Setting, row_cache: usize) -> ExitCode {
-    let rows = match empty_table::<R>(rt, row_cache) {
-        Ok(rows) => rows,
-        Err(fault) => return report_fault(rt, TabledFault::from(fault)),
-    };
-    say_begins(rt, &tenants, Notice::Memory { row_cache }, setting.limits);
-    let mut output = rt.stdout();
-    let ending = match Arc::try_clone(&setting.supervision.ending) {
-        Ok(ending) => ending,
-        Err(_) => return report_fault(rt, TabledFault::from(Fault::NoMemory)),
-    };
-    let served = host_tenants(machine, rt.alloc(), rows, tenants, setting, &mut output);
-    report_end(rt, served.map_err(TabledFault::from), &ending)
-}
-
-/// Serves over the table in a file, and answers the exit status.
-fn serve_on<
-    R: Net<Listener = TcpListener, Stream = TcpStream>
-        + Threads
-        + Clock
-        + RandomSource
-        + Files
-        + Eprint
-        + Copy
-        + Send
-        + Drop
-        + 'static,
->(machine: &R, rt: &HostRuntime, desk: FileService<R>, setting: Setting) -> ExitCode {
-    let FileService {
-        tenants,
-        table,
-        path,
-        ..
-    } = desk;
-    say_begins(rt, &tenants, Notice::File(path.as_str()), setting.limits);
-    let mut output = rt.stdout();
-    let ending = match Arc::try_clone(&setting.supervision.ending) {
-        Ok(ending) => ending,
-        Err(_) => return report_fault(rt, TabledFault::from(Fault::NoMemory)),
-    };
-    let served = host_resumed(machine, rt.alloc(), table, tenants, setting, &mut output);
-    report_end(rt, close_served(served), &ending)
 }
 
 fn main(rt: HostRuntime) -> ExitCode {
     match run(&rt, &rt) {
-        Ok(Job::Ended(status)) => ExitCode::from(status),
-        Ok(
-            Job::Serve {
-                tenants,
-                setting,
-                row_cache,
-            },
-        ) => serve_in_memory(&rt, &rt, tenants, setting, row_cache),
-        Ok(Job::ServeOn { desk, setting }) => serve_on(&rt, &rt, desk, setting),
-        Err(fault) => report_fault(&rt, fault),
+        Ok(status) => ExitCode::from(status),
+        Err(fault) => {
+            let _ = eprintln!(rt; "{fault}");
+            ExitCode::from(fault.status())
+        }
     }
 }

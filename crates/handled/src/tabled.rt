@@ -1,27 +1,25 @@
-//! The table of a run, in memory or with a file beside it, and what is done over a file.
+//! The table of a run, in memory or with a file beside it.
 
 ghost use Rattle.std.specs.Prelude.{◌≡◌, IfOk};
 ghost use Rattle.hdl_rows.specs.Table.{no_rows};
 
 use crate::copying::CopyFault;
-use crate::exporting::{has_named, put_export, put_publisher, status_of};
+use crate::exporting::status_of;
 use crate::words::TableFile;
 use hdl_boundedrows::BoundedRows;
 use hdl_cachedrows::CachedRows;
 use hdl_core::{Rows, Tenants};
 use hdl_eitherrows::EitherRows;
-use hdl_events::Event;
 use hdl_export::ExportFault;
 use hdl_host::{Health, HostFault, Notices};
 use hdl_lastingrows::{
     Alarm, LastingRows, TableFault, ThreadedFile, Writer, open_file, table_beside,
 };
 use hdl_queue::Signals;
-use hdl_replay::{Fault, events_of, lines_of_resumed, parts_of, put_all, replay, tenants_of};
+use hdl_replay::Fault;
 use hdl_rows::PlainRows;
 use hdl_sqlrows::SqlRows;
 use hdl_sqlrows::load::Progress;
-use hdl_status::status_of_words;
 use sqlite::Wary;
 use std::fmt;
 use std::fs::File;
@@ -147,7 +145,7 @@ pub fn empty_table<R: Threads + Drop>(rt: &HostRuntime, row_cache: usize) -> Res
 }
 
 /// The table in the file. With signals a thread makes its writes.
-fn open_served<R: Threads + Drop>(
+pub fn open_served<R: Threads + Drop>(
     machine: R,
     rt: &HostRuntime,
     file: &TableFile,
@@ -168,10 +166,22 @@ fn open_served<R: Threads + Drop>(
     Ok(EitherRows::Second(rows))
 }
 
+/// A table behind no bounds, as one that is served is behind its own.
+pub fn without_bounds<T: Rows + Drop>(
+    rt: &HostRuntime,
+    rows: T,
+) -> Result<BoundedRows<T, Notices<HostRuntime>>, Fault>
+    ensures { IfOk result (λ bounded. bounded.table ≡ T.content rows) }
+{
+    let alloc = rt.alloc();
+    match BoundedRows::new(alloc, rows, Vec::new(alloc), Notices::new(*rt)) {
+        Ok(rows) => Ok(rows),
+        Err(_) => Err(Fault::StoreRefused),
+    }
+}
+
 /// What has a file, which is closed at the end.
-///
-/// What owns a table is generic over it: proving a function that owns all parts of a file's table costs many times as much.
-trait Closing {
+pub trait Closing {
     /// Copies the log into the file.
     fn close(self) -> Result<(), TabledFault>;
 }
@@ -197,101 +207,32 @@ impl<A: Drop, B: Closing + Drop> Closing for EitherRows<A, B> {
     }
 }
 
-/// A table behind no bounds, as one that is served is behind its own.
-fn without_bounds<T: Rows + Drop>(
-    rt: &HostRuntime,
-    rows: T,
-) -> Result<BoundedRows<T, Notices<HostRuntime>>, Fault>
-    ensures { IfOk result (λ bounded. bounded.table ≡ T.content rows) }
-{
-    let alloc = rt.alloc();
-    match BoundedRows::new(alloc, rows, Vec::new(alloc), Notices::new(*rt)) {
-        Ok(rows) => Ok(rows),
-        Err(_) => Err(Fault::StoreRefused),
-    }
+/// What is done over the table in a file that nobody serves.
+///
+/// Who opens a table is handed what is done over it, which is generic over tables: proving a function that owns all parts of one costs many times as much.
+pub trait FileWork: Drop {
+    /// Whose handles are opened with the table.
+    fn tenants(&self) -> &Tenants;
+
+    /// Does it, closes the file, and answers the exit status.
+    fn run<T: Rows + Closing + Drop>(self, rt: &HostRuntime, table: T) -> Result<u8, TabledFault>;
 }
 
-/// The health of a table that nobody asks for.
-fn new_health(rt: &HostRuntime) -> Result<Arc<Health>, Fault> {
-    Ok(Arc::new(rt.alloc(), Health::new())?)
-}
-
-/// Runs the script on standard input over an empty table, and answers the exit status.
-pub fn replay_in<T: Rows + Drop>(rt: &HostRuntime, rows: T) -> Result<u8, Fault>
-    requires empty { T.content rows ≡ no_rows }
-{
-    let rows = without_bounds(rt, rows)?;
-    let mut input = rt.stdin();
-    let mut output = rt.stdout();
-    let mut faults = rt.stderr();
-    Ok(replay(rt.alloc(), rows, &mut input, &mut output, &mut faults))
-}
-
-/// Runs the events over the table, prints the outcomes, and closes the file.
-fn replay_over<T: Rows + Closing + Drop>(
-    rt: &HostRuntime,
-    table: T,
-    tenants: Tenants,
-    events: Vec<Event>,
-) -> Result<(), TabledFault> {
-    let rows = without_bounds(rt, table)?;
-    let (lines, rows) = lines_of_resumed(rt.alloc(), rows, tenants, events)?;
-    put_all(&mut rt.stdout(), lines.as_bytes())?;
-    rows.into_rows().close()
-}
-
-/// Runs the script over the table in the file, prints the outcomes, and closes the file.
-pub fn replay_on<R: Threads + Drop>(
+/// Does this over the table in the file.
+pub fn over_file<R: Threads + Drop, W: FileWork>(
     machine: R,
     rt: &HostRuntime,
     file: &TableFile,
-    text: &str,
-) -> Result<(), TabledFault> {
-    let parts = parts_of(text);
-    let tenants = tenants_of(rt.alloc(), parts.tenants)?;
-    let events = events_of(rt.alloc(), parts.script, parts.run_line)?;
-    let table = open_served(machine, rt, file, &tenants, new_health(rt)?, None)?;
-    replay_over(rt, table, tenants, events)
-}
-
-/// Prints the table as a tenants text, and closes the file. Answers the exit status.
-fn export_over<T: Rows + Closing + Drop>(
-    rt: &HostRuntime,
-    mut table: T,
-    text: &str,
-    publisher: Option<String>,
+    work: W,
 ) -> Result<u8, TabledFault> {
-    let status = match publisher {
-        Some(name) => put_publisher(rt, text, name.as_str(), &mut table)?,
-        None => put_export(rt, text, &mut table)?,
-    };
-    table.close()?;
-    Ok(status)
+    let health = Arc::new(rt.alloc(), Health::new()).map_err(Fault::from)?;
+    let table = open_served(machine, rt, file, work.tenants(), health, None)?;
+    work.run(rt, table)
 }
 
 /// Whether nothing can be opened at the path of the table's file yet.
 pub fn is_new(rt: &HostRuntime, file: &TableFile) -> bool {
     File::open(rt, file.path.as_str()).is_err()
-}
-
-/// Prints the table in the file as a tenants text, or the part of the publisher of this name, and answers the exit status. The file is opened as
-/// a server's start opens it, but none is made.
-pub fn export_on<R: Threads + Drop>(
-    machine: R,
-    rt: &HostRuntime,
-    file: &TableFile,
-    text: &str,
-    publisher: Option<String>,
-) -> Result<u8, TabledFault> {
-    if is_new(rt, file) {
-        return Err(TabledFault::Table(TableFault::CannotOpen));
-    }
-    let tenants = tenants_of(rt.alloc(), text)?;
-    if !has_named(rt, &tenants, &publisher) {
-        return Ok(status_of_words(false));
-    }
-    let table = open_served(machine, rt, file, &tenants, new_health(rt)?, None)?;
-    export_over(rt, table, text, publisher)
 }
 
 /// Opens a copy of a table's file, which takes in its log, and closes it.
@@ -300,41 +241,4 @@ pub fn close_copy(rt: &HostRuntime, path: &str) -> Result<(), TabledFault> {
         Ok(()) => Ok(()),
         Err(fault) => Err(TabledFault::Table(TableFault::from(fault))),
     }
-}
-
-/// What is served: the tenants of the text, and the table in the file at this path, whose writes threads make.
-#[derive(Drop)]
-pub struct FileService<R: Threads + Drop> {
-    pub tenants: Tenants,
-    pub table: Table<R>,
-    pub path: String,
-    /// What they tell the thread that serves.
-    pub signals: Arc<Signals>,
-}
-
-/// Opens what is served. What becomes of the table's health is said there.
-pub fn open_desk<R: Threads + Drop>(
-    machine: R,
-    rt: &HostRuntime,
-    file: TableFile,
-    tenants: Tenants,
-    health: &Arc<Health>,
-) -> Result<FileService<R>, TableFault> {
-    let health = Arc::try_clone(health)?;
-    let signals = Arc::new(rt.alloc(), Signals::new())?;
-    let theirs = Arc::try_clone(&signals)?;
-    let table = open_served(machine, rt, &file, &tenants, health, Some(theirs))?;
-    Ok(FileService {
-        tenants,
-        table,
-        path: file.path,
-        signals,
-    })
-}
-
-/// Closes the file of a table that was served.
-pub fn close_served<R: Threads + Drop>(
-    served: Result<Table<R>, HostFault>,
-) -> Result<(), TabledFault> {
-    served?.close()
 }

@@ -1,7 +1,7 @@
 -- What a write leaves of a table and its database.
 use Rattle.std.proofs.Common.{◌≡◌, inl, inr, Bool, true, false, IsTrue, refl, sym, ap, subst, ◌∙◌, arith}
 use Rattle.sqlite.specs.State.{State, HasCleanDisk, Survives}
-use Rattle.hdl_rows.specs.Table.{Table, IsPlaced}
+use Rattle.hdl_rows.specs.Table.{Table}
 use Rattle.hdl_rows.specs.Write.{Write, CanWrite, after_write}
 use Rattle.hdl_rows.proofs.Writes.{stay_placed_lem}
 use Rattle.hdl_sqlrows.specs.Filed.{WhereOpen, IsFiled, CrashLeaves, filed_table}
@@ -51,11 +51,3 @@ module _ (t : Table) (w : Write) (can : CanWrite t w) (old mid : State) (kept : 
           | inr none ↦ absurd none
         ];
   }
-
--- a database that has the rows of a table keeps it
-pub newly : (t : Table) (s : State) → IsPlaced t → (HasCleanDisk s → IsFiled s t) → WhereOpen s (CrashLeaves s (filed_table s)) → IsKept t false s
-newly t s placed has crash = record {
-  placed = placed;
-  live = λ _ clean. has clean;
-  near = λ clean db may. inl (crash clean (has clean).0 db may ∙ (has clean).1);
-}

@@ -16,8 +16,8 @@ use sqlite::{FileFrom, FileStore, Wary};
 /// The store of a file that a thread may have.
 pub type Store = FileStore<FileFrom<Wary>>;
 
-/// The rows of a table in a file of the operating system. What is generic in stores is called of this store here and where the file is opened, and nowhere else: each such
-/// call, an end of the rows' life too, takes its caller's proof as long as a hundred others.
+/// The rows of a table in a file of the operating system. In this crate what is generic in stores is called of this store here and where the file is opened, and nowhere
+/// else: each such call, an end of the rows' life too, makes its caller's proof long (docs/GATE.md).
 #[derive(Drop)]
 pub struct DiskRows {
     pub rows: FileRows<Store>,

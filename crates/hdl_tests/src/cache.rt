@@ -43,33 +43,45 @@ fn that_there_is_no_mask_is_kept(rt: HostRuntime) -> Result<(), Fail> {
     Ok(())
 }
 
+/// Keeps a mask, or that there is none, of the key at this index.
+fn keep(
+    alloc: Global,
+    masks: &mut KeptMasks,
+    name: &Name,
+    index: u32,
+    mask: Option<AdminMask>,
+) -> Result<(), Fail> {
+    masks.keep(name, &key(alloc, index)?, mask);
+    Ok(())
+}
+
+/// What is kept of the key at this index.
+fn find(
+    alloc: Global,
+    masks: &mut KeptMasks,
+    name: &Name,
+    index: u32,
+) -> Result<Option<Option<AdminMask>>, Fail> {
+    Ok(masks.find(name, &key(alloc, index)?)?)
+}
+
 /// Of 257 masks the one that was used least recently isn't kept.
 #[test]
 fn the_least_recently_used_goes(rt: HostRuntime) -> Result<(), Fail> {
-    let mut masks = KeptMasks::new(rt.alloc())?;
-    let name = Name::read(rt.alloc(), b"10/c")?;
+    let alloc = rt.alloc();
+    let mut masks = KeptMasks::new(alloc)?;
+    let name = Name::read(alloc, b"10/c")?;
     for index in 1..=256 {
-        masks.keep(&name, &key(rt.alloc(), index)?, Some(AdminMask(1)));
+        keep(alloc, &mut masks, &name, index, Some(AdminMask(1)))?;
     }
-    same(
-        &rt,
-        "key 1",
-        masks.find(&name, &key(rt.alloc(), 1)?)?,
-        Some(Some(AdminMask(1))),
-    );
-    masks.keep(&name, &key(rt.alloc(), 257)?, None);
-    same(
-        &rt,
-        "key 1",
-        masks.find(&name, &key(rt.alloc(), 1)?)?,
-        Some(Some(AdminMask(1))),
-    );
-    same(&rt, "key 2", masks.find(&name, &key(rt.alloc(), 2)?)?, None);
-    same(
-        &rt,
-        "key 257",
-        masks.find(&name, &key(rt.alloc(), 257)?)?,
-        Some(None),
-    );
+    let first = find(alloc, &mut masks, &name, 1)?;
+    same(&rt, "key 1", first, Some(Some(AdminMask(1))));
+    keep(alloc, &mut masks, &name, 257, None)?;
+    let first = find(alloc, &mut masks, &name, 1)?;
+    same(&rt, "key 1", first, Some(Some(AdminMask(1))));
+    let second = find(alloc, &mut masks, &name, 2)?;
+    same(&rt, "key 2", second, None);
+    let last = find(alloc, &mut masks, &name, 257)?;
+    same(&rt, "key 257", last, Some(None));
     Ok(())
 }

@@ -20,6 +20,9 @@ const LOOKS: u64 = 3_002;
 /// The calls by which two handles are made.
 const CREATES: u64 = 4;
 
+/// The mask of who may do everything.
+const ALL: Result<Option<AdminMask>, Refused> = Ok(Some(AdminMask(0x0fff)));
+
 fn list(alloc: Global) -> Result<Vec<u8>, AllocError> {
     let mut data = Vec::new(alloc);
     put_u32(&mut data, LISTED)?;
@@ -56,6 +59,18 @@ fn create(rt: &impl Abort, alloc: Global, rows: &mut impl Rows, handle: &[u8]) -
     Ok(())
 }
 
+/// The mask of a key of this handle, as far as one call finds it, is the one that is wanted.
+fn finds(
+    rt: &impl Abort,
+    what: &str,
+    rows: &mut impl Masked,
+    name: &Name,
+    key: &Reference,
+    wanted: Result<Option<AdminMask>, Refused>,
+) {
+    same(rt, what, rows.mask(name, key), wanted);
+}
+
 /// One call stops behind the list, since that holds more than 2,048 references, and the next behind 2,048 of these. Both are refused, which no
 /// table counts. The third ends, and each reference was looked up once.
 #[test]
@@ -66,10 +81,8 @@ fn a_search_goes_on(rt: HostRuntime) -> Result<(), Fail> {
     let last = key(rt.alloc(), LISTED)?;
     let first = rows.mask(&name, &last);
     same(&rt, "first", first, Err(Refused));
-    let second = rows.mask(&name, &last);
-    same(&rt, "second", second, Err(Refused));
-    let third = rows.mask(&name, &last);
-    same(&rt, "third", third, Ok(Some(AdminMask(0x0fff))));
+    finds(&rt, "second", &mut rows, &name, &last, Err(Refused));
+    finds(&rt, "third", &mut rows, &name, &last, ALL);
     same(&rt, "refused", rows.refusals(), 0);
     Ok(())
 }
@@ -81,15 +94,11 @@ fn a_search_serves_every_key(rt: HostRuntime) -> Result<(), Fail> {
     let mut rows = MaskedRows::new(rt.alloc(), rows)?;
     let name = Name::read(rt.alloc(), b"10/c")?;
     let made_up = key(rt.alloc(), LISTED + 1)?;
-    let first = rows.mask(&name, &made_up);
-    same(&rt, "first", first, Err(Refused));
-    let second = rows.mask(&name, &made_up);
-    same(&rt, "second", second, Err(Refused));
-    let third = rows.mask(&name, &made_up);
-    same(&rt, "made up", third, Ok(None));
     let one = key(rt.alloc(), 1)?;
-    let listed = rows.mask(&name, &one);
-    same(&rt, "listed", listed, Ok(Some(AdminMask(0x0fff))));
+    finds(&rt, "first", &mut rows, &name, &made_up, Err(Refused));
+    finds(&rt, "second", &mut rows, &name, &made_up, Err(Refused));
+    finds(&rt, "made up", &mut rows, &name, &made_up, Ok(None));
+    finds(&rt, "listed", &mut rows, &name, &one, ALL);
     same(&rt, "refused", rows.refusals(), 0);
     Ok(())
 }
@@ -101,18 +110,20 @@ fn a_change_ends_what_saw_its_handle(rt: HostRuntime) -> Result<(), Fail> {
     let mut rows = MaskedRows::new(rt.alloc(), rows)?;
     let name = Name::read(rt.alloc(), b"10/c")?;
     let last = key(rt.alloc(), LISTED)?;
-    let first = rows.mask(&name, &last);
-    same(&rt, "first", first, Err(Refused));
-    let second = rows.mask(&name, &last);
-    same(&rt, "second", second, Err(Refused));
-    let third = rows.mask(&name, &last);
-    same(&rt, "third", third, Ok(Some(AdminMask(0x0fff))));
+    finds(&rt, "first", &mut rows, &name, &last, Err(Refused));
+    finds(&rt, "second", &mut rows, &name, &last, Err(Refused));
+    finds(&rt, "third", &mut rows, &name, &last, ALL);
     create(&rt, rt.alloc(), &mut rows, b"20/key")?;
-    let kept = rows.mask(&name, &last);
-    same(&rt, "of another handle", kept, Ok(Some(AdminMask(0x0fff))));
+    finds(&rt, "of another handle", &mut rows, &name, &last, ALL);
     create(&rt, rt.alloc(), &mut rows, b"20/keys")?;
-    let gone = rows.mask(&name, &last);
-    same(&rt, "of a key's handle", gone, Err(Refused));
+    finds(
+        &rt,
+        "of a key's handle",
+        &mut rows,
+        &name,
+        &last,
+        Err(Refused),
+    );
     same(&rt, "refused", rows.refusals(), 1);
     Ok(())
 }

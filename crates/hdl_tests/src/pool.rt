@@ -230,12 +230,21 @@ fn envelope(request: u32) -> Envelope {
     }
 }
 
+/// A lane, a peer, and what becomes of its second piece, once the first two were freed and the last lane dropped.
+const FREED: [(u16, u16, &str); 5] = [
+    (0, 1, "kept"),
+    (0, 2, "whole"),
+    (1, 1, "whole"),
+    (2, 1, "kept"),
+    (2, 2, "kept"),
+];
+
 /// What is freed is one peer's message of one lane; a lane that is dropped is the only one that is empty.
 #[test]
 fn freed_and_dropped(rt: HostRuntime) -> Result<(), Fail> {
     let mut pool = Pool::new(rt.alloc())?;
     let sent = message(rt.alloc(), 984)?;
-    for (lane, peer) in [(0, 1), (0, 2), (1, 1), (2, 1), (2, 2)] {
+    for &(lane, peer, _) in &FREED {
         let became = send(rt.alloc(), &mut pool, lane, peer, 1, 0, &sent)?;
         same(
             &rt,
@@ -247,14 +256,7 @@ fn freed_and_dropped(rt: HostRuntime) -> Result<(), Fail> {
     pool.free(0, 1, &envelope(1));
     pool.free(0, 2, &envelope(2));
     pool.drop_lane(2);
-    let cases = [
-        (0, 1, "kept"),
-        (0, 2, "whole"),
-        (1, 1, "whole"),
-        (2, 1, "kept"),
-        (2, 2, "kept"),
-    ];
-    for (lane, peer, expected) in cases {
+    for &(lane, peer, expected) in &FREED {
         let became = send(rt.alloc(), &mut pool, lane, peer, 1, 1, &sent)?;
         same(
             &rt,

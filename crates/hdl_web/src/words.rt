@@ -56,125 +56,143 @@ pub enum Invocation {
     Ended(u8),
 }
 
+/// An option with a value.
+fn option<'a>(alloc: Global, name: &'a str, value: &'a str, help: &'a str) -> Arg<'a> {
+    Arg::new(alloc, name)
+        .long(name)
+        .value_name(value)
+        .help(help)
+        .action(ArgAction::Set)
+}
+
+/// The options that say where it listens, and what answers there.
+fn listening_args<'a>(alloc: Global, command: Command<'a>) -> Result<Command<'a>, AllocError> {
+    command
+        .arg(option(
+            alloc,
+            "listen",
+            "ADDRESS:PORT",
+            "Where it listens, repeated for more; without it on 127.0.0.1:8080",
+        )
+        .action(ArgAction::Append))?
+        .arg(option(
+            alloc,
+            "threads",
+            "N",
+            "How many threads serve the connections of each address, 1 without it",
+        )
+        .value_parser(value_parser!(u64).range(1..65)))
+}
+
+/// The options that say whom it asks, and how.
+fn asking_args<'a>(alloc: Global, command: Command<'a>) -> Result<Command<'a>, AllocError> {
+    command
+        .arg(
+            option(
+                alloc,
+                "server",
+                "HOST:PORT[=PREFIX,..]",
+                "A handle server to ask, repeated for more: for these prefixes, or for all that no server is named with",
+            )
+            .required(true)
+            .action(ArgAction::Append),
+        )?
+        .arg(option(
+            alloc,
+            "askers",
+            "N",
+            "How many questions each server is asked at once, 2 without it; each may hold a lane",
+        )
+        .value_parser(value_parser!(u64).range(1..65)))?
+        .arg(option(
+            alloc,
+            "timeout",
+            "SECONDS",
+            "How long a server's whole answer may take, 5 without it",
+        )
+        .value_parser(value_parser!(u64).range(1..61)))
+}
+
+/// The options that say what its pages tell of the site.
+fn site_args<'a>(alloc: Global, command: Command<'a>) -> Result<Command<'a>, AllocError> {
+    command
+        .arg(option(
+            alloc,
+            "site",
+            "NAME",
+            "What the site is called, at the head of its pages; without it Handles",
+        ))?
+        .arg(option(
+            alloc,
+            "contact",
+            "ADDRESS",
+            "Whom readers ask, at the foot of its pages: an address of mail, or a URL",
+        ))
+}
+
+/// The options that say what it keeps, and where it tells of visits.
+fn keeping_args<'a>(alloc: Global, command: Command<'a>) -> Result<Command<'a>, AllocError> {
+    command
+        .arg(option(
+            alloc,
+            "cache",
+            "SECONDS",
+            "How long an answer is kept at most, as far as its TTL lets it; none is without it",
+        )
+        .value_parser(value_parser!(u64).range(1..86401)))?
+        .arg(option(
+            alloc,
+            "log",
+            "FILE",
+            "Where a line of each visit is written, - is standard output; nowhere without it",
+        ))
+}
+
 fn command<'a>(alloc: Global) -> Result<Command<'a>, AllocError> {
-    Command::new(alloc, NAME)
+    let command = Command::new(alloc, NAME)
         .version(VERSION)
         .bin_name(NAME)?
-        .about("Leads browsers from a handle's address to its URL, over HTTP")
-        .arg(
-            Arg::new(alloc, "listen")
-                .long("listen")
-                .value_name("ADDRESS:PORT")
-                .help("Where it listens, repeated for more; without it on 127.0.0.1:8080")
-                .action(ArgAction::Append),
-        )?
-        .arg(
-            Arg::new(alloc, "threads")
-                .long("threads")
-                .value_name("N")
-                .help("How many threads serve the connections of each address, 1 without it")
-                .action(ArgAction::Set)
-                .value_parser(value_parser!(u64).range(1..65)),
-        )?
-        .arg(
-            Arg::new(alloc, "server")
-                .long("server")
-                .value_name("HOST:PORT[=PREFIX,..]")
-                .help(
-                    "A handle server to ask, repeated for more: for these prefixes, or for all that no server is named with",
-                )
-                .required(true)
-                .action(ArgAction::Append),
-        )?
-        .arg(
-            Arg::new(alloc, "askers")
-                .long("askers")
-                .value_name("N")
-                .help(
-                    "How many questions each server is asked at once, 2 without it; each may hold a lane",
-                )
-                .action(ArgAction::Set)
-                .value_parser(value_parser!(u64).range(1..65)),
-        )?
-        .arg(
-            Arg::new(alloc, "timeout")
-                .long("timeout")
-                .value_name("SECONDS")
-                .help("How long a server's whole answer may take, 5 without it")
-                .action(ArgAction::Set)
-                .value_parser(value_parser!(u64).range(1..61)),
-        )?
-        .arg(
-            Arg::new(alloc, "site")
-                .long("site")
-                .value_name("NAME")
-                .help("What the site is called, at the head of its pages; without it Handles")
-                .action(ArgAction::Set),
-        )?
-        .arg(
-            Arg::new(alloc, "contact")
-                .long("contact")
-                .value_name("ADDRESS")
-                .help("Whom readers ask, at the foot of its pages: an address of mail, or a URL")
-                .action(ArgAction::Set),
-        )?
-        .arg(
-            Arg::new(alloc, "cache")
-                .long("cache")
-                .value_name("SECONDS")
-                .help(
-                    "How long an answer is kept at most, as far as its TTL lets it; none is without it",
-                )
-                .action(ArgAction::Set)
-                .value_parser(value_parser!(u64).range(1..86401)),
-        )?
-        .arg(
-            Arg::new(alloc, "log")
-                .long("log")
-                .value_name("FILE")
-                .help(
-                    "Where a line of each visit is written, - is standard output; nowhere without it",
-                )
-                .action(ArgAction::Set),
-        )?
-        .arg(
-            Arg::new(alloc, "writes")
-                .long("writes")
-                .help(
-                    "Changes handles too, by PUT and DELETE with a key, which needs TLS in front of it",
-                )
-                .action(ArgAction::SetTrue),
-        )
+        .about("Leads browsers from a handle's address to its URL, over HTTP");
+    let command = asking_args(alloc, listening_args(alloc, command)?)?;
+    keeping_args(alloc, site_args(alloc, command)?)?.arg(
+        Arg::new(alloc, "writes")
+            .long("writes")
+            .help(
+                "Changes handles too, by PUT and DELETE with a key, which needs TLS in front of it",
+            )
+            .action(ArgAction::SetTrue),
+    )
+}
+
+/// These words, each as a text of its own.
+fn texts(alloc: Global, words: &[&str]) -> Result<Vec<String>, AllocError> {
+    let mut texts = Vec::new(alloc);
+    for word in words {
+        texts.push(String::from_str(alloc, word)?)?;
+    }
+    Ok(texts)
+}
+
+/// This word, if there is one, as a text of its own.
+fn text(alloc: Global, word: Option<&str>) -> Result<Option<String>, AllocError> {
+    match word {
+        Some(word) => Ok(Some(String::from_str(alloc, word)?)),
+        None => Ok(None),
+    }
 }
 
 /// What the words say.
 fn proxy_words(alloc: Global, found: &ArgMatches<'_>) -> Result<ProxyWords, AllocError> {
-    let mut servers = Vec::new(alloc);
-    for server in found.get_strs("server").unwrap_or(&[]) {
-        servers.push(String::from_str(alloc, server)?)?;
-    }
-    let mut listen = Vec::new(alloc);
-    for address in found.get_strs("listen").unwrap_or(&[LISTEN]) {
-        listen.push(String::from_str(alloc, address)?)?;
-    }
-    let contact = match found.get_str("contact") {
-        Some(contact) => Some(String::from_str(alloc, contact)?),
-        None => None,
-    };
-    let log = match found.get_str("log") {
-        Some(path) => Some(String::from_str(alloc, path)?),
-        None => None,
-    };
     Ok(ProxyWords {
-        listen,
+        listen: texts(alloc, found.get_strs("listen").unwrap_or(&[LISTEN]))?,
         threads: found.get_one::<u64>("threads").unwrap_or(THREADS),
-        servers,
+        servers: texts(alloc, found.get_strs("server").unwrap_or(&[]))?,
         askers: found.get_one::<u64>("askers").unwrap_or(ASKERS),
         timeout: found.get_one::<u64>("timeout").unwrap_or(TIMEOUT),
         site: String::from_str(alloc, found.get_str("site").unwrap_or(SITE))?,
-        contact,
+        contact: text(alloc, found.get_str("contact"))?,
         cache: found.get_one::<u64>("cache").unwrap_or(0),
-        log,
+        log: text(alloc, found.get_str("log"))?,
         writes: found.get_flag("writes"),
     })
 }

@@ -1,0 +1,54 @@
+//! Scripts, over a table in memory and over the one in a file.
+
+ghost use Rattle.std.specs.Prelude.{◌≡◌};
+ghost use Rattle.hdl_rows.specs.Table.{no_rows};
+
+use crate::tabled::{Closing, FileWork, TabledFault, without_bounds};
+use hdl_core::{Rows, Tenants};
+use hdl_events::Event;
+use hdl_replay::{Fault, events_of, lines_of_resumed, parts_of, put_all, replay, tenants_of};
+
+/// Runs the script on standard input over an empty table, and answers the exit status.
+pub fn replay_input<T: Rows + Drop>(rt: &HostRuntime, rows: T) -> Result<u8, Fault>
+    requires empty { T.content rows ≡ no_rows }
+{
+    let rows = without_bounds(rt, rows)?;
+    let mut input = rt.stdin();
+    let mut output = rt.stdout();
+    let mut faults = rt.stderr();
+    Ok(replay(rt.alloc(), rows, &mut input, &mut output, &mut faults))
+}
+
+/// A script that was read.
+#[derive(Drop)]
+pub struct ReadScript {
+    tenants: Tenants,
+    events: Vec<Event>,
+}
+
+impl ReadScript {
+    /// The tenants and events of this text.
+    pub fn of_text(rt: &HostRuntime, text: &str) -> Result<ReadScript, Fault> {
+        let parts = parts_of(text);
+        Ok(ReadScript {
+            tenants: tenants_of(rt.alloc(), parts.tenants)?,
+            events: events_of(rt.alloc(), parts.script, parts.run_line)?,
+        })
+    }
+}
+
+impl FileWork for ReadScript {
+    fn tenants(&self) -> &Tenants {
+        &self.tenants
+    }
+
+    /// Runs the events, and prints the outcomes.
+    fn run<T: Rows + Closing + Drop>(self, rt: &HostRuntime, table: T) -> Result<u8, TabledFault> {
+        let ReadScript { tenants, events } = self;
+        let rows = without_bounds(rt, table)?;
+        let (lines, rows) = lines_of_resumed(rt.alloc(), rows, tenants, events)?;
+        put_all(&mut rt.stdout(), lines.as_bytes())?;
+        rows.into_rows().close()?;
+        Ok(0)
+    }
+}

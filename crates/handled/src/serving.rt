@@ -1,0 +1,81 @@
+//! Serving over TCP and UDP, over a table in memory and over the one in a file.
+
+ghost use Rattle.std.specs.Prelude.{◌≡◌};
+ghost use Rattle.hdl_rows.specs.Table.{no_rows};
+
+use crate::notices::{Notice, say_begins, say_ends};
+use crate::tabled::{Closing, TabledFault};
+use hdl_core::{Rows, Tenants};
+use hdl_host::{Ending, Setting, host_resumed, host_tenants};
+use hdl_replay::Fault;
+use std::fs::Files;
+use std::net::{Net, TcpListener, TcpStream};
+use std::random::RandomSource;
+use std::rt::Clock;
+use std::sync::Arc;
+use std::thread::Threads;
+
+/// Whether the server was asked to end, which is looked at behind its end.
+fn ending_of(setting: &Setting) -> Result<Arc<Ending>, Fault> {
+    Ok(Arc::try_clone(&setting.supervision.ending)?)
+}
+
+/// Serves these tenants over an empty table in memory, and answers the exit status.
+pub fn serve_memory<
+    R: Net<Listener = TcpListener, Stream = TcpStream>
+        + Threads
+        + Clock
+        + RandomSource
+        + Files
+        + Eprint
+        + Copy
+        + Send
+        + Drop
+        + 'static,
+    T: Rows + Drop,
+>(
+    machine: &R,
+    rt: &HostRuntime,
+    rows: T,
+    tenants: Tenants,
+    setting: Setting,
+    row_cache: usize,
+) -> Result<u8, TabledFault>
+    requires empty { T.content rows ≡ no_rows }
+{
+    say_begins(rt, &tenants, Notice::Memory { row_cache }, setting.limits);
+    let mut output = rt.stdout();
+    let ending = ending_of(&setting)?;
+    host_tenants(machine, rt.alloc(), rows, tenants, setting, &mut output)?;
+    say_ends(rt, ending.is_asked());
+    Ok(0)
+}
+
+/// Serves these tenants over the table in the file at this path, and closes it. Answers the exit status.
+pub fn serve_table<
+    R: Net<Listener = TcpListener, Stream = TcpStream>
+        + Threads
+        + Clock
+        + RandomSource
+        + Files
+        + Eprint
+        + Copy
+        + Send
+        + Drop
+        + 'static,
+    T: Rows + Closing + Drop,
+>(
+    machine: &R,
+    rt: &HostRuntime,
+    table: T,
+    tenants: Tenants,
+    setting: Setting,
+    path: &str,
+) -> Result<u8, TabledFault> {
+    say_begins(rt, &tenants, Notice::File(path), setting.limits);
+    let mut output = rt.stdout();
+    let ending = ending_of(&setting)?;
+    host_resumed(machine, rt.alloc(), table, tenants, setting, &mut output)?.close()?;
+    say_ends(rt, ending.is_asked());
+    Ok(0)
+}
