@@ -1,7 +1,7 @@
 #!/usr/bin/env python3
 """believed.py [--write] [CRATE/FILE/FUNCTION..]: the definitions that a function's contract rests on, which a reader has to believe.
 
-Without words: of `Service::run` (hdl_core/service/run) and `serve` (hdl_serve/serving/serve), as docs/THEOREM.md lists them; where the page differs it
+Without words: of `Service::run` (hdl_core/service/run) and `serve` (hdl_serve/serving/serve), with the machine that both are made of, as docs/THEOREM.md lists them; where the page differs it
 says so, and then the exit status is 1. With --write it puts the list there.
 
 From the clauses of a function, and from the views of the types in its file and in the files that its clauses name, it follows names through the `use`
@@ -17,7 +17,8 @@ import sys
 sys.dont_write_bytecode = True
 import repository
 
-CONTRACTS = ("hdl_core/service/run", "hdl_serve/serving/serve")
+# The world of a service is that of its machine, whose view stands in the file of the third.
+CONTRACTS = ("hdl_core/service/run", "hdl_serve/serving/serve", "hdl_core/machine/into_service")
 BEGIN, END = "<!-- tools/believed.py --write makes this list -->\n", "<!-- the list ends -->\n"
 START = re.compile(r"^(?:abbrev |unfoldable |opaque )?(?:pub )?(?:(?:record|data) )?(\S+)")
 USE = re.compile(r"^\s*(?:ghost )?use (\S+?)(?:\.\{([^}]*)\})?(?: as (\w+))?;?$")

@@ -5,7 +5,7 @@ use crate::tabled::{Closing, FileWork, TabledFault};
 use hdl_core::Tenants;
 use hdl_export::{ExportFault, LeftOut, export, export_publisher, left_out, left_out_of};
 use hdl_replay::{Fault, put_all};
-use hdl_rows::Rows;
+use hdl_rows::{Owing, Rows};
 
 /// The exit status where the table has handles that the text can't say.
 const INCOMPLETE: u8 = 5;
@@ -79,7 +79,7 @@ impl FileWork for Export<'_> {
         &self.tenants
     }
 
-    fn run<T: Rows + Closing + Drop>(self, rt: &HostRuntime, table: T) -> Result<u8, TabledFault> {
+    fn run<T: Owing + Closing + Drop>(self, rt: &HostRuntime, table: T) -> Result<u8, TabledFault> {
         let mut table = table;
         let status = match &self.publisher {
             Some(name) => put_publisher(rt, self.text, name.as_str(), &mut table)?,

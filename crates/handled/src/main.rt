@@ -26,7 +26,6 @@ use exporting::{Export, has_named};
 use hdl_core::Tenants;
 use hdl_host::{Health, HostFault, Setting};
 use hdl_lastingrows::TableFault;
-use hdl_queue::Signals;
 use hdl_replay::{Fault, read_input, tenants_of};
 use hdl_status::status_of_words;
 use ports::can_listen;
@@ -71,15 +70,9 @@ fn try_ports(
     Ok(())
 }
 
-/// What the table of a file shares with what serves in this setting: its health, and the signals by which it tells that a write is made.
-fn share_with(
-    rt: &HostRuntime,
-    setting: &mut Setting,
-) -> Result<(Arc<Health>, Arc<Signals>), TableFault> {
-    let health = Arc::try_clone(&setting.supervision.health)?;
-    let signals = Arc::new(rt.alloc(), Signals::new())?;
-    setting.signals = Some(Arc::try_clone(&signals)?);
-    Ok((health, signals))
+/// What the status page tells of the table in this setting.
+fn health_of(setting: &Setting) -> Result<Arc<Health>, TableFault> {
+    Ok(Arc::try_clone(&setting.supervision.health)?)
 }
 
 /// Serves over the table in the file, and answers the exit status.
@@ -99,11 +92,11 @@ fn serve_file<
     rt: &HostRuntime,
     file: &TableFile,
     tenants: Tenants,
-    mut setting: Setting,
+    setting: Setting,
 ) -> Result<u8, TabledFault> {
     try_ports(rt, file, &tenants, &setting)?;
-    let (health, signals) = share_with(rt, &mut setting)?;
-    let table = open_served(*machine, rt, file, &tenants, health, Some(signals))?;
+    let health = health_of(&setting)?;
+    let table = open_served(*machine, rt, file, &tenants, health, true)?;
     serve_table(machine, rt, table, tenants, setting, file.path.as_str())
 }
 

@@ -4,12 +4,12 @@ ghost use Rattle.std.specs.Prelude.{◌≡◌};
 ghost use Rattle.hdl_rows.specs.Table.{no_rows};
 
 use crate::tabled::{Closing, FileWork, TabledFault, without_bounds};
-use hdl_core::{Rows, Tenants};
+use hdl_core::{Owing, Tenants};
 use hdl_events::Event;
 use hdl_replay::{Fault, events_of, lines_of_resumed, parts_of, put_all, replay, tenants_of};
 
 /// Runs the script on standard input over an empty table, and answers the exit status.
-pub fn replay_input<T: Rows + Drop>(rt: &HostRuntime, rows: T) -> Result<u8, Fault>
+pub fn replay_input<T: Owing + Drop>(rt: &HostRuntime, rows: T) -> Result<u8, Fault>
     requires empty { T.content rows ≡ no_rows }
 {
     let rows = without_bounds(rt, rows)?;
@@ -43,7 +43,7 @@ impl FileWork for ReadScript {
     }
 
     /// Runs the events, and prints the outcomes.
-    fn run<T: Rows + Closing + Drop>(self, rt: &HostRuntime, table: T) -> Result<u8, TabledFault> {
+    fn run<T: Owing + Closing + Drop>(self, rt: &HostRuntime, table: T) -> Result<u8, TabledFault> {
         let ReadScript { tenants, events } = self;
         let rows = without_bounds(rt, table)?;
         let (lines, rows) = lines_of_resumed(rt.alloc(), rows, tenants, events)?;

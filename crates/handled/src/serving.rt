@@ -5,7 +5,7 @@ ghost use Rattle.hdl_rows.specs.Table.{no_rows};
 
 use crate::notices::{Notice, say_begins, say_ends};
 use crate::tabled::{Closing, TabledFault};
-use hdl_core::{Rows, Tenants};
+use hdl_core::{Owing, Tenants};
 use hdl_host::{Ending, Setting, host_resumed, host_tenants};
 use hdl_replay::Fault;
 use std::fs::Files;
@@ -32,7 +32,7 @@ pub fn serve_memory<
         + Send
         + Drop
         + 'static,
-    T: Rows + Drop,
+    T: Owing + Drop,
 >(
     machine: &R,
     rt: &HostRuntime,
@@ -63,7 +63,7 @@ pub fn serve_table<
         + Send
         + Drop
         + 'static,
-    T: Rows + Closing + Drop,
+    T: Owing + Closing + Drop,
 >(
     machine: &R,
     rt: &HostRuntime,

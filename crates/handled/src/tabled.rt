@@ -8,14 +8,13 @@ use crate::exporting::status_of;
 use crate::words::TableFile;
 use hdl_boundedrows::BoundedRows;
 use hdl_cachedrows::CachedRows;
-use hdl_core::{Rows, Tenants};
+use hdl_core::{Owing, Rows, Tenants};
 use hdl_eitherrows::EitherRows;
 use hdl_export::ExportFault;
 use hdl_host::{Health, HostFault, Notices};
 use hdl_lastingrows::{
     Alarm, LastingRows, TableFault, ThreadedFile, Writer, open_file, table_beside,
 };
-use hdl_queue::Signals;
 use hdl_replay::Fault;
 use hdl_rows::PlainRows;
 use hdl_sqlrows::SqlRows;
@@ -99,13 +98,18 @@ pub struct Said {
     rt: HostRuntime,
     /// What the status page tells of the table.
     health: Arc<Health>,
+    /// How many times it was said that the table takes no more writes.
+    rings: u64,
 }
 
 impl Alarm for Said {
+    ghost rings = { λ s. s.rings };
+
     fn ring(&mut self) {
+        self.rings = self.rings.saturating_add(1);
         self.health.shut();
         let _ = eprintln!(self.rt;
-            "table: shut for writes: a write or a sync of the file failed, or memory did; reads go on, changes are answered busy; restart once the cause is gone"
+            "table: shut for writes: a sync of the file failed, so nobody can tell whether it has the last change; reads go on, changes are answered busy; restart once the cause is gone"
         );
     }
 }
@@ -144,30 +148,34 @@ pub fn empty_table<R: Threads + Drop>(rt: &HostRuntime, row_cache: usize) -> Res
     Ok(EitherRows::First(rows))
 }
 
-/// The table in the file. With signals a thread makes its writes.
+/// The table in the file. A thread makes its writes where they are made beside the calls.
 pub fn open_served<R: Threads + Drop>(
     machine: R,
     rt: &HostRuntime,
     file: &TableFile,
     tenants: &Tenants,
     health: Arc<Health>,
-    signals: Option<Arc<Signals>>,
+    beside: bool,
 ) -> Result<Table<R>, TableFault> {
     let conn = open_file(rt, file.path.as_str(), file.has_sums, Wary)?;
     let alloc = rt.alloc();
     let memory = (PlainRows::new(alloc), PlainRows::new(alloc));
-    let said = Said { rt: *rt, health };
+    let said = Said {
+        rt: *rt,
+        health,
+        rings: 0,
+    };
     let writer = Writer {
         rt: machine,
         alloc,
-        signals,
+        beside,
     };
     let rows = table_beside(conn, memory, tenants.opening(), said, writer)?;
     Ok(EitherRows::Second(rows))
 }
 
 /// A table behind no bounds, as one that is served is behind its own.
-pub fn without_bounds<T: Rows + Drop>(
+pub fn without_bounds<T: Owing + Drop>(
     rt: &HostRuntime,
     rows: T,
 ) -> Result<BoundedRows<T, Notices<HostRuntime>>, Fault>
@@ -215,7 +223,7 @@ pub trait FileWork: Drop {
     fn tenants(&self) -> &Tenants;
 
     /// Does it, closes the file, and answers the exit status.
-    fn run<T: Rows + Closing + Drop>(self, rt: &HostRuntime, table: T) -> Result<u8, TabledFault>;
+    fn run<T: Owing + Closing + Drop>(self, rt: &HostRuntime, table: T) -> Result<u8, TabledFault>;
 }
 
 /// Does this over the table in the file.
@@ -226,7 +234,7 @@ pub fn over_file<R: Threads + Drop, W: FileWork>(
     work: W,
 ) -> Result<u8, TabledFault> {
     let health = Arc::new(rt.alloc(), Health::new()).map_err(Fault::from)?;
-    let table = open_served(machine, rt, file, work.tenants(), health, None)?;
+    let table = open_served(machine, rt, file, work.tenants(), health, false)?;
     work.run(rt, table)
 }
 

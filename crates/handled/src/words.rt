@@ -187,7 +187,6 @@ fn serve_words(alloc: Global, found: &ArgMatches) -> Result<Invocation, Unclear>
             addresses: addresses(alloc, words)?,
             limits: limits(found),
             bounds: Vec::new(alloc),
-            signals: None,
             supervision: supervision(alloc, found)?,
         },
         bounds: bound_words(alloc, found.get_strs("bound").unwrap_or(&[]))?,

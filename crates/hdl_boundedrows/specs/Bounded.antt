@@ -5,6 +5,7 @@ use Rattle.std.specs.Str.{bytes_eq}
 use Rattle.std.specs.Coded.{Coded, code_by, coded×, coded_ℕ, coded_list}
 use Rattle.hdl_name.specs.Name.{prefix}
 use Rattle.hdl_rows.specs.Table.{Table, table_code}
+use Rattle.hdl_rows.specs.Debt.{Debt, debt_code}
 use Rattle.hdl_boundedrows.specs.declared.amount.Amount.{Amount}
 use Rattle.hdl_boundedrows.specs.declared.account.Account.{Account}
 use Rattle.hdl_boundedrows.specs.declared.account.CountChange.{CountChange}
@@ -56,11 +57,12 @@ pub record Holding : Type 0 where
 abbrev pub holding_of : Account → Holding
 holding_of a = record { roots = a.bound.roots.items; most_values = a.bound.most.values; most_octets = a.bound.most.octets; values = a.held.values; octets = a.held.octets }
 
--- what the table holds, how many calls were refused by it or by a bound, and what is counted for each publisher with a bound
+-- what the table holds, how many calls were refused by it or by a bound, what is counted for each publisher with a bound, and what the table owes
 pub record Bounded : Type 0 where
   pub table : Table
   pub refused : ℕ
   pub holdings : List Holding
+  pub debt : Debt
 
 -- what is counted once so much was gained and so much given back
 abbrev pub moved_by : (Measure → ℕ) → (Measure → ℕ) → Holding → Holding
@@ -90,5 +92,5 @@ holding_code =
 
 abbrev pub bounded_code : Coded Bounded
 bounded_code =
-    code_by (Table × (ℕ × List Holding)) (coded× table_code (coded× coded_ℕ (coded_list holding_code)))
-    (λ b. (b.table, (b.refused, b.holdings))) (λ p. record { table = p.0; refused = p.1.0; holdings = p.1.1 }) (λ _. refl)
+    code_by (Table × (ℕ × (List Holding × Debt))) (coded× table_code (coded× coded_ℕ (coded× (coded_list holding_code) debt_code)))
+    (λ b. (b.table, (b.refused, (b.holdings, b.debt)))) (λ p. record { table = p.0; refused = p.1.0; holdings = p.1.1.0; debt = p.1.1.1 }) (λ _. refl)

@@ -12,7 +12,7 @@ use crate::account::{Account, Accounts, Bound, CountChange};
 use crate::amount::{Amount, amount_of_indexes, amount_of_replaced, handle_amount, values_amount};
 use hdl_limits::Octets;
 use hdl_name::Name;
-use hdl_rows::{Refused, Rows};
+use hdl_rows::{Owed, Owing, Refused, Rows};
 use hdl_value::{Reference, Value};
 use std::alloc::Global;
 use std::marker::Model;
@@ -24,16 +24,16 @@ pub trait Alarm {
 }
 
 /// A table with a bound for each of some publishers. Contracts see what the table holds, how many calls were refused by it or by a bound,
-/// and what is counted for each publisher with a bound.
+/// what is counted for each publisher with a bound, and what the table owes.
 #[derive(Drop)]
-pub struct BoundedRows<R: Rows + Drop, A: Alarm + Drop> {
+pub struct BoundedRows<R: Owing + Drop, A: Alarm + Drop> {
     rows: R,
     accounts: Accounts,
     refusals: u64,
     alarm: A,
 }
 
-impl<R: Rows + Drop, A: Alarm + Drop> Model for BoundedRows<R, A> {
+impl<R: Owing + Drop, A: Alarm + Drop> Model for BoundedRows<R, A> {
     ghost use Rattle.std.specs.Prelude.{◌+◌, min, map};
     ghost use Rattle.hdl_rows.specs.Table.{most};
     ghost use Rattle.hdl_boundedrows.specs.Bounded.{Bounded, bounded_code, holding_of};
@@ -42,7 +42,7 @@ impl<R: Rows + Drop, A: Alarm + Drop> Model for BoundedRows<R, A> {
 
     ghost coded = { bounded_code };
 
-    ghost view = { λ s. record { table = R.content s.rows; refused = min (R.refused s.rows + s.refusals) most; holdings = map holding_of s.accounts } };
+    ghost view = { λ s. record { table = R.content s.rows; refused = min (R.refused s.rows + s.refusals) most; holdings = map holding_of s.accounts; debt = R.debt s.rows } };
 }
 
 /// Refuses a write that would take a publisher beyond its bound, counts that, and tells of it.
@@ -98,7 +98,7 @@ fn held_by<R: Rows>(alloc: Global, rows: &mut R, roots: &[Name]) -> Result<Amoun
     Ok(sum)
 }
 
-impl<R: Rows + Drop, A: Alarm + Drop> BoundedRows<R, A> {
+impl<R: Owing + Drop, A: Alarm + Drop> BoundedRows<R, A> {
     /// A table that is there already, with these bounds. What each publisher holds is counted.
     ///
     /// Refused where the table refuses a look, for want of memory, or where a handle of a prefix isn't a name in canonical form. The table is
@@ -132,7 +132,7 @@ impl<R: Rows + Drop, A: Alarm + Drop> BoundedRows<R, A> {
     }
 }
 
-impl<R: Rows + Drop, A: Alarm + Drop> Rows for BoundedRows<R, A> {
+impl<R: Owing + Drop, A: Alarm + Drop> Rows for BoundedRows<R, A> {
     ghost content = { λ s. s.table };
 
     ghost refused = { λ s. s.refused };
@@ -326,5 +326,21 @@ impl<R: Rows + Drop, A: Alarm + Drop> Rows for BoundedRows<R, A> {
 
     fn refusals(&self) -> u64 {
         self.rows.refusals().saturating_add(self.refusals)
+    }
+}
+
+impl<R: Owing + Drop, A: Alarm + Drop> Owing for BoundedRows<R, A> {
+    ghost debt = { λ s. s.debt };
+
+    fn hands_over(&self) -> bool {
+        self.rows.hands_over()
+    }
+
+    fn owed(&self) -> Owed {
+        self.rows.owed()
+    }
+
+    fn let_write(&mut self, may_write: bool) {
+        self.rows.let_write(may_write);
     }
 }

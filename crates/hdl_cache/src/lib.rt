@@ -5,7 +5,7 @@
 //! recently used go first), else by a search over the table. One call looks up so many references and no more; a search that isn't done is
 //! refused, kept by its handle, and gone on by the next call. One that is done serves for every key, those that somebody made up too.
 //!
-//! The type's invariant ties all of it to the table: what is kept is the table's (`AreTrue` of `specs/Truth.antt`). Each write forgets what it
+//! The type's invariant ties all of it to the table: what is kept is the table's (`AreTrue` of `specs/Truth.antt`). Each write that was done forgets what it
 //! may touch. So what is found is the mask by definition; that nothing is kept says nothing, and want of memory changes no answer.
 //!
 //! ```rust
@@ -22,7 +22,8 @@
 //! - **What is kept is in no world.** Contracts see a `MaskedRows` as its table, so `Service::step`, `run` and `open` say nothing of what is kept, and Busy
 //!   and Early may leave other things kept. A write forgets all masks, since it may touch a list on which any mask stands,
 //!   and the searches that saw a reference of its handle; the others stay, or steady writes would keep a long search from ever ending.
-//! - **A write that the table refuses forgets too**: that costs a search, and one rule is easier than two.
+//! - **A write that the table refuses forgets nothing**: the table is as it was. Where a thread makes the writes of a table, each write is tried twice at least, and the second try has to find the
+//!   search and the mask of the first.
 //! - **Who asks for masks takes any [`Masked`] table**: over a type parameter the clauses speak of the table alone, and no function says that what is
 //!   kept stays true.
 //! - **What this doesn't give.** A key that somebody made up pushes an older mask out. The way back from a key over the lists that hold it has no
@@ -32,6 +33,7 @@
 #![tactic(auto)]
 
 mod kept;
+mod last;
 mod masked;
 mod masks;
 mod pair;

@@ -7,10 +7,12 @@ ghost use Rattle.hdl_rows.specs.Table.{AreRefusalsAfter};
 ghost use Rattle.hdl_reach.specs.Reach.{IsMask};
 ghost use Rattle.hdl_reach.specs.Views.{mask_of};
 
+use crate::last::LastMask;
 use crate::masks::Masks;
+use crate::pair::Pair;
 use hdl_limits::Octets;
 use hdl_name::Name;
-use hdl_rows::{Refused, Rows};
+use hdl_rows::{Owed, Owing, Refused, Rows};
 use hdl_value::{AdminMask, Reference, Value};
 use std::alloc::{AllocError, Global};
 use std::marker::Model;
@@ -30,12 +32,14 @@ pub trait Masked: Rows {
 /// Any table, with the masks and searches that are kept of it. Contracts see the table.
 #[derive(Drop)]
 pub struct MaskedRows<R: Rows + Drop> {
+    alloc: Global,
     rows: R,
     masks: Masks,
+    last: LastMask,
 }
 
 impl<R: Rows + Drop> Model for MaskedRows<R> {
-    ghost use Rattle.hdl_cache.specs.Truth.{AreTrue};
+    ghost use Rattle.hdl_cache.specs.Truth.{AreTrue, IsLast};
 
     ghost Value = { R };
 
@@ -43,7 +47,7 @@ impl<R: Rows + Drop> Model for MaskedRows<R> {
 
     ghost view = { λ s. s.rows };
 
-    ghost invariant = { λ s. AreTrue (R.content s.rows) s.masks };
+    ghost invariant = { λ s. AreTrue (R.content s.rows) s.masks × IsLast (R.content s.rows) s.last };
 }
 
 impl<R: Rows + Drop> MaskedRows<R> {
@@ -52,7 +56,12 @@ impl<R: Rows + Drop> MaskedRows<R> {
         ensures { IfOk result (λ masked. masked ≡ rows) }
     {
         let masks = Masks::new(alloc)?;
-        Ok(MaskedRows { rows, masks })
+        Ok(MaskedRows {
+            alloc,
+            rows,
+            masks,
+            last: LastMask::new(),
+        })
     }
 
     /// The table.
@@ -70,9 +79,15 @@ impl<R: Rows + Drop> MaskedRows<R> {
     }
 }
 
-impl<R: Rows + Drop> Masked for MaskedRows<R> {
+impl<R: Owing + Drop> Masked for MaskedRows<R> {
     fn mask(&mut self, name: &Name, key: &Reference) -> Result<Option<AdminMask>, Refused> {
-        self.masks.mask(&mut self.rows, name, key)
+        let pair = Pair::new(self.alloc, name, key)?;
+        if let Some(mask) = self.last.find(&pair) {
+            return Ok(mask);
+        }
+        let mask = self.masks.mask(&mut self.rows, name, key)?;
+        self.last.note(pair, mask, self.rows.owed());
+        Ok(mask)
     }
 }
 
@@ -102,31 +117,52 @@ impl<R: Rows + Drop> Rows for MaskedRows<R> {
     }
 
     fn create(&mut self, name: &Name, values: &[Value]) -> Result<(), Refused> {
-        self.masks.forget(name);
-        self.rows.create(name, values)
+        let done = self.rows.create(name, values);
+        self.last.note_write(&done);
+        self.masks.note_write(name, done)
     }
 
     fn add(&mut self, name: &Name, values: &[Value]) -> Result<(), Refused> {
-        self.masks.forget(name);
-        self.rows.add(name, values)
+        let done = self.rows.add(name, values);
+        self.last.note_write(&done);
+        self.masks.note_write(name, done)
     }
 
     fn modify(&mut self, name: &Name, values: &[Value]) -> Result<(), Refused> {
-        self.masks.forget(name);
-        self.rows.modify(name, values)
+        let done = self.rows.modify(name, values);
+        self.last.note_write(&done);
+        self.masks.note_write(name, done)
     }
 
     fn remove(&mut self, name: &Name, indexes: &[u32]) -> Result<(), Refused> {
-        self.masks.forget(name);
-        self.rows.remove(name, indexes)
+        let done = self.rows.remove(name, indexes);
+        self.last.note_write(&done);
+        self.masks.note_write(name, done)
     }
 
     fn delete(&mut self, name: &Name) -> Result<(), Refused> {
-        self.masks.forget(name);
-        self.rows.delete(name)
+        let done = self.rows.delete(name);
+        self.last.note_write(&done);
+        self.masks.note_write(name, done)
     }
 
     fn refusals(&self) -> u64 {
         self.rows.refusals()
+    }
+}
+
+impl<R: Owing + Drop> Owing for MaskedRows<R> {
+    ghost debt = { λ s. R.debt s };
+
+    fn hands_over(&self) -> bool {
+        self.rows.hands_over()
+    }
+
+    fn owed(&self) -> Owed {
+        self.rows.owed()
+    }
+
+    fn let_write(&mut self, may_write: bool) {
+        self.rows.let_write(may_write);
     }
 }

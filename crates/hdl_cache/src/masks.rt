@@ -1,6 +1,6 @@
 //! What is known of administrators: masks that were found, and searches that go on.
 
-ghost use Rattle.std.specs.Prelude.{◌≡◌, IfOk, IfSome};
+ghost use Rattle.std.specs.Prelude.{◌≡◌, IfOk, IfSome, OnOk, OnErr};
 ghost use Rattle.hdl_name.specs.Name.{canonical};
 ghost use Rattle.hdl_value.specs.Refs.{place_of};
 ghost use Rattle.hdl_rows.specs.Table.{Table, AreRefusalsAfter};
@@ -169,7 +169,7 @@ impl Masks {
 
     /// Forgets what may not be so when values of this handle change: all masks, and each search for this handle, or that saw a reference
     /// of it.
-    pub(crate) fn forget(&mut self, name: &Name)
+    fn forget(&mut self, name: &Name)
         ensures { (t u : Table) → AgreeBeside (canonical name.now) t u → AreTrue t self.old → AreTrue u self.new }
     {
         self.kept.clear();
@@ -179,5 +179,22 @@ impl Masks {
                 let _ = self.searches.push(search);
             }
         }
+    }
+
+    /// Notes what came of a write of this handle: behind one that was done it forgets what may not be so any more. One that was refused left the table as it
+    /// was, and what is kept too: so a write that is tried again, since a thread makes it or memory was refused, finds its search and its mask.
+    pub(crate) fn note_write(
+        &mut self,
+        name: &Name,
+        done: Result<(), Refused>,
+    ) -> Result<(), Refused>
+        ensures same { result ≡ done }
+        ensures kept { OnErr done (self.new ≡ self.old) }
+        ensures forgotten { OnOk done ((t u : Table) → AgreeBeside (canonical name.now) t u → AreTrue t self.old → AreTrue u self.new) }
+    {
+        if done.is_ok() {
+            self.forget(name);
+        }
+        done
     }
 }

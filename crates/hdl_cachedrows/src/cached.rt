@@ -5,7 +5,7 @@ ghost use Rattle.std.specs.Prelude.{◌≡◌, ◌≤◌, IfOk};
 use crate::cache::Cache;
 use hdl_limits::Octets;
 use hdl_name::Name;
-use hdl_rows::{Refused, Rows};
+use hdl_rows::{Owed, Owing, Prompt, Refused, Rows};
 use hdl_value::{Reference, Value};
 use std::alloc::{AllocError, Global};
 use std::hash::RandomState;
@@ -130,4 +130,20 @@ impl<R: Rows + Drop> Rows for CachedRows<R> {
     fn refusals(&self) -> u64 {
         self.rows.refusals()
     }
+}
+
+impl<R: Prompt + Drop> Owing for CachedRows<R> {
+    ghost use Rattle.hdl_rows.specs.Debt.{nothing};
+
+    ghost debt = { λ _. nothing };
+
+    fn hands_over(&self) -> bool {
+        false
+    }
+
+    fn owed(&self) -> Owed {
+        Owed::Nothing
+    }
+
+    fn let_write(&mut self, _may_write: bool) {}
 }

@@ -1,5 +1,5 @@
 -- The world with which a service opens.
-use Rattle.std.proofs.Common.{◌≡◌, ◌≢◌, ℕ, zero, suc, ◌+◌, ◌-◌, ◌<◌, ◌≤◌, Bool, true, false, cond, ◌||◌, List, [], ◌∷◌, ◌++◌, length, map, take, get_or, slice_get, nat_lt, Option, Some, None, option_map, unwrap_or, refl, sym, ap, ◌∙◌, subst, arith, inl, inr, length-append, Result, Ok, Err}
+use Rattle.std.proofs.Common.{◌≡◌, ◌≢◌, ℕ, zero, suc, ◌+◌, ◌-◌, ◌<◌, ◌≤◌, Bool, true, false, cond, List, [], ◌∷◌, ◌++◌, length, map, take, get_or, slice_get, nat_lt, Option, Some, None, option_map, unwrap_or, refl, sym, ap, ◌∙◌, subst, arith, inl, inr, length-append, Result, Ok, Err}
 use Rattle.std.proofs.lemmas.Bool.{cases_lt}
 use Rattle.std.proofs.lemmas.Bool.Decides.{Decides-ltb}
 use Rattle.std.specs.Prelude.{OnOk}
@@ -11,8 +11,8 @@ use Rattle.std.specs.FinMap.{find}
 use Rattle.std.specs.FinSet as set
 use Rattle.hdl_name.specs.Name.{canonical}
 use Rattle.hdl_value.specs.declared.value.Value.{Value}
-use Rattle.hdl_value.specs.Place.{Place, handle_cmp, place_cmp, same_handle, same_place}
-use Rattle.hdl_value.proofs.Places.{handle_total, handle_antisymmetric, place_total, place_antisymmetric, handles_equal, places_equal, insert_member}
+use Rattle.hdl_value.specs.Place.{Place, handle_cmp, place_cmp, same_place}
+use Rattle.hdl_value.proofs.Places.{handle_total, handle_antisymmetric, place_total, place_antisymmetric, places_equal, insert_member}
 use Rattle.hdl_rows.specs.Table.{Table, has, at, with_new_handle, with_values}
 use Rattle.hdl_tenants.specs.Register as register
 use Rattle.hdl_tenants.specs.Register.{Register, Publisher, Row, place, lane_count, owner_among, AreDistinct, IsRegister}

@@ -17,7 +17,6 @@ use Rattle.hdl_laws.specs.Lanes.{LaneState, fresh}
 use Rattle.hdl_laws.specs.Reveals.{IsReadable}
 use Rattle.hdl_laws.specs.Tasks as tasks
 use Rattle.hdl_laws.specs.Tasks.{Received, Task, Ignore, Break, IsFrameTask, IsOctetsTask}
-use Rattle.hdl_laws.specs.Effects.{Effect}
 use Rattle.hdl_laws.specs.Steps.{happening_of}
 use Rattle.hdl_core.specs.declared.origin.Origin.{Origin}
 use Rattle.hdl_core.specs.Held.{Held, state_at, with_state}

@@ -1,4 +1,5 @@
 pub mod Held
+pub mod Machine
 pub mod Worlds
 pub mod Serving
 pub mod Opening

@@ -23,11 +23,14 @@ mod answering;
 mod hearing;
 mod lane;
 mod lanes;
+mod machine;
 mod opening;
 mod origin;
 mod service;
 mod serving;
 
 pub use hdl_ops::{Refused, Rows, Tenants};
+pub use hdl_rows::{Owed, Owing};
+pub use machine::{Machine, Stepped};
 pub use opening::OpenFault;
 pub use service::{Early, Service};

@@ -8,6 +8,7 @@ ghost use Rattle.hdl_core.specs.Opening.{IsOpening, IsResumed, closed_lanes as c
 
 use crate::lane::Lane;
 use crate::lanes::Lanes;
+use crate::machine::Machine;
 use crate::service::Service;
 use hdl_name::Name;
 use hdl_ops::{MaskedRows, Refused, Rows, Tenants};
@@ -136,10 +137,12 @@ impl<R: Rows + Drop> Service<R> {
         load(alloc, &mut rows, tenants.opening())?;
         let rows = with_masks(alloc, rows)?;
         Ok(Service {
-            alloc,
-            tenants,
-            lanes,
-            rows,
+            machine: Machine {
+                alloc,
+                tenants,
+                lanes,
+                rows,
+            },
         })
     }
 
@@ -153,10 +156,12 @@ impl<R: Rows + Drop> Service<R> {
         let lanes = room_for(alloc, &tenants)?;
         let rows = with_masks(alloc, rows)?;
         Ok(Service {
-            alloc,
-            tenants,
-            lanes,
-            rows,
+            machine: Machine {
+                alloc,
+                tenants,
+                lanes,
+                rows,
+            },
         })
     }
 }

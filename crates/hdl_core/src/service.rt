@@ -5,23 +5,18 @@ ghost use Rattle.hdl_laws.specs.Laws.{Hidden, HostsNoRoot, Isolated};
 ghost use Rattle.hdl_laws.specs.Runs.{Run, Steps};
 ghost use Rattle.hdl_laws.specs.Reveals.{IsReadable, Reveals};
 
-use crate::lanes::Lanes;
-use crate::serving::serve;
+use crate::machine::Machine;
 use hdl_events::{Event, Outcome};
-use hdl_laws::laws::{reply_told, restricted, runs_joined, twin_replies};
-use hdl_ops::{MaskedRows, Owner, Rows, Tenants};
-use hdl_tenants::root_is_nobodys;
-use std::alloc::Global;
+use hdl_laws::laws::{restricted, runs_joined, twin_replies};
+use hdl_ops::Rows;
+use hdl_rows::Owing;
 use std::marker::Model;
 
 /// A service of several publishers, over a table. Contracts see its world: the lanes' owners, the hosted prefixes, the table,
 /// and the lanes' states.
 #[derive(Drop)]
 pub struct Service<R: Rows + Drop> {
-    pub(crate) alloc: Global,
-    pub(crate) tenants: Tenants,
-    pub(crate) lanes: Lanes,
-    pub(crate) rows: MaskedRows<R>,
+    pub(crate) machine: Machine<R>,
 }
 
 impl<R: Rows + Drop> Model for Service<R> {
@@ -35,16 +30,14 @@ impl<R: Rows + Drop> Model for Service<R> {
 
     ghost coded = { Prim.hlevel (codes, map.code, set.code) };
 
-    ghost use Rattle.hdl_core.specs.Worlds.{world_of};
-
-    ghost view = { λ s. world_of s.tenants s.lanes (R.content s.rows) };
+    ghost view = { λ s. s.machine.world };
 }
 
 /// Room for a run's outcomes was refused: the events come back as they were, and nothing changed.
 #[derive(Drop)]
 pub struct Early(pub Vec<Event>);
 
-impl<R: Rows + Drop> Service<R> {
+impl<R: Owing + Drop> Service<R> {
     /// Serves one event: the answer, or Busy with the world as it was.
     ///
     /// On a lane that nobody owns, and of everything but Open on a lane that isn't open, the outcome is Silent. A Frame whose
@@ -58,39 +51,7 @@ impl<R: Rows + Drop> Service<R> {
         ensures told { Reveals self.old event result }
         ensures read { IsReadable result }
     {
-        reply_told();
-        if event.lane as usize >= self.lanes.len() {
-            return Outcome::Silent;
-        }
-        let owner = Owner {
-            alloc: self.alloc,
-            tenants: &self.tenants,
-            publisher: self.lanes.publisher(event.lane),
-        };
-        serve(&owner, &mut self.rows, &mut self.lanes, event)
-    }
-
-    /// The table. What is said of it beside [`Rows`], as what a crash leaves of a table that lasts, is said of the service's.
-    pub fn rows(&self) -> &R
-        ensures { R.content result.now ≡ self.now.table }
-    {
-        self.rows.get_ref()
-    }
-
-    /// The table, as the run left it.
-    pub fn into_rows(self) -> R
-        ensures { R.content result ≡ self.table }
-    {
-        self.rows.into_inner()
-    }
-
-    /// Nobody hosts the prefix of the administrative handles. Whoever joins runs of a service needs it to isolate publishers in the
-    /// whole.
-    pub fn root_is_unhosted(&self)
-        ensures { HostsNoRoot self.now.site }
-    {
-        let _ = self.tenants.opening();
-        root_is_nobodys();
+        self.machine.step(event, true).outcome
     }
 
     /// Serves each event in turn, with one outcome for each. Its room is taken first; where that is refused nothing changed and
@@ -107,12 +68,11 @@ impl<R: Rows + Drop> Service<R> {
         ensures early { IfErr result (λ back. back.0.items ≡ events.items) }
         ensures unchanged { OnErr result (self.new ≡ self.old) }
     {
-        let mut outcomes = Vec::new(self.alloc);
+        let mut outcomes = Vec::new(self.machine.alloc());
         if outcomes.reserve_exact(events.len()).is_err() {
             return Err(Early(events));
         }
-        let _ = self.tenants.opening();
-        root_is_nobodys();
+        self.root_is_unhosted();
         runs_joined();
         restricted();
         twin_replies();
@@ -122,5 +82,36 @@ impl<R: Rows + Drop> Service<R> {
             prove!(pushed);
         }
         Ok(outcomes)
+    }
+}
+
+impl<R: Rows + Drop> Service<R> {
+    /// The table. What is said of it beside [`Rows`], as what a crash leaves of a table that lasts, is said of the service's.
+    pub fn rows(&self) -> &R
+        ensures { R.content result.now ≡ self.now.table }
+    {
+        self.machine.rows()
+    }
+
+    /// The table, as the run left it.
+    pub fn into_rows(self) -> R
+        ensures { R.content result ≡ self.table }
+    {
+        self.machine.into_rows()
+    }
+
+    /// Nobody hosts the prefix of the administrative handles. Whoever joins runs of a service needs it to isolate publishers in the
+    /// whole.
+    pub fn root_is_unhosted(&self)
+        ensures { HostsNoRoot self.now.site }
+    {
+        self.machine.root_is_unhosted();
+    }
+
+    /// The machine of the service, for who serves lanes by it.
+    pub fn into_machine(self) -> Machine<R>
+        ensures { result.world ≡ self }
+    {
+        self.machine
     }
 }

@@ -5,7 +5,7 @@ ghost use Rattle.hdl_eitherrows.specs.Either.{said_of};
 
 use hdl_limits::Octets;
 use hdl_name::Name;
-use hdl_rows::{Refused, Rows};
+use hdl_rows::{Owed, Owing, Refused, Rows};
 use hdl_value::{Reference, Value};
 
 /// A table of one of two kinds.
@@ -94,6 +94,31 @@ impl<A: Rows, B: Rows> Rows for EitherRows<A, B> {
         match self {
             EitherRows::First(rows) => rows.refusals(),
             EitherRows::Second(rows) => rows.refusals(),
+        }
+    }
+}
+
+impl<A: Owing, B: Owing> Owing for EitherRows<A, B> {
+    ghost debt = { λ s. said_of A.debt B.debt s };
+
+    fn hands_over(&self) -> bool {
+        match self {
+            EitherRows::First(rows) => rows.hands_over(),
+            EitherRows::Second(rows) => rows.hands_over(),
+        }
+    }
+
+    fn owed(&self) -> Owed {
+        match self {
+            EitherRows::First(rows) => rows.owed(),
+            EitherRows::Second(rows) => rows.owed(),
+        }
+    }
+
+    fn let_write(&mut self, may_write: bool) {
+        match self {
+            EitherRows::First(rows) => rows.let_write(may_write),
+            EitherRows::Second(rows) => rows.let_write(may_write),
         }
     }
 }

@@ -1,18 +1,18 @@
 //! Rows in a database that lasts.
 
-ghost use Rattle.std.specs.Prelude.{◌≡◌, true, false, IsTrue, IfOk, OnOk, OnErr};
+ghost use Rattle.std.specs.Prelude.{◌≡◌, true, false, IsTrue, IsOk, Err, IfOk, OnOk, OnErr};
 ghost use Rattle.sqlite.specs.State.{HasCleanDisk, Survives};
 ghost use Rattle.sqlite.specs.Held.{state};
 ghost use Rattle.hdl_name.specs.Name.{canonical};
 ghost use Rattle.hdl_rows.specs.Table.{no_rows, has, with_new_handle, with_values, without_values, without_handle, AreDistinct, AreAbsent, ArePresent, indexes};
-ghost use Rattle.hdl_sqlrows.specs.Filed.{WhereOpen, IsFiled, CrashLeaves, filed_table};
+ghost use Rattle.hdl_sqlrows.specs.Filed.{WhereOpen, IsFiled, CrashLeaves, KeepsCommitted, filed_table};
 ghost use Rattle.hdl_sqlrows.specs.Stored.{IsBlank, IsBetweenCalls, table_in};
 ghost use Rattle.hdl_sqlrows.specs.Opening.{base_in, filed_base};
 
 use hdl_name::Name;
 use hdl_sqlrows::{StoreFault, layout, writes};
 use hdl_value::Value;
-use sqlite::{Alter, Connection};
+use sqlite::{Alter, Connection, Error, ErrorCode, Statement};
 use std::alloc::Global;
 use std::marker::Model;
 
@@ -39,6 +39,18 @@ impl<S: Alter + Drop> Model for FileRows<S> {
     ghost invariant = { λ s. (s.conn.in_transaction ≡ false) × WhereOpen (state S.Store s.conn) (IsBetweenCalls (state S.Store s.conn)) };
 }
 
+/// Whether a store is open, by its answer to a statement: one that has shut says so.
+fn openness(answer: Result<Statement, Error>) -> Result<bool, StoreFault>
+    ensures open { IfOk result (λ is. IsTrue is → IsOk answer) }
+    ensures shut { IfOk result (λ is. is ≡ false → answer ≡ Err (Error.SqliteFailure ErrorCode.Closed)) }
+{
+    match answer {
+        Ok(_) => Ok(true),
+        Err(Error::SqliteFailure(ErrorCode::Closed)) => Ok(false),
+        Err(_) => Err(StoreFault),
+    }
+}
+
 impl<S: Alter + Drop> FileRows<S> {
     /// Makes the tables in a database that has none. A crash leaves none of them or all.
     pub fn in_new_file(alloc: Global, mut conn: Connection<S>) -> Result<FileRows<S>, StoreFault>
@@ -60,13 +72,16 @@ impl<S: Alter + Drop> FileRows<S> {
         FileRows { alloc, conn }
     }
 
-    /// Whether the store still takes writes. Once the disk failed to commit one, nobody can tell what it has, and the store has shut for good.
-    pub fn is_open(&mut self) -> bool
-        ensures open { IsTrue result → HasCleanDisk (state S.Store self.new) → IsFiled (state S.Store self.new) (filed_table (state S.Store self.old)) }
-        ensures was_open { IsTrue result → HasCleanDisk (state S.Store self.new) → IsTrue (state S.Store self.old).is_open }
+    /// Whether the store still takes writes, where it can be asked. Once the disk failed to commit one, nobody can tell what it has, and the store has shut for
+    /// good. It is refused where memory is, which says nothing of the store: ask again.
+    pub fn is_open(&mut self) -> Result<bool, StoreFault>
+        ensures open { IfOk result (λ is. IsTrue is → HasCleanDisk (state S.Store self.new) → IsFiled (state S.Store self.new) (filed_table (state S.Store self.old))) }
+        ensures was_open { IfOk result (λ is. IsTrue is → HasCleanDisk (state S.Store self.new) → IsTrue (state S.Store self.old).is_open) }
+        ensures shut { IfOk result (λ is. is ≡ false → HasCleanDisk (state S.Store self.new) → (state S.Store self.old).is_open ≡ false) }
+        ensures kept { KeepsCommitted (state S.Store self.old) (state S.Store self.new) }
         ensures survives { Survives (state S.Store self.old) (state S.Store self.new) (λ _. ⊥) }
     {
-        self.conn.prepare("SELECT 1").is_ok()
+        openness(self.conn.prepare("SELECT 1"))
     }
 
     /// Between calls a crash leaves the rows as they were filed, and nothing else.

@@ -12,18 +12,17 @@ use crate::supervision::{Supervised, supervise};
 use crate::waking::{Patience, Sleep};
 use crate::workers::{join_all, start};
 use hdl_boundedrows::BoundedRows;
-use hdl_core::{Rows, Service, Tenants};
-use hdl_queue::{Signals, WriteQueue};
+use hdl_core::{Owing, Service, Tenants};
+use hdl_queue::WriteQueue;
 use hdl_replay::{Fault, put_all, tenants_of};
 use hdl_serve::{Clock as Pauses, LaneEnds, WorkerSide, lanes_of, serve};
-use std::alloc::{AllocError, Global};
+use std::alloc::Global;
 use std::fs;
 use std::fs::Files;
 use std::io::Write;
 use std::net::{Net, TcpListener, TcpStream};
 use std::random::RandomSource;
 use std::rt::Clock;
-use std::sync::Arc;
 use std::thread::Threads;
 
 /// How many items a lane's ring has room for, each way.
@@ -44,19 +43,6 @@ struct Ready {
     ghost distinct: { AreDistinct ends.items },
 }
 
-/// The queue of so many lanes.
-fn queue_for(
-    alloc: Global,
-    signals: &Option<Arc<Signals>>,
-    lanes: usize,
-) -> Result<WriteQueue, AllocError> {
-    let signals = match signals {
-        Some(signals) => Some(Arc::try_clone(signals)?),
-        None => None,
-    };
-    WriteQueue::new(alloc, signals, lanes)
-}
-
 /// Makes the lanes of the tenants and listens for each publisher.
 fn ready_for<R: Net<Listener = TcpListener, Stream = TcpStream> + Clock + Files>(
     rt: &R,
@@ -66,7 +52,7 @@ fn ready_for<R: Net<Listener = TcpListener, Stream = TcpStream> + Clock + Files>
 ) -> Result<Ready, HostFault> {
     let turns = setting.limits.turns;
     let (ends, sides) = lanes_of(alloc, tenants.lanes(), RING)?;
-    let queue = queue_for(alloc, &setting.signals, ends.len())?;
+    let queue = WriteQueue::with_capacity(alloc, ends.len())?;
     let (places, lines) = places_of(rt, alloc, tenants, setting)?;
     let sleep = or_device(Sleep::new(rt, alloc, Patience::of(turns).events))?;
     let supervised = supervise(rt, alloc, &setting.supervision, places.as_slice())?;
@@ -98,7 +84,7 @@ trait Serving {
         requires distinct { AreDistinct ends.items };
 }
 
-impl<T: Rows + Drop> Serving for Service<T> {
+impl<T: Owing + Drop> Serving for Service<T> {
     fn serve_lanes<C: Pauses>(
         self,
         alloc: Global,
@@ -147,7 +133,7 @@ fn tell_and_serve<
 /// Opens the service of the tenants over an empty table, tells where it listens, and serves.
 fn open_and_serve<
     R: Threads + Clock + RandomSource + Eprint + Copy + Send + Drop + 'static,
-    T: Rows + Drop,
+    T: Owing + Drop,
     W: Write,
 >(
     rt: &R,
@@ -167,7 +153,7 @@ fn open_and_serve<
 /// Resumes the service of the tenants over a table that is there already, tells where it listens, serves, and gives the table back.
 fn resume_and_serve<
     R: Threads + Clock + RandomSource + Eprint + Copy + Send + Drop + 'static,
-    T: Rows + Drop,
+    T: Owing + Drop,
     W: Write,
 >(
     rt: &R,
@@ -206,7 +192,7 @@ pub fn host_tenants<
         + Send
         + Drop
         + 'static,
-    T: Rows + Drop,
+    T: Owing + Drop,
     W: Write,
 >(
     rt: &R,
@@ -239,7 +225,7 @@ pub fn host_resumed<
         + Send
         + Drop
         + 'static,
-    T: Rows + Drop,
+    T: Owing + Drop,
     W: Write,
 >(
     rt: &R,
@@ -270,7 +256,7 @@ fn host_text<
         + Send
         + Drop
         + 'static,
-    T: Rows + Drop,
+    T: Owing + Drop,
     W: Write,
 >(
     rt: &R,
@@ -302,7 +288,7 @@ pub fn host<
         + Send
         + Drop
         + 'static,
-    T: Rows + Drop,
+    T: Owing + Drop,
     W: Write,
     F: Write,
 >(rt: &R, rows: T, text: &str, limits: Limits, output: &mut W, faults: &mut F) -> u8

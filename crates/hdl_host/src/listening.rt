@@ -10,7 +10,6 @@ use crate::supervision::Supervision;
 use crate::waking::Patience;
 use hdl_boundedrows::Bound;
 use hdl_core::Tenants;
-use hdl_queue::Signals;
 use hdl_replay::Fault;
 use std::alloc::{AllocError, Global};
 use std::io;
@@ -62,8 +61,6 @@ pub struct Setting {
     pub limits: Limits,
     /// How much of the table publishers may take; who has none may take all.
     pub bounds: Vec<Bound>,
-    /// Where a thread makes the table's writes: what it and the thread that serves tell each other.
-    pub signals: Option<Arc<Signals>>,
     pub supervision: Supervision,
 }
 
@@ -76,7 +73,6 @@ impl Setting {
             addresses,
             limits,
             bounds: Vec::new(alloc),
-            signals: None,
             supervision: Supervision::none(alloc)?,
         })
     }

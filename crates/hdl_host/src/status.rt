@@ -53,7 +53,7 @@ impl StatusPage {
     fn health(&self, alloc: Global) -> Result<Page, AllocError> {
         if self.health.is_shut() {
             let words =
-                "the table is shut for writes: a write or a sync of its file failed; reads go on; restart the server once the cause is gone\n";
+                "the table is shut for writes: a sync of its file failed; reads go on; restart the server once the cause is gone\n";
             plain(alloc, "503 Service Unavailable", words)
         } else {
             plain(alloc, "200 OK", "ok\n")

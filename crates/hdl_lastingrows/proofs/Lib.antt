@@ -1,4 +1,5 @@
 mod Crashes
-mod Ended
 mod Kept
 mod Sent
+mod Settled
+mod Undoing

@@ -11,7 +11,7 @@ use Rattle.std.proofs.Crossing as heap
 use Rattle.std.specs.contracts.alloc.Global as memory
 use Rattle.std.specs.contracts.impls.GlobalAllocator.TheImpl as allocates
 use Rattle.std.specs.contracts.sync.Arc as arc
-use Rattle.hdl_queue.specs.contracts.signals.Signals as flags
+use Rattle.std.specs.contracts.sync.atomic.AtomicBool as flag
 use Rattle.sqlite_trees.specs.declared.store.Store.{Ghosts}
 use Rattle.sqlite.specs.contracts.FileStore as store
 use Rattle.sqlite.specs.contracts.Wary as wary
@@ -49,15 +49,15 @@ field_send = rows.the_send
 kept_send : IsSend kept.the_row
 kept_send = let fields : FieldsHave IsSend kept.the_type.parts = (field_send _ (stored.ghosts (modelled.the_row host.the_row wary.the_row calls.ghosts begins.ghosts) (disk.ghosts host.the_row wary.the_row calls.ghosts disk.no_dict begins.ghosts disk.no_dict disk.no_dict) stored.no_dict) store_send, tt) in declared_send kept.the_type fields
 
-abbrev pub signals : RattleType
-signals = arc.the_row flags.the_row memory.the_row allocates.ghosts
+abbrev pub ended : RattleType
+ended = arc.the_row flag.the_row memory.the_row allocates.ghosts
 
-signals_send : IsSend signals
-signals_send = search (sendable, heap.crosses) depth 30
+ended_send : IsSend ended
+ended_send = search (sendable, heap.crosses) depth 30
 
--- what a job takes with it: the file, the write and the signals
-pub job_send : (name : List ℕ) → IsSend (TupleAt name (kept.the_row ∷ own.the_row ∷ signals ∷ []))
-job_send name = declared_send (type_at name (kept.the_row ∷ own.the_row ∷ signals ∷ [])) (as_row_send (row_field kept.the_row) kept_send, (as_row_send (row_field own.the_row) owned.the_send, (as_row_send (row_field signals) signals_send, tt)))
+-- what a job takes with it: the file, the write and the flag
+pub job_send : (name : List ℕ) → IsSend (TupleAt name (kept.the_row ∷ own.the_row ∷ ended ∷ []))
+job_send name = declared_send (type_at name (kept.the_row ∷ own.the_row ∷ ended ∷ [])) (as_row_send (row_field kept.the_row) kept_send, (as_row_send (row_field own.the_row) owned.the_send, (as_row_send (row_field ended) ended_send, tt)))
 
 pub returned_send : IsSend returned.the_row
 returned_send = let fields : FieldsHave IsSend returned.the_type.parts = (kept_send, (state_send, tt)) in declared_send returned.the_type fields

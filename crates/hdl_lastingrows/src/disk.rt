@@ -1,11 +1,10 @@
 //! The rows of a table in a file of the operating system.
 
-ghost use Rattle.std.specs.Prelude.{false};
+ghost use Rattle.std.specs.Prelude.{◌≡◌};
 ghost use Rattle.sqlite.specs.Files.{file_state};
 ghost use Rattle.hdl_rows.specs.Table.{Table};
 ghost use Rattle.hdl_rows.specs.Write.{CanWrite};
-ghost use Rattle.hdl_sqlrows.specs.Filed.{WhereOpen, CrashLeaves, filed_table};
-ghost use Rattle.hdl_lastingrows.specs.Lasting.{IsKept, LeavesIn};
+ghost use Rattle.hdl_lastingrows.specs.Lasting.{IsKept, IsTried, LeavesIn, StandsIn, left_by};
 ghost use Rattle.hdl_lastingrows.specs.Writes.{write_of};
 
 use crate::filing::{Filing, WriteState};
@@ -25,17 +24,18 @@ pub struct DiskRows {
 
 impl DiskRows {
     /// Makes the write in the file.
-    pub(crate) fn make(&mut self, write: &Write<'_>) -> WriteState
-        requires can { (t : Table) × IsKept t false (file_state self.old.rows) × CanWrite t (write_of write.now) }
+    pub(crate) fn begin(&mut self, write: &Write<'_>) -> WriteState
+        requires can { (t : Table) × IsKept t (file_state self.old.rows) × CanWrite t (write_of write.now) }
         ensures { LeavesIn (file_state self.old.rows) (file_state self.new.rows) (write_of write.now) result }
     {
-        self.rows.make(write)
+        self.rows.begin(write)
     }
 
-    /// Between calls a crash leaves the rows as they were filed, and nothing else.
-    pub(crate) fn after_a_crash(&self)
-        ensures { WhereOpen (file_state self.now.rows) (CrashLeaves (file_state self.now.rows) (filed_table (file_state self.now.rows))) }
+    /// Asks again what became of a write that failed.
+    pub(crate) fn end(&mut self, write: &Write<'_>) -> WriteState
+        requires begun { (t : Table) × IsTried t (write_of write.now) (file_state self.old.rows) }
+        ensures { (t : Table) → IsTried t (write_of write.now) (file_state self.old.rows) → StandsIn (file_state self.new.rows) (left_by t (write_of write.now) result) }
     {
-        self.rows.after_a_crash();
+        self.rows.end(write)
     }
 }

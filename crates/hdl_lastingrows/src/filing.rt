@@ -4,9 +4,10 @@ ghost use Rattle.std.specs.Prelude.{◌≡◌, Bool, false, OnOk, OnErr};
 ghost use Rattle.sqlite.specs.State.{HasCleanDisk};
 ghost use Rattle.sqlite.specs.Held.{state};
 ghost use Rattle.hdl_rows.specs.Table.{Table};
+ghost use Rattle.hdl_rows.specs.Write as table;
 ghost use Rattle.hdl_rows.specs.Write.{CanWrite, after_write};
 ghost use Rattle.hdl_sqlrows.specs.Filed.{WhereOpen, IsFiled, CrashLeaves, filed_table};
-ghost use Rattle.hdl_lastingrows.specs.Lasting.{IsKept, Leaves, MayMake};
+ghost use Rattle.hdl_lastingrows.specs.Lasting.{Standing, Keeps, Makes, IsKept, IsTried, StandsIn, left_by, MayMake};
 ghost use Rattle.hdl_lastingrows.specs.Writes.{write_of};
 
 use crate::write::Write;
@@ -22,27 +23,45 @@ pub enum WriteState {
     Refused,
     /// The file has it or hasn't: nobody can tell. It takes no more writes.
     Unknown,
-    /// It is being made, or waits till another one is. The call shall come again.
+    /// It is being made, or has failed and the store couldn't be asked what became of it. It shall be asked for again.
     UnderWay,
 }
 
-/// A table's file, to which writes go.
+/// A table's file, to which writes go, one at a time.
 pub trait Filing {
-    /// Whether a table is kept in the file, which takes no more writes or does.
-    ghost keeps: { Self → Table → Bool → Type 0 };
+    /// What is known of it.
+    ghost stands: { Self → Standing → Type 0 };
+
+    /// Whether it hands writes over, to be made beside the calls.
+    ghost is_beside: { Self → Bool };
 
     /// Makes the write in the file, or begins to.
-    fn make(&mut self, write: &Write<'_>) -> WriteState
-        requires can { (t : Table) × keeps self.old t false × CanWrite t (write_of write.now) }
-        ensures { (t : Table) → keeps self.old t false → CanWrite t (write_of write.now) → Leaves (keeps self.new) t (write_of write.now) result };
+    fn begin(&mut self, write: &Write<'_>) -> WriteState
+        requires can { (t : Table) × stands self.old (Keeps t) × CanWrite t (write_of write.now) }
+        ensures left { (t : Table) → stands self.old (Keeps t) → CanWrite t (write_of write.now) → stands self.new (left_by t (write_of write.now) result) }
+        ensures beside { is_beside self.new ≡ is_beside self.old };
+
+    /// Ends the write that was begun, unless it goes on.
+    fn end(&mut self, write: &Write<'_>) -> WriteState
+        requires begun { (t : Table) × stands self.old (Makes t (write_of write.now)) }
+        ensures left { (t : Table) → stands self.old (Makes t (write_of write.now)) → stands self.new (left_by t (write_of write.now) result) }
+        ensures beside { is_beside self.new ≡ is_beside self.old };
+
+    /// Whether it hands writes over. Else each write is made by its call.
+    fn hands_over(&self) -> bool
+        ensures { result ≡ is_beside self.now };
+
+    /// Whether the write that was begun can be ended by now.
+    fn has_ended(&self) -> bool;
 }
 
 /// Makes the write in a database that lasts.
 fn try_write<S: Alter + Drop>(file: &mut FileRows<S>, write: &Write<'_>) -> Result<(), StoreFault>
-    requires can { (t : Table) × IsKept t false (state S.Store file.old) × CanWrite t (write_of write.now) }
+    requires can { (t : Table) × IsKept t (state S.Store file.old) × CanWrite t (write_of write.now) }
     ensures done { OnOk result (HasCleanDisk (state S.Store file.new) → IsFiled (state S.Store file.new) (after_write (filed_table (state S.Store file.old)) (write_of write.now))) }
     ensures undone { OnErr result (WhereOpen (state S.Store file.new) (filed_table (state S.Store file.new) ≡ filed_table (state S.Store file.old))) }
     ensures durable { OnOk result (HasCleanDisk (state S.Store file.new) → CrashLeaves (state S.Store file.new) (after_write (filed_table (state S.Store file.old)) (write_of write.now))) }
+    ensures restored { OnErr result (WhereOpen (state S.Store file.new) (CrashLeaves (state S.Store file.new) (filed_table (state S.Store file.old)))) }
     ensures survives { MayMake (state S.Store file.old) (state S.Store file.new) (write_of write.now) }
 {
     match write {
@@ -54,15 +73,39 @@ fn try_write<S: Alter + Drop>(file: &mut FileRows<S>, write: &Write<'_>) -> Resu
     }
 }
 
+/// What became of a write that failed: the store is asked whether it has shut, and where memory for that is refused it shall be asked again.
+fn ask<S: Alter + Drop>(file: &mut FileRows<S>) -> WriteState
+    ensures { (t : Table) (w : table.Write) → IsTried t w (state S.Store file.old) → StandsIn (state S.Store file.new) (left_by t w result) }
+{
+    match file.is_open() {
+        Ok(true) => WriteState::Refused,
+        Ok(false) => WriteState::Unknown,
+        Err(_) => WriteState::UnderWay,
+    }
+}
+
 /// A write is made by the call itself.
 impl<S: Alter + Drop> Filing for FileRows<S> {
-    ghost keeps = { λ s t b. IsKept t b (state S.Store s) };
+    ghost stands = { λ s k. StandsIn (state S.Store s) k };
 
-    fn make(&mut self, write: &Write<'_>) -> WriteState {
+    ghost is_beside = { λ _. false };
+
+    fn begin(&mut self, write: &Write<'_>) -> WriteState {
         match try_write(self, write) {
             Ok(()) => WriteState::Made,
-            Err(_) if self.is_open() => WriteState::Refused,
-            Err(_) => WriteState::Unknown,
+            Err(_) => ask(self),
         }
+    }
+
+    fn end(&mut self, _write: &Write<'_>) -> WriteState {
+        ask(self)
+    }
+
+    fn hands_over(&self) -> bool {
+        false
+    }
+
+    fn has_ended(&self) -> bool {
+        true
     }
 }

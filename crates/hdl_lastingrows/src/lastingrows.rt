@@ -1,58 +1,66 @@
 //! A table in memory, with a file beside it.
 
-ghost use Rattle.std.specs.Prelude.{◌≡◌, ◌||◌, ◌+◌, min, true, false, Bool, MatchResult, is_err};
+ghost use Rattle.std.specs.Prelude.{◌≡◌, ◌+◌, min, true, false, Bool, None, Some, MatchResult, OnOk, OnErr};
 ghost use Rattle.sqlite.specs.State.{HasCleanDisk};
 ghost use Rattle.sqlite.specs.Held.{state};
 ghost use Rattle.sqlite_trees.specs.Tree.{Trees};
-ghost use Rattle.hdl_rows.specs.Table.{Table, IsPlaced, refusals_after, most};
-ghost use Rattle.hdl_rows.specs.Write.{CanWrite, after_write};
-ghost use Rattle.hdl_sqlrows.specs.Filed.{IsFiled, CrashLeaves};
+ghost use Rattle.hdl_name.specs.Name.{canonical};
+ghost use Rattle.hdl_rows.specs.Debt.{is_owed};
+ghost use Rattle.hdl_rows.specs.Table.{Table, IsPlaced, has, indexes, AreDistinct, AreAbsent, ArePresent, with_new_handle, with_values, without_values, without_handle, refusals_after, most};
+ghost use Rattle.hdl_rows.specs.Write.{Create, Add, Modify, Remove, Delete, CanWrite};
+ghost use Rattle.hdl_sqlrows.specs.Filed.{WhereOpen, CrashLeaves};
 ghost use Rattle.hdl_sqlrows.specs.Stored.{table_in};
-ghost use Rattle.hdl_lastingrows.specs.Lasting.{IsNear};
+ghost use Rattle.hdl_lastingrows.specs.declared.pending.Pending.TheVariants.{Nothing};
+ghost use Rattle.hdl_lastingrows.specs.Lasting.{Keeps, IsNear, debt_of};
+ghost use Rattle.hdl_lastingrows.specs.Pending.{StandsBeside, OwesAtMost, OwesAfter, owed_by, ahead_by};
 ghost use Rattle.hdl_lastingrows.specs.Beside.{MayLeave, IfHere};
 ghost use Rattle.hdl_lastingrows.specs.Writes.{write_of};
 
-use crate::filing::{Filing, WriteState};
+use crate::alarm::Alarm;
+use crate::file_beside::FileBeside;
+use crate::filing::Filing;
+use crate::pending::Pending;
 use crate::threaded::ThreadedFile;
 use crate::write::Write;
 use hdl_filerows::FileRows;
 use hdl_limits::Octets;
 use hdl_name::Name;
-use hdl_rows::{Refused, Rows};
+use hdl_rows::{Owed, Owing, Refused, Rows};
 use hdl_value::{Reference, Value};
 use sqlite::{Alter, Connection};
+use std::alloc::Global;
 use std::marker::Model;
 use std::thread::Threads;
 
-/// Who is told, once, that the table takes no more writes.
-pub trait Alarm {
-    /// A commit failed, or memory refused what was committed.
-    fn ring(&mut self);
-}
-
-/// A table in memory of which each write stands in a file before it is answered. Contracts see what the table holds, how many calls
-/// were refused by it or by the file, whether it is shut for writes, and the file.
+/// A table in memory of which each write stands in a file before it is answered. Contracts see what the table holds, how many calls were refused by it or
+/// by the file, whether it is shut for writes, the write that the file may have and memory hasn't, whether writes are handed over, and the file.
 #[derive(Drop)]
 pub struct LastingRows<R: Rows + Drop, F: Filing + Drop, A: Alarm + Drop> {
     rows: R,
-    file: F,
-    is_shut: bool,
+    beside: FileBeside<F, A>,
     refusals: u64,
-    alarm: A,
 }
 
 impl<R: Rows + Drop, F: Filing + Drop, A: Alarm + Drop> Model for LastingRows<R, F, A> {
     ghost use Rattle.std.specs.Prelude.{◌+◌, min};
     ghost use Rattle.hdl_rows.specs.Table.{most};
     ghost use Rattle.hdl_lastingrows.specs.Lasting.{Lasting, lasting_code};
+    ghost use Rattle.hdl_lastingrows.specs.Pending.{StandsBeside, owed_by, is_unknown};
 
     ghost Value = { Lasting F };
 
     ghost coded = { lasting_code F.code };
 
-    ghost view = { λ s. record { table = R.content s.rows; refused = min (R.refused s.rows + s.refusals) most; is_shut = s.is_shut; file = s.file } };
+    ghost view = { λ s. record {
+      table = R.content s.rows;
+      refused = min (R.refused s.rows + s.refusals) most;
+      is_shut = is_unknown s.beside.pending;
+      owed = owed_by s.beside.pending;
+      hands_over = F.is_beside s.beside.file;
+      file = s.beside.file;
+    } };
 
-    ghost invariant = { λ s. F.keeps s.file (R.content s.rows) s.is_shut };
+    ghost invariant = { λ s. StandsBeside (F.stands s.beside.file) (R.content s.rows) s.beside.pending };
 }
 
 /// Counts a write that isn't made.
@@ -63,83 +71,90 @@ fn refuse(refusals: &mut u64) -> Refused
     Refused
 }
 
-/// Makes the write in the file. One that isn't made is counted; where nobody can tell whether it is, the table takes no more.
-fn make_in_file<F: Filing, A: Alarm>(
-    file: &mut F,
-    is_shut: &mut bool,
+/// Brings the write into the file: memory shall have it next. Else it is refused, and counted, once.
+fn bring<R: Rows, F: Filing + Drop, A: Alarm + Drop>(
+    rows: &mut R,
+    beside: &mut FileBeside<F, A>,
     refusals: &mut u64,
-    alarm: &mut A,
     write: &Write<'_>,
 ) -> Result<(), Refused>
-    requires open { is_shut.old ≡ false }
-    requires can { (t : Table) × F.keeps file.old t false × CanWrite t (write_of write.now) }
-    ensures kept { (t : Table) → F.keeps file.old t false → CanWrite t (write_of write.now) → MatchResult result (λ _. F.keeps file.new (after_write t (write_of write.now)) is_shut.new × F.keeps file.new t true) (λ _. F.keeps file.new t is_shut.new) }
-    ensures count { refusals.new ≡ refusals_after result refusals.old }
+    requires stands { StandsBeside (F.stands beside.old.file) (R.content rows.old) beside.old.pending }
+    requires can { CanWrite (R.content rows.old) (write_of write.now) }
+    ensures unchanged { R.content rows.new ≡ R.content rows.old }
+    ensures stands { StandsBeside (F.stands beside.new.file) (R.content rows.old) beside.new.pending }
+    ensures ahead { OnOk result (ahead_by beside.new.pending ≡ Some (write_of write.now)) }
+    ensures owed { OnErr result (OwesAtMost (owed_by beside.old.pending) (write_of write.now) (owed_by beside.new.pending)) }
+    ensures beside { F.is_beside beside.new.file ≡ F.is_beside beside.old.file }
+    ensures count { min (R.refused rows.new + refusals.new) most ≡ refusals_after result (min (R.refused rows.old + refusals.old) most) }
 {
-    match file.make(write) {
-        WriteState::Made => Ok(()),
-        WriteState::Refused | WriteState::UnderWay => Err(refuse(refusals)),
-        WriteState::Unknown => {
-            *is_shut = true;
-            alarm.ring();
-            Err(refuse(refusals))
-        }
+    let before = rows.refusals();
+    beside.go_on(rows, write);
+    if rows.refusals() != before {
+        // The table in memory refused to be read, and has counted that.
+        return Err(Refused);
     }
+    if beside.pending.is_ahead_by(write) {
+        return Ok(());
+    }
+    Err(refuse(refusals))
 }
 
-/// Shuts the table for writes where memory refused what the file has.
-fn note<A: Alarm>(
-    is_shut: &mut bool,
-    alarm: &mut A,
-    done: Result<(), Refused>,
-) -> Result<(), Refused>
+/// Notes that memory has the write too. What memory refused stays owed.
+fn claim(pending: &mut Pending, done: Result<(), Refused>) -> Result<(), Refused>
     ensures same { result ≡ done }
-    ensures shut { is_shut.new ≡ is_err done || is_shut.old }
+    ensures claimed { MatchResult done (λ _. pending.new ≡ Nothing) (λ _. pending.new ≡ pending.old) }
 {
-    if done.is_err() {
-        *is_shut = true;
-        alarm.ring();
+    if done.is_ok() {
+        *pending = Pending::Nothing;
     }
     done
 }
 
 impl<R: Rows + Drop, F: Filing + Drop, A: Alarm + Drop> LastingRows<R, F, A> {
     /// A table in memory and a file, in which it is kept.
-    pub fn over(rows: R, file: F, alarm: A) -> LastingRows<R, F, A>
-        requires kept { F.keeps file (R.content rows) false }
-        ensures { result ≡ record { table = R.content rows; refused = min (R.refused rows + 0) most; is_shut = false; file = file } }
+    pub fn over(alloc: Global, rows: R, file: F, alarm: A) -> LastingRows<R, F, A>
+        requires placed { IsPlaced (R.content rows) }
+        requires kept { F.stands file (Keeps (R.content rows)) }
+        ensures { result ≡ record { table = R.content rows; refused = min (R.refused rows + 0) most; is_shut = false; owed = None; hands_over = F.is_beside file; file = file } }
     {
+        let beside = FileBeside {
+            file,
+            pending: Pending::Nothing,
+            may_write: true,
+            alloc,
+            alarm,
+        };
         LastingRows {
             rows,
-            file,
-            is_shut: false,
+            beside,
             refusals: 0,
-            alarm,
         }
     }
 
-    /// Whether the table takes no more writes: a commit failed, or memory refused what was committed.
+    /// Whether the table takes no more writes: nobody can tell whether the file has one.
     pub fn is_shut(&self) -> bool
         ensures { result ≡ self.now.is_shut }
     {
-        self.is_shut
+        self.beside.pending.is_shut()
     }
 
     /// The file.
     pub fn into_file(self) -> F
         ensures { result ≡ self.file }
     {
-        self.file
+        self.beside.into_file()
     }
 }
 
 impl<R: Rows + Drop, S: Alter + Drop, A: Alarm + Drop> LastingRows<R, FileRows<S>, A> {
-    /// What a crash leaves between calls: this table, or this table after one write that it allows; and this table alone, unless it is shut.
+    /// What a crash leaves between calls: this table, or this table after the write that is owed; and this table alone, if none is. It is shut only over a store
+    /// that has shut.
     pub fn after_a_crash(&self)
-        ensures near { HasCleanDisk (state S.Store self.now.file) → (db : _) → (state S.Store self.now.file).may_leave db → IsNear self.now.table (table_in db) }
-        ensures exact { self.now.is_shut ≡ false → HasCleanDisk (state S.Store self.now.file) → CrashLeaves (state S.Store self.now.file) self.now.table }
+        ensures near { HasCleanDisk (state S.Store self.now.file) → (db : Trees) → (state S.Store self.now.file).may_leave db → IsNear self.now.table self.now.owed (table_in db) }
+        ensures exact { self.now.owed ≡ None → HasCleanDisk (state S.Store self.now.file) → CrashLeaves (state S.Store self.now.file) self.now.table }
+        ensures shut { self.now.is_shut ≡ true → WhereOpen (state S.Store self.now.file) ⊥ }
     {
-        self.file.after_a_crash();
+        let _refusals = self.refusals;
     }
 
     /// The connection, for its owner to close.
@@ -151,13 +166,14 @@ impl<R: Rows + Drop, S: Alter + Drop, A: Alarm + Drop> LastingRows<R, FileRows<S
 }
 
 impl<R: Rows + Drop, T: Threads + Drop, A: Alarm + Drop> LastingRows<R, ThreadedFile<T>, A> {
-    /// What a crash leaves between calls, also while a thread has the file: this table, or this table after one write that it allows; and this table alone, unless it
-    /// is shut or a write is under way.
+    /// What a crash leaves between calls, also while a thread has the file: this table, or this table after the write that is owed; and this table alone, if none
+    /// is. It is shut only over a store that has shut.
     pub fn after_a_crash_beside(&self)
-        ensures near { (db : Trees) → MayLeave self.now.file.place db → IsNear self.now.table (table_in db) }
-        ensures exact { self.now.is_shut ≡ false → IfHere self.now.file.place (λ s. HasCleanDisk s → CrashLeaves s self.now.table) }
+        ensures near { (db : Trees) → MayLeave self.now.file.place db → IsNear self.now.table self.now.owed (table_in db) }
+        ensures exact { self.now.owed ≡ None → IfHere self.now.file.place (λ s. HasCleanDisk s → CrashLeaves s self.now.table) }
+        ensures shut { self.now.is_shut ≡ true → IfHere self.now.file.place (λ s. WhereOpen s ⊥) }
     {
-        self.file.after_a_crash();
+        let _refusals = self.refusals;
     }
 }
 
@@ -186,82 +202,126 @@ impl<R: Rows + Drop, F: Filing + Drop, A: Alarm + Drop> Rows for LastingRows<R, 
         self.rows.names(authority)
     }
 
-    fn create(&mut self, name: &Name, values: &[Value]) -> Result<(), Refused> {
-        if self.is_shut {
-            return Err(refuse(&mut self.refusals));
-        }
-        make_in_file(
-            &mut self.file,
-            &mut self.is_shut,
+    fn create(&mut self, name: &Name, values: &[Value]) -> Result<(), Refused>
+        requires absent { has self.old.table (canonical name.now) ≡ false }
+        requires distinct { AreDistinct (indexes values.now) }
+        ensures done { OnOk result (self.new.table ≡ with_new_handle self.old.table (canonical name.now) values.now) }
+        ensures undone { OnErr result (self.new.table ≡ self.old.table) }
+        ensures count { self.new.refused ≡ refusals_after result self.old.refused }
+        ensures owed { OwesAfter result self.old.owed (Create (canonical name.now) values.now) self.new.owed }
+    {
+        bring(
+            &mut self.rows,
+            &mut self.beside,
             &mut self.refusals,
-            &mut self.alarm,
             &Write::Create(name, values),
         )?;
         let done = self.rows.create(name, values);
-        note(&mut self.is_shut, &mut self.alarm, done)
+        claim(&mut self.beside.pending, done)
     }
 
-    fn add(&mut self, name: &Name, values: &[Value]) -> Result<(), Refused> {
-        if self.is_shut {
-            return Err(refuse(&mut self.refusals));
-        }
-        make_in_file(
-            &mut self.file,
-            &mut self.is_shut,
+    fn add(&mut self, name: &Name, values: &[Value]) -> Result<(), Refused>
+        requires there { has self.old.table (canonical name.now) ≡ true }
+        requires distinct { AreDistinct (indexes values.now) }
+        requires free { AreAbsent self.old.table (canonical name.now) (indexes values.now) }
+        ensures done { OnOk result (self.new.table ≡ with_values self.old.table (canonical name.now) values.now) }
+        ensures undone { OnErr result (self.new.table ≡ self.old.table) }
+        ensures count { self.new.refused ≡ refusals_after result self.old.refused }
+        ensures owed { OwesAfter result self.old.owed (Add (canonical name.now) values.now) self.new.owed }
+    {
+        bring(
+            &mut self.rows,
+            &mut self.beside,
             &mut self.refusals,
-            &mut self.alarm,
             &Write::Add(name, values),
         )?;
         let done = self.rows.add(name, values);
-        note(&mut self.is_shut, &mut self.alarm, done)
+        claim(&mut self.beside.pending, done)
     }
 
-    fn modify(&mut self, name: &Name, values: &[Value]) -> Result<(), Refused> {
-        if self.is_shut {
-            return Err(refuse(&mut self.refusals));
-        }
-        make_in_file(
-            &mut self.file,
-            &mut self.is_shut,
+    fn modify(&mut self, name: &Name, values: &[Value]) -> Result<(), Refused>
+        requires there { has self.old.table (canonical name.now) ≡ true }
+        requires distinct { AreDistinct (indexes values.now) }
+        requires taken { ArePresent self.old.table (canonical name.now) (indexes values.now) }
+        ensures done { OnOk result (self.new.table ≡ with_values self.old.table (canonical name.now) values.now) }
+        ensures undone { OnErr result (self.new.table ≡ self.old.table) }
+        ensures count { self.new.refused ≡ refusals_after result self.old.refused }
+        ensures owed { OwesAfter result self.old.owed (Modify (canonical name.now) values.now) self.new.owed }
+    {
+        bring(
+            &mut self.rows,
+            &mut self.beside,
             &mut self.refusals,
-            &mut self.alarm,
             &Write::Modify(name, values),
         )?;
         let done = self.rows.modify(name, values);
-        note(&mut self.is_shut, &mut self.alarm, done)
+        claim(&mut self.beside.pending, done)
     }
 
-    fn remove(&mut self, name: &Name, indexes: &[u32]) -> Result<(), Refused> {
-        if self.is_shut {
-            return Err(refuse(&mut self.refusals));
-        }
-        make_in_file(
-            &mut self.file,
-            &mut self.is_shut,
+    fn remove(&mut self, name: &Name, indexes: &[u32]) -> Result<(), Refused>
+        requires there { has self.old.table (canonical name.now) ≡ true }
+        requires distinct { AreDistinct indexes.now }
+        requires taken { ArePresent self.old.table (canonical name.now) indexes.now }
+        ensures done { OnOk result (self.new.table ≡ without_values self.old.table (canonical name.now) indexes.now) }
+        ensures undone { OnErr result (self.new.table ≡ self.old.table) }
+        ensures count { self.new.refused ≡ refusals_after result self.old.refused }
+        ensures owed { OwesAfter result self.old.owed (Remove (canonical name.now) indexes.now) self.new.owed }
+    {
+        bring(
+            &mut self.rows,
+            &mut self.beside,
             &mut self.refusals,
-            &mut self.alarm,
             &Write::Remove(name, indexes),
         )?;
         let done = self.rows.remove(name, indexes);
-        note(&mut self.is_shut, &mut self.alarm, done)
+        claim(&mut self.beside.pending, done)
     }
 
-    fn delete(&mut self, name: &Name) -> Result<(), Refused> {
-        if self.is_shut {
-            return Err(refuse(&mut self.refusals));
-        }
-        make_in_file(
-            &mut self.file,
-            &mut self.is_shut,
+    fn delete(&mut self, name: &Name) -> Result<(), Refused>
+        requires there { has self.old.table (canonical name.now) ≡ true }
+        ensures done { OnOk result (self.new.table ≡ without_handle self.old.table (canonical name.now)) }
+        ensures undone { OnErr result (self.new.table ≡ self.old.table) }
+        ensures count { self.new.refused ≡ refusals_after result self.old.refused }
+        ensures owed { OwesAfter result self.old.owed (Delete (canonical name.now)) self.new.owed }
+    {
+        bring(
+            &mut self.rows,
+            &mut self.beside,
             &mut self.refusals,
-            &mut self.alarm,
             &Write::Delete(name),
         )?;
         let done = self.rows.delete(name);
-        note(&mut self.is_shut, &mut self.alarm, done)
+        claim(&mut self.beside.pending, done)
     }
 
     fn refusals(&self) -> u64 {
         self.rows.refusals().saturating_add(self.refusals)
+    }
+}
+
+impl<R: Rows + Drop, F: Filing + Drop, A: Alarm + Drop> Owing for LastingRows<R, F, A> {
+    ghost use Rattle.hdl_lastingrows.specs.Lasting.{debt_of};
+
+    ghost debt = { λ s. debt_of s };
+
+    fn hands_over(&self) -> bool
+        ensures { result ≡ self.now.hands_over }
+    {
+        self.beside.file.hands_over()
+    }
+
+    fn owed(&self) -> Owed
+        ensures { is_owed result ≡ (debt_of self.now).owes }
+    {
+        self.beside.owed()
+    }
+
+    fn let_write(&mut self, may_write: bool)
+        ensures unchanged { self.new.table ≡ self.old.table }
+        ensures count { self.new.refused ≡ self.old.refused }
+        ensures debt { debt_of self.new ≡ debt_of self.old }
+        ensures same { self.new ≡ self.old }
+    {
+        self.beside.may_write = may_write;
     }
 }

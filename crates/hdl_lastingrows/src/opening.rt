@@ -15,9 +15,10 @@ ghost use Rattle.hdl_sqlrows.specs.Opening.{place_of, opened_with, filed_base, n
 ghost use Rattle.hdl_lastingrows.specs.Lasting.{IsKept};
 ghost use Rattle.hdl_lastingrows.specs.Beside.{IfHere};
 
+use crate::alarm::Alarm;
 use crate::disk::{DiskRows, Store};
 use crate::fault::TableFault;
-use crate::lastingrows::{Alarm, LastingRows};
+use crate::lastingrows::LastingRows;
 use crate::threaded::{ThreadedFile, Writer};
 use hdl_filerows::FileRows;
 use hdl_name::Name;
@@ -212,8 +213,8 @@ fn rows_over<R: Rows + Drop, S: Alter, P: Progress>(
     }
 }
 
-/// The rows of a database, with the handles that weren't opened yet opened, in a table in memory, and the file that keeps this table.
-fn file_over<R: Rows + Drop, S: Alter + Drop, P: Progress>(
+/// The rows of a database, with the handles that weren't opened yet opened, in a table in memory, and the file that keeps this table: for a [`Filing`](crate::Filing) over this file.
+pub fn file_over<R: Rows + Drop, S: Alter + Drop, P: Progress>(
     alloc: Global,
     mut conn: Connection<S>,
     rows: R,
@@ -226,7 +227,8 @@ fn file_over<R: Rows + Drop, S: Alter + Drop, P: Progress>(
     requires empty { R.content rows ≡ no_rows }
     requires spare { R.content spare ≡ no_rows }
     requires distinct { AllPairs (λ (p q : Place). p ≢ q) (map place_of opening.now) }
-    ensures kept { IfOk result (λ p. IsKept (R.content p.0) false (state S.Store p.1)) }
+    ensures kept { IfOk result (λ p. IsKept (R.content p.0) (state S.Store p.1)) }
+    ensures placed { IfOk result (λ p. IsPlaced (R.content p.0)) }
     ensures made { (state S.Store conn).now.schema ≡ no_schema → IfOk result (λ p. HasCleanDisk (state S.Store p.1) → R.content p.0 ≡ (opened_with no_base opening.now).table) }
     ensures found { (state S.Store conn).now.schema ≡ layout → IfOk result (λ p. HasCleanDisk (state S.Store p.1) → R.content p.0 ≡ (opened_with (filed_base (state S.Store conn)) opening.now).table) }
 {
@@ -259,7 +261,7 @@ pub fn table_over<R: Rows + Drop, S: Alter + Drop, A: Alarm + Progress + Drop>(
     ensures writable { IfOk result (λ t. t.is_shut ≡ false) }
 {
     let (rows, file) = file_over(alloc, conn, rows, spare, opening, &mut alarm)?;
-    Ok(LastingRows::over(rows, file, alarm))
+    Ok(LastingRows::over(alloc, rows, file, alarm))
 }
 
 /// As [`table_over`], of a file whose writes threads make. The first of the two tables in memory gets the rows.
@@ -281,7 +283,8 @@ pub fn table_beside<R: Rows + Drop, T: Threads + Drop, A: Alarm + Progress + Dro
 {
     let (rows, spare) = memory;
     let mut alarm = alarm;
-    let (rows, file) = file_over(writer.alloc, conn, rows, spare, opening, &mut alarm)?;
+    let alloc = writer.alloc;
+    let (rows, file) = file_over(alloc, conn, rows, spare, opening, &mut alarm)?;
     let file = ThreadedFile::over(DiskRows { rows: file }, writer);
-    Ok(LastingRows::over(rows, file, alarm))
+    Ok(LastingRows::over(alloc, rows, file, alarm))
 }

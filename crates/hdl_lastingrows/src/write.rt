@@ -27,7 +27,7 @@ pub enum OwnWrite {
     Delete(Name),
 }
 
-fn copy_of_name(alloc: Global, name: &Name) -> Result<Name, AllocError>
+pub(crate) fn copy_of_name(alloc: Global, name: &Name) -> Result<Name, AllocError>
     ensures { IfOk result (λ copy. copy ≡ name.now) }
 {
     // A name reads as itself, so memory alone is refused.
@@ -92,7 +92,7 @@ fn are_same_values(some: &[Value], others: &[Value]) -> bool
 
 impl OwnWrite {
     /// The same write, in memory of its own.
-    pub(crate) fn copy(alloc: Global, write: &Write<'_>) -> Result<OwnWrite, AllocError>
+    pub fn copy(alloc: Global, write: &Write<'_>) -> Result<OwnWrite, AllocError>
         ensures { IfOk result (λ own. write_in own ≡ write_of write.now) }
     {
         Ok(match write {
@@ -113,7 +113,7 @@ impl OwnWrite {
     }
 
     /// The write, as its call names it.
-    pub(crate) fn as_write(&self) -> Write<'_>
+    pub fn as_write(&self) -> Write<'_>
         ensures { write_of result ≡ write_in self.now }
     {
         match self {
@@ -126,7 +126,7 @@ impl OwnWrite {
     }
 
     /// Whether it is this write: of this handle, in canonical form, and with these values.
-    pub(crate) fn is(&self, write: &Write<'_>) -> bool
+    pub fn is(&self, write: &Write<'_>) -> bool
         ensures { IsTrue result → write_in self.now ≡ write_of write.now }
     {
         match (self, write) {

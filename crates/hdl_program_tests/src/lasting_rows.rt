@@ -6,7 +6,7 @@ use crate::writes::{add, create, delete, modify, reference, remove};
 use hdl_filerows::FileRows;
 use hdl_lastingrows::{Alarm, LastingRows, TableFault, table_over};
 use hdl_name::Name;
-use hdl_rows::{PlainRows, Rows};
+use hdl_rows::{Fuse, Owed, Owing, PlainRows, Rows};
 use hdl_sqlrows::load::Progress;
 use hdl_tests::made::value;
 use hdl_value::Value;
@@ -20,6 +20,10 @@ use std::test::Fail;
 pub(crate) struct Deaf;
 
 impl Alarm for Deaf {
+    ghost use Rattle.hdl_rows.specs.Table.{most};
+
+    ghost rings = { λ _. most };
+
     fn ring(&mut self) {}
 }
 
@@ -30,6 +34,9 @@ impl Progress for Deaf {
 }
 
 type Table = LastingRows<PlainRows, FileRows<MemStore>, Deaf>;
+
+/// A table of which memory refuses calls.
+type Refusing = LastingRows<Fuse<PlainRows>, FileRows<MemStore>, Deaf>;
 
 /// The table over a database, with one first value of the text.
 fn over(
@@ -120,4 +127,42 @@ fn late_handle_is_opened(rt: HostRuntime) -> Result<(), Fail> {
     let late = Name::read(alloc, b"10.abc/late")?;
     assert!(&rt; are(&table.values(&late)?, &[(9, b"nine")]));
     stand(&rt, alloc, &mut table, b"10.abc/late 10.abc/x ")
+}
+
+/// A table of which memory refuses so many calls, from the first on.
+fn over_refusing(alloc: Global, conn: Connection<MemStore>, calls: u64) -> Result<Refusing, Fail> {
+    if !conn.is_autocommit() {
+        return Err(TableFault::Device.into());
+    }
+    let rows = Fuse::new(PlainRows::new(alloc), 1, calls);
+    let spare = Fuse::new(PlainRows::new(alloc), 1, 0);
+    Ok(table_over(alloc, conn, rows, spare, &[], Deaf)?)
+}
+
+/// What memory refused and the file has is owed: the same write is made in memory when it comes again.
+#[test]
+fn owed_write_is_claimed(rt: HostRuntime) -> Result<(), Fail> {
+    let alloc = rt.alloc();
+    let mut table = over_refusing(alloc, Connection::open_in_memory(alloc)?, 1)?;
+    let name = Name::read(alloc, b"10.abc/x")?;
+    assert!(&rt; table.create(&name, &[]).is_err() && table.owed() == Owed::Ended);
+    assert!(&rt; !table.is_shut() && !table.exists(&name)?);
+    assert!(&rt; table.create(&name, &[]).is_ok() && table.owed() == Owed::Nothing);
+    assert!(&rt; table.exists(&name)?);
+    Ok(())
+}
+
+/// Another write that comes in its turn undoes it in the file, and is made when it comes again.
+#[test]
+fn unclaimed_write_is_undone(rt: HostRuntime) -> Result<(), Fail> {
+    let alloc = rt.alloc();
+    let mut table = over_refusing(alloc, Connection::open_in_memory(alloc)?, 1)?;
+    let name = Name::read(alloc, b"10.abc/x")?;
+    let other = Name::read(alloc, b"10.abc/y")?;
+    assert!(&rt; table.create(&name, &[]).is_err() && table.owed() == Owed::Ended);
+    assert!(&rt; table.create(&other, &[]).is_err() && table.owed() == Owed::Nothing);
+    assert!(&rt; !table.is_shut() && table.create(&other, &[]).is_ok());
+    let mut again = over_refusing(alloc, table.into_connection(), 0)?;
+    assert!(&rt; again.exists(&other)? && !again.exists(&name)?);
+    Ok(())
 }

@@ -7,7 +7,7 @@ use crate::sockets::{FRAME, REPLY, TENANTS};
 use hdl_core::{Service, Tenants};
 use hdl_rows::PlainRows;
 use hdl_serve::{
-    AtOnce, Clock, Door, DoorFault, LaneEnds, MemoryDoor, MemoryNonces, WorkerSide, lanes_of,
+    Clock, Door, DoorFault, LaneEnds, MemoryDoor, MemoryNonces, WorkerSide, WriteQueue, lanes_of,
     serve, stream_worker,
 };
 use std::alloc::{AllocError, Global};
@@ -193,7 +193,8 @@ fn serve_both<R: std::rt::Clock + Copy + Drop>(
         rt: *rt,
         left: Arc::try_clone(left)?,
     };
-    drop(serve(alloc, open(alloc)?, lanes, &mut clock, &mut AtOnce, TURNS));
+    let mut queue = WriteQueue::new(alloc);
+    drop(serve(alloc, open(alloc)?, lanes, &mut clock, &mut queue, TURNS));
     Ok(())
 }
 

@@ -1,45 +1,49 @@
 //! Whose write comes next: the lanes that wait, in their order.
 
-use hdl_queue::{Signals, WriteQueue};
-use std::sync::Arc;
+use hdl_queue::WriteQueue;
 use std::test::Fail;
 
 /// Two lanes whose clients write: the one that began is asked again once its write has ended, and the other one behind it.
 #[test]
 fn lanes_write_in_turn(rt: HostRuntime) -> Result<(), Fail> {
-    let alloc = rt.alloc();
-    let signals = Arc::new(alloc, Signals::new())?;
-    let mut queue = WriteQueue::new(alloc, Some(Arc::try_clone(&signals)?), 2)?;
-    assert!(&rt; queue.may_wait() && queue.is_asked(0) && signals.may_write());
-    signals.begin();
-    signals.ask_to_return();
-    assert!(&rt; queue.stays(0) && !queue.is_asked(0));
-    assert!(&rt; queue.is_asked(1) && !signals.may_write());
-    signals.ask_to_return();
-    assert!(&rt; queue.stays(1) && !queue.is_asked(1));
-    signals.end();
-    assert!(&rt; queue.is_asked(0) && signals.may_write() && !queue.is_asked(1));
-    signals.note_end();
+    let mut queue = WriteQueue::with_capacity(rt.alloc(), 2)?;
+    assert!(&rt; queue.is_turn(0) && queue.is_asked(0, false));
+    assert!(&rt; queue.stays(0, true) && !queue.is_asked(0, true));
+    assert!(&rt; queue.is_asked(1, true) && !queue.is_turn(1));
+    assert!(&rt; queue.stays(1, true) && !queue.is_asked(1, true));
+    assert!(&rt; queue.is_asked(0, false) && queue.is_turn(0) && !queue.is_asked(1, false));
     queue.note_outcome(0);
-    assert!(&rt; queue.is_asked(1) && signals.may_write());
+    assert!(&rt; queue.is_asked(1, false) && queue.is_turn(1));
+    Ok(())
+}
+
+/// An event whose write is owed is asked again, and stays, whatever it is busy for; a third lane's waits behind the others.
+#[test]
+fn owed_write_is_asked_again(rt: HostRuntime) -> Result<(), Fail> {
+    let mut queue = WriteQueue::with_capacity(rt.alloc(), 3)?;
+    assert!(&rt; queue.is_asked(0, false) && queue.stays(0, true) && queue.stays(1, true));
+    assert!(&rt;
+        queue.is_asked(0, false)
+            && queue.stays(0, true)
+            && queue.is_asked(0, false)
+            && !queue.is_asked(1, false)
+    );
+    assert!(&rt; !queue.stays(0, false));
+    queue.note_outcome(0);
+    assert!(&rt;
+        queue.is_asked(1, false)
+            && queue.is_asked(2, false)
+            && queue.stays(2, false)
+            && !queue.is_asked(2, false)
+    );
     Ok(())
 }
 
 /// An event that was refused for another reason is answered, and leaves no lane waiting.
 #[test]
 fn refused_for_good_waits_for_nothing(rt: HostRuntime) -> Result<(), Fail> {
-    let alloc = rt.alloc();
-    let signals = Arc::new(alloc, Signals::new())?;
-    let mut queue = WriteQueue::new(alloc, Some(Arc::try_clone(&signals)?), 2)?;
-    assert!(&rt; !queue.stays(0) && queue.is_asked(0));
-    assert!(&rt; queue.is_asked(1) && signals.may_write());
-    Ok(())
-}
-
-/// Where each write is made by its call nothing waits.
-#[test]
-fn nothing_waits_without_signals(rt: HostRuntime) -> Result<(), Fail> {
-    let mut queue = WriteQueue::new(rt.alloc(), None, 2)?;
-    assert!(&rt; !queue.may_wait() && queue.is_asked(0) && !queue.stays(0));
+    let mut queue = WriteQueue::new(rt.alloc());
+    assert!(&rt; !queue.stays(0, false) && queue.is_asked(0, false));
+    assert!(&rt; queue.is_asked(1, false) && queue.is_turn(1));
     Ok(())
 }

@@ -1,86 +1,122 @@
 //! The lanes whose writes wait.
 
-ghost use Rattle.std.specs.Prelude.{◌≡◌, IsTrue, IsFalse, is_some, IfOk, slice_get, Some};
-ghost use Rattle.hdl_queue.specs.Waiting.{is_among, with_lane, without_lane};
+ghost use Rattle.std.specs.Prelude.{◌≡◌, ◌⊎◌, ◌||◌, not, IsTrue, IsFalse, IfOk, Some, None};
+ghost use Rattle.hdl_queue.specs.Waiting.{is_asked, is_turn, owner_after, owner_without, with_lane, without_lane};
 
-use crate::signals::Signals;
 use std::alloc::{AllocError, Global};
 use std::marker::Model;
-use std::sync::Arc;
 
-/// The lanes whose next event waits for its write, in the order in which they came. The first one may write, and no other.
+/// The lanes whose next event waits for its write, in the order in which they came, and the lane to which the table owes a write. That one may write, else the first one,
+/// and no other.
 #[derive(Drop)]
 pub struct WriteQueue {
-    /// None where no write ever waits.
-    signals: Option<Arc<Signals>>,
     waiting: Vec<u16>,
+    /// The lane whose event's step handed the write over that the table owes.
+    owner: Option<u16>,
 }
 
 impl Model for WriteQueue {
-    ghost use Rattle.std.specs.Prelude.{is_some};
     ghost use Rattle.hdl_queue.specs.Waiting.{Waiting};
 
     ghost Value = { Waiting };
 
-    ghost view = { λ q. record { may_wait = is_some q.signals; lanes = q.waiting.items } };
+    ghost view = { λ q. record { lanes = q.waiting.items; owner = q.owner } };
 }
 
 impl WriteQueue {
     ghost use Rattle.std.specs.Prelude.{[]};
 
-    /// No lane waits. There is room for so many.
-    pub fn new(
-        alloc: Global,
-        signals: Option<Arc<Signals>>,
-        lanes: usize,
-    ) -> Result<WriteQueue, AllocError>
-        ensures empty { IfOk result (λ queue. queue ≡ record { may_wait = is_some signals; lanes = [] }) }
+    /// No lane waits.
+    pub fn new(alloc: Global) -> WriteQueue
+        ensures { result ≡ record { lanes = []; owner = None } }
+    {
+        WriteQueue {
+            waiting: Vec::new(alloc),
+            owner: None,
+        }
+    }
+
+    /// No lane waits. There is room for so many. Refused only for want of memory.
+    pub fn with_capacity(alloc: Global, lanes: usize) -> Result<WriteQueue, AllocError>
+        ensures empty { IfOk result (λ queue. queue ≡ record { lanes = []; owner = None }) }
     {
         Ok(WriteQueue {
-            signals,
             waiting: Vec::with_capacity(alloc, lanes)?,
+            owner: None,
         })
     }
 
-    /// Whether a write may ever wait.
-    pub fn may_wait(&self) -> bool
-        ensures { result ≡ self.now.may_wait }
+    /// Whether the lane may write now: it is its turn, or nobody's.
+    pub fn is_turn(&self, lane: u16) -> bool
+        ensures { result ≡ is_turn self.now lane }
     {
-        self.signals.is_some()
-    }
-
-    /// Whether the lane's next event is asked for now: one that waits isn't till its lane is the first and no write is under way, or one that has ended.
-    pub fn is_asked(&self, lane: u16) -> bool
-        ensures others { IsFalse (is_among self.now.lanes lane) → IsTrue result }
-        ensures first { IsTrue self.now.may_wait → IsTrue (is_among self.now.lanes lane) → IsTrue result → slice_get self.now.lanes 0 ≡ Some lane }
-    {
-        let Some(signals) = &self.signals else {
-            return true;
-        };
-        let is_turn = self.waiting.first().is_none_or(|first| *first == lane);
-        signals.let_write(is_turn);
-        if !self.waiting.contains(&lane) {
-            return true;
+        match self.owner {
+            Some(owner) => owner == lane,
+            None => match self.waiting.first() {
+                Some(first) => *first == lane,
+                None => true,
+            },
         }
-        is_turn && (!signals.is_under_way() || signals.has_ended())
     }
 
-    /// Whether the lane's event, which was refused, waits. Its lane then stands behind those that wait already, or where it did.
-    pub fn stays(&mut self, lane: u16) -> bool
-        ensures waits { IsTrue result → self.new ≡ record self.old { lanes = with_lane self.old.lanes lane } }
-        ensures unchanged { IsFalse result → self.new ≡ self.old }
+    /// Whether the lane's next event is asked for now: one that waits isn't while a write is under way, nor before it is its turn.
+    pub fn is_asked(&self, lane: u16, is_under_way: bool) -> bool
+        ensures { result ≡ is_asked self.now lane is_under_way }
     {
-        let shall_return = match &self.signals {
-            Some(signals) => signals.take_return(),
-            None => false,
-        };
-        shall_return && (self.waiting.contains(&lane) || self.waiting.push(lane).is_ok())
+        !self.waiting.contains(&lane) || !is_under_way && self.is_turn(lane)
     }
 
-    /// Notes that the outcome of the lane's event is put: the lane waits no more.
-    pub fn note_outcome(&mut self, lane: u16)
+    /// Whether the lane's event, whose step was answered busy, waits: while the table owes a write, whatever the step was busy for, and where it wasn't its turn.
+    /// The lane then stands behind those that wait already, or where it did, if there is room.
+    pub fn stays(&mut self, lane: u16, owes: bool) -> bool
+        ensures stays { result ≡ (owes || not (is_turn self.old lane)) }
+        ensures waits { (self.new.lanes ≡ with_lane self.old.lanes lane) ⊎ (self.new.lanes ≡ self.old.lanes) }
+        ensures unchanged { IsFalse result → self.new.lanes ≡ self.old.lanes }
+        ensures owner { self.new.owner ≡ owner_after self.old.owner lane owes }
+    {
+        let stays = owes || !self.is_turn(lane);
+        self.note_owed(lane, owes);
+        if stays && !self.waiting.contains(&lane) {
+            let _ = self.waiting.push(lane);
+        }
+        stays
+    }
+
+    /// Notes whether the table owes a write behind a step of this lane.
+    fn note_owed(&mut self, lane: u16, owes: bool)
+        ensures { self.new ≡ record self.old { owner = owner_after self.old.owner lane owes } }
+    {
+        if !owes {
+            self.owner = None;
+        } else if self.owner.is_none() {
+            self.owner = Some(lane);
+        }
+    }
+
+    /// The lane waits no more.
+    fn leave(&mut self, lane: u16)
         ensures { self.new ≡ record self.old { lanes = without_lane self.old.lanes lane } }
     {
         self.waiting.retain(|waits| *waits != lane);
+    }
+
+    /// Nothing is owed to the lane.
+    fn release(&mut self, lane: u16)
+        ensures { self.new ≡ record self.old { owner = owner_without self.old.owner lane } }
+    {
+        let Some(owner) = self.owner else {
+            return;
+        };
+        if owner == lane {
+            self.owner = None;
+        }
+    }
+
+    /// Notes that the outcome of the lane's event is put: the lane waits no more, and nothing is owed to it.
+    pub fn note_outcome(&mut self, lane: u16)
+        ensures { self.new ≡ record self.old { lanes = without_lane self.old.lanes lane; owner = owner_without self.old.owner lane } }
+    {
+        self.leave(lane);
+        self.release(lane);
     }
 }

@@ -7,7 +7,7 @@ ghost use Rattle.hdl_rows.specs.Table.{no_rows};
 use crate::fault::Fault;
 use crate::input::read_input;
 use crate::script::{events_of, parts_of};
-use hdl_core::{Rows, Service, Tenants};
+use hdl_core::{Owing, Service, Tenants};
 use hdl_events::{Event, Outcome};
 use std::alloc::Global;
 use std::io::{Read, Write};
@@ -72,7 +72,7 @@ pub fn tenants_of(alloc: Global, text: &str) -> Result<Tenants, Fault> {
 }
 
 /// The outcomes of the events.
-fn run_events<R: Rows + Drop>(
+fn run_events<R: Owing + Drop>(
     service: &mut Service<R>,
     events: Vec<Event>,
 ) -> Result<Vec<Outcome>, Fault> {
@@ -83,7 +83,7 @@ fn run_events<R: Rows + Drop>(
 }
 
 /// The outcomes of the events, over an empty table.
-fn outcomes_of<R: Rows + Drop>(
+fn outcomes_of<R: Owing + Drop>(
     alloc: Global,
     rows: R,
     tenants: Tenants,
@@ -96,7 +96,7 @@ fn outcomes_of<R: Rows + Drop>(
 }
 
 /// The lines of the events' outcomes, over an empty table.
-fn lines_of_run<R: Rows + Drop>(
+fn lines_of_run<R: Owing + Drop>(
     alloc: Global,
     rows: R,
     tenants: Tenants,
@@ -110,7 +110,7 @@ fn lines_of_run<R: Rows + Drop>(
 }
 
 /// The lines of the events' outcomes, over a table that is there already, and the table after them.
-pub fn lines_of_resumed<R: Rows + Drop>(
+pub fn lines_of_resumed<R: Owing + Drop>(
     alloc: Global,
     rows: R,
     tenants: Tenants,
@@ -124,7 +124,7 @@ pub fn lines_of_resumed<R: Rows + Drop>(
 }
 
 /// What a script prints, over an empty table.
-fn output_of<R: Rows + Drop>(alloc: Global, rows: R, text: &[u8]) -> Result<String, Fault>
+fn output_of<R: Owing + Drop>(alloc: Global, rows: R, text: &[u8]) -> Result<String, Fault>
     requires empty { R.content rows ≡ no_rows }
 {
     let Ok(text) = str::from_utf8(text) else {
@@ -138,7 +138,7 @@ fn output_of<R: Rows + Drop>(alloc: Global, rows: R, text: &[u8]) -> Result<Stri
 
 /// Runs the script on the input over an empty table, and writes the outcomes to the output. After any fault but that of a
 /// device nothing is written.
-pub fn try_replay<R: Rows + Drop, I: Read, O: Write>(
+pub fn try_replay<R: Owing + Drop, I: Read, O: Write>(
     alloc: Global,
     rows: R,
     input: &mut I,
@@ -154,7 +154,7 @@ pub fn try_replay<R: Rows + Drop, I: Read, O: Write>(
 
 /// Runs the script as [`try_replay`] does, and writes a fault line to the faults.
 /// Answers the exit status. A fault line that can't be written changes no status.
-pub fn replay<R: Rows + Drop, I: Read, O: Write, F: Write>(
+pub fn replay<R: Owing + Drop, I: Read, O: Write, F: Write>(
     alloc: Global,
     rows: R,
     input: &mut I,

@@ -1,5 +1,6 @@
 pub mod Table
 pub mod Write
+pub mod Debt
 pub mod Fuse
 pub mod Laws
 pub mod Shelf

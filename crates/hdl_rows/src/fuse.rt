@@ -5,6 +5,7 @@ ghost use Rattle.hdl_name.specs.Name.{canonical};
 ghost use Rattle.hdl_value.specs.Refs.{place_of};
 ghost use Rattle.hdl_rows.specs.Table.{most, refusals_after, has, at, values_of, values_in, names_of, HaveTheirIndexes, with_new_handle, with_values, without_values, without_handle, AreDistinct, AreAbsent, ArePresent, indexes};
 
+use crate::owing::{Owed, Owing};
 use crate::rows::{Refused, Rows};
 use hdl_limits::Octets;
 use hdl_name::Name;
@@ -229,5 +230,23 @@ impl<R: Rows> Rows for Fuse<R> {
 
     fn refusals(&self) -> u64 {
         self.inner.refusals().saturating_add(self.wire.refusals)
+    }
+}
+
+impl<R: Owing> Owing for Fuse<R> {
+    ghost use Rattle.hdl_rows.specs.Fuse.{inner_of};
+
+    ghost debt = { λ s. R.debt (inner_of s) };
+
+    fn hands_over(&self) -> bool {
+        self.inner.hands_over()
+    }
+
+    fn owed(&self) -> Owed {
+        self.inner.owed()
+    }
+
+    fn let_write(&mut self, may_write: bool) {
+        self.inner.let_write(may_write);
     }
 }

@@ -29,12 +29,14 @@
 
 mod fuse;
 pub mod laws;
+mod owing;
 mod plain;
 mod row;
 mod rows;
 mod shelf;
 
 pub use fuse::Fuse;
+pub use owing::{Owed, Owing, Prompt};
 pub use plain::PlainRows;
 pub use row::value_with;
 pub use rows::{Refused, Rows};

@@ -3,6 +3,7 @@
 //! ```text
 //! NAME.script   events, each through a lane of one item and `serve`; as `replay` tells them, and as NAME.expected has it ([`hand`])
 //! NAME.lanes    lanes that are filled, served and emptied line by line ([`hand`])
+//! NAME.writes   the same over a table with a file beside it, each of whose writes is made behind a line of its own ([`filed`])
 //! NAME.doors    workers at doors in memory, whose lanes are served at each of their pauses, and both rings settled ([`doors`])
 //! ```
 //!
@@ -10,13 +11,16 @@
 
 mod beside;
 mod doors;
+mod filed;
 mod hand;
+mod later;
 mod pair;
 mod recorder;
 mod rings;
 mod server;
 mod words;
 
+use filed::Filed;
 use server::Held;
 use std::alloc::Global;
 use std::fs;
@@ -50,6 +54,8 @@ fn tell(rt: &HostRuntime, name: &str, told: &mut Vec<u8>) -> io::Result<()> {
         tell_script(rt, stem, text.as_str(), told)
     } else if name.ends_with(".lanes") {
         hand::run(alloc, &mut without_service(alloc), text.as_str(), told)
+    } else if name.ends_with(".writes") {
+        hand::run(alloc, &mut Filed::new(alloc)?, text.as_str(), told)
     } else {
         doors::run(alloc, without_service(alloc), text.as_str(), told)
     }

@@ -26,7 +26,7 @@ mod row;
 mod table;
 
 use hdl_replay::replay;
-use hdl_rows::Rows;
+use hdl_rows::Owing;
 use lanes::{print_rings, print_text};
 use play::{PlayResult, each_call, play};
 use row::row_of;
@@ -54,7 +54,7 @@ fn files(rt: &HostRuntime, endings: &[&str]) -> io::Result<Vec<String>> {
 }
 
 /// What a script tells over an empty table.
-fn tell_over<R: Rows + Drop>(alloc: Global, rows: R, script: &[u8]) -> io::Result<Vec<u8>>
+fn tell_over<R: Owing + Drop>(alloc: Global, rows: R, script: &[u8]) -> io::Result<Vec<u8>>
     requires empty { R.content rows ≡ no_rows }
 {
     let mut input = script;
@@ -175,7 +175,7 @@ fn all_compared(rt: &HostRuntime) -> io::Result<bool> {
 /// Prints what rings tell, and each text of the folder that goes through lanes.
 fn print_lanes(rt: &HostRuntime) -> io::Result<()> {
     print_rings(rt)?;
-    for file in &files(rt, &[".lanes", ".doors"])? {
+    for file in &files(rt, &[".lanes", ".writes", ".doors"])? {
         print_text(rt, file.as_str())?;
     }
     Ok(())

@@ -6,7 +6,7 @@ ghost use Rattle.hdl_rows.specs.Table.{no_rows};
 
 use crate::row::{StoredScript, TRIES};
 use crate::table::{Table, empty_rows};
-use hdl_core::{Early, Rows, Service, Tenants};
+use hdl_core::{Early, Owing, Service, Tenants};
 use hdl_events::{Event, Outcome};
 use hdl_replay::{events_of, line_of, parts_of};
 
@@ -46,7 +46,7 @@ fn is_line(rt: &HostRuntime, lane: u16, outcome: &Outcome, wanted: &str) -> bool
 
 /// Sends the event of a script's line, and once more where it is Busy or comes back, which is counted. Tells whether it then came to
 /// the outcome of the wanted line.
-fn is_answered<R: Rows + Drop>(
+fn is_answered<R: Owing + Drop>(
     rt: &HostRuntime,
     service: &mut Service<R>,
     line: &str,
@@ -82,7 +82,7 @@ fn is_answered<R: Rows + Drop>(
 }
 
 /// Opens a service of a tenants text over an empty table.
-fn open_service<R: Rows + Drop>(rt: &HostRuntime, tenants: &str, rows: R) -> Option<Service<R>>
+fn open_service<R: Owing + Drop>(rt: &HostRuntime, tenants: &str, rows: R) -> Option<Service<R>>
     requires empty { R.content rows ≡ no_rows }
 {
     let Ok(tenants) = Tenants::read(rt.alloc(), tenants) else {
@@ -98,7 +98,7 @@ fn open_service<R: Rows + Drop>(rt: &HostRuntime, tenants: &str, rows: R) -> Opt
 }
 
 /// Sends the events of a script in turn, and tells what they came to beside the lines that are expected.
-fn play_events<R: Rows + Drop>(
+fn play_events<R: Owing + Drop>(
     rt: &HostRuntime,
     service: &mut Service<R>,
     script: &str,
@@ -121,7 +121,7 @@ fn play_events<R: Rows + Drop>(
 }
 
 /// Plays a row over an empty table.
-fn play_over<R: Rows + Drop>(rt: &HostRuntime, row: &StoredScript, rows: R) -> PlayResult
+fn play_over<R: Owing + Drop>(rt: &HostRuntime, row: &StoredScript, rows: R) -> PlayResult
     requires empty { R.content rows ≡ no_rows }
 {
     let parts = parts_of(&row.script);

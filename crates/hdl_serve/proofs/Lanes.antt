@@ -1,6 +1,6 @@
 -- Serving goes on by one lane, and ends.
-use Rattle.std.proofs.Common.{◌≡◌, ◌≢◌, ℕ, zero, suc, ◌<◌, ◌≤◌, List, [], ◌∷◌, ◌++◌, length, get_or, set, take, drop, Bool, true, false, All, refl, inl, inr, sym, ap, ◌∙◌, subst, arith}
-use Rattle.std.specs.List.{AllZip}
+use Rattle.std.proofs.Common.{◌≡◌, ◌≢◌, ℕ, zero, suc, ◌<◌, ◌≤◌, List, [], ◌∷◌, ◌++◌, length, get_or, set, take, drop, Bool, true, false, not, true≢false, All, refl, inl, inr, sym, ap, ◌∙◌, subst, arith}
+use Rattle.std.specs.List.{AllByRecursion, AllZip}
 use Rattle.std.proofs.lemmas.Bool.{cases_eq, cases_order}
 use Rattle.std.proofs.lemmas.List.{append-nil, length-map, length-set, get_or-set_same, get_or-set_other, get_or_default, get_or_past, drop_all, take_all}
 use Rattle.std.proofs.lemmas.List.Elements.{All-nil, All-cons, All-append}
@@ -17,7 +17,7 @@ use Rattle.hdl_workers.specs.declared.ends.LaneEnds.{LaneEnds}
 use Rattle.hdl_workers.specs.Sign.{WithEnd}
 use Rattle.hdl_workers.specs.Ends.{AreDistinct}
 use Rattle.hdl_serve.specs.Served.{events_on, outcomes_on, items_of, IsOnOne, LaneServed, IsServed}
-use Rattle.hdl_serve.specs.Rounds.{AreWithEnd, Passes, Serves, EachLane, IsServing, on_lane}
+use Rattle.hdl_serve.specs.Rounds.{AreWithEnd, GaveEnd, Passes, Serves, EachLane, IsServing, on_lane}
 use Rattle.hdl_serve.proofs.Beside.{own_events, own_outcomes, foreign_events, foreign_outcomes}
 use Rattle.hdl_serve.proofs.Steps.{passes_then, passes_nothing}
 
@@ -173,6 +173,27 @@ served restricts twins w new before after ended no_root h = record {
       (λ n d below. lane_served h.events h.outcomes (get_or ended n false) (get_or before n d) (get_or after n d) (h.lanes.each n d below));
   of = h.given;
 }
+
+-- what is denied isn't so
+pub turned : (b v : Bool) → v ≡ not b → v ≡ false → b ≡ true
+turned true v is untrue = refl
+turned false v is untrue = absurd (true≢false (sym is ∙ untrue))
+
+-- each of them is true
+flag_true : (flags : List Bool) (n : ℕ) → AllByRecursion (λ e. e ≡ true) flags → n < length flags → get_or flags n false ≡ true
+flag_true [] n all below = absurd (omega (arith, below))
+flag_true (f ∷ flags) zero all below = all.0
+flag_true (f ∷ flags) (suc n) all below = flag_true flags n all.1 (omega (arith, below))
+
+-- each lane gave End
+pub gave_end : (w new : World) (before after : List LaneEnds) (ended : List Bool) → IsServing w before new after ended → length ended ≡ length after → AllByRecursion (λ e. e ≡ true) ended → AllZip GaveEnd before after
+gave_end w new before after ended h long all =
+    zip_each GaveEnd before after h.lanes.long (λ n d below.
+    let a : LaneEnds = get_or before n d in
+    let b : LaneEnds = get_or after n d in
+    let whats = events_on a.lane h.events in
+    let flag : get_or ended n false ≡ true = flag_true ended n all (omega (arith, below, long, h.lanes.long)) in
+    (whats, subst (λ f. AreWithEnd f (taken_from a.items ++ items_of whats) (taken_from b.items)) flag ((h.lanes.each n d below).with_end (taken_from a.items) refl)))
 
 -- the lanes that come back still have numbers of their own
 pub still_distinct : (w new : World) (before after : List LaneEnds) (ended : List Bool) → IsServing w before new after ended → AreDistinct after

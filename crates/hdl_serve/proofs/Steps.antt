@@ -15,7 +15,7 @@ use Rattle.hdl_laws.specs.Laws.{JoinsRuns}
 use Rattle.hdl_workers.specs.declared.item.Item.{Item}
 use Rattle.hdl_workers.specs.declared.ends.LaneEnds.{LaneEnds}
 use Rattle.hdl_serve.specs.Served.{event_of, events_in, items_of}
-use Rattle.hdl_serve.specs.Rounds.{AreWithEnd, Passes, Answers, Serves, on_lane}
+use Rattle.hdl_serve.specs.Rounds.{AreWithEnd, Passes, PutsNoBusy, Answers, Serves, on_lane}
 use Rattle.hdl_workers.proofs.Same.{same_inlet, same_outlet, itself_inlet, itself_outlet}
 
 abbrev IsSameLane : LaneEnds → LaneEnds → Type 0
@@ -163,3 +163,17 @@ pub took_last : (was : Bool) (a b : LaneEnds) (item : Item) → was ≡ false �
 took_last was a b item going first front lane same put taken =
     let it = took_front a b Item.End item first front lane same put taken in
     took_end was a b item going it.0 it.1 taken it.2
+
+-- ---- no Busy is put
+
+pub puts_nothing : (a : LaneEnds) → PutsNoBusy a a
+puts_nothing a = ([], sym (append-nil _), tt)
+
+pub puts_one : (o : Outcome) (a b : LaneEnds) → Answers o a b → is_busy o ≡ false → PutsNoBusy a b
+puts_one o a b t calm = (o ∷ [], t.put, (calm, tt))
+
+pub puts_none : (f g : Bool) (a b : LaneEnds) → Passes f g [] [] a b → PutsNoBusy a b
+puts_none f g a b p = ([], p.put, tt)
+
+pub puts_later : (f g : Bool) (a b c : LaneEnds) → Passes f g [] [] a b → PutsNoBusy b c → PutsNoBusy a c
+puts_later f g a b c p q = (q.0, q.1 ∙ ap (λ os. os ++ q.0) (p.put ∙ append-nil _), q.2)

@@ -1,12 +1,13 @@
 -- What one round does, lane by lane, by the lanes' places.
 use Rattle.std.specs.Prelude.{◌≡◌, ◌<◌, ⊤, ℕ, Bool, true, false, List, [], ◌∷◌, ◌++◌, All, length, get_or, map}
+use Rattle.std.specs.List.{AllByRecursion}
 use Rattle.hdl_lanes.specs.Lane.{put_into, taken_from, IsFrontOf, SameInlet, SameOutlet}
 use Rattle.hdl_lanes.specs.declared.outlet.Outlet.{Outlet}
 use Rattle.hdl_events.specs.declared.Happening.{Happening}
 use Rattle.hdl_events.specs.declared.Event.{Event}
 use Rattle.hdl_events.specs.declared.Outcome.{Outcome}
 use Rattle.hdl_laws.specs.Worlds.{World}
-use Rattle.hdl_laws.specs.Runs.{Run}
+use Rattle.hdl_laws.specs.Runs.{Run, is_busy}
 use Rattle.hdl_workers.specs.declared.item.Item.{Item}
 use Rattle.hdl_workers.specs.declared.ends.LaneEnds.{LaneEnds}
 use Rattle.hdl_workers.specs.Ends.{AreDistinct}
@@ -35,6 +36,10 @@ pub record Answers (outcome : Outcome) (a b : LaneEnds) : Type 0 where
   pub taken : taken_from b.items ≡ taken_from a.items
   pub put : put_into b.outcomes ≡ put_into a.outcomes ++ outcome ∷ []
 
+-- no outcome that was put is Busy
+abbrev pub PutsNoBusy : LaneEnds → LaneEnds → Type 0
+PutsNoBusy a b = (outcomes : List Outcome) × (put_into b.outcomes ≡ put_into a.outcomes ++ outcomes) × AllByRecursion (λ o. is_busy o ≡ false) outcomes
+
 -- it is what stands first in the lane, where memory sufficed
 abbrev pub IsCopyOf : Front → Outlet Item → Type 0
 IsCopyOf Front.End items = IsFrontOf Item.End items
@@ -51,6 +56,10 @@ pub record Serves (was now : Bool) (w new : World) (a b : LaneEnds) : Type 0 whe
   pub outcomes : List Outcome
   pub run : Run w (on_lane a.lane whats) outcomes new
   pub passes : Passes was now whats outcomes a b
+
+-- the lane gave events and then End
+abbrev pub GaveEnd : LaneEnds → LaneEnds → Type 0
+GaveEnd a b = (whats : List Happening) × AreWithEnd true (taken_from a.items ++ items_of whats) (taken_from b.items)
 
 -- a relation of each lane's ends before and after, by its place
 pub record EachLane (R : ℕ → LaneEnds → LaneEnds → Type 0) (before after : List LaneEnds) : Type 0 where

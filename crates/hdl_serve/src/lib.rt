@@ -17,7 +17,7 @@
 //!
 //! ```rust
 //! // crates/hdl_program_tests/src/two_workers.rt
-//! drop(serve(alloc, open(alloc)?, lanes, &mut clock, &mut AtOnce, TURNS));
+//! drop(serve(alloc, open(alloc)?, lanes, &mut clock, &mut queue, TURNS));
 //! ```
 //!
 //! # Decisions
@@ -25,11 +25,13 @@
 //! - **An event is answered before the next one is taken**, by `step`, which needs no room that could be refused: so there is nothing that
 //!   was taken and isn't answered, and no batch to be kept. Served in a row, the events of a lane find what they need in the processor's
 //!   caches, and their outcomes reach the worker together, which then writes them by one call (docs/BENCHMARKS.md, "Serving").
-//! - **An event whose step was answered busy may stay in its lane** ([`Writing`]): such a step leaves the world as it was, so the event is taken up again later,
-//!   without an outcome till then. A table can so make a write on a thread of its own: it refuses the call that hands the write over, and makes the write in memory at the call
+//! - **An event whose step was answered busy may stay in its lane**: such a step leaves the world as it was, so the event is taken up again later,
+//!   without an outcome till then. A table can so hand a write over to be made beside it: it refuses the call that hands the write over, and makes the write in memory at the call
 //!   that comes again with it. What is stepped then is a copy of the lane's first event, and the event is taken once its outcome is put: so what was taken is what was
-//!   answered, as ever. Where memory for the copy is refused the event stays too, since no other would come for a write that is under way.
-//! - **Of a table that makes its writes at once no event is copied** ([`AtOnce`]), and none stays.
+//!   answered, as ever. If memory for the copy is refused the event stays too.
+//! - **No Busy is put while the table owes a write**, whatever it is for (`owed` of `serve_next`, over what the table itself shows): so the event to which a write is owed stays until
+//!   its step claims the write or finds it undone, and who was answered Busy knows that nothing was changed. Other events that are busy meanwhile are told so a sync later.
+//! - **Of a table whose calls make their writes no event is copied**, and none stays.
 //! - **A lane's events in a row cost as many turns**, so of so many turns each lane has at most so many events, in whatever order lanes are asked.
 //! - **A client with many requests in flight has up to 16 answered before the next lane is asked.** Whoever has one at a time waits for that long at
 //!   most, times the lanes; one of each in turn would cost the workers half as much again.
@@ -43,12 +45,11 @@
 pub mod laws;
 mod rounds;
 mod serving;
-mod writing;
 
+pub use hdl_queue::WriteQueue;
 pub use hdl_workers::{
     Clock, Datagram, Door, DoorFault, EndReason, Item, LaneEnds, MemoryClock, MemoryConnection,
     MemoryDoor, MemoryNonces, MemoryPackets, Nonces, Packets, WorkerEnd, WorkerSide, lanes_of,
     packet_worker, stream_worker,
 };
 pub use serving::{Served, serve};
-pub use writing::{AtOnce, Writing};

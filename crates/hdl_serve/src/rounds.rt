@@ -1,18 +1,20 @@
 //! A round over the lanes: each gives some of its events, and is given their outcomes.
 
-ghost use Rattle.std.specs.Prelude.{◌≡◌, ◌≤◌, ◌<◌, ◌∷◌, [], Bool, false, List, length, IfOk, IsTrue, MatchOption};
+ghost use Rattle.std.specs.Prelude.{◌≡◌, ◌≤◌, ◌<◌, ◌∷◌, [], Bool, true, false, List, length, IfOk, IsTrue, IsFalse, MatchOption};
 ghost use Rattle.hdl_lanes.specs.Lane.{known_room, seen_in, IsFrontOf};
 ghost use Rattle.hdl_laws.specs.Worlds.{World};
 ghost use Rattle.hdl_laws.specs.Runs.{is_busy};
 ghost use Rattle.hdl_workers.specs.declared.item.Item.{Item};
 ghost use Rattle.hdl_workers.specs.declared.ends.LaneEnds.{LaneEnds};
-ghost use Rattle.hdl_serve.specs.Rounds.{Answers, IsCopyOf, IsServing, Passes, Serves};
+ghost use Rattle.hdl_queue.specs.Waiting.{without_lane};
+ghost use Rattle.hdl_rows.specs.Debt.{is_owed};
+ghost use Rattle.hdl_serve.specs.Rounds.{Answers, IsCopyOf, IsServing, Passes, PutsNoBusy, Serves};
 
-use crate::writing::Writing;
-use hdl_core::{Rows, Service};
+use hdl_core::{Machine, Owed, Owing, Stepped};
 use hdl_events::{Event, Happening, Outcome};
 use hdl_laws::laws::runs_joined;
 use hdl_limits::Octets;
+use hdl_queue::WriteQueue;
 use hdl_workers::{Item, LaneEnds};
 use std::alloc::{AllocError, Global};
 
@@ -42,18 +44,18 @@ fn give_back(ends: &mut LaneEnds, outcome: Outcome)
 }
 
 /// Takes the lane's next event and serves it, if one is seen and its outcome finds room. Whether there was one.
-fn serve_taken<R: Rows + Drop>(
-    service: &mut Service<R>,
+fn serve_taken<R: Owing + Drop>(
+    machine: &mut Machine<R>,
     ends: &mut LaneEnds,
     ended: &mut bool,
 ) -> bool
-    ensures { Serves ended.old ended.new service.old service.new ends.old ends.new }
+    ensures { Serves ended.old ended.new machine.old.world machine.new.world ends.old ends.new }
 {
     let lane = ends.lane;
     let Some(what) = take_event(ends, ended) else {
         return false;
     };
-    let outcome = service.step(Event { lane, what });
+    let outcome = machine.step(Event { lane, what }, true).outcome;
     give_back(ends, outcome);
     true
 }
@@ -121,41 +123,63 @@ fn is_busy(outcome: &Outcome) -> bool
     matches!(outcome, Outcome::Busy(_))
 }
 
-/// Serves a copy of the lane's next event, which is taken once its outcome is put. Whether it was.
-fn serve_copy<R: Rows + Drop, W: Writing>(
-    service: &mut Service<R>,
+fn is_owed(owed: Owed) -> bool
+    ensures { result ≡ is_owed owed }
+{
+    !matches!(owed, Owed::Nothing)
+}
+
+/// Whether the event of a step with this outcome stays, behind which the table owes a write or doesn't.
+fn stays(queue: &mut WriteQueue, lane: u16, outcome: &Outcome, owes: bool) -> bool
+    ensures busy { IsTrue result → is_busy outcome.now ≡ true }
+    ensures owed { IsTrue owes → IsFalse result → is_busy outcome.now ≡ false }
+    ensures unchanged { IsFalse result → queue.new.lanes ≡ queue.old.lanes }
+{
+    is_busy(outcome) && queue.stays(lane, owes)
+}
+
+/// Serves a copy of the lane's next event, which is taken once its outcome is put. Whether it was. No Busy is put while the table owes a write: the event that it owes it
+/// stays, and so does each other that is busy meanwhile.
+fn serve_copy<R: Owing + Drop>(
+    machine: &mut Machine<R>,
     ends: &mut LaneEnds,
     copy: Happening,
-    writing: &mut W,
+    queue: &mut WriteQueue,
 ) -> bool
     requires room { 0 < known_room ends.old.outcomes }
     requires front { IsFrontOf (Item.Event copy) ends.old.items }
-    ensures { Serves false false service.old service.new ends.old ends.new }
+    ensures served { Serves false false machine.old.world machine.new.world ends.old ends.new }
+    ensures owed { (R.debt machine.new.rows).owes ≡ true → PutsNoBusy ends.old ends.new }
+    ensures left { IsTrue result → queue.new.lanes ≡ without_lane queue.old.lanes ends.old.lane }
 {
-    let outcome = service.step(Event {
+    let may_write = queue.is_turn(ends.lane);
+    let event = Event {
         lane: ends.lane,
         what: copy,
-    });
-    if is_busy(&outcome) && writing.stays(ends.lane) {
+    };
+    let Stepped { outcome, owed } = machine.step(event, may_write);
+    if stays(queue, ends.lane, &outcome, is_owed(owed)) {
         return false;
     }
     drop(ends.items.take_front());
     give_back(ends, outcome);
-    writing.note_outcome(ends.lane);
+    queue.note_outcome(ends.lane);
     true
 }
 
 /// Serves the lane's next event, if one is seen and its outcome finds room, and doesn't take it before its outcome is put. Whether there was one.
-fn serve_front<R: Rows + Drop, W: Writing>(
+fn serve_front<R: Owing + Drop>(
     alloc: Global,
-    service: &mut Service<R>,
+    machine: &mut Machine<R>,
     ends: &mut LaneEnds,
     ended: &mut bool,
-    writing: &mut W,
+    queue: &mut WriteQueue,
 ) -> bool
-    ensures { Serves ended.old ended.new service.old service.new ends.old ends.new }
+    ensures served { Serves ended.old ended.new machine.old.world machine.new.world ends.old ends.new }
+    ensures owed { (R.debt machine.new.rows).owes ≡ true → PutsNoBusy ends.old ends.new }
 {
-    if *ended || !writing.is_asked(ends.lane) {
+    let is_under_way = machine.owed() == Owed::UnderWay;
+    if *ended || !queue.is_asked(ends.lane, is_under_way) {
         return false;
     }
     if !is_ready(ends) {
@@ -167,43 +191,44 @@ fn serve_front<R: Rows + Drop, W: Writing>(
             *ended = true;
             false
         }
-        Front::Event(copy) => serve_copy(service, ends, copy, writing),
+        Front::Event(copy) => serve_copy(machine, ends, copy, queue),
         Front::NoMemory => false,
     }
 }
 
 /// Serves the lane's next event, if there is one to be served now. Whether there was.
-fn serve_next<R: Rows + Drop, W: Writing>(
+fn serve_next<R: Owing + Drop>(
     alloc: Global,
-    service: &mut Service<R>,
+    machine: &mut Machine<R>,
     ends: &mut LaneEnds,
     ended: &mut bool,
-    writing: &mut W,
+    queue: &mut WriteQueue,
 ) -> bool
-    ensures { Serves ended.old ended.new service.old service.new ends.old ends.new }
+    ensures served { Serves ended.old ended.new machine.old.world machine.new.world ends.old ends.new }
+    ensures owed { (R.debt machine.old.rows).hands_over ≡ true → (R.debt machine.new.rows).owes ≡ true → PutsNoBusy ends.old ends.new }
 {
-    if writing.may_wait() {
-        serve_front(alloc, service, ends, ended, writing)
+    if machine.hands_over() {
+        serve_front(alloc, machine, ends, ended, queue)
     } else {
-        serve_taken(service, ends, ended)
+        serve_taken(machine, ends, ended)
     }
 }
 
 /// Serves the lane's events as long as one is seen, and at most so many. How many these were.
-fn serve_lane<R: Rows + Drop, W: Writing>(
+fn serve_lane<R: Owing + Drop>(
     alloc: Global,
-    service: &mut Service<R>,
+    machine: &mut Machine<R>,
     ends: &mut LaneEnds,
     ended: &mut bool,
-    writing: &mut W,
+    queue: &mut WriteQueue,
     most: u64,
 ) -> u64
     ensures few { result ≤ most }
-    ensures served { Serves ended.old ended.new service.old service.new ends.old ends.new }
+    ensures served { Serves ended.old ended.new machine.old.world machine.new.world ends.old ends.new }
 {
     runs_joined();
     for served in 0..most {
-        if !serve_next(alloc, service, ends, ended, writing) {
+        if !serve_next(alloc, machine, ends, ended, queue) {
             return served;
         }
     }
@@ -211,22 +236,22 @@ fn serve_lane<R: Rows + Drop, W: Writing>(
 }
 
 /// Serves one lane after another, of each at most so many events. The most that one of them gave.
-pub(crate) fn serve_round<R: Rows + Drop, W: Writing>(
+pub(crate) fn serve_round<R: Owing + Drop>(
     alloc: Global,
-    service: &mut Service<R>,
+    machine: &mut Machine<R>,
     lanes: &mut [LaneEnds],
     ended: &mut [bool],
-    writing: &mut W,
+    queue: &mut WriteQueue,
     most: u64,
 ) -> u64
     requires ended { length ended.old ≡ length lanes.old }
     ensures few { result ≤ most }
-    ensures serving { (w : World) (before : List LaneEnds) → IsServing w before service.old lanes.old ended.old → IsServing w before service.new lanes.new ended.new }
+    ensures serving { (w : World) (before : List LaneEnds) → IsServing w before machine.old.world lanes.old ended.old → IsServing w before machine.new.world lanes.new ended.new }
 {
     runs_joined();
     let mut longest = 0;
     for i in 0..lanes.len() {
-        let served = serve_lane(alloc, service, &mut lanes[i], &mut ended[i], writing, most);
+        let served = serve_lane(alloc, machine, &mut lanes[i], &mut ended[i], queue, most);
         longest = longest.max(served);
     }
     longest

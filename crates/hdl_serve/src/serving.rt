@@ -1,16 +1,17 @@
 //! The serving loop.
 
-ghost use Rattle.std.specs.Prelude.{◌≡◌, ◌≤◌, [], List};
+ghost use Rattle.std.specs.Prelude.{◌≡◌, ◌≤◌, ◌⊎◌, [], List, IsTrue, length, true};
+ghost use Rattle.std.specs.List.{AllByRecursion, AllZip};
 ghost use Rattle.hdl_laws.specs.Worlds.{World};
 ghost use Rattle.hdl_workers.specs.declared.ends.LaneEnds.{LaneEnds};
-ghost use Rattle.hdl_serve.specs.Rounds.{IsServing};
+ghost use Rattle.hdl_serve.specs.Rounds.{GaveEnd, IsServing};
 ghost use Rattle.hdl_serve.specs.Served.{IsServed};
 ghost use Rattle.hdl_workers.specs.Ends.{AreDistinct};
 
 use crate::rounds::serve_round;
-use crate::writing::Writing;
-use hdl_core::{Rows, Service};
+use hdl_core::{Machine, Owing, Rows, Service};
 use hdl_laws::laws::{restricted, twin_replies};
+use hdl_queue::WriteQueue;
 use hdl_workers::{Clock, LaneEnds};
 use std::alloc::Global;
 
@@ -23,29 +24,38 @@ pub struct Served<R: Rows + Drop> {
     pub service: Service<R>,
     /// The lanes' ends, in their order.
     pub lanes: Vec<LaneEnds>,
+    /// How many of the turns are left: none, unless each lane has given End.
+    pub turns: u64,
+}
+
+/// Whether each of so many lanes has given End.
+fn have_ended(ended: &[bool], lanes: usize) -> bool
+    ensures { IsTrue result → (length ended.now ≡ lanes) × AllByRecursion (λ e. e ≡ true) ended.now }
+{
+    ended.len() == lanes && ended.iter().all(|ended| *ended)
 }
 
 /// One round, of so many turns at most. How many it took: 0 where nothing was served. Where the memory for it is refused no lane is asked.
-fn round<R: Rows + Drop, W: Writing>(
+fn round<R: Owing + Drop>(
     alloc: Global,
-    service: &mut Service<R>,
+    machine: &mut Machine<R>,
     lanes: &mut [LaneEnds],
     ended: &mut Vec<bool>,
-    writing: &mut W,
+    queue: &mut WriteQueue,
     turns: u64,
 ) -> u64
     ensures few { result ≤ turns }
-    ensures serving { (w : World) (before : List LaneEnds) → IsServing w before service.old lanes.old ended.old.items → IsServing w before service.new lanes.new ended.new.items }
+    ensures serving { (w : World) (before : List LaneEnds) → IsServing w before machine.old.world lanes.old ended.old.items → IsServing w before machine.new.world lanes.new ended.new.items }
 {
     if ended.resize(lanes.len(), false).is_err() {
         return 0;
     }
     serve_round(
         alloc,
-        service,
+        machine,
         lanes,
         ended.as_mut_slice(),
-        writing,
+        queue,
         turns.min(IN_A_ROW),
     )
 }
@@ -53,7 +63,8 @@ fn round<R: Rows + Drop, W: Writing>(
 /// Goes round the lanes by rising number of place until each has given End or the turns are spent. A turn serves at most one event of
 /// each lane whose inlet for outcomes has room, and of none that gave End. A round is up to 16 turns, lane by lane: it serves a
 /// lane's events one after another, and puts each outcome before the next event is taken, so nothing that was taken is without
-/// an outcome. Where a write may be under way, an event whose step was answered busy can stay in its lane, and so does one of which no copy can be had (`writing`).
+/// an outcome. If the table hands its writes over, an event whose step was answered busy can stay in its lane, and so does one of which no copy can be had: the queue says which
+/// lane may write, and no Busy is put while the table owes a write.
 /// Where the memory for a round is refused nothing is taken. After a round that served nothing it calls `pause`, after any other `note_work`.
 ///
 /// There are one list of events and one list of their outcomes that are a run from the service handed in to the one given back;
@@ -61,37 +72,34 @@ fn round<R: Rows + Drop, W: Writing>(
 /// order. What was taken from each lane is its events in that list, followed by at most one End; what was put into it is these events'
 /// outcomes, in order. Each event of that list bears the number of a lane that was handed in: the list is what was taken from the
 /// lanes, and nothing else. The lanes that come back may be served again.
-pub fn serve<R: Rows + Drop, C: Clock, W: Writing>(
+pub fn serve<R: Owing + Drop, C: Clock>(
     alloc: Global,
     service: Service<R>,
     lanes: Vec<LaneEnds>,
     clock: &mut C,
-    writing: &mut W,
+    queue: &mut WriteQueue,
     turns: u64,
 ) -> Served<R>
     requires { AreDistinct lanes.items }
     ensures served { IsServed service lanes.items result.service result.lanes.items }
+    ensures ended { (result.turns ≡ 0) ⊎ AllZip GaveEnd lanes.items result.lanes.items }
     ensures distinct { AreDistinct result.lanes.items }
 {
     service.root_is_unhosted();
     restricted();
     twin_replies();
-    let mut service = service;
+    let mut machine = service.into_machine();
     let mut lanes = lanes;
     let mut turns = turns;
     let mut ended = Vec::new(alloc);
     let mut has_served = false;
-    while turns > 0 {
-        let over = ended.len() == lanes.len() && ended.iter().all(|ended| *ended);
-        if over && !has_served {
-            break;
-        }
+    while turns > 0 && (has_served || !have_ended(ended.as_slice(), lanes.len())) {
         let served = round(
             alloc,
-            &mut service,
+            &mut machine,
             lanes.as_mut_slice(),
             &mut ended,
-            writing,
+            queue,
             turns,
         );
         has_served = served > 0;
@@ -103,5 +111,9 @@ pub fn serve<R: Rows + Drop, C: Clock, W: Writing>(
             turns -= 1;
         }
     }
-    Served { service, lanes }
+    Served {
+        service: machine.into_service(),
+        lanes,
+        turns,
+    }
 }

@@ -7,7 +7,7 @@ use crate::fault::StoreFault;
 use crate::{memory, queries};
 use hdl_limits::Octets;
 use hdl_name::Name;
-use hdl_rows::{Refused, Rows};
+use hdl_rows::{Owed, Owing, Prompt, Refused, Rows};
 use hdl_value::{Reference, Value};
 use sqlite::{Connection, MemStore};
 use std::alloc::Global;
@@ -128,4 +128,22 @@ impl Rows for SqlRows {
     fn refusals(&self) -> u64 {
         self.refusals
     }
+}
+
+impl Prompt for SqlRows {}
+
+impl Owing for SqlRows {
+    ghost use Rattle.hdl_rows.specs.Debt.{nothing};
+
+    ghost debt = { λ _. nothing };
+
+    fn hands_over(&self) -> bool {
+        false
+    }
+
+    fn owed(&self) -> Owed {
+        Owed::Nothing
+    }
+
+    fn let_write(&mut self, _may_write: bool) {}
 }

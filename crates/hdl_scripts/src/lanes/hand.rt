@@ -93,6 +93,10 @@ impl LaneSides {
         line: &str,
         told: &mut Vec<u8>,
     ) -> io::Result<()> {
+        if line == "end write" {
+            serving.end_write();
+            return Ok(());
+        }
         let Some((word, rest)) = line.split_once(' ') else {
             return Err(bad());
         };
@@ -135,7 +139,7 @@ fn follow_all<S: Serving>(
 }
 
 /// A tenants text, a line `run`, a line `COUNT CAPACITY` for the lanes, and then a line for each step: an event of a script, which is put into
-/// its lane; `end LANE`, `take LANE`, `serve TURNS`.
+/// its lane; `end LANE`, `take LANE`, `serve TURNS`, and `end write`, at which a write that is made beside may end.
 pub fn run<S: Serving>(
     alloc: Global,
     serving: &mut S,

@@ -8,7 +8,7 @@ ghost use Rattle.hdl_scripts.specs.Same.{IsEach};
 use crate::lanes::words::bad;
 use crate::table::{Table, TableRows, empty_rows};
 use hdl_core::{Service, Tenants};
-use hdl_serve::{AtOnce, Clock, LaneEnds, Served, serve};
+use hdl_serve::{Clock, LaneEnds, Served, WriteQueue, serve};
 use std::alloc::Global;
 use std::{io, mem};
 
@@ -22,6 +22,9 @@ pub trait Serving {
         requires { AreDistinct lanes.old.items }
         ensures distinct { AreDistinct lanes.new.items }
         ensures same { (firsts : List LaneEnds) → All (IsEach firsts) lanes.old.items → All (IsEach firsts) lanes.new.items };
+
+    /// The write that is made beside, if one is, may end now.
+    fn end_write(&mut self);
 }
 
 /// A clock that stands at 1000 and counts its pauses.
@@ -67,7 +70,8 @@ fn serve_lanes(
     ensures same { (firsts : List LaneEnds) → All (IsEach firsts) lanes.items → All (IsEach firsts) result.0.lanes.items }
 {
     let mut clock = Pauses { count: 0 };
-    let served = serve(alloc, service, lanes, &mut clock, &mut AtOnce, turns);
+    let mut queue = WriteQueue::new(alloc);
+    let served = serve(alloc, service, lanes, &mut clock, &mut queue, turns);
     (served, clock.count)
 }
 
@@ -92,9 +96,12 @@ impl Serving for Held {
         let Served {
             service,
             lanes: ends,
+            ..
         } = served;
         *lanes = ends;
         self.service = Some(service);
         pauses
     }
+
+    fn end_write(&mut self) {}
 }

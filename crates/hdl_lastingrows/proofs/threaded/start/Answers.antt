@@ -1,4 +1,4 @@
-use Rattle.std.proofs.Common.{sym, subst, false}
+use Rattle.std.proofs.Common.{sym, subst}
 use denote.Exit.{no}
 use denote.Param.Send.{param_send, arg_send, sendable}
 use Rattle.sqlite.specs.Files.{file_state}
@@ -20,7 +20,7 @@ spawn_with-requires-clause-keeps g c κs within r left =
     subst (λ f. LeavesIn (file_state f.rows) (file_state r.file.rows) (write_in c.of-2.result.value) r.state) (sym c.of.ensures) (subst (λ v. LeavesIn (file_state c.args.file.rows) (file_state r.file.rows) (write_in v) r.state) (sym c.of-2.ensures) left)
 
 pub job-requires : goal.job-requires
-job-requires g c = subst (λ v. (x : Table) × IsKept x false (file_state v.0.rows) × CanWrite x (write_in v.1)) (sym c.in-Err.ensures.err) c.requires.can
+job-requires g c = subst (λ v. (x : Table) × IsKept x (file_state v.0.rows) × CanWrite x (write_in v.1)) (sym c.in-Err.ensures.err) c.requires.can
 
 pub returns-in-Err-clause-made : goal.returns-in-Err-clause-made
 returns-in-Err-clause-made g c = subst (λ v. LeavesIn (file_state v.0.rows) (file_state c.job.result.file.rows) (write_in v.1) c.job.result.state) c.in-Err.ensures.err c.job.ensures

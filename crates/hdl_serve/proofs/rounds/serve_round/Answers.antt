@@ -10,7 +10,7 @@ pub loop-i-preserved : goal.loop-i-preserved
 loop-i-preserved g c = record {
   few = grind (arith, common_steps);
   serving = λ w before h.
-      serving_on c.runs_joined.ensures w c.loop-i.service c.serve_lane-served.new.service before c.loop-i.lanes c.loop-i.ended c.loop-i.i _ c.serve_lane-served.new.ended _ c.serve_lane-served.new.ends
+      serving_on c.runs_joined.ensures w c.loop-i.machine.world c.serve_lane-served.new.machine.world before c.loop-i.lanes c.loop-i.ended c.loop-i.i _ c.serve_lane-served.new.ended _ c.serve_lane-served.new.ends
       (search rules) (search rules) c.serve_lane-served.ensures.served (c.loop-i.invariant.serving w before h);
 }
 

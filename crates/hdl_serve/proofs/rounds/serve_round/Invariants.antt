@@ -7,5 +7,5 @@ use Rattle.hdl_serve.proofs.rounds.serve_round.Given as goal
 abbrev pub invariant-loop-i : goal.invariant-loop-i
 invariant-loop-i g l = record {
   few : l.longest ≤ l.most;
-  serving : (w : World) (before : List LaneEnds) → IsServing w before l.initial.service l.initial.lanes l.initial.ended → IsServing w before l.service l.lanes l.ended;
+  serving : (w : World) (before : List LaneEnds) → IsServing w before l.initial.machine.world l.initial.lanes l.initial.ended → IsServing w before l.machine.world l.lanes l.ended;
 }

@@ -5,8 +5,7 @@ use Rattle.std.proofs.lemmas.Iterator.Adapters.{YieldsList-from_vec}
 use Rattle.std.proofs.lemmas.Iterator.Consumers.{YieldsList-end}
 use Rattle.hdl_laws.specs.Runs.{Run}
 use Rattle.hdl_laws.specs.Reveals.{IsReadable}
-use Rattle.hdl_laws.specs.Laws.{HostsNoRoot}
-use Rattle.hdl_core.proofs.Steps.{run_step, no_root}
+use Rattle.hdl_core.proofs.Steps.{run_step}
 use Rattle.hdl_core.proofs.service.Service.run.Goals as goal
 
 pub loop-event-preserved : goal.loop-event-preserved
@@ -25,9 +24,7 @@ returns-clause-run g c =
     subst (λ es. Run c.args.self.now es c.loop-event.outcomes.items c.loop-event.self) all c.loop-event.invariant.run
 
 pub returns-clause-isolated : goal.returns-clause-isolated
-returns-clause-isolated g c = λ ts run es os.
-    c.restricted.ensures.alone c.args.self.now ts
-    (subst (λ w. HostsNoRoot w.site) c.self.view_is (no_root c.self.inside.tenants c.self.inside.lanes (g.R.Rows.content c.self.inside.rows) (c.root_is_nobodys.ensures c.self.inside.tenants c.opening.ensures.kept))) run
+returns-clause-isolated g c = λ ts run es os. c.restricted.ensures.alone c.args.self.now ts c.root_is_unhosted.ensures run
 
 pub returns-clause-hidden : goal.returns-clause-hidden
 returns-clause-hidden g c = λ ts run es os. c.twin_replies.ensures c.args.self.now ts run

@@ -1,13 +1,17 @@
-use Rattle.std.proofs.Common.{subst}
+use Rattle.std.proofs.Common.{sym, subst}
 use Rattle.hdl_name.specs.Name.{canonical}
-use Rattle.hdl_rows.specs.Write.{Create}
-use Rattle.hdl_lastingrows.proofs.Kept.{can_seen}
+use Rattle.hdl_rows.specs.Write.{CanWrite, Create}
+use Rattle.hdl_lastingrows.specs.Pending.{StandsBeside}
+use Rattle.hdl_lastingrows.proofs.Settled.{can_seen, settled}
 use Rattle.hdl_lastingrows.proofs.lastingrows.LastingRowsRows.create.Goals as goal
 
-pub make_in_file-requires-clause-can : goal.make_in_file-requires-clause-can
-make_in_file-requires-clause-can g c =
-    let t = g.R.Rows.content c.self.inside.rows in (
-      t,
-      subst (λ shut. g.F.Filing.keeps c.self.inside.file t shut) c.if-self.false c.self.invariant,
-      can_seen _ _ (Create (canonical c.args.name.now) c.args.values.now) c.self.view_is (c.requires.absent, c.requires.distinct),
-    )
+pub bring-requires-clause-can : goal.bring-requires-clause-can
+bring-requires-clause-can g c = can_seen _ _ (Create (canonical c.args.name.now) c.args.values.now) c.self.view_is (c.requires.absent, c.requires.distinct)
+
+pub invariant_of-self-2 : goal.invariant_of-self-2
+invariant_of-self-2 g c =
+    let w = Create (canonical c.args.name.now) c.args.values.now in
+    let stands = g.F.Filing.stands c.bring.new.beside.file in
+    let beside = subst (λ t. StandsBeside stands t c.bring.new.beside.pending) (sym c.bring.ensures.unchanged) c.bring.ensures.stands in
+    let can = subst (λ t. CanWrite t w) (sym c.bring.ensures.unchanged) (can_seen _ _ w c.self.view_is (c.requires.absent, c.requires.distinct)) in
+    settled c.bring.new.beside.pending c.claim.new.pending w c.in_ok-bring.ensures.ahead c.create-done.result stands (g.R.Rows.content c.bring.new.rows) (g.R.Rows.content c.create-done.new.self) beside can c.create-done.ensures.done c.create-done.ensures.undone c.claim.ensures.claimed

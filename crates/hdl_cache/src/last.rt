@@ -1,0 +1,70 @@
+//! The mask that was found last.
+
+ghost use Rattle.std.specs.Prelude.{◌≡◌, true, false, IfSome, OnOk, OnErr};
+ghost use Rattle.hdl_rows.specs.Table.{Table};
+ghost use Rattle.hdl_rows.specs.Debt.{is_owed};
+ghost use Rattle.hdl_reach.specs.Reach.{IsMask};
+ghost use Rattle.hdl_reach.specs.Views.{mask_of};
+ghost use Rattle.hdl_cache.specs.Masks.{subject_of};
+ghost use Rattle.hdl_cache.specs.Truth.{IsLast};
+
+use crate::pair::Pair;
+use hdl_rows::{Owed, Refused};
+use hdl_value::AdminMask;
+
+/// A mask, and the handle and the key for which it was found.
+#[derive(Drop)]
+pub(crate) struct FoundMask {
+    pair: Pair,
+    mask: Option<AdminMask>,
+}
+
+/// The mask that was found last while the table owed no write.
+///
+/// A step finds its mask before it hands its write over, and nothing is found between the two. So while the table owes that write its mask is here, whatever is
+/// found for others meanwhile.
+#[derive(Drop)]
+pub(crate) struct LastMask {
+    found: Option<FoundMask>,
+}
+
+impl LastMask {
+    /// None was found.
+    pub(crate) fn new() -> LastMask
+        ensures { (t : Table) → IsLast t result }
+    {
+        LastMask { found: None }
+    }
+
+    /// The mask, if it was found for this handle and key.
+    pub(crate) fn find(&self, pair: &Pair) -> Option<Option<AdminMask>>
+        ensures { (t : Table) → IsLast t self.now → IfSome result (λ mask. IsMask t (subject_of pair.now).handle (subject_of pair.now).key (mask_of mask)) }
+    {
+        let found = self.found.as_ref()?;
+        if found.pair != *pair {
+            return None;
+        }
+        Some(found.mask)
+    }
+
+    /// Notes what was found while the table owes this.
+    pub(crate) fn note(&mut self, pair: Pair, mask: Option<AdminMask>, owed: Owed)
+        ensures kept { is_owed owed ≡ true → self.new ≡ self.old }
+        ensures noted { is_owed owed ≡ false → IfSome self.new.found (λ last. (last.pair ≡ pair) × (last.mask ≡ mask)) }
+        ensures still_true { (t : Table) → IsLast t self.old → IsMask t (subject_of pair).handle (subject_of pair).key (mask_of mask) → IsLast t self.new }
+    {
+        if owed == Owed::Nothing {
+            self.found = Some(FoundMask { pair, mask });
+        }
+    }
+
+    /// Notes what came of a write: one that was done may change any mask.
+    pub(crate) fn note_write(&mut self, done: &Result<(), Refused>)
+        ensures forgotten { OnOk done.now ((t : Table) → IsLast t self.new) }
+        ensures kept { OnErr done.now (self.new ≡ self.old) }
+    {
+        if done.is_ok() {
+            self.found = None;
+        }
+    }
+}

@@ -1,0 +1,25 @@
+use Rattle.std.proofs.Common.{ap, arith, subst}
+use Rattle.hdl_events.specs.declared.Outcome.TheVariants.{Silent}
+use Rattle.hdl_laws.specs.Runs.{Steps}
+use Rattle.hdl_core.specs.Machine.{Machine}
+use Rattle.hdl_core.specs.Worlds.{world_of}
+use Rattle.hdl_core.specs.Serving.{ServesAt}
+use Rattle.hdl_core.proofs.Steps.{scene, steps_alone, steps_served}
+use Rattle.hdl_core.proofs.machine.Machine.serve.Goals as goal
+
+pub returns-then-event-len : goal.returns-then-event-len
+returns-then-event-len g c =
+    let world = ap (λ (m : Machine _). m.world) c.self.view_is in
+    let done : Steps c.args.self.now.world c.args.event Silent c.args.self.now.world = subst (λ w. Steps w c.args.event Silent w) world (steps_alone c.self.inside.tenants c.self.inside.lanes _ c.args.event (omega (arith, c.len.ensures, c.if-event-len.true))) in
+    record { step = done; told = c.reply_told.ensures _ _ _ _ done; read = tt }
+
+pub returns : goal.returns
+returns g c =
+    let world = ap (λ (m : Machine _). m.world) c.self.view_is in
+    let table = g.R.Rows.content c.self.inside.rows in
+    let new = world_of c.self.inside.tenants c.serve.new.lanes (g.R.Rows.content c.serve.new.rows) in
+    let served = subst (λ u. ServesAt (scene c.self.inside.tenants table c.self.inside.lanes u) c.args.event.lane c.args.event.what c.serve.result c.serve.new.lanes (g.R.Rows.content c.serve.new.rows)) c.publisher.ensures c.serve.ensures.served in
+    let done : Steps c.args.self.now.world c.args.event c.serve.result new =
+    subst (λ w. Steps w c.args.event c.serve.result new) world
+    (steps_served c.self.inside.tenants c.self.inside.lanes c.serve.new.lanes table (g.R.Rows.content c.serve.new.rows) c.args.event c.serve.result (omega (arith, c.len.ensures, c.if-event-len.false)) served) in
+    record { step = done; told = c.reply_told.ensures _ _ _ _ done; read = c.serve.ensures.read }

@@ -1,8 +1,0 @@
-use Rattle.std.proofs.Common.{subst}
-use Rattle.hdl_laws.specs.Laws.{HostsNoRoot}
-use Rattle.hdl_core.proofs.Steps.{no_root}
-use Rattle.hdl_core.proofs.service.Service.root_is_unhosted.Goals as goal
-
-pub returns : goal.returns
-returns g c =
-    subst (λ w. HostsNoRoot w.site) c.self.view_is (no_root c.self.inside.tenants c.self.inside.lanes (g.R.Rows.content c.self.inside.rows) (c.root_is_nobodys.ensures c.self.inside.tenants c.opening.ensures.kept))

@@ -1,0 +1,135 @@
+//! The machine: a service, and what its table owes.
+
+ghost use Rattle.std.specs.Prelude.{◌≡◌, IfOk};
+ghost use Rattle.hdl_rows.specs.Debt.{is_owed};
+ghost use Rattle.hdl_laws.specs.Laws.{HostsNoRoot};
+ghost use Rattle.hdl_laws.specs.Runs.{Steps};
+ghost use Rattle.hdl_laws.specs.Reveals.{IsReadable, Reveals};
+
+use crate::lanes::Lanes;
+use crate::service::Service;
+use crate::serving::serve;
+use hdl_events::{Event, Outcome};
+use hdl_laws::laws::reply_told;
+use hdl_ops::{MaskedRows, Owner, Rows, Tenants};
+use hdl_rows::{Owed, Owing};
+use hdl_tenants::root_is_nobodys;
+use std::alloc::Global;
+use std::marker::Model;
+
+/// A service that serves one event after another, for who serves lanes: it tells also what its table owes. Contracts see its world and its table.
+#[derive(Drop)]
+pub struct Machine<R: Rows + Drop> {
+    pub(crate) alloc: Global,
+    pub(crate) tenants: Tenants,
+    pub(crate) lanes: Lanes,
+    pub(crate) rows: MaskedRows<R>,
+}
+
+impl<R: Rows + Drop> Model for Machine<R> {
+    ghost use Rattle.hdl_core.specs.Machine.{Machine, machine_code};
+    ghost use Rattle.hdl_core.specs.Worlds.{world_of};
+
+    ghost Value = { Machine R };
+
+    ghost use Rattle.std.specs.Coded.{codes};
+    ghost use Rattle.std.specs.FinMap as map;
+    ghost use Rattle.std.specs.FinSet as set;
+
+    ghost coded = { machine_code (Prim.hlevel (codes, map.code, set.code)) R.code };
+
+    ghost view = { λ s. record { world = world_of s.tenants s.lanes (R.content s.rows); rows = s.rows } };
+}
+
+/// What came of an event.
+#[derive(Drop)]
+pub struct Stepped {
+    pub outcome: Outcome,
+    /// What the table owes behind it.
+    pub owed: Owed,
+}
+
+impl<R: Owing + Drop> Machine<R> {
+    /// Serves one event, as [`Service::step`](crate::Service::step) does, whose write may be handed over or may not. Gives back what the table owes with the outcome.
+    pub fn step(&mut self, event: Event, may_write: bool) -> Stepped
+        ensures step { Steps self.old.world event result.outcome self.new.world }
+        ensures told { Reveals self.old.world event result.outcome }
+        ensures read { IsReadable result.outcome }
+        ensures owed { is_owed result.owed ≡ (R.debt self.new.rows).owes }
+    {
+        self.rows.let_write(may_write);
+        let outcome = self.serve(event);
+        Stepped {
+            outcome,
+            owed: self.rows.owed(),
+        }
+    }
+
+    /// Serves one event: the answer, or Busy with the world as it was.
+    fn serve(&mut self, event: Event) -> Outcome
+        ensures step { Steps self.old.world event result self.new.world }
+        ensures told { Reveals self.old.world event result }
+        ensures read { IsReadable result }
+    {
+        reply_told();
+        if event.lane as usize >= self.lanes.len() {
+            return Outcome::Silent;
+        }
+        let owner = Owner {
+            alloc: self.alloc,
+            tenants: &self.tenants,
+            publisher: self.lanes.publisher(event.lane),
+        };
+        serve(&owner, &mut self.rows, &mut self.lanes, event)
+    }
+
+    /// Whether the table hands writes over at all.
+    pub fn hands_over(&self) -> bool
+        ensures { result ≡ (R.debt self.now.rows).hands_over }
+    {
+        self.rows.hands_over()
+    }
+
+    /// What the table owes.
+    pub fn owed(&self) -> Owed
+        ensures { is_owed result ≡ (R.debt self.now.rows).owes }
+    {
+        self.rows.owed()
+    }
+}
+
+impl<R: Rows + Drop> Machine<R> {
+    pub(crate) fn alloc(&self) -> Global {
+        self.alloc
+    }
+
+    /// The table.
+    pub fn rows(&self) -> &R
+        ensures rows { result.now ≡ self.now.rows }
+        ensures table { R.content result.now ≡ self.now.world.table }
+    {
+        self.rows.get_ref()
+    }
+
+    /// The table, as the last step left it.
+    pub(crate) fn into_rows(self) -> R
+        ensures { R.content result ≡ self.world.table }
+    {
+        self.rows.into_inner()
+    }
+
+    /// Nobody hosts the prefix of the administrative handles.
+    pub(crate) fn root_is_unhosted(&self)
+        ensures { HostsNoRoot self.now.world.site }
+    {
+        let _ = self.tenants.opening();
+        root_is_nobodys();
+    }
+
+    /// The service of this machine.
+    pub fn into_service(self) -> Service<R>
+        ensures { result ≡ self.world }
+    {
+        Service { machine: self }
+    }
+}
