@@ -1,6 +1,6 @@
 """The gate of a submission, from nothing: the definitions quoted in docs/, the map, what pages cite and what must be believed, ./test, memory refused in turn, random scripts,
-the examples, answers that are none, the proxy for browsers, imports, what README shows, a table in a file over kills, addresses, clients that hold a lane, come in a crowd, from many ports or are strangers, an operator's day, what is
-installed, and a dry run of each benchmark.
+the examples, answers that are none, the proxy for browsers, imports, what README shows, a table in a file over kills and changes that may shut it for nobody, addresses, clients that
+hold a lane, come in a crowd, from many ports or are strangers, an operator's day, what is installed, and a dry run of each benchmark.
 
 Before its last line it prints what each crate and each part took, in processor minutes, and names the crates that took more than docs/GATE.md
 allows them. Its last line is 'N passed, M failed', the sum of what the parts' last lines count; its status is 0 only where nothing failed."""
@@ -23,6 +23,7 @@ PARTS = (
     ["./test"],
     ["tools/refuse-memory"],
     ["tools/refuse-memory-file"],
+    ["tools/refuse-memory-served"],
     ["tools/fuzz.py", "300", "1"],
     [sys.executable, "tools/examples.py"],
     [sys.executable, "tools/asks.py"],
@@ -32,6 +33,7 @@ PARTS = (
     [sys.executable, "tools/routes.py"],
     [sys.executable, "tools/readme.py"],
     [sys.executable, "tools/lasting.py"],
+    [sys.executable, "tools/shuts.py"],
     [sys.executable, "tools/exports.py"],
     ["tools/refuse-disk"],
     ["tools/cut-power"],

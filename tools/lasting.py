@@ -1,8 +1,8 @@
 """lasting.py [ROUNDS [SEED]]: tries a table that lasts, over the proved program crates/handled/out/handled.
 
 It kills the server at random moments under writes of three clients, ROUNDS times (20), and starts it again over the same file: every change that was
-answered must be there, and of each that was in flight the whole or nothing. Then one case each: a text's handles are opened once; a file is its owner's
-alone; what a script prints over a file is what it prints in memory; and files that are no table, are another one's, have an unsound row or can't be
+answered must be there, and of each that was in flight the whole or nothing. Then one case each: a text's handles are opened once; a file and its log are their owner's
+alone; what is written is the file that was named, and no other; what a script prints over a file is what it prints in memory; and files that are no table, are another one's, have an unsound row or can't be
 opened are refused in words, with status 4, and left as they were. sqlite3's own checks look at the files, by Python's module over SQLite 3.37 or later. Its last line is 'N passed, M failed'."""
 
 import contextlib
@@ -10,6 +10,7 @@ import glob
 import hashlib
 import os
 import random
+import shutil
 import signal
 import sqlite3
 import stat
@@ -81,6 +82,13 @@ def served(file, **how):
         process.send_signal(signal.SIGKILL)
         process.wait()
         process.stdout.close()
+
+
+def copied(file, to):
+    """Copies a file and its log, as they lie."""
+    for end in ("", "-wal"):
+        if os.path.exists(file + end):
+            shutil.copyfile(file + end, to + end)
 
 
 def is_sound(file):
@@ -182,10 +190,28 @@ def opened_once(folder):
 
 
 def private(folder):
+    """The file and its log are their owner's alone, whatever the mask of the process lets others have."""
     file = os.path.join(folder, "private.db")
-    with served(file):
-        modes = {stat.S_IMODE(os.stat(name).st_mode) for name in glob.glob(file + "*")}
-    return [modes == {0o600}]
+    with served(file, preexec_fn=lambda: os.umask(0)) as port:
+        changed = Client(port).create(b"10/private", b"kept") == wire.SUCCESS
+        modes = {name: stat.S_IMODE(os.stat(name).st_mode) for name in glob.glob(file + "*")}
+    return [changed and modes == {file: 0o600, file + "-wal": 0o600}]
+
+
+def named(folder):
+    """What is written is the file that was named: a server over a copy of it alone finds the change, and neither its folder nor the server's has any other file."""
+    own, working, copies = (os.path.join(folder, name) for name in ("named", "working", "copies"))
+    for one in (own, working, copies):
+        os.mkdir(one)
+    file, copy = os.path.join(own, "acme's table"), os.path.join(copies, "copy.db")
+    with served(file, cwd=working) as port:
+        changed = Client(port).create(b"10/named", b"kept") == wire.SUCCESS
+        files = [sorted(os.listdir(one)) for one in (own, working)]
+    copied(file, copy)
+    shutil.rmtree(own)
+    with served(copy) as port:
+        found = Client(port).data_of(b"10/named")
+    return [changed and found == b"kept", files == [["acme's table", "acme's table-wal"], []]]
 
 
 def run(words, text):
@@ -268,7 +294,7 @@ def words():
 def main():
     rounds, seed = (int(word) for word in (sys.argv[1:] + [ROUNDS, SEED][len(sys.argv) - 1:])[:2])
     with tempfile.TemporaryDirectory() as folder:
-        cases = {case.__name__: case(folder) for case in (opened_once, private, scripts, faults)}
+        cases = {case.__name__: case(folder) for case in (opened_once, private, named, scripts, faults)}
         cases["kills"] = kills(folder, rounds, seed)
     cases["words"] = words()
     for name, found in cases.items():
