@@ -81,7 +81,12 @@ fn modify_third(rt: &impl Abort, alloc: Global, table: &mut Table) -> Result<(),
 }
 
 /// Asserts what the handles of the authority are, with a space behind each, and the values of `10.abc/x`.
-fn stand(rt: &impl Abort, alloc: Global, table: &mut Table, handles: &[u8]) -> Result<(), Fail> {
+fn stand<R: Rows>(
+    rt: &impl Abort,
+    alloc: Global,
+    table: &mut R,
+    handles: &[u8],
+) -> Result<(), Fail> {
     let mut all = vec![in alloc]?;
     for name in &table.names(b"10.abc")? {
         all.extend_from_slice(name.as_slice())?;
@@ -117,52 +122,84 @@ fn writes_last(rt: HostRuntime) -> Result<(), Fail> {
     stand(&rt, alloc, &mut table, b"10.abc/x ")
 }
 
+/// Asserts that the late handle has its value, and the others are as they were.
+fn stand_late<R: Rows>(rt: &impl Abort, alloc: Global, table: &mut R) -> Result<(), Fail> {
+    let late = Name::read(alloc, b"10.abc/late")?;
+    assert!(rt; are(&table.values(&late)?, &[(9, b"nine")]));
+    stand(rt, alloc, table, b"10.abc/late 10.abc/x ")
+}
+
 /// A handle that comes into the text later is opened then, and the others stay as they are.
 #[test]
 fn late_handle_is_opened(rt: HostRuntime) -> Result<(), Fail> {
     let alloc = rt.alloc();
-    let conn = make_writes(&rt, alloc)?;
     let name = Name::read(alloc, b"10.ABC/late")?;
-    let mut table = over(alloc, conn, name, value(alloc, 9, b"URL", b"nine")?)?;
-    let late = Name::read(alloc, b"10.abc/late")?;
-    assert!(&rt; are(&table.values(&late)?, &[(9, b"nine")]));
-    stand(&rt, alloc, &mut table, b"10.abc/late 10.abc/x ")
+    let first = value(alloc, 9, b"URL", b"nine")?;
+    let conn = make_writes(&rt, alloc)?;
+    let mut table = over(alloc, conn, name, first)?;
+    stand_late(&rt, alloc, &mut table)
 }
 
-/// A table of which memory refuses so many calls, from the first on.
-fn over_refusing(alloc: Global, conn: Connection<MemStore>, calls: u64) -> Result<Refusing, Fail> {
+/// A table of which memory refuses this call, counted from 1; none with 0.
+fn over_refusing(alloc: Global, conn: Connection<MemStore>, nth: u64) -> Result<Refusing, Fail> {
     if !conn.is_autocommit() {
         return Err(TableFault::Device.into());
     }
-    let rows = Fuse::new(PlainRows::new(alloc), 1, calls);
-    let spare = Fuse::new(PlainRows::new(alloc), 1, 0);
+    let rows = Fuse::new(PlainRows::new(alloc), nth, nth);
+    let spare = Fuse::new(PlainRows::new(alloc), 0, 0);
     Ok(table_over(alloc, conn, rows, spare, &[], Deaf)?)
 }
 
+/// Whether an absent handle is made.
+fn is_made<R: Rows>(rows: &mut R, name: &Name) -> Result<bool, Fail> {
+    if rows.exists(name)? {
+        return Ok(false);
+    }
+    Ok(rows.create(name, &[]).is_ok())
+}
+
 /// What memory refused and the file has is owed: the same write is made in memory when it comes again.
-#[test]
-fn owed_write_is_claimed(rt: HostRuntime) -> Result<(), Fail> {
-    let alloc = rt.alloc();
-    let mut table = over_refusing(alloc, Connection::open_in_memory(alloc)?, 1)?;
+fn claim_write<R: Owing>(rt: &impl Abort, alloc: Global, rows: &mut R) -> Result<(), Fail> {
     let name = Name::read(alloc, b"10.abc/x")?;
-    assert!(&rt; table.create(&name, &[]).is_err() && table.owed() == Owed::Ended);
-    assert!(&rt; !table.is_shut() && !table.exists(&name)?);
-    assert!(&rt; table.create(&name, &[]).is_ok() && table.owed() == Owed::Nothing);
-    assert!(&rt; table.exists(&name)?);
+    let first = is_made(rows, &name)?;
+    assert!(rt; !first && rows.owed() == Owed::Ended);
+    let second = is_made(rows, &name)?;
+    assert!(rt; second && rows.owed() == Owed::Nothing);
     Ok(())
 }
 
 /// Another write that comes in its turn undoes it in the file, and is made when it comes again.
+fn undo_write<R: Owing>(rt: &impl Abort, alloc: Global, rows: &mut R) -> Result<(), Fail> {
+    let name = Name::read(alloc, b"10.abc/x")?;
+    let other = Name::read(alloc, b"10.abc/y")?;
+    let first = is_made(rows, &name)?;
+    assert!(rt; !first && rows.owed() == Owed::Ended);
+    let second = is_made(rows, &other)?;
+    assert!(rt; !second && rows.owed() == Owed::Nothing);
+    let third = is_made(rows, &other)?;
+    assert!(rt; third);
+    Ok(())
+}
+
+/// Asserts that the other handle alone is there.
+fn stand_undone<R: Rows>(rt: &impl Abort, alloc: Global, rows: &mut R) -> Result<(), Fail> {
+    let names = rows.names(b"10.abc")?;
+    assert!(rt; names.len() == 1 && names[0].as_slice() == b"10.abc/y".as_slice());
+    Ok(())
+}
+
+#[test]
+fn owed_write_is_claimed(rt: HostRuntime) -> Result<(), Fail> {
+    let alloc = rt.alloc();
+    let mut table = over_refusing(alloc, Connection::open_in_memory(alloc)?, 2)?;
+    claim_write(&rt, alloc, &mut table)
+}
+
 #[test]
 fn unclaimed_write_is_undone(rt: HostRuntime) -> Result<(), Fail> {
     let alloc = rt.alloc();
-    let mut table = over_refusing(alloc, Connection::open_in_memory(alloc)?, 1)?;
-    let name = Name::read(alloc, b"10.abc/x")?;
-    let other = Name::read(alloc, b"10.abc/y")?;
-    assert!(&rt; table.create(&name, &[]).is_err() && table.owed() == Owed::Ended);
-    assert!(&rt; table.create(&other, &[]).is_err() && table.owed() == Owed::Nothing);
-    assert!(&rt; !table.is_shut() && table.create(&other, &[]).is_ok());
+    let mut table = over_refusing(alloc, Connection::open_in_memory(alloc)?, 2)?;
+    undo_write(&rt, alloc, &mut table)?;
     let mut again = over_refusing(alloc, table.into_connection(), 0)?;
-    assert!(&rt; again.exists(&other)? && !again.exists(&name)?);
-    Ok(())
+    stand_undone(&rt, alloc, &mut again)
 }
