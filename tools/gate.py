@@ -2,8 +2,8 @@
 the examples, answers that are none, the proxy for browsers, imports, what README shows, a table in a file over kills and changes that may shut it for nobody, addresses, clients that
 hold a lane, come in a crowd, from many ports or are strangers, an operator's day, what is installed, and a dry run of each benchmark.
 
-Before its last line it prints what each crate and each part took, in processor minutes, and names the crates that took more than docs/GATE.md
-allows them. Its last line is 'N passed, M failed', the sum of what the parts' last lines count; its status is 0 only where nothing failed."""
+Before its last line it prints what each crate and each part took, in processor minutes, and names the crates that took more than tools/limits.tsv
+allows them. With --write it writes what they took there, if all passed: for a run in which nothing was kept. Its last line is 'N passed, M failed', the sum of what the parts' last lines count; its status is 0 only where nothing failed."""
 
 import os
 import re
@@ -14,9 +14,11 @@ import time
 # nothing is left beside the tools
 sys.dont_write_bytecode = True
 import release
+import repository
 import spent
 
 ROOT = os.path.dirname(os.path.dirname(os.path.abspath(__file__)))
+LIMITS = os.path.join(ROOT, "tools/limits.tsv")
 PAGES = ("tools/quotes.py", "tools/map.py", "tools/cites.py", "tools/believed.py", "tools/heads.py")
 # All but the first run programs that ./test proved and built.
 PARTS = (
@@ -65,10 +67,19 @@ def counted(words):
 
 
 def limits():
-    """The processor minutes that docs/GATE.md allows each crate: the last column of its table of crates."""
-    with open(os.path.join(ROOT, "docs/GATE.md"), encoding="utf-8") as page:
-        rows = [re.fullmatch(r"\| (\w+) \|.*\| ([\d.]+) \|", line.strip()) for line in page]
-    return {row[1]: float(row[2]) for row in rows if row}
+    """The processor minutes that tools/limits.tsv allows each crate: its last column."""
+    with open(LIMITS, encoding="utf-8") as lines:
+        rows = [line.rstrip("\n").split("\t") for line in lines if not line.startswith("#")]
+    return {row[0]: float(row[-1]) for row in rows}
+
+
+def write_limits(by_place):
+    """Writes what each crate took by part in this run, and as its limit a fifth more."""
+    with open(LIMITS, "w", encoding="utf-8") as lines:
+        lines.write("# %s\n" % "\t".join(("crate", *spent.PARTS, "whole", "limit")))
+        for crate in repository.stands_on():
+            minutes = [by_place[crate, part] / 60 for part in spent.PARTS]
+            lines.write("\t".join([crate, *("%.1f" % it for it in (*minutes, sum(minutes), 1.2 * sum(minutes) + 0.1))]) + "\n")
 
 
 def told(by_place, by_part, minutes):
@@ -77,10 +88,13 @@ def told(by_place, by_part, minutes):
         print(line)
     for words, seconds in by_part:
         print("%-40s %8.1f" % (" ".join(words).replace(sys.executable, "python3"), seconds / 60))
-    for crate, limit in limits().items():
+    allowed = limits()
+    for crate in repository.stands_on():
         took = sum(seconds for (name, _), seconds in by_place.items() if name == crate) / 60
-        if took > limit:
-            print("note: %s took %.1f processor minutes, and docs/GATE.md allows it %.1f" % (crate, took, limit))
+        if crate not in allowed:
+            print("note: tools/limits.tsv has no limit for %s, which took %.1f processor minutes" % (crate, took))
+        elif took > allowed[crate]:
+            print("note: %s took %.1f processor minutes, and tools/limits.tsv allows it %.1f" % (crate, took, allowed[crate]))
     whole = sum(seconds for _, seconds in by_part) / 60
     print("the whole took %.1f processor minutes, and %.1f minutes on the clock of %d processors" % (whole, minutes, len(os.sched_getaffinity(0))))
 
@@ -98,6 +112,8 @@ def main():
     passed, failed = (sum(column) for column in zip(*counts))
     if not failed:
         release.note_passed()
+        if "--write" in sys.argv[1:]:
+            write_limits(by_place)
     print("%d passed, %d failed" % (passed, failed))
     return 1 if failed else 0
 

@@ -1,5 +1,6 @@
 mod Crashes
 mod Kept
+mod Prepared
 mod Sent
 mod Settled
 mod Undoing

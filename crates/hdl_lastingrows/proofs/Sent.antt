@@ -23,8 +23,8 @@ use Rattle.sqlite.below.sqlite_std_file.specs.contracts.host.Host as host
 use Rattle.sqlite.below.sqlite_std_file.specs.contracts.host.HostCalls.TheImpl as calls
 use Rattle.sqlite.below.sqlite_store.proofs.store.FileStore.TheSendSync as stores
 use Rattle.sqlite.below.sqlite_disk.proofs.modelled.Modelled.TheSendSync as disks
-use Rattle.hdl_filerows.specs.contracts.filerows.FileRows.{the_field}
-use Rattle.hdl_filerows.proofs.filerows.FileRows.TheSendSync as rows
+use Rattle.hdl_lastingrows.specs.contracts.filerows.FileRows.{the_field}
+use Rattle.hdl_lastingrows.proofs.filerows.FileRows.TheSendSync as rows
 use Rattle.hdl_lastingrows.specs.contracts.disk.DiskRows as kept
 use Rattle.hdl_lastingrows.specs.contracts.filing.WriteState as state
 use Rattle.hdl_lastingrows.specs.contracts.threaded.Returned as returned

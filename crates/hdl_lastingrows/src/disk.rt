@@ -7,9 +7,9 @@ ghost use Rattle.hdl_rows.specs.Write.{CanWrite};
 ghost use Rattle.hdl_lastingrows.specs.Lasting.{IsKept, IsTried, LeavesIn, StandsIn, left_by};
 ghost use Rattle.hdl_lastingrows.specs.Writes.{write_of};
 
+use crate::filerows::FileRows;
 use crate::filing::{Filing, WriteState};
 use crate::write::Write;
-use hdl_filerows::FileRows;
 use sqlite::{FileFrom, FileStore, Wary};
 
 /// The store of a file that a thread may have.

@@ -10,8 +10,8 @@ ghost use Rattle.hdl_sqlrows.specs.Filed.{WhereOpen, IsFiled, CrashLeaves, filed
 ghost use Rattle.hdl_lastingrows.specs.Lasting.{Standing, Keeps, Makes, IsKept, IsTried, StandsIn, left_by, MayMake};
 ghost use Rattle.hdl_lastingrows.specs.Writes.{write_of};
 
+use crate::filerows::FileRows;
 use crate::write::Write;
-use hdl_filerows::{FileRows, StoreFault};
 use sqlite::Alter;
 
 /// What is known of a write.

@@ -18,11 +18,11 @@ ghost use Rattle.hdl_lastingrows.specs.Writes.{write_of};
 
 use crate::alarm::Alarm;
 use crate::file_beside::FileBeside;
+use crate::filerows::FileRows;
 use crate::filing::Filing;
 use crate::pending::Pending;
 use crate::threaded::ThreadedFile;
 use crate::write::Write;
-use hdl_filerows::FileRows;
 use hdl_limits::Octets;
 use hdl_name::Name;
 use hdl_rows::{Owed, Owing, Refused, Rows};

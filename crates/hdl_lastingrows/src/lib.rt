@@ -1,6 +1,6 @@
 //! The value table that lasts: a table in memory, and beside it a database, as a SQLite file, that has the same rows.
 //!
-//! [`LastingRows`] has a table in memory, whatever keeps it, and a file ([`Filing`]): the rows of `hdl_filerows`, whose writes are made by their calls, or a
+//! [`LastingRows`] has a table in memory, whatever keeps it, and a file ([`Filing`]): a database's rows ([`FileRows`]), whose writes are made by their calls, or a
 //! [`ThreadedFile`], whose writes a thread makes. What is asked is answered from memory; each write is one transaction in the database, committed and synced,
 //! and then the same write in memory. Only then it is answered. So the contract is that of `hdl_rows::Rows`, word for word, whatever the disk does.
 //!
@@ -45,6 +45,7 @@ mod alarm;
 mod disk;
 mod fault;
 mod file_beside;
+mod filerows;
 mod filing;
 mod inverse;
 mod lastingrows;
@@ -56,6 +57,7 @@ mod write;
 pub use alarm::Alarm;
 pub use disk::{DiskRows, Store};
 pub use fault::TableFault;
+pub use filerows::FileRows;
 pub use filing::{Filing, WriteState};
 pub use inverse::{can_undo, own_indexes_stay, undone};
 pub use lastingrows::LastingRows;

@@ -10,9 +10,9 @@ ghost use Rattle.hdl_lastingrows.specs.Writes.{write_of, write_in};
 ghost use Rattle.hdl_lastingrows.specs.Beside.{StandsAt, IsHandedOver, IfHere, is_somewhere};
 
 use crate::disk::{DiskRows, Store};
+use crate::filerows::FileRows;
 use crate::filing::{Filing, WriteState};
 use crate::write::{OwnWrite, Write};
-use hdl_filerows::FileRows;
 use std::alloc::{AllocError, Global};
 use std::snapshot::Snapshot;
 use std::sync::Arc;

@@ -3,8 +3,7 @@
 use crate::assertion::same;
 use crate::rows::are;
 use crate::writes::{add, create, delete, modify, reference, remove};
-use hdl_filerows::FileRows;
-use hdl_lastingrows::{Alarm, LastingRows, TableFault, table_over};
+use hdl_lastingrows::{Alarm, FileRows, LastingRows, TableFault, table_over};
 use hdl_name::Name;
 use hdl_rows::{Fuse, Owed, Owing, PlainRows, Rows};
 use hdl_sqlrows::load::Progress;

@@ -6,8 +6,7 @@ ghost use Rattle.hdl_rows.specs.Table.{Table};
 ghost use Rattle.hdl_lastingrows.specs.Lasting.{Keeps, StandsIn};
 ghost use Rattle.hdl_scripts.specs.Later.{StandsLater};
 
-use hdl_filerows::FileRows;
-use hdl_lastingrows::{Filing, Write, WriteState};
+use hdl_lastingrows::{FileRows, Filing, Write, WriteState};
 use sqlite::Alter;
 use std::sync::Arc;
 use std::sync::atomic::AtomicBool;

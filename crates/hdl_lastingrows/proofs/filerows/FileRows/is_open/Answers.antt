@@ -1,8 +1,8 @@
 use Rattle.std.proofs.Common.{◌≡◌, false, subst}
 use Rattle.sqlite.specs.Held.{state}
 use Rattle.hdl_sqlrows.specs.Filed.{KeepsCommitted}
-use Rattle.hdl_filerows.proofs.Prepared.{still_settled, kept, was_shut, of_told}
-use Rattle.hdl_filerows.proofs.filerows.FileRows.is_open.Goals as goal
+use Rattle.hdl_lastingrows.proofs.Prepared.{still_settled, kept, was_shut, of_told}
+use Rattle.hdl_lastingrows.proofs.filerows.FileRows.is_open.Goals as goal
 
 pub invariant_of-self : goal.invariant_of-self
 invariant_of-self g c =

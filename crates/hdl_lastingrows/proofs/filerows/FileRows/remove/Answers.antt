@@ -1,7 +1,7 @@
 use Rattle.std.proofs.Common.{subst, OnErr}
 use Rattle.sqlite.specs.Held.{state}
 use Rattle.hdl_sqlrows.specs.Filed.{WhereOpen, CrashLeaves, filed_table}
-use Rattle.hdl_filerows.proofs.filerows.FileRows.remove.Goals as goal
+use Rattle.hdl_lastingrows.proofs.filerows.FileRows.remove.Goals as goal
 
 pub returns-clause-restored : goal.returns-clause-restored
 returns-clause-restored g c =

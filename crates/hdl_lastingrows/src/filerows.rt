@@ -1,4 +1,9 @@
-//! Rows in a database that lasts.
+//! Rows in a database that lasts, as in a SQLite file: a connection of `sqlite` over any of its stores, whose tables are those of `hdl_sqlrows`, whose functions
+//! make the writes. Nothing is read here.
+//!
+//! Each write is one transaction: what was answered is committed, and stays after a crash; what was refused is taken back; and a crash within the call leaves
+//! the rows with the whole write or without it. Each clause on rows is under two premises: the disk has returned what was written and nobody else wrote the
+//! files (`HasCleanDisk` of `sqlite`), and the store is open. What a crash may leave is what the store says (`may_leave`), whose argument is the kit's.
 
 ghost use Rattle.std.specs.Prelude.{◌≡◌, true, false, IsTrue, IsOk, Err, IfOk, OnOk, OnErr};
 ghost use Rattle.sqlite.specs.State.{HasCleanDisk, Survives};
