@@ -2,7 +2,7 @@
 """Sees that what the pages and comments cite is there, and that docs/PROTOCOL.md has the numbers of the limits.
 
 - `FUNCTION` (`CLAUSE`, ..) of README.md and docs/: some function of that name has each clause, or a record of specs/ has a field of that name.
-- must-fail `NAME`, ..: there is an edit of that name; and each edit is named in docs/WRONG.md.
+- must-fail `NAME`, .. and wrong `NAME`, ..: a crate has an edit of that name in that folder; and docs/WRONG.md names each edit so.
 - [PAGE.md](PAGE.md) of a page: there is such a file.
 - docs/PAGE.md, "SECTION" of crates/ and docs/: the page has a heading that begins so.
 - tools/NAME, bench/NAME and examples/NAME, wherever they are named: there is such a file (words in capitals stand for any). A file of tools/ or
@@ -75,16 +75,16 @@ def missing_clauses():
 
 
 def missing_edits():
-    edits = {os.path.basename(path)[: -len(".edit")] for path in files("crates/*/must-fail/*.edit")}
-    named = set()
-    for path, number, line in pages():
-        for cited in re.findall(r"must-fail " + LIST, line):
-            for edit in re.findall(r"`(\w+)`", cited):
-                named |= {edit} if path == "docs/WRONG.md" else set()
-                if edit not in edits:
-                    yield "%s:%d: there is no edit %s" % (path, number, edit)
-    for edit in sorted(edits - named):
-        yield "docs/WRONG.md doesn't name the edit %s" % edit
+    for folder in ("must-fail", "wrong"):
+        edits, named = {os.path.basename(path)[: -len(".edit")] for path in files("crates/*/%s/*.edit" % folder)}, set()
+        for path, number, line in pages():
+            for cited in re.findall(r"(?<!\ba )" + folder + " " + LIST, line):
+                for edit in re.findall(r"`(\w+)`", cited):
+                    named |= {edit} if path == "docs/WRONG.md" else set()
+                    if edit not in edits:
+                        yield "%s:%d: there is no edit %s in crates/*/%s/" % (path, number, edit, folder)
+        for edit in sorted(edits - named):
+            yield "docs/WRONG.md doesn't name the edit %s of crates/*/%s/" % (edit, folder)
 
 
 def missing_places():

@@ -1,0 +1,268 @@
+#!/usr/bin/env python3
+"""wrong.py [--all] [--jobs N] [CRATE..]: tries the wrong bodies of crates/CRATE/wrong/, and with --all those of must-fail/ too, of these crates or of all: the check must refuse each.
+
+The edits of a crate are tried together: one text has as many of them as change functions of their own, it is checked once, and each of these functions must be refused by a goal of its own. A caller
+rests on a function's contract and not on its body, so a wrong body beside another changes nothing of its verdict. What isn't told so is tried alone, as are edits of constants and definitions. A
+crate that isn't proved is proved first, and each check begins with what that kept. --jobs N tries N crates at a time, with one check of one job each.
+
+An edit that can't be applied, doesn't compile, or is refused only since a proof names what it took away has failed. The last line is 'N passed, M failed'."""
+
+import argparse
+import collections
+import concurrent.futures
+import functools
+import glob
+import os
+import re
+import shutil
+import subprocess
+import sys
+import tempfile
+
+# nothing is left beside the tools
+sys.dont_write_bytecode = True
+import lanes
+import repository
+
+PARTS = ("src", "specs", "proofs")
+REFUSED = "refused"
+# A goal that isn't proved, or an answer that doesn't prove one, and the place.
+TOLD = re.compile(r"(?:note: )?(?:\./)?(\S+?):(\d+):\d+: .*")
+# What says only that a proof names something that isn't there.
+NAMES = re.compile(r"has no field|is not in scope|has no `|was not admitted")
+# What says that a text can't be read, so that nothing of it was tried.
+UNREAD = re.compile(r"is not in scope|has no field|is no name|operand is missing|expected the end|cannot continue")
+
+# A function of a source: its file, the type or impl that it belongs to or "", its name, and its lines.
+Function = collections.namedtuple("Function", "file owner name first last")
+# What a check said: its lines, its status, and the processor seconds that it took.
+Said = collections.namedtuple("Said", "lines status seconds")
+# What trying a crate's edits gave: each edit with its verdict, the checks, and the processor seconds.
+Tried = collections.namedtuple("Tried", "verdicts checks seconds")
+
+
+class Unfit(Exception):
+    """Why an edit can't be applied."""
+
+
+class Edit:
+    """An .edit file: in its order each file that it changes, with a text and the one that goes for it."""
+
+    def __init__(self, path):
+        self.path, self.changes, file, old = path, [], "", ""
+        with open(path, encoding="utf-8") as lines:
+            for line in lines.read().splitlines():
+                word, _, text = line.partition(":")
+                text = text[1:] if text.startswith(" ") else text
+                if word == "file":
+                    file = text
+                elif word == "old":
+                    old = text
+                elif word == "new":
+                    self.changes.append((file, old, text))
+
+    def applied(self, texts):
+        """The crate's texts by file, as they are with the edit."""
+        texts = dict(texts)
+        if not self.changes:
+            raise Unfit("it has no lines 'file: ', 'old: ' and 'new: '; docs/WRONG.md says how an edit is written")
+        for file, old, new in self.changes:
+            if file not in texts:
+                raise Unfit("the crate has no file '%s'; name one below src/, specs/ or proofs/" % file)
+            if not old or texts[file].count(old) != 1:
+                raise Unfit("its old text stands %d times in %s; write it so that it stands there once" % (texts[file].count(old), file))
+            texts[file] = texts[file].replace(old, new)
+        return texts
+
+    def functions(self, texts):
+        """The functions whose bodies it changes, or None if it changes something else too. A change is within a line, so these are their lines behind it too."""
+        found = {function_at(file, texts[file], texts[file].index(old)) for file, old, _ in self.changes if file.startswith("src/") and old in texts[file]}
+        is_body = all(file.startswith("src/") and not re.search(r"\b(?:ensures|requires|fn|use) ", old + new) for file, old, new in self.changes)
+        return found if found and is_body and None not in found else None
+
+
+def owner_at(lines, first):
+    """The impl in which a function begins, as the check names it: its type, and the trait behind it. "" for a function that stands in none."""
+    for line in reversed(lines[:first]):
+        if line.startswith("impl"):
+            head = re.sub(r"<[^<>]*>", "", re.sub(r"<[^<>]*>", "", re.sub(r"->", "", line)))
+            found = re.match(r"impl (?:([\w:]+) for )?&?(?:\w+::)*(\w+)", head)
+            return found[2] + (found[1] or "").rpartition(":")[2] if found else ""
+        if line.startswith("}"):
+            return ""
+    return ""
+
+
+def function_at(file, text, place):
+    """The function of a source in which a place stands, or None."""
+    lines, at = text.split("\n"), text[:place].count("\n")
+    for first in range(at, -1, -1):
+        head = re.match(r"( *)(?:pub(?:\(\w+\))? )?(?:const )?fn (\w+)", lines[first])
+        if head:
+            ends = (line for line in range(first, len(lines)) if lines[line].startswith(head[1] + "}") or line == first and lines[line].endswith("}"))
+            last = next(ends, len(lines))
+            return Function(file, owner_at(lines, first) if head[1] else "", head[2], first + 1, last + 1) if at <= last else None
+    return None
+
+
+def in_rounds(edits, texts):
+    """The edits in rounds, each with the functions that it changes: no function is changed twice in one, and what changes something else than bodies is a round by itself."""
+    rounds, alone = [], []
+    for edit in edits:
+        functions = edit.functions(texts)
+        if functions is None:
+            alone.append([(edit, set())])
+            continue
+        free = next((one for one in rounds if not any(functions & others for _, others in one)), None)
+        if free is None:
+            rounds.append(free := [])
+        free.append((edit, functions))
+    return rounds + alone
+
+
+@functools.lru_cache(maxsize=None)
+def kit():
+    return lanes.kit()
+
+
+def texts_of(crate):
+    """All that the crate's check reads of it, by file."""
+    files = [path for part in PARTS for path in glob.glob(f"{crate.folder}/{part}/**/*", recursive=True) if os.path.isfile(path)]
+    return {os.path.relpath(path, crate.folder): open(path, encoding="utf-8").read() for path in files}
+
+
+def checked(crate, texts):
+    """What a check says of the crate with these texts, over a copy of what was kept of it. A check replaces files of proofs and changes none, so these are not copied but named twice."""
+    with tempfile.TemporaryDirectory(prefix="wrong-") as room:
+        for file, text in texts.items():
+            os.makedirs(os.path.dirname(f"{room}/{file}"), exist_ok=True)
+            with open(f"{room}/{file}", "w", encoding="utf-8") as written:
+                written.write(text)
+        words = [*kit().guarded(), kit().RATTLE, "check", *crate.words(["--jobs", "1"], keeps=False)]
+        kept = f"{crate.folder}/out/incremental"
+        if os.path.isdir(kept):
+            shutil.copytree(kept, f"{room}/kept", copy_function=lambda one, other: (os.link if one.endswith(".oantt") else shutil.copy2)(one, other))
+            words += ["--incremental", f"{room}/kept"]
+        how = {"stdin": subprocess.DEVNULL, "stdout": subprocess.PIPE, "stderr": subprocess.STDOUT, "text": True, "errors": "replace"}
+        with subprocess.Popen(words, cwd=room, **how) as ran:
+            lines = ran.stdout.read().rstrip("\n").split("\n")
+            _, status, used = os.wait4(ran.pid, 0)
+            ran.returncode = os.WEXITSTATUS(status) if os.WIFEXITED(status) else -os.WTERMSIG(status)
+        return Said(lines, ran.returncode, used.ru_utime + used.ru_stime)
+
+
+def is_refusal(said):
+    return said.status == 1 and said.lines[-1].startswith("logic=not-proved")
+
+
+def faults(said):
+    """Each place where a goal isn't proved, by file and line, but where a proof only names what isn't there."""
+    for line in said.lines:
+        found = TOLD.fullmatch(line)
+        if found and (line.startswith("note: ") or ": error" in line) and not (found[1].startswith("proofs/") and NAMES.search(line)):
+            yield found[1], int(found[2])
+
+
+def is_told(crate, function, said):
+    """Whether a check says of this very function that it isn't proved, and of which goal of its own."""
+    module = re.sub(r"^(?:src/)(?:lib|main)?|\.rt$", "", function.file)
+    path = "::".join([crate.name, *filter(None, module.split("/"))])
+    own = re.compile(r"fn %s::(?:%s\w*::)?(?:fn::)?%s(?:::\S+)?: (?:not proved|no proof: .*did not prove .*)" % (path, function.owner or "-", function.name))
+    proofs = re.compile(r"proofs/%s/?(?:%s\w*/)?%s/.*" % (module, function.owner or "-", function.name))
+    places = [file == function.file and function.first <= line <= function.last or proofs.fullmatch(file) for file, line in faults(said)]
+    return any(places) and any(own.fullmatch(line) for line in said.lines)
+
+
+def verdict(said, changed):
+    """What a check's words come to for an edit that was tried alone: REFUSED, or what is wrong, and what to do."""
+    unread = next((line for line in said.lines if (at := re.match(r"(?:\./)?(\S+?):\d+:\d+: error: (?:`[^`]*`: )?(.*)", line)) and at[1] in changed and UNREAD.search(re.sub(r"`[^`]*`", "", at[2]))), "")
+    compiler = next((line for line in said.lines if re.search(r"\berror\[[\w-]+\]", line)), "")
+    told = [line for line in said.lines if TOLD.fullmatch(line)]
+    if said.status == 0:
+        return "NOT REFUSED: the crate is proved with it. Strengthen the clause, or say in docs/WRONG.md why it is let through"
+    if said.status == 1 and (unread or compiler):
+        return "NOT TRIED: its text can't be read or doesn't compile, so write it anew: %s" % (unread or compiler)[:200]
+    if is_refusal(said) and told and not list(faults(said)):
+        return "REFUSED BY A NAME ALONE, which says nothing of the contract. Turn a value, and keep the names that a proof has: %s" % told[0][:200]
+    if is_refusal(said):
+        return REFUSED
+    return "NO VERDICT: the check ended with status %d. Try it again, or choose a change that is refused sooner: %s" % (said.status, said.lines[-1][:200])
+
+
+def tried(crate, edits):
+    """Tries the edits of a crate, all together as far as that tells each."""
+    texts, verdicts, seen = texts_of(crate), {}, []
+
+    def check(changed):
+        seen.append(checked(crate, changed))
+        return seen[-1]
+
+    for edit in edits:
+        try:
+            edit.applied(texts)
+        except Unfit as why:
+            verdicts[edit] = "NOT TRIED: %s" % why
+    for together in in_rounds([edit for edit in edits if edit not in verdicts], texts):
+        left = [edit for edit, _ in together]
+        if len(together) > 1:
+            try:
+                said = check(functools.reduce(lambda made, edit: edit.applied(made), left, texts))
+                left = [edit for edit, functions in together if not is_refusal(said) or not all(is_told(crate, one, said) for one in functions)]
+            except Unfit:
+                # one edit's text has what another one replaces
+                pass
+        verdicts.update({edit: REFUSED for edit, _ in together if edit not in left})
+        verdicts.update({edit: verdict(check(edit.applied(texts)), {file for file, _, _ in edit.changes}) for edit in left})
+    return Tried(verdicts, len(seen), sum(said.seconds for said in seen))
+
+
+def prove(names, jobs):
+    """Proves what of these crates isn't, with all below them, and prints what was said if that fails. Answers 0, or the status that isn't."""
+    said = []
+    needed = repository.below(*names)
+    status = lanes.in_lanes(repository.ROOT, needed, dict.fromkeys(needed, 1), jobs, lambda crate, line: said.append("%s: %s" % (crate, line)))
+    if status:
+        print("\n".join(line for line in said if not line.endswith(": proved")))
+    return status
+
+
+def words_of(given):
+    words = argparse.ArgumentParser(prog="tools/wrong.py", description=__doc__.split("\n\n", maxsplit=1)[0])
+    words.add_argument("--all", action="store_true", help="those of must-fail/ too")
+    words.add_argument("--jobs", type=int, default=1, metavar="N", help="so many crates at a time")
+    words.add_argument("crates", nargs="*", metavar="CRATE")
+    found = words.parse_args(given)
+    unknown = [name for name in found.crates if name not in repository.stands_on()]
+    if unknown:
+        words.error("crates.txt lists no crate '%s'" % unknown[0])
+    return found
+
+
+def main():
+    os.chdir(repository.ROOT)
+    words = words_of(sys.argv[1:])
+    folders = ("must-fail", "wrong") if words.all else ("wrong",)
+    edits = {name: [Edit(path) for folder in folders for path in sorted(glob.glob(f"crates/{name}/{folder}/*.edit"))] for name in words.crates or repository.stands_on()}
+    edits = {name: found for name, found in edits.items() if found}
+    if not lanes.knows_kit():
+        sys.exit("wrong.py: it calls inner parts of the kit, and KITS of tools/lanes.py doesn't list this one: see that both still hold with it, and list it there")
+    if prove(list(edits), words.jobs):
+        sys.exit("wrong.py: a crate isn't proved as it stands, so nothing was tried: mend what the lines above say first")
+    crates = {crate.name: crate for crate in kit().crates_below(repository.ROOT)}
+    # the largest first, so that none of them is left for the end
+    order = sorted(edits, key=lambda name: -crates[name].count(rb"\n"))
+    passed = failed = 0
+    with concurrent.futures.ThreadPoolExecutor(max(1, words.jobs)) as pool:
+        running = {pool.submit(tried, crates[name], edits[name]): name for name in order}
+        for ended in concurrent.futures.as_completed(running):
+            verdicts, checks, seconds = ended.result()
+            for edit, what in verdicts.items():
+                passed, failed = passed + (what == REFUSED), failed + (what != REFUSED)
+                print("%s: %s" % (edit.path, what))
+            print("%s: %d wrong bodies tried by %d checks in %.0f processor seconds" % (running[ended], len(verdicts), checks, seconds), flush=True)
+    print("%d passed, %d failed" % (passed, failed))
+    return 1 if failed else 0
+
+
+if __name__ == "__main__":
+    sys.exit(main())
