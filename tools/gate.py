@@ -2,9 +2,10 @@
 the examples, answers that are none, the proxy for browsers, imports, what README shows, a table in a file over kills and changes that may shut it for nobody, addresses, clients that
 hold a lane, come in a crowd, from many ports or are strangers, an operator's day, what is installed, and a dry run of each benchmark.
 
-Before its last line it prints what each crate and each part took, in processor minutes, and names the crates that took more than tools/limits.tsv
-allows them. With --write it writes what they took there, if all passed: for a run in which nothing was kept. Its last line is 'N passed, M failed', the sum of what the parts' last lines count; its status is 0 only where nothing failed."""
+Before its last line it prints what each crate and each part took, in processor minutes, names the crates that took more than tools/limits.tsv
+allows them, and says how many wrong bodies it didn't try. With --write it writes what they took there, if all passed: for a run in which nothing was kept. Its last line is 'N passed, M failed', the sum of what the parts' last lines count; its status is 0 only where nothing failed."""
 
+import glob
 import os
 import re
 import subprocess
@@ -109,6 +110,8 @@ def main():
         by_place = by_place or part.by_place
         by_part.append((words, part.seconds))
     told(by_place, by_part, (time.monotonic() - began) / 60)
+    left = len(glob.glob(os.path.join(ROOT, "crates/*/wrong/*.edit")))
+    print("the %d wrong bodies of crates/*/wrong/ weren't tried by this run: tools/wrong.py tries them, and ./check those of crates that changed" % left)
     passed, failed = (sum(column) for column in zip(*counts))
     if not failed:
         release.note_passed()

@@ -3,8 +3,8 @@
     tools/release.py [FOLDER]     writes into FOLDER, by default out/, an archive and a Debian package of the commit that is checked out, and their sums
     tools/release.py --try        does the same into a folder of its own, and tries what came of it; its last line is 'N passed, M failed'
 
-Both hold the programs that the gate proved and built, the pages, the examples and a service file. Without --try it asks for a tree whose gate passed: tools/gate.py notes which in
-the repository's own folder. The same tree gives the same octets: each moment in them is that of the commit."""
+Both hold the programs that the gate proved and built, the pages, the examples and a service file. Without --try it asks for a tree whose gate passed, and then has tools/wrong.py try
+all wrong bodies, those too that the gate leaves out; the repository's own folder notes for which tree each passed. The same tree gives the same octets: each moment in them is that of the commit."""
 
 import gzip
 import hashlib
@@ -26,6 +26,8 @@ PRODUCT = "buckramjade"
 PROGRAMS = {"handled": "bin/handled", "hdl": "lib/buckramjade/hdl", "hdl_web": "lib/buckramjade/hdl_web"}
 SERVICE = "packaging/handled.service"
 SHOWN = (SERVICE, "packaging/haproxy.cfg", "packaging/nginx.conf")
+# What passes for a tree, by the file that notes it.
+GATE, WRONG_BODIES = "gate-passed", "wrong-bodies-refused"
 TENANTS = """# Replace this by the text of your publishers: see OPERATING.md beside this package, and `hdl init`.
 """
 CONTROL = """Package: {product}
@@ -50,28 +52,39 @@ def tree():
     return None if git("status", "--porcelain") else git("rev-parse", "HEAD^{tree}")
 
 
-def mark():
-    """Where it is noted for which tree the gate passed."""
-    return os.path.join(git("rev-parse", "--absolute-git-dir"), "gate-passed")
+def mark(what):
+    """Where it is noted for which tree this passed."""
+    return os.path.join(git("rev-parse", "--absolute-git-dir"), what)
 
 
-def note_passed():
-    """Notes that the gate passed for what is checked out, if that is a commit's tree."""
+def note_passed(what=GATE):
+    """Notes that the gate, or something else, passed for what is checked out, if that is a commit's tree."""
     try:
         passed = tree()
         if passed:
-            with open(mark(), "w", encoding="utf-8") as file:
+            with open(mark(what), "w", encoding="utf-8") as file:
                 file.write(passed + "\n")
     except (OSError, subprocess.CalledProcessError):
         pass
 
 
-def has_passed():
+def has_passed(what=GATE):
     try:
-        with open(mark(), encoding="utf-8") as file:
+        with open(mark(what), encoding="utf-8") as file:
             return file.read().strip() == tree()
     except OSError:
         return False
+
+
+def are_refused():
+    """Whether all wrong bodies are refused, as was noted for this tree or is tried now."""
+    if has_passed(WRONG_BODIES):
+        return True
+    words = [sys.executable, "tools/wrong.py", "--all", "--jobs", str(len(os.sched_getaffinity(0)))]
+    if subprocess.run(words, cwd=repository.ROOT, check=False).returncode:
+        return False
+    note_passed(WRONG_BODIES)
+    return True
 
 
 def version():
@@ -218,6 +231,8 @@ def main(words):
         sys.exit(__doc__)
     if not has_passed():
         sys.exit("release: the gate hasn't passed for what is checked out here, or a file differs from it: commit, and run .ci/run first")
+    if not are_refused():
+        sys.exit("release: tools/wrong.py failed, as its lines above say: mend that, commit, and run .ci/run again")
     to = words[0] if words else repository.path("out")
     for name in release(to):
         print(os.path.join(to, name))
