@@ -1,8 +1,8 @@
 """Proves and builds the libraries below a program side by side, over the kit's own library of `rt`.
 
 `rt run` alone proves a crate at a time, and `rt lib` in several folders at once waits for locks; so this takes the locks once and builds each
-crate by `rt`'s own `build_rlib`, which keeps its work in out/ as `rt lib` does. The crate with the longest chain of crates behind it gets as many
-jobs as there are processors; the others get two and give way to it.
+crate by `rt`'s own `build_rlib`, which keeps its work in out/ as `rt lib` does. Each crate has one job, as several cost more than they save; one beside which
+nothing runs and nothing else can begin has as many as there are processors and memory.
 
 `lanes.py PROGRAM` has LLVM compile a program that is proved, and puts it in the place of the one that Rattle's own compiler made.
 
@@ -99,15 +99,14 @@ class Lanes:
 
     def start_ready(self):
         """Starts each crate below which all stands, as far as processors and memory go."""
-        for crate in list(self.left):
-            if any(below in self.left or below in self.running for below in crate.below()):
-                continue
-            is_first = all(self.behind[crate.name] >= self.behind[it.name] for it in [*self.left, *self.running])
-            jobs = self.processors if is_first else min(2, self.processors)
-            needs = LEAST + PER_LINE * crate.count(rb"\n") + PER_JOB * (jobs - 1)
-            if len(self.running) < self.processors and (not self.running or needs <= self.memory - sum(self.running.values())):
+        ready = [crate for crate in self.left if not any(below in self.left or below in self.running for below in crate.below())]
+        is_alone = not self.running and len(ready) == 1
+        for crate in ready:
+            least, free = LEAST + PER_LINE * crate.count(rb"\n"), self.memory - sum(self.running.values())
+            jobs = max(1, min(self.processors, 1 + int((free - least) // PER_JOB))) if is_alone else 1
+            if len(self.running) < self.processors and (not self.running or least <= free):
                 self.left.remove(crate)
-                self.running[crate] = needs
+                self.running[crate] = least + PER_JOB * (jobs - 1)
                 # a daemon, so that Ctrl-C waits for none of them: `rt` sees to it that what they started ends too
                 threading.Thread(target=self.build, args=(crate, jobs), daemon=True).start()
 
