@@ -1,5 +1,6 @@
 """build.py PROGRAM: builds this proved program for ./handled, ./run or ./hdl, and says how far it is: which crate, how much of it, and about how many
-minutes are left.
+minutes are left (`estimates.py`).
+build.py PROGRAM --unbuilt: says that it isn't built yet, and how long that takes, behind a stored text of ./hdl --help.
 
 The libraries below it are proved side by side (`lanes.py`, where it knows the kit), and then `rt run` proves and builds the program itself, and what
 isn't proved yet. Each proof is kept as it is made, so a break (Ctrl-C) loses little and the next start goes on from there."""
@@ -15,23 +16,17 @@ import time
 
 # nothing is left beside the tools
 sys.dont_write_bytecode = True
+import estimates
 import lanes
 import repository
+import spent
 
 PROGRAM = sys.argv[1]
 # What runs it.
-SCRIPT = {"handled": "run", "hdl_web": "hdl proxy"}.get(PROGRAM, PROGRAM)
+SCRIPT = {"hdl_web": "hdl proxy"}.get(PROGRAM, PROGRAM)
 LOG = f"crates/{PROGRAM}/out/build.log"
 # Which process has LLVM compile the program behind a start.
 BEHIND = f"crates/{PROGRAM}/out/behind.pid"
-# Processor seconds to load a crate's libraries: of any crate, and of one over a large library of the kit.
-LOAD, LARGE_LOAD = 15, 60
-LARGE = {"clap", "sqlite"}
-# Processor seconds to prove a line of code.
-PER_LINE = 0.22
-# How many processors such a build keeps busy (from four on by simulation, docs/GATE.md).
-BUSY = {1: 1.0, 2: 1.7, 3: 2.2}
-MOST_BUSY = 2.5
 EVERY = 20
 
 
@@ -61,62 +56,26 @@ def is_built(crate, graph):
     return os.path.isfile(stamp) and os.path.getmtime(stamp) >= max(written(one) for one in below(crate, graph))
 
 
-def source(crate):
-    """The crate's code without its tests, which no build reads."""
-    texts = {file: open(file, encoding="utf-8").read() for file in glob.glob(f"crates/{crate}/src/**/*.rt", recursive=True)}
-    tests = re.findall(r"#\[cfg\(test\)\]\s*mod (\w+);", "\n".join(texts.values()))
-    return "\n".join(text for file, text in texts.items() if os.path.basename(file)[: -len(".rt")] not in tests)
-
-
-def weight(crate, graph):
-    load = LARGE_LOAD if LARGE & set(graph[crate]) else LOAD
-    return load + PER_LINE * source(crate).count("\n")
-
-
-def part_kept(crate):
-    """About how much of the crate's functions has a proof that was kept."""
-    proofs = len(glob.glob(f"crates/{crate}/out/incremental/antt*/Rattle-*.Proof.oantt"))
-    functions = max(1, len(re.findall(r"\bfn \w", source(crate))) + source(crate).count("#[derive("))
-    return min(0.95, proofs / functions)
-
-
 class Progress:
-    def __init__(self, crates, graph):
-        self.weights = {crate: weight(crate, graph) for crate in crates}
+    """Which crates are left, and how much of each is done by the processor time that its build took."""
+
+    def __init__(self, crates, graph, taken):
         self.left, self.started = list(crates), time.time()
-        # How much of each crate the checker said is done.
-        self.said = {}
-        self.before = self.done()
+        self.estimate = estimates.Left(crates, graph, processors(), lambda crate: sum(taken.by_place[crate, part] for part in spent.PARTS))
         self.ended = threading.Event()
 
-    def part(self, crate):
-        return max(part_kept(crate), self.said.get(crate, 0.0)) if crate in self.left else 1.0
-
-    def done(self):
-        return sum(cost * self.part(crate) for crate, cost in self.weights.items())
-
-    def minutes_left(self):
-        past, done = time.time() - self.started, self.done() - self.before
-        rest = sum(self.weights.values()) - self.done()
-        guess = BUSY.get(processors(), MOST_BUSY)
-        # the first guess counts as two minutes of experience
-        speed = (done + 120 * guess) / (past + 120)
-        return max(1, round(rest / speed / 60))
-
     def say(self):
-        began = [crate for crate in self.left if self.part(crate) > 0]
-        parts = ", ".join(f"{crate} {self.part(crate):.0%}" for crate in began[:3]) or "reading the libraries"
-        whole = len(self.weights)
-        past = round((time.time() - self.started) / 60)
-        tell(f"{whole - len(self.left)} of {whole} crates proved; {parts}; after {minutes(past)}, about {minutes(self.minutes_left())} left")
+        parts = [(crate, self.estimate.part(crate)) for crate in self.left]
+        began = ", ".join(f"{crate} {part:.0%}" for crate, part in parts if part > 0.005) or "reading the libraries"
+        whole, past = len(self.estimate.whole), time.time() - self.started
+        left = minutes(self.estimate.minutes(past))
+        tell(f"{whole - len(self.left)} of {whole} crates proved; {began}; after {minutes(round(past / 60))}, about {left} left")
 
-    def heard(self, crate, line):
+    def heard(self, line):
         ended = re.match(r"crate (\w+): modules loaded=", line)
-        so_far = re.match(r"so far: (\d+) of (\d+) functions checked", line)
         if ended and ended[1] in self.left:
             self.left.remove(ended[1])
-        elif so_far and crate:
-            self.said[crate] = 0.95 * int(so_far[1]) / max(1, int(so_far[2]))
+            self.estimate.end(ended[1])
 
     def tick(self):
         while not self.ended.wait(EVERY):
@@ -135,14 +94,11 @@ def ran(words, folder, log, progress):
     """Runs a command that takes no input, keeps what it says in the log, and answers its status."""
     how = {"stdin": subprocess.DEVNULL, "stdout": subprocess.PIPE, "stderr": subprocess.STDOUT}
     child = subprocess.Popen(words, cwd=folder, text=True, errors="replace", **how)
-    crate = PROGRAM
     try:
         for line in child.stdout:
             log.write(line)
             log.flush()
-            began = re.match(r"rt: chose --jobs \d+ for (\w+)", line)
-            crate = began[1] if began else crate
-            progress.heard(crate, line)
+            progress.heard(line)
         return child.wait()
     except KeyboardInterrupt:
         child.send_signal(signal.SIGINT)
@@ -156,9 +112,9 @@ def side_by_side(crates, log, progress):
     def hear(crate, line):
         log.write(f"{crate}: {line}\n")
         log.flush()
-        progress.heard(crate, line)
+        progress.heard(line)
 
-    return lanes.in_lanes(os.getcwd(), crates, progress.weights, processors(), hear)
+    return lanes.in_lanes(os.getcwd(), crates, progress.estimate.whole, processors(), hear)
 
 
 def compile_behind():
@@ -181,26 +137,57 @@ def stop_behind():
         pass
 
 
-def main():
-    stop_behind()
-    graph = repository.stands_on()
+def crates_left(graph):
+    """All crates of the program, and those that aren't built, lowest first."""
     wanted = below(PROGRAM, graph)
-    left = [crate for crate in graph if crate in wanted and not is_built(crate, graph)]
-    progress = Progress(left, graph)
-    if 0 < len(left) < len(wanted):
-        tell(f"of {len(wanted)} crates {len(left)} changed, stand on one that did, or aren't built; what didn't change in them isn't proved again")
-    elif left:
-        tell(f"the first build proves {len(left)} crates, in about {minutes(progress.minutes_left())} on {processors()} processors that nothing else uses")
-        tell(f"Ctrl-C loses little: the next ./{SCRIPT} goes on from there. ./try runs a script in about a minute, without proofs.")
-    threading.Thread(target=progress.tick, daemon=True).start()
+    return wanted, [crate for crate in graph if crate in wanted and not is_built(crate, graph)]
+
+
+def say_unbuilt(graph):
+    left = estimates.Left(crates_left(graph)[1], graph, processors())
+    tell(f"not built yet, so this is a stored text; the first ./{SCRIPT} that does something proves and builds it, in about {minutes(left.minutes(0))} on {processors()} processors that nothing else uses")
+
+
+def say_first(wanted, left, estimate):
+    """Says what is done, how long it takes and what it needs, and answers whether it can work."""
+    if not left:
+        return True
+    time_said = f"in about {minutes(estimate.minutes(0))} on {processors()} processors that nothing else uses"
+    if len(left) < len(wanted):
+        tell(f"of {len(wanted)} crates {len(left)} changed, stand on one that did, or aren't built; what didn't change in them isn't proved again. It is done {time_said}")
+    else:
+        tell(f"the first build proves {len(left)} crates, {time_said}")
+        tell(f"Ctrl-C loses little: the next ./{SCRIPT} goes on from there. Without proofs ./try runs a script, and ./try serve a server, in about a minute.")
+    lines, can_work = estimates.room_here(sum(estimate.whole.values()))
+    for line in lines if len(left) == len(wanted) or len(lines) > 1 else []:
+        tell(line)
+    return can_work
+
+
+def build(left, progress):
+    """Builds what is left, and answers the first status that isn't 0."""
+    with open(LOG, "w", encoding="utf-8") as log:
+        libraries = [crate for crate in left if crate != PROGRAM]
+        status = side_by_side(libraries, log, progress) if libraries and lanes.knows_kit() else 0
+        words = ["rt", "run", "--jobs", "1", "--backend", "rattle", "--", "--help"]
+        return status or ran(words, f"crates/{PROGRAM}", log, progress)
+
+
+def main():
+    os.chdir(repository.ROOT)
+    graph = repository.stands_on()
+    if sys.argv[2:] == ["--unbuilt"]:
+        return say_unbuilt(graph)
+    stop_behind()
+    wanted, left = crates_left(graph)
     os.makedirs(os.path.dirname(LOG), exist_ok=True)
     try:
-        with open(LOG, "w", encoding="utf-8") as log:
-            libraries = [crate for crate in left if crate != PROGRAM]
-            status = side_by_side(libraries, log, progress) if libraries and lanes.knows_kit() else 0
-            jobs = str(min(4, processors()))
-            words = ["rt", "run", "--jobs", jobs, "--backend", "rattle", "--", "--help"]
-            status = status or ran(words, f"crates/{PROGRAM}", log, progress)
+        with spent.Spent() as taken:
+            progress = Progress(left, graph, taken)
+            if not say_first(wanted, left, progress.estimate):
+                return 1
+            threading.Thread(target=progress.tick, daemon=True).start()
+            status = build(left, progress)
     except KeyboardInterrupt:
         tell(f"stopped; the next ./{SCRIPT} goes on from here")
         return 130
