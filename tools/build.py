@@ -61,7 +61,8 @@ class Progress:
 
     def __init__(self, crates, graph, taken):
         self.left, self.started = list(crates), time.time()
-        self.estimate = estimates.Left(crates, graph, processors(), lambda crate: sum(taken.by_place[crate, part] for part in spent.PARTS))
+        at_once = processors() if lanes.knows_kit() else 1
+        self.estimate = estimates.Left(crates, graph, at_once, lambda crate: sum(taken.by_place[crate, part] for part in spent.PARTS))
         self.ended = threading.Event()
 
     def say(self):
