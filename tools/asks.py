@@ -222,7 +222,7 @@ def served_slowly(listener, octets):
 
 def run(words, text="", **more):
     environment = {**os.environ, "HDL_SECRET": SECRET, **more}
-    return subprocess.run([PROGRAM, *words], input=text, env=environment, capture_output=True, text=True, check=False, timeout=60)
+    return subprocess.run([PROGRAM, *words], input=text, env=environment, capture_output=True, text=True, check=False, timeout=60 * servers.SLOWER)
 
 
 def asked(serve, words, text=""):
@@ -243,7 +243,7 @@ def versions():
     """Each program's --version, and whether it is that of hdl_status."""
     version = re.search(r'VERSION: &str = "([^"]*)"', repository.text_of("crates", "hdl_status", "src", "lib.rt"))[1]
     for name, program in (("hdl", PROGRAM), ("handled", servers.HANDLED)):
-        said = subprocess.run([program, "--version"], capture_output=True, text=True, check=False, timeout=60)
+        said = subprocess.run([program, "--version"], capture_output=True, text=True, check=False, timeout=60 * servers.SLOWER)
         yield "%s --version" % name, (said.returncode, said.stdout) == (0, "%s %s\n" % (name, version))
 
 
@@ -311,7 +311,7 @@ def checks():
     line = next(line for line in good.splitlines() if line.startswith("value 10/report-7"))
     twice = "tenants: line %d: a value with this index stands above: give each value of a handle an index of its own\n" % (len(good.splitlines()) + 1)
     for name, text, wanted in (("faults", TEXT_FAULTS, (3, "", TEXT_SAID)), ("none", good, (0, TEXT_HAS, "")), ("twice", good + line + "\n", (3, "", twice))):
-        done = subprocess.run([servers.HANDLED, "check"], input=text, capture_output=True, text=True, check=False, timeout=60)
+        done = subprocess.run([servers.HANDLED, "check"], input=text, capture_output=True, text=True, check=False, timeout=60 * servers.SLOWER)
         yield "handled check: " + name, (done.returncode, done.stdout, done.stderr) == wanted
 
 

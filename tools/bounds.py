@@ -2,7 +2,7 @@
 
 Up to its bound a publisher creates, adds and modifies; what would take more is answered Busy (code 3) and changes nothing; what is removed or deleted makes room again; the other publisher is
 served as if nothing were. Standard error says once that the bound is reached. Over a file the count is that of the file after a restart. Words that are no bound, and a text that opens with more,
-are refused. Where the system gives the process no more memory, changes are answered Busy and resolutions go on.
+are refused. Where the system gives the process no more memory, changes are answered Busy and resolutions go on; this case is left out where UNPROVED is set.
 
 It takes some five seconds. Its last line is 'N passed, M failed', a case counting one."""
 
@@ -158,7 +158,7 @@ def administrative_handles_count():
 
 
 def refused(options):
-    done = subprocess.run([servers.HANDLED, "serve", "--turns", "1", *options], input=tenants(*servers.free_ports(2)), stdout=subprocess.PIPE, stderr=subprocess.PIPE, timeout=60, check=False)
+    done = subprocess.run([servers.HANDLED, "serve", "--turns", "1", *options], input=tenants(*servers.free_ports(2)), stdout=subprocess.PIPE, stderr=subprocess.PIPE, timeout=60 * servers.SLOWER, check=False)
     return done.returncode, done.stdout, done.stderr.decode()
 
 
@@ -218,8 +218,9 @@ def main():
             ("administrative handles", administrative_handles_count),
             ("bad words", bad_words),
             ("too much to open", too_much_to_open),
-            ("memory refused", memory_refused),
         ]
+        # the checks of an unproved program take terabytes of address space
+        cases += [] if servers.IS_UNPROVED else [("memory refused", memory_refused)]
         passed = 0
         for name, case in cases:
             good = case()

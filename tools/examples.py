@@ -20,6 +20,7 @@ import sys
 # nothing is left beside the tools
 sys.dont_write_bytecode = True
 import repository
+import servers
 
 FOLDER = repository.path("examples")
 SCRIPTS = repository.path("crates", "hdl_scripts")
@@ -30,7 +31,7 @@ MADE = {".words": ("tenants", ".tenants"), ".batch": ("script", ".script")}
 
 
 def said(command, text, *options):
-    return subprocess.run([PROGRAM, command, *options], input=text, capture_output=True, text=True, check=True, timeout=60).stdout
+    return subprocess.run([PROGRAM, command, *options], input=text, capture_output=True, text=True, check=True, timeout=60 * servers.SLOWER).stdout
 
 
 def uncommented(line):

@@ -46,7 +46,7 @@ def run(port, octets, key=KEY, secret=SECRET):
         file.write(octets)
         file.flush()
         words = [PROGRAM, "import", "--csv", file.name, "--key", key, "--server", "127.0.0.1:%d" % port]
-        done = subprocess.run(words, stdin=subprocess.DEVNULL, env={**os.environ, "HDL_SECRET": secret}, capture_output=True, check=False, timeout=60)
+        done = subprocess.run(words, stdin=subprocess.DEVNULL, env={**os.environ, "HDL_SECRET": secret}, capture_output=True, check=False, timeout=60 * servers.SLOWER)
     assert SECRET.encode() not in done.stdout + done.stderr
     return done.returncode, done.stdout.decode(), done.stderr.decode()
 
@@ -238,7 +238,7 @@ def killed(port):
         file.flush()
         words = [PROGRAM, "import", "--csv", file.name, "--key", KEY, "--server", "127.0.0.1:%d" % port]
         with subprocess.Popen(words, stdin=subprocess.DEVNULL, stdout=subprocess.DEVNULL, stderr=subprocess.DEVNULL, env={**os.environ, "HDL_SECRET": SECRET}) as process:
-            time.sleep(0.3)
+            time.sleep(0.3 * servers.SLOWER)
             process.kill()
     status, out, err = run(port, large_file())
     found = re.fullmatch(r"(\d+) created, (\d+) there already, 0 failed\n", out)

@@ -216,7 +216,7 @@ def named(folder):
 
 def run(words, text):
     try:
-        ended = subprocess.run([servers.HANDLED, *words], input=text, capture_output=True, timeout=60, check=False)
+        ended = subprocess.run([servers.HANDLED, *words], input=text, capture_output=True, timeout=60 * servers.SLOWER, check=False)
     except subprocess.TimeoutExpired:
         return -1, b"", b"it didn't end"
     return ended.returncode, ended.stdout, ended.stderr

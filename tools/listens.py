@@ -31,7 +31,7 @@ def tenants(first, second):
 
 
 def run(options, ports):
-    done = subprocess.run([servers.HANDLED, "serve", *options], input=tenants(*ports), stdout=subprocess.PIPE, stderr=subprocess.PIPE, timeout=60, check=False)
+    done = subprocess.run([servers.HANDLED, "serve", *options], input=tenants(*ports), stdout=subprocess.PIPE, stderr=subprocess.PIPE, timeout=60 * servers.SLOWER, check=False)
     return done.returncode, done.stdout, done.stderr.splitlines()
 
 

@@ -372,7 +372,7 @@ def alone(port):
 
 
 def tenants(*ports):
-    return subprocess.run([WORDS, "tenants"], input=(TENANTS % (*ports, CHAIN, MANY)).encode(), capture_output=True, check=True, timeout=60).stdout
+    return subprocess.run([WORDS, "tenants"], input=(TENANTS % (*ports, CHAIN, MANY)).encode(), capture_output=True, check=True, timeout=60 * servers.SLOWER).stdout
 
 
 def main():

@@ -37,7 +37,7 @@ def shown():
 def run(command, environment, port):
     words = [PROGRAM, *shlex.split(command)[1:], "--server", "127.0.0.1:%d" % port]
     done = subprocess.run(words, cwd=repository.ROOT, env=environment, stdin=subprocess.DEVNULL, stdout=subprocess.PIPE, stderr=subprocess.STDOUT,
-                          text=True, check=False, timeout=120)
+                          text=True, check=False, timeout=120 * servers.SLOWER)
     return done.stdout.splitlines()
 
 

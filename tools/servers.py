@@ -2,6 +2,7 @@
 
 import contextlib
 import os
+import shutil
 import socket
 import struct
 import subprocess
@@ -10,7 +11,12 @@ import sys
 import repository
 import wire
 
+# The program that is served, by the variable HANDLED or the proved one of this repository.
 HANDLED = os.environ.get("HANDLED", repository.program("handled"))
+HANDLED = os.path.abspath(shutil.which(HANDLED) or HANDLED)
+# Whether the programs were compiled without proofs and with checks, as tools/tries.py has them, and how many times longer they may take then.
+IS_UNPROVED = "UNPROVED" in os.environ
+SLOWER = 10 if IS_UNPROVED else 1
 # How often a server is started anew, since another process may take a port that was free.
 TRIES = 5
 
