@@ -22,7 +22,7 @@ PATIENCE, SILENCE = 2, 0.1
 KEY = b"never-shown"
 ADMIN, HASH = b"0.NA/10", b"20/long"
 TOO_LONG, AUTHENTICATION_FAILED, RETURN_DIGEST = 2, 403, 0x00800000
-PIECE, PIECES_FLAG, DATAGRAM = 492, 0x2000, 512
+DATAGRAM = 512
 ADMINISTRATOR = wire.value(100, b"HS_ADMIN", wire.administrator(ADMIN, 300), wire.ADMIN_READ)
 LONG = wire.value(1, b"TEXT", b"x" * 30000, wire.PUBLIC_READ)
 # A reply that is longer than its question, and yet within what may go.
@@ -41,15 +41,14 @@ def tenants(port):
 
 def pieces(length):
     """How many datagrams a message of so many octets has."""
-    return max(1, -(-length // PIECE))
+    return max(1, -(-length // wire.PIECE))
 
 
 def cut(message, request, session=0):
     """The datagrams of a message."""
-    if len(message) <= PIECE:
+    if len(message) <= wire.PIECE:
         return [wire.frame(message, session, request)]
-    head, count = b"\2\1" + struct.pack(">HII", PIECES_FLAG, session, request), pieces(len(message))
-    return [head + struct.pack(">II", k, len(message)) + message[PIECE * k:PIECE * k + PIECE] for k in range(count)]
+    return wire.pieces(message, session, request)
 
 
 class Server:

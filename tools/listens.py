@@ -1,7 +1,7 @@
 """listens.py: starts the proved program crates/handled/out/handled at several addresses, and where it can't listen, and compares what it prints, its status, and
 what standard error has as it begins and as it ends. Clients at each address are served side by side, and none hides another.
 
-It takes some three seconds. Its last line is 'N passed, M failed', a case counting one."""
+It takes some five seconds. Its last line is 'N passed, M failed', a case counting one."""
 
 import contextlib
 import os
@@ -10,6 +10,7 @@ import socket
 import subprocess
 import sys
 import tempfile
+import threading
 import time
 
 # nothing is left beside the tools
@@ -20,10 +21,15 @@ import wire
 PATIENCE = 5
 # How often a client asks while another one floods, and how many datagrams the flood sends meanwhile.
 OFTEN, FLOOD = 20, 50
-BEGINS = rb"handled [\d.]+ \(Buckramjade; [^)]*\): begins: publishers 2, lanes 5, table in memory, row cache 41943040 octets, idle 60 seconds, crowd 1000, amplify 8 beyond loopback, turns 50"
+BEGINS = rb"handled [\d.]+ \(Buckramjade; [^)]*\): begins: publishers 2, lanes 5, table in memory, row cache 41943040 octets, idle 60 seconds, crowd 1000, amplify 8 beyond loopback, turns (\d+)"
 ENDS = rb"handled: ends: the turns are spent"
+# The turns of a server that nobody asks, and of one whose clients ask until it ends.
+FEW, SERVED = 50, 2000
 ASKED = wire.frame(wire.resolution(b"10/a"), request=1)
-ABSENT = wire.frame(wire.message(wire.RESOLVE, wire.number(0), wire.ABSENT), request=1)
+ABSENT, ABSENT_TOO = (wire.frame(wire.message(wire.RESOLVE, wire.number(0), wire.ABSENT), request=number) for number in (1, 2))
+# A message of 985 octets under RequestId 1, and a frame under RequestId 2.
+PIECES = wire.pieces(wire.resolution(b"10/" + b"a" * 942), request=1)
+ASKED_TOO = wire.frame(wire.resolution(b"10/a"), request=2)
 
 
 def tenants(first, second):
@@ -74,9 +80,46 @@ def addresses():
 def lines_and_end():
     """Each publisher and address has a line, in order; standard error says what begins and that it ends."""
     found, ports = addresses(), servers.free_ports(2)
-    status, printed, said = run(["--turns", "50", *servers.listening(found)], ports)
+    status, printed, said = run(["--turns", str(FEW), *servers.listening(found)], ports)
     lines = ["%s %s:%d\n" % (name, bracketed(address), port) for name, port in zip(("acme", "bolt"), ports) for address in found]
-    return status == 0 and printed == "".join(lines).encode() and len(said) == 2 and re.fullmatch(BEGINS, said[0]) and re.fullmatch(ENDS, said[1])
+    return status == 0 and printed == "".join(lines).encode() and are_said(said, FEW)
+
+
+def are_said(lines, turns):
+    """Whether these lines say that a server begins with so many turns, and that it ends of them, and nothing else."""
+    begins = re.fullmatch(BEGINS, lines[0]) if lines else None
+    return len(lines) == 2 and begins and int(begins[1]) == turns and re.fullmatch(ENDS, lines[1])
+
+
+def ask_streams(port, answers):
+    """Asks over connection after connection, in two parts, until an answer is cut short or a call fails."""
+    with contextlib.suppress(OSError):
+        while not answers or len(answers[-1]) == len(ABSENT):
+            with socket.create_connection(("127.0.0.1", port), PATIENCE) as stream:
+                stream.sendall(ASKED[:7])
+                stream.sendall(ASKED[7:])
+                answers.append(servers.received(stream, len(ABSENT)))
+
+
+def turns_are_served():
+    """Clients are served while the turns of a server last: over TCP each whole answer is the reply, and over UDP of two clients, of whom one asks in pieces, each gets its own."""
+    process, ports = servers.serve(tenants, 2, options=("--turns", str(SERVED)), stderr=subprocess.PIPE)
+    answers, (first, second) = [], (socket.socket(socket.AF_INET, socket.SOCK_DGRAM) for _ in range(2))
+    streams = threading.Thread(target=ask_streams, args=(ports[0], answers))
+    streams.start()
+    with first, second, process.stdout, process.stderr:
+        while process.poll() is None:
+            # a socket that isn't connected hears nothing of a port that nobody has
+            for piece in PIECES:
+                first.sendto(piece, ("127.0.0.1", ports[0]))
+            second.sendto(ASKED_TOO, ("127.0.0.1", ports[0]))
+            time.sleep(0.001)
+        streams.join()
+        for one in (first, second):
+            one.settimeout(PATIENCE)
+        whole = [answer for answer in answers if len(answer) == len(ABSENT)]
+        good = bool(whole) and set(whole) == {ABSENT} and (first.recv(1024), second.recv(1024)) == (ABSENT, ABSENT_TOO)
+        return good and process.returncode == 0 and process.stdout.read() == b"" and are_said(process.stderr.read().splitlines(), SERVED)
 
 
 def loopback_alone():
@@ -163,7 +206,7 @@ def no_address():
     return good
 
 
-CASES = (lines_and_end, loopback_alone, all_are_served, idle_costs_little, port_is_taken, not_ours, given_twice, no_address)
+CASES = (lines_and_end, turns_are_served, loopback_alone, all_are_served, idle_costs_little, port_is_taken, not_ours, given_twice, no_address)
 
 
 def main():

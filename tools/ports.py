@@ -6,7 +6,6 @@ It takes some five seconds. Its last line is 'N passed, M failed', a case counti
 
 import contextlib
 import socket
-import struct
 import sys
 
 # nothing is left beside the tools
@@ -23,7 +22,6 @@ VALUE = wire.value(1, b"TEXT", b"of a datagram", wire.PUBLIC_READ)
 HIDDEN = 0
 ADMINISTRATOR = wire.value(100, b"HS_ADMIN", wire.administrator(b"0.NA/10", 300), HIDDEN)
 LONG_HANDLE = b"10/" + b"b" * 900
-PIECE, PIECES_FLAG = 492, 0x2000
 PARTIALS, CHALLENGES = 4, 8
 
 
@@ -81,7 +79,7 @@ def response(message, challenge, request=2):
 
 def malformed(session, request):
     """A frame that says it is a response, and is none."""
-    return wire.frame(struct.pack(">I", wire.RESPONSE), session, request)
+    return wire.frame(wire.number(wire.RESPONSE), session, request)
 
 
 def short(session, request):
@@ -90,9 +88,7 @@ def short(session, request):
 
 def cut(message, request, session=0):
     """The pieces of a message."""
-    head = b"\2\1" + struct.pack(">HII", PIECES_FLAG, session, request)
-    count = -(-len(message) // PIECE)
-    return [head + struct.pack(">II", k, len(message)) + message[PIECE * k:PIECE * k + PIECE] for k in range(count)]
+    return wire.pieces(message, session, request)
 
 
 SHORT_ASKED, SHORT_REPLY = (wire.frame(octets, request=1) for octets in (wire.resolution(b"10/a"), wire.values_reply(b"10/a", VALUE)))

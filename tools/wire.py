@@ -14,6 +14,8 @@ SHA1, SHA256 = (2, hashlib.sha1), (3, hashlib.sha256)
 PUBLIC_READ, ADMIN_WRITE, ADMIN_READ = 0x02, 0x04, 0x08
 ALL_PERMISSIONS = b"\xff\xff"
 NONCE = bytes(range(16))
+# How many octets of a message a piece has.
+PIECE = 492
 
 
 def number(n):
@@ -52,6 +54,12 @@ def message(operation, body, code=0, flags=0):
 def frame(octets, session=0, request=0):
     """The frame of a message, without TC."""
     return b"\2\1\0\0" + number(session) + number(request) + number(0) + number(len(octets)) + octets
+
+
+def pieces(octets, session=0, request=0):
+    """The pieces of a message, each of which has 492 octets of it but the last."""
+    head = b"\2\1\x20\0" + number(session) + number(request)
+    return [head + number(at // PIECE) + number(len(octets)) + octets[at:at + PIECE] for at in range(0, len(octets), PIECE)]
 
 
 def resolution(handle, indexes=(), types=(), flags=0):
