@@ -14,19 +14,9 @@
 //! stranger stays back here, behind the worker's door (docs/PROTOCOL.md, "Replies to strangers").
 //!
 //! ```rust
-//! // crates/hdl_program_tests/src/sockets.rt
-//! let limits = Limits {
-//!     turns: 10_000,
-//!     ..Limits::DEFAULT
-//! };
-//! let status = host(
-//!     &rt,
-//!     PlainRows::new(rt.alloc()),
-//!     TENANTS,
-//!     limits,
-//!     &mut output,
-//!     &mut faults,
-//! );
+//! // crates/handled/src/serving.rt
+//! host_tenants(machine, rt.alloc(), rows, tenants, setting, &mut output)?;
+//! say_ends(rt, ending.is_asked());
 //! ```
 //!
 //! # Decisions

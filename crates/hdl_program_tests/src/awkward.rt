@@ -1,29 +1,17 @@
-//! The table in SQL through the bound, and side by side with the one in memory.
+//! Names, values and lists that a table in SQL might take for something else.
 
 ghost use Rattle.std.specs.Prelude.{◌≡◌, IfOk};
 
 use crate::assertion::same;
-use crate::rows::{each_call, lists};
 use crate::values::great;
-use crate::writes::{add, create, delete, modify, reference, remove};
+use crate::writes::{add, create, delete, reference};
 use hdl_limits::Octets;
 use hdl_name::Name;
-use hdl_rows::{PlainRows, Rows};
-use hdl_sqlrows::SqlRows;
+use hdl_rows::Rows;
 use hdl_value::{RawRef, RawRefs, Reference, Value};
 use std::alloc::{AllocError, Global};
 use std::process::Abort;
 use std::test::Fail;
-
-#[test]
-fn each_call_in_sql(rt: HostRuntime) -> Result<(), Fail> {
-    each_call(&rt, rt.alloc(), &mut SqlRows::new(rt.alloc())?)
-}
-
-#[test]
-fn lists_in_sql(rt: HostRuntime) -> Result<(), Fail> {
-    lists(&rt, rt.alloc(), &mut SqlRows::new(rt.alloc())?)
-}
 
 fn octets(alloc: Global, text: &[u8]) -> Result<Octets, AllocError> {
     Ok(Octets::new(Vec::from_slice(alloc, text)?))
@@ -84,19 +72,42 @@ fn stands<R: Rows>(rows: &mut R, place: &Reference, wanted: &Value) -> Result<bo
     }
 }
 
+/// Makes a handle of two values, whose fields are all the greatest and the least.
+fn create_fields<R: Rows>(
+    rt: &impl Abort,
+    alloc: Global,
+    rows: &mut R,
+    name: &Name,
+    data: &[u8],
+) -> Result<(), Fail> {
+    let all = [great(alloc, u32::MAX, data)?, least(alloc, 0)?];
+    create(rt, rows, name, &all)
+}
+
+/// Whether the handle has these two values.
+fn has_fields<R: Rows>(
+    alloc: Global,
+    rows: &mut R,
+    name: &Name,
+    data: &[u8],
+) -> Result<bool, Fail> {
+    let all = [least(alloc, 0)?, great(alloc, u32::MAX, data)?];
+    holds(rows, name, &all)
+}
+
 /// All fields come back as they were put, the least and the greatest, with each octet in the data.
 fn keeps_fields<R: Rows>(rt: &impl Abort, alloc: Global, rows: &mut R) -> Result<(), Fail> {
     let data = all_octets(alloc)?;
     let place = reference(alloc, b"10.abc/fields", u32::MAX)?;
+    create_fields(rt, alloc, rows, &place.name, &data)?;
     let greatest = great(alloc, u32::MAX, &data)?;
-    create(
+    same(rt, "the greatest", stands(rows, &place, &greatest)?, true);
+    same(
         rt,
-        rows,
-        &place.name,
-        &[great(alloc, u32::MAX, &data)?, least(alloc, 0)?],
-    )?;
-    assert!(rt; stands(rows, &place, &greatest)?);
-    assert!(rt; holds(rows, &place.name, &[least(alloc, 0)?, greatest])?);
+        "both",
+        has_fields(alloc, rows, &place.name, &data)?,
+        true,
+    );
     Ok(())
 }
 
@@ -137,9 +148,9 @@ fn holds_awkward<R: Rows>(rt: &impl Abort, alloc: Global, rows: &mut R) -> Resul
         create_named(rt, alloc, rows, text)?;
     }
     for &text in &AWKWARD {
-        assert!(rt; holds_named(alloc, rows, text)?);
+        same(rt, "its value", holds_named(alloc, rows, text)?, true);
     }
-    assert!(rt; lists_just(rows, b"10.abc", &AWKWARD)?);
+    same(rt, "names", lists_just(rows, b"10.abc", &AWKWARD)?, true);
     Ok(())
 }
 
@@ -182,6 +193,16 @@ fn long(alloc: Global, front: &[u8], end: &[u8]) -> Result<Vec<u8>, AllocError> 
     Ok(text)
 }
 
+/// Makes a handle without values.
+fn create_empty<R: Rows>(
+    rt: &impl Abort,
+    alloc: Global,
+    rows: &mut R,
+    text: &[u8],
+) -> Result<(), Fail> {
+    create(rt, rows, &Name::read(alloc, text)?, &[])
+}
+
 /// Names of 2,048 octets that differ in the last octet alone.
 fn holds_long<R: Rows>(rt: &impl Abort, alloc: Global, rows: &mut R) -> Result<(), Fail> {
     let a = long(alloc, b"10.long/", b"a")?;
@@ -189,9 +210,10 @@ fn holds_long<R: Rows>(rt: &impl Abort, alloc: Global, rows: &mut R) -> Result<(
     same(rt, "len", a.len(), 2048);
     create_named(rt, alloc, rows, &a)?;
     same(rt, "the other", is_there(alloc, rows, &b)?, (false, false));
-    create(rt, rows, &Name::read(alloc, &b)?, &[])?;
-    assert!(rt; lists_just(rows, b"10.long", &[&a, &b])?);
-    assert!(rt; holds_named(alloc, rows, &a)?);
+    create_empty(rt, alloc, rows, &b)?;
+    let are_these = lists_just(rows, b"10.long", &[&a, &b])?;
+    same(rt, "long names", are_these, true);
+    same(rt, "its value", holds_named(alloc, rows, &a)?, true);
     Ok(())
 }
 
@@ -207,12 +229,12 @@ fn name_of(alloc: Global, authority: &[u8]) -> Result<Vec<u8>, AllocError> {
 
 fn parts_authorities<R: Rows>(rt: &impl Abort, alloc: Global, rows: &mut R) -> Result<(), Fail> {
     for &authority in &AUTHORITIES {
-        let text = name_of(alloc, authority)?;
-        create(rt, rows, &Name::read(alloc, &text)?, &[])?;
+        create_empty(rt, alloc, rows, &name_of(alloc, authority)?)?;
     }
     for &authority in &AUTHORITIES {
         let text = name_of(alloc, authority)?;
-        assert!(rt; lists_just(rows, authority, &[&text])?);
+        let is_alone = lists_just(rows, authority, &[&text])?;
+        same(rt, "an authority", is_alone, true);
     }
     Ok(())
 }
@@ -233,20 +255,29 @@ fn are_many(alloc: Global, values: &[Value]) -> Result<bool, AllocError> {
     Ok(are_these)
 }
 
+/// Adds the value of this index to the handle of many.
+fn add_one<R: Rows>(rt: &impl Abort, alloc: Global, rows: &mut R, index: u32) -> Result<(), Fail> {
+    let place = reference(alloc, b"10.abc/many", index)?;
+    let value = one_of_many(alloc, place.index)?;
+    add(rt, rows, &place, value)
+}
+
 /// A handle of 1,024 values that were added by falling index.
 fn holds_many<R: Rows>(rt: &impl Abort, alloc: Global, rows: &mut R) -> Result<(), Fail> {
-    let name = Name::read(alloc, b"10.abc/many")?;
-    create(rt, rows, &name, &[])?;
+    create_empty(rt, alloc, rows, b"10.abc/many")?;
     for fallen in 0..1024u32 {
-        let place = reference(alloc, b"10.abc/many", 1024 - fallen)?;
-        let value = one_of_many(alloc, place.index)?;
-        add(rt, rows, &place, value)?;
+        add_one(rt, alloc, rows, 1024 - fallen)?;
     }
-    assert!(rt; are_many(alloc, &rows.values(&name)?)?);
+    let values = rows.values(&Name::read(alloc, b"10.abc/many")?)?;
+    same(rt, "many values", are_many(alloc, &values)?, true);
     Ok(())
 }
 
-fn each_awkward<R: Rows>(rt: &impl Abort, alloc: Global, rows: &mut R) -> Result<(), Fail> {
+pub(crate) fn each_awkward<R: Rows>(
+    rt: &impl Abort,
+    alloc: Global,
+    rows: &mut R,
+) -> Result<(), Fail> {
     holds_awkward(rt, alloc, rows)?;
     deletes_one(rt, alloc, rows)?;
     keeps_fields(rt, alloc, rows)?;
@@ -255,95 +286,4 @@ fn each_awkward<R: Rows>(rt: &impl Abort, alloc: Global, rows: &mut R) -> Result
     holds_many(rt, alloc, rows)?;
     same(rt, "refusals", rows.refusals(), 0);
     Ok(())
-}
-
-#[test]
-fn awkward_in_memory(rt: HostRuntime) -> Result<(), Fail> {
-    each_awkward(&rt, rt.alloc(), &mut PlainRows::new(rt.alloc()))
-}
-
-#[test]
-fn awkward_in_sql(rt: HostRuntime) -> Result<(), Fail> {
-    each_awkward(&rt, rt.alloc(), &mut SqlRows::new(rt.alloc())?)
-}
-
-/// A write at the place that the table allows there, chosen by the number.
-fn write<R: Rows>(
-    rt: &impl Abort,
-    alloc: Global,
-    rows: &mut R,
-    place: &Reference,
-    number: u32,
-) -> Result<(), Fail> {
-    let value = great(alloc, place.index, &number.to_be_bytes())?;
-    if !rows.exists(&place.name)? {
-        create(rt, rows, &place.name, &[value])
-    } else if rows.at(place)?.is_none() {
-        add(rt, rows, place, value)
-    } else if number.is_multiple_of(2) {
-        modify(rt, rows, place, value)
-    } else if number.is_multiple_of(5) {
-        delete(rt, rows, &place.name)
-    } else {
-        remove(rt, rows, place)
-    }
-}
-
-/// What the table answers of the handle and of its authority.
-fn answers<R: Rows>(alloc: Global, rows: &mut R, name: &Name) -> Result<Vec<u8>, Fail> {
-    let mut all = Vec::new(alloc);
-    all.push(u8::from(rows.look(name)?.is_some()))?;
-    for value in &rows.values(name)? {
-        all.extend_from_slice(&value.index.to_be_bytes())?;
-        all.extend_from_slice(value.bytes.as_slice())?;
-    }
-    for name in &rows.names(b"10.abc")? {
-        all.extend_from_slice(name.as_slice())?;
-    }
-    Ok(all)
-}
-
-/// The same write to both tables, and whether they then answer alike.
-fn agree<R: Rows>(
-    rt: &impl Abort,
-    plain: &mut PlainRows,
-    other: &mut R,
-    place: &Reference,
-    number: u32,
-    alloc: Global,
-) -> Result<bool, Fail> {
-    write(rt, alloc, &mut *plain, place, number)?;
-    write(rt, alloc, &mut *other, place, number)?;
-    let told = answers(alloc, other, &place.name)?;
-    Ok(told.as_slice() == answers(alloc, plain, &place.name)?.as_slice())
-}
-
-/// Five hundred writes in no order.
-pub(crate) fn writes_agree<R: Rows>(
-    rt: &impl Abort,
-    plain: &mut PlainRows,
-    other: &mut R,
-    alloc: Global,
-) -> Result<(), Fail> {
-    let names: [&[u8]; 4] = [b"10.abc/b", b"10.abc/a", b"10.abcd/a", b"10.abc/ab"];
-    let mut state = 1u32;
-    for turn in 0..500u32 {
-        state = state.wrapping_mul(1_664_525).wrapping_add(1_013_904_223);
-        let number = state >> 16;
-        let place = reference(alloc, names[(number % 4) as usize], number / 4 % 5 + 1)?;
-        same(
-            rt,
-            turn,
-            agree(rt, plain, other, &place, number / 20, alloc)?,
-            true,
-        );
-    }
-    Ok(())
-}
-
-/// Both tables answer alike after each of five hundred writes in no order.
-#[test]
-fn tables_agree(rt: HostRuntime) -> Result<(), Fail> {
-    let mut sql = SqlRows::new(rt.alloc())?;
-    writes_agree(&rt, &mut PlainRows::new(rt.alloc()), &mut sql, rt.alloc())
 }

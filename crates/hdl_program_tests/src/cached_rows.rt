@@ -1,9 +1,9 @@
 //! A table that keeps what was read last: through the bound, beside one that keeps nothing, over one that refuses to be asked again, and with
 //! more handles than it keeps.
 
+use crate::agreement::writes_agree;
 use crate::assertion::same;
 use crate::rows::{are, each_call};
-use crate::sql_rows::writes_agree;
 use crate::writes::{create, reference};
 use hdl_cachedrows::{CachedRows, LIMIT_DEFAULT};
 use hdl_name::Name;

@@ -1,7 +1,7 @@
 //! A table in memory with a database beside it: made, written, and opened again.
 
 use crate::assertion::same;
-use crate::rows::are;
+use crate::rows::{are, list_handles};
 use crate::writes::{add, create, delete, modify, reference, remove};
 use hdl_lastingrows::{Alarm, FileRows, LastingRows, TableFault, table_over};
 use hdl_name::Name;
@@ -58,25 +58,38 @@ fn over_text(alloc: Global, conn: Connection<MemStore>) -> Result<Table, Fail> {
     over(alloc, conn, name, value(alloc, 1, b"URL", b"one")?)
 }
 
-fn create_two(rt: &impl Abort, alloc: Global, table: &mut Table) -> Result<(), Fail> {
+fn create_two<R: Rows>(rt: &impl Abort, alloc: Global, rows: &mut R) -> Result<(), Fail> {
     let name = Name::read(alloc, b"10.abc/x")?;
     let all = [
         value(alloc, 5, b"URL", b"five")?,
         value(alloc, 2, b"URL", b"two")?,
     ];
-    create(rt, table, &name, &all)
+    create(rt, rows, &name, &all)
 }
 
-fn add_third(rt: &impl Abort, alloc: Global, table: &mut Table) -> Result<(), Fail> {
+fn add_third<R: Rows>(rt: &impl Abort, alloc: Global, rows: &mut R) -> Result<(), Fail> {
     let place = reference(alloc, b"10.abc/x", 3)?;
     let third = value(alloc, place.index, b"URL", b"three")?;
-    add(rt, table, &place, third)
+    add(rt, rows, &place, third)
 }
 
-fn modify_third(rt: &impl Abort, alloc: Global, table: &mut Table) -> Result<(), Fail> {
+fn modify_third<R: Rows>(rt: &impl Abort, alloc: Global, rows: &mut R) -> Result<(), Fail> {
     let place = reference(alloc, b"10.abc/x", 3)?;
     let third = value(alloc, place.index, b"URL", b"third")?;
-    modify(rt, table, &place, third)
+    modify(rt, rows, &place, third)
+}
+
+/// Asserts that the handle of this text has these values.
+fn has_values<R: Rows>(
+    rt: &impl Abort,
+    alloc: Global,
+    rows: &mut R,
+    text: &[u8],
+    wanted: &[(u32, &[u8])],
+) -> Result<(), Fail> {
+    let values = rows.values(&Name::read(alloc, text)?)?;
+    same(rt, "its values", are(&values, wanted), true);
+    Ok(())
 }
 
 /// Asserts what the handles of the authority are, with a space behind each, and the values of `10.abc/x`.
@@ -86,29 +99,28 @@ fn stand<R: Rows>(
     table: &mut R,
     handles: &[u8],
 ) -> Result<(), Fail> {
-    let mut all = vec![in alloc]?;
-    for name in &table.names(b"10.abc")? {
-        all.extend_from_slice(name.as_slice())?;
-        all.push(b' ')?;
-    }
+    let all = list_handles(alloc, table, b"10.abc")?;
     same(rt, "handles", all.as_slice(), handles);
-    let x = Name::read(alloc, b"10.abc/x")?;
-    assert!(rt; are(&table.values(&x)?, &[(2, b"two"), (3, b"third")]));
+    has_values(rt, alloc, table, b"10.abc/x", &[(2, b"two"), (3, b"third")])?;
     same(rt, "refusals", table.refusals(), 0);
     Ok(())
 }
 
-/// Each of the five writes, of which the last deletes the handle of the text.
+/// Each of the five writes, of which the last deletes the handle of the text. They are one call, since each call at a table of many parts is dear to prove.
+fn each_write<R: Rows>(rt: &impl Abort, alloc: Global, rows: &mut R) -> Result<(), Fail> {
+    has_values(rt, alloc, rows, b"10.abc/text", &[(1, b"one")])?;
+    create_two(rt, alloc, rows)?;
+    add_third(rt, alloc, rows)?;
+    modify_third(rt, alloc, rows)?;
+    remove(rt, rows, &reference(alloc, b"10.abc/x", 5)?)?;
+    stand(rt, alloc, rows, b"10.abc/text 10.abc/x ")?;
+    delete(rt, rows, &Name::read(alloc, b"10.abc/text")?)
+}
+
+/// A database in which each write was made.
 fn make_writes(rt: &impl Abort, alloc: Global) -> Result<Connection<MemStore>, Fail> {
     let mut table = over_text(alloc, Connection::open_in_memory(alloc)?)?;
-    let text = Name::read(alloc, b"10.abc/text")?;
-    assert!(rt; are(&table.values(&text)?, &[(1, b"one")]));
-    create_two(rt, alloc, &mut table)?;
-    add_third(rt, alloc, &mut table)?;
-    modify_third(rt, alloc, &mut table)?;
-    remove(rt, &mut table, &reference(alloc, b"10.abc/x", 5)?)?;
-    stand(rt, alloc, &mut table, b"10.abc/text 10.abc/x ")?;
-    delete(rt, &mut table, &text)?;
+    each_write(rt, alloc, &mut table)?;
     Ok(table.into_connection())
 }
 
@@ -116,26 +128,27 @@ fn make_writes(rt: &impl Abort, alloc: Global) -> Result<Connection<MemStore>, F
 #[test]
 fn writes_last(rt: HostRuntime) -> Result<(), Fail> {
     let alloc = rt.alloc();
-    let conn = make_writes(&rt, alloc)?;
-    let mut table = over_text(alloc, conn)?;
+    let mut table = over_text(alloc, make_writes(&rt, alloc)?)?;
     stand(&rt, alloc, &mut table, b"10.abc/x ")
 }
 
 /// Asserts that the late handle has its value, and the others are as they were.
 fn stand_late<R: Rows>(rt: &impl Abort, alloc: Global, table: &mut R) -> Result<(), Fail> {
-    let late = Name::read(alloc, b"10.abc/late")?;
-    assert!(rt; are(&table.values(&late)?, &[(9, b"nine")]));
+    has_values(rt, alloc, table, b"10.abc/late", &[(9, b"nine")])?;
     stand(rt, alloc, table, b"10.abc/late 10.abc/x ")
+}
+
+/// The table over a database, with a handle of the text that came later.
+fn over_late(alloc: Global, conn: Connection<MemStore>) -> Result<Table, Fail> {
+    let name = Name::read(alloc, b"10.ABC/late")?;
+    over(alloc, conn, name, value(alloc, 9, b"URL", b"nine")?)
 }
 
 /// A handle that comes into the text later is opened then, and the others stay as they are.
 #[test]
 fn late_handle_is_opened(rt: HostRuntime) -> Result<(), Fail> {
     let alloc = rt.alloc();
-    let name = Name::read(alloc, b"10.ABC/late")?;
-    let first = value(alloc, 9, b"URL", b"nine")?;
-    let conn = make_writes(&rt, alloc)?;
-    let mut table = over(alloc, conn, name, first)?;
+    let mut table = over_late(alloc, make_writes(&rt, alloc)?)?;
     stand_late(&rt, alloc, &mut table)
 }
 
@@ -157,33 +170,39 @@ fn is_made<R: Rows>(rows: &mut R, name: &Name) -> Result<bool, Fail> {
     Ok(rows.create(name, &[]).is_ok())
 }
 
+/// Asserts whether an absent handle is made, and what is then owed.
+fn comes_to<R: Owing>(
+    rt: &impl Abort,
+    rows: &mut R,
+    name: &Name,
+    made: bool,
+    owed: Owed,
+) -> Result<(), Fail> {
+    same(rt, "made", is_made(rows, name)?, made);
+    same(rt, "owed", rows.owed(), owed);
+    Ok(())
+}
+
 /// What memory refused and the file has is owed: the same write is made in memory when it comes again.
 fn claim_write<R: Owing>(rt: &impl Abort, alloc: Global, rows: &mut R) -> Result<(), Fail> {
     let name = Name::read(alloc, b"10.abc/x")?;
-    let first = is_made(rows, &name)?;
-    assert!(rt; !first && rows.owed() == Owed::Ended);
-    let second = is_made(rows, &name)?;
-    assert!(rt; second && rows.owed() == Owed::Nothing);
-    Ok(())
+    comes_to(rt, rows, &name, false, Owed::Ended)?;
+    comes_to(rt, rows, &name, true, Owed::Nothing)
 }
 
 /// Another write that comes in its turn undoes it in the file, and is made when it comes again.
 fn undo_write<R: Owing>(rt: &impl Abort, alloc: Global, rows: &mut R) -> Result<(), Fail> {
     let name = Name::read(alloc, b"10.abc/x")?;
+    comes_to(rt, rows, &name, false, Owed::Ended)?;
     let other = Name::read(alloc, b"10.abc/y")?;
-    let first = is_made(rows, &name)?;
-    assert!(rt; !first && rows.owed() == Owed::Ended);
-    let second = is_made(rows, &other)?;
-    assert!(rt; !second && rows.owed() == Owed::Nothing);
-    let third = is_made(rows, &other)?;
-    assert!(rt; third);
-    Ok(())
+    comes_to(rt, rows, &other, false, Owed::Nothing)?;
+    comes_to(rt, rows, &other, true, Owed::Nothing)
 }
 
 /// Asserts that the other handle alone is there.
 fn stand_undone<R: Rows>(rt: &impl Abort, alloc: Global, rows: &mut R) -> Result<(), Fail> {
-    let names = rows.names(b"10.abc")?;
-    assert!(rt; names.len() == 1 && names[0].as_slice() == b"10.abc/y".as_slice());
+    let all = list_handles(alloc, rows, b"10.abc")?;
+    same(rt, "handles", all.as_slice(), b"10.abc/y ".as_slice());
     Ok(())
 }
 
@@ -194,11 +213,16 @@ fn owed_write_is_claimed(rt: HostRuntime) -> Result<(), Fail> {
     claim_write(&rt, alloc, &mut table)
 }
 
+/// A database in which a write was undone.
+fn undone(rt: &impl Abort, alloc: Global) -> Result<Connection<MemStore>, Fail> {
+    let mut table = over_refusing(alloc, Connection::open_in_memory(alloc)?, 2)?;
+    undo_write(rt, alloc, &mut table)?;
+    Ok(table.into_connection())
+}
+
 #[test]
 fn unclaimed_write_is_undone(rt: HostRuntime) -> Result<(), Fail> {
     let alloc = rt.alloc();
-    let mut table = over_refusing(alloc, Connection::open_in_memory(alloc)?, 2)?;
-    undo_write(&rt, alloc, &mut table)?;
-    let mut again = over_refusing(alloc, table.into_connection(), 0)?;
-    stand_undone(&rt, alloc, &mut again)
+    let mut table = over_refusing(alloc, undone(&rt, alloc)?, 0)?;
+    stand_undone(&rt, alloc, &mut table)
 }

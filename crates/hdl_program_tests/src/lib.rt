@@ -1,32 +1,28 @@
-//! Tests of what stands on several crates: tables through their bound, in memory and in SQL, runs of scripts that are made by a loop, and
-//! the two that need threads: the server with real clients, and two workers at a time.
+//! Tests of what stands on several crates: tables through their bound, in memory and in SQL, whose write comes next, a script in which another publisher does
+//! what it can, and two workers at a time, which need threads.
 //!
 //! They stand apart from those of `hdl_tests` and `hdl_codec_tests`, which need neither SQL nor the machine and so begin earlier. Beside the tests it has
 //! the values that a table is to keep ([`values`]); nothing stands on it.
 #![tactic(auto)]
 
 #[cfg(test)]
+mod agreement;
+#[cfg(test)]
 mod assertion;
 #[cfg(test)]
-mod cached_rows;
+mod awkward;
 #[cfg(test)]
-mod devices;
+mod cached_rows;
 #[cfg(test)]
 mod lasting_rows;
 #[cfg(test)]
 mod loaded_rows;
-#[cfg(test)]
-mod long_scripts;
 #[cfg(test)]
 mod neighbours;
 #[cfg(test)]
 mod rows;
 #[cfg(test)]
 mod scripts;
-#[cfg(test)]
-mod sockets;
-#[cfg(test)]
-mod sql_rows;
 #[cfg(test)]
 mod two_workers;
 pub mod values;

@@ -93,16 +93,20 @@ fn with_sound_rows(alloc: Global) -> Result<Connection<MemStore>, Fail> {
     Ok(conn)
 }
 
+/// Asserts that the sound rows are there.
+fn stand<R: Rows>(rt: &impl Abort, alloc: Global, rows: &mut R) -> Result<(), Fail> {
+    let values = rows.values(&Name::read(alloc, b"10.abc/x")?)?;
+    let are_these = are(&values, &[(2, b"two"), (7, b"seven")]);
+    same(rt, "values", are_these, true);
+    same(rt, "handles", rows.names(b"10.abc")?.len(), 2);
+    Ok(())
+}
+
 #[test]
 fn sound_rows_are_loaded(rt: HostRuntime) -> Result<(), Fail> {
     let alloc = rt.alloc();
     let mut conn = with_sound_rows(alloc)?;
-    let mut rows = load_rows(alloc, &mut conn)?;
-    let x = Name::read(alloc, b"10.abc/x")?;
-    assert!(&rt; are(&rows.values(&x)?, &[(2, b"two"), (7, b"seven")]));
-    let names = rows.names(b"10.abc")?;
-    same(&rt, "handles", names.len(), 2);
-    Ok(())
+    stand(&rt, alloc, &mut load_rows(alloc, &mut conn)?)
 }
 
 /// Asserts what the sound rows are refused as, once this statement ran.
@@ -121,7 +125,7 @@ fn is_refused(
 
 #[test]
 fn unsound_rows_are_refused(rt: HostRuntime) -> Result<(), Fail> {
-    for (what, statement, fault) in UNSOUND {
+    for &(what, statement, fault) in &UNSOUND {
         is_refused(&rt, rt.alloc(), what, statement, fault)?;
     }
     Ok(())

@@ -1,9 +1,12 @@
-//! Every call through the bound, over a table in memory and over a fuse of it.
+//! The tables through the bound: in memory, behind a fuse, and in SQL.
 
+use crate::agreement::writes_agree;
 use crate::assertion::same;
+use crate::awkward::each_awkward;
 use crate::writes::{add, create, delete, modify, reference, remove};
 use hdl_name::Name;
 use hdl_rows::{Fuse, PlainRows, Refused, Rows};
+use hdl_sqlrows::SqlRows;
 use hdl_tests::made::value;
 use hdl_value::Value;
 use std::alloc::Global;
@@ -32,6 +35,28 @@ fn lacks<R: Rows>(rows: &mut R, name: &Name) -> Result<bool, Fail> {
     Ok(rows.look(name)?.is_none() && !rows.exists(name)? && are(&rows.values(name)?, &[]))
 }
 
+/// Asserts that the handle of this text is there with these values.
+fn stands<R: Rows>(
+    rt: &impl Abort,
+    alloc: Global,
+    rows: &mut R,
+    text: &[u8],
+    wanted: &[(u32, &[u8])],
+) -> Result<(), Fail> {
+    let name = Name::read(alloc, text)?;
+    same(rt, "its values", holds(rows, &name, wanted)?, true);
+    Ok(())
+}
+
+/// What `10.abc/x` has once it is created, a value is added, modified and another removed.
+const CREATED: [(u32, &[u8]); 3] = [(2, b"two"), (5, b""), (9, b"nine")];
+
+const ADDED: [(u32, &[u8]); 4] = [(2, b"two"), (3, b"three"), (5, b""), (9, b"nine")];
+
+const MODIFIED: [(u32, &[u8]); 4] = [(2, b"two"), (3, b""), (5, b""), (9, b"nine")];
+
+const REMOVED: [(u32, &[u8]); 3] = [(2, b"two"), (3, b""), (9, b"nine")];
+
 /// Values come out by rising index, in whatever order they were given, and a name stands for its canonical form.
 fn creates<R: Rows>(rt: &impl Abort, alloc: Global, rows: &mut R) -> Result<(), Fail> {
     let sent = Name::read(alloc, b"10.ABC/x")?;
@@ -40,17 +65,14 @@ fn creates<R: Rows>(rt: &impl Abort, alloc: Global, rows: &mut R) -> Result<(), 
         value(alloc, 2, b"URL", b"two")?,
         value(alloc, 5, b"URL", b"")?,
     ];
-    create(rt, rows, &sent, &all)?;
-    let same = Name::read(alloc, b"10.abc/x")?;
-    assert!(rt; holds(rows, &same, &[(2, b"two"), (5, b""), (9, b"nine")])?);
-    Ok(())
+    create(rt, rows, &sent, &all)
 }
 
 /// A handle of the local name `X` is another one.
 fn other_local_name<R: Rows>(rt: &impl Abort, alloc: Global, rows: &mut R) -> Result<(), Fail> {
     let other = reference(alloc, b"10.abc/X", 2)?;
-    assert!(rt; lacks(rows, &other.name)?);
-    assert!(rt; rows.at(&other)?.is_none());
+    same(rt, "the other", lacks(rows, &other.name)?, true);
+    same(rt, "its value", rows.at(&other)?.is_none(), true);
     same(rt, "refusals", rows.refusals(), 0);
     Ok(())
 }
@@ -59,73 +81,55 @@ fn other_local_name<R: Rows>(rt: &impl Abort, alloc: Global, rows: &mut R) -> Re
 fn adds<R: Rows>(rt: &impl Abort, alloc: Global, rows: &mut R) -> Result<(), Fail> {
     let place = reference(alloc, b"10.abc/x", 3)?;
     let three = value(alloc, place.index, b"URL", b"three")?;
-    add(rt, rows, &place, three)?;
-    let wanted: [(u32, &[u8]); 4] = [(2, b"two"), (3, b"three"), (5, b""), (9, b"nine")];
-    assert!(rt; holds(rows, &place.name, &wanted)?);
-    Ok(())
+    add(rt, rows, &place, three)
 }
 
 /// A modified value is replaced whole.
 fn modifies<R: Rows>(rt: &impl Abort, alloc: Global, rows: &mut R) -> Result<(), Fail> {
     let place = reference(alloc, b"10.abc/x", 3)?;
     let empty = value(alloc, place.index, b"URL", b"")?;
-    modify(rt, rows, &place, empty)?;
-    let wanted: [(u32, &[u8]); 4] = [(2, b"two"), (3, b""), (5, b""), (9, b"nine")];
-    assert!(rt; holds(rows, &place.name, &wanted)?);
-    Ok(())
+    modify(rt, rows, &place, empty)
 }
 
 /// A removed value is gone, and the handle stays.
 fn removes<R: Rows>(rt: &impl Abort, alloc: Global, rows: &mut R) -> Result<(), Fail> {
-    let place = reference(alloc, b"10.abc/x", 5)?;
-    remove(rt, rows, &place)?;
-    let wanted: [(u32, &[u8]); 3] = [(2, b"two"), (3, b""), (9, b"nine")];
-    assert!(rt; holds(rows, &place.name, &wanted)?);
-    Ok(())
+    remove(rt, rows, &reference(alloc, b"10.abc/x", 5)?)
 }
 
 /// A deleted handle is gone with its values.
 fn deletes<R: Rows>(rt: &impl Abort, alloc: Global, rows: &mut R) -> Result<(), Fail> {
     let name = Name::read(alloc, b"10.abc/x")?;
     delete(rt, rows, &name)?;
-    assert!(rt; lacks(rows, &name)?);
+    same(rt, "deleted", lacks(rows, &name)?, true);
     Ok(())
 }
 
 /// A handle without values is there.
 fn creates_empty<R: Rows>(rt: &impl Abort, alloc: Global, rows: &mut R) -> Result<(), Fail> {
-    let name = Name::read(alloc, b"10.abc/empty")?;
-    create(rt, rows, &name, &[])?;
-    assert!(rt; holds(rows, &name, &[])?);
-    Ok(())
+    create(rt, rows, &Name::read(alloc, b"10.abc/empty")?, &[])
 }
 
 pub(crate) fn each_call<R: Rows>(rt: &impl Abort, alloc: Global, rows: &mut R) -> Result<(), Fail> {
     creates(rt, alloc, rows)?;
+    stands(rt, alloc, rows, b"10.abc/x", &CREATED)?;
     other_local_name(rt, alloc, rows)?;
     adds(rt, alloc, rows)?;
+    stands(rt, alloc, rows, b"10.abc/x", &ADDED)?;
     modifies(rt, alloc, rows)?;
+    stands(rt, alloc, rows, b"10.abc/x", &MODIFIED)?;
     removes(rt, alloc, rows)?;
+    stands(rt, alloc, rows, b"10.abc/x", &REMOVED)?;
     deletes(rt, alloc, rows)?;
-    creates_empty(rt, alloc, rows)
-}
-
-#[test]
-fn each_call_in_memory(rt: HostRuntime) -> Result<(), Fail> {
-    each_call(&rt, rt.alloc(), &mut PlainRows::new(rt.alloc()))
-}
-
-#[test]
-fn each_call_behind_a_fuse(rt: HostRuntime) -> Result<(), Fail> {
-    each_call(
-        &rt,
-        rt.alloc(),
-        &mut Fuse::new(PlainRows::new(rt.alloc()), 1, 0),
-    )
+    creates_empty(rt, alloc, rows)?;
+    stands(rt, alloc, rows, b"10.abc/empty", &[])
 }
 
 /// The handles of an authority, with a space behind each.
-fn list_handles<R: Rows>(alloc: Global, rows: &mut R, authority: &[u8]) -> Result<Vec<u8>, Fail> {
+pub(crate) fn list_handles<R: Rows>(
+    alloc: Global,
+    rows: &mut R,
+    authority: &[u8],
+) -> Result<Vec<u8>, Fail> {
     let mut all = vec![in alloc]?;
     for name in &rows.names(authority)? {
         all.extend_from_slice(name.as_slice())?;
@@ -134,16 +138,18 @@ fn list_handles<R: Rows>(alloc: Global, rows: &mut R, authority: &[u8]) -> Resul
     Ok(all)
 }
 
+/// Handles of three authorities.
+const LISTED: [&[u8]; 5] = [
+    b"10.abc/b",
+    b"10.abcd/a",
+    b"10.abc/a",
+    b"10/abc",
+    b"10.ABC/B",
+];
+
 /// The handles of an authority rise by octets, and those of a longer authority that begins alike are left out.
-pub(crate) fn lists<R: Rows>(rt: &impl Abort, alloc: Global, rows: &mut R) -> Result<(), Fail> {
-    let texts: [&[u8]; 5] = [
-        b"10.abc/b",
-        b"10.abcd/a",
-        b"10.abc/a",
-        b"10/abc",
-        b"10.ABC/B",
-    ];
-    for text in texts {
+fn lists<R: Rows>(rt: &impl Abort, alloc: Global, rows: &mut R) -> Result<(), Fail> {
+    for &text in &LISTED {
         create(rt, rows, &Name::read(alloc, text)?, &[])?;
     }
     let all = list_handles(alloc, rows, b"10.abc")?;
@@ -156,19 +162,67 @@ pub(crate) fn lists<R: Rows>(rt: &impl Abort, alloc: Global, rows: &mut R) -> Re
     Ok(())
 }
 
-#[test]
-fn lists_in_memory(rt: HostRuntime) -> Result<(), Fail> {
-    lists(&rt, rt.alloc(), &mut PlainRows::new(rt.alloc()))
+/// Deletes the handles of an authority.
+fn clear<R: Rows>(
+    rt: &impl Abort,
+    alloc: Global,
+    rows: &mut R,
+    authority: &[u8],
+) -> Result<(), Fail> {
+    for handle in &rows.names(authority)? {
+        delete(rt, rows, &Name::read(alloc, handle.as_slice())?)?;
+    }
+    Ok(())
+}
+
+/// The authorities of whose handles one part of the tests speaks behind another.
+const AUTHORITIES: [&[u8]; 3] = [b"10.abc", b"10.abcd", b"10"];
+
+fn clear_all<R: Rows>(rt: &impl Abort, alloc: Global, rows: &mut R) -> Result<(), Fail> {
+    for &authority in &AUTHORITIES {
+        clear(rt, alloc, rows, authority)?;
+    }
+    Ok(())
+}
+
+/// Each call, lists, names and values that are awkward, and many writes, each over an empty table. They are one call, since each call at a table of many parts
+/// is dear to prove.
+pub(crate) fn each_part<R: Rows>(rt: &impl Abort, alloc: Global, rows: &mut R) -> Result<(), Fail> {
+    each_call(rt, alloc, rows)?;
+    clear_all(rt, alloc, rows)?;
+    lists(rt, alloc, rows)?;
+    clear_all(rt, alloc, rows)?;
+    each_awkward(rt, alloc, rows)?;
+    clear_all(rt, alloc, rows)?;
+    writes_agree(rt, &mut PlainRows::new(alloc), rows, alloc)
 }
 
 #[test]
-fn lists_behind_a_fuse(rt: HostRuntime) -> Result<(), Fail> {
-    lists(
+fn each_part_in_memory(rt: HostRuntime) -> Result<(), Fail> {
+    each_part(&rt, rt.alloc(), &mut PlainRows::new(rt.alloc()))
+}
+
+#[test]
+fn each_part_behind_a_fuse(rt: HostRuntime) -> Result<(), Fail> {
+    each_part(
         &rt,
         rt.alloc(),
         &mut Fuse::new(PlainRows::new(rt.alloc()), 1, 0),
     )
 }
+
+#[test]
+fn each_part_in_sql(rt: HostRuntime) -> Result<(), Fail> {
+    each_part(&rt, rt.alloc(), &mut SqlRows::new(rt.alloc())?)
+}
+
+/// A fuse's first and last call, which of four calls it refuses, and how many it then counted.
+const FUSES: [(u64, u64, [bool; 4], u64); 4] = [
+    (1, 1, [true, false, false, false], 1),
+    (2, 3, [false, true, true, false], 2),
+    (3, 2, [false, false, false, false], 0),
+    (1, u64::MAX, [true, true, true, true], 4),
+];
 
 /// Whether just these of four calls are refused, and so many are then counted.
 fn refuses(fuse: &mut Fuse<PlainRows>, name: &Name, refused: &[bool; 4], count: u64) -> bool {
@@ -179,17 +233,10 @@ fn refuses(fuse: &mut Fuse<PlainRows>, name: &Name, refused: &[bool; 4], count: 
     are_these && fuse.refusals() == count
 }
 
-/// Which of four calls a fuse refuses, and how many it then counted.
 #[test]
 fn fuses(rt: HostRuntime) -> Result<(), Fail> {
     let name = Name::read(rt.alloc(), b"10/a")?;
-    let rows = [
-        ((1, 1), [true, false, false, false], 1),
-        ((2, 3), [false, true, true, false], 2),
-        ((3, 2), [false, false, false, false], 0),
-        ((1, u64::MAX), [true, true, true, true], 4),
-    ];
-    for ((first, last), refused, count) in rows {
+    for &(first, last, refused, count) in &FUSES {
         let mut fuse = Fuse::new(PlainRows::new(rt.alloc()), first, last);
         same(
             &rt,
@@ -206,7 +253,7 @@ fn refused_and_made(rt: &impl Abort, fuse: &mut Fuse<PlainRows>, name: &Name) ->
     assert!(rt; !fuse.exists(name)?);
     same(rt, "refused", fuse.create(name, &[]), Err(Refused));
     create(rt, fuse, name, &[])?;
-    assert!(rt; fuse.exists(name)?);
+    same(rt, "made", fuse.exists(name)?, true);
     Ok(())
 }
 

@@ -3,7 +3,6 @@
 ghost use Rattle.hdl_workers.specs.Ends.{AreDistinct};
 
 use crate::assertion::same;
-use crate::sockets::{FRAME, REPLY, TENANTS};
 use hdl_core::{Service, Tenants};
 use hdl_rows::PlainRows;
 use hdl_serve::{
@@ -19,6 +18,16 @@ use std::test::Fail;
 use std::thread;
 use std::thread::{JoinHandle, Threads};
 use std::time::Duration;
+
+/// One publisher with a stream lane and a datagram lane.
+const TENANTS: &str = "publisher acme 2 2641\nprefix 10 acme\nprefix 10.abc acme\n";
+
+/// A resolution of `10/a`, which is absent, and its reply: those of examples/absent.script.
+const FRAME: &str =
+    "020100000000000000000001000000000000002c0000000100000000000000000000000000000000000000100000000431302f61000000000000000000000000";
+
+const REPLY: &str =
+    "02010000000000000000000100000000000000200000000100000064000000000000000000000000000000040000000000000000";
 
 /// The turns of each worker, and of `serve`.
 const TURNS: u64 = 100_000;
