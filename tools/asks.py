@@ -240,8 +240,8 @@ def deleted(sent, came):
 
 
 def versions():
-    """Each program's --version, and whether it is that of hdl_status."""
-    version = re.search(r'VERSION: &str = "([^"]*)"', repository.text_of("crates", "hdl_status", "src", "lib.rt"))[1]
+    """Each program's --version, and whether it is that of hdl_programs."""
+    version = re.search(r'VERSION: &str = "([^"]*)"', repository.text_of("crates", "hdl_programs", "src", "lib.rt"))[1]
     for name, program in (("hdl", PROGRAM), ("handled", servers.HANDLED)):
         said = subprocess.run([program, "--version"], capture_output=True, text=True, check=False, timeout=60 * servers.SLOWER)
         yield "%s --version" % name, (said.returncode, said.stdout) == (0, "%s %s\n" % (name, version))

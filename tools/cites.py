@@ -129,7 +129,7 @@ def missing_stations():
 
 def wrong_limits():
     limits = {name: int(number) for name, number in LIMIT.findall(text_of("crates/hdl_limits/src/lib.rt"))}
-    limits.update((name, int(number)) for name, number in INPUT_LIMIT.findall(text_of("crates/hdl_replay/src/input.rt")))
+    limits.update((name, int(number)) for name, number in INPUT_LIMIT.findall(text_of("crates/hdl_programs/src/input.rt")))
     rows = {name: int(number.replace(",", "")) for number, name in ROW.findall(text_of("docs/PROTOCOL.md"))}
     for name in sorted(limits.keys() | rows.keys()):
         if limits.get(name) != rows.get(name):
@@ -137,12 +137,12 @@ def wrong_limits():
 
 
 def wrong_versions():
-    kits = set(re.findall(r"rattle-kit-\w+ logic \w+", text_of("README.md") + text_of("docs/TOOLCHAIN.md") + text_of("crates/hdl_status/src/lib.rt")))
+    kits = set(re.findall(r"rattle-kit-\w+ logic \w+", text_of("README.md") + text_of("docs/TOOLCHAIN.md") + text_of("crates/hdl_programs/src/lib.rt")))
     if len(kits) != 1:
-        yield "README.md, docs/TOOLCHAIN.md and VERSION of hdl_status name %s" % " and ".join(sorted(kits))
-    version = re.search(r'VERSION: &str = "(\S+) ', text_of("crates/hdl_status/src/lib.rt"))
+        yield "README.md, docs/TOOLCHAIN.md and VERSION of hdl_programs name %s" % " and ".join(sorted(kits))
+    version = re.search(r'VERSION: &str = "(\S+) ', text_of("crates/hdl_programs/src/lib.rt"))
     if not version or "## %s" % version[1] not in text_of("CHANGES.md"):
-        yield "CHANGES.md has no heading of the version of hdl_status"
+        yield "CHANGES.md has no heading of the version of hdl_programs"
 
 
 def main():

@@ -345,7 +345,7 @@ hdl_proxy_server_left_out{server="127.0.0.1:%d"} 0
 # TYPE hdl_proxy_server_waiting gauge
 hdl_proxy_server_waiting{server="127.0.0.1:%d"} 0
 """
-VERSION = re.search(r'VERSION: &str = "(.*)"', repository.text_of("crates", "hdl_status", "src", "lib.rt"))[1]
+VERSION = re.search(r'VERSION: &str = "(.*)"', repository.text_of("crates", "hdl_programs", "src", "lib.rt"))[1]
 
 
 def contacts():

@@ -88,7 +88,7 @@ def are_refused():
 
 
 def version():
-    return re.search(r'VERSION: &str = "(\S+) ', repository.text_of("crates", "hdl_status", "src", "lib.rt"))[1]
+    return re.search(r'VERSION: &str = "(\S+) ', repository.text_of("crates", "hdl_programs", "src", "lib.rt"))[1]
 
 
 def octets_of(*names):

@@ -3,7 +3,7 @@
 use clap::{Arg, ArgAction, ArgMatches, Command, Error};
 use hdl_commands::{Import, Inquiry, operation_in};
 use hdl_msg::OpCode;
-use hdl_status::{VERSION, status_of_words, words_of};
+use hdl_programs::{VERSION, status_of_words, words_of};
 use std::alloc::{AllocError, Global};
 
 /// The server that is asked where none is named.

@@ -1,6 +1,6 @@
 //! Why a server ends with a fault line.
 
-use hdl_replay::Fault;
+use hdl_programs::Fault;
 use std::alloc::{AllocError, AllocFailed};
 use std::fmt;
 use std::io::ErrorKind;

@@ -12,9 +12,9 @@ use crate::supervision::{Supervised, supervise};
 use crate::waking::{Patience, Sleep};
 use crate::workers::{join_all, start};
 use hdl_boundedrows::BoundedRows;
-use hdl_core::{Owing, Service, Tenants};
+use hdl_core::{OpenFault, Owing, Service, Tenants};
+use hdl_programs::{Fault, put_all, tenants_of};
 use hdl_queue::WriteQueue;
-use hdl_replay::{Fault, put_all, tenants_of};
 use hdl_serve::{Clock as Pauses, LaneEnds, WorkerSide, lanes_of, serve};
 use std::alloc::Global;
 use std::fs;
@@ -130,6 +130,14 @@ fn tell_and_serve<
     run_workers(rt, alloc, service, ready)
 }
 
+/// Why no service was opened, as the fault of a run.
+fn opening_fault(fault: OpenFault) -> Fault {
+    match fault {
+        OpenFault::Memory => Fault::NoMemory,
+        OpenFault::Store => Fault::StoreRefused,
+    }
+}
+
 /// Opens the service of the tenants over an empty table, tells where it listens, and serves.
 fn open_and_serve<
     R: Threads + Clock + RandomSource + Eprint + Copy + Send + Drop + 'static,
@@ -145,7 +153,10 @@ fn open_and_serve<
 ) -> Result<(), Fault>
     requires empty { T.content rows ≡ no_rows }
 {
-    let service = Service::open(alloc, tenants, rows)?;
+    let service = match Service::open(alloc, tenants, rows) {
+        Ok(service) => service,
+        Err(fault) => return Err(opening_fault(fault)),
+    };
     drop(tell_and_serve(rt, alloc, service, ready, output)?);
     Ok(())
 }
@@ -163,7 +174,10 @@ fn resume_and_serve<
     ready: Ready,
     output: &mut W,
 ) -> Result<T, Fault> {
-    let service = Service::resume(alloc, tenants, rows)?;
+    let service = match Service::resume(alloc, tenants, rows) {
+        Ok(service) => service,
+        Err(fault) => return Err(opening_fault(fault)),
+    };
     let service = tell_and_serve(rt, alloc, service, ready, output)?;
     Ok(service.into_rows())
 }

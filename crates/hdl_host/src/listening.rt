@@ -10,7 +10,7 @@ use crate::supervision::Supervision;
 use crate::waking::Patience;
 use hdl_boundedrows::Bound;
 use hdl_core::Tenants;
-use hdl_replay::Fault;
+use hdl_programs::Fault;
 use std::alloc::{AllocError, Global};
 use std::io;
 use std::net::{IpAddr, Ipv4Addr, Net, SocketAddr, TcpListener, TcpStream, UdpSocket};

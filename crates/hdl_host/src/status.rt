@@ -3,7 +3,7 @@
 use crate::counts::Counts;
 use crate::health::Health;
 use crate::sockets::nothing_came;
-use hdl_status::VERSION;
+use hdl_programs::VERSION;
 use httparse::Status;
 use httparse::spans::{EMPTY_HEADER_SPAN, parse_request};
 use std::alloc::{AllocError, Global};

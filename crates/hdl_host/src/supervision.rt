@@ -9,7 +9,7 @@ use crate::listening::{PublisherSockets, or_device};
 use crate::log::Log;
 use crate::recorder::Record;
 use crate::status::{StatusPage, serve_status};
-use hdl_replay::Fault;
+use hdl_programs::Fault;
 use std::alloc::{AllocError, Global};
 use std::fs::Files;
 use std::net::{Net, SocketAddr, TcpListener, TcpStream};

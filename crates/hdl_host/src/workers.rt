@@ -12,7 +12,7 @@ use crate::silence::Seat;
 use crate::sockets::{PacketSocket, Sockets};
 use crate::waking::{Bell, Sleep};
 use crate::watch::Watch;
-use hdl_replay::Fault;
+use hdl_programs::Fault;
 use hdl_serve::{EndReason, WorkerEnd, WorkerSide, packet_worker, stream_worker};
 use rand::make_rng;
 use std::alloc::Global;

@@ -5,7 +5,8 @@
 //! ```
 //!
 //! The script, the printed lines, the fault lines and the exit statuses are those of docs/PROTOCOL.md, "The tenants text and
-//! scripts". All lines are made before the first is written, so a fault other than that of a device prints nothing.
+//! scripts". The input is read and the output written by `hdl_programs`, whose `Fault` a run ends with. All lines are made before the first is written, so a
+//! fault other than that of a device prints nothing.
 //! [`replay`] does all of it over any empty table, a reader and two writers, and knows neither a command line nor a file. [`lines_of_resumed`] is the part
 //! between text and lines, over a table that is there already.
 //!
@@ -19,12 +20,8 @@
 //! ```
 #![tactic(auto)]
 
-mod fault;
-mod input;
 mod replaying;
 mod script;
 
-pub use fault::Fault;
-pub use input::{INPUT_LIMIT, read_input};
-pub use replaying::{line_of, lines_of_resumed, put_all, replay, tenants_of, try_replay};
+pub use replaying::{line_of, lines_of_resumed, replay, try_replay};
 pub use script::{Parts, events_of, parts_of};

@@ -1,32 +1,15 @@
 //! One run of a script.
 
-ghost use Rattle.std.specs.Prelude.{◌≡◌, ◌≢◌, OnOk, IfErr};
-ghost use Rattle.std.specs.Io.KnownBytes.{Appends, Keeps};
+ghost use Rattle.std.specs.Prelude.{◌≡◌, ◌≢◌, IfErr};
+ghost use Rattle.std.specs.Io.KnownBytes.{Keeps};
 ghost use Rattle.hdl_rows.specs.Table.{no_rows};
 
-use crate::fault::Fault;
-use crate::input::read_input;
 use crate::script::{events_of, parts_of};
-use hdl_core::{Owing, Service, Tenants};
+use hdl_core::{OpenFault, Owing, Service, Tenants};
 use hdl_events::{Event, Outcome};
+use hdl_programs::{Fault, put_all, read_input, tenants_of};
 use std::alloc::Global;
 use std::io::{Read, Write};
-
-/// Writes all octets. A write that fails, an interrupted one too, is a device fault.
-pub fn put_all<O: Write>(output: &mut O, octets: &[u8]) -> Result<(), Fault>
-    ensures ok { OnOk result (Appends (O.contents output.old) (O.contents output.new) octets.now) }
-    ensures err { IfErr result (λ e. e ≡ Fault.Device) }
-{
-    let mut rest = octets;
-    while !rest.is_empty() {
-        match output.write(rest) {
-            Ok(0) => return Err(Fault::Device),
-            Ok(count) => rest = &rest[count..],
-            Err(_) => return Err(Fault::Device),
-        }
-    }
-    Ok(())
-}
 
 /// The line that tells octets.
 fn octets_line(alloc: Global, lane: u16, word: &str, octets: &[u8]) -> Result<String, Fault> {
@@ -63,11 +46,11 @@ fn lanes_of(alloc: Global, events: &[Event]) -> Result<Vec<u16>, Fault> {
     Ok(lanes)
 }
 
-/// The tenants that the text gives, or the first fault of its lines.
-pub fn tenants_of(alloc: Global, text: &str) -> Result<Tenants, Fault> {
-    match Tenants::read(alloc, text) {
-        Ok(tenants) => Ok(tenants),
-        Err((line, fault)) => Err(Fault::Tenants(line, fault)),
+/// Why no service was opened, as the fault of a run.
+fn opening_fault(fault: OpenFault) -> Fault {
+    match fault {
+        OpenFault::Memory => Fault::NoMemory,
+        OpenFault::Store => Fault::StoreRefused,
     }
 }
 
@@ -91,8 +74,10 @@ fn outcomes_of<R: Owing + Drop>(
 ) -> Result<Vec<Outcome>, Fault>
     requires empty { R.content rows ≡ no_rows }
 {
-    let mut service = Service::open(alloc, tenants, rows)?;
-    run_events(&mut service, events)
+    match Service::open(alloc, tenants, rows) {
+        Ok(mut service) => run_events(&mut service, events),
+        Err(fault) => Err(opening_fault(fault)),
+    }
 }
 
 /// The lines of the events' outcomes, over an empty table.
@@ -117,7 +102,10 @@ pub fn lines_of_resumed<R: Owing + Drop>(
     events: Vec<Event>,
 ) -> Result<(String, R), Fault> {
     let lanes = lanes_of(alloc, events.as_slice())?;
-    let mut service = Service::resume(alloc, tenants, rows)?;
+    let mut service = match Service::resume(alloc, tenants, rows) {
+        Ok(service) => service,
+        Err(fault) => return Err(opening_fault(fault)),
+    };
     let outcomes = run_events(&mut service, events)?;
     let text = lines_of(alloc, lanes.as_slice(), outcomes.as_slice())?;
     Ok((text, service.into_rows()))

@@ -1,8 +1,8 @@
 //! What is counted, and how it is told.
 
 use crate::board::{Board, ServerRecord};
+use hdl_programs::VERSION;
 use hdl_proxy::{Answer, Media};
-use hdl_status::VERSION;
 use std::alloc::{AllocError, Global};
 use std::fmt;
 use std::sync::atomic::{AtomicU64, Ordering};

@@ -1,7 +1,7 @@
 //! The words of the command line.
 
 use clap::{Arg, ArgAction, ArgMatches, Command, Error, value_parser};
-use hdl_status::{VERSION, status_of_words, words_of};
+use hdl_programs::{VERSION, status_of_words, words_of};
 use std::alloc::{AllocError, Global};
 
 /// How the program is called: ./hdl starts it where its first word is `proxy`.

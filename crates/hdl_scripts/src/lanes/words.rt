@@ -1,7 +1,8 @@
 //! Words of the texts, and of what is printed.
 
 use hdl_events::{Event, Happening, Outcome};
-use hdl_replay::{Fault, events_of, line_of};
+use hdl_programs::Fault;
+use hdl_replay::{events_of, line_of};
 use hdl_serve::{EndReason, Item};
 use hdl_tenants::decimal;
 use std::alloc::Global;

@@ -1,6 +1,6 @@
 use Rattle.std.proofs.Common.{◌≤◌, ◌^◌, ◌+◌, ◌-◌, vec_len}
 use Rattle.std.specs.Io.KnownBytes.{Consumes}
-use Rattle.hdl_replay.proofs.input.read_input.Given as goal
+use Rattle.hdl_programs.proofs.input.read_input.Given as goal
 
 -- what was read is what the input lost
 abbrev pub invariant-chunks : goal.invariant-chunks

@@ -1,7 +1,7 @@
 use Rattle.std.proofs.Common.{◌≡◌, ◌≤◌, ◌-◌, ◌++◌, ℕ, List, length, take, drop, arith}
 use Rattle.std.proofs.lemmas.Grind.{common_steps}
 use Rattle.std.proofs.KnownBytes.{Appends-trans}
-use Rattle.hdl_replay.proofs.replaying.put_all.Goals as goal
+use Rattle.hdl_programs.proofs.output.put_all.Goals as goal
 
 -- what is left after n octets, as the slice `rest[n..]` is seen
 split_rest : (done rest all : List ℕ) (n : ℕ) → n ≤ length rest → done ++ rest ≡ all → (done ++ take n rest) ++ take (length rest - n) (drop n rest) ≡ all

@@ -1,6 +1,6 @@
 use Rattle.std.proofs.Common.{◌≡◌, length, ◌++◌, List, ℕ}
 use Rattle.std.specs.Io.KnownBytes.{Appends}
-use Rattle.hdl_replay.proofs.replaying.put_all.Given as goal
+use Rattle.hdl_programs.proofs.output.put_all.Given as goal
 
 -- what is written so far, and what is left, is the whole
 abbrev pub invariant-loop-rest : goal.invariant-loop-rest
