@@ -1,7 +1,7 @@
 //! Checking a tenants text before it is served.
 
 use hdl_check::{Report, check};
-use hdl_replay::{Fault, put_all};
+use hdl_programs::{Fault, put_all};
 
 /// The exit status of a text with faults, as where it is served.
 const FAULTY: u8 = 3;

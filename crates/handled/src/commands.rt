@@ -1,7 +1,7 @@
 //! The commands and options of the command line.
 
 use clap::{Arg, ArgAction, Command, value_parser};
-use hdl_status::VERSION;
+use hdl_programs::VERSION;
 use std::alloc::{AllocError, Global};
 
 /// An option with a value.

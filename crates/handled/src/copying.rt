@@ -5,7 +5,7 @@
 //! of the changes, with each that was answered before the copy began: a page that was moved into the file meanwhile is in the log too, which goes before it.
 
 use crate::tabled::{TabledFault, close_copy};
-use hdl_replay::Fault;
+use hdl_programs::Fault;
 use std::fmt;
 use std::fs::{File, OpenOptions};
 use std::io::{self, ErrorKind, Read, Write};

@@ -4,7 +4,7 @@ use crate::bounds::has_publisher;
 use crate::tabled::{Closing, FileWork, TabledFault};
 use hdl_core::Tenants;
 use hdl_export::{ExportFault, LeftOut, export, export_publisher, left_out, left_out_of};
-use hdl_replay::{Fault, put_all};
+use hdl_programs::{Fault, put_all};
 use hdl_rows::{Owing, Rows};
 
 /// The exit status where the table has handles that the text can't say.

@@ -2,7 +2,7 @@
 
 use hdl_core::Tenants;
 use hdl_host::{AMPLIFY, Limits};
-use hdl_status::VERSION;
+use hdl_programs::VERSION;
 use std::fmt;
 
 /// Where the table is.

@@ -6,7 +6,8 @@ ghost use Rattle.hdl_rows.specs.Table.{no_rows};
 use crate::tabled::{Closing, FileWork, TabledFault, without_bounds};
 use hdl_core::{Owing, Tenants};
 use hdl_events::Event;
-use hdl_replay::{Fault, events_of, lines_of_resumed, parts_of, put_all, replay, tenants_of};
+use hdl_programs::{Fault, put_all, tenants_of};
+use hdl_replay::{events_of, lines_of_resumed, parts_of, replay};
 
 /// Runs the script on standard input over an empty table, and answers the exit status.
 pub fn replay_input<T: Owing + Drop>(rt: &HostRuntime, rows: T) -> Result<u8, Fault>

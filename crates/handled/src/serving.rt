@@ -7,7 +7,7 @@ use crate::notices::{Notice, say_begins, say_ends};
 use crate::tabled::{Closing, TabledFault};
 use hdl_core::{Owing, Tenants};
 use hdl_host::{Ending, Setting, host_resumed, host_tenants};
-use hdl_replay::Fault;
+use hdl_programs::Fault;
 use std::fs::Files;
 use std::net::{Net, TcpListener, TcpStream};
 use std::random::RandomSource;

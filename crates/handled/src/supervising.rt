@@ -1,7 +1,7 @@
 //! What a server tells of itself, and the word that ends one.
 
 use hdl_host::{Log, STOP};
-use hdl_replay::Fault;
+use hdl_programs::Fault;
 use std::fs::OpenOptions;
 use std::io::{self, ErrorKind, Read, Write};
 use std::os::unix::fs::OpenOptionsExt;

@@ -15,7 +15,7 @@ use hdl_host::{Health, HostFault, Notices};
 use hdl_lastingrows::{
     Alarm, LastingRows, TableFault, ThreadedFile, Writer, open_file, table_beside,
 };
-use hdl_replay::Fault;
+use hdl_programs::Fault;
 use hdl_rows::PlainRows;
 use hdl_sqlrows::SqlRows;
 use hdl_sqlrows::load::Progress;

@@ -6,8 +6,7 @@ use clap::error::ErrorKind;
 use clap::{ArgMatches, Error};
 use hdl_cachedrows::LIMIT_DEFAULT;
 use hdl_host::{Amount, Limits, Setting, Supervision};
-use hdl_replay::Fault;
-use hdl_status::{status_of_words, words_of};
+use hdl_programs::{Fault, status_of_words, words_of};
 use std::alloc::{AllocError, Global};
 use std::net::{IpAddr, Ipv4Addr, SocketAddr};
 
