@@ -94,6 +94,21 @@ fn lines_of_run<R: Owing + Drop>(
     lines_of(alloc, lanes.as_slice(), outcomes.as_slice())
 }
 
+/// The outcomes of the events, over a table that is there already, and the table after them.
+fn outcomes_of_resumed<R: Owing + Drop>(
+    alloc: Global,
+    rows: R,
+    tenants: Tenants,
+    events: Vec<Event>,
+) -> Result<(Vec<Outcome>, R), Fault> {
+    let mut service = match Service::resume(alloc, tenants, rows) {
+        Ok(service) => service,
+        Err(fault) => return Err(opening_fault(fault)),
+    };
+    let outcomes = run_events(&mut service, events)?;
+    Ok((outcomes, service.into_rows()))
+}
+
 /// The lines of the events' outcomes, over a table that is there already, and the table after them.
 pub fn lines_of_resumed<R: Owing + Drop>(
     alloc: Global,
@@ -102,13 +117,9 @@ pub fn lines_of_resumed<R: Owing + Drop>(
     events: Vec<Event>,
 ) -> Result<(String, R), Fault> {
     let lanes = lanes_of(alloc, events.as_slice())?;
-    let mut service = match Service::resume(alloc, tenants, rows) {
-        Ok(service) => service,
-        Err(fault) => return Err(opening_fault(fault)),
-    };
-    let outcomes = run_events(&mut service, events)?;
+    let (outcomes, rows) = outcomes_of_resumed(alloc, rows, tenants, events)?;
     let text = lines_of(alloc, lanes.as_slice(), outcomes.as_slice())?;
-    Ok((text, service.into_rows()))
+    Ok((text, rows))
 }
 
 /// What a script prints, over an empty table.
