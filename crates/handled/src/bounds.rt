@@ -3,18 +3,13 @@
 use hdl_core::Tenants;
 use hdl_host::{Amount, Bound};
 use hdl_name::Name;
+use hdl_server_options::BoundWord;
+use hdl_tables::has_publisher;
 use std::alloc::{AllocError, AllocFailed, Global};
 use std::fmt;
 
-/// A word behind `--bound`: a publisher's name, and the most that it may hold.
-#[derive(Debug, Drop)]
-pub struct BoundWord {
-    pub publisher: String,
-    pub most: Amount,
-}
-
 /// Why a server can't have its bounds.
-#[derive(Debug, Drop)]
+#[derive(Drop)]
 pub enum BoundFault {
     Memory,
     /// The text has no publisher of this name.
@@ -74,18 +69,6 @@ impl BoundFault {
     }
 }
 
-/// Whether the text has a publisher of this name.
-pub fn has_publisher(tenants: &Tenants, name: &str) -> bool {
-    for place in 0..tenants.publishers() {
-        if let Some((publisher, _, _)) = tenants.publisher(place) {
-            if publisher == name {
-                return true;
-            }
-        }
-    }
-    false
-}
-
 /// The prefix that a line of an accepted text gives to this publisher.
 fn prefix_on<'a>(line: &'a str, publisher: &str) -> Option<&'a str> {
     let mut fields = line.split(' ');
@@ -102,7 +85,12 @@ fn prefix_on<'a>(line: &'a str, publisher: &str) -> Option<&'a str> {
 
 /// The bound of a word, with the prefixes that the text gives to its publisher.
 fn bound_of(alloc: Global, word: BoundWord, text: &str) -> Result<Bound, AllocError> {
-    let BoundWord { publisher, most } = word;
+    let BoundWord {
+        publisher,
+        values,
+        octets,
+    } = word;
+    let most = Amount { values, octets };
     let mut roots = Vec::new(alloc);
     for line in text.lines() {
         if let Some(prefix) = prefix_on(line, publisher.as_str()) {

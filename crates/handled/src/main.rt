@@ -3,30 +3,33 @@
 //! `handled` and `handled replay` are [`hdl_replay::replay`], handed the standard streams and a table in SQL, in memory.
 //! `handled serve` is [`hdl_host::host_tenants`], handed the tenants text on standard input and such a table, whose handles are kept where they
 //! were read last (hdl_cachedrows). `handled check` says what such a text has, or all of its faults (hdl_check), `handled export` writes a table as such a text (hdl_export). With `--table FILE` both go on over the table in that file (hdl_lastingrows). What is printed, the fault lines and the exit statuses are those of docs/PROTOCOL.md, "The tenants
-//! text and scripts". This crate has the command line alone, since nothing else needs `clap`.
+//! text and scripts". The command line is hdl_server_options, and what opens, copies and exports tables hdl_tables.
 #![tactic(auto)]
 
 mod bounds;
 mod checking;
-mod commands;
-mod copying;
-mod exporting;
+mod fault;
 mod notices;
+mod plan;
 mod ports;
 mod replaying;
 mod serving;
 mod supervising;
-mod tabled;
-mod words;
 
-use bounds::{BoundWord, bounds_of};
 use checking::check_text;
-use copying::copy_table;
-use exporting::{Export, has_named};
+use fault::ProgramFault;
+use hdl_cachedrows::LIMIT_DEFAULT;
 use hdl_core::Tenants;
 use hdl_host::{Health, HostFault, Setting};
 use hdl_lastingrows::TableFault;
 use hdl_programs::{Fault, read_input, status_of_words, tenants_of};
+use hdl_server_options::{Invocation, ServeOptions, TableFile, read_options};
+use hdl_tables::{
+    Export, FileWork, TablePath, TabledFault, copy_table, empty_table, has_named, is_new,
+    open_served, over_file,
+};
+use notices::TableNotices;
+use plan::{Plan, Planned, plan_of, setting_of};
 use ports::can_listen;
 use replaying::{ReadScript, replay_input};
 use serving::{serve_memory, serve_table};
@@ -37,9 +40,7 @@ use std::random::RandomSource;
 use std::rt::Clock;
 use std::sync::Arc;
 use std::thread::Threads;
-use supervising::{log_at, stop};
-use tabled::{TabledFault, empty_table, is_new, open_served, over_file};
-use words::{Invocation, TableFile, read_words};
+use supervising::stop;
 
 /// The whole input as a text.
 fn read_text(rt: &HostRuntime) -> Result<String, Fault> {
@@ -51,9 +52,9 @@ fn read_text(rt: &HostRuntime) -> Result<String, Fault> {
 }
 
 /// Runs the script on standard input over a table in memory, and answers the exit status.
-fn replay_memory<R: Threads + Drop>(rt: &HostRuntime) -> Result<u8, Fault> {
-    let rows = empty_table::<R>(rt, 0)?;
-    replay_input(rt, rows)
+fn replay_memory<R: Threads + Drop>(rt: &HostRuntime) -> Result<u8, ProgramFault> {
+    let rows = empty_table::<R, TableNotices>(rt, 0)?;
+    Ok(replay_input(rt, rows)?)
 }
 
 /// Whether each port of a server can be had, where the file of its table is new: a start that fails at one leaves no new file behind.
@@ -63,18 +64,27 @@ fn try_ports(
     tenants: &Tenants,
     setting: &Setting,
 ) -> Result<(), HostFault> {
-    if is_new(rt, file) {
+    if is_new(rt, file.path.as_str()) {
         can_listen(rt, rt.alloc(), tenants, setting.addresses.as_slice())?;
     }
     Ok(())
 }
 
-/// What the status page tells of the table in this setting.
-fn health_of(setting: &Setting) -> Result<Arc<Health>, TableFault> {
-    Ok(Arc::try_clone(&setting.supervision.health)?)
+/// Where the file of the table is.
+fn place_of(file: &TableFile) -> TablePath<'_> {
+    TablePath {
+        path: file.path.as_str(),
+        has_sums: file.has_sums,
+    }
 }
 
-/// Serves over the table in the file, and answers the exit status.
+/// Who hears of the table's file in this setting: its status page tells it.
+fn notices_of(rt: &HostRuntime, setting: &Setting) -> Result<TableNotices, TableFault> {
+    let health = Arc::try_clone(&setting.supervision.health)?;
+    Ok(TableNotices::new(rt, health))
+}
+
+/// Serves by this plan over the table in the file, and answers the exit status.
 fn serve_file<
     R: Net<Listener = TcpListener, Stream = TcpStream>
         + Threads
@@ -86,17 +96,41 @@ fn serve_file<
         + Send
         + Drop
         + 'static,
+    P: Plan,
+>(machine: &R, rt: &HostRuntime, file: &TableFile, plan: P) -> Result<u8, ProgramFault> {
+    try_ports(rt, file, plan.tenants(), plan.setting())?;
+    let notices = notices_of(rt, plan.setting())?;
+    let table = open_served(*machine, rt, place_of(file), plan.tenants(), notices, true)?;
+    serve_table(machine, rt, table, plan, file.path.as_str())
+}
+
+/// Serves by this plan, over the table in the file, if one is named, and else over one in memory. Answers the exit status.
+fn serve_plan<
+    R: Net<Listener = TcpListener, Stream = TcpStream>
+        + Threads
+        + Clock
+        + RandomSource
+        + Files
+        + Eprint
+        + Copy
+        + Send
+        + Drop
+        + 'static,
+    P: Plan,
 >(
     machine: &R,
     rt: &HostRuntime,
-    file: &TableFile,
-    tenants: Tenants,
-    setting: Setting,
-) -> Result<u8, TabledFault> {
-    try_ports(rt, file, &tenants, &setting)?;
-    let health = health_of(&setting)?;
-    let table = open_served(*machine, rt, file, &tenants, health, true)?;
-    serve_table(machine, rt, table, tenants, setting, file.path.as_str())
+    plan: P,
+    row_cache: usize,
+    table: Option<TableFile>,
+) -> Result<u8, ProgramFault> {
+    match table {
+        None => {
+            let rows = empty_table::<R, TableNotices>(rt, row_cache)?;
+            serve_memory(machine, rt, rows, plan, row_cache)
+        }
+        Some(file) => serve_file(machine, rt, &file, plan),
+    }
 }
 
 /// Serves the tenants of the text on standard input, and answers the exit status.
@@ -111,30 +145,34 @@ fn serve<
         + Send
         + Drop
         + 'static,
->(
-    machine: &R,
-    rt: &HostRuntime,
-    mut setting: Setting,
-    bounds: Vec<BoundWord>,
-    row_cache: usize,
-    table: Option<TableFile>,
-) -> Result<u8, TabledFault> {
+>(machine: &R, rt: &HostRuntime, options: ServeOptions) -> Result<u8, ProgramFault> {
+    let ServeOptions {
+        addresses,
+        limits,
+        supervision,
+        bounds,
+        row_cache,
+        table,
+    } = options;
+    let setting = setting_of(rt, addresses, limits, supervision)?;
+    let row_cache = row_cache.unwrap_or(LIMIT_DEFAULT);
     let text = read_text(rt)?;
-    let tenants = tenants_of(rt.alloc(), text.as_str())?;
-    match bounds_of(rt.alloc(), bounds, text.as_str(), &tenants) {
-        Ok(bounds) => setting.bounds = bounds,
-        Err(fault) => {
-            let _ = eprintln!(rt; "{fault}");
-            return Ok(fault.status());
-        }
+    match plan_of(rt, text.as_str(), setting, bounds)? {
+        Planned::Plan(plan) => serve_plan(machine, rt, plan, row_cache, table),
+        Planned::Refused(status) => Ok(status),
     }
-    match table {
-        None => {
-            let rows = empty_table::<R>(rt, row_cache)?;
-            serve_memory(machine, rt, rows, tenants, setting, row_cache)
-        }
-        Some(file) => serve_file(machine, rt, &file, tenants, setting),
-    }
+}
+
+/// Does this over the table in the file, which nobody serves.
+fn over_unserved<R: Threads + Drop, W: FileWork>(
+    machine: R,
+    rt: &HostRuntime,
+    file: &TableFile,
+    work: W,
+) -> Result<u8, TabledFault> {
+    let health = Arc::new(rt.alloc(), Health::new()).map_err(Fault::from)?;
+    let notices = TableNotices::new(rt, health);
+    over_file(machine, rt, place_of(file), notices, work)
 }
 
 /// Prints the table in the file as a tenants text, or the part of the publisher of this name, and answers the exit status. The file is opened as
@@ -143,11 +181,22 @@ fn export_file<R: Threads + Drop>(
     machine: R,
     rt: &HostRuntime,
     file: &TableFile,
+    publisher: Option<String>,
+) -> Result<u8, ProgramFault> {
+    let text = read_text(rt)?;
+    export_text(machine, rt, file, text.as_str(), publisher)
+}
+
+/// Does so with the publishers and prefixes of this text.
+fn export_text<R: Threads + Drop>(
+    machine: R,
+    rt: &HostRuntime,
+    file: &TableFile,
     text: &str,
     publisher: Option<String>,
-) -> Result<u8, TabledFault> {
-    if is_new(rt, file) {
-        return Err(TabledFault::Table(TableFault::CannotOpen));
+) -> Result<u8, ProgramFault> {
+    if is_new(rt, file.path.as_str()) {
+        return Err(ProgramFault::from(TableFault::CannotOpen));
     }
     let tenants = tenants_of(rt.alloc(), text)?;
     if !has_named(rt, &tenants, &publisher) {
@@ -158,7 +207,30 @@ fn export_file<R: Threads + Drop>(
         text,
         publisher,
     };
-    over_file(machine, rt, file, export)
+    Ok(over_unserved(machine, rt, file, export)?)
+}
+
+/// Runs the script on standard input over the table in the file, and answers the exit status.
+fn replay_file<R: Threads + Drop>(
+    machine: R,
+    rt: &HostRuntime,
+    file: &TableFile,
+) -> Result<u8, ProgramFault> {
+    let text = read_text(rt)?;
+    let script = ReadScript::of_text(rt, text.as_str())?;
+    Ok(over_unserved(machine, rt, file, script)?)
+}
+
+/// Says what the text on standard input has, or all of its faults, and answers the exit status.
+fn check_input(rt: &HostRuntime) -> Result<u8, ProgramFault> {
+    let text = read_text(rt)?;
+    Ok(check_text(rt, text.as_str())?)
+}
+
+/// Copies the table's file, and answers the exit status.
+fn copy_file(rt: &HostRuntime, from: &str, to: &str) -> Result<u8, ProgramFault> {
+    copy_table(rt, from, to)?;
+    Ok(0)
 }
 
 /// Does what the command line asks for, and answers the exit status.
@@ -173,40 +245,16 @@ fn run<
         + Send
         + Drop
         + 'static,
->(machine: &R, rt: &HostRuntime) -> Result<u8, TabledFault> {
-    match read_words(rt)? {
+>(machine: &R, rt: &HostRuntime) -> Result<u8, ProgramFault> {
+    match read_options(rt)? {
         Invocation::Ended(status) => Ok(status),
-        Invocation::Check => {
-            let text = read_text(rt)?;
-            Ok(check_text(rt, text.as_str())?)
-        }
-        Invocation::Export { table, publisher } => {
-            let text = read_text(rt)?;
-            export_file(*machine, rt, &table, text.as_str(), publisher)
-        }
-        Invocation::Replay { table: None } => Ok(replay_memory::<R>(rt)?),
-        Invocation::Replay { table: Some(file) } => {
-            let text = read_text(rt)?;
-            let script = ReadScript::of_text(rt, text.as_str())?;
-            over_file(*machine, rt, &file, script)
-        }
-        Invocation::Copy { from, to } => {
-            copy_table(rt, from.as_str(), to.as_str())?;
-            Ok(0)
-        }
+        Invocation::Check => check_input(rt),
+        Invocation::Export { table, publisher } => export_file(*machine, rt, &table, publisher),
+        Invocation::Replay { table: None } => replay_memory::<R>(rt),
+        Invocation::Replay { table: Some(file) } => replay_file(*machine, rt, &file),
+        Invocation::Copy { from, to } => copy_file(rt, from.as_str(), to.as_str()),
         Invocation::Stop { control } => Ok(stop(rt, control.as_str())),
-        Invocation::Serve {
-            mut setting,
-            bounds,
-            log,
-            row_cache,
-            table,
-        } => {
-            if let Some(path) = log {
-                setting.supervision.log = Some(log_at(rt, path.as_str())?);
-            }
-            serve(machine, rt, setting, bounds, row_cache, table)
-        }
+        Invocation::Serve(options) => serve(machine, rt, options),
     }
 }
 

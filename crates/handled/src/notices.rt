@@ -1,12 +1,15 @@
-//! What a server says on standard error as it begins and as it ends.
+//! What a server says on standard error: as it begins, of its table's file, and as it ends.
 
 use hdl_core::Tenants;
-use hdl_host::{AMPLIFY, Limits};
+use hdl_host::{AMPLIFY, Health, Limits};
+use hdl_lastingrows::Alarm;
 use hdl_programs::VERSION;
+use hdl_sqlrows::load::Progress;
 use std::fmt;
+use std::sync::Arc;
 
 /// Where the table is.
-#[derive(Clone, Copy, Debug)]
+#[derive(Clone, Copy)]
 pub enum Notice<'a> {
     /// In memory alone; the handles that were read last may take so many octets more.
     Memory { row_cache: usize },
@@ -24,7 +27,7 @@ impl fmt::Display for Notice<'_> {
 }
 
 /// What a server begins with.
-#[derive(Clone, Copy, Debug)]
+#[derive(Clone, Copy)]
 struct Beginning<'a> {
     publishers: usize,
     lanes: u16,
@@ -76,4 +79,54 @@ pub fn say_ends(rt: &HostRuntime, was_asked: bool) {
         "the turns are spent"
     };
     let _ = eprintln!(rt; "handled: ends: {reason}");
+}
+
+/// After so many rows that were read it is said.
+const STEP: u64 = 100_000;
+
+/// Says on standard error how far the load of a large table is, and that the table takes no more writes.
+#[derive(Drop)]
+pub struct TableNotices {
+    rt: HostRuntime,
+    /// What the status page tells of the table.
+    health: Arc<Health>,
+    /// How many times it was said that the table takes no more writes.
+    rings: u64,
+}
+
+impl TableNotices {
+    /// Nothing was said.
+    pub fn new(rt: &HostRuntime, health: Arc<Health>) -> TableNotices {
+        TableNotices {
+            rt: *rt,
+            health,
+            rings: 0,
+        }
+    }
+}
+
+impl Alarm for TableNotices {
+    ghost rings = { λ s. s.rings };
+
+    fn ring(&mut self) {
+        self.rings = self.rings.saturating_add(1);
+        self.health.shut();
+        let _ = eprintln!(self.rt;
+            "table: shut for writes: a sync of the file failed, so nobody can tell whether it has the last change; reads go on, changes are answered busy; restart once the cause is gone"
+        );
+    }
+}
+
+impl Progress for TableNotices {
+    fn handles(&mut self, count: u64) {
+        if count % STEP == 0 {
+            let _ = eprintln!(self.rt; "table: {count} handles read");
+        }
+    }
+
+    fn values(&mut self, count: u64) {
+        if count % STEP == 0 {
+            let _ = eprintln!(self.rt; "table: {count} values read");
+        }
+    }
 }

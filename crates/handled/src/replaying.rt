@@ -1,13 +1,29 @@
 //! Scripts, over a table in memory and over the one in a file.
 
-ghost use Rattle.std.specs.Prelude.{◌≡◌};
+ghost use Rattle.std.specs.Prelude.{◌≡◌, IfOk};
 ghost use Rattle.hdl_rows.specs.Table.{no_rows};
 
-use crate::tabled::{Closing, FileWork, TabledFault, without_bounds};
+use hdl_boundedrows::BoundedRows;
 use hdl_core::{Owing, Tenants};
 use hdl_events::Event;
+use hdl_host::Notices;
 use hdl_programs::{Fault, put_all, tenants_of};
 use hdl_replay::{events_of, lines_of_resumed, parts_of, replay};
+use hdl_tables::{Closing, FileWork, TabledFault};
+
+/// A table behind no bounds, as one that is served is behind its own.
+fn without_bounds<T: Owing + Drop>(
+    rt: &HostRuntime,
+    rows: T,
+) -> Result<BoundedRows<T, Notices<HostRuntime>>, Fault>
+    ensures { IfOk result (λ bounded. bounded.table ≡ T.content rows) }
+{
+    let alloc = rt.alloc();
+    match BoundedRows::new(alloc, rows, Vec::new(alloc), Notices::new(*rt)) {
+        Ok(rows) => Ok(rows),
+        Err(_) => Err(Fault::StoreRefused),
+    }
+}
 
 /// Runs the script on standard input over an empty table, and answers the exit status.
 pub fn replay_input<T: Owing + Drop>(rt: &HostRuntime, rows: T) -> Result<u8, Fault>

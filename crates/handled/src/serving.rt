@@ -3,11 +3,13 @@
 ghost use Rattle.std.specs.Prelude.{◌≡◌};
 ghost use Rattle.hdl_rows.specs.Table.{no_rows};
 
+use crate::fault::ProgramFault;
 use crate::notices::{Notice, say_begins, say_ends};
-use crate::tabled::{Closing, TabledFault};
-use hdl_core::{Owing, Tenants};
+use crate::plan::Plan;
+use hdl_core::Owing;
 use hdl_host::{Ending, Setting, host_resumed, host_tenants};
 use hdl_programs::Fault;
+use hdl_tables::Closing;
 use std::fs::Files;
 use std::net::{Net, TcpListener, TcpStream};
 use std::random::RandomSource;
@@ -20,7 +22,7 @@ fn ending_of(setting: &Setting) -> Result<Arc<Ending>, Fault> {
     Ok(Arc::try_clone(&setting.supervision.ending)?)
 }
 
-/// Serves these tenants over an empty table in memory, and answers the exit status.
+/// Serves by this plan over an empty table in memory, and answers the exit status.
 pub fn serve_memory<
     R: Net<Listener = TcpListener, Stream = TcpStream>
         + Threads
@@ -33,25 +35,21 @@ pub fn serve_memory<
         + Drop
         + 'static,
     T: Owing + Drop,
->(
-    machine: &R,
-    rt: &HostRuntime,
-    rows: T,
-    tenants: Tenants,
-    setting: Setting,
-    row_cache: usize,
-) -> Result<u8, TabledFault>
+    P: Plan,
+>(machine: &R, rt: &HostRuntime, rows: T, plan: P, row_cache: usize) -> Result<u8, ProgramFault>
     requires empty { T.content rows ≡ no_rows }
 {
-    say_begins(rt, &tenants, Notice::Memory { row_cache }, setting.limits);
+    let limits = plan.setting().limits;
+    say_begins(rt, plan.tenants(), Notice::Memory { row_cache }, limits);
     let mut output = rt.stdout();
-    let ending = ending_of(&setting)?;
+    let ending = ending_of(plan.setting())?;
+    let (tenants, setting) = plan.into_parts();
     host_tenants(machine, rt.alloc(), rows, tenants, setting, &mut output)?;
     say_ends(rt, ending.is_asked());
     Ok(0)
 }
 
-/// Serves these tenants over the table in the file at this path, and closes it. Answers the exit status.
+/// Serves by this plan over the table in the file at this path, and closes it. Answers the exit status.
 pub fn serve_table<
     R: Net<Listener = TcpListener, Stream = TcpStream>
         + Threads
@@ -64,17 +62,13 @@ pub fn serve_table<
         + Drop
         + 'static,
     T: Owing + Closing + Drop,
->(
-    machine: &R,
-    rt: &HostRuntime,
-    table: T,
-    tenants: Tenants,
-    setting: Setting,
-    path: &str,
-) -> Result<u8, TabledFault> {
-    say_begins(rt, &tenants, Notice::File(path), setting.limits);
+    P: Plan,
+>(machine: &R, rt: &HostRuntime, table: T, plan: P, path: &str) -> Result<u8, ProgramFault> {
+    let limits = plan.setting().limits;
+    say_begins(rt, plan.tenants(), Notice::File(path), limits);
     let mut output = rt.stdout();
-    let ending = ending_of(&setting)?;
+    let ending = ending_of(plan.setting())?;
+    let (tenants, setting) = plan.into_parts();
     host_resumed(machine, rt.alloc(), table, tenants, setting, &mut output)?.close()?;
     say_ends(rt, ending.is_asked());
     Ok(0)

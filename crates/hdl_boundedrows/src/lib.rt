@@ -12,7 +12,7 @@
 //! It stands on `hdl_rows` and what that speaks of.
 //!
 //! ```rust
-//! // crates/handled/src/tabled.rt
+//! // crates/handled/src/replaying.rt
 //! match BoundedRows::new(alloc, rows, Vec::new(alloc), Notices::new(*rt)) {
 //!     Ok(rows) => Ok(rows),
 //!     Err(_) => Err(Fault::StoreRefused),

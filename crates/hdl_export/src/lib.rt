@@ -19,7 +19,7 @@
 //! these, which no clause says.
 //!
 //! ```rust
-//! // crates/handled/src/exporting.rt
+//! // crates/hdl_tables/src/exporting.rt
 //! let out = export(rt.alloc(), text, rows)?;
 //! put_all(&mut rt.stdout(), out.as_bytes())?;
 //! Ok(say_left_out(rt, left_out(rt.alloc(), text, rows)?))

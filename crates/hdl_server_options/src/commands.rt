@@ -171,19 +171,36 @@ fn export_command<'a>(alloc: Global) -> Result<Command<'a>, AllocError> {
         ))
 }
 
+fn check_command<'a>(alloc: Global) -> Command<'a> {
+    Command::new(alloc, "check").about(
+        "Says what the tenants text on standard input has, or all of its faults, and serves nothing",
+    )
+}
+
+/// The command line, before it has commands.
+fn empty_command<'a>(alloc: Global) -> Command<'a> {
+    Command::new(alloc, "handled").version(VERSION).about(
+        "A local handle service; with no word, as with replay, it runs the script on standard input",
+    )
+}
+
+/// The command line with one more command, if that could be made.
+///
+/// Who makes a command owns no other one meanwhile: a function's proof writes out what it lets go of at each of its exits.
+fn with_command<'a>(
+    whole: Command<'a>,
+    made: Result<Command<'a>, AllocError>,
+) -> Result<Command<'a>, AllocError> {
+    whole.subcommand(made?)
+}
+
 /// The whole command line.
 pub fn command<'a>(alloc: Global) -> Result<Command<'a>, AllocError> {
-    Command::new(alloc, "handled")
-        .version(VERSION)
-        .about(
-            "A local handle service; with no word, as with replay, it runs the script on standard input",
-        )
-        .subcommand(replay_command(alloc)?)?
-        .subcommand(serve_command(alloc)?)?
-        .subcommand(export_command(alloc)?)?
-        .subcommand(copy_command(alloc)?)?
-        .subcommand(stop_command(alloc)?)?
-        .subcommand(Command::new(alloc, "check").about(
-            "Says what the tenants text on standard input has, or all of its faults, and serves nothing",
-        ))
+    let whole = empty_command(alloc);
+    let whole = with_command(whole, replay_command(alloc))?;
+    let whole = with_command(whole, serve_command(alloc))?;
+    let whole = with_command(whole, export_command(alloc))?;
+    let whole = with_command(whole, copy_command(alloc))?;
+    let whole = with_command(whole, stop_command(alloc))?;
+    with_command(whole, Ok(check_command(alloc)))
 }

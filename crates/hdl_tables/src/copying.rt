@@ -4,8 +4,10 @@
 //! with another header. So a copy of the file and then of the log, between two looks that find one header, opens as the table after a beginning
 //! of the changes, with each that was answered before the copy began: a page that was moved into the file meanwhile is in the log too, which goes before it.
 
-use crate::tabled::{TabledFault, close_copy};
+use crate::fault::TabledFault;
+use hdl_lastingrows::{TableFault, open_file};
 use hdl_programs::Fault;
+use sqlite::Wary;
 use std::fmt;
 use std::fs::{File, OpenOptions};
 use std::io::{self, ErrorKind, Read, Write};
@@ -24,7 +26,7 @@ const HEADER: usize = 32;
 const TRIES: u32 = 10;
 
 /// Why a file isn't copied.
-#[derive(Clone, Copy, Debug)]
+#[derive(Clone, Copy)]
 pub enum CopyFault {
     /// The file can't be read.
     From(ErrorKind),
@@ -164,6 +166,14 @@ fn copy_both(rt: &HostRuntime, from: &Paths<'_>, to: &Paths<'_>) -> Result<(), C
         }
     }
     Err(CopyFault::Busy)
+}
+
+/// Opens a copy of a table's file, which takes in its log, and closes it.
+fn close_copy(rt: &HostRuntime, path: &str) -> Result<(), TabledFault> {
+    match open_file(rt, path, false, Wary)?.close() {
+        Ok(()) => Ok(()),
+        Err(fault) => Err(TabledFault::Table(TableFault::from(fault))),
+    }
 }
 
 /// Copies the table's file, and moves the log of the copy into it.

@@ -1,11 +1,12 @@
 //! Writing a table as a tenants text.
 
-use crate::bounds::has_publisher;
-use crate::tabled::{Closing, FileWork, TabledFault};
-use hdl_core::Tenants;
+use crate::closing::Closing;
+use crate::fault::TabledFault;
+use crate::file::FileWork;
 use hdl_export::{ExportFault, LeftOut, export, export_publisher, left_out, left_out_of};
 use hdl_programs::{Fault, put_all};
 use hdl_rows::{Owing, Rows};
+use hdl_tenants::Tenants;
 
 /// The exit status where the table has handles that the text can't say.
 const INCOMPLETE: u8 = 5;
@@ -30,6 +31,18 @@ fn say_left_out(rt: &HostRuntime, left: LeftOut) -> u8 {
         "export: left out, since no tenants text says them: {empty} handles without a value, {unsayable} with a space or a line feed in the name"
     );
     INCOMPLETE
+}
+
+/// Whether the text has a publisher of this name.
+pub fn has_publisher(tenants: &Tenants, name: &str) -> bool {
+    for place in 0..tenants.publishers() {
+        if let Some((publisher, _, _)) = tenants.publisher(place) {
+            if publisher == name {
+                return true;
+            }
+        }
+    }
+    false
 }
 
 /// Whether the text has a publisher of the name that was given, if one was; says on standard error where it hasn't.
@@ -74,6 +87,26 @@ pub struct Export<'a> {
     pub publisher: Option<String>,
 }
 
+impl Export<'_> {
+    /// Prints it, and answers the exit status.
+    fn put<R: Rows>(&self, rt: &HostRuntime, rows: &mut R) -> Result<u8, TabledFault> {
+        match &self.publisher {
+            Some(name) => put_publisher(rt, self.text, name.as_str(), rows),
+            None => put_export(rt, self.text, rows),
+        }
+    }
+}
+
+/// Closes the table where it was printed, and answers the exit status.
+fn close_after<T: Closing + Drop>(
+    table: T,
+    printed: Result<u8, TabledFault>,
+) -> Result<u8, TabledFault> {
+    let status = printed?;
+    table.close()?;
+    Ok(status)
+}
+
 impl FileWork for Export<'_> {
     fn tenants(&self) -> &Tenants {
         &self.tenants
@@ -81,11 +114,7 @@ impl FileWork for Export<'_> {
 
     fn run<T: Owing + Closing + Drop>(self, rt: &HostRuntime, table: T) -> Result<u8, TabledFault> {
         let mut table = table;
-        let status = match &self.publisher {
-            Some(name) => put_publisher(rt, self.text, name.as_str(), &mut table)?,
-            None => put_export(rt, self.text, &mut table)?,
-        };
-        table.close()?;
-        Ok(status)
+        let printed = self.put(rt, &mut table);
+        close_after(table, printed)
     }
 }

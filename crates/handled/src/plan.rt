@@ -1,0 +1,113 @@
+//! Whom the program serves, and in which setting.
+
+use crate::bounds::bounds_of;
+use crate::supervising::log_at;
+use hdl_core::Tenants;
+use hdl_host::{Limits, Setting, Supervision};
+use hdl_programs::{Fault, tenants_of};
+use hdl_server_options::{BoundWord, LimitOptions, SupervisionOptions};
+use std::net::IpAddr;
+
+/// Whom is served, and in which setting.
+///
+/// What hands it on is generic over it: proving a function that owns its parts costs many times as much.
+pub trait Plan: Drop {
+    fn tenants(&self) -> &Tenants;
+
+    fn setting(&self) -> &Setting;
+
+    fn into_parts(self) -> (Tenants, Setting);
+}
+
+/// The tenants of a text, served in this setting.
+#[derive(Drop)]
+pub struct TextPlan {
+    tenants: Tenants,
+    setting: Setting,
+}
+
+impl Plan for TextPlan {
+    fn tenants(&self) -> &Tenants {
+        &self.tenants
+    }
+
+    fn setting(&self) -> &Setting {
+        &self.setting
+    }
+
+    fn into_parts(self) -> (Tenants, Setting) {
+        let TextPlan { tenants, setting } = self;
+        (tenants, setting)
+    }
+}
+
+/// What becomes of a text and the words of bounds.
+#[derive(Drop)]
+pub enum Planned {
+    Plan(TextPlan),
+    /// A word is no bound of the text, which was said: the exit status.
+    Refused(u8),
+}
+
+/// How long is served, and how long clients are waited for.
+fn limits_of(options: LimitOptions) -> Limits {
+    Limits {
+        turns: options.turns.unwrap_or(Limits::DEFAULT.turns),
+        idle: options.idle.unwrap_or(Limits::DEFAULT.idle),
+        amplify: options.amplify,
+        crowd: options.crowd.unwrap_or(Limits::DEFAULT.crowd),
+    }
+}
+
+/// What the server tells of itself, and how it takes the word to end.
+fn supervision_of(rt: &HostRuntime, options: SupervisionOptions) -> Result<Supervision, Fault> {
+    let SupervisionOptions {
+        log,
+        status,
+        control,
+    } = options;
+    let mut supervision = Supervision::none(rt.alloc())?;
+    supervision.status = status;
+    supervision.control = control;
+    if let Some(path) = log {
+        supervision.log = Some(log_at(rt, path.as_str())?);
+    }
+    Ok(supervision)
+}
+
+/// The setting that the options ask for, without bounds.
+pub fn setting_of(
+    rt: &HostRuntime,
+    addresses: Vec<IpAddr>,
+    limits: LimitOptions,
+    supervision: SupervisionOptions,
+) -> Result<Setting, Fault> {
+    let supervision = supervision_of(rt, supervision)?;
+    Ok(Setting {
+        addresses,
+        limits: limits_of(limits),
+        bounds: Vec::new(rt.alloc()),
+        supervision,
+    })
+}
+
+/// The plan that a text, a setting and the words of bounds make. Where a word is no bound of the text, that is said on standard error.
+pub fn plan_of(
+    rt: &HostRuntime,
+    text: &str,
+    setting: Setting,
+    words: Vec<BoundWord>,
+) -> Result<Planned, Fault> {
+    let mut setting = setting;
+    let tenants = tenants_of(rt.alloc(), text)?;
+    match bounds_of(rt.alloc(), words, text, &tenants) {
+        Ok(bounds) => {
+            setting.bounds = bounds;
+            Ok(Planned::Plan(TextPlan { tenants, setting }))
+        }
+        Err(fault) => {
+            let _ = eprintln!(rt; "{fault}");
+            Ok(Planned::Refused(fault.status()))
+        }
+    }
+}

@@ -1,0 +1,99 @@
+//! What a command line asks for.
+
+use std::alloc::AllocError;
+use std::net::{IpAddr, SocketAddr};
+
+/// The file of a table that lasts.
+#[derive(Drop)]
+pub struct TableFile {
+    pub path: String,
+    /// Whether a new one gets sums on its pages.
+    pub has_sums: bool,
+}
+
+/// A word behind `--bound`: a publisher's name, and how many values and octets it may hold at most.
+#[derive(Drop)]
+pub struct BoundWord {
+    pub publisher: String,
+    pub values: u64,
+    pub octets: u64,
+}
+
+/// The options of `serve` by which turns, waiting and crowds have a limit.
+#[derive(Clone, Copy)]
+pub struct LimitOptions {
+    pub turns: Option<u64>,
+    /// In seconds.
+    pub idle: Option<u32>,
+    pub amplify: Option<u32>,
+    /// In connections.
+    pub crowd: Option<u32>,
+}
+
+/// The options of `serve` by which a server is watched and ended.
+#[derive(Drop)]
+pub struct SupervisionOptions {
+    /// The path of the log of changes, `-` for standard error.
+    pub log: Option<String>,
+    pub status: Option<SocketAddr>,
+    /// The path of the socket at which the word to end is taken.
+    pub control: Option<String>,
+}
+
+/// The options of `serve`.
+#[derive(Drop)]
+pub struct ServeOptions {
+    /// Where each publisher's port is opened: at least one address.
+    pub addresses: Vec<IpAddr>,
+    pub limits: LimitOptions,
+    pub supervision: SupervisionOptions,
+    /// Each of another publisher.
+    pub bounds: Vec<BoundWord>,
+    /// How many octets the handles that were read last may take.
+    pub row_cache: Option<usize>,
+    /// Without one the table is in memory alone.
+    pub table: Option<TableFile>,
+}
+
+/// What the command line asks for.
+#[derive(Drop)]
+pub enum Invocation {
+    /// A script on standard input, over the table in a file, if one is named.
+    Replay {
+        table: Option<TableFile>,
+    },
+    /// The tenants text is on standard input, served with these options.
+    Serve(ServeOptions),
+    /// The table's file is copied, though a server may have it open.
+    Copy {
+        from: String,
+        to: String,
+    },
+    /// The server that listens at this socket is asked to end.
+    Stop {
+        control: String,
+    },
+    /// The tenants text is on standard input; the table in the file is written as such a text, or the part of the publisher of this name.
+    Export {
+        table: TableFile,
+        publisher: Option<String>,
+    },
+    /// The tenants text is on standard input, to be checked.
+    Check,
+    /// Nothing: help, the version or a fault was printed, and this is the exit status.
+    Ended(u8),
+}
+
+/// Why the command line can't be answered.
+#[derive(Clone, Copy)]
+pub enum OptionsFault {
+    Memory,
+    /// What was asked for can't be written.
+    Device,
+}
+
+impl From<AllocError> for OptionsFault {
+    fn from(_: AllocError) -> OptionsFault {
+        OptionsFault::Memory
+    }
+}

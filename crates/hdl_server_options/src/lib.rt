@@ -1,0 +1,30 @@
+//! The command line of `handled`: its commands and options, and what they ask for.
+//!
+//! ```text
+//! words -> clap -> parse -> Invocation
+//!                     \-> help, the version or a fault, printed; an exit status
+//! ```
+//!
+//! [`read_options`] reads the words that the program was started with. What they ask for is an [`Invocation`], in plain values: which default stands for an option that
+//! was left out, and what is done, the program says. It is the program's part, and promises nothing but safety: what the words mean is tried over the built
+//! program. It stands in a crate of its own, below which no machine is, since nothing else of the server needs `clap`: so it is proved beside the machine.
+//!
+//! ```rust
+//! // crates/handled/src/main.rt
+//! match read_options(rt)? {
+//!     Invocation::Ended(status) => Ok(status),
+//!     Invocation::Check => check_input(rt),
+//! ```
+#![tactic(auto)]
+
+mod commands;
+mod invocation;
+mod reading;
+mod serving;
+mod unclear;
+mod values;
+
+pub use invocation::{
+    BoundWord, Invocation, LimitOptions, OptionsFault, ServeOptions, SupervisionOptions, TableFile,
+};
+pub use reading::read_options;

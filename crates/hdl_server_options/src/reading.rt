@@ -1,0 +1,77 @@
+//! Reading the command line.
+
+use crate::commands::command;
+use crate::invocation::{Invocation, OptionsFault, TableFile};
+use crate::serving::serve_options;
+use crate::unclear::{Unclear, print_unclear};
+use crate::values::{copy_of, required, table_file};
+use clap::ArgMatches;
+use hdl_programs::{status_of_words, words_of};
+use std::alloc::Global;
+
+/// What is asked for by the words behind `copy`.
+fn copy_options(alloc: Global, found: &ArgMatches) -> Result<Invocation, Unclear> {
+    let from = required(alloc, found, "table")?;
+    let to = required(alloc, found, "to")?;
+    Ok(Invocation::Copy { from, to })
+}
+
+/// What is asked for by the words behind `stop`.
+fn stop_options(alloc: Global, found: &ArgMatches) -> Result<Invocation, Unclear> {
+    let control = required(alloc, found, "control")?;
+    Ok(Invocation::Stop { control })
+}
+
+/// What is asked for by the words behind `export`.
+fn export_options(alloc: Global, found: &ArgMatches) -> Result<Invocation, Unclear> {
+    let path = required(alloc, found, "table")?;
+    let publisher = copy_of(alloc, found.get_str("publisher"))?;
+    let table = TableFile {
+        path,
+        has_sums: false,
+    };
+    Ok(Invocation::Export { table, publisher })
+}
+
+/// What is asked for by the words that `clap` took.
+fn invocation_of(alloc: Global, matches: &ArgMatches) -> Result<Invocation, Unclear> {
+    if matches.subcommand_matches("check").is_some() {
+        return Ok(Invocation::Check);
+    }
+    if let Some(found) = matches.subcommand_matches("export") {
+        return export_options(alloc, found);
+    }
+    if let Some(found) = matches.subcommand_matches("serve") {
+        return Ok(Invocation::Serve(serve_options(alloc, found)?));
+    }
+    if let Some(found) = matches.subcommand_matches("copy") {
+        return copy_options(alloc, found);
+    }
+    if let Some(found) = matches.subcommand_matches("stop") {
+        return stop_options(alloc, found);
+    }
+    match matches.subcommand_matches("replay") {
+        Some(found) => Ok(Invocation::Replay {
+            table: table_file(alloc, found)?,
+        }),
+        None => Ok(Invocation::Replay { table: None }),
+    }
+}
+
+fn parse(alloc: Global, words: &[String]) -> Result<Invocation, Unclear> {
+    let matches = command(alloc)?.try_get_matches_from(words)?;
+    invocation_of(alloc, &matches)
+}
+
+/// Reads the command line, and prints what there is to say of it.
+pub fn read_options(rt: &HostRuntime) -> Result<Invocation, OptionsFault> {
+    let Ok(words) = words_of(rt) else {
+        // words that are no text, or no memory for them
+        let _ = eprintln!(rt; "error: the command line cannot be read");
+        return Ok(Invocation::Ended(status_of_words(false)));
+    };
+    match parse(rt.alloc(), words.as_slice()) {
+        Ok(asked) => Ok(asked),
+        Err(unclear) => Ok(Invocation::Ended(print_unclear(rt, unclear)?)),
+    }
+}

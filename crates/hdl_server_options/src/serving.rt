@@ -1,0 +1,143 @@
+//! The options behind `serve`.
+
+use crate::invocation::{BoundWord, LimitOptions, ServeOptions, SupervisionOptions};
+use crate::unclear::Unclear;
+use crate::values::{copy_of, table_file};
+use clap::ArgMatches;
+use std::alloc::{AllocError, Global};
+use std::net::{IpAddr, Ipv4Addr, SocketAddr};
+
+/// How many octets the handles that were read last may take.
+fn row_cache(found: &ArgMatches) -> Option<usize> {
+    let octets = found.get_one::<u64>("row-cache")?;
+    Some(usize::try_from(octets).unwrap_or(usize::MAX))
+}
+
+/// How long is served, and how long clients are waited for.
+fn limits(found: &ArgMatches) -> LimitOptions {
+    LimitOptions {
+        turns: found.get_one::<u64>("turns"),
+        idle: found.get_one::<u32>("idle"),
+        amplify: found.get_one::<u32>("amplify"),
+        crowd: found.get_one::<u32>("crowd"),
+    }
+}
+
+/// The address that a word spells.
+fn address_of(word: &str) -> Option<IpAddr> {
+    word.parse::<IpAddr>().ok()
+}
+
+/// The first word that spells no address.
+fn no_address<'a>(words: &[&'a str]) -> Option<&'a str> {
+    for word in words {
+        if address_of(word).is_none() {
+            return Some(word);
+        }
+    }
+    None
+}
+
+/// The addresses that the words spell; 127.0.0.1 where there is none.
+fn addresses_of(alloc: Global, words: &[&str]) -> Result<Vec<IpAddr>, AllocError> {
+    let mut addresses = Vec::new(alloc);
+    for word in words {
+        if let Some(address) = address_of(word) {
+            addresses.push(address)?;
+        }
+    }
+    if addresses.is_empty() {
+        addresses.push(IpAddr::V4(Ipv4Addr::LOCALHOST))?;
+    }
+    Ok(addresses)
+}
+
+/// The addresses behind `--listen`, each of which has to be one.
+fn addresses(alloc: Global, words: &[&str]) -> Result<Vec<IpAddr>, Unclear> {
+    if let Some(word) = no_address(words) {
+        return Err(Unclear::Address(String::from_str(alloc, word)?));
+    }
+    Ok(addresses_of(alloc, words)?)
+}
+
+/// The number that a word spells in digits alone.
+fn number_of(word: &str) -> Option<u64> {
+    if word.starts_with('+') {
+        return None;
+    }
+    word.parse::<u64>().ok()
+}
+
+/// The parts of a word behind `--bound`: a publisher's name, and how many values and octets it may hold at most.
+fn bound_parts(word: &str) -> Option<(&str, u64, u64)> {
+    let (publisher, most) = word.split_once('=')?;
+    let (values, octets) = most.split_once(',')?;
+    Some((publisher, number_of(values)?, number_of(octets)?))
+}
+
+/// Whether one of the bounds is this publisher's.
+fn is_bounded(bounds: &[BoundWord], publisher: &str) -> bool {
+    bounds
+        .iter()
+        .any(|bound| bound.publisher.as_str() == publisher)
+}
+
+/// The bounds that the words spell, each of another publisher.
+fn bound_words(alloc: Global, words: &[&str]) -> Result<Vec<BoundWord>, Unclear> {
+    let mut bounds = Vec::new(alloc);
+    for word in words {
+        let Some((publisher, values, octets)) = bound_parts(word) else {
+            return Err(Unclear::Bound(String::from_str(alloc, word)?));
+        };
+        if is_bounded(&bounds, publisher) {
+            return Err(Unclear::BoundTwice(String::from_str(alloc, word)?));
+        }
+        let publisher = String::from_str(alloc, publisher)?;
+        let bound = BoundWord {
+            publisher,
+            values,
+            octets,
+        };
+        bounds.push(bound).map_err(AllocError::from)?;
+    }
+    Ok(bounds)
+}
+
+/// Where the status page is had.
+fn status_at(alloc: Global, found: &ArgMatches) -> Result<Option<SocketAddr>, Unclear> {
+    let Some(word) = found.get_str("status") else {
+        return Ok(None);
+    };
+    match word.parse::<SocketAddr>() {
+        Ok(at) => Ok(Some(at)),
+        Err(_) => Err(Unclear::Status(String::from_str(alloc, word)?)),
+    }
+}
+
+/// What the server tells of itself, and how it takes the word to end.
+fn supervision(alloc: Global, found: &ArgMatches) -> Result<SupervisionOptions, Unclear> {
+    let status = status_at(alloc, found)?;
+    let control = copy_of(alloc, found.get_str("control"))?;
+    let log = copy_of(alloc, found.get_str("log"))?;
+    Ok(SupervisionOptions {
+        log,
+        status,
+        control,
+    })
+}
+
+/// What is asked for by the words behind `serve`.
+pub fn serve_options(alloc: Global, found: &ArgMatches) -> Result<ServeOptions, Unclear> {
+    let addresses = addresses(alloc, found.get_strs("listen").unwrap_or(&[]))?;
+    let supervision = supervision(alloc, found)?;
+    let bounds = bound_words(alloc, found.get_strs("bound").unwrap_or(&[]))?;
+    let table = table_file(alloc, found)?;
+    Ok(ServeOptions {
+        addresses,
+        limits: limits(found),
+        supervision,
+        bounds,
+        row_cache: row_cache(found),
+        table,
+    })
+}

@@ -1,0 +1,88 @@
+//! Words that ask for nothing, and what is said of them.
+
+use crate::invocation::OptionsFault;
+use clap::Error;
+use clap::error::ErrorKind;
+use hdl_programs::status_of_words;
+use std::alloc::AllocError;
+
+/// Why the words ask for nothing.
+#[derive(Drop)]
+pub enum Unclear {
+    /// `clap` has something to say of them.
+    Words(Error),
+    /// This is no address to listen at.
+    Address(String),
+    /// This is no bound.
+    Bound(String),
+    /// This is a second bound of its publisher.
+    BoundTwice(String),
+    /// This is no address with a port.
+    Status(String),
+}
+
+impl From<Error> for Unclear {
+    fn from(error: Error) -> Unclear {
+        Unclear::Words(error)
+    }
+}
+
+impl From<AllocError> for Unclear {
+    fn from(error: AllocError) -> Unclear {
+        Unclear::Words(Error::from(error))
+    }
+}
+
+/// Prints what `clap` has to say, and answers the exit status.
+fn print_help(rt: &HostRuntime, error: Error) -> Result<u8, OptionsFault> {
+    if error.kind() == ErrorKind::OutOfMemory {
+        return Err(OptionsFault::Memory);
+    }
+    let is_help = !error.use_stderr();
+    match error.print(rt) {
+        Err(_) if is_help => Err(OptionsFault::Device),
+        _ => Ok(status_of_words(is_help)),
+    }
+}
+
+/// How the option of a bound is written.
+const BOUND: &str = "--bound <NAME=VALUES,OCTETS>";
+
+/// Says what is wrong with the value of an option, and answers the exit status.
+fn refuse_value(rt: &HostRuntime, word: &str, option: &str, reason: &str) -> u8 {
+    let _ = eprintln!(rt;
+        "error: invalid value '{word}' for '{option}': {reason}\n\nFor more information, try '--help'."
+    );
+    status_of_words(false)
+}
+
+/// Prints why the words ask for nothing, and answers the exit status.
+pub fn print_unclear(rt: &HostRuntime, unclear: Unclear) -> Result<u8, OptionsFault> {
+    match unclear {
+        Unclear::Words(error) => print_help(rt, error),
+        Unclear::Address(word) => Ok(refuse_value(
+            rt,
+            word.as_str(),
+            "--listen <ADDRESS>",
+            "no IPv4 or IPv6 address, such as 192.0.2.1 or 2001:db8::1",
+        )),
+        Unclear::Bound(word) => Ok(refuse_value(
+            rt,
+            word.as_str(),
+            BOUND,
+            "write a publisher's name and two numbers, such as acme=10000,5000000",
+        )),
+        Unclear::Status(word) => Ok(refuse_value(
+            rt,
+            word.as_str(),
+            "--status <ADDRESS:PORT>",
+            "no IPv4 or IPv6 address with a port, such as 127.0.0.1:9100 or [::1]:9100",
+        )),
+        Unclear::BoundTwice(word) => Ok(refuse_value(
+            rt,
+            word.as_str(),
+            BOUND,
+            "its publisher has a bound already",
+        )),
+    }
+}

@@ -1,0 +1,65 @@
+//! Why a run over a table ends with a fault line.
+
+use crate::copying::CopyFault;
+use crate::exporting::status_of;
+use hdl_export::ExportFault;
+use hdl_lastingrows::TableFault;
+use hdl_programs::Fault;
+use std::fmt;
+
+/// Why a run over a table ends with a fault line.
+#[derive(Clone, Copy)]
+pub enum TabledFault {
+    Run(Fault),
+    Table(TableFault),
+    Export(ExportFault),
+    Copy(CopyFault),
+}
+
+impl TabledFault {
+    /// The exit status: 4 for the file, and else that of the run.
+    pub fn status(&self) -> u8 {
+        match self {
+            TabledFault::Run(fault) => fault.status(),
+            TabledFault::Table(TableFault::Memory) => Fault::NoMemory.status(),
+            TabledFault::Table(_) => 4,
+            TabledFault::Export(fault) => status_of(fault),
+            TabledFault::Copy(fault) => fault.status(),
+        }
+    }
+}
+
+impl fmt::Display for TabledFault {
+    fn fmt<W: fmt::Write>(&self, f: &mut fmt::Formatter<W>) -> fmt::Result {
+        match self {
+            TabledFault::Run(fault) => write!(f, "{fault}"),
+            TabledFault::Table(fault) => write!(f, "{fault}"),
+            TabledFault::Export(fault) => write!(f, "{fault}"),
+            TabledFault::Copy(fault) => write!(f, "{fault}"),
+        }
+    }
+}
+
+impl From<Fault> for TabledFault {
+    fn from(fault: Fault) -> TabledFault {
+        TabledFault::Run(fault)
+    }
+}
+
+impl From<ExportFault> for TabledFault {
+    fn from(fault: ExportFault) -> TabledFault {
+        TabledFault::Export(fault)
+    }
+}
+
+impl From<CopyFault> for TabledFault {
+    fn from(fault: CopyFault) -> TabledFault {
+        TabledFault::Copy(fault)
+    }
+}
+
+impl From<TableFault> for TabledFault {
+    fn from(fault: TableFault) -> TabledFault {
+        TabledFault::Table(fault)
+    }
+}

@@ -1,0 +1,33 @@
+//! What is done over the table in a file that nobody serves.
+
+use crate::closing::Closing;
+use crate::fault::TabledFault;
+use crate::opening::{TablePath, open_served};
+use hdl_core::Owing;
+use hdl_lastingrows::Alarm;
+use hdl_sqlrows::load::Progress;
+use hdl_tenants::Tenants;
+use std::thread::Threads;
+
+/// What is done over the table in a file that nobody serves.
+///
+/// Who opens a table is handed what is done over it, which is generic over tables: proving a function that owns all parts of one costs many times as much.
+pub trait FileWork: Drop {
+    /// Whose handles are opened with the table.
+    fn tenants(&self) -> &Tenants;
+
+    /// Does it, closes the file, and answers the exit status.
+    fn run<T: Owing + Closing + Drop>(self, rt: &HostRuntime, table: T) -> Result<u8, TabledFault>;
+}
+
+/// Does this over the table in the file.
+pub fn over_file<R: Threads + Drop, A: Alarm + Progress + Drop, W: FileWork>(
+    machine: R,
+    rt: &HostRuntime,
+    file: TablePath<'_>,
+    alarm: A,
+    work: W,
+) -> Result<u8, TabledFault> {
+    let table = open_served(machine, rt, file, work.tenants(), alarm, false)?;
+    work.run(rt, table)
+}

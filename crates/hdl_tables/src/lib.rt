@@ -1,0 +1,32 @@
+//! The tables of `handled`: in memory, or with a file beside it; and what is done with a table's file that nobody serves.
+//!
+//! ```text
+//! empty_table  -> Table::First      in SQL, in memory, the handles that were read last kept
+//! open_served  -> Table::Second     in memory, with a file beside it, which has each write before it is answered
+//! over_file    -> a FileWork over the table in a file: Export is one, a replayed script another
+//! copy_table   -> a copy of the file, while a server has it open or not
+//! ```
+//!
+//! It is the program's part: what is not said in a clause is safe, and no more is promised. It stands in a crate of its own, which knows no sockets, so that it is proved
+//! beside what serves. Who hears of a table's file (how far its load is, that it takes no more writes) is a type of the caller's.
+//!
+//! ```rust
+//! // crates/handled/src/main.rt
+//! let rows = empty_table::<R, TableNotices>(rt, 0)?;
+//! Ok(replay_input(rt, rows)?)
+//! ```
+#![tactic(auto)]
+
+mod closing;
+mod copying;
+mod exporting;
+mod fault;
+mod file;
+mod opening;
+
+pub use closing::Closing;
+pub use copying::{CopyFault, copy_table};
+pub use exporting::{Export, has_named, has_publisher};
+pub use fault::TabledFault;
+pub use file::{FileWork, over_file};
+pub use opening::{Table, TablePath, empty_table, is_new, open_served};

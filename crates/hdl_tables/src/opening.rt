@@ -1,0 +1,76 @@
+//! Opening a table, in memory or with a file beside it.
+
+ghost use Rattle.std.specs.Prelude.{◌≡◌, IfOk};
+ghost use Rattle.hdl_rows.specs.Table.{no_rows};
+
+use hdl_cachedrows::CachedRows;
+use hdl_core::Rows;
+use hdl_eitherrows::EitherRows;
+use hdl_lastingrows::{
+    Alarm, LastingRows, TableFault, ThreadedFile, Writer, open_file, table_beside,
+};
+use hdl_programs::Fault;
+use hdl_rows::PlainRows;
+use hdl_sqlrows::SqlRows;
+use hdl_sqlrows::load::Progress;
+use hdl_tenants::Tenants;
+use sqlite::Wary;
+use std::fs::File;
+use std::hash::RandomState;
+use std::thread::Threads;
+
+/// Where the file of a table is, and whether a new one gets sums on its pages.
+#[derive(Clone, Copy)]
+pub struct TablePath<'a> {
+    pub path: &'a str,
+    pub has_sums: bool,
+}
+
+/// The table in memory, with the file beside it.
+pub type ServedFile<R, A> = LastingRows<PlainRows, ThreadedFile<R>, A>;
+
+/// The table of a run, whose threads `R` starts, and of whose file `A` hears. It is one type, so that the program has one machine.
+pub type Table<R, A> = EitherRows<CachedRows<SqlRows>, ServedFile<R, A>>;
+
+/// An empty table in SQL, in memory, of which at most so many octets are kept where they were read last.
+pub fn empty_table<R: Threads + Drop, A: Alarm + Drop>(
+    rt: &HostRuntime,
+    row_cache: usize,
+) -> Result<Table<R, A>, Fault>
+    ensures empty { IfOk result (λ rows. ⟦<Table<R, A> as Rows>⟧.content rows ≡ no_rows) }
+{
+    let Ok(hasher) = RandomState::new(rt) else {
+        return Err(Fault::Device);
+    };
+    let Ok(rows) = SqlRows::new(rt.alloc()) else {
+        return Err(Fault::StoreRefused);
+    };
+    let rows = CachedRows::new(rt.alloc(), rows, row_cache, hasher)?;
+    Ok(EitherRows::First(rows))
+}
+
+/// The table in the file. A thread makes its writes where they are made beside the calls.
+pub fn open_served<R: Threads + Drop, A: Alarm + Progress + Drop>(
+    machine: R,
+    rt: &HostRuntime,
+    file: TablePath<'_>,
+    tenants: &Tenants,
+    alarm: A,
+    beside: bool,
+) -> Result<Table<R, A>, TableFault> {
+    let conn = open_file(rt, file.path, file.has_sums, Wary)?;
+    let alloc = rt.alloc();
+    let memory = (PlainRows::new(alloc), PlainRows::new(alloc));
+    let writer = Writer {
+        rt: machine,
+        alloc,
+        beside,
+    };
+    let rows = table_beside(conn, memory, tenants.opening(), alarm, writer)?;
+    Ok(EitherRows::Second(rows))
+}
+
+/// Whether nothing can be opened at this path of a table's file yet.
+pub fn is_new(rt: &HostRuntime, path: &str) -> bool {
+    File::open(rt, path).is_err()
+}
