@@ -37,8 +37,6 @@ UNREAD = re.compile(r"is not in scope|has no field|is no name|operand is missing
 Function = collections.namedtuple("Function", "file owner name first last")
 # What a check said: its lines, its status, and the processor seconds that it took.
 Said = collections.namedtuple("Said", "lines status seconds")
-# What trying a crate's edits gave: each edit with its verdict, the checks, and the processor seconds.
-Tried = collections.namedtuple("Tried", "verdicts checks seconds")
 
 
 class Unfit(Exception):
@@ -131,11 +129,13 @@ def texts_of(crate):
     return {os.path.relpath(path, crate.folder): open(path, encoding="utf-8").read() for path in files}
 
 
-def checked(crate, texts):
-    """What a check says of the crate with these texts, over a copy of what was kept of it. A check replaces files of proofs and changes none, so these are not copied but named twice."""
+def checked(crate, changed):
+    """What a check says of the crate with these texts for its own, over a copy of what was kept of it. A check replaces files of proofs and changes none, so these are not copied but named twice."""
     with tempfile.TemporaryDirectory(prefix="wrong-") as room:
-        for file, text in texts.items():
-            os.makedirs(os.path.dirname(f"{room}/{file}"), exist_ok=True)
+        for part in PARTS:
+            if os.path.isdir(f"{crate.folder}/{part}"):
+                shutil.copytree(f"{crate.folder}/{part}", f"{room}/{part}")
+        for file, text in changed.items():
             with open(f"{room}/{file}", "w", encoding="utf-8") as written:
                 written.write(text)
         words = [*kit().guarded(), kit().RATTLE, "check", *crate.words(["--jobs", "1"], keeps=False)]
@@ -173,47 +173,68 @@ def is_told(crate, function, said):
     return any(places) and any(own.fullmatch(line) for line in said.lines)
 
 
+def unread(said, changed):
+    """The first line by which a changed text can't be read or doesn't compile, so that nothing of it was tried; or ""."""
+    for line in said.lines:
+        found = re.match(r"(?:\./)?(\S+?):\d+:\d+: error: (?:`[^`]*`: )?(.*)", line)
+        if re.search(r"\berror\[[\w-]+\]", line) or found and found[1] in changed and UNREAD.search(re.sub(r"`[^`]*`", "", found[2])):
+            return line
+    return ""
+
+
 def verdict(said, changed):
     """What a check's words come to for an edit that was tried alone: REFUSED, or what is wrong, and what to do."""
-    unread = next((line for line in said.lines if (at := re.match(r"(?:\./)?(\S+?):\d+:\d+: error: (?:`[^`]*`: )?(.*)", line)) and at[1] in changed and UNREAD.search(re.sub(r"`[^`]*`", "", at[2]))), "")
-    compiler = next((line for line in said.lines if re.search(r"\berror\[[\w-]+\]", line)), "")
-    told = [line for line in said.lines if TOLD.fullmatch(line)]
+    named = next((line for line in said.lines if TOLD.fullmatch(line) and NAMES.search(line)), "")
     if said.status == 0:
         return "NOT REFUSED: the crate is proved with it. Strengthen the clause, or say in docs/WRONG.md why it is let through"
-    if said.status == 1 and (unread or compiler):
-        return "NOT TRIED: its text can't be read or doesn't compile, so write it anew: %s" % (unread or compiler)[:200]
-    if is_refusal(said) and told and not list(faults(said)):
-        return "REFUSED BY A NAME ALONE, which says nothing of the contract. Turn a value, and keep the names that a proof has: %s" % told[0][:200]
+    if said.status == 1 and unread(said, changed):
+        return "NOT TRIED: its text can't be read or doesn't compile, so write it anew: %s" % unread(said, changed)[:200]
+    if is_refusal(said) and named and not list(faults(said)):
+        return "REFUSED BY A NAME ALONE, which says nothing of the contract. Turn a value, and keep the names that a proof has: %s" % named[:200]
     if is_refusal(said):
         return REFUSED
     return "NO VERDICT: the check ended with status %d. Try it again, or choose a change that is refused sooner: %s" % (said.status, said.lines[-1][:200])
 
 
-def tried(crate, edits):
-    """Tries the edits of a crate, all together as far as that tells each."""
-    texts, verdicts, seen = texts_of(crate), {}, []
+def told_together(crate, together, texts, check):
+    """The edits of a round whose functions one check of all of them refuses, each by a goal of its own."""
+    if len(together) == 1:
+        return []
+    try:
+        said = check(functools.reduce(lambda made, one: one[0].applied(made), together, texts))
+    except Unfit:
+        # one edit's text has what another one replaces
+        return []
+    return [edit for edit, functions in together if is_refusal(said) and all(is_told(crate, one, said) for one in functions)]
 
-    def check(changed):
-        seen.append(checked(crate, changed))
+
+def tried(crate, edits):
+    """Tries the edits of a crate, all together as far as that tells each, and prints each verdict once it is known, and what all took. Answers how many are refused, and how many aren't."""
+    texts, seen, counts = texts_of(crate), [], collections.Counter()
+
+    def check(made):
+        seen.append(checked(crate, {file: text for file, text in made.items() if text != texts[file]}))
         return seen[-1]
 
+    def tell(edit, what):
+        counts[what == REFUSED] += 1
+        print("%s: %s\n" % (edit.path, what), end="", flush=True)
+
+    fit = []
     for edit in edits:
         try:
             edit.applied(texts)
+            fit.append(edit)
         except Unfit as why:
-            verdicts[edit] = "NOT TRIED: %s" % why
-    for together in in_rounds([edit for edit in edits if edit not in verdicts], texts):
-        left = [edit for edit, _ in together]
-        if len(together) > 1:
-            try:
-                said = check(functools.reduce(lambda made, edit: edit.applied(made), left, texts))
-                left = [edit for edit, functions in together if not is_refusal(said) or not all(is_told(crate, one, said) for one in functions)]
-            except Unfit:
-                # one edit's text has what another one replaces
-                pass
-        verdicts.update({edit: REFUSED for edit, _ in together if edit not in left})
-        verdicts.update({edit: verdict(check(edit.applied(texts)), {file for file, _, _ in edit.changes}) for edit in left})
-    return Tried(verdicts, len(seen), sum(said.seconds for said in seen))
+            tell(edit, "NOT TRIED: %s" % why)
+    for together in in_rounds(fit, texts):
+        for edit in told_together(crate, together, texts, check):
+            tell(edit, REFUSED)
+            together = [one for one in together if one[0] is not edit]
+        for edit, _ in together:
+            tell(edit, verdict(check(edit.applied(texts)), {file for file, _, _ in edit.changes}))
+    print("%s: %d wrong bodies, %d checks, %.0f processor seconds\n" % (crate.name, len(edits), len(seen), sum(said.seconds for said in seen)), end="", flush=True)
+    return counts[True], counts[False]
 
 
 def prove(names, jobs):
@@ -233,6 +254,7 @@ def words_of(given):
     words.add_argument("crates", nargs="*", metavar="CRATE")
     found = words.parse_args(given)
     unknown = [name for name in found.crates if name not in repository.stands_on()]
+    found.jobs = max(1, found.jobs)
     if unknown:
         words.error("crates.txt lists no crate '%s'" % unknown[0])
     return found
@@ -251,15 +273,9 @@ def main():
     crates = {crate.name: crate for crate in kit().crates_below(repository.ROOT)}
     # the largest first, so that none of them is left for the end
     order = sorted(edits, key=lambda name: -crates[name].count(rb"\n"))
-    passed = failed = 0
-    with concurrent.futures.ThreadPoolExecutor(max(1, words.jobs)) as pool:
-        running = {pool.submit(tried, crates[name], edits[name]): name for name in order}
-        for ended in concurrent.futures.as_completed(running):
-            verdicts, checks, seconds = ended.result()
-            for edit, what in verdicts.items():
-                passed, failed = passed + (what == REFUSED), failed + (what != REFUSED)
-                print("%s: %s" % (edit.path, what))
-            print("%s: %d wrong bodies tried by %d checks in %.0f processor seconds" % (running[ended], len(verdicts), checks, seconds), flush=True)
+    with concurrent.futures.ThreadPoolExecutor(words.jobs) as pool:
+        counts = [(0, 0), *pool.map(lambda name: tried(crates[name], edits[name]), order)]
+    passed, failed = (sum(column) for column in zip(*counts))
     print("%d passed, %d failed" % (passed, failed))
     return 1 if failed else 0
 
