@@ -3,6 +3,7 @@
 
 - `FUNCTION` (`CLAUSE`, ..) of README.md and docs/: some function of that name has each clause, or a record of specs/ has a field of that name.
 - must-fail `NAME`, .. and wrong `NAME`, ..: a crate has an edit of that name in that folder; and docs/WRONG.md names each edit so.
+- vectors `NAME`, ..: crates/hdl_vectors/stdin has a group of that name, which begins with a line `# NAME: WHAT`.
 - [PAGE.md](PAGE.md) of a page: there is such a file.
 - docs/PAGE.md, "SECTION" of crates/ and docs/: the page has a heading that begins so.
 - tools/NAME, bench/NAME and examples/NAME, wherever they are named: there is such a file (words in capitals stand for any). A file of tools/ or
@@ -87,6 +88,14 @@ def missing_edits():
             yield "docs/WRONG.md doesn't name the edit %s of crates/*/%s/" % (edit, folder)
 
 
+def missing_vectors():
+    groups = set(re.findall(r"^# (\w+): ", text_of("crates/hdl_vectors/stdin"), re.MULTILINE))
+    for path, number, line in pages():
+        for cited in re.findall(r"\bvectors " + LIST, line):
+            for group in set(re.findall(r"`(\w+)`", cited)) - groups - {"NAME"}:
+                yield "%s:%d: there are no vectors %s" % (path, number, group)
+
+
 def missing_places():
     headings = {os.path.basename(path): re.findall(r"^#+ (.*)$", text_of(path), re.MULTILINE) for path in files("docs/*.md")}
     named = set()
@@ -147,7 +156,7 @@ def wrong_versions():
 
 def main():
     os.chdir(ROOT)
-    found = [fault for faults in (missing_clauses, missing_edits, missing_places, missing_links, missing_stations, wrong_limits, wrong_versions) for fault in faults()]
+    found = [fault for faults in (missing_clauses, missing_edits, missing_vectors, missing_places, missing_links, missing_stations, wrong_limits, wrong_versions) for fault in faults()]
     for fault in found:
         print(fault)
     print("citations: %d faults" % len(found))

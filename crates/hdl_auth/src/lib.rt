@@ -9,10 +9,10 @@
 //! SHA-1 or SHA-256, nor about how long a comparison takes.
 //!
 //! ```rust
-//! // crates/hdl_codec_tests/src/auth.rt
-//! let mut response = Vec::new(rt.alloc());
-//! response.push(request_digest.algorithm().octet())?;
-//! response.extend_from_slice(mac(b"k1", &NONCE, request_digest).as_slice())?;
+//! // crates/hdl_vectors/src/digests.rt
+//! let verdict = check(key, nonce, digest, response);
+//! let is_good = verdict.is_good();
+//! let has_form = has_response_form(digest.algorithm(), response);
 //! ```
 #![tactic(auto)]
 

@@ -9,9 +9,10 @@
 //! as [`Octets`].
 //!
 //! ```rust
-//! // crates/hdl_codec_tests/src/name.rt
-//! let octets = Octets::new(Vec::from_slice(rt.alloc(), b"10/a")?);
-//! same(&rt, "octets", octets.as_slice(), b"10/a".as_slice());
+//! // crates/hdl_vectors/src/names.rt
+//! let kept = Octets::new(Vec::from_slice(rt.alloc(), octets)?);
+//! put_hex(rt, "kept", kept.as_slice())?;
+//! put_hex(rt, "given back", &kept.into_vec())
 //! ```
 #![tactic(auto)]
 

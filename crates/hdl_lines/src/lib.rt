@@ -27,11 +27,11 @@
 //! digits spell, and a reference that is read is one that its words spell.
 //!
 //! ```rust
-//! // crates/hdl_codec_tests/src/lines.rt
-//! let value = read_value_line(rt.alloc(), line.as_bytes())?;
-//! let octets = write_value(rt.alloc(), &value)?;
-//! let text = hex::encode(rt.alloc(), octets)?;
-//! same(&rt, line, text.as_str(), *digits);
+//! // crates/hdl_vectors/src/lines.rt
+//! match read_value_line(rt.alloc(), line) {
+//!     Ok(value) => put_both(rt, &value),
+//!     Err(fault) => println!(rt; "  {fault}"),
+//! }
 //! ```
 #![tactic(auto)]
 

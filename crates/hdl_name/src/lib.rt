@@ -11,12 +11,11 @@
 //! Contracts see a [`Name`] as the octets that were sent.
 //!
 //! ```rust
-//! // crates/hdl_codec_tests/src/name.rt
-//! let name = Name::read(rt.alloc(), b"10.ABC/X")?;
-//! same(&rt, "sent", name.sent(), b"10.ABC/X".as_slice());
-//! same(&rt, "canon", name.canon(), b"10.abc/X".as_slice());
-//! same(&rt, "authority", name.authority(), b"10.abc".as_slice());
-//! same(&rt, "local", name.local(), b"X".as_slice());
+//! // crates/hdl_vectors/src/names.rt
+//! match Name::read(rt.alloc(), octets) {
+//!     Ok(name) => put_parts(rt, &name),
+//!     Err(fault) => println!(rt; "  {fault}"),
+//! }
 //! ```
 #![tactic(auto)]
 

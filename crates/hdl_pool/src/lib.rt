@@ -18,16 +18,10 @@
 //! functions to the message that pieces make.
 //!
 //! ```rust
-//! // crates/hdl_tests/src/pool.rt
-//! match pool.take(lane, peer, &frame)? {
-//!     Taken::Whole(whole) => Ok(if whole.as_slice() == message {
-//!         "whole"
-//!     } else {
-//!         "another message"
-//!     }),
-//!     Taken::Kept => Ok("kept"),
-//!     Taken::Ignored => Ok("ignored"),
-//!     Taken::Displaced => Ok("displaced"),
+//! // crates/hdl_vectors/src/pool.rt
+//! match pool.take(lane, peer, &frame) {
+//!     Ok(taken) => put_taken(rt, &taken, message),
+//!     Err(fault) => println!(rt; "  {fault}"),
 //! }
 //! ```
 //!

@@ -1,7 +1,7 @@
 //! Tests of what stands on several crates: tables through their bound, in memory and in SQL, whose write comes next, a script in which another publisher does
 //! what it can, and two workers at a time, which need threads.
 //!
-//! They stand apart from those of `hdl_tests` and `hdl_codec_tests`, which need neither SQL nor the machine and so begin earlier. Beside the tests it has
+//! They stand apart from those of `hdl_tests`, which need neither SQL nor the machine and so begin earlier. Beside the tests it has
 //! the values that a table is to keep ([`values`]); nothing stands on it.
 #![tactic(auto)]
 

@@ -11,14 +11,10 @@
 //! more than eight. Whether a response is right is said by `hdl_auth`.
 //!
 //! ```rust
-//! // crates/hdl_tests/src/slots.rt
-//! let mut slots = Slots::new(rt.alloc())?;
-//! for k in 1..=8u64 {
-//!     slots.put(3, challenge(rt.alloc(), 0, k)?);
-//! }
-//! slots.take(3, 0, 4);
-//! slots.put(3, challenge(rt.alloc(), 0, 9)?);
-//! same(&rt, "the oldest", moment(slots.find(3, 0, 1)), Some(1));
+//! // crates/hdl_vectors/src/slots.rt
+//! let lane = lane_of(lane)?;
+//! let pending = challenge(rt.alloc(), peer_of(peer)?, u64::from(moment))?;
+//! println!(rt; "  number {}", slots.put(lane, pending))
 //! ```
 //!
 //! # Decisions

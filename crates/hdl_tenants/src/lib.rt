@@ -14,9 +14,11 @@
 //! [`decimal`] reads the numbers of scripts too.
 //!
 //! ```rust
-//! // crates/hdl_tests/src/tenants.rt
-//! let tenants = read(&rt, TEXT)?;
-//! same(&rt, "lanes", tenants.lanes(), 4);
+//! // crates/hdl_vectors/src/tenants.rt
+//! match tenants.publisher(place) {
+//!     Some((name, lanes, port)) => println!(rt; "  publisher {name} {lanes} {port}")?,
+//!     None => println!(rt; "  no publisher {place}")?,
+//! }
 //! ```
 //!
 //! # Decisions

@@ -17,10 +17,11 @@
 //! is read), proved once in `proofs/Codecs.antt`. The layouts above, as those of messages, are terms over these.
 //!
 //! ```rust
-//! // crates/hdl_codec_tests/src/value.rt
-//! let (value, _) = read_value(rt.alloc(), &PRINTED)?;
-//! let written = write_value(rt.alloc(), &value)?;
-//! same(&rt, "written", written.as_slice(), PRINTED.as_slice());
+//! // crates/hdl_vectors/src/values.rt
+//! match read_value(rt.alloc(), octets) {
+//!     Err(fault) => println!(rt; "  {fault}"),
+//!     Ok((_, count)) => println!(rt; "  {count} octets"),
+//! }
 //! ```
 #![tactic(auto)]
 
