@@ -11,7 +11,7 @@ use hdl_msg::{OpCode, ResponseCode};
 const FRONT_LEN: usize = ENVELOPE_LEN + 8;
 
 /// What a reply says first.
-#[derive(Clone, Copy, Debug, PartialEq, Eq)]
+#[derive(Clone, Copy, PartialEq, Eq)]
 pub struct ReplySummary {
     pub session: u32,
     pub request: u32,

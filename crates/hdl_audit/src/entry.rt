@@ -8,7 +8,7 @@ use std::fmt;
 const ESCAPED: AsciiSet = ascii_set!(CONTROLS.add(b' ').add(b'%'));
 
 /// The key that a change was asked with.
-#[derive(Debug, Drop)]
+#[derive(Drop)]
 pub struct KeyName {
     pub index: u32,
     /// Its handle, as it was sent.
@@ -16,7 +16,7 @@ pub struct KeyName {
 }
 
 /// A change that was accepted or refused.
-#[derive(Debug, Drop)]
+#[derive(Drop)]
 pub struct Entry {
     /// The number of the operation.
     pub operation: u32,

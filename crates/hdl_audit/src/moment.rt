@@ -5,7 +5,7 @@ use jiff_fmt::temporal::DateTimePrinter;
 use std::fmt;
 
 /// A moment, in milliseconds since the beginning of 1970 at UTC. Its words are those of RFC 3339.
-#[derive(Clone, Copy, Debug)]
+#[derive(Clone, Copy)]
 pub struct Moment(pub u64);
 
 impl fmt::Display for Moment {

@@ -17,7 +17,7 @@ use std::slice;
 const ROOT: &[u8] = b"0.na";
 
 /// How much a publisher may hold.
-#[derive(Debug, Drop)]
+#[derive(Drop)]
 pub struct Bound {
     /// The publisher's name, for who is told of it.
     pub publisher: String,
@@ -82,7 +82,7 @@ impl Bound {
 }
 
 /// What a write makes of a count.
-#[derive(Clone, Copy, Debug, Drop)]
+#[derive(Clone, Copy, Drop)]
 pub(crate) struct CountChange {
     pub(crate) gain: Amount,
     pub(crate) back: Amount,

@@ -6,7 +6,7 @@ use hdl_tenants::{TenantFault, Tenants};
 use std::alloc::{AllocError, AllocFailed, Global};
 
 /// A faulty line of a text, counted from 1, and what is wrong with it.
-#[derive(Debug, Drop)]
+#[derive(Drop)]
 pub struct LineFault {
     pub line: usize,
     pub words: String,

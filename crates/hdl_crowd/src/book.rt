@@ -20,7 +20,7 @@ use slab::Slab;
 use std::alloc::Global;
 
 /// The connection is to be left: memory was refused, or it isn't there.
-#[derive(Clone, Copy, Debug, PartialEq, Eq)]
+#[derive(Clone, Copy, PartialEq, Eq)]
 pub struct Left;
 
 /// The connections of a crowd, by their places, and which peers' numbers they have.

@@ -11,7 +11,7 @@ use hdl_limits::MESSAGE_MAX;
 use std::alloc::AllocError;
 
 /// A connection of a crowd: its place there, and which one it is of all that came.
-#[derive(Clone, Copy, Debug, PartialEq, Eq)]
+#[derive(Clone, Copy, PartialEq, Eq)]
 pub struct Member {
     pub place: usize,
     pub serial: u64,

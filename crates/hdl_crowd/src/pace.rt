@@ -8,7 +8,7 @@ pub const WAIT_MAX: u64 = 10_000;
 
 /// Since when a connection is silent, since when the rest of its frame is waited for, and since when it takes nothing of an answer; in milliseconds
 /// of its lane's clock.
-#[derive(Clone, Copy, Debug)]
+#[derive(Clone, Copy)]
 pub struct Pace {
     pub silent: u64,
     pub begun: Option<u64>,

@@ -20,7 +20,7 @@
 use hdl_limits::Octets;
 
 /// What happens on a lane.
-#[derive(Debug, Drop)]
+#[derive(Drop)]
 pub enum Happening {
     /// A connection begins; a datagram lane has one for good.
     Open,
@@ -44,14 +44,14 @@ pub enum Happening {
 }
 
 /// Something that happens on the lane with this number.
-#[derive(Debug, Drop)]
+#[derive(Drop)]
 pub struct Event {
     pub lane: u16,
     pub what: Happening,
 }
 
 /// What comes of an event.
-#[derive(Debug, Drop)]
+#[derive(Drop)]
 pub enum Outcome {
     /// The octets of a reply: envelope and message.
     Reply(Octets),

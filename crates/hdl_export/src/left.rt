@@ -9,7 +9,7 @@ use hdl_rows::Rows;
 use std::alloc::Global;
 
 /// How many handles of a table aren't in the text that [`export`](crate::export) writes, though it hosts their prefixes.
-#[derive(Clone, Copy, Debug, PartialEq, Eq)]
+#[derive(Clone, Copy, PartialEq, Eq)]
 pub struct LeftOut {
     /// Those that are there and have no value.
     pub empty: u64,

@@ -45,7 +45,7 @@ pub struct Ended<T> {
 }
 
 /// The ring was full: the item comes back.
-#[derive(Debug, Drop)]
+#[derive(Drop)]
 pub struct Full<T>(pub T);
 
 /// A lane with room for `capacity` items, of which nothing was put and nothing taken. All its memory is taken here, for the

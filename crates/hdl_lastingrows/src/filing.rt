@@ -15,7 +15,7 @@ use crate::write::Write;
 use sqlite::Alter;
 
 /// What is known of a write.
-#[derive(Clone, Copy, Debug, PartialEq, Eq, Drop)]
+#[derive(Clone, Copy, PartialEq, Eq, Drop)]
 pub enum WriteState {
     /// It is in the file, where it lasts.
     Made,

@@ -6,7 +6,7 @@ use std::marker::Model;
 
 /// Items that a record of the protocol holds. Contracts see them as a list, so a record with such a field is itself the
 /// mathematical record.
-#[derive(Debug, Drop)]
+#[derive(Drop)]
 pub struct Items<T> {
     items: Vec<T>,
 }

@@ -15,7 +15,7 @@ use hex::FromHexError;
 use std::alloc::{AllocError, Global};
 
 /// How the data of a value is written.
-#[derive(Clone, Copy, Debug, PartialEq, Eq)]
+#[derive(Clone, Copy, PartialEq, Eq)]
 pub(crate) enum Format {
     Utf8,
     Admin,

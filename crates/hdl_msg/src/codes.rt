@@ -47,7 +47,7 @@ impl OpCode {
 
 /// The bits of OpFlag, under the names of RFC 3652, section 2.2.2.3. Of a request only PublicOnly and ReturnDigest are
 /// looked at; of a reply only ReturnDigest is ever set.
-#[derive(Clone, Copy, Debug, PartialEq, Eq)]
+#[derive(Clone, Copy, PartialEq, Eq)]
 pub enum OpFlag {
     /// AT.
     Authoritative = 0x8000_0000,

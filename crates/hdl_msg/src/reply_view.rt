@@ -10,7 +10,7 @@ use crate::lists::{Strings, Values};
 use hdl_auth::algorithm::Digest;
 
 /// The form of what stands behind a reply's digest.
-#[derive(Clone, Copy, Debug, PartialEq, Eq)]
+#[derive(Clone, Copy, PartialEq, Eq)]
 pub enum ReplyForm {
     Values,
     Handles,

@@ -10,7 +10,7 @@ use hdl_rows::{Refused, Rows};
 use hdl_value::Value;
 
 /// One write of the table. A name stands for its canonical form.
-#[derive(Debug, Drop)]
+#[derive(Drop)]
 pub enum Change {
     Create { name: Name, values: Items<Value> },
     Delete { name: Name },

@@ -7,7 +7,7 @@ ghost use Rattle.hdl_frame.specs.Splitting.{IsFrameOf};
 use hdl_frame::{Envelope, Frame};
 
 /// Whose message a piece belongs to, within a lane: the peer that sent it, and the SessionId and RequestId of its envelope.
-#[derive(Clone, Copy, Debug, PartialEq, Eq)]
+#[derive(Clone, Copy, PartialEq, Eq)]
 pub struct MessageKey {
     /// Who sent it: on a stream 0, of datagrams the peer's number.
     pub peer: u16,
@@ -31,7 +31,7 @@ impl MessageKey {
 }
 
 /// What a frame with TC says of its message.
-#[derive(Clone, Copy, Debug)]
+#[derive(Clone, Copy)]
 pub(crate) struct Arrival<'a> {
     pub(crate) key: MessageKey,
     /// How many octets the whole message has.

@@ -7,7 +7,7 @@ use std::alloc::AllocError;
 use thiserror::Error;
 
 /// What became of a piece.
-#[derive(Debug, Drop)]
+#[derive(Drop)]
 pub enum Taken {
     /// It made its message whole, and this is the message.
     Whole(Vec<u8>),

@@ -10,7 +10,7 @@ use crate::codes::{
 use std::alloc::Global;
 
 /// The statuses of HTTP that the proxy answers.
-#[derive(Clone, Copy, Debug, PartialEq, Eq)]
+#[derive(Clone, Copy, PartialEq, Eq)]
 pub enum Status {
     Success = 200,
     Created = 201,
@@ -53,7 +53,7 @@ impl Status {
 }
 
 /// What a body is.
-#[derive(Clone, Copy, Debug, PartialEq, Eq)]
+#[derive(Clone, Copy, PartialEq, Eq)]
 pub enum Media {
     /// `text/html; charset=utf-8`
     Page,
@@ -68,7 +68,7 @@ pub enum Media {
 }
 
 /// How long others may keep an answer (RFC 9111, section 5.2.2).
-#[derive(Clone, Copy, Debug, PartialEq, Eq)]
+#[derive(Clone, Copy, PartialEq, Eq)]
 pub enum Keeping {
     /// Not at all.
     Never,
@@ -76,7 +76,7 @@ pub enum Keeping {
 }
 
 /// An answer over HTTP.
-#[derive(Debug, Drop)]
+#[derive(Drop)]
 pub struct Answer {
     pub status: Status,
     /// Where to go: graphic ASCII alone.

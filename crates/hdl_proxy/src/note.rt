@@ -10,7 +10,7 @@ const UNFOLLOWED: &str =
     "<p class=\"note\">The location that this address asks for, or that was chosen, isn't one that is followed here. Please tell whoever gave it to you. These are the handle's values:</p>\n";
 
 /// What is wrong with a handle's locations, where its values are shown.
-#[derive(Clone, Copy, Debug, PartialEq, Eq)]
+#[derive(Clone, Copy, PartialEq, Eq)]
 pub(crate) enum Note {
     /// There are none, or they aren't asked for.
     Nothing,

@@ -14,7 +14,7 @@ use hdl_name::Name;
 use std::alloc::{AllocError, Global};
 
 /// In which form a handle is answered.
-#[derive(Clone, Copy, Debug, PartialEq, Eq)]
+#[derive(Clone, Copy, PartialEq, Eq)]
 pub enum Form {
     /// Its URL is followed, if it has one.
     Follow,

@@ -4,7 +4,7 @@ ghost use Rattle.std.specs.Prelude.{◌≡◌, ◌≤◌};
 ghost use Rattle.hdl_routes.specs.Miss.{worst};
 
 /// Why a server gave no good answer. What stands later counts more.
-#[derive(Clone, Copy, Debug, PartialEq, Eq)]
+#[derive(Clone, Copy, PartialEq, Eq)]
 pub enum Miss {
     /// It has no handles of the prefix.
     Elsewhere,

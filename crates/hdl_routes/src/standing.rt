@@ -7,7 +7,7 @@ ghost use Rattle.hdl_routes.specs.Standing.{IsLeftOut, after_admission, later};
 pub const LEFT_OUT: u64 = 3000;
 
 /// Whether a server is asked, by what came of the questions before. Moments are milliseconds.
-#[derive(Clone, Copy, Debug, PartialEq, Eq)]
+#[derive(Clone, Copy, PartialEq, Eq)]
 pub enum Standing {
     /// It answered last, or wasn't asked yet.
     Fit,

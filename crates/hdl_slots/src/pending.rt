@@ -4,7 +4,7 @@ use hdl_auth::algorithm::Digest;
 use hdl_limits::Octets;
 
 /// A challenge as it was sent, and the request that it stands before.
-#[derive(Debug, Drop)]
+#[derive(Drop)]
 pub struct Pending {
     /// Who sent the request: on a stream 0, of datagrams the peer's number.
     pub peer: u16,
@@ -19,7 +19,7 @@ pub struct Pending {
 }
 
 /// A challenge and the number that it was sent under, counted lane by lane.
-#[derive(Debug, Drop)]
+#[derive(Drop)]
 pub struct Challenge {
     pub number: u32,
     pub pending: Pending,

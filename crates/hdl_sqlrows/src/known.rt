@@ -13,7 +13,7 @@ use sqlite_value::keys::{Collation, Order};
 use sqlite_value::value::{Bytes, Value};
 
 /// What a database that was there already is.
-#[derive(Clone, Copy, Debug, PartialEq, Eq, Drop)]
+#[derive(Clone, Copy, PartialEq, Eq, Drop)]
 pub enum FoundDatabase {
     /// Without a table, as a new file is.
     Nothing,

@@ -22,7 +22,7 @@ use hex::FromHexError;
 use std::alloc::{AllocError, Global};
 
 /// A publisher as its line names it: its name, how many lanes it has, and its port.
-#[derive(Clone, Copy, Debug)]
+#[derive(Clone, Copy)]
 pub struct PublisherLine<'a> {
     pub name: &'a str,
     pub lanes: u16,
@@ -30,7 +30,7 @@ pub struct PublisherLine<'a> {
 }
 
 /// A prefix, the name of its publisher, and its hash function on that publisher's lanes.
-#[derive(Clone, Copy, Debug)]
+#[derive(Clone, Copy)]
 pub struct PrefixLine<'a> {
     pub prefix: &'a str,
     pub name: &'a str,
@@ -38,7 +38,7 @@ pub struct PrefixLine<'a> {
 }
 
 /// A handle and the hexadecimal digits of a value.
-#[derive(Clone, Copy, Debug)]
+#[derive(Clone, Copy)]
 pub struct ValueLine<'a> {
     pub handle: &'a str,
     pub digits: &'a str,

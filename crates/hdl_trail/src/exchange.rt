@@ -7,7 +7,7 @@ use crate::kept::MessageKey;
 use hdl_frame::{ENVELOPE_LEN, Envelope, Frame};
 
 /// A frame that came, and what the reply to it said so far.
-#[derive(Clone, Copy, Debug, Default)]
+#[derive(Clone, Copy, Default)]
 pub struct Exchange {
     pub key: MessageKey,
     /// Whether it is a piece of its message, and how many octets that has.

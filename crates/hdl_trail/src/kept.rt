@@ -7,7 +7,7 @@ use crate::exchange::Exchange;
 use arrayvec::ArrayVec;
 
 /// Whose message a frame belongs to: the number of its peer, and its SessionId and RequestId.
-#[derive(Clone, Copy, Debug, Default, PartialEq, Eq)]
+#[derive(Clone, Copy, Default, PartialEq, Eq)]
 pub struct MessageKey {
     pub number: u16,
     pub session: u32,
@@ -15,7 +15,7 @@ pub struct MessageKey {
 }
 
 /// A message of which pieces are kept.
-#[derive(Clone, Copy, Debug, Default)]
+#[derive(Clone, Copy, Default)]
 pub struct Mark {
     pub key: MessageKey,
     /// How many octets the message has.
@@ -61,7 +61,7 @@ impl Mark {
 }
 
 /// A challenge: to whom it was sent, and under which number of the lane, which is its SessionId.
-#[derive(Clone, Copy, Debug, Default)]
+#[derive(Clone, Copy, Default)]
 pub struct SentChallenge {
     pub number: u16,
     pub session: u32,

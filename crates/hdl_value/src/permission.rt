@@ -4,7 +4,7 @@ ghost use Rattle.std.specs.Prelude.{◌≡◌};
 ghost use Rattle.hdl_value.specs.Permission.{permission_bit, admin_bit};
 
 /// The bits of a value's permission octet, under the names of RFC 3651, section 3.1. The other bits are kept and mean nothing.
-#[derive(Clone, Copy, Debug, PartialEq, Eq)]
+#[derive(Clone, Copy, PartialEq, Eq)]
 pub enum Permission {
     /// Anybody may modify or remove the value (PUBLIC_WRITE).
     PublicWrite = 0x01,
@@ -38,7 +38,7 @@ pub enum Class {
 
 /// The bits of an administrator's mask, after RFC 3651, section 3.2.1; their numbers are this project's own. The other bits
 /// are kept and mean nothing.
-#[derive(Clone, Copy, Debug, PartialEq, Eq)]
+#[derive(Clone, Copy, PartialEq, Eq)]
 pub enum AdminPermission {
     /// Add_Handle: create a handle.
     AddHandle = 0x0001,

@@ -12,7 +12,7 @@ use hdl_limits::{Items, Octets};
 use std::alloc::{AllocError, Global};
 
 /// A reference as it is spelt: a handle, which may be no name, and an index.
-#[derive(Debug, Drop)]
+#[derive(Drop)]
 pub struct RawRef {
     pub handle: Octets,
     pub index: u32,

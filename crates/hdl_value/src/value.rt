@@ -19,7 +19,7 @@ use std::alloc::{AllocError, Global};
 /// timestamp    8 octets, milliseconds since 1970-01-01 00:00 UTC
 /// references   4 octets of count, and that many of a handle (a string) and 4 octets of index
 /// ```
-#[derive(Debug, Drop)]
+#[derive(Drop)]
 pub struct Value {
     pub index: u32,
     pub kind: Octets,

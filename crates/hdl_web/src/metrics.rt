@@ -10,7 +10,7 @@ use std::sync::{Mutex, Wait};
 use std::time::Clock;
 
 /// What an answer is.
-#[derive(Clone, Copy, Debug, PartialEq, Eq)]
+#[derive(Clone, Copy, PartialEq, Eq)]
 pub(crate) enum AnswerKind {
     Redirect,
     Page,

@@ -10,7 +10,7 @@ ghost use Rattle.hdl_workers.specs.Door.{Connection, fresh, hear, say, break_off
 use hdl_limits::PEERS_MAX;
 
 /// A call of a door that failed.
-#[derive(Clone, Copy, Debug, PartialEq, Eq)]
+#[derive(Clone, Copy, PartialEq, Eq)]
 pub struct DoorFault;
 
 /// A place where streams come in, one connection at a time. Each call that fails raises the count of faults by one, up to the

@@ -6,7 +6,7 @@ ghost use Rattle.hdl_workers.specs.Door.{Counts, Raises};
 use crate::DoorFault;
 
 /// Counts calls and faults. One call fails.
-#[derive(Debug, Drop)]
+#[derive(Drop)]
 pub(crate) struct Faults {
     /// How many calls are still to come up to the one that fails. 0: none does.
     pub(crate) until: u64,

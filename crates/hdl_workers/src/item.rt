@@ -3,7 +3,7 @@
 use hdl_events::Happening;
 
 /// What a worker puts: what happened on its lane, or that nothing more comes.
-#[derive(Debug, Drop)]
+#[derive(Drop)]
 pub enum Item {
     Event(Happening),
     End,

@@ -10,7 +10,7 @@ use std::collections::VecDeque;
 use std::mem;
 
 /// A connection of a door in memory: what its peer sends, how much of that was read, and what was written.
-#[derive(Debug, Drop)]
+#[derive(Drop)]
 pub struct MemoryConnection {
     pub(crate) incoming: Vec<u8>,
     pub(crate) at: usize,

@@ -9,7 +9,7 @@ use std::alloc::Global;
 use std::collections::VecDeque;
 
 /// A datagram and its peer.
-#[derive(Debug, Drop)]
+#[derive(Drop)]
 pub struct Datagram {
     pub peer: u16,
     pub octets: Vec<u8>,

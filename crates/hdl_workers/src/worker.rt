@@ -14,7 +14,7 @@ use hdl_events::{Happening, Outcome};
 use hdl_lanes::{Ended, Inlet, Outlet};
 
 /// Why a worker ended.
-#[derive(Clone, Copy, Debug, PartialEq, Eq)]
+#[derive(Clone, Copy, PartialEq, Eq)]
 pub enum EndReason {
     /// Its turns are spent.
     Turns,
@@ -31,7 +31,7 @@ pub struct WorkerEnd {
 }
 
 /// Why a conversation stopped before its peer closed it.
-#[derive(Clone, Copy, Debug, PartialEq, Eq)]
+#[derive(Clone, Copy, PartialEq, Eq)]
 pub(crate) enum Stop {
     Turns,
     Broken,

@@ -21,7 +21,7 @@ use serde_json::Value as Json;
 use std::alloc::{AllocError, Global};
 
 /// How the data of a value is told.
-#[derive(Clone, Copy, Debug, PartialEq, Eq)]
+#[derive(Clone, Copy, PartialEq, Eq)]
 enum Format {
     Text,
     Base64,

@@ -21,7 +21,7 @@ const LIST_PATH: &str = "/api/handles";
 const JSON_PATH: &str = "/api/";
 
 /// How the values of a body are put into a handle.
-#[derive(Clone, Copy, Debug, PartialEq, Eq)]
+#[derive(Clone, Copy, PartialEq, Eq)]
 pub enum WriteMode {
     /// The handle is created; it isn't there.
     Create,
@@ -34,7 +34,7 @@ pub enum WriteMode {
 }
 
 /// Which page of a list: its number from 0 on, and how many handles a page has.
-#[derive(Clone, Copy, Debug, PartialEq, Eq)]
+#[derive(Clone, Copy, PartialEq, Eq)]
 pub struct Window {
     pub page: u32,
     pub size: u32,
