@@ -13,6 +13,7 @@ use crate::alarm::{Alarm, ring_if_shut};
 use crate::filing::Filing;
 use crate::inverse::inverse_of;
 use crate::pending::{Pending, behind_undo, behind_write};
+use crate::places::put;
 use crate::write::{OwnWrite, Write};
 use hdl_rows::{Owed, Rows};
 use std::alloc::Global;
@@ -35,7 +36,14 @@ impl<F: Filing + Drop, A: Alarm + Drop> FileBeside<F, A> {
     pub(crate) fn into_file(self) -> F
         ensures { result ≡ self.file }
     {
-        self.file
+        let FileBeside {
+            file,
+            pending,
+            alarm: _alarm,
+            ..
+        } = self;
+        drop(pending);
+        file
     }
 
     /// What is owed. Once nobody can tell what the file has, nothing is.
@@ -207,6 +215,6 @@ impl<F: Filing + Drop, A: Alarm + Drop> FileBeside<F, A> {
         let was_shut = pending.is_shut();
         let pending = self.next(rows, pending, write);
         ring_if_shut(&mut self.alarm, was_shut, pending.is_shut());
-        self.pending = pending;
+        put(&mut self.pending, pending);
     }
 }

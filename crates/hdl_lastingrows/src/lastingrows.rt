@@ -21,6 +21,7 @@ use crate::file_beside::FileBeside;
 use crate::filerows::FileRows;
 use crate::filing::Filing;
 use crate::pending::Pending;
+use crate::places::put;
 use crate::threaded::ThreadedFile;
 use crate::write::Write;
 use hdl_limits::Octets;
@@ -105,7 +106,7 @@ fn claim(pending: &mut Pending, done: Result<(), Refused>) -> Result<(), Refused
     ensures claimed { MatchResult done (λ _. pending.new ≡ Nothing) (λ _. pending.new ≡ pending.old) }
 {
     if done.is_ok() {
-        *pending = Pending::Nothing;
+        put(pending, Pending::Nothing);
     }
     done
 }

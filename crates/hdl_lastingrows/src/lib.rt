@@ -51,6 +51,7 @@ mod inverse;
 mod lastingrows;
 mod opening;
 mod pending;
+mod places;
 mod threaded;
 mod write;
 

@@ -68,8 +68,15 @@ pub(crate) fn behind_undo(own: OwnWrite, undo: OwnWrite, state: WriteState) -> P
     ensures owed { (owed_by result ≡ None) ⊎ (owed_by result ≡ Some (write_in own)) }
 {
     match state {
-        WriteState::Made => Pending::Nothing,
-        WriteState::Refused => Pending::Ahead(own),
+        WriteState::Made => {
+            drop(own);
+            drop(undo);
+            Pending::Nothing
+        }
+        WriteState::Refused => {
+            drop(undo);
+            Pending::Ahead(own)
+        }
         WriteState::UnderWay => Pending::Undoing(own, undo),
         WriteState::Unknown => Pending::UndoUnknown(own, undo),
     }

@@ -12,6 +12,7 @@ ghost use Rattle.hdl_lastingrows.specs.Beside.{StandsAt, IsHandedOver, IfHere, i
 use crate::disk::{DiskRows, Store};
 use crate::filerows::FileRows;
 use crate::filing::{Filing, WriteState};
+use crate::places::put;
 use crate::write::{OwnWrite, Write};
 use std::alloc::{AllocError, Global};
 use std::snapshot::Snapshot;
@@ -116,6 +117,18 @@ fn end_here(mut file: DiskRows, write: &Write<'_>) -> (Whereabouts, WriteState)
     (Whereabouts::Here(file), state)
 }
 
+/// What a thread gets, with a flag that isn't set, and the flag once more.
+fn with_flag<W: Drop>(
+    alloc: Global,
+    own: W,
+) -> Result<(W, Arc<AtomicBool>, Arc<AtomicBool>), AllocError>
+    ensures { IfOk result (λ all. all.0 ≡ own) }
+{
+    let ended = Arc::new(alloc, AtomicBool::new(false))?;
+    let theirs = Arc::try_clone(&ended)?;
+    Ok((own, ended, theirs))
+}
+
 /// What a thread is given beside the file: the write, and the flag, which stays here too.
 fn copies(
     alloc: Global,
@@ -124,9 +137,8 @@ fn copies(
     ensures { IfOk result (λ all. write_in all.0 ≡ write_of write.now) }
 {
     let own = OwnWrite::copy(alloc, write)?;
-    let ended = Arc::new(alloc, AtomicBool::new(false))?;
-    let theirs = Arc::try_clone(&ended)?;
-    Ok((own, ended, theirs))
+    let all = with_flag(alloc, own)?;
+    Ok(all)
 }
 
 impl<T: Threads + Drop> ThreadedFile<T> {
@@ -223,14 +235,14 @@ impl<T: Threads + Drop> Filing for ThreadedFile<T> {
     fn begin(&mut self, write: &Write<'_>) -> WriteState {
         let place = mem::replace(&mut self.place, Whereabouts::Nowhere);
         let (place, state) = self.begin_at(place, write);
-        self.place = place;
+        put(&mut self.place, place);
         state
     }
 
     fn end(&mut self, write: &Write<'_>) -> WriteState {
         let place = mem::replace(&mut self.place, Whereabouts::Nowhere);
         let (place, state) = self.end_at(place, write);
-        self.place = place;
+        put(&mut self.place, place);
         state
     }
 
