@@ -21,69 +21,109 @@ pub enum Report {
     Refused(Vec<LineFault>),
 }
 
-/// A text that is read line by line, without those that are faulty.
+/// What was found of a text, line by line.
 #[derive(Drop)]
-struct Reading<'a> {
+struct Found {
     alloc: Global,
-    accepted: Accepted<'a>,
     faults: Vec<LineFault>,
     /// The text so far, with an empty line in the place of each that is faulty.
     rest: String,
     line: usize,
 }
 
-impl<'a> Reading<'a> {
-    fn push_fault(&mut self, words: String) -> Result<(), AllocError> {
-        let line = self.line;
+impl Found {
+    fn new(alloc: Global) -> Found {
+        Found {
+            alloc,
+            faults: Vec::new(alloc),
+            rest: String::new(alloc),
+            line: 0,
+        }
+    }
+
+    fn push_fault(&mut self, line: usize, words: String) -> Result<(), AllocError> {
         self.faults.push(LineFault { line, words })?;
         Ok(())
     }
 
+    /// Judges the line of this kind with these fields.
+    fn judge<'a>(
+        &mut self,
+        accepted: &mut Accepted<'a>,
+        kind: &LineKind<'_>,
+        fields: &[&str],
+        line: &'a str,
+    ) -> Result<(), AllocError> {
+        if let Some(fault) = accepted.judge(kind, line)? {
+            let words = reason_of(self.alloc, accepted, kind, fields, fault)?;
+            return self.push_fault(self.line, words);
+        }
+        accepted.add(kind, line)?;
+        self.rest.push_str(line)
+    }
+
     /// Looks at the next line.
-    fn take(&mut self, line: &'a str) -> Result<(), AllocError> {
+    fn take<'a>(&mut self, accepted: &mut Accepted<'a>, line: &'a str) -> Result<(), AllocError> {
         self.line = self.line.saturating_add(1);
         let fields: Vec<&'a str> = line.split(' ').collect(self.alloc)?;
         let kind = kind_of(self.alloc, &fields);
-        match self.accepted.judge(&kind, line)? {
-            None => {
-                self.accepted.add(&kind, line)?;
-                self.rest.push_str(line)?;
-            }
-            Some(fault) => {
-                let words = reason_of(self.alloc, &self.accepted, &kind, &fields, fault)?;
-                self.push_fault(words)?;
+        self.judge(accepted, &kind, &fields, line)
+    }
+
+    /// Looks at each line, of which those that are accepted stay there.
+    fn take_lines<'a>(
+        &mut self,
+        accepted: &mut Accepted<'a>,
+        text: &'a str,
+    ) -> Result<(), AllocError> {
+        for line in text.lines() {
+            self.take(accepted, line)?;
+            self.rest.push('\n')?;
+        }
+        Ok(())
+    }
+
+    /// Looks at each line.
+    fn take_text(&mut self, text: &str) -> Result<(), AllocError> {
+        let mut accepted = Accepted::new(self.alloc);
+        self.take_lines(&mut accepted, text)
+    }
+
+    /// What the text has, if no line is faulty.
+    fn summary(&self, text: &str, tenants: &Tenants) -> Result<Option<String>, AllocError> {
+        if !self.faults.is_empty() {
+            return Ok(None);
+        }
+        Ok(Some(summary(self.alloc, text, tenants)?))
+    }
+
+    /// Looks at the lines together that are accepted one by one, and tells what the text has, if nothing is faulty.
+    fn take_whole(&mut self, text: &str) -> Result<Option<String>, AllocError> {
+        match Tenants::read(self.alloc, &self.rest) {
+            Ok(tenants) => self.summary(text, &tenants),
+            Err((_, TenantFault::Memory)) => Err(AllocError),
+            Err((line, fault)) => {
+                let words = words_of(self.alloc, fault)?;
+                self.push_fault(line, words)?;
+                Ok(None)
             }
         }
-        self.rest.push('\n')
+    }
+
+    /// Looks at the whole text, and tells what it has, if nothing is faulty.
+    fn read(&mut self, text: &str) -> Result<Option<String>, AllocError> {
+        self.take_text(text)?;
+        self.take_whole(text)
     }
 }
 
 /// Checks a tenants text.
 pub fn check(alloc: Global, text: &str) -> Result<Report, AllocError> {
-    let mut reading = Reading {
-        alloc,
-        accepted: Accepted::new(alloc),
-        faults: Vec::new(alloc),
-        rest: String::new(alloc),
-        line: 0,
-    };
-    for line in text.lines() {
-        reading.take(line)?;
+    let mut found = Found::new(alloc);
+    match found.read(text)? {
+        Some(lines) => Ok(Report::Accepted(lines)),
+        None => Ok(Report::Refused(found.faults)),
     }
-    match Tenants::read(alloc, &reading.rest) {
-        Ok(tenants) => {
-            if reading.faults.is_empty() {
-                return Ok(Report::Accepted(summary(alloc, text, &tenants)?));
-            }
-        }
-        Err((_, TenantFault::Memory)) => return Err(AllocError),
-        Err((line, fault)) => {
-            reading.line = line;
-            let words = words_of(alloc, fault)?;
-            reading.push_fault(words)?;
-        }
-    }
-    Ok(Report::Refused(reading.faults))
 }
 
 /// The prefixes of a publisher, by the lines of an accepted text.
