@@ -69,6 +69,7 @@ fn hear_for_anyone<R: Masked>(
     let asked = named.asked;
     let decision = decide(named, rows, &Level::Anyone)?;
     if is_challenged(&decision) {
+        drop(decision);
         return challenge(owner.alloc, &asked, origin, next);
     }
     let octets = answer(owner.alloc, &asked, rows, origin, decision)?;

@@ -124,18 +124,60 @@ fn with_masks<R: Rows + Drop>(alloc: Global, rows: R) -> Result<MaskedRows<R>, O
     }
 }
 
+/// The table with the opening rows, of which no masks are kept yet.
+fn loaded<R: Rows + Drop>(
+    alloc: Global,
+    mut rows: R,
+    opening: &[(Name, Value)],
+) -> Result<MaskedRows<R>, OpenFault>
+    requires empty { R.content rows ≡ no_rows }
+    requires distinct { AreDistinct (map place opening.now) }
+    ensures { IfOk result (λ masked. R.content masked ≡ opening_table opening.now) }
+{
+    load(alloc, &mut rows, opening)?;
+    let masked = with_masks(alloc, rows)?;
+    Ok(masked)
+}
+
+/// The lanes of a service that opens, closed, and its table.
+fn opened<R: Rows + Drop>(
+    alloc: Global,
+    tenants: &Tenants,
+    rows: R,
+) -> Result<(Lanes, MaskedRows<R>), OpenFault>
+    requires empty { R.content rows ≡ no_rows }
+    ensures lanes { IfOk result (λ parts. parts.0 ≡ closed (first_lanes tenants.now (lane_count tenants.now.publishers))) }
+    ensures table { IfOk result (λ parts. R.content parts.1 ≡ opening_table tenants.now.opening) }
+{
+    let lanes = room_for(alloc, tenants)?;
+    let rows = loaded(alloc, rows, tenants.opening())?;
+    Ok((lanes, rows))
+}
+
+/// The lanes of a service over a table that is there already, closed, and that table.
+fn resumed<R: Rows + Drop>(
+    alloc: Global,
+    tenants: &Tenants,
+    rows: R,
+) -> Result<(Lanes, MaskedRows<R>), OpenFault>
+    ensures lanes { IfOk result (λ parts. parts.0 ≡ closed (first_lanes tenants.now (lane_count tenants.now.publishers))) }
+    ensures table { IfOk result (λ parts. R.content parts.1 ≡ R.content rows) }
+{
+    let lanes = room_for(alloc, tenants)?;
+    let rows = with_masks(alloc, rows)?;
+    Ok((lanes, rows))
+}
+
 impl<R: Rows + Drop> Service<R> {
     /// The service of a tenants text over an empty table: every lane closed, and the opening rows in the table.
     ///
     /// Refused: `Memory` for the lanes, the masks that are kept or the order of the rows, `Store` where the table refused a row. The
     /// table is dropped then.
-    pub fn open(alloc: Global, tenants: Tenants, mut rows: R) -> Result<Service<R>, OpenFault>
+    pub fn open(alloc: Global, tenants: Tenants, rows: R) -> Result<Service<R>, OpenFault>
         requires empty { R.content rows ≡ no_rows }
         ensures opening { IfOk result (λ service. IsOpening tenants service) }
     {
-        let lanes = room_for(alloc, &tenants)?;
-        load(alloc, &mut rows, tenants.opening())?;
-        let rows = with_masks(alloc, rows)?;
+        let (lanes, rows) = opened(alloc, &tenants, rows)?;
         Ok(Service {
             machine: Machine {
                 alloc,
@@ -153,8 +195,7 @@ impl<R: Rows + Drop> Service<R> {
     pub fn resume(alloc: Global, tenants: Tenants, rows: R) -> Result<Service<R>, OpenFault>
         ensures resumed { IfOk result (λ service. IsResumed tenants (R.content rows) service) }
     {
-        let lanes = room_for(alloc, &tenants)?;
-        let rows = with_masks(alloc, rows)?;
+        let (lanes, rows) = resumed(alloc, &tenants, rows)?;
         Ok(Service {
             machine: Machine {
                 alloc,
