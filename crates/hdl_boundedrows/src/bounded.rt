@@ -66,23 +66,37 @@ fn permit<A: Alarm>(
     Err(Refused)
 }
 
+/// What the administrative handle of a prefix counts.
+fn held_at_root<R: Rows>(rows: &mut R, root: &Name) -> Result<Amount, Refused>
+    ensures unchanged { R.content rows.new ≡ R.content rows.old }
+{
+    match rows.look(root)? {
+        Some(values) => Ok(handle_amount(root.canon(), &values)),
+        None => Ok(Amount::NONE),
+    }
+}
+
+/// What the handle with these octets counts, which must be a name in canonical form.
+fn held_at<R: Rows>(alloc: Global, rows: &mut R, handle: &[u8]) -> Result<Amount, Refused>
+    ensures unchanged { R.content rows.new ≡ R.content rows.old }
+{
+    let Ok(name) = Name::read(alloc, handle) else {
+        return Err(Refused);
+    };
+    if name.canon() != handle {
+        return Err(Refused);
+    }
+    let values = rows.values(&name)?;
+    Ok(handle_amount(handle, &values))
+}
+
 /// What the handles of a prefix count, its administrative handle among them.
 fn held_under<R: Rows>(alloc: Global, rows: &mut R, root: &Name) -> Result<Amount, Refused>
     ensures unchanged { R.content rows.new ≡ R.content rows.old }
 {
-    let mut sum = match rows.look(root)? {
-        Some(values) => handle_amount(root.canon(), &values),
-        None => Amount::NONE,
-    };
+    let mut sum = held_at_root(rows, root)?;
     for handle in rows.names(root.prefix())? {
-        let Ok(name) = Name::read(alloc, handle.as_slice()) else {
-            return Err(Refused);
-        };
-        if name.canon() != handle.as_slice() {
-            return Err(Refused);
-        }
-        let values = rows.values(&name)?;
-        sum = sum.plus(handle_amount(handle.as_slice(), &values));
+        sum = sum.plus(held_at(alloc, rows, handle.as_slice())?);
     }
     Ok(sum)
 }
