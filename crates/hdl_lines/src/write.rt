@@ -6,7 +6,7 @@ ghost use Rattle.hex.specs.Hex.{encode_lower};
 ghost use Rattle.hdl_value.specs.Spelling.{CanBeSpelt};
 ghost use Rattle.hdl_value.specs.Refs.{raw, raws};
 ghost use Rattle.hdl_lines.specs.Fields.{space, is_word};
-ghost use Rattle.hdl_lines.specs.Data.{admin_text, reference_text, have_words, list_text, plain_text, data_text};
+ghost use Rattle.hdl_lines.specs.Data.{admin_text, admin_words, reference_text, have_words, list_text, plain_text, data_text};
 ghost use Rattle.hdl_lines.specs.Lines.{has_fields, field, fields_text, line_of};
 
 use crate::fields::{is_text, is_word, permission_digits, put_bits, put_number};
@@ -57,24 +57,31 @@ fn put_fields(out: &mut Vec<u8>, value: &Value) -> Result<(), AllocError>
     put_field(out, &permission_digits(value.permissions))
 }
 
-/// `ADMIN INDEX:MASK:HANDLE`, if the data is that and words can say it.
-fn admin_text(alloc: Global, value: &Value) -> Result<Option<Vec<u8>>, AllocError>
-    ensures { IfOk result (λ o. option_map (λ v. v.items) o ≡ admin_text value.now) }
+/// `ADMIN INDEX:MASK:HANDLE`, if words can say it.
+fn admin_words(alloc: Global, mask: u16, key: &Reference) -> Result<Option<Vec<u8>>, AllocError>
+    ensures { IfOk result (λ o. option_map (λ v. v.items) o ≡ admin_words (mask, raw key.now)) }
 {
-    let Some((mask, key)) = admin_of(alloc, value)? else {
-        return Ok(None);
-    };
     let handle = key.name.sent();
-    if mask.0 >= 4096 || !is_word(handle) {
+    if mask >= 4096 || !is_word(handle) {
         return Ok(None);
     }
     let mut text = Vec::from_slice(alloc, b"ADMIN ")?;
     put_number(&mut text, key.index)?;
     text.push(b':')?;
-    put_bits(&mut text, 12, mask.0)?;
+    put_bits(&mut text, 12, mask)?;
     text.push(b':')?;
     text.extend_from_slice(handle)?;
     Ok(Some(text))
+}
+
+/// The same, if the data is that and words can say it.
+fn admin_text(alloc: Global, value: &Value) -> Result<Option<Vec<u8>>, AllocError>
+    ensures { IfOk result (λ o. option_map (λ v. v.items) o ≡ admin_text value.now) }
+{
+    match admin_of(alloc, value)? {
+        Some((mask, key)) => admin_words(alloc, mask.0, &key),
+        None => Ok(None),
+    }
 }
 
 fn put_reference(out: &mut Vec<u8>, reference: &Reference) -> Result<(), AllocError>
