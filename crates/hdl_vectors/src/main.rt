@@ -14,7 +14,7 @@
 //! stream STEP | ..   a cutter that is fed octets, or is asked for the `next` frame
 //! envelope OCTETS    what an envelope says                     frame-memory-fault    the text of the fault that no octets have
 //! datagram OCTETS    what a datagram carries                   pieces OCTETS     what the datagrams of a reply carry
-//! value OCTETS       all of a value                            is-value OCTETS   how long it is, or its fault
+//! value OCTETS       all of a value, by its copy               is-value OCTETS   how long it is, or its fault
 //! cut OCTETS         a value by layout alone                   masks OCTETS      two masks, united
 //! line OCTETS        a line of a value, read and written       short-replies OCTETS   the answers to an envelope without a decision
 //! request OCTETS     what a message asks, and the message as it is written

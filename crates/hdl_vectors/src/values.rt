@@ -34,12 +34,9 @@ fn put_written(rt: &HostRuntime, value: &Value) -> io::Result<()>
     println!(rt; "  behind two octets {}", behind.len())
 }
 
-/// Prints the octets of a value's copy.
-fn put_copy(rt: &HostRuntime, value: &Value) -> io::Result<()>
-    requires { CanBeSpelt value.now }
-{
-    let copy = value.copy(rt.alloc())?;
-    put_hex(rt, "copied", &write_value(rt.alloc(), &copy)?)
+/// Prints the parts of a value's copy.
+fn put_copy(rt: &HostRuntime, value: &Value) -> io::Result<()> {
+    put_parts(rt, &value.copy(rt.alloc())?)
 }
 
 /// Prints what a value grants as an administrator.
@@ -71,9 +68,8 @@ pub fn put_whole(rt: &HostRuntime, octets: &[u8]) -> io::Result<()> {
         Err(fault) => println!(rt; "  {fault}"),
         Ok((value, count)) => {
             println!(rt; "  {count} octets")?;
-            put_parts(rt, &value)?;
-            put_written(rt, &value)?;
             put_copy(rt, &value)?;
+            put_written(rt, &value)?;
             put_administrator(rt, &value)?;
             put_listed(rt, &value)
         }
