@@ -63,12 +63,12 @@ def write(programs):
 def texts():
     """Each text, and whether the program prints it for its words; a program has no other text."""
     for program, file in PROGRAMS.items():
-        names = []
+        folder, names = repository.path("tools", "help", program), []
         for text, words in asked(program):
             names.append(text)
             wanted = (0, repository.text_of(stored(program, text)) if os.path.exists(stored(program, text)) else None, "")
             yield "tools/help/%s/%s" % (program, text), said([file, *words]) == wanted == said([file, *words[:-1], SHORT[words[-1]]])
-        yield "tools/help/%s has no other text" % program, sorted(os.listdir(repository.path("tools", "help", program))) == sorted(names)
+        yield "tools/help/%s has no other text" % program, os.path.isdir(folder) and sorted(os.listdir(folder)) == sorted(names)
 
 
 def starts():
