@@ -13,7 +13,7 @@
 //! It stands on frames and on the fields of messages, and knows no sockets and no service.
 //!
 //! ```rust
-//! // crates/hdl_host/src/recorder.rt
+//! // crates/hdl_telemetry/src/recorder.rt
 //! let answer = ReplySummary::of(frame)?;
 //! self.counts.count(answer);
 //! if answer.accepts_change() {

@@ -17,10 +17,10 @@
 //! and none on another. A faulty envelope is refused with code 4 as on a lane of one connection, and nothing behind it is handed out.
 //!
 //! It stands on the limits, on frames, on `hdl_msg` for that refusal and on `hdl_trail`, and knows no sockets: it is told what was read and written. That it is told the
-//! truth, hdl_host has to see to.
+//! truth, hdl_sockets has to see to.
 //!
 //! ```rust
-//! // crates/hdl_host/src/crowd.rt
+//! // crates/hdl_sockets/src/crowd.rt
 //! Ok(count) => match self.book.note_octets(place, &octets[..count], self.now) {
 //!     Ok(()) => NextAtPlace::More,
 //!     Err(_) => NextAtPlace::End,

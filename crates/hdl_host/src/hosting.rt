@@ -5,17 +5,16 @@ ghost use Rattle.hdl_rows.specs.Table.{no_rows};
 ghost use Rattle.hdl_workers.specs.Ends.{AreDistinct};
 
 use crate::bounds::Notices;
-use crate::clock::{MachineClock, Part};
-use crate::fault::HostFault;
-use crate::listening::{Limits, PublisherSockets, Setting, or_device, places_of};
-use crate::supervision::{Supervised, supervise};
-use crate::waking::{Patience, Sleep};
-use crate::workers::{join_all, start};
-use hdl_boundedrows::BoundedRows;
+use hdl_boundedrows::{Bound, BoundedRows};
 use hdl_core::{OpenFault, Owing, Service, Tenants};
+use hdl_listeners::{
+    HostFault, Limits, PublisherSockets, Setting, Supervised, join_all, or_device, places_of,
+    start, supervise,
+};
 use hdl_programs::{Fault, put_all, tenants_of};
 use hdl_queue::WriteQueue;
-use hdl_serve::{Clock as Pauses, LaneEnds, WorkerSide, lanes_of, serve};
+use hdl_serve::{Clock as Pauses, LaneEnds, WorkerEnd, WorkerSide, lanes_of, serve};
+use hdl_sockets::{Crowd, Ending, MachineClock, Part, Patience, Sleep};
 use std::alloc::Global;
 use std::fs;
 use std::fs::Files;
@@ -23,49 +22,86 @@ use std::io::Write;
 use std::net::{Net, TcpListener, TcpStream};
 use std::random::RandomSource;
 use std::rt::Clock;
-use std::thread::Threads;
+use std::sync::Arc;
+use std::thread::{JoinHandle, Threads};
 
 /// How many items a lane's ring has room for, each way.
 const RING: usize = 16;
 
-/// What is there before anything is served: every lane, every socket, the lines that tell where they are, the sleep of the thread that
-/// serves, the queue of lanes whose writes wait, how many turns each worker and the service have, and the sockets at which the server is watched.
+/// The sleep of the thread that serves, the sockets of each publisher, the lines that tell where they are, and the sockets at which the server is watched.
+#[derive(Drop)]
+struct Opened {
+    sleep: Sleep,
+    places: Vec<PublisherSockets<Crowd>>,
+    lines: String,
+    supervised: Supervised,
+}
+
+/// What is there before anything is served: every lane, the queue of lanes whose writes wait, every socket, and how many turns each worker and the
+/// service have.
 #[derive(Drop)]
 struct Ready {
     ends: Vec<LaneEnds>,
     sides: Vec<WorkerSide>,
-    places: Vec<PublisherSockets>,
-    lines: String,
-    sleep: Sleep,
     queue: WriteQueue,
+    opened: Opened,
     turns: u64,
-    supervised: Supervised,
     ghost distinct: { AreDistinct ends.items },
 }
 
+/// Listens for each publisher, and for whoever watches the server.
+fn open_sockets<R: Net<Listener = TcpListener, Stream = TcpStream> + Clock + Files>(
+    rt: &R,
+    alloc: Global,
+    tenants: &Tenants,
+    setting: &Setting,
+) -> Result<Opened, HostFault> {
+    let most = Patience::of(setting.limits.turns).events;
+    let sleep = or_device(Sleep::new(rt, alloc, most))?;
+    let (places, lines) = places_of(rt, alloc, tenants, setting)?;
+    let supervised = supervise(rt, alloc, &setting.supervision, places.as_slice())?;
+    Ok(Opened {
+        sleep,
+        places,
+        lines,
+        supervised,
+    })
+}
+
 /// Makes the lanes of the tenants and listens for each publisher.
-fn ready_for<R: Net<Listener = TcpListener, Stream = TcpStream> + Clock + Files>(
+fn ready_in<R: Net<Listener = TcpListener, Stream = TcpStream> + Clock + Files>(
     rt: &R,
     alloc: Global,
     tenants: &Tenants,
     setting: &Setting,
 ) -> Result<Ready, HostFault> {
-    let turns = setting.limits.turns;
     let (ends, sides) = lanes_of(alloc, tenants.lanes(), RING)?;
     let queue = WriteQueue::with_capacity(alloc, ends.len())?;
-    let (places, lines) = places_of(rt, alloc, tenants, setting)?;
-    let sleep = or_device(Sleep::new(rt, alloc, Patience::of(turns).events))?;
-    let supervised = supervise(rt, alloc, &setting.supervision, places.as_slice())?;
+    let opened = open_sockets(rt, alloc, tenants, setting)?;
     Ok(Ready {
         ends,
         sides,
-        places,
-        lines,
-        sleep,
         queue,
-        turns,
-        supervised,
+        opened,
+        turns: setting.limits.turns,
     })
+}
+
+/// Makes the lanes of the tenants and listens for each publisher. With what is ready come the bounds of publishers, and the path of the socket at which
+/// the word to end is taken: all else of a setting ends here, so that who opens a table owns little.
+fn ready_for<R: Net<Listener = TcpListener, Stream = TcpStream> + Clock + Files>(
+    rt: &R,
+    alloc: Global,
+    tenants: &Tenants,
+    setting: Setting,
+) -> Result<(Ready, Vec<Bound>, Option<String>), HostFault> {
+    let ready = ready_in(rt, alloc, tenants, &setting)?;
+    let Setting {
+        bounds,
+        supervision,
+        ..
+    } = setting;
+    Ok((ready, bounds, supervision.control))
 }
 
 /// What serves lanes on the calling thread, until each of them ended or the turns are spent.
@@ -97,6 +133,37 @@ impl<T: Owing + Drop> Serving for Service<T> {
     }
 }
 
+/// The workers that run, whether they are asked to end, and the sleep of the thread that serves them.
+#[derive(Drop)]
+struct Started {
+    workers: Vec<JoinHandle<WorkerEnd>>,
+    ending: Arc<Ending>,
+    sleep: Sleep,
+}
+
+/// Starts what answers at the sockets at which the server is watched, and a worker for each lane.
+fn start_all<R: Threads + Clock + RandomSource + Eprint + Copy + Send + Drop + 'static>(
+    rt: &R,
+    alloc: Global,
+    opened: Opened,
+    sides: Vec<WorkerSide>,
+    turns: u64,
+) -> Result<Started, Fault> {
+    let Opened {
+        sleep,
+        places,
+        supervised,
+        ..
+    } = opened;
+    let ending = supervised.start(rt, alloc)?;
+    let workers = start(rt, alloc, places, sides, &sleep, turns)?;
+    Ok(Started {
+        workers,
+        ending,
+        sleep,
+    })
+}
+
 /// Starts the workers, serves on this thread, joins them, and gives back what served.
 fn run_workers<
     R: Threads + Clock + RandomSource + Eprint + Copy + Send + Drop + 'static,
@@ -105,15 +172,16 @@ fn run_workers<
     let Ready {
         ends,
         sides,
-        places,
-        sleep,
         mut queue,
+        opened,
         turns,
-        supervised,
         ..
     } = ready;
-    let ending = supervised.start(rt, alloc)?;
-    let workers = start(rt, alloc, places, sides, &sleep, turns)?;
+    let Started {
+        workers,
+        ending,
+        sleep,
+    } = start_all(rt, alloc, opened, sides, turns)?;
     let mut clock = MachineClock::new(*rt, Part::Serves(sleep));
     let service = service.serve_lanes(alloc, ends, &mut clock, &mut queue, turns);
     join_all(rt, workers, &ending)?;
@@ -126,7 +194,7 @@ fn tell_and_serve<
     S: Serving + Drop,
     W: Write,
 >(rt: &R, alloc: Global, service: S, ready: Ready, output: &mut W) -> Result<S, Fault> {
-    put_all(output, ready.lines.as_bytes())?;
+    put_all(output, ready.opened.lines.as_bytes())?;
     run_workers(rt, alloc, service, ready)
 }
 
@@ -138,7 +206,43 @@ fn opening_fault(fault: OpenFault) -> Fault {
     }
 }
 
-/// Opens the service of the tenants over an empty table, tells where it listens, and serves.
+/// The service of the tenants over an empty table within these bounds.
+fn open_within<R: Eprint + Copy + Drop, T: Owing + Drop>(
+    rt: &R,
+    alloc: Global,
+    rows: T,
+    bounds: Vec<Bound>,
+    tenants: Tenants,
+) -> Result<Service<BoundedRows<T, Notices<R>>>, Fault>
+    requires empty { T.content rows ≡ no_rows }
+{
+    let Ok(rows) = BoundedRows::new(alloc, rows, bounds, Notices::new(*rt)) else {
+        return Err(Fault::StoreRefused);
+    };
+    match Service::open(alloc, tenants, rows) {
+        Ok(service) => Ok(service),
+        Err(fault) => Err(opening_fault(fault)),
+    }
+}
+
+/// The service of the tenants over a table that is there already, within these bounds.
+fn resume_within<R: Eprint + Copy + Drop, T: Owing + Drop>(
+    rt: &R,
+    alloc: Global,
+    rows: T,
+    bounds: Vec<Bound>,
+    tenants: Tenants,
+) -> Result<Service<BoundedRows<T, Notices<R>>>, Fault> {
+    let Ok(rows) = BoundedRows::new(alloc, rows, bounds, Notices::new(*rt)) else {
+        return Err(Fault::StoreRefused);
+    };
+    match Service::resume(alloc, tenants, rows) {
+        Ok(service) => Ok(service),
+        Err(fault) => Err(opening_fault(fault)),
+    }
+}
+
+/// Opens the service of the tenants over an empty table within these bounds, tells where it listens, and serves.
 fn open_and_serve<
     R: Threads + Clock + RandomSource + Eprint + Copy + Send + Drop + 'static,
     T: Owing + Drop,
@@ -148,20 +252,18 @@ fn open_and_serve<
     alloc: Global,
     rows: T,
     tenants: Tenants,
-    ready: Ready,
+    prepared: (Ready, Vec<Bound>),
     output: &mut W,
 ) -> Result<(), Fault>
     requires empty { T.content rows ≡ no_rows }
 {
-    let service = match Service::open(alloc, tenants, rows) {
-        Ok(service) => service,
-        Err(fault) => return Err(opening_fault(fault)),
-    };
+    let (ready, bounds) = prepared;
+    let service = open_within(rt, alloc, rows, bounds, tenants)?;
     drop(tell_and_serve(rt, alloc, service, ready, output)?);
     Ok(())
 }
 
-/// Resumes the service of the tenants over a table that is there already, tells where it listens, serves, and gives the table back.
+/// Resumes the service of the tenants over a table that is there already, within these bounds, tells where it listens, serves, and gives the table back.
 fn resume_and_serve<
     R: Threads + Clock + RandomSource + Eprint + Copy + Send + Drop + 'static,
     T: Owing + Drop,
@@ -171,15 +273,13 @@ fn resume_and_serve<
     alloc: Global,
     rows: T,
     tenants: Tenants,
-    ready: Ready,
+    prepared: (Ready, Vec<Bound>),
     output: &mut W,
 ) -> Result<T, Fault> {
-    let service = match Service::resume(alloc, tenants, rows) {
-        Ok(service) => service,
-        Err(fault) => return Err(opening_fault(fault)),
-    };
+    let (ready, bounds) = prepared;
+    let service = resume_within(rt, alloc, rows, bounds, tenants)?;
     let service = tell_and_serve(rt, alloc, service, ready, output)?;
-    Ok(service.into_rows())
+    Ok(service.into_rows().into_rows())
 }
 
 /// Takes the socket away at which the word to end was taken.
@@ -218,12 +318,9 @@ pub fn host_tenants<
 ) -> Result<(), HostFault>
     requires empty { T.content rows ≡ no_rows }
 {
-    let ready = ready_for(rt, alloc, &tenants, &setting)?;
-    let Ok(rows) = BoundedRows::new(alloc, rows, setting.bounds, Notices::new(*rt)) else {
-        return Err(HostFault::from(Fault::StoreRefused));
-    };
-    let served = open_and_serve(rt, alloc, rows, tenants, ready, output);
-    leave_control(rt, &setting.supervision.control);
+    let (ready, bounds, control) = ready_for(rt, alloc, &tenants, setting)?;
+    let served = open_and_serve(rt, alloc, rows, tenants, (ready, bounds), output);
+    leave_control(rt, &control);
     Ok(served?)
 }
 
@@ -249,13 +346,10 @@ pub fn host_resumed<
     setting: Setting,
     output: &mut W,
 ) -> Result<T, HostFault> {
-    let ready = ready_for(rt, alloc, &tenants, &setting)?;
-    let Ok(rows) = BoundedRows::new(alloc, rows, setting.bounds, Notices::new(*rt)) else {
-        return Err(HostFault::from(Fault::StoreRefused));
-    };
-    let served = resume_and_serve(rt, alloc, rows, tenants, ready, output);
-    leave_control(rt, &setting.supervision.control);
-    Ok(served?.into_rows())
+    let (ready, bounds, control) = ready_for(rt, alloc, &tenants, setting)?;
+    let served = resume_and_serve(rt, alloc, rows, tenants, (ready, bounds), output);
+    leave_control(rt, &control);
+    Ok(served?)
 }
 
 /// Serves the tenants of the text over TCP and UDP, over an empty table, as [`host_tenants`] does.

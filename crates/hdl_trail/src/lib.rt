@@ -18,7 +18,7 @@
 //! It stands on the limits and on frames, and knows no sockets: an address is whatever can be compared.
 //!
 //! ```rust
-//! // crates/hdl_host/src/packets.rt
+//! // crates/hdl_sockets/src/packets.rt
 //! let from = Sender { place, address };
 //! if let Ok(Some(peer)) = self.post.peers.note_octets(from, &buffer[..length]) {
 //!     self.post.note_request(peer, &buffer[..length]);

@@ -1,16 +1,12 @@
 //! Listening: the sockets of each publisher, and the lines that tell where they are.
 
-use crate::crowd::Crowd;
-use crate::ending::Ending;
 use crate::fault::HostFault;
-use crate::recorder::Record;
-use crate::silence::{Seat, Waits, seats_at};
-use crate::sockets::{PacketSocket, Sockets};
 use crate::supervision::Supervision;
-use crate::waking::Patience;
 use hdl_boundedrows::Bound;
-use hdl_core::Tenants;
 use hdl_programs::Fault;
+use hdl_sockets::{Crowd, Ending, PacketSocket, Patience, Seat, Sockets, Waits, seats_at};
+use hdl_telemetry::Record;
+use hdl_tenants::Tenants;
 use std::alloc::{AllocError, Global};
 use std::io;
 use std::net::{IpAddr, Ipv4Addr, Net, SocketAddr, TcpListener, TcpStream, UdpSocket};
@@ -82,10 +78,12 @@ impl Setting {
 const LANES_WITH_CROWD: u16 = 4;
 
 /// A publisher's datagram sockets, the seats of its lanes for a connection each, its overflow lane, if it has one, and what is recorded of them all.
+///
+/// What starts the workers is generic over the overflow lane: proving a function that owns a [`Crowd`] costs several times as much.
 #[derive(Drop)]
-pub struct PublisherSockets {
+pub struct PublisherSockets<C> {
     pub seats: Vec<Seat>,
-    pub crowd: Option<Crowd>,
+    pub crowd: Option<C>,
     pub sockets: Sockets<PacketSocket>,
     pub record: Option<Record>,
     pub ending: Arc<Ending>,
@@ -182,7 +180,7 @@ fn place_of<R: Net + Clock>(
     opened: Opened,
     publisher: (&str, u16),
     setting: &Setting,
-) -> io::Result<PublisherSockets> {
+) -> io::Result<PublisherSockets<Crowd>> {
     let Opened { listeners, sockets } = opened;
     let (name, lanes) = publisher;
     let limits = setting.limits;
@@ -191,12 +189,14 @@ fn place_of<R: Net + Clock>(
         idle: limits.idle,
         ending: Arc::try_clone(&setting.supervision.ending)?,
     };
+    let sockets = Sockets::with_watch(rt, alloc, sockets, waits.door)?;
+    let record = setting.supervision.record_of(alloc, name, lanes)?;
     let (seats, crowd) = seats_and_crowd(rt, alloc, listeners, lanes, &waits, limits)?;
     Ok(PublisherSockets {
         seats,
         crowd,
-        sockets: Sockets::with_watch(rt, alloc, sockets, waits.door)?,
-        record: setting.supervision.record_of(alloc, name, lanes)?,
+        sockets,
+        record,
         ending: waits.ending,
     })
 }
@@ -207,7 +207,7 @@ pub fn places_of<R: Net<Listener = TcpListener, Stream = TcpStream> + Clock>(
     alloc: Global,
     tenants: &Tenants,
     setting: &Setting,
-) -> Result<(Vec<PublisherSockets>, String), HostFault> {
+) -> Result<(Vec<PublisherSockets<Crowd>>, String), HostFault> {
     let mut places = Vec::new(alloc);
     let mut lines = String::new(alloc);
     for place in 0..tenants.publishers() {

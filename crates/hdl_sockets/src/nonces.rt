@@ -1,6 +1,6 @@
 //! The machine's random numbers as nonces. They tell nothing.
 
-use hdl_serve::Nonces;
+use hdl_workers::Nonces;
 use rand::RngExt;
 use rand::rngs::StdRng;
 

@@ -2,7 +2,7 @@
 
 use crate::sockets::{has_no_room, nothing_came};
 use crate::watch::Watch;
-use hdl_serve::{Door, DoorFault};
+use hdl_workers::{Door, DoorFault};
 use std::net::TcpStream;
 
 /// Listeners that several workers share, and the connection of this one, which is watched. `accept` waits for a while, so that a worker

@@ -1,9 +1,8 @@
 //! The page that says how a server is, over HTTP: `/health` and `/metrics`.
 
-use crate::counts::Counts;
-use crate::health::Health;
-use crate::sockets::nothing_came;
 use hdl_programs::VERSION;
+use hdl_sockets::nothing_came;
+use hdl_telemetry::{Counts, Health};
 use httparse::Status;
 use httparse::spans::{EMPTY_HEADER_SPAN, parse_request};
 use std::alloc::{AllocError, Global};

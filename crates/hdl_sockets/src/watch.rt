@@ -1,9 +1,9 @@
 //! The time limits of a connection.
 
 use crate::progress::Progress;
-use crate::recorder::StreamRecorder;
 use crate::silence::Seat;
 use crate::sockets::nothing_came;
+use hdl_telemetry::StreamRecorder;
 use std::io::{self, ErrorKind, Read, Write};
 use std::net::TcpStream;
 use std::thread;

@@ -3,12 +3,12 @@
 use crate::ending::Ending;
 use crate::instead::too_long;
 use crate::proven::Proven;
-use crate::recorder::{PacketRecorder, Recorder};
 use crate::sockets::{PacketSocket, Sockets, nothing_came};
 use hdl_frame::{ENVELOPE_LEN, Envelope};
 use hdl_limits::UNDER_WAY_MAX;
-use hdl_serve::{DoorFault, Packets};
+use hdl_telemetry::{PacketRecorder, Recorder};
 use hdl_trail::Peers;
+use hdl_workers::{DoorFault, Packets};
 use std::alloc::Global;
 use std::io;
 use std::net::SocketAddr;

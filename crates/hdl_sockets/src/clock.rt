@@ -1,7 +1,7 @@
 //! The machine's clock, and its pauses: short while what is waited for comes soon, and asleep otherwise.
 
 use crate::waking::{Bell, Sleep};
-use hdl_serve::Clock;
+use hdl_workers::Clock;
 use std::sync::Arc;
 use std::thread;
 use std::time::{Duration, Instant, SystemTime};

@@ -4,14 +4,14 @@
 //! owed, and whose number is whose; here are the sockets, none of which waits.
 
 use crate::entrance::Entrance;
-use crate::recorder::Recorder;
 use crate::silence::Seat;
 use crate::sockets::nothing_came;
 use crate::wires::Wires;
 use hdl_crowd::Book;
 use hdl_frame::ENVELOPE_LEN;
 use hdl_limits::{MESSAGE_MAX, PEERS_MAX};
-use hdl_serve::{DoorFault, Packets};
+use hdl_telemetry::Recorder;
+use hdl_workers::{DoorFault, Packets};
 use mio::net::TcpStream;
 use mio::{Events, Interest, Poll, Token};
 use std::alloc::Global;

@@ -1,7 +1,6 @@
 //! The Unix socket at which a server takes the word to end.
 
-use crate::ending::Ending;
-use crate::sockets::nothing_came;
+use hdl_sockets::{Ending, nothing_came};
 use std::alloc::Global;
 use std::fs::{Files, Permissions};
 use std::io::{self, ErrorKind, Read};

@@ -1,15 +1,12 @@
 //! What a server tells of itself beside its answers, and how it takes the word to end.
 
 use crate::control::{listen, serve_control};
-use crate::counts::Counts;
-use crate::ending::Ending;
 use crate::fault::HostFault;
-use crate::health::Health;
 use crate::listening::{PublisherSockets, or_device};
-use crate::log::Log;
-use crate::recorder::Record;
 use crate::status::{StatusPage, serve_status};
 use hdl_programs::Fault;
+use hdl_sockets::Ending;
+use hdl_telemetry::{Counts, Health, Log, Record};
 use std::alloc::{AllocError, Global};
 use std::fs::Files;
 use std::net::{Net, SocketAddr, TcpListener, TcpStream};
@@ -47,7 +44,7 @@ impl Supervision {
     }
 
     /// What is recorded of a publisher with so many lanes, if anything is.
-    pub(crate) fn record_of(
+    pub fn record_of(
         &self,
         alloc: Global,
         publisher: &str,
@@ -74,7 +71,7 @@ pub struct Supervised {
 }
 
 /// The counts of all publishers.
-fn all_counts(alloc: Global, places: &[PublisherSockets]) -> io::Result<Vec<Arc<Counts>>> {
+fn all_counts<C>(alloc: Global, places: &[PublisherSockets<C>]) -> io::Result<Vec<Arc<Counts>>> {
     let mut all = Vec::new(alloc);
     for place in places {
         if let Some(record) = &place.record {
@@ -85,10 +82,10 @@ fn all_counts(alloc: Global, places: &[PublisherSockets]) -> io::Result<Vec<Arc<
 }
 
 /// What the status page tells.
-fn page_of(
+fn page_of<C>(
     alloc: Global,
     supervision: &Supervision,
-    places: &[PublisherSockets],
+    places: &[PublisherSockets<C>],
 ) -> io::Result<StatusPage> {
     Ok(StatusPage {
         counts: all_counts(alloc, places)?,
@@ -97,11 +94,11 @@ fn page_of(
 }
 
 /// Opens the sockets at which a server is watched and ended.
-pub fn supervise<R: Net<Listener = TcpListener, Stream = TcpStream> + Files>(
+pub fn supervise<R: Net<Listener = TcpListener, Stream = TcpStream> + Files, C>(
     rt: &R,
     alloc: Global,
     supervision: &Supervision,
-    places: &[PublisherSockets],
+    places: &[PublisherSockets<C>],
 ) -> Result<Supervised, HostFault> {
     let status = match supervision.status {
         Some(at) => match TcpListener::bind(rt, at) {

@@ -172,6 +172,30 @@ pub struct Waits {
     pub ending: Arc<Ending>,
 }
 
+/// The seat of the lane at this place.
+fn seat_at<R: Net>(
+    rt: &R,
+    alloc: Global,
+    listeners: Vec<TcpListener>,
+    beside: (&Arc<Silences>, usize),
+    start: Instant,
+    waits: &Waits,
+) -> io::Result<Seat> {
+    let (silences, place) = beside;
+    let ending = Arc::try_clone(&waits.ending)?;
+    let silences = Arc::try_clone(silences)?;
+    let listeners = Sockets::new(rt, alloc, listeners, waits.door)?;
+    Ok(Seat {
+        listeners,
+        silences,
+        place,
+        start,
+        idle: u64::from(waits.idle).saturating_mul(1000),
+        since: 1,
+        ending,
+    })
+}
+
 /// A seat for each of so many lanes at these listeners.
 pub fn seats_at<R: Net + std::rt::Clock>(
     rt: &R,
@@ -185,15 +209,9 @@ pub fn seats_at<R: Net + std::rt::Clock>(
     let start = Instant::now(rt)?;
     let mut seats = Vec::with_capacity(alloc, lanes)?;
     for place in 0..lanes {
-        seats.push(Seat {
-            listeners: Sockets::new(rt, alloc, share(alloc, listeners)?, waits.door)?,
-            silences: Arc::try_clone(&silences)?,
-            place,
-            start,
-            idle: u64::from(waits.idle).saturating_mul(1000),
-            since: 1,
-            ending: Arc::try_clone(&waits.ending)?,
-        })?;
+        let listeners = share(alloc, listeners)?;
+        let beside = (&silences, place);
+        seats.push(seat_at(rt, alloc, listeners, beside, start, waits)?)?;
     }
     Ok(seats)
 }

@@ -1,0 +1,82 @@
+//! The machine's sockets, clock and random numbers, as the workers of lanes want them.
+//!
+//! ```text
+//! a TCP connection  -> SocketDoor    -> stream_worker of hdl_workers
+//! many of them      -> SocketCrowd   -> packet_worker
+//! UDP sockets       -> SocketPackets -> packet_worker
+//! ```
+//!
+//! A [`Seat`] is a stream lane's place at its publisher's listeners: with a [`Watch`] it becomes a [`SocketDoor`], of one connection at a time within limits of time, and with a
+//! [`Crowd`] a [`SocketCrowd`], of many. [`SocketPackets`] are a publisher's datagram sockets; beyond loopback a reply that is too long for a stranger stays back there, behind the
+//! worker's door (docs/PROTOCOL.md, "Replies to strangers"). [`MachineClock`] tells the moment and pauses, and [`MachineNonces`] gives nonces. [`Ending`] says to all of them that the server is to end.
+//!
+//! It stands on `hdl_workers`, whose traits it implements, on `hdl_trail` for the numbers of datagram peers, on `hdl_crowd` for what a crowd of connections keeps, and on `hdl_telemetry`, which reads along; neither
+//! on the machine nor on a table. No contract can say what a socket gives, so the doors here tell nothing, and nothing is promised of octets on a wire.
+//!
+//! ```rust
+//! // crates/hdl_listeners/src/workers.rt
+//! let mut door = SocketDoor::new(Watch::new(rt, self, recorder));
+//! let mut clock = MachineClock::new(rt, Part::Works(bell));
+//! stream_worker(alloc, &mut door, &mut clock, &mut nonces, ends, turns)
+//! ```
+//!
+//! # Decisions
+//!
+//! - **Calls that wait for a peer wait in the kernel, a second at most**: `accept` and `read` by the sockets' time to receive, a datagram by a `poll` of its
+//!   sockets. So an idle worker makes one call or two a second. Interrupted calls, and a peer that gave up before it was accepted, count as nothing that came; any
+//!   other failure of `accept` or `recv_from` ends the worker, and the server with status 1 in the end.
+//! - **A connection is closed as if its peer had closed it** (`watch`): `read` answers 0, or `write` fails, and the worker does what it does then. So
+//!   no clause of a worker knows of time. A frame that is begun must be whole within ten seconds of waiting for it; what an answer before
+//!   it takes doesn't count, since a client may send ahead. A write waits ten seconds for room.
+//! - **Silence ends a connection only where somebody waits for its lane** (`silence`): then the one that is silent longest goes, once it was for as long as the
+//!   caller lets it. Whether somebody waits is asked of the kernel: is the listener ready? Each lane of a publisher writes down since when it is
+//!   silent, and one without a connection counts as silent longest; so where a lane is free, or is being freed, no other is.
+//! - **The thread that serves sleeps until a worker rings** (`waking`), 100 milliseconds at most. It says that it sleeps and then sleeps, without
+//!   a look between; a worker that waits for an outcome looks at each of its pauses whether that thread sleeps, and then wakes it. So an event
+//!   that was put between the last look at the lanes and the sleep is noticed at that worker's next pause, a microsecond later or, where the
+//!   worker sleeps, 160. Only an End, behind which no worker pauses, may wait for the sleep to end by itself.
+//! - **No handle of waiting is taken**: the sleep is a `poll` of the system's with a limit (mio), so each pause returns. A server whose turns are
+//!   counted is one of a test, which shall not take long: its calls may wait a millisecond. The kernel counts a socket's time in its own
+//!   ticks, so it was seen to take eight.
+//! - **A pause is short first.** A thread that found nothing lets others run for 30 microseconds; then the thread that serves sleeps, and a worker
+//!   that waits for its outcome sleeps 100 at a time, of which the shortest takes 160 on this machine. Waits that needed the sleep make
+//!   the next ones begin with it, seven of eight times. A wait ends when something was done (`note_work`), which the clock is told: it can't see it.
+//!   A sleep that begins ten milliseconds behind its wait isn't counted, since nobody asked then. The first pause of any wait is short: a worker
+//!   that has outcomes in hand pauses once before it writes them, and shall not sleep over them.
+//! - **A crowd takes whom no other lane takes** (`entrance`): the last lane for connections of a publisher with four lanes or more has many, and accepts only while each other one has its
+//!   connection. Free workers wait in `accept`, and the crowd for events; it makes the listeners wait for nobody while it accepts, since a worker may be quicker. A worker that comes to them just then
+//!   finds nobody, pauses as after any other look, and comes again.
+//! - **A crowd is a lane among the others where silence is compared**: with room it counts as free, full it is silent since its longest silent connection. Its limits of time are those of the
+//!   others, looked at once a second: octets that the kernel has are read before a connection is called slow. What nobody keeps waiting costs no look.
+//! - **Where the machine has no room for one more descriptor** the crowd accepts nobody for a second, and counts as full; a worker tries again ten times a second. No lane ends of it.
+//! - **Several addresses are asked in turn and waited for together** (`sockets`, `lookout`): their calls don't wait, a `poll` of them all does. Where there is one
+//!   address its own call waits.
+#![tactic(auto)]
+
+mod clock;
+mod crowd;
+mod door;
+mod ending;
+mod entrance;
+mod instead;
+mod lookout;
+mod nonces;
+mod packets;
+mod progress;
+mod proven;
+mod silence;
+mod sockets;
+mod waking;
+mod watch;
+mod wires;
+
+pub use clock::{MachineClock, Part};
+pub use crowd::{Crowd, SocketCrowd};
+pub use door::SocketDoor;
+pub use ending::Ending;
+pub use nonces::MachineNonces;
+pub use packets::SocketPackets;
+pub use silence::{Seat, Waits, seats_at};
+pub use sockets::{PacketSocket, Sockets, nothing_came};
+pub use waking::{Bell, Patience, Sleep};
+pub use watch::Watch;
