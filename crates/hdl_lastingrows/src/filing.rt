@@ -12,6 +12,7 @@ ghost use Rattle.hdl_lastingrows.specs.Writes.{write_of};
 
 use crate::filerows::FileRows;
 use crate::write::Write;
+use hdl_sqlrows::StoreFault;
 use sqlite::Alter;
 
 /// What is known of a write.
