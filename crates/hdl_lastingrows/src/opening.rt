@@ -14,6 +14,7 @@ ghost use Rattle.hdl_sqlrows.specs.Stored.{IsBetweenCalls};
 ghost use Rattle.hdl_sqlrows.specs.Opening.{place_of, opened_with, filed_base, no_base};
 ghost use Rattle.hdl_lastingrows.specs.Lasting.{IsKept};
 ghost use Rattle.hdl_lastingrows.specs.Beside.{IfHere};
+ghost use Rattle.hdl_lastingrows.specs.Opened.{IsOpenedIn};
 
 use crate::alarm::Alarm;
 use crate::disk::{DiskRows, Store};
@@ -201,6 +202,7 @@ fn rows_over<R: Rows + Drop, S: Alter, P: Progress>(
     ensures placed { IfOk result (λ r. IsPlaced (R.content r)) }
     ensures made { (state S.Store conn.old).now.schema ≡ no_schema → IfOk result (λ r. HasCleanDisk (state S.Store conn.new) → R.content r ≡ (opened_with no_base opening.now).table) }
     ensures found { (state S.Store conn.old).now.schema ≡ layout → IfOk result (λ r. HasCleanDisk (state S.Store conn.new) → R.content r ≡ (opened_with (filed_base (state S.Store conn.old)) opening.now).table) }
+    ensures opened { IfOk result (λ r. HasCleanDisk (state S.Store conn.new) → IsOpenedIn (state S.Store conn.old) opening.now (R.content r)) }
 {
     match tables_of(conn) {
         FoundDatabase::Nothing => {
@@ -231,6 +233,7 @@ pub fn file_over<R: Rows + Drop, S: Alter + Drop, P: Progress>(
     ensures placed { IfOk result (λ p. IsPlaced (R.content p.0)) }
     ensures made { (state S.Store conn).now.schema ≡ no_schema → IfOk result (λ p. HasCleanDisk (state S.Store p.1) → R.content p.0 ≡ (opened_with no_base opening.now).table) }
     ensures found { (state S.Store conn).now.schema ≡ layout → IfOk result (λ p. HasCleanDisk (state S.Store p.1) → R.content p.0 ≡ (opened_with (filed_base (state S.Store conn)) opening.now).table) }
+    ensures opened { IfOk result (λ p. HasCleanDisk (state S.Store p.1) → IsOpenedIn (state S.Store conn) opening.now (R.content p.0)) }
 {
     let rows = rows_over(&mut conn, alloc, rows, spare, opening, progress)?;
     let file = FileRows::over(alloc, conn);
@@ -279,6 +282,7 @@ pub fn table_beside<R: Rows + Drop, T: Threads + Drop, A: Alarm + Progress + Dro
     requires distinct { AllPairs (λ (p q : Place). p ≢ q) (map place_of opening.now) }
     ensures made { (file_state conn).now.schema ≡ no_schema → IfOk result (λ t. IfHere t.file.place (λ s. HasCleanDisk s → t.table ≡ (opened_with no_base opening.now).table)) }
     ensures found { (file_state conn).now.schema ≡ layout → IfOk result (λ t. IfHere t.file.place (λ s. HasCleanDisk s → t.table ≡ (opened_with (filed_base (file_state conn)) opening.now).table)) }
+    ensures opened { IfOk result (λ t. IfHere t.file.place (λ s. HasCleanDisk s → IsOpenedIn (file_state conn) opening.now t.table)) }
     ensures writable { IfOk result (λ t. t.is_shut ≡ false) }
 {
     let (rows, spare) = memory;
