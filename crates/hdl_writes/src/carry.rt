@@ -196,6 +196,22 @@ fn indexes_in_reply(
     }
 }
 
+/// The reply to the reading of these values, or of all where none is named.
+fn ask_to_read<S: ChangeServer>(
+    alloc: Global,
+    service: &mut S,
+    order: &Order,
+    indexes: Items<u32>,
+    types: Items<Octets>,
+) -> Result<Reply, ChangeFault> {
+    let body = RequestBody::Resolution {
+        handle: handle_of(alloc, order)?,
+        indexes,
+        types,
+    };
+    reply_to(service, order, &body)
+}
+
 /// Of these indexes, or of all, those that are there and that the key may read.
 fn indexes_there<S: ChangeServer>(
     alloc: Global,
@@ -203,12 +219,8 @@ fn indexes_there<S: ChangeServer>(
     order: &Order,
     asked: Vec<u32>,
 ) -> Result<Vec<u32>, ChangeFault> {
-    let body = RequestBody::Resolution {
-        handle: handle_of(alloc, order)?,
-        indexes: Items::new(asked),
-        types: Items::new(Vec::new(alloc)),
-    };
-    let reply = reply_to(service, order, &body)?;
+    let types = Items::new(Vec::new(alloc));
+    let reply = ask_to_read(alloc, service, order, Items::new(asked), types)?;
     indexes_in_reply(alloc, order.name.sent(), &reply.view())
 }
 
@@ -288,6 +300,20 @@ fn overwrite<S: ChangeServer>(
     carry_steps(alloc, service, order, &steps)
 }
 
+/// Asks that the handle is created with these values.
+fn ask_to_create<S: ChangeServer>(
+    alloc: Global,
+    service: &mut S,
+    order: &Order,
+    values: &[Value],
+) -> Result<(), ChangeFault> {
+    let body = RequestBody::Create {
+        handle: handle_of(alloc, order)?,
+        values: copies(alloc, values)?,
+    };
+    make_change(service, order, &body)
+}
+
 /// Creates the handle, or where it is there puts the values in the place of all that it has.
 fn replace<S: ChangeServer>(
     alloc: Global,
@@ -295,11 +321,7 @@ fn replace<S: ChangeServer>(
     order: &Order,
     values: &[Value],
 ) -> Result<Answer, AllocError> {
-    let body = RequestBody::Create {
-        handle: handle_of(alloc, order)?,
-        values: copies(alloc, values)?,
-    };
-    match make_change(service, order, &body) {
+    match ask_to_create(alloc, service, order, values) {
         Ok(()) => success(alloc, order.name.sent(), Status::Created),
         Err(ChangeFault::Code(code)) if code == ResponseCode::HandleAlreadyExists.number() => {
             overwrite(alloc, service, order, values)
@@ -436,12 +458,9 @@ fn carry_read<S: ChangeServer>(
     indexes: &[u32],
     types: &[Octets],
 ) -> Result<Answer, AllocError> {
-    let body = RequestBody::Resolution {
-        handle: handle_of(alloc, order)?,
-        indexes: Items::new(Vec::from_slice(alloc, indexes)?),
-        types: type_copies(alloc, types)?,
-    };
-    match reply_to(service, order, &body) {
+    let indexes = Items::new(Vec::from_slice(alloc, indexes)?);
+    let types = type_copies(alloc, types)?;
+    match ask_to_read(alloc, service, order, indexes, types) {
         Ok(reply) => reading_answer(alloc, order.name.sent(), &reply.view()),
         Err(stop) => answer_to_stop(alloc, order.name.sent(), stop, &[]),
     }

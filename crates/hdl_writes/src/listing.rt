@@ -4,6 +4,7 @@ use crate::carry::{ChangeFault, answer_to_stop, reply_to};
 use crate::change_answers::{failure, status_of_change};
 use crate::order::{Order, Window};
 use crate::service::ChangeServer;
+use hdl_client::Reply;
 use hdl_limits::Octets;
 use hdl_msg::{ContentView, ReplyView, RequestBody, ResponseCode, Strings};
 use hdl_proxy::{Answer, Status, json_answer, put_text};
@@ -103,6 +104,17 @@ fn listing_answer(
     page_answer(alloc, prefix, page, told)
 }
 
+/// Asks for the handles of the prefix whose administrative handle the order names.
+fn ask_for_list<S: ChangeServer>(
+    alloc: Global,
+    service: &mut S,
+    order: &Order,
+) -> Result<Reply, ChangeFault> {
+    let handle = Octets::new(Vec::from_slice(alloc, order.name.sent())?);
+    let body = RequestBody::List { handle };
+    reply_to(service, order, &body)
+}
+
 /// Lists the handles of the prefix whose administrative handle the order names.
 pub(crate) fn list_answer<S: ChangeServer>(
     alloc: Global,
@@ -110,9 +122,7 @@ pub(crate) fn list_answer<S: ChangeServer>(
     order: &Order,
     window: Option<Window>,
 ) -> Result<Answer, AllocError> {
-    let handle = Octets::new(Vec::from_slice(alloc, order.name.sent())?);
-    let body = RequestBody::List { handle };
-    match reply_to(service, order, &body) {
+    match ask_for_list(alloc, service, order) {
         Ok(reply) => listing_answer(alloc, order.name.sent(), &reply.view(), window),
         Err(stop) => answer_to_stop(alloc, order.name.sent(), stop, &[]),
     }

@@ -4,7 +4,7 @@ use crate::credentials::{KeyFault, read_key};
 use hdl_client::Key;
 use hdl_limits::Octets;
 use hdl_msg::ResponseCode;
-use hdl_name::Name;
+use hdl_name::{Name, NameFault};
 use hdl_proxy::{
     Answer, Pair, Status, has_pair, indexes_of, last_named, options, read_name, read_pairs,
     refusal, types_of, unescape, values_named,
@@ -208,9 +208,42 @@ fn listing(alloc: Global, pairs: &[Pair]) -> Result<Act, AddressFault> {
     Ok(Act::List { window })
 }
 
-fn bad_address(alloc: Global, asked: &[u8], why: &str) -> Result<Begun, AllocError> {
+fn bad_address(alloc: Global, asked: &[u8], why: &str) -> Result<Answer, AllocError> {
     let code = ResponseCode::InvalidHandle.number();
-    Ok(Begun::Answer(refusal(alloc, Status::BadRequest, asked, code, why)?))
+    refusal(alloc, Status::BadRequest, asked, code, why)
+}
+
+/// That what is named is no handle, and why.
+fn no_name(alloc: Global, asked: &[u8], fault: NameFault) -> Result<Answer, AllocError> {
+    let why = format!(in alloc; "This is no handle: {fault}.")?;
+    bad_address(alloc, asked, &why)
+}
+
+/// The name of these octets and the key of this field, or what is answered where one of them can't be read.
+fn name_and_key(
+    alloc: Global,
+    octets: &[u8],
+    field: Option<&[u8]>,
+) -> Result<Result<(Name, Key), Answer>, AllocError> {
+    match read_name(alloc, octets)? {
+        Ok(name) => match read_key(alloc, field) {
+            Ok(key) => Ok(Ok((name, key))),
+            Err(fault) => Ok(Err(no_key(alloc, octets, fault)?)),
+        },
+        Err(fault) => Ok(Err(no_name(alloc, octets, fault)?)),
+    }
+}
+
+/// The order of an act, where its name and its key can be read.
+fn order_with(
+    act: Act,
+    read: Result<Result<(Name, Key), Answer>, AllocError>,
+) -> Result<Begun, AllocError> {
+    match read {
+        Ok(Ok((name, key))) => Ok(Begun::Order(Order { name, key, act })),
+        Ok(Err(answer)) => Ok(Begun::Answer(answer)),
+        Err(refused) => Err(refused),
+    }
 }
 
 /// The order of a handle's name, an act and the key that came with it, or why there is none.
@@ -220,28 +253,17 @@ fn order_of(
     act: Result<Act, AddressFault>,
     field: Option<&[u8]>,
 ) -> Result<Begun, AllocError> {
-    let act = match act {
-        Ok(act) => act,
-        Err(AddressFault::Memory) => return Err(AllocError),
-        Err(AddressFault::Words(why)) => return bad_address(alloc, octets, why),
-    };
-    let name = match read_name(alloc, octets)? {
-        Ok(name) => name,
-        Err(fault) => {
-            let why = format!(in alloc; "This is no handle: {fault}.")?;
-            return bad_address(alloc, octets, &why);
-        }
-    };
-    match read_key(alloc, field) {
-        Ok(key) => Ok(Begun::Order(Order { name, key, act })),
-        Err(KeyFault::Memory) => Err(AllocError),
-        Err(fault) => Ok(Begun::Answer(no_key(alloc, octets, fault)?)),
+    match act {
+        Ok(act) => order_with(act, name_and_key(alloc, octets, field)),
+        Err(AddressFault::Memory) => Err(AllocError),
+        Err(AddressFault::Words(why)) => Ok(Begun::Answer(bad_address(alloc, octets, why)?)),
     }
 }
 
 /// That a request has no key, or none that can be read.
 fn no_key(alloc: Global, asked: &[u8], fault: KeyFault) -> Result<Answer, AllocError> {
     let code = match fault {
+        KeyFault::Memory => return Err(AllocError),
         KeyFault::Missing => ResponseCode::AuthenticationNeeded,
         _ => ResponseCode::InvalidCredential,
     };
