@@ -157,10 +157,20 @@ fn reply_to(
     session.ask(body, key)
 }
 
+/// Asks this, and shows the reply.
+fn show_reply(
+    rt: &HostRuntime,
+    question: &Inquiry,
+    body: &RequestBody,
+    key: Option<&Key>,
+) -> Result<u8, AskFault> {
+    let reply = reply_to(rt, question, body, key)?;
+    show(rt, question, &reply)
+}
+
 fn ask_and_show(rt: &HostRuntime, question: &Inquiry, key: Option<&Key>) -> Result<u8, AskFault> {
     let body = body_of(rt.alloc(), question)?;
-    let reply = reply_to(rt, question, &body, key)?;
-    show(rt, question, &reply)
+    show_reply(rt, question, &body, key)
 }
 
 fn ask_with_key(rt: &HostRuntime, question: &Inquiry) -> Result<u8, AskFault> {

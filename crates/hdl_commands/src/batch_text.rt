@@ -1,11 +1,15 @@
 //! The text of a batch.
 
+ghost use Rattle.std.specs.Prelude.{◌≡◌, IfOk};
+ghost use Rattle.hdl_msg.specs.RequestBody as requests;
+ghost use Rattle.hdl_client.specs.Challenge.{plain_header};
+
 use crate::fault::WordFault;
 use crate::key::read_key;
 use crate::request::{Details, request_of, takes_values};
 use crate::words::operation_in;
 use hdl_client::{Batch, Task, request_message};
-use hdl_msg::OpCode;
+use hdl_msg::{OpCode, RequestBody};
 use hdl_name::Name;
 use hdl_value::Value;
 use std::alloc::Global;
@@ -58,8 +62,14 @@ fn message_of(
     details: Details,
 ) -> Result<Vec<u8>, WordFault> {
     let body = request_of(alloc, operation, handle, details)?;
-    let message = request_message(alloc, &body)?;
-    Ok(message)
+    message_or_fault(alloc, &body)
+}
+
+/// The message of a request, or what is wrong with its words.
+pub(crate) fn message_or_fault(alloc: Global, body: &RequestBody) -> Result<Vec<u8>, WordFault>
+    ensures { IfOk result (λ v. v.items ≡ requests.request_message plain_header body.now) }
+{
+    Ok(request_message(alloc, body)?)
 }
 
 /// The handle behind an operation, and the indexes before it where the operation is to remove values.

@@ -99,18 +99,17 @@ fn prefixes_of(alloc: Global, words: &[String]) -> Result<Vec<String>, FreshFaul
     Ok(prefixes)
 }
 
-/// Adds the lines of a publisher with one prefix, its administrator and that one's key.
-fn push_publisher<R: RandomSource + AllocGlobal>(
-    rt: &R,
+/// Adds the lines of a publisher with one prefix, its administrator and that one's key, which has this secret.
+fn push_lines(
+    alloc: Global,
     text: &mut String,
     prefix: &str,
     number: usize,
     lanes: usize,
-) -> Result<(), FreshFault> {
-    let alloc = rt.alloc();
+    secret: &str,
+) -> Result<(), AllocError> {
     let name = publisher_name(alloc, prefix, number)?;
     let port = FIRST_PORT.saturating_add(number).saturating_sub(1);
-    let secret = fresh_secret(rt)?;
     let lines = format!(in alloc;
         "\n\
          publisher {name} {lanes} {port}\n\
@@ -118,7 +117,19 @@ fn push_publisher<R: RandomSource + AllocGlobal>(
          value 0.NA/{prefix} 100 HS_ADMIN 86400 1110 ADMIN 300:111111111111:0.NA/{prefix}\n\
          value 0.NA/{prefix} 300 HS_SECKEY 86400 1100 UTF8 {secret}\n"
     )?;
-    text.push_str(&lines)?;
+    text.push_str(&lines)
+}
+
+/// Adds a publisher with one prefix, and an administrator whose secret is fresh.
+fn push_publisher<R: RandomSource + AllocGlobal>(
+    rt: &R,
+    text: &mut String,
+    prefix: &str,
+    number: usize,
+    lanes: usize,
+) -> Result<(), FreshFault> {
+    let secret = fresh_secret(rt)?;
+    push_lines(rt.alloc(), text, prefix, number, lanes, &secret)?;
     Ok(())
 }
 

@@ -1,11 +1,11 @@
 //! Scripts for `handled`, from words.
 
-use crate::batch_text::{BatchFault, read_batch};
+use crate::batch_text::{BatchFault, message_or_fault, read_batch};
 use crate::fault::WordFault;
 use crate::tenants::write_tenants;
 use hdl_auth::algorithm::Algorithm;
 use hdl_auth::digest;
-use hdl_client::{Batch, Key, Task, challenge_response, frame_of, request_message, signed_part};
+use hdl_client::{Batch, Key, Task, challenge_response, frame_of, signed_part};
 use hdl_limits::MESSAGE_MAX;
 use hdl_lines::printed_octets;
 use hdl_msg::{Body, read_request};
@@ -62,6 +62,18 @@ fn push_frame(
     Ok(())
 }
 
+/// The message of the response by a key to the challenge of the request with this message.
+fn response_message(
+    alloc: Global,
+    algorithm: Algorithm,
+    key: &Key,
+    message: &[u8],
+) -> Result<Vec<u8>, WordFault> {
+    let digest = digest(algorithm, signed_part(message));
+    let answer = challenge_response(alloc, key, &NONCE, &digest)?;
+    message_or_fault(alloc, &answer)
+}
+
 /// Adds the response to the challenge of a request, the first on its connection.
 fn push_response(
     script: &mut String,
@@ -70,9 +82,7 @@ fn push_response(
     key: &Key,
     message: &[u8],
 ) -> Result<(), WordFault> {
-    let digest = digest(algorithm, signed_part(message));
-    let answer = challenge_response(alloc, key, &NONCE, &digest)?;
-    let response = request_message(alloc, &answer)?;
+    let response = response_message(alloc, algorithm, key, message)?;
     push_frame(script, alloc, lane, 1, 2, &response)
 }
 

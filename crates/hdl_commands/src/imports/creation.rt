@@ -6,10 +6,10 @@ ghost use Rattle.hdl_value.specs.Refs.{is_admin};
 ghost use Rattle.hdl_commands.specs.Rows as rows;
 ghost use Rattle.hdl_commands.specs.Rows.{AreAdministered, Creates};
 
-use crate::batch_text::{is_relied_on, may_disturb};
+use crate::batch_text::{is_relied_on, may_disturb, message_or_fault};
 use crate::fault::WordFault;
 use crate::imports::row::OPEN;
-use hdl_client::{Task, request_message};
+use hdl_client::Task;
 use hdl_limits::{Items, NAME_MAX, Octets, WRITTEN_MAX};
 use hdl_lines::printed_octets;
 use hdl_msg::{OpCode, RequestBody};
@@ -101,6 +101,17 @@ fn with_administrator(
     Ok(values)
 }
 
+/// Whether the service takes a handle with these values, and why not.
+fn check(values: &[Value]) -> Result<(), WordFault> {
+    if values.len() > WRITTEN_MAX {
+        return Err(WordFault::TooMany);
+    }
+    if has_twins(values) {
+        return Err(WordFault::IndexTwice);
+    }
+    Ok(())
+}
+
 /// The message that creates a handle of its rows' values. A request that the service wouldn't take is refused with its reason.
 fn creation(
     alloc: Global,
@@ -111,17 +122,12 @@ fn creation(
     ensures { IfOk result (λ message. Creates key.now handle.now rows.items message.items) }
 {
     let values = with_administrator(alloc, key, rows)?;
-    if values.len() > WRITTEN_MAX {
-        return Err(WordFault::TooMany);
-    }
-    if has_twins(&values) {
-        return Err(WordFault::IndexTwice);
-    }
+    check(&values)?;
     let body = RequestBody::Create {
         handle: Octets::new(Vec::from_slice(alloc, handle)?),
         values: Items::new(values),
     };
-    Ok(request_message(alloc, &body)?)
+    message_or_fault(alloc, &body)
 }
 
 /// The task that creates a handle of its rows' values; `line` is that of the first row.

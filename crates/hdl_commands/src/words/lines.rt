@@ -102,10 +102,9 @@ fn push_outcome(
     push_digits(printout, digits, true)
 }
 
-/// Adds what a line says: a line of a script or of what `handled` prints, or the digits of a frame alone. Any other line stays as it is.
-pub fn explain(printout: &mut Printout, line: &str) -> Result<(), AllocError> {
-    let fields: Vec<&str> = line.split(' ').collect(printout.alloc)?;
-    match fields.as_slice() {
+/// Adds what a line with these fields says.
+fn push_fields(printout: &mut Printout, line: &str, fields: &[&str]) -> Result<(), AllocError> {
+    match fields {
         ["value", handle, digits] => push_row(printout, handle, digits),
         ["frame", lane, peer, moment, _, digits] => push_event(
             printout, lane, peer, moment, digits,
@@ -116,4 +115,10 @@ pub fn explain(printout: &mut Printout, line: &str) -> Result<(), AllocError> {
         [digits] if digits.len() >= 40 => push_digits(printout, digits, is_reply(printout, digits)),
         _ => printout.push(line),
     }
+}
+
+/// Adds what a line says: a line of a script or of what `handled` prints, or the digits of a frame alone. Any other line stays as it is.
+pub fn explain(printout: &mut Printout, line: &str) -> Result<(), AllocError> {
+    let fields: Vec<&str> = line.split(' ').collect(printout.alloc)?;
+    push_fields(printout, line, &fields)
 }
