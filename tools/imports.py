@@ -268,7 +268,9 @@ def main():
     with contextlib.ExitStack() as stack:
         (port,) = stack.enter_context(servers.serving(tenants, 1))
         (nobody,) = servers.free_ports(1)
-        return servers.tally(itertools.chain(whole(port), again(port), faults(port), unsent(nobody), keys(port), killed(port), closed()))
+        # an unproved program takes minutes for so many handles
+        large = [] if servers.IS_UNPROVED else killed(port)
+        return servers.tally(itertools.chain(whole(port), again(port), faults(port), unsent(nobody), keys(port), large, closed()))
 
 
 if __name__ == "__main__":
