@@ -1,20 +1,27 @@
 //! Opening a table, in memory or with a file beside it.
 
-ghost use Rattle.std.specs.Prelude.{◌≡◌, IfOk};
+ghost use Rattle.std.specs.Prelude.{◌≡◌, false, IfOk};
+ghost use Rattle.sqlite.specs.State.{HasCleanDisk};
+ghost use Rattle.sqlite.specs.Files.{file_state};
 ghost use Rattle.hdl_rows.specs.Table.{no_rows};
+ghost use Rattle.hdl_sqlrows.specs.Filed.{WhereOpen};
+ghost use Rattle.hdl_lastingrows.specs.Beside.{IfHere};
+ghost use Rattle.hdl_lastingrows.specs.Opened.{IsOpenedIn};
+ghost use Rattle.hdl_tables.specs.Served.{IsSecond};
 
 use hdl_cachedrows::CachedRows;
 use hdl_core::Rows;
 use hdl_eitherrows::EitherRows;
 use hdl_lastingrows::{
-    Alarm, LastingRows, TableFault, ThreadedFile, Writer, open_file, table_beside,
+    Alarm, LastingRows, Store, TableFault, ThreadedFile, Writer, open_file, table_beside,
 };
 use hdl_programs::Fault;
 use hdl_rows::PlainRows;
 use hdl_sqlrows::SqlRows;
 use hdl_sqlrows::load::Progress;
 use hdl_tenants::Tenants;
-use sqlite::Wary;
+use sqlite::{Connection, Wary};
+use std::alloc::Global;
 use std::fs::File;
 use std::hash::RandomState;
 use std::thread::Threads;
@@ -49,7 +56,32 @@ pub fn empty_table<R: Threads + Drop, A: Alarm + Drop>(
     Ok(EitherRows::First(rows))
 }
 
-/// The table in the file. A thread makes its writes where they are made beside the calls.
+/// The table in the database of a file: what that has, with each handle of the text that was never opened there. A thread makes its writes where they are made
+/// beside the calls.
+pub fn table_in<R: Threads + Drop, A: Alarm + Progress + Drop>(
+    machine: R,
+    alloc: Global,
+    conn: Connection<Store>,
+    tenants: &Tenants,
+    alarm: A,
+    beside: bool,
+) -> Result<Table<R, A>, TableFault>
+    requires mode { conn.in_transaction ≡ false }
+    requires even { WhereOpen (file_state conn) ((file_state conn).committed ≡ (file_state conn).now) }
+    ensures opened { IfOk result (λ table. IsSecond table (λ rows. IfHere rows.file.place (λ s. HasCleanDisk s → IsOpenedIn (file_state conn) tenants.now.opening rows.table))) }
+{
+    let memory = (PlainRows::new(alloc), PlainRows::new(alloc));
+    let writer = Writer {
+        rt: machine,
+        alloc,
+        beside,
+    };
+    let opening = tenants.opening();
+    let rows = table_beside(conn, memory, opening, alarm, writer)?;
+    Ok(EitherRows::Second(rows))
+}
+
+/// The table in the file at a path, as [`table_in`] tells it of what [`open_file`] found there.
 pub fn open_served<R: Threads + Drop, A: Alarm + Progress + Drop>(
     machine: R,
     rt: &HostRuntime,
@@ -59,15 +91,7 @@ pub fn open_served<R: Threads + Drop, A: Alarm + Progress + Drop>(
     beside: bool,
 ) -> Result<Table<R, A>, TableFault> {
     let conn = open_file(rt, file.path, file.has_sums, Wary)?;
-    let alloc = rt.alloc();
-    let memory = (PlainRows::new(alloc), PlainRows::new(alloc));
-    let writer = Writer {
-        rt: machine,
-        alloc,
-        beside,
-    };
-    let rows = table_beside(conn, memory, tenants.opening(), alarm, writer)?;
-    Ok(EitherRows::Second(rows))
+    table_in(machine, rt.alloc(), conn, tenants, alarm, beside)
 }
 
 /// Whether nothing can be opened at this path of a table's file yet.
