@@ -20,7 +20,7 @@ START = 10
 # Seconds for which the first guess of a speed counts as much as what is seen.
 PRIOR = 120
 # Octets of disk for each processor second, and of memory; a build with less than the least can't work.
-DISK, MEMORY = 12_000_000_000 / 3_100, 3_000_000_000
+DISK, MEMORY = 12_000_000_000 / 3_100, 8_000_000_000
 LEAST_DISK, LEAST_MEMORY = 1_000_000_000, 1_000_000_000
 
 
