@@ -57,10 +57,11 @@ pub record Holding : Type 0 where
 abbrev pub holding_of : Account → Holding
 holding_of a = record { roots = a.bound.roots.items; most_values = a.bound.most.values; most_octets = a.bound.most.octets; values = a.held.values; octets = a.held.octets }
 
--- what the table holds, how many calls were refused by it or by a bound, what is counted for each publisher with a bound, and what the table owes
+-- what the table holds, how many calls were refused by it or by a bound, what was read, what is counted for each publisher with a bound, and what the table owes
 pub record Bounded : Type 0 where
   pub table : Table
   pub refused : ℕ
+  pub reads : ℕ
   pub holdings : List Holding
   pub debt : Debt
 
@@ -92,5 +93,5 @@ holding_code =
 
 abbrev pub bounded_code : Coded Bounded
 bounded_code =
-    code_by (Table × (ℕ × (List Holding × Debt))) (coded× table_code (coded× coded_ℕ (coded× (coded_list holding_code) debt_code)))
-    (λ b. (b.table, (b.refused, (b.holdings, b.debt)))) (λ p. record { table = p.0; refused = p.1.0; holdings = p.1.1.0; debt = p.1.1.1 }) (λ _. refl)
+    code_by (Table × (ℕ × (ℕ × (List Holding × Debt)))) (coded× table_code (coded× coded_ℕ (coded× coded_ℕ (coded× (coded_list holding_code) debt_code))))
+    (λ b. (b.table, (b.refused, (b.reads, (b.holdings, b.debt))))) (λ p. record { table = p.0; refused = p.1.0; reads = p.1.1.0; holdings = p.1.1.1.0; debt = p.1.1.1.1 }) (λ _. refl)

@@ -6,12 +6,14 @@ ghost use Rattle.std.specs.List.{AllByRecursion};
 ghost use Rattle.hdl_boundedrows.specs.Amount.{with_handle, values_at};
 ghost use Rattle.hdl_name.specs.Name.{canonical, prefix};
 ghost use Rattle.hdl_value.specs.Refs.{place_of};
+ghost use Rattle.hdl_rows.specs.Reads.{reads_after, nothing, of_value, values_octets, names_octets};
 ghost use Rattle.hdl_rows.specs.Table.{most, refusals_after, has, at, values_of, values_in, names_of, HaveTheirIndexes, with_new_handle, with_values, without_values, without_handle, AreDistinct, AreAbsent, ArePresent, indexes};
 
 use crate::account::{Account, Accounts, Bound, CountChange};
 use crate::amount::{Amount, amount_of_indexes, amount_of_replaced, handle_amount, values_amount};
 use hdl_limits::Octets;
 use hdl_name::Name;
+use hdl_rows::reads::{found_octets, names_octets, seen_octets, values_octets, with_call};
 use hdl_rows::{Owed, Owing, Refused, Rows};
 use hdl_value::{Reference, Value};
 use std::alloc::Global;
@@ -24,12 +26,13 @@ pub trait Alarm {
 }
 
 /// A table with a bound for each of some publishers. Contracts see what the table holds, how many calls were refused by it or by a bound,
-/// what is counted for each publisher with a bound, and what the table owes.
+/// what was read, what is counted for each publisher with a bound, and what the table owes.
 #[derive(Drop)]
 pub struct BoundedRows<R: Owing + Drop, A: Alarm + Drop> {
     rows: R,
     accounts: Accounts,
     refusals: u64,
+    reads: u64,
     alarm: A,
 }
 
@@ -42,7 +45,7 @@ impl<R: Owing + Drop, A: Alarm + Drop> Model for BoundedRows<R, A> {
 
     ghost coded = { bounded_code };
 
-    ghost view = { λ s. record { table = R.content s.rows; refused = min (R.refused s.rows + s.refusals) most; holdings = map holding_of s.accounts; debt = R.debt s.rows } };
+    ghost view = { λ s. record { table = R.content s.rows; refused = min (R.refused s.rows + s.refusals) most; reads = s.reads; holdings = map holding_of s.accounts; debt = R.debt s.rows } };
 }
 
 /// Refuses a write that would take a publisher beyond its bound, counts that, and tells of it.
@@ -134,6 +137,7 @@ impl<R: Owing + Drop, A: Alarm + Drop> BoundedRows<R, A> {
             rows,
             accounts,
             refusals: 0,
+            reads: 0,
             alarm,
         })
     }
@@ -151,22 +155,30 @@ impl<R: Owing + Drop, A: Alarm + Drop> Rows for BoundedRows<R, A> {
 
     ghost refused = { λ s. s.refused };
 
+    ghost reads = { λ s. s.reads };
+
     fn exists(&mut self, name: &Name) -> Result<bool, Refused>
         ensures found { IfOk result (λ is. is ≡ has self.old.table (canonical name.now)) }
         ensures unchanged { self.new.table ≡ self.old.table }
         ensures count { self.new.refused ≡ refusals_after result self.old.refused }
+        ensures reads { self.new.reads ≡ reads_after nothing result self.old.reads }
         ensures holdings { self.new.holdings ≡ self.old.holdings }
     {
-        self.rows.exists(name)
+        let is = self.rows.exists(name)?;
+        self.reads = with_call(self.reads, 0);
+        Ok(is)
     }
 
     fn at(&mut self, reference: &Reference) -> Result<Option<Value>, Refused>
         ensures found { IfOk result (λ value. value ≡ at self.old.table (place_of reference.now)) }
         ensures unchanged { self.new.table ≡ self.old.table }
         ensures count { self.new.refused ≡ refusals_after result self.old.refused }
+        ensures reads { self.new.reads ≡ reads_after of_value result self.old.reads }
         ensures holdings { self.new.holdings ≡ self.old.holdings }
     {
-        self.rows.at(reference)
+        let value = self.rows.at(reference)?;
+        self.reads = with_call(self.reads, found_octets(&value));
+        Ok(value)
     }
 
     fn values(&mut self, name: &Name) -> Result<Vec<Value>, Refused>
@@ -174,9 +186,12 @@ impl<R: Owing + Drop, A: Alarm + Drop> Rows for BoundedRows<R, A> {
         ensures by_index { IfOk result (λ all. HaveTheirIndexes self.old.table (canonical name.now) all.items) }
         ensures unchanged { self.new.table ≡ self.old.table }
         ensures count { self.new.refused ≡ refusals_after result self.old.refused }
+        ensures reads { self.new.reads ≡ reads_after (λ all. values_octets all.items) result self.old.reads }
         ensures holdings { self.new.holdings ≡ self.old.holdings }
     {
-        self.rows.values(name)
+        let values = self.rows.values(name)?;
+        self.reads = with_call(self.reads, values_octets(&values));
+        Ok(values)
     }
 
     fn look(&mut self, name: &Name) -> Result<Option<Vec<Value>>, Refused>
@@ -185,18 +200,24 @@ impl<R: Owing + Drop, A: Alarm + Drop> Rows for BoundedRows<R, A> {
         ensures by_index { IfOk result (λ all. HaveTheirIndexes self.old.table (canonical name.now) (values_in all)) }
         ensures unchanged { self.new.table ≡ self.old.table }
         ensures count { self.new.refused ≡ refusals_after result self.old.refused }
+        ensures reads { self.new.reads ≡ reads_after (λ all. values_octets (values_in all)) result self.old.reads }
         ensures holdings { self.new.holdings ≡ self.old.holdings }
     {
-        self.rows.look(name)
+        let seen = self.rows.look(name)?;
+        self.reads = with_call(self.reads, seen_octets(&seen));
+        Ok(seen)
     }
 
     fn names(&mut self, authority: &[u8]) -> Result<Vec<Octets>, Refused>
         ensures found { IfOk result (λ all. all.items ≡ names_of self.old.table authority.now) }
         ensures unchanged { self.new.table ≡ self.old.table }
         ensures count { self.new.refused ≡ refusals_after result self.old.refused }
+        ensures reads { self.new.reads ≡ reads_after (λ all. names_octets all.items) result self.old.reads }
         ensures holdings { self.new.holdings ≡ self.old.holdings }
     {
-        self.rows.names(authority)
+        let names = self.rows.names(authority)?;
+        self.reads = with_call(self.reads, names_octets(&names));
+        Ok(names)
     }
 
     fn create(&mut self, name: &Name, values: &[Value]) -> Result<(), Refused>
@@ -205,6 +226,7 @@ impl<R: Owing + Drop, A: Alarm + Drop> Rows for BoundedRows<R, A> {
         ensures done { OnOk result (self.new.table ≡ with_new_handle self.old.table (canonical name.now) values.now) }
         ensures undone { OnErr result (self.new.table ≡ self.old.table) }
         ensures count { self.new.refused ≡ refusals_after result self.old.refused }
+        ensures reads { self.new.reads ≡ self.old.reads }
         ensures unchanged { OnErr result (self.new.holdings ≡ self.old.holdings) }
         ensures settled { OnOk result (self.new.holdings ≡ map (holding_after (prefix name.now) (λ m. with_handle m (canonical name.now) values.now) none) self.old.holdings) }
         ensures within { OnOk result (AllByRecursion (λ h. IsWithin (prefix name.now) h (holding_after (prefix name.now) (λ m. with_handle m (canonical name.now) values.now) none h)) self.old.holdings) }
@@ -236,6 +258,7 @@ impl<R: Owing + Drop, A: Alarm + Drop> Rows for BoundedRows<R, A> {
         ensures done { OnOk result (self.new.table ≡ with_values self.old.table (canonical name.now) values.now) }
         ensures undone { OnErr result (self.new.table ≡ self.old.table) }
         ensures count { self.new.refused ≡ refusals_after result self.old.refused }
+        ensures reads { self.new.reads ≡ self.old.reads }
         ensures unchanged { OnErr result (self.new.holdings ≡ self.old.holdings) }
         ensures settled { OnOk result (self.new.holdings ≡ map (holding_after (prefix name.now) (λ m. sum_by m.value values.now) none) self.old.holdings) }
         ensures within { OnOk result (AllByRecursion (λ h. IsWithin (prefix name.now) h (holding_after (prefix name.now) (λ m. sum_by m.value values.now) none h)) self.old.holdings) }
@@ -267,6 +290,7 @@ impl<R: Owing + Drop, A: Alarm + Drop> Rows for BoundedRows<R, A> {
         ensures done { OnOk result (self.new.table ≡ with_values self.old.table (canonical name.now) values.now) }
         ensures undone { OnErr result (self.new.table ≡ self.old.table) }
         ensures count { self.new.refused ≡ refusals_after result self.old.refused }
+        ensures reads { self.new.reads ≡ self.old.reads }
         ensures unchanged { OnErr result (self.new.holdings ≡ self.old.holdings) }
         ensures settled { OnOk result (self.new.holdings ≡ map (holding_after (prefix name.now) (λ m. sum_by m.value values.now) (λ m. values_at m (values_of self.old.table (canonical name.now)) (indexes values.now))) self.old.holdings) }
         ensures within { OnOk result (AllByRecursion (λ h. IsWithin (prefix name.now) h (holding_after (prefix name.now) (λ m. sum_by m.value values.now) (λ m. values_at m (values_of self.old.table (canonical name.now)) (indexes values.now)) h)) self.old.holdings) }
@@ -299,6 +323,7 @@ impl<R: Owing + Drop, A: Alarm + Drop> Rows for BoundedRows<R, A> {
         ensures done { OnOk result (self.new.table ≡ without_values self.old.table (canonical name.now) indexes.now) }
         ensures undone { OnErr result (self.new.table ≡ self.old.table) }
         ensures count { self.new.refused ≡ refusals_after result self.old.refused }
+        ensures reads { self.new.reads ≡ self.old.reads }
         ensures unchanged { OnErr result (self.new.holdings ≡ self.old.holdings) }
         ensures settled { OnOk result (self.new.holdings ≡ map (holding_after (prefix name.now) none (λ m. values_at m (values_of self.old.table (canonical name.now)) indexes.now)) self.old.holdings) }
     {
@@ -321,6 +346,7 @@ impl<R: Owing + Drop, A: Alarm + Drop> Rows for BoundedRows<R, A> {
         ensures done { OnOk result (self.new.table ≡ without_handle self.old.table (canonical name.now)) }
         ensures undone { OnErr result (self.new.table ≡ self.old.table) }
         ensures count { self.new.refused ≡ refusals_after result self.old.refused }
+        ensures reads { self.new.reads ≡ self.old.reads }
         ensures unchanged { OnErr result (self.new.holdings ≡ self.old.holdings) }
         ensures settled { OnOk result (self.new.holdings ≡ map (holding_after (prefix name.now) none (λ m. with_handle m (canonical name.now) (values_of self.old.table (canonical name.now)))) self.old.holdings) }
     {
@@ -340,6 +366,10 @@ impl<R: Owing + Drop, A: Alarm + Drop> Rows for BoundedRows<R, A> {
 
     fn refusals(&self) -> u64 {
         self.rows.refusals().saturating_add(self.refusals)
+    }
+
+    fn reads(&self) -> u64 {
+        self.reads
     }
 }
 

@@ -5,6 +5,7 @@ ghost use Rattle.std.specs.Prelude.{◌≡◌, ◌≤◌, IfOk};
 use crate::cache::Cache;
 use hdl_limits::Octets;
 use hdl_name::Name;
+use hdl_rows::reads::{found_octets, names_octets, seen_octets, values_octets, with_call};
 use hdl_rows::{Owed, Owing, Prompt, Refused, Rows};
 use hdl_value::{Reference, Value};
 use std::alloc::{AllocError, Global};
@@ -15,11 +16,12 @@ use std::marker::Model;
 pub const LIMIT_DEFAULT: usize = 41_943_040;
 
 /// A table that keeps the values of the handles that were read last. Contracts see what the table behind it holds, how many of its calls
-/// were refused, and, in octets, what is kept and its bound.
+/// were refused, what was read, of it or of what is kept, and, in octets, what is kept and its bound.
 #[derive(Drop)]
 pub struct CachedRows<R: Rows + Drop> {
     rows: R,
     cache: Cache,
+    reads: u64,
 }
 
 impl<R: Rows + Drop> Model for CachedRows<R> {
@@ -31,7 +33,7 @@ impl<R: Rows + Drop> Model for CachedRows<R> {
 
     ghost coded = { cached_code };
 
-    ghost view = { λ s. record { table = R.content s.rows; refused = R.refused s.rows; octets = total s.cache.kept.entries; limit = s.cache.limit } };
+    ghost view = { λ s. record { table = R.content s.rows; refused = R.refused s.rows; reads = s.reads; octets = total s.cache.kept.entries; limit = s.cache.limit } };
 
     ghost invariant = { λ s. AreTrue (R.content s.rows) s.cache.kept.entries };
 }
@@ -45,10 +47,14 @@ impl<R: Rows + Drop> CachedRows<R> {
         limit: usize,
         hasher: RandomState,
     ) -> Result<CachedRows<R>, AllocError>
-        ensures { IfOk result (λ cached. cached ≡ record { table = R.content rows; refused = R.refused rows; octets = 0; limit = limit }) }
+        ensures { IfOk result (λ cached. cached ≡ record { table = R.content rows; refused = R.refused rows; reads = 0; octets = 0; limit = limit }) }
     {
         let cache = Cache::new(alloc, limit, hasher)?;
-        Ok(CachedRows { rows, cache })
+        Ok(CachedRows {
+            rows,
+            cache,
+            reads: 0,
+        })
     }
 
     /// How many octets what is kept costs: for each handle those of its name and of its values' types, data and references, and fixed
@@ -66,32 +72,46 @@ impl<R: Rows + Drop> Rows for CachedRows<R> {
 
     ghost refused = { λ s. s.refused };
 
+    ghost reads = { λ s. s.reads };
+
     fn exists(&mut self, name: &Name) -> Result<bool, Refused> {
         if self.cache.has(name.canon()) {
+            self.reads = with_call(self.reads, 0);
             return Ok(true);
         }
-        self.rows.exists(name)
+        let is = self.rows.exists(name)?;
+        self.reads = with_call(self.reads, 0);
+        Ok(is)
     }
 
     fn at(&mut self, reference: &Reference) -> Result<Option<Value>, Refused> {
-        match self.cache.find_at(reference.name.canon(), reference.index) {
-            Some(value) => Ok(value),
-            None => self.rows.at(reference),
+        let name = reference.name.canon();
+        if let Some(value) = self.cache.find_at(name, reference.index) {
+            self.reads = with_call(self.reads, found_octets(&value));
+            return Ok(value);
         }
+        let value = self.rows.at(reference)?;
+        self.reads = with_call(self.reads, found_octets(&value));
+        Ok(value)
     }
 
     fn values(&mut self, name: &Name) -> Result<Vec<Value>, Refused> {
-        match self.cache.find(name.canon()) {
-            Some(values) => Ok(values),
-            None => self.rows.values(name),
+        if let Some(values) = self.cache.find(name.canon()) {
+            self.reads = with_call(self.reads, values_octets(&values));
+            return Ok(values);
         }
+        let values = self.rows.values(name)?;
+        self.reads = with_call(self.reads, values_octets(&values));
+        Ok(values)
     }
 
     fn look(&mut self, name: &Name) -> Result<Option<Vec<Value>>, Refused> {
         if let Some(values) = self.cache.find(name.canon()) {
+            self.reads = with_call(self.reads, values_octets(&values));
             return Ok(Some(values));
         }
         let found = self.rows.look(name)?;
+        self.reads = with_call(self.reads, seen_octets(&found));
         if let Some(values) = &found {
             self.cache.keep(name.canon(), values);
         }
@@ -99,7 +119,9 @@ impl<R: Rows + Drop> Rows for CachedRows<R> {
     }
 
     fn names(&mut self, authority: &[u8]) -> Result<Vec<Octets>, Refused> {
-        self.rows.names(authority)
+        let names = self.rows.names(authority)?;
+        self.reads = with_call(self.reads, names_octets(&names));
+        Ok(names)
     }
 
     fn create(&mut self, name: &Name, values: &[Value]) -> Result<(), Refused> {
@@ -129,6 +151,10 @@ impl<R: Rows + Drop> Rows for CachedRows<R> {
 
     fn refusals(&self) -> u64 {
         self.rows.refusals()
+    }
+
+    fn reads(&self) -> u64 {
+        self.reads
     }
 }
 

@@ -20,6 +20,8 @@ impl<A: Rows, B: Rows> Rows for EitherRows<A, B> {
 
     ghost refused = { λ s. said_of A.refused B.refused s };
 
+    ghost reads = { λ s. said_of A.reads B.reads s };
+
     fn exists(&mut self, name: &Name) -> Result<bool, Refused> {
         match self {
             EitherRows::First(rows) => rows.exists(name),
@@ -94,6 +96,13 @@ impl<A: Rows, B: Rows> Rows for EitherRows<A, B> {
         match self {
             EitherRows::First(rows) => rows.refusals(),
             EitherRows::Second(rows) => rows.refusals(),
+        }
+    }
+
+    fn reads(&self) -> u64 {
+        match self {
+            EitherRows::First(rows) => rows.reads(),
+            EitherRows::Second(rows) => rows.reads(),
         }
     }
 }

@@ -6,6 +6,7 @@ pub mod Only
 pub mod Walks
 pub mod Feeds
 pub mod Hosted
+pub mod Kept
 pub mod Covered
 pub mod ForeignRows
 pub mod HostedFor

@@ -72,11 +72,12 @@ rings_after false true n = min (n + 1) most
 rings_after false false n = n
 rings_after true is_shut n = n
 
--- what a contract sees: what the table holds, how many calls were refused, whether it is shut for writes, the write that the file may have and memory
+-- what a contract sees: what the table holds, how many calls were refused, what was read, whether it is shut for writes, the write that the file may have and memory
 -- hasn't, whether writes are handed over to be made beside the calls, and the file
 pub record Lasting (F : Type 0) : Type 0 where
   pub table : Table
   pub refused : ℕ
+  pub reads : ℕ
   pub is_shut : Bool
   pub owed : Option Write
   pub hands_over : Bool
@@ -94,5 +95,5 @@ debt_of l = record { hands_over = l.hands_over; owes = owes_by l.is_shut l.owed 
 
 abbrev pub lasting_code : {F : Type 0} → Coded F → Coded (Lasting F)
 lasting_code {F} file =
-    code_by (Table × (ℕ × (Bool × (Option Write × (Bool × F))))) (coded× table_code (coded× coded_ℕ (coded× coded_bool (coded× (coded_option write_code) (coded× coded_bool file)))))
-    (λ l. (l.table, (l.refused, (l.is_shut, (l.owed, (l.hands_over, l.file)))))) (λ p. record { table = p.0; refused = p.1.0; is_shut = p.1.1.0; owed = p.1.1.1.0; hands_over = p.1.1.1.1.0; file = p.1.1.1.1.1 }) (λ _. refl)
+    code_by (Table × (ℕ × (ℕ × (Bool × (Option Write × (Bool × F)))))) (coded× table_code (coded× coded_ℕ (coded× coded_ℕ (coded× coded_bool (coded× (coded_option write_code) (coded× coded_bool file))))))
+    (λ l. (l.table, (l.refused, (l.reads, (l.is_shut, (l.owed, (l.hands_over, l.file))))))) (λ p. record { table = p.0; refused = p.1.0; reads = p.1.1.0; is_shut = p.1.1.1.0; owed = p.1.1.1.1.0; hands_over = p.1.1.1.1.1.0; file = p.1.1.1.1.1.1 }) (λ _. refl)

@@ -26,6 +26,7 @@ use crate::threaded::ThreadedFile;
 use crate::write::Write;
 use hdl_limits::Octets;
 use hdl_name::Name;
+use hdl_rows::reads::{found_octets, names_octets, seen_octets, values_octets, with_call};
 use hdl_rows::{Owed, Owing, Refused, Rows};
 use hdl_value::{Reference, Value};
 use sqlite::{Alter, Connection};
@@ -34,12 +35,13 @@ use std::marker::Model;
 use std::thread::Threads;
 
 /// A table in memory of which each write stands in a file before it is answered. Contracts see what the table holds, how many calls were refused by it or
-/// by the file, whether it is shut for writes, the write that the file may have and memory hasn't, whether writes are handed over, and the file.
+/// by the file, what was read, whether it is shut for writes, the write that the file may have and memory hasn't, whether writes are handed over, and the file.
 #[derive(Drop)]
 pub struct LastingRows<R: Rows + Drop, F: Filing + Drop, A: Alarm + Drop> {
     rows: R,
     beside: FileBeside<F, A>,
     refusals: u64,
+    reads: u64,
 }
 
 impl<R: Rows + Drop, F: Filing + Drop, A: Alarm + Drop> Model for LastingRows<R, F, A> {
@@ -55,6 +57,7 @@ impl<R: Rows + Drop, F: Filing + Drop, A: Alarm + Drop> Model for LastingRows<R,
     ghost view = { λ s. record {
       table = R.content s.rows;
       refused = min (R.refused s.rows + s.refusals) most;
+      reads = s.reads;
       is_shut = is_unknown s.beside.pending;
       owed = owed_by s.beside.pending;
       hands_over = F.is_beside s.beside.file;
@@ -116,7 +119,7 @@ impl<R: Rows + Drop, F: Filing + Drop, A: Alarm + Drop> LastingRows<R, F, A> {
     pub fn over(alloc: Global, rows: R, file: F, alarm: A) -> LastingRows<R, F, A>
         requires placed { IsPlaced (R.content rows) }
         requires kept { F.stands file (Keeps (R.content rows)) }
-        ensures { result ≡ record { table = R.content rows; refused = min (R.refused rows + 0) most; is_shut = false; owed = None; hands_over = F.is_beside file; file = file } }
+        ensures { result ≡ record { table = R.content rows; refused = min (R.refused rows + 0) most; reads = 0; is_shut = false; owed = None; hands_over = F.is_beside file; file = file } }
     {
         let beside = FileBeside {
             file,
@@ -129,6 +132,7 @@ impl<R: Rows + Drop, F: Filing + Drop, A: Alarm + Drop> LastingRows<R, F, A> {
             rows,
             beside,
             refusals: 0,
+            reads: 0,
         }
     }
 
@@ -183,24 +187,36 @@ impl<R: Rows + Drop, F: Filing + Drop, A: Alarm + Drop> Rows for LastingRows<R, 
 
     ghost refused = { λ s. s.refused };
 
+    ghost reads = { λ s. s.reads };
+
     fn exists(&mut self, name: &Name) -> Result<bool, Refused> {
-        self.rows.exists(name)
+        let is = self.rows.exists(name)?;
+        self.reads = with_call(self.reads, 0);
+        Ok(is)
     }
 
     fn at(&mut self, reference: &Reference) -> Result<Option<Value>, Refused> {
-        self.rows.at(reference)
+        let value = self.rows.at(reference)?;
+        self.reads = with_call(self.reads, found_octets(&value));
+        Ok(value)
     }
 
     fn values(&mut self, name: &Name) -> Result<Vec<Value>, Refused> {
-        self.rows.values(name)
+        let values = self.rows.values(name)?;
+        self.reads = with_call(self.reads, values_octets(&values));
+        Ok(values)
     }
 
     fn look(&mut self, name: &Name) -> Result<Option<Vec<Value>>, Refused> {
-        self.rows.look(name)
+        let seen = self.rows.look(name)?;
+        self.reads = with_call(self.reads, seen_octets(&seen));
+        Ok(seen)
     }
 
     fn names(&mut self, authority: &[u8]) -> Result<Vec<Octets>, Refused> {
-        self.rows.names(authority)
+        let names = self.rows.names(authority)?;
+        self.reads = with_call(self.reads, names_octets(&names));
+        Ok(names)
     }
 
     fn create(&mut self, name: &Name, values: &[Value]) -> Result<(), Refused>
@@ -209,6 +225,7 @@ impl<R: Rows + Drop, F: Filing + Drop, A: Alarm + Drop> Rows for LastingRows<R, 
         ensures done { OnOk result (self.new.table ≡ with_new_handle self.old.table (canonical name.now) values.now) }
         ensures undone { OnErr result (self.new.table ≡ self.old.table) }
         ensures count { self.new.refused ≡ refusals_after result self.old.refused }
+        ensures reads { self.new.reads ≡ self.old.reads }
         ensures owed { OwesAfter result self.old.owed (Create (canonical name.now) values.now) self.new.owed }
     {
         bring(
@@ -228,6 +245,7 @@ impl<R: Rows + Drop, F: Filing + Drop, A: Alarm + Drop> Rows for LastingRows<R, 
         ensures done { OnOk result (self.new.table ≡ with_values self.old.table (canonical name.now) values.now) }
         ensures undone { OnErr result (self.new.table ≡ self.old.table) }
         ensures count { self.new.refused ≡ refusals_after result self.old.refused }
+        ensures reads { self.new.reads ≡ self.old.reads }
         ensures owed { OwesAfter result self.old.owed (Add (canonical name.now) values.now) self.new.owed }
     {
         bring(
@@ -247,6 +265,7 @@ impl<R: Rows + Drop, F: Filing + Drop, A: Alarm + Drop> Rows for LastingRows<R, 
         ensures done { OnOk result (self.new.table ≡ with_values self.old.table (canonical name.now) values.now) }
         ensures undone { OnErr result (self.new.table ≡ self.old.table) }
         ensures count { self.new.refused ≡ refusals_after result self.old.refused }
+        ensures reads { self.new.reads ≡ self.old.reads }
         ensures owed { OwesAfter result self.old.owed (Modify (canonical name.now) values.now) self.new.owed }
     {
         bring(
@@ -266,6 +285,7 @@ impl<R: Rows + Drop, F: Filing + Drop, A: Alarm + Drop> Rows for LastingRows<R, 
         ensures done { OnOk result (self.new.table ≡ without_values self.old.table (canonical name.now) indexes.now) }
         ensures undone { OnErr result (self.new.table ≡ self.old.table) }
         ensures count { self.new.refused ≡ refusals_after result self.old.refused }
+        ensures reads { self.new.reads ≡ self.old.reads }
         ensures owed { OwesAfter result self.old.owed (Remove (canonical name.now) indexes.now) self.new.owed }
     {
         bring(
@@ -283,6 +303,7 @@ impl<R: Rows + Drop, F: Filing + Drop, A: Alarm + Drop> Rows for LastingRows<R, 
         ensures done { OnOk result (self.new.table ≡ without_handle self.old.table (canonical name.now)) }
         ensures undone { OnErr result (self.new.table ≡ self.old.table) }
         ensures count { self.new.refused ≡ refusals_after result self.old.refused }
+        ensures reads { self.new.reads ≡ self.old.reads }
         ensures owed { OwesAfter result self.old.owed (Delete (canonical name.now)) self.new.owed }
     {
         bring(
@@ -297,6 +318,10 @@ impl<R: Rows + Drop, F: Filing + Drop, A: Alarm + Drop> Rows for LastingRows<R, 
 
     fn refusals(&self) -> u64 {
         self.rows.refusals().saturating_add(self.refusals)
+    }
+
+    fn reads(&self) -> u64 {
+        self.reads
     }
 }
 
@@ -320,6 +345,7 @@ impl<R: Rows + Drop, F: Filing + Drop, A: Alarm + Drop> Owing for LastingRows<R,
     fn let_write(&mut self, may_write: bool)
         ensures unchanged { self.new.table ≡ self.old.table }
         ensures count { self.new.refused ≡ self.old.refused }
+        ensures reads { self.new.reads ≡ self.old.reads }
         ensures debt { debt_of self.new ≡ debt_of self.old }
         ensures same { self.new ≡ self.old }
     {

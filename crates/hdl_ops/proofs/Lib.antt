@@ -5,3 +5,4 @@ pub mod Passed
 pub mod Decided
 pub mod Codes
 pub mod Announced
+pub mod Unlisted

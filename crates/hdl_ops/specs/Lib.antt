@@ -9,3 +9,4 @@ pub mod Decisions
 pub mod Replies
 pub mod Views
 pub mod Laws
+pub mod Cost

@@ -19,6 +19,10 @@ sight t r = record {
   names = if is_list r.operation then names_of t (prefix (sent_handle r.operation)) else [];
 }
 
+-- what is seen of the handle alone, without those of a naming authority
+abbrev pub unlisted : Sight → Sight
+unlisted s = record s { names = [] }
+
 -- the value is there and passes the test
 abbrev pub passes : (Value → Bool) → Option Value → Bool
 passes test None = false

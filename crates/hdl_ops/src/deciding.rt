@@ -1,14 +1,16 @@
 //! Decisions.
 
-ghost use Rattle.std.specs.Prelude.{◌≡◌, [], None, if◌then◌else◌, IfOk, IfSome, OnOk, IsTrue};
-ghost use Rattle.hdl_name.specs.Name.{prefix};
-ghost use Rattle.hdl_rows.specs.Table.{refusals_after, names_of, values_of, HaveTheirIndexes, AreRefusalsAfter};
+ghost use Rattle.std.specs.Prelude.{◌≡◌, ◌≤◌, ◌+◌, None, IfOk, IfSome, OnOk, IsTrue};
+ghost use Rattle.hdl_auth.specs.declared.algorithm.Algorithm.{Algorithm};
+ghost use Rattle.hdl_msg.specs.Codes.{response_number};
+ghost use Rattle.hdl_rows.specs.Table.{refusals_after, HaveTheirIndexes, AreRefusalsAfter};
 ghost use Rattle.hdl_ops.specs.Admission.{refusal};
+ghost use Rattle.hdl_ops.specs.Cost.{cost_of_values, cost_of_names};
 ghost use Rattle.hdl_ops.specs.Decisions as decisions;
 ghost use Rattle.hdl_ops.specs.Decisions.{Decides, DecidesBy};
 ghost use Rattle.hdl_ops.specs.Replies.{fits};
-ghost use Rattle.hdl_ops.specs.Requests.{sent_handle, handle_of, is_list};
-ghost use Rattle.hdl_ops.specs.Sights.{sight};
+ghost use Rattle.hdl_ops.specs.Requests.{sent_handle, handle_of};
+ghost use Rattle.hdl_ops.specs.Sights.{sight, unlisted};
 ghost use Rattle.hdl_ops.specs.Tables.{CanApply};
 ghost use Rattle.hdl_ops.specs.Views.{decision_of, hosted_by, level_of, proof_of, sight_of};
 
@@ -19,31 +21,12 @@ use crate::keys::code_for_proof;
 use crate::requests::is_list;
 use crate::whole_decision::whole_decision;
 use hdl_cache::Masked;
-use hdl_limits::Octets;
-use hdl_msg::Request;
+use hdl_msg::{Request, ResponseCode};
 use hdl_name::Name;
 use hdl_rows::{Refused, Rows};
 use std::alloc::Global;
 
-/// For a list, the handles of the naming authority.
-fn names<R: Rows>(
-    alloc: Global,
-    rows: &mut R,
-    request: &Request<'_>,
-    name: &Name,
-) -> Result<Vec<Octets>, Refused>
-    ensures unchanged { R.content rows.new ≡ R.content rows.old }
-    ensures names { IfOk result (λ all. all.items ≡ (if is_list request.now.operation then names_of (R.content rows.old) (prefix name.now) else [])) }
-    ensures count { R.refused rows.new ≡ refusals_after result (R.refused rows.old) }
-{
-    if is_list(request.body()) {
-        rows.names(name.prefix())
-    } else {
-        Ok(Vec::new(alloc))
-    }
-}
-
-/// What a decision sees of the table.
+/// What a decision sees of the handle that is named. Of a list's handles nothing is seen yet.
 #[tactic(auto, unfolding(crate::specs::Sights::sight, crate::specs::Requests::handle_of))]
 fn look<R: Rows>(
     alloc: Global,
@@ -53,12 +36,13 @@ fn look<R: Rows>(
 ) -> Result<Sight, Refused>
     requires named { name.now ≡ sent_handle request.now.operation }
     ensures unchanged { R.content rows.new ≡ R.content rows.old }
-    ensures sight { IfOk result (λ s. sight_of s ≡ sight (R.content rows.old) request.now) }
+    ensures sight { IfOk result (λ s. sight_of s ≡ unlisted (sight (R.content rows.old) request.now)) }
     ensures by_index { OnOk result (HaveTheirIndexes (R.content rows.old) (handle_of request.now) (sight (R.content rows.old) request.now).values) }
     ensures count { R.refused rows.new ≡ refusals_after result (R.refused rows.old) }
+    ensures cost { R.reads rows.new ≤ R.reads rows.old + cost_of_values (sight (R.content rows.old) request.now) }
 {
     let found = rows.look(name)?;
-    let names = names(alloc, rows, request, name)?;
+    let names = Vec::new(alloc);
     Ok(match found {
         Some(values) => Sight {
             there: true,
@@ -71,6 +55,29 @@ fn look<R: Rows>(
             names,
         },
     })
+}
+
+/// Adds the handles of the naming authority to what is seen, for a list that is granted: no other decision tells of them, so
+/// the table isn't asked for them before.
+#[tactic(auto, unfolding(crate::specs::Sights::sight, crate::specs::Decisions::decision))]
+fn see_names<R: Rows>(
+    rows: &mut R,
+    request: &Request<'_>,
+    name: &Name,
+    mut seen: Sight,
+    code: ResponseCode,
+) -> Result<Sight, Refused>
+    requires named { name.now ≡ sent_handle request.now.operation }
+    requires seen { sight_of seen ≡ unlisted (sight (R.content rows.old) request.now) }
+    ensures unchanged { R.content rows.new ≡ R.content rows.old }
+    ensures decision { IfOk result (λ s. (a : Algorithm) (level : decisions.Level) → decisions.decision a (sight_of s) request.now level (response_number code) ≡ decisions.decision a (sight (R.content rows.old) request.now) request.now level (response_number code)) }
+    ensures count { R.refused rows.new ≡ refusals_after result (R.refused rows.old) }
+    ensures cost { R.reads rows.new ≤ R.reads rows.old + cost_of_names (sight (R.content rows.old) request.now) request.now (response_number code) }
+{
+    if code == ResponseCode::Success && is_list(request.body()) {
+        seen.names = rows.names(name.prefix())?;
+    }
+    Ok(seen)
 }
 
 /// The decision about a request that came as it is, and that the tests before the table let pass.
@@ -86,9 +93,11 @@ fn decide_for_anyone<R: Rows>(
     ensures carried { IfOk result (λ d. IsTrue (fits asked.now.algorithm asked.now.request.now d.content)) }
     ensures by_index { OnOk result (HaveTheirIndexes (R.content rows.old) (handle_of asked.now.request.now) (sight (R.content rows.old) asked.now.request.now).values) }
     ensures count { AreRefusalsAfter result (R.refused rows.old) (R.refused rows.new) }
+    ensures cost { R.reads rows.new ≤ R.reads rows.old + cost_of_values (sight (R.content rows.old) asked.now.request.now) }
 {
     let sight = look(alloc, rows, asked.request, &name)?;
     let code = code_for_anyone(asked.request, &sight);
+    let sight = see_names(rows, asked.request, &name, sight, code)?;
     whole_decision(alloc, asked, &Level::Anyone, sight, code, name)
 }
 
@@ -109,6 +118,7 @@ fn decide_with_proof<R: Masked>(
 {
     let sight = look(alloc, rows, asked.request, &name)?;
     let code = code_for_proof(alloc, rows, asked.request, &sight, &name, proof)?;
+    let sight = see_names(rows, asked.request, &name, sight, code)?;
     whole_decision(alloc, asked, &Level::Proven(*proof), sight, code, name)
 }
 

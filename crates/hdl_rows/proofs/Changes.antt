@@ -1,19 +1,18 @@
 -- What the calls of a shelf make of its entries, and so of its table.
-use Rattle.std.proofs.Common.{◌≡◌, ℕ, List, [], ◌∷◌, Vec, map, filter, false, not, Option, Some, None, option_map, Result, Ok, Err, OnOk, OnErr, IfOk, IsTrue, is_some, refl, sym, ap, ◌∙◌, subst, true≢false, ◌==◌}
+use Rattle.std.proofs.Common.{◌≡◌, ℕ, List, [], Vec, filter, false, not, Option, Some, None, option_map, Result, Ok, Err, OnOk, OnErr, IfOk, IsTrue, is_some, refl, sym, ap, ◌∙◌, subst, true≢false, ◌==◌}
 use Rattle.std.specs.declared.alloc.Global.{Global}
 use Rattle.std.specs.List.{list_any}
-use Rattle.std.specs.Map.{lookup, keys_of, set_value}
+use Rattle.std.specs.Map.{lookup, set_value}
 use Rattle.std.specs.Ordering.{nat_cmp}
 use Rattle.std.specs.FinMap.{find, put, is_sorted}
 use Rattle.std.specs.FinMap.Entries.{where_key}
-use Rattle.hdl_name.specs.Name.{authority}
 use Rattle.hdl_value.specs.Place.{handle_cmp, same_handle}
 use Rattle.hdl_value.specs.declared.value.Value.{Value}
-use Rattle.hdl_rows.specs.Table.{Table, place, has, at, values_of, names_of, HaveTheirIndexes, with_new_handle, with_values, without_values, without_handle}
+use Rattle.hdl_rows.specs.Table.{Table, place, has, at, values_of, HaveTheirIndexes, with_new_handle, with_values, without_values, without_handle}
 use Rattle.hdl_rows.specs.Write.{Create, Add, Remove, Delete}
 use Rattle.hdl_rows.specs.Shelf.{entries_of, by_index, table_of, AreInOrder, put_all}
 use Rattle.hdl_rows.proofs.Writes.{put_at, removed_at}
-use Rattle.hdl_rows.proofs.ShelfLemmas.{to_T, found_sorted, indexes_kept, at-table, has-table, changed, within, values_there, values_put, values_left, values_of-table, names_of-table}
+use Rattle.hdl_rows.proofs.ShelfLemmas.{to_T, found_sorted, indexes_kept, at-table, has-table, changed, within, values_there, values_put, values_left, values_of-table}
 use Rattle.hdl_rows.proofs.RowsLemmas.{Entries, is_key, find-entries, entries-set, entries-same, put_in, taken_away}
 
 none_of : {A : Type 0} (o : Option A) → is_some o ≡ false → o ≡ None
@@ -52,15 +51,6 @@ by_index_is t es h vs view order is =
 pub if_ok_then : {X E : Type 0} (r : Result X E) (P Q : X → Type 0) → ((x : X) → P x → Q x) → IfOk r P → IfOk r Q
 if_ok_then (Ok x) P Q f p = f x p
 if_ok_then (Err e) P Q f p = tt
-
-names_in : (es : Entries) → map (λ k. k.items) (keys_of es) ≡ map (λ e. e.0) (entries_of es)
-names_in [] = refl
-names_in (e ∷ es) = ap (λ (hs : List (List ℕ)). e.0.items ∷ hs) (names_in es)
-
-pub names_is : (t : Table) (es : Entries) (a : List ℕ) → table_of (entries_of es) ≡ t → AreInOrder (entries_of es)
-    → filter (λ h. same_handle (authority h) a) (map (λ k. k.items) (keys_of es)) ≡ names_of t a
-names_is t es a view order =
-    ap (filter (λ h. same_handle (authority h) a)) (names_in es) ∙ sym (names_of-table (entries_of es) a order.handles) ∙ ap (λ (u : Table). names_of u a) view
 
 -- ---- a new handle
 

@@ -3,3 +3,4 @@ pub mod RowLemmas
 pub mod ShelfLemmas
 pub mod RowsLemmas
 pub mod Changes
+pub mod Prefixes

@@ -27,6 +27,10 @@ inner_of fuse = fuse.inner
 abbrev pub refusals_of : {R : Type 0} → (R → ℕ) → Fuse R → ℕ
 refusals_of refused fuse = min (refused (inner_of fuse) + (wire_of fuse).refusals) most
 
+-- what the table behind the fuse gave
+abbrev pub reads_of : {R : Type 0} → (R → ℕ) → Fuse R → ℕ
+reads_of reads fuse = reads (inner_of fuse)
+
 -- A call that the fuse refuses is answered so, and doesn't reach the inner table.
 abbrev pub Blows : {R X E : Type 0} → Fuse R → Fuse R → Result X E → Type 0
 Blows old new result = is_blown (wire_of old) ≡ true → IsErr result × (inner_of new ≡ inner_of old)

@@ -4,3 +4,4 @@ pub mod Debt
 pub mod Fuse
 pub mod Laws
 pub mod Shelf
+pub mod Reads

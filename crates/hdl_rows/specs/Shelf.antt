@@ -1,14 +1,15 @@
 -- The table that the entries of a map are, each a handle with its values.
-use Rattle.std.specs.Prelude.{Vec, ℕ, List, [], ◌∷◌, map, IsTrue}
+use Rattle.std.specs.Prelude.{Vec, ℕ, List, [], ◌∷◌, ◌++◌, ◌≡◌, true, map, IsTrue}
 use Rattle.std.specs.declared.alloc.Global.{Global}
 use Rattle.std.specs.List.{flat_map, AllByRecursion}
 use Rattle.std.specs.Ordering.{nat_cmp}
 use Rattle.std.specs.FinMap as map
 use Rattle.std.specs.FinMap.{is_sorted, put}
 use Rattle.std.specs.FinSet as set
+use Rattle.hdl_name.specs.Name.{authority, slash}
 use Rattle.hdl_value.specs.Place.{Place, handle_cmp}
 use Rattle.hdl_value.specs.declared.value.Value.{Value}
-use Rattle.hdl_rows.specs.Table.{Table, place}
+use Rattle.hdl_rows.specs.Table.{Table, place, has}
 
 -- a row without where it lies: its handle, and its values
 abbrev pub entry_of : Vec ℕ Global × Vec Value Global → List ℕ × List Value
@@ -37,3 +38,10 @@ pub record AreInOrder (es : List (List ℕ × List Value)) : Type 0 where
 abbrev pub put_all : List (ℕ × Value) → List Value → List (ℕ × Value)
 put_all es [] = es
 put_all es (v ∷ vs) = put_all (put nat_cmp v.index v es) vs
+
+-- A handle begins with its authority in canonical form, and a slash.
+abbrev pub HasAuthority : List ℕ → Type 0
+HasAuthority h = (local : List ℕ) × (h ≡ authority h ++ slash ∷ local)
+
+abbrev pub HaveAuthorities : Table → Type 0
+HaveAuthorities t = (h : List ℕ) → has t h ≡ true → HasAuthority h

@@ -116,11 +116,12 @@ refusals_after (Err e) n = min (n + 1) most
 abbrev pub AreRefusalsAfter : {X E : Type 0} → Result X E → ℕ → ℕ → Type 0
 AreRefusalsAfter result old new = OnOk result (new ≡ old) × OnErr result ((new ≡ old) ⊎ (new ≡ min (old + 1) most))
 
--- ---- what a contract sees of an implementation: what it holds, and how many calls were refused
+-- ---- what a contract sees of an implementation: what it holds, how many calls were refused, and what was read
 
 pub record Held : Type 0 where
   pub table : Table
   pub refused : ℕ
+  pub reads : ℕ
 
 abbrev pub table_code : Coded Table
 table_code =
@@ -128,4 +129,4 @@ table_code =
     (λ t. (t.handles, t.values)) (λ p. record { handles = p.0; values = p.1 }) (λ _. refl)
 
 abbrev pub held_code : Coded Held
-held_code = code_by (Table × ℕ) (coded× table_code coded_ℕ) (λ h. (h.table, h.refused)) (λ p. record { table = p.0; refused = p.1 }) (λ _. refl)
+held_code = code_by (Table × (ℕ × ℕ)) (coded× table_code (coded× coded_ℕ coded_ℕ)) (λ h. (h.table, (h.refused, h.reads))) (λ p. record { table = p.0; refused = p.1.0; reads = p.1.1 }) (λ _. refl)

@@ -3,6 +3,7 @@
 ghost use Rattle.std.specs.Prelude.{◌≡◌, ◌+◌, min, map, true, false, is_some, IfOk, OnOk, OnErr};
 ghost use Rattle.hdl_name.specs.Name.{canonical};
 ghost use Rattle.hdl_value.specs.Refs.{place_of};
+ghost use Rattle.hdl_rows.specs.Reads.{reads_after, nothing, of_value, values_octets, names_octets};
 ghost use Rattle.hdl_rows.specs.Table.{most, refusals_after, has, at, values_of, values_in, names_of, HaveTheirIndexes, with_new_handle, with_values, without_values, without_handle, AreDistinct, AreAbsent, ArePresent, indexes};
 
 use crate::owing::{Owed, Owing};
@@ -67,16 +68,19 @@ impl<R: Rows> Fuse<R> {
 }
 
 impl<R: Rows> Rows for Fuse<R> {
-    ghost use Rattle.hdl_rows.specs.Fuse.{inner_of, wire_of, refusals_of, after_call, Blows, Passes};
+    ghost use Rattle.hdl_rows.specs.Fuse.{inner_of, wire_of, refusals_of, reads_of, after_call, Blows, Passes};
 
     ghost content = { λ s. R.content (inner_of s) };
 
     ghost refused = { λ s. refusals_of R.refused s };
 
+    ghost reads = { λ s. reads_of R.reads s };
+
     fn exists(&mut self, name: &Name) -> Result<bool, Refused>
         ensures found { IfOk result (λ is. is ≡ has (R.content (inner_of self.old)) (canonical name.now)) }
         ensures unchanged { R.content (inner_of self.new) ≡ R.content (inner_of self.old) }
         ensures count { refusals_of R.refused self.new ≡ refusals_after result (refusals_of R.refused self.old) }
+        ensures reads { reads_of R.reads self.new ≡ reads_after nothing result (reads_of R.reads self.old) }
         ensures wire { wire_of self.new ≡ after_call (wire_of self.old) }
         ensures blown { Blows self.old self.new result }
         ensures passed { Passes R.refused self.old self.new result }
@@ -91,6 +95,7 @@ impl<R: Rows> Rows for Fuse<R> {
         ensures found { IfOk result (λ value. value ≡ at (R.content (inner_of self.old)) (place_of reference.now)) }
         ensures unchanged { R.content (inner_of self.new) ≡ R.content (inner_of self.old) }
         ensures count { refusals_of R.refused self.new ≡ refusals_after result (refusals_of R.refused self.old) }
+        ensures reads { reads_of R.reads self.new ≡ reads_after of_value result (reads_of R.reads self.old) }
         ensures wire { wire_of self.new ≡ after_call (wire_of self.old) }
         ensures blown { Blows self.old self.new result }
         ensures passed { Passes R.refused self.old self.new result }
@@ -106,6 +111,7 @@ impl<R: Rows> Rows for Fuse<R> {
         ensures by_index { IfOk result (λ all. HaveTheirIndexes (R.content (inner_of self.old)) (canonical name.now) all.items) }
         ensures unchanged { R.content (inner_of self.new) ≡ R.content (inner_of self.old) }
         ensures count { refusals_of R.refused self.new ≡ refusals_after result (refusals_of R.refused self.old) }
+        ensures reads { reads_of R.reads self.new ≡ reads_after (λ all. values_octets all.items) result (reads_of R.reads self.old) }
         ensures wire { wire_of self.new ≡ after_call (wire_of self.old) }
         ensures blown { Blows self.old self.new result }
         ensures passed { Passes R.refused self.old self.new result }
@@ -122,6 +128,7 @@ impl<R: Rows> Rows for Fuse<R> {
         ensures by_index { IfOk result (λ all. HaveTheirIndexes (R.content (inner_of self.old)) (canonical name.now) (values_in all)) }
         ensures unchanged { R.content (inner_of self.new) ≡ R.content (inner_of self.old) }
         ensures count { refusals_of R.refused self.new ≡ refusals_after result (refusals_of R.refused self.old) }
+        ensures reads { reads_of R.reads self.new ≡ reads_after (λ all. values_octets (values_in all)) result (reads_of R.reads self.old) }
         ensures wire { wire_of self.new ≡ after_call (wire_of self.old) }
         ensures blown { Blows self.old self.new result }
         ensures passed { Passes R.refused self.old self.new result }
@@ -136,6 +143,7 @@ impl<R: Rows> Rows for Fuse<R> {
         ensures found { IfOk result (λ all. all.items ≡ names_of (R.content (inner_of self.old)) authority.now) }
         ensures unchanged { R.content (inner_of self.new) ≡ R.content (inner_of self.old) }
         ensures count { refusals_of R.refused self.new ≡ refusals_after result (refusals_of R.refused self.old) }
+        ensures reads { reads_of R.reads self.new ≡ reads_after (λ all. names_octets all.items) result (reads_of R.reads self.old) }
         ensures wire { wire_of self.new ≡ after_call (wire_of self.old) }
         ensures blown { Blows self.old self.new result }
         ensures passed { Passes R.refused self.old self.new result }
@@ -152,6 +160,7 @@ impl<R: Rows> Rows for Fuse<R> {
         ensures done { OnOk result (R.content (inner_of self.new) ≡ with_new_handle (R.content (inner_of self.old)) (canonical name.now) values.now) }
         ensures undone { OnErr result (R.content (inner_of self.new) ≡ R.content (inner_of self.old)) }
         ensures count { refusals_of R.refused self.new ≡ refusals_after result (refusals_of R.refused self.old) }
+        ensures reads { reads_of R.reads self.new ≡ reads_of R.reads self.old }
         ensures wire { wire_of self.new ≡ after_call (wire_of self.old) }
         ensures blown { Blows self.old self.new result }
         ensures passed { Passes R.refused self.old self.new result }
@@ -169,6 +178,7 @@ impl<R: Rows> Rows for Fuse<R> {
         ensures done { OnOk result (R.content (inner_of self.new) ≡ with_values (R.content (inner_of self.old)) (canonical name.now) values.now) }
         ensures undone { OnErr result (R.content (inner_of self.new) ≡ R.content (inner_of self.old)) }
         ensures count { refusals_of R.refused self.new ≡ refusals_after result (refusals_of R.refused self.old) }
+        ensures reads { reads_of R.reads self.new ≡ reads_of R.reads self.old }
         ensures wire { wire_of self.new ≡ after_call (wire_of self.old) }
         ensures blown { Blows self.old self.new result }
         ensures passed { Passes R.refused self.old self.new result }
@@ -186,6 +196,7 @@ impl<R: Rows> Rows for Fuse<R> {
         ensures done { OnOk result (R.content (inner_of self.new) ≡ with_values (R.content (inner_of self.old)) (canonical name.now) values.now) }
         ensures undone { OnErr result (R.content (inner_of self.new) ≡ R.content (inner_of self.old)) }
         ensures count { refusals_of R.refused self.new ≡ refusals_after result (refusals_of R.refused self.old) }
+        ensures reads { reads_of R.reads self.new ≡ reads_of R.reads self.old }
         ensures wire { wire_of self.new ≡ after_call (wire_of self.old) }
         ensures blown { Blows self.old self.new result }
         ensures passed { Passes R.refused self.old self.new result }
@@ -203,6 +214,7 @@ impl<R: Rows> Rows for Fuse<R> {
         ensures done { OnOk result (R.content (inner_of self.new) ≡ without_values (R.content (inner_of self.old)) (canonical name.now) indexes.now) }
         ensures undone { OnErr result (R.content (inner_of self.new) ≡ R.content (inner_of self.old)) }
         ensures count { refusals_of R.refused self.new ≡ refusals_after result (refusals_of R.refused self.old) }
+        ensures reads { reads_of R.reads self.new ≡ reads_of R.reads self.old }
         ensures wire { wire_of self.new ≡ after_call (wire_of self.old) }
         ensures blown { Blows self.old self.new result }
         ensures passed { Passes R.refused self.old self.new result }
@@ -218,6 +230,7 @@ impl<R: Rows> Rows for Fuse<R> {
         ensures done { OnOk result (R.content (inner_of self.new) ≡ without_handle (R.content (inner_of self.old)) (canonical name.now)) }
         ensures undone { OnErr result (R.content (inner_of self.new) ≡ R.content (inner_of self.old)) }
         ensures count { refusals_of R.refused self.new ≡ refusals_after result (refusals_of R.refused self.old) }
+        ensures reads { reads_of R.reads self.new ≡ reads_of R.reads self.old }
         ensures wire { wire_of self.new ≡ after_call (wire_of self.old) }
         ensures blown { Blows self.old self.new result }
         ensures passed { Passes R.refused self.old self.new result }
@@ -230,6 +243,10 @@ impl<R: Rows> Rows for Fuse<R> {
 
     fn refusals(&self) -> u64 {
         self.inner.refusals().saturating_add(self.wire.refusals)
+    }
+
+    fn reads(&self) -> u64 {
+        self.inner.reads()
     }
 }
 

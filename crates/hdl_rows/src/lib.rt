@@ -7,6 +7,8 @@
 //! Each call takes a name for its canonical form. That a table's values stand at its handles is no clause of the calls: it
 //! is a word of its own (`IsPlaced`), which every write keeps under its conditions.
 //!
+//! A table counts the octets that its calls give ([`reads`]), so that a clause of a crate above can say what is read at most.
+//!
 //! The crates above know a table through [`Rows`] alone.
 //!
 //! ```rust
@@ -22,6 +24,10 @@
 //!
 //! - **Handles stand in a `BTreeMap`, each with a vector of its values by rising index**: the map's order gives the handles of an authority as
 //!   they are listed, and neither a look-up nor a create goes over the others. A handle has few values, and they are listed in order.
+//! - **The handles of an authority are a range of the map**, from its octets with a slash to its octets with what follows the slash. So a list goes over
+//!   no other authority's handles. That each handle begins with its authority is an invariant of [`PlainRows`].
+//! - **`reads` counts what calls give**, and not what a table does for it: no clause can tell of that. An entry weighs what it takes in a message, so what
+//!   is too much for a table to give is too much for a message.
 //! - **`look` stands beside `exists` and `values`**: a resolution asks both, and a table that keeps each value at a handle that is there can answer
 //!   both by one query. `IsPlaced` is asked of no table for it.
 //! - **That a look-up takes few steps stands in no clause**: contracts say what is found. `bench/replay` measures it.
@@ -31,6 +37,7 @@ mod fuse;
 pub mod laws;
 mod owing;
 mod plain;
+pub mod reads;
 mod row;
 mod rows;
 mod shelf;

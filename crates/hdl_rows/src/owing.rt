@@ -35,6 +35,7 @@ pub trait Owing: Rows {
     fn let_write(&mut self, may_write: bool)
         ensures unchanged { Self.content self.new ≡ Self.content self.old }
         ensures count { Self.refused self.new ≡ Self.refused self.old }
+        ensures reads { Self.reads self.new ≡ Self.reads self.old }
         ensures debt { debt self.new ≡ debt self.old };
 }
 

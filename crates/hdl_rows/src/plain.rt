@@ -3,6 +3,7 @@
 ghost use Rattle.std.specs.Prelude.{◌≡◌, MatchResult, IsErr, Ok, IfOk, option_copied};
 ghost use Rattle.hdl_rows.specs.Table.{no_rows, refusals_after};
 
+use crate::reads::{found_octets, names_octets, seen_octets, values_octets, with_call};
 use crate::rows::{Refused, Rows};
 use crate::shelf::Shelf;
 use hdl_limits::Octets;
@@ -18,27 +19,32 @@ pub struct PlainRows {
     alloc: Global,
     shelf: Shelf,
     refusals: u64,
+    reads: u64,
 }
 
 impl Model for PlainRows {
     ghost use Rattle.hdl_rows.specs.Table.{Held, held_code};
+    ghost use Rattle.hdl_rows.specs.Shelf.{HaveAuthorities};
 
     ghost Value = { Held };
 
     ghost coded = { held_code };
 
-    ghost view = { λ s. record { table = s.shelf; refused = s.refusals } };
+    ghost view = { λ s. record { table = s.shelf; refused = s.refusals; reads = s.reads } };
+
+    ghost invariant = { λ s. HaveAuthorities s.shelf };
 }
 
 impl PlainRows {
     /// An empty table. It takes no memory.
     pub fn new(alloc: Global) -> PlainRows
-        ensures empty { result ≡ record { table = no_rows; refused = 0 } }
+        ensures empty { result ≡ record { table = no_rows; refused = 0; reads = 0 } }
     {
         PlainRows {
             alloc,
             shelf: Shelf::new(alloc),
             refusals: 0,
+            reads: 0,
         }
     }
 }
@@ -72,32 +78,45 @@ impl Rows for PlainRows {
 
     ghost refused = { λ s. s.refused };
 
+    ghost reads = { λ s. s.reads };
+
     fn exists(&mut self, name: &Name) -> Result<bool, Refused> {
+        self.reads = with_call(self.reads, 0);
         Ok(self.shelf.has(name.canon()))
     }
 
     fn at(&mut self, reference: &Reference) -> Result<Option<Value>, Refused> {
         let value = self.shelf.value(reference.name.canon(), reference.index);
         let found = copy_of(self.alloc, value);
-        tally(&mut self.refusals, found)
+        let value = tally(&mut self.refusals, found)?;
+        self.reads = with_call(self.reads, found_octets(&value));
+        Ok(value)
     }
 
     fn values(&mut self, name: &Name) -> Result<Vec<Value>, Refused> {
         let found = self.shelf.values(self.alloc, name.canon());
-        tally(&mut self.refusals, found)
+        let values = tally(&mut self.refusals, found)?;
+        self.reads = with_call(self.reads, values_octets(&values));
+        Ok(values)
     }
 
     fn look(&mut self, name: &Name) -> Result<Option<Vec<Value>>, Refused> {
         let found = self.shelf.look(self.alloc, name.canon());
-        tally(&mut self.refusals, found)
+        let seen = tally(&mut self.refusals, found)?;
+        self.reads = with_call(self.reads, seen_octets(&seen));
+        Ok(seen)
     }
 
     fn names(&mut self, authority: &[u8]) -> Result<Vec<Octets>, Refused> {
         let found = self.shelf.names(self.alloc, authority);
-        tally(&mut self.refusals, found)
+        let names = tally(&mut self.refusals, found)?;
+        self.reads = with_call(self.reads, names_octets(&names));
+        Ok(names)
     }
 
     fn create(&mut self, name: &Name, values: &[Value]) -> Result<(), Refused> {
+        // `authority` says that the handle begins with it.
+        let _ = name.authority();
         let done = self.shelf.create(self.alloc, name.canon(), values);
         tally(&mut self.refusals, done)
     }
@@ -124,5 +143,9 @@ impl Rows for PlainRows {
 
     fn refusals(&self) -> u64 {
         self.refusals
+    }
+
+    fn reads(&self) -> u64 {
+        self.reads
     }
 }

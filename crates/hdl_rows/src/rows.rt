@@ -3,6 +3,7 @@
 ghost use Rattle.std.specs.Prelude.{◌≡◌, ℕ, map, true, false, is_some, IfOk, OnOk, OnErr};
 ghost use Rattle.hdl_name.specs.Name.{canonical};
 ghost use Rattle.hdl_value.specs.Refs.{place_of};
+ghost use Rattle.hdl_rows.specs.Reads.{reads_after, nothing, of_value, values_octets, names_octets};
 ghost use Rattle.hdl_rows.specs.Table.{Table, has, at, values_of, values_in, names_of, HaveTheirIndexes, with_new_handle, with_values, without_values, without_handle, AreDistinct, AreAbsent, ArePresent, indexes, refusals_after};
 
 use hdl_limits::Octets;
@@ -31,24 +32,31 @@ pub trait Rows {
     /// How many of its calls were refused, up to the greatest `u64`.
     ghost refused: { Self → ℕ };
 
+    /// Octets that its calls gave, up to the greatest `u64`: a few for each call, and what it told. A write gives nothing, and what a table reads for
+    /// itself is nothing that it gave.
+    ghost reads: { Self → ℕ };
+
     /// Whether the handle is there.
     fn exists(&mut self, name: &Name) -> Result<bool, Refused>
         ensures found { IfOk result (λ is. is ≡ has (content self.old) (canonical name.now)) }
         ensures unchanged { content self.new ≡ content self.old }
-        ensures count { refused self.new ≡ refusals_after result (refused self.old) };
+        ensures count { refused self.new ≡ refusals_after result (refused self.old) }
+        ensures reads { reads self.new ≡ reads_after nothing result (reads self.old) };
 
     /// The value at a reference, if one stands there.
     fn at(&mut self, reference: &Reference) -> Result<Option<Value>, Refused>
         ensures found { IfOk result (λ value. value ≡ at (content self.old) (place_of reference.now)) }
         ensures unchanged { content self.new ≡ content self.old }
-        ensures count { refused self.new ≡ refusals_after result (refused self.old) };
+        ensures count { refused self.new ≡ refusals_after result (refused self.old) }
+        ensures reads { reads self.new ≡ reads_after of_value result (reads self.old) };
 
     /// The values of a handle, by rising index, each at the index that it has; none of an absent one.
     fn values(&mut self, name: &Name) -> Result<Vec<Value>, Refused>
         ensures found { IfOk result (λ all. all.items ≡ values_of (content self.old) (canonical name.now)) }
         ensures by_index { IfOk result (λ all. HaveTheirIndexes (content self.old) (canonical name.now) all.items) }
         ensures unchanged { content self.new ≡ content self.old }
-        ensures count { refused self.new ≡ refusals_after result (refused self.old) };
+        ensures count { refused self.new ≡ refusals_after result (refused self.old) }
+        ensures reads { reads self.new ≡ reads_after (λ all. values_octets all.items) result (reads self.old) };
 
     /// The values of a handle, by rising index, each at the index that it has, or `None` where the handle is absent: what
     /// [`exists`](Rows::exists) and [`values`](Rows::values) answer, in one call.
@@ -57,13 +65,15 @@ pub trait Rows {
         ensures found { IfOk result (λ all. values_in all ≡ values_of (content self.old) (canonical name.now)) }
         ensures by_index { IfOk result (λ all. HaveTheirIndexes (content self.old) (canonical name.now) (values_in all)) }
         ensures unchanged { content self.new ≡ content self.old }
-        ensures count { refused self.new ≡ refusals_after result (refused self.old) };
+        ensures count { refused self.new ≡ refusals_after result (refused self.old) }
+        ensures reads { reads self.new ≡ reads_after (λ all. values_octets (values_in all)) result (reads self.old) };
 
     /// The canonical handles of an authority in canonical form, rising by octets.
     fn names(&mut self, authority: &[u8]) -> Result<Vec<Octets>, Refused>
         ensures found { IfOk result (λ all. all.items ≡ names_of (content self.old) authority.now) }
         ensures unchanged { content self.new ≡ content self.old }
-        ensures count { refused self.new ≡ refusals_after result (refused self.old) };
+        ensures count { refused self.new ≡ refusals_after result (refused self.old) }
+        ensures reads { reads self.new ≡ reads_after (λ all. names_octets all.items) result (reads self.old) };
 
     /// Makes an absent handle, with these values.
     fn create(&mut self, name: &Name, values: &[Value]) -> Result<(), Refused>
@@ -71,7 +81,8 @@ pub trait Rows {
         requires distinct { AreDistinct (indexes values.now) }
         ensures done { OnOk result (content self.new ≡ with_new_handle (content self.old) (canonical name.now) values.now) }
         ensures undone { OnErr result (content self.new ≡ content self.old) }
-        ensures count { refused self.new ≡ refusals_after result (refused self.old) };
+        ensures count { refused self.new ≡ refusals_after result (refused self.old) }
+        ensures reads { reads self.new ≡ reads self.old };
 
     /// Puts values at indexes of a handle where none stands.
     fn add(&mut self, name: &Name, values: &[Value]) -> Result<(), Refused>
@@ -80,7 +91,8 @@ pub trait Rows {
         requires free { AreAbsent (content self.old) (canonical name.now) (indexes values.now) }
         ensures done { OnOk result (content self.new ≡ with_values (content self.old) (canonical name.now) values.now) }
         ensures undone { OnErr result (content self.new ≡ content self.old) }
-        ensures count { refused self.new ≡ refusals_after result (refused self.old) };
+        ensures count { refused self.new ≡ refusals_after result (refused self.old) }
+        ensures reads { reads self.new ≡ reads self.old };
 
     /// Replaces the values at indexes of a handle, each whole.
     fn modify(&mut self, name: &Name, values: &[Value]) -> Result<(), Refused>
@@ -89,7 +101,8 @@ pub trait Rows {
         requires taken { ArePresent (content self.old) (canonical name.now) (indexes values.now) }
         ensures done { OnOk result (content self.new ≡ with_values (content self.old) (canonical name.now) values.now) }
         ensures undone { OnErr result (content self.new ≡ content self.old) }
-        ensures count { refused self.new ≡ refusals_after result (refused self.old) };
+        ensures count { refused self.new ≡ refusals_after result (refused self.old) }
+        ensures reads { reads self.new ≡ reads self.old };
 
     /// Takes values away from a handle, which stays.
     fn remove(&mut self, name: &Name, indexes: &[u32]) -> Result<(), Refused>
@@ -98,16 +111,22 @@ pub trait Rows {
         requires taken { ArePresent (content self.old) (canonical name.now) indexes.now }
         ensures done { OnOk result (content self.new ≡ without_values (content self.old) (canonical name.now) indexes.now) }
         ensures undone { OnErr result (content self.new ≡ content self.old) }
-        ensures count { refused self.new ≡ refusals_after result (refused self.old) };
+        ensures count { refused self.new ≡ refusals_after result (refused self.old) }
+        ensures reads { reads self.new ≡ reads self.old };
 
     /// Takes a handle away with all its values.
     fn delete(&mut self, name: &Name) -> Result<(), Refused>
         requires there { has (content self.old) (canonical name.now) ≡ true }
         ensures done { OnOk result (content self.new ≡ without_handle (content self.old) (canonical name.now)) }
         ensures undone { OnErr result (content self.new ≡ content self.old) }
-        ensures count { refused self.new ≡ refusals_after result (refused self.old) };
+        ensures count { refused self.new ≡ refusals_after result (refused self.old) }
+        ensures reads { reads self.new ≡ reads self.old };
 
     /// How many calls were refused, up to the greatest `u64`.
     fn refusals(&self) -> u64
         ensures { result ≡ refused self.now };
+
+    /// Octets that were read, up to the greatest `u64`.
+    fn reads(&self) -> u64
+        ensures { result ≡ reads self.now };
 }

@@ -1,6 +1,6 @@
 //! Rows in order: the table in a map of handles.
 
-ghost use Rattle.std.specs.Prelude.{◌≡◌, ◌↔◌, IsTrue, is_some, map, true, false, option_copied, [], IfOk, OnOk, OnErr};
+ghost use Rattle.std.specs.Prelude.{◌≡◌, ◌↔◌, IsTrue, is_some, map, true, false, option_copied, [], ◌∷◌, ◌++◌, IfOk, OnOk, OnErr};
 ghost use Rattle.std.specs.List.{position_or_len};
 ghost use Rattle.std.specs.Char.{to_ascii_lowercase};
 ghost use Rattle.hdl_name.specs.Name.{authority, sent_authority, is_slash};
@@ -71,6 +71,15 @@ fn is_of(handle: &[u8], prefix: &[u8]) -> bool
     lowers_to(front_of(handle), prefix)
 }
 
+/// The octets, and one more behind them.
+fn followed_by(alloc: Global, octets: &[u8], octet: u8) -> Result<Vec<u8>, AllocError>
+    ensures { IfOk result (λ all. all.items ≡ octets.now ++ octet ∷ []) }
+{
+    let mut all = Vec::from_slice(alloc, octets)?;
+    all.push(octet)?;
+    Ok(all)
+}
+
 /// Copies of values by rising index; of two with one index the later one.
 fn shelf_of(alloc: Global, values: &[Value]) -> Result<Vec<Value>, AllocError>
     ensures { IfOk result (λ all. by_index all.items ≡ put_all [] values.now) }
@@ -81,7 +90,7 @@ fn shelf_of(alloc: Global, values: &[Value]) -> Result<Vec<Value>, AllocError>
 }
 
 impl Shelf {
-    ghost use Rattle.hdl_rows.specs.Shelf.{entries_of, table_of, AreInOrder};
+    ghost use Rattle.hdl_rows.specs.Shelf.{entries_of, table_of, AreInOrder, HaveAuthorities};
 
     /// Takes no memory.
     pub(crate) fn new(alloc: Global) -> Shelf
@@ -129,11 +138,16 @@ impl Shelf {
         }
     }
 
+    /// The handles of an authority. Only those are looked at that begin with it and a slash.
     pub(crate) fn names(&self, alloc: Global, prefix: &[u8]) -> Result<Vec<Octets>, AllocError>
+        requires { HaveAuthorities self.now }
         ensures { IfOk result (λ all. all.items ≡ names_of self.now prefix.now) }
     {
+        let first = followed_by(alloc, prefix, b'/')?;
+        // the octet that follows the slash
+        let next = followed_by(alloc, prefix, b'0')?;
         let mut all = Vec::new(alloc);
-        for name in self.rows.keys() {
+        for (name, _) in self.rows.range(first..next) {
             if is_of(name, prefix) {
                 all.push(Octets::new(Vec::from_slice(alloc, name)?))?;
             }

@@ -7,6 +7,7 @@ use crate::fault::StoreFault;
 use crate::{memory, queries};
 use hdl_limits::Octets;
 use hdl_name::Name;
+use hdl_rows::reads::{found_octets, names_octets, seen_octets, values_octets, with_call};
 use hdl_rows::{Owed, Owing, Prompt, Refused, Rows};
 use hdl_value::{Reference, Value};
 use sqlite::{Connection, MemStore};
@@ -14,12 +15,13 @@ use std::alloc::Global;
 use std::marker::Model;
 
 /// A table in SQL, in memory, which refuses a call where the store does: for want of memory, or of a list of references that
-/// four octets can't count. Contracts see what it holds and how many calls were refused.
+/// four octets can't count. Contracts see what it holds, how many calls were refused, and what was read.
 #[derive(Drop)]
 pub struct SqlRows {
     alloc: Global,
     conn: Connection<MemStore>,
     refusals: u64,
+    reads: u64,
 }
 
 impl Model for SqlRows {
@@ -30,7 +32,7 @@ impl Model for SqlRows {
 
     ghost coded = { held_code };
 
-    ghost view = { λ s. record { table = table_of s.conn; refused = s.refusals } };
+    ghost view = { λ s. record { table = table_of s.conn; refused = s.refusals; reads = s.reads } };
 
     ghost invariant = { λ s. IsBetweenCalls (state_of s.conn) × IsPlaced (table_of s.conn) };
 }
@@ -38,7 +40,7 @@ impl Model for SqlRows {
 impl SqlRows {
     /// An empty table. Refused where memory for the tables is: no table counts that refusal.
     pub fn new(alloc: Global) -> Result<SqlRows, Refused>
-        ensures empty { IfOk result (λ rows. rows ≡ record { table = no_rows; refused = 0 }) }
+        ensures empty { IfOk result (λ rows. rows ≡ record { table = no_rows; refused = 0; reads = 0 }) }
     {
         let Ok(mut conn) = Connection::open_in_memory(alloc) else {
             return Err(Refused);
@@ -48,6 +50,7 @@ impl SqlRows {
                 alloc,
                 conn,
                 refusals: 0,
+                reads: 0,
             }),
             Err(_) => Err(Refused),
         }
@@ -73,30 +76,42 @@ impl Rows for SqlRows {
 
     ghost refused = { λ s. s.refused };
 
+    ghost reads = { λ s. s.reads };
+
     fn exists(&mut self, name: &Name) -> Result<bool, Refused> {
         let found = queries::has_handle(&mut self.conn, name.canon());
-        tally(&mut self.refusals, found)
+        let is = tally(&mut self.refusals, found)?;
+        self.reads = with_call(self.reads, 0);
+        Ok(is)
     }
 
     fn at(&mut self, reference: &Reference) -> Result<Option<Value>, Refused> {
         let name = reference.name.canon();
         let found = queries::value_at(&mut self.conn, self.alloc, name, reference.index);
-        tally(&mut self.refusals, found)
+        let value = tally(&mut self.refusals, found)?;
+        self.reads = with_call(self.reads, found_octets(&value));
+        Ok(value)
     }
 
     fn values(&mut self, name: &Name) -> Result<Vec<Value>, Refused> {
         let found = queries::values_of(&mut self.conn, self.alloc, name.canon());
-        tally(&mut self.refusals, found)
+        let values = tally(&mut self.refusals, found)?;
+        self.reads = with_call(self.reads, values_octets(&values));
+        Ok(values)
     }
 
     fn look(&mut self, name: &Name) -> Result<Option<Vec<Value>>, Refused> {
         let found = queries::look(&mut self.conn, self.alloc, name.canon());
-        tally(&mut self.refusals, found)
+        let seen = tally(&mut self.refusals, found)?;
+        self.reads = with_call(self.reads, seen_octets(&seen));
+        Ok(seen)
     }
 
     fn names(&mut self, authority: &[u8]) -> Result<Vec<Octets>, Refused> {
         let found = queries::names_of(&mut self.conn, self.alloc, authority);
-        tally(&mut self.refusals, found)
+        let names = tally(&mut self.refusals, found)?;
+        self.reads = with_call(self.reads, names_octets(&names));
+        Ok(names)
     }
 
     fn create(&mut self, name: &Name, values: &[Value]) -> Result<(), Refused> {
@@ -127,6 +142,10 @@ impl Rows for SqlRows {
 
     fn refusals(&self) -> u64 {
         self.refusals
+    }
+
+    fn reads(&self) -> u64 {
+        self.reads
     }
 }
 

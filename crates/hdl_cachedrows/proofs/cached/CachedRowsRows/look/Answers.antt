@@ -26,4 +26,4 @@ invariant_of-self-in-Some-found g c =
     let old = g.R.Rows.content c.self.inside.rows in
     let new = g.R.Rows.content c.look.new.self in
     let all = subst (λ t. AreTrue t c.find.new.self.kept.entries) (sym c.look.ensures.unchanged) (c.find.ensures.still_true old c.self.invariant) in
-    c.keep.ensures.still_true new all (told old new (canonical c.args.name.now) c.canon-in-Some-found.result.now c.in_ok-found.found c.in-Some-found.values c.deref.result.now c.in-Some-found.is c.in_ok-found.ensures.there c.in_ok-found.ensures.found c.in_ok-found.ensures.by_index c.look.ensures.unchanged c.canon-in-Some-found.ensures c.deref.ensures.value)
+    c.keep.ensures.still_true new all (told old new (canonical c.args.name.now) c.canon-in-Some-found.result.now c.in_ok-found.found c.in-Some-found.values c.deref-in-Some-found.result.now c.in-Some-found.is c.in_ok-found.ensures.there c.in_ok-found.ensures.found c.in_ok-found.ensures.by_index c.look.ensures.unchanged c.canon-in-Some-found.ensures c.deref-in-Some-found.ensures.value)

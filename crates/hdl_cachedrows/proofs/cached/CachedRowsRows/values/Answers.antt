@@ -10,5 +10,8 @@ pub returns-in-Some-clause-found : goal.returns-in-Some-clause-found
 returns-in-Some-clause-found g c =
     (seen_at (λ t h. IsFound t h c.in-Some.values.items) _ _ _ _ c.self.view_is c.canon.ensures (c.in-Some.ensures.of_table (g.R.Rows.content c.self.inside.rows) c.self.invariant)).found
 
-pub invariant_of-self-in-None : goal.invariant_of-self-in-None
-invariant_of-self-in-None g c = subst (λ t. AreTrue t c.find.new.self.kept.entries) (sym c.values.ensures.unchanged) (c.find.ensures.still_true (g.R.Rows.content c.self.inside.rows) c.self.invariant)
+pub invariant_of-self-in_err-values : goal.invariant_of-self-in_err-values
+invariant_of-self-in_err-values g c = subst (λ t. AreTrue t c.find.new.self.kept.entries) (sym c.values.ensures.unchanged) (c.find.ensures.still_true (g.R.Rows.content c.self.inside.rows) c.self.invariant)
+
+pub invariant_of-self-2 : goal.invariant_of-self-2
+invariant_of-self-2 g c = subst (λ t. AreTrue t c.find.new.self.kept.entries) (sym c.values.ensures.unchanged) (c.find.ensures.still_true (g.R.Rows.content c.self.inside.rows) c.self.invariant)
