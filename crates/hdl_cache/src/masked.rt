@@ -21,7 +21,7 @@ use std::marker::Model;
 pub trait Masked: Rows {
     /// What the key may do as an administrator of the handle.
     ///
-    /// Refused: the table refused a look, and its count rose by one; or memory was refused, or the search looked up as many references as
+    /// Refused: the table refused a look, and its count rose by one; or memory was refused, or the search looked up as much as
     /// one call may and isn't done, and the count is as it was. The next call goes on from there.
     fn mask(&mut self, name: &Name, key: &Reference) -> Result<Option<AdminMask>, Refused>
         ensures unchanged { Self.content self.new ≡ Self.content self.old }
@@ -96,6 +96,8 @@ impl<R: Rows + Drop> Rows for MaskedRows<R> {
 
     ghost refused = { λ s. R.refused s };
 
+    ghost reads = { λ s. R.reads s };
+
     fn exists(&mut self, name: &Name) -> Result<bool, Refused> {
         self.rows.exists(name)
     }
@@ -148,6 +150,10 @@ impl<R: Rows + Drop> Rows for MaskedRows<R> {
 
     fn refusals(&self) -> u64 {
         self.rows.refusals()
+    }
+
+    fn reads(&self) -> u64 {
+        self.rows.reads()
     }
 }
 

@@ -20,14 +20,14 @@ use std::mem;
 /// How many searches are kept.
 const SEARCHES: usize = 16;
 
-/// How many references one call looks up.
-const LOOKED_UP: usize = 2_048;
+/// How many octets one call looks up, as `Search::go_on` counts them, and the value that brings the last of them: 2,048 references at which nothing stands.
+const LOOKED_UP: usize = 65_536;
 
-/// A search that ends in one call and saw no more references isn't kept: to search anew costs as little.
-const SOON_SEEN: usize = 64;
+/// A search that is done and looked up no more octets isn't kept: to search anew costs as little.
+const SOON_DONE: usize = 2_048;
 
-/// How many references the searches that are kept have seen in all, unless it is one search.
-const SEEN: usize = 262_144;
+/// How many references the searches that are kept hold in all, unless it is one search.
+const REFERENCES: usize = 262_144;
 
 /// Masks by handle and key, and searches by handle.
 #[derive(Drop)]
@@ -71,13 +71,13 @@ impl Masks {
         Some(self.searches.remove(place))
     }
 
-    /// How many references the searches have seen.
-    fn references_seen(&self) -> usize {
-        let mut seen: usize = 0;
+    /// How many references the searches hold.
+    fn references(&self) -> usize {
+        let mut held: usize = 0;
         for search in &self.searches {
-            seen = seen.saturating_add(search.references());
+            held = held.saturating_add(search.references());
         }
-        seen
+        held
     }
 
     /// Where many are kept, the search that went on least lately goes.
@@ -90,11 +90,11 @@ impl Masks {
         drop(self.searches.remove(0));
     }
 
-    /// Where those that are kept and one more have seen too much, all go.
+    /// Where those that are kept and one more hold too much, all go.
     fn make_room_for(&mut self, references: usize)
         ensures { (t : Table) → AreTrue t self.old → AreTrue t self.new }
     {
-        if self.references_seen().saturating_add(references) <= SEEN {
+        if self.references().saturating_add(references) <= REFERENCES {
             return;
         }
         self.searches.clear();
@@ -104,12 +104,11 @@ impl Masks {
     fn hold(&mut self, search: Search)
         ensures { (t : Table) → AreTrue t self.old → IsSearch t search → AreTrue t self.new }
     {
-        let references = search.references();
-        if references <= SOON_SEEN && search.is_done() {
+        if search.looked_up() <= SOON_DONE && search.is_done() {
             return;
         }
         self.make_room();
-        self.make_room_for(references);
+        self.make_room_for(search.references());
         let _ = self.searches.push(search);
     }
 
@@ -127,7 +126,7 @@ impl Masks {
         Search::begin(self.alloc, rows, name)
     }
 
-    /// The same, gone on by one call's references.
+    /// The same, gone on by what one call looks up.
     fn search_on<R: Rows>(&mut self, rows: &mut R, name: &Name) -> Result<Search, Refused>
         requires of_table { AreTrue (R.content rows.old) self.old }
         ensures unchanged { R.content rows.new ≡ R.content rows.old }
@@ -142,7 +141,7 @@ impl Masks {
     /// What the key may do as an administrator of the handle: as it was found, or by a search over this table, of which what was
     /// seen is kept.
     ///
-    /// Refused: the table refused a look, and its count rose by one; or memory was refused, or the search looked up as many references as
+    /// Refused: the table refused a look, and its count rose by one; or memory was refused, or the search looked up as much as
     /// one call may and isn't done, and the count is as it was. The next call goes on from there.
     pub(crate) fn mask<R: Rows>(
         &mut self,

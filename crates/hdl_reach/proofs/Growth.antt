@@ -1,15 +1,13 @@
--- What a search has seen grows by references, each once.
-use Rattle.std.proofs.Common.{◌≡◌, ℕ, ◌+◌, ◌<◌, take, length, get_or, List, [], ◌∷◌, ◌++◌, append-nil, append_assoc, if◌then◌else◌, Bool, true, false, cond, ◌||◌, refl, sym, ap, subst, ◌∙◌, IsTrue, not}
-use Rattle.std.specs.BTreeSet.{BTreeSet, contains, Updates}
+-- Places that are seen grow by others, each once.
+use Rattle.std.proofs.Common.{◌≡◌, ℕ, ◌+◌, ◌<◌, take, length, get_or, List, [], ◌∷◌, ◌++◌, append-nil, append_assoc, if◌then◌else◌, Bool, true, false, ◌||◌, refl, sym, ap, subst, ◌∙◌, IsTrue}
 use Rattle.std.specs.List.{IsDistinct}
 use Rattle.std.proofs.lemmas.List.{map-append}
 use Rattle.hdl_value.specs.Place.{Place, same_place}
 use Rattle.hdl_value.specs.Refs.{place_of}
 use Rattle.hdl_value.specs.declared.admin.Reference.{Reference}
-use Rattle.hdl_reach.specs.declared.seen.Seen.{Seen}
 use Rattle.hdl_reach.specs.Reach.{is_among}
-use Rattle.hdl_reach.specs.Seen.{places, with_place, PlaceKey, place_at, key_cmp, HasKeys, AreKept, Extends}
-use Rattle.hdl_reach.proofs.Members.{same_laws, among_append, among_front, among_last, all_weaker, all_push}
+use Rattle.hdl_reach.specs.Seen.{places, with_place, Extends}
+use Rattle.hdl_reach.proofs.Members.{same_laws, among_front, among_last, all_weaker, all_push}
 use Rattle.hdl_reach.proofs.Searches.{take_next}
 
 -- ---- what is seen grows
@@ -52,44 +50,11 @@ extends_with old more now next p h is = subst (Extends old (more ++ p ∷ [])) (
   | false ↦ λ new. extends_push old more now p h new
 ] refl)
 
--- ---- one more is kept
+-- ---- places of references
 
-by_either : (a b : Bool) → cond a true b ≡ (b || (a || false))
-by_either true true = refl
-by_either true false = refl
-by_either false true = refl
-by_either false false = refl
-
-key_more : (old new : BTreeSet PlaceKey) (k : PlaceKey) (seen : List Place) → Updates key_cmp old new k true → HasKeys old seen → HasKeys new (seen ++ place_at k ∷ [])
-key_more old new k seen updates kept q =
-    updates.0 q
-    ∙ ap (λ b. cond b true (contains key_cmp old q)) (same_laws.symm (place_at k) (place_at q))
-    ∙ ap (λ b. cond (same_place (place_at q) (place_at k)) true b) (kept q)
-    ∙ by_either (same_place (place_at q) (place_at k)) (is_among (place_at q) seen)
-    ∙ sym (among_append seen (place_at k ∷ []) (place_at q))
-
-places_more : (rs : List Reference) (one : Reference) → places (rs ++ one ∷ []) ≡ places rs ++ place_of one ∷ []
+pub places_more : (rs : List Reference) (one : Reference) → places (rs ++ one ∷ []) ≡ places rs ++ place_of one ∷ []
 places_more rs one = map-append place_of rs (one ∷ [])
-
-pub absent_key : (b c : Bool) → b ≡ not c → b ≡ true → c ≡ false
-absent_key b true is new = absurd (let no : true ≡ false = sym new ∙ is in cc)
-absent_key b false is new = refl
 
 -- places of references, one more
 pub places_next : (rs : List Reference) (i : ℕ) (r : Reference) → i < length rs → r ≡ get_or rs i r → places (take (i + 1) rs) ≡ places (take i rs) ++ place_of r ∷ []
 places_next rs i r low is = ap places (take_next rs i r low is) ∙ places_more (take i rs) r
-
--- what a call made of those seen: one more, unless it was seen
-abbrev pub Adds : Seen → Seen → Reference → Type 0
-Adds old new one = (places new.references.items ≡ with_place (places old.references.items) (place_of one)) × AreKept new
-
-pub adds_new : (old new : Seen) (one : Reference) (k : PlaceKey) → AreKept old → place_at k ≡ place_of one → contains key_cmp old.keys k ≡ false → Updates key_cmp old.keys new.keys k true → new.references.items ≡ old.references.items ++ one ∷ [] → Adds old new one
-adds_new old new one k kept is absent updates pushed =
-    let seen = places old.references.items in
-    let p = place_of one in
-    let out : is_among p seen ≡ false = subst (λ q. is_among q seen ≡ false) is (sym (kept k) ∙ absent) in
-    let now : places new.references.items ≡ seen ++ p ∷ [] = ap places pushed ∙ places_more old.references.items one in
-    let more : HasKeys new.keys (seen ++ p ∷ []) = subst (λ q. HasKeys new.keys (seen ++ q ∷ [])) is (key_more old.keys new.keys k seen updates kept) in (
-      now ∙ sym (ap (λ b. if b then seen else seen ++ p ∷ []) out),
-      subst (HasKeys new.keys) (sym now) more,
-    )

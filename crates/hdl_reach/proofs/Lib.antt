@@ -2,9 +2,12 @@ pub mod Members
 pub mod Growth
 pub mod Listings
 pub mod Searches
+pub mod Orders
+pub mod Raises
+pub mod Steps
 pub mod Chains
 pub mod Masks
-pub mod Found
+pub mod Ends
 pub mod Stays
 pub mod Ranges
 pub mod Agreement

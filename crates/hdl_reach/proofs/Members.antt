@@ -68,3 +68,8 @@ all_append P (x ∷ xs) ys a b = (a.0, all_append P xs ys a.1 b)
 
 pub all_push : {X : Type 0} (P : X → Type 0) (xs : List X) (x : X) → AllByRecursion P xs → P x → AllByRecursion P (xs ++ x ∷ [])
 all_push P xs x all here = all_append P xs (x ∷ []) all (here, tt)
+
+-- what holds of each place among these holds of all
+pub each_among : (P : Place → Type 0) (ps : List Place) → ((p : Place) → IsTrue (is_among p ps) → P p) → AllByRecursion P ps
+each_among P [] f = tt
+each_among P (q ∷ ps) f = (f q (among_first q ps), each_among P ps (λ p there. f p (or_true _ _ there)))

@@ -13,7 +13,7 @@ use Rattle.hdl_reach.proofs.Members.{same_laws, at_among, among_front, all_weake
 
 -- ---- lists by index
 
-take_whole : {X : Type 0} (xs : List X) → take (length xs) xs ≡ xs
+pub take_whole : {X : Type 0} (xs : List X) → take (length xs) xs ≡ xs
 take_whole xs = grind (arith, common_steps)
 
 pub all_at : {X : Type 0} (P : X → Type 0) (xs : List X) (i : ℕ) (x : X) → AllByRecursion P xs → i < length xs → x ≡ get_or xs i x → P x
@@ -87,11 +87,7 @@ goes_on on P starts seen more new next here holds h low is listed ext =
       distinct = ext.distinct h.distinct;
     }
 
--- what was passed, one place more
-pub passed_more : (seen more new : List Place) (next : ℕ) (here : Place) → next < length seen → here ≡ get_or seen next here → Extends seen more new → take (next + 1) new ≡ take next seen ++ here ∷ []
-passed_more seen more new next here low is ext = rw (add-one, ext.is) (front_more seen ext.tail next here low is)
-
-pub all_passed : (on : Place → List Place) (P : Place → Type 0) (starts seen : List Place) (next : ℕ) → IsSearched on P starts next seen → length seen ≤ next → take next seen ≡ seen
+all_passed : (on : Place → List Place) (P : Place → Type 0) (starts seen : List Place) (next : ℕ) → IsSearched on P starts next seen → length seen ≤ next → take next seen ≡ seen
 all_passed on P starts seen next h done = let same : next ≡ length seen = let low = h.within in omega arith in ap (λ n. take n seen) same ∙ take_whole seen
 
 -- at its end all that can be reached was seen

@@ -1,6 +1,6 @@
 pub mod Reach
 pub mod Seen
-pub mod Sources
+pub mod Found
 pub mod Search
 pub mod Views
 pub mod Laws

@@ -1,13 +1,11 @@
--- What a search has seen.
+-- Places, each of them once.
 use Rattle.std.specs.Prelude.{Vec, ◌≡◌, ℕ, List, [], ◌∷◌, ◌++◌, map, IsTrue, if◌then◌else◌}
 use Rattle.std.specs.List.{AllByRecursion, IsDistinct}
-use Rattle.std.specs.BTreeSet.{BTreeSet, contains}
 use Rattle.std.specs.declared.alloc.Global.{Global}
 use Rattle.std.specs.declared.cmp.Ordering.{Ordering}
 use Rattle.hdl_value.specs.Place.{Place, place_cmp, same_place}
 use Rattle.hdl_value.specs.Refs.{place_of}
 use Rattle.hdl_value.specs.declared.admin.Reference.{Reference}
-use Rattle.hdl_reach.specs.declared.seen.Seen.{Seen}
 use Rattle.hdl_reach.specs.Reach.{is_among}
 
 -- where references point
@@ -23,14 +21,6 @@ place_at k = record { handle = k.0.items; index = k.1 }
 
 abbrev pub key_cmp : PlaceKey → PlaceKey → Ordering
 key_cmp j k = place_cmp (place_at j) (place_at k)
-
--- the keys are those of these places
-abbrev pub HasKeys : BTreeSet PlaceKey → List Place → Type 0
-HasKeys keys seen = (k : PlaceKey) → contains key_cmp keys k ≡ is_among (place_at k) seen
-
--- the keys are those of the references
-abbrev pub AreKept : Seen → Type 0
-AreKept s = HasKeys s.keys (places s.references.items)
 
 -- seen, with one more unless it was seen
 abbrev pub with_place : List Place → Place → List Place

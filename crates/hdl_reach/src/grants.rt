@@ -1,13 +1,10 @@
 //! What the HS_ADMIN values of a handle grant, and to whom.
 
-ghost use Rattle.std.specs.Prelude.{◌≡◌, None, take, option_to_list, IfOk};
+ghost use Rattle.std.specs.Prelude.{◌≡◌, take, option_to_list, IfOk};
 ghost use Rattle.hdl_value.specs.Refs.{value_grants};
-ghost use Rattle.hdl_reach.specs.Reach.{is_among, grants};
-ghost use Rattle.hdl_reach.specs.Reach as union;
-ghost use Rattle.hdl_reach.specs.Seen.{places, AreKept};
-ghost use Rattle.hdl_reach.specs.Views.{mask_of, grants_in, union_by};
+ghost use Rattle.hdl_reach.specs.Reach.{grants};
+ghost use Rattle.hdl_reach.specs.Views.{grants_in};
 
-use crate::seen::Seen;
 use hdl_value::{AdminMask, Reference, Value, admin_of};
 use std::alloc::{AllocError, Global};
 
@@ -42,31 +39,4 @@ pub(crate) fn grants_of(alloc: Global, values: &[Value]) -> Result<Vec<Grant>, A
         }
     }
     Ok(all)
-}
-
-fn join_masks(so_far: Option<AdminMask>, mask: AdminMask) -> AdminMask
-    ensures { result.0 ≡ union.join_masks (mask_of so_far) mask.0 }
-{
-    match so_far {
-        Some(others) => others.union(mask),
-        None => mask,
-    }
-}
-
-/// The union of the masks of those grants whose references are among these.
-pub(crate) fn union_of(
-    alloc: Global,
-    grants: &[Grant],
-    leading: &Seen,
-) -> Result<Option<AdminMask>, AllocError>
-    requires { AreKept leading.now }
-    ensures { IfOk result (λ mask. mask_of mask ≡ union_by (λ p. is_among p (places leading.now.references.items)) None (grants_in grants.now)) }
-{
-    let mut mask = None;
-    for grant in grants {
-        if leading.has(alloc, &grant.reference)? {
-            mask = Some(join_masks(mask, grant.mask));
-        }
-    }
-    Ok(mask)
 }

@@ -5,8 +5,8 @@
 //! in the whole table. Index 0 refers to nothing. An administrator need not be there.
 //!
 //! [`Search`] finds the union of the masks that lead to a reference, over any [`hdl_rows::Rows`]. It goes from list to list,
-//! from all HS_ADMIN values at once, so many references a call, and looks none up twice, so it ends on lists that refer to each other; what it
-//! knows then serves for every reference, from which it goes back over what the lists hold. It leaves the table as it was.
+//! from all HS_ADMIN values at once, so many octets a call, and passes masks on: each reference has the masks of those that lead to it. So it ends on lists
+//! that refer to each other, and what it knows serves for every reference, by one look in what it keeps. It leaves the table as it was.
 //! Five laws say that a reference has one mask, that index 0 has none, and when two tables have the same chains and masks.
 //!
 //! It stands on `hdl_name`, `hdl_value` and the contract of `hdl_rows`.
@@ -22,25 +22,26 @@
 //!
 //! - **A mask that is a relation**: it is the union over all HS_ADMIN values from which lists lead to the reference, said over paths in the
 //!   whole table. A mask of 0 that leads to it is `Some 0`, an administrator without bits.
-//! - **One search for all HS_ADMIN values and all keys, and one back for each key.** The search goes from list to list, from all of them at once, and keeps
-//!   by each reference the references of the lists that hold it; a second one goes back over these from the reference that is asked for, and
-//!   the HS_ADMIN values whose reference it comes to are those that lead there. The price is that the search doesn't end early: all that the
-//!   lists of a handle reach is looked up, also where its first HS_ADMIN value names the reference outright.
+//! - **One search for all HS_ADMIN values and all keys, which keeps a mask by each reference** and nothing of what lists hold: so a thousand lists of the same
+//!   references take the memory of these. What a list holds counts by call all the same, each time that it is looked up. The price is that a
+//!   list is looked up again where a mask with bits that weren't known comes to it: never where all HS_ADMIN values have one mask, and at most as
+//!   often as they have different ones. And the search doesn't end early: all that the lists of a handle reach is looked up, also where its first
+//!   HS_ADMIN value names the reference outright.
+//! - **What is known is the least that grants and lists allow** (`IsFound`): it is within every bound of masks that the grants are within and that each known
+//!   reference passes on to what its list holds. At the end it is such a bound itself, and so are the masks by definition.
+//! - **The reference that came last is looked up first**: where HS_ADMIN values share lists, either order may look some up again.
 //! - **A search stands on what it looked up alone** (`is_apart_from`): it is one of every table that has the same there, and the handle's values. The
 //!   references of one handle lie side by side in the order of keys, so that none is of a handle is one look.
-//! - **Both searches are one proof**, over any function from a place to the places that it leads on to: what a value lists, or the lists that
-//!   hold a place. Sources are kept as copies of references and not as positions, so that contracts speak of places alone; a copy costs a
-//!   few small allocations for each reference in a list.
-//! - **What a search has seen is a plain struct with a word** (`AreKept`) in its conditions and clauses, and no `Model` with an invariant: where
-//!   the second of its two growths is refused the two parts differ, and the search ends there.
+//! - **What a call adds is said** (`IsFurther`): masks only gain bits, and where none did, fewer references wait. There are only so many of both, so calls
+//!   that follow each other come to an end.
 #![tactic(auto)]
 
+mod found;
 mod grants;
+mod keys;
 mod laws;
 mod lists;
 mod search;
-mod seen;
-mod sources;
 
 pub use laws::{administrators_among, none_at_zero, one_mask, same_chains, same_masks};
 pub use search::Search;

@@ -1,6 +1,6 @@
 //! What the lists at references hold.
 
-ghost use Rattle.std.specs.Prelude.{◌≡◌, filter, IfOk};
+ghost use Rattle.std.specs.Prelude.{◌≡◌, ◌<◌, filter, IfOk};
 ghost use Rattle.hdl_value.specs.Refs.{listed_places, refers, place_of};
 ghost use Rattle.hdl_rows.specs.Table.{AreRefusalsAfter};
 ghost use Rattle.hdl_reach.specs.Reach.{lists};
@@ -33,18 +33,46 @@ fn references_of(alloc: Global, value: &Value) -> Result<Vec<Reference>, AllocEr
     }
 }
 
-/// The references of the list that stands there.
+/// How many octets one look counts, besides those of the value that it finds.
+const LOOK_OCTETS: usize = 32;
+
+/// What one look found: the references of the list that stands there, and how many octets it came to.
+#[derive(Drop)]
+pub(crate) struct Looked {
+    pub(crate) listed: Vec<Reference>,
+    pub(crate) octets: usize,
+}
+
+/// How many octets a value's type, data and references have.
+fn octets_in(value: &Value) -> usize {
+    let mut octets = value.kind.as_slice().len();
+    octets = octets.saturating_add(value.bytes.as_slice().len());
+    for reference in value.references.as_slice() {
+        octets = octets.saturating_add(LOOK_OCTETS);
+        octets = octets.saturating_add(reference.handle.as_slice().len());
+    }
+    octets
+}
+
+/// Looks up what stands there.
 pub(crate) fn list_at<R: Rows>(
     alloc: Global,
     rows: &mut R,
     here: &Reference,
-) -> Result<Vec<Reference>, Refused>
+) -> Result<Looked, Refused>
     ensures unchanged { R.content rows.new ≡ R.content rows.old }
-    ensures found { IfOk result (λ all. places all.items ≡ lists (R.content rows.old) (place_of here.now)) }
+    ensures found { IfOk result (λ looked. places looked.listed.items ≡ lists (R.content rows.old) (place_of here.now)) }
+    ensures counted { IfOk result (λ looked. 0 < looked.octets) }
     ensures count { AreRefusalsAfter result (R.refused rows.old) (R.refused rows.new) }
 {
     let Some(value) = rows.at(here)? else {
-        return Ok(Vec::new(alloc));
+        return Ok(Looked {
+            listed: Vec::new(alloc),
+            octets: LOOK_OCTETS,
+        });
     };
-    Ok(references_of(alloc, &value)?)
+    Ok(Looked {
+        listed: references_of(alloc, &value)?,
+        octets: octets_in(&value).saturating_add(LOOK_OCTETS),
+    })
 }

@@ -1,21 +1,17 @@
 //! A search for the administrators of a handle.
 
-ghost use Rattle.std.specs.Prelude.{◌≡◌, [], ◌∷◌, take, length, option_copied, bytes_eq, IfOk, OnOk, IsTrue};
+ghost use Rattle.std.specs.Prelude.{◌≡◌, ◌⊎◌, ◌<◌, take, length, option_copied, bytes_eq, IfOk, OnOk, IsTrue};
 ghost use Rattle.std.specs.Bool.{Decides};
 ghost use Rattle.hdl_name.specs.Name.{canonical};
-ghost use Rattle.hdl_value.specs.Place.{Place};
 ghost use Rattle.hdl_value.specs.Refs.{place_of};
 ghost use Rattle.hdl_rows.specs.Table.{Table, values_of, AreRefusalsAfter};
-ghost use Rattle.hdl_reach.specs.Reach.{is_among, IsMask};
-ghost use Rattle.hdl_reach.specs.Seen.{places, AreKept, Extends};
-ghost use Rattle.hdl_reach.specs.Sources.{sources_of};
-ghost use Rattle.hdl_reach.specs.Search.{handle_of, IsReached, IsSearch, IsDone, AgreeBeside};
-ghost use Rattle.hdl_reach.specs.Views.{mask_of, starts};
+ghost use Rattle.hdl_reach.specs.Reach.{IsMask};
+ghost use Rattle.hdl_reach.specs.Search.{handle_of, IsFound, IsSearch, IsDone, IsFurther, AgreeBeside};
+ghost use Rattle.hdl_reach.specs.Views.{mask_of, grants_in};
 
-use crate::grants::{Grant, grants_of, union_of};
+use crate::found::Found;
+use crate::grants::{Grant, grants_of};
 use crate::lists::list_at;
-use crate::seen::Seen;
-use crate::sources::Sources;
 use hdl_name::Name;
 use hdl_rows::{Refused, Rows};
 use hdl_value::{AdminMask, Reference, Value};
@@ -27,24 +23,19 @@ use std::alloc::{AllocError, Global};
 pub struct Search {
     /// In canonical form.
     handle: Vec<u8>,
-    grants: Vec<Grant>,
-    seen: Seen,
-    /// Of the references that were passed.
-    sources: Sources,
-    /// How many of the seen references were looked up.
-    passed: usize,
+    found: Found,
+    looked_up: usize,
 }
 
-/// Where a search starts.
-fn start_of(alloc: Global, grants: &[Grant]) -> Result<Seen, AllocError>
-    ensures seen { IfOk result (λ seen. Extends [] (starts grants.now) (places seen.references.items)) }
-    ensures kept { IfOk result AreKept }
+/// What the grants give at once.
+fn start_of(alloc: Global, grants: &[Grant]) -> Result<Found, AllocError>
+    ensures { IfOk result (λ found. (t : Table) → IsFound t (grants_in grants.now) found) }
 {
-    let mut seen = Seen::new(alloc);
+    let mut found = Found::new(alloc);
     for grant in grants {
-        seen.add(alloc, &grant.reference)?;
+        found.raise(alloc, &grant.reference, grant.mask)?;
     }
-    Ok(seen)
+    Ok(found)
 }
 
 /// A search over these values of a handle, by which nothing was looked up.
@@ -53,30 +44,12 @@ fn search_from(alloc: Global, name: &Name, values: &[Value]) -> Result<Search, A
     ensures handle { IfOk result (λ search. handle_of search ≡ canonical name.now) }
 {
     let grants = grants_of(alloc, values)?;
-    let seen = start_of(alloc, &grants)?;
+    let found = start_of(alloc, &grants)?;
     Ok(Search {
         handle: Vec::from_slice(alloc, name.canon())?,
-        grants,
-        seen,
-        sources: Sources::new(alloc),
-        passed: 0,
+        found,
+        looked_up: 0,
     })
-}
-
-/// Goes back from the end, from each list's references to the list.
-fn go_back(alloc: Global, sources: &Sources, end: &Reference) -> Result<Seen, AllocError>
-    ensures found { IfOk result (λ seen. (p : Place) → Decides (is_among p (places seen.references.items)) (IsReached (sources_of sources.now) (place_of end.now) p)) }
-    ensures kept { IfOk result AreKept }
-{
-    let mut seen = Seen::new(alloc);
-    seen.add(alloc, end)?;
-    let mut next = 0;
-    while next < seen.references.len() {
-        let more = sources.of(alloc, &seen.references[next])?;
-        seen.extend(alloc, more)?;
-        next += 1;
-    }
-    Ok(seen)
 }
 
 impl Search {
@@ -102,10 +75,10 @@ impl Search {
     pub fn is_done(&self) -> bool
         ensures { Decides result (IsDone self.now) }
     {
-        self.seen.references.len() <= self.passed
+        self.found.is_settled()
     }
 
-    /// Whether it is one of the new table too, where only values of this handle change: it is another handle's, and saw no reference of
+    /// Whether it is one of the new table too, where only values of this handle change: it is another handle's, and knows no reference of
     /// this one. False where memory is refused.
     pub fn is_apart_from(&self, alloc: Global, name: &Name) -> bool
         ensures { IsTrue result → (t u : Table) → AgreeBeside (canonical name.now) t u → IsSearch t self.now → IsSearch u self.now }
@@ -113,7 +86,7 @@ impl Search {
         if self.is_for(name) {
             return false;
         }
-        match self.seen.is_apart_from(alloc, name) {
+        match self.found.is_apart_from(alloc, name) {
             Ok(apart) => apart,
             Err(_) => false,
         }
@@ -121,27 +94,40 @@ impl Search {
 
     /// How many references it keeps.
     pub fn references(&self) -> usize {
-        self.seen.references.len()
+        self.found.len()
     }
 
-    /// Looks up one reference more, where there is one, and keeps what its list holds. After a refusal the search is of no use.
-    fn pass<R: Rows>(&mut self, alloc: Global, rows: &mut R) -> Result<(), Refused>
+    /// How many octets it looked up, as `go_on` counts them.
+    pub fn looked_up(&self) -> usize {
+        self.looked_up
+    }
+
+    /// Looks up one reference more, and passes its mask on to what its list holds. How many octets that came to. After a refusal the
+    /// search is of no use.
+    fn pass<R: Rows>(&mut self, alloc: Global, rows: &mut R) -> Result<usize, Refused>
         requires search { IsSearch (R.content rows.old) self.old }
         requires more { IsDone self.old → ⊥ }
         ensures unchanged { R.content rows.new ≡ R.content rows.old }
         ensures search { OnOk result (IsSearch (R.content rows.old) self.new × (handle_of self.new ≡ handle_of self.old)) }
+        ensures further { OnOk result (IsFurther self.old self.new) }
+        ensures counted { IfOk result (λ octets. 0 < octets) }
         ensures count { AreRefusalsAfter result (R.refused rows.old) (R.refused rows.new) }
     {
-        let here = &self.seen.references[self.passed];
-        let listed = list_at(alloc, rows, here)?;
-        self.sources.add_all(alloc, here, &listed)?;
-        self.seen.extend(alloc, &listed)?;
-        self.passed += 1;
-        Ok(())
+        let Some(here) = self.found.pop() else {
+            unreachable!()
+        };
+        let Some(mask) = self.found.settle(alloc, &here)? else {
+            return Ok(1);
+        };
+        let looked = list_at(alloc, rows, &here)?;
+        self.found.raise_all(alloc, &looked.listed, mask)?;
+        Ok(looked.octets)
     }
 
-    /// Looks up so many references more, each once, or fewer: all that are left, or until so many more were seen and the list that brought
-    /// the last of them. The table stays as it is.
+    /// Goes on until so many octets were looked up, with the value that brings the last of them, or to the end: a look counts 32, and each octet of what
+    /// stands there one, so that what lists hold counts also where it was known. The table stays as it is.
+    ///
+    /// A list is looked up again only where a mask leads to it that has bits which were not known there.
     ///
     /// Refused: the table refused a look, and its count rose by one; or memory was refused, and the count is as it was. The search is
     /// dropped then.
@@ -154,14 +140,17 @@ impl Search {
         requires search { IsSearch (R.content rows.old) self }
         ensures unchanged { R.content rows.new ≡ R.content rows.old }
         ensures search { IfOk result (λ search. IsSearch (R.content rows.old) search × (handle_of search ≡ handle_of self)) }
+        ensures further { IfOk result (λ search. IsDone self ⊎ IsFurther self search) }
         ensures count { AreRefusalsAfter result (R.refused rows.old) (R.refused rows.new) }
     {
-        let most_seen = self.references().saturating_add(most);
-        for _ in 0..most {
-            if self.is_done() || self.references() > most_seen {
+        let mut left = most;
+        while !self.is_done() {
+            let octets = self.pass(alloc, rows)?;
+            self.looked_up = self.looked_up.saturating_add(octets);
+            if left <= octets {
                 return Ok(self);
             }
-            self.pass(alloc, rows)?;
+            left -= octets;
         }
         Ok(self)
     }
@@ -172,7 +161,6 @@ impl Search {
     pub fn mask(&self, alloc: Global, key: &Reference) -> Result<Option<AdminMask>, AllocError>
         ensures found { (t : Table) → IsSearch t self.now → IsDone self.now → IfOk result (λ mask. IsMask t (handle_of self.now) (place_of key.now) (mask_of mask)) }
     {
-        let leading = go_back(alloc, &self.sources, key)?;
-        union_of(alloc, &self.grants, &leading)
+        self.found.mask(alloc, key)
     }
 }

@@ -1,11 +1,15 @@
-use Rattle.std.proofs.Common.{◌≡◌}
-use Rattle.hdl_reach.specs.Search.{IsSearch, handle_of}
+use Rattle.std.proofs.Common.{◌≡◌, ◌⊎◌}
+use Rattle.hdl_reach.specs.Search.{IsSearch, IsFurther, handle_of}
 use Rattle.hdl_reach.proofs.search.Search.go_on.Given as goal
 
-abbrev pub invariant-loop : goal.invariant-loop
-invariant-loop g l = record {
+abbrev pub invariant-loop-alloc : goal.invariant-loop-alloc
+invariant-loop-alloc g l = record {
   same : g.R.Rows.content l.rows ≡ g.R.Rows.content l.fn.rows;
   answered : g.R.Rows.refused l.rows ≡ g.R.Rows.refused l.fn.rows;
   search : IsSearch (g.R.Rows.content l.fn.rows) l.self;
   handle : handle_of l.self ≡ handle_of l.fn.self;
+  further : (l.self ≡ l.fn.self) ⊎ IsFurther l.fn.self l.self;
 }
+
+abbrev pub decreases-loop-alloc : goal.decreases-loop-alloc
+decreases-loop-alloc g l = l.left

@@ -1,36 +1,49 @@
-use Rattle.std.proofs.Common.{◌≡◌, ◌<◌, length, take, arith, ap, refl, sym, subst, ◌∙◌, List, ◌||◌, ◌&&◌}
-use Rattle.hdl_value.specs.Place.{Place, same_place}
-use Rattle.hdl_value.specs.Refs.{place_of}
-use Rattle.hdl_value.specs.declared.admin.Reference.{Reference}
-use Rattle.hdl_reach.specs.Reach.{is_among, lists}
-use Rattle.hdl_reach.specs.Seen.{places, Extends}
-use Rattle.hdl_reach.specs.Sources.{sources_of, HasSources}
-use Rattle.hdl_reach.specs.Views.{starts}
-use Rattle.hdl_reach.proofs.Listings.{sources_passed}
-use Rattle.hdl_reach.proofs.Searches.{goes_on, passed_more, mapped_low, mapped_at}
+use Rattle.std.proofs.Common.{◌≡◌, ◌∙◌, refl, sym, ap, subst, List}
+use Rattle.hdl_value.specs.Place.{Place}
+use Rattle.hdl_rows.specs.Table.{values_of}
+use Rattle.hdl_reach.specs.declared.search.Search.{Search}
+use Rattle.hdl_reach.specs.Reach.{grants}
+use Rattle.hdl_reach.specs.Seen.{places}
+use Rattle.hdl_reach.specs.Found.{known_at, raised_at}
+use Rattle.hdl_reach.specs.Search.{handle_of}
+use Rattle.hdl_reach.specs.Views.{mask_of}
+use Rattle.hdl_reach.proofs.Steps.{passed_none, further_none, passed_on, further_on}
 use Rattle.hdl_reach.proofs.search.Search.pass.Goals as goal
+
+pub returns-in_default-2-clause-search : goal.returns-in_default-2-clause-search
+returns-in_default-2-clause-search g c =
+    let t = g.R.Rows.content c.args.rows.now in
+    let old = c.args.self.now in
+    let new : Search = record { handle = old.handle; found = c.settle.new.self; looked_up = old.looked_up } in
+    let none = sym c.in_ok-mask.ensures.mask ∙ ap mask_of c.in_default-2.is in
+    (passed_none t (grants (values_of t (handle_of old))) old new c.pop.new.self c.settle.new.self c.in-Some.here c.requires.search c.in-Some.ensures.known c.in-Some.ensures.taken c.in_ok-mask.ensures.known c.in_ok-mask.ensures.waiting none, refl)
+
+pub returns-in_default-2-clause-further : goal.returns-in_default-2-clause-further
+returns-in_default-2-clause-further g c =
+    let t = g.R.Rows.content c.args.rows.now in
+    let old = c.args.self.now in
+    let new : Search = record { handle = old.handle; found = c.settle.new.self; looked_up = old.looked_up } in
+    let none = sym c.in_ok-mask.ensures.mask ∙ ap mask_of c.in_default-2.is in
+    further_none t (grants (values_of t (handle_of old))) old new c.pop.new.self c.settle.new.self c.in-Some.here c.requires.search c.in-Some.ensures.known c.in-Some.ensures.taken c.in_ok-mask.ensures.known c.in_ok-mask.ensures.waiting none refl
 
 pub returns-clause-search : goal.returns-clause-search
 returns-clause-search g c =
     let t = g.R.Rows.content c.args.rows.now in
-    let s = c.args.self.now in
-    let all = starts s.grants.items in
-    let seen = places s.seen.references.items in
-    let new = places c.extend.new.self.references.items in
-    let more = places c.in_ok-listed.listed.items in
-    let here = place_of c.index-here.result.now in
-    let short : s.passed < length s.seen.references.items = omega (arith, c.requires.more) in
-    let low = mapped_low place_of s.seen.references.items s.passed short in
-    let is = mapped_at place_of s.seen.references.items s.passed c.index-here.result.now short c.index-here.ensures in
-    let listed = c.in_ok-listed.ensures.found in
-    let grown = subst (λ (rs : List Reference). Extends seen (places rs) new) c.deref-2.ensures.value c.in_ok-extend.ensures.extended in
-    let added = subst (λ (rs : List Reference). (p q : Place) → is_among p (sources_of c.add_all.new.self q) ≡ (is_among p (sources_of s.sources q) || (same_place p here && is_among q (places rs)))) c.deref.ensures.value c.in_ok-add_all.ensures in (
-      record {
-        granted = c.requires.search.granted;
-        searched = goes_on (lists t) (λ p. Unit {0}) all seen more new s.passed here (λ q _ _. tt) c.requires.search.searched low is listed grown;
-        sources = subst (λ ps. HasSources (lists t) ps c.add_all.new.self) (sym (passed_more seen more new s.passed here low is grown))
-            (sources_passed (lists t) (take s.passed seen) more s.sources c.add_all.new.self here c.requires.search.sources listed added);
-        kept = c.in_ok-extend.ensures.kept;
-      },
-      refl,
-    )
+    let old = c.args.self.now in
+    let new : Search = record { handle = old.handle; found = c.raise_all.new.self; looked_up = old.looked_up } in
+    let m = c.in-Some-2.mask.0 in
+    let mask = sym (ap mask_of c.in-Some-2.is) ∙ c.in_ok-mask.ensures.mask in
+    let listed = ap places c.deref.ensures.value ∙ c.in_ok-looked.ensures.found in
+    let raised = subst (λ (ps : List Place). (q : Place) → known_at c.raise_all.new.self q ≡ raised_at (known_at c.settle.new.self) ps m q) listed c.in_ok-raise_all.ensures.known in
+    (passed_on t (grants (values_of t (handle_of old))) old new c.pop.new.self c.settle.new.self c.in-Some.here c.requires.search c.in-Some.ensures.known c.in-Some.ensures.taken c.in_ok-mask.ensures.known c.in_ok-mask.ensures.waiting m mask raised c.in_ok-raise_all.ensures.waiting, refl)
+
+pub returns-clause-further : goal.returns-clause-further
+returns-clause-further g c =
+    let t = g.R.Rows.content c.args.rows.now in
+    let old = c.args.self.now in
+    let new : Search = record { handle = old.handle; found = c.raise_all.new.self; looked_up = old.looked_up } in
+    let m = c.in-Some-2.mask.0 in
+    let mask = sym (ap mask_of c.in-Some-2.is) ∙ c.in_ok-mask.ensures.mask in
+    let listed = ap places c.deref.ensures.value ∙ c.in_ok-looked.ensures.found in
+    let raised = subst (λ (ps : List Place). (q : Place) → known_at c.raise_all.new.self q ≡ raised_at (known_at c.settle.new.self) ps m q) listed c.in_ok-raise_all.ensures.known in
+    further_on t (grants (values_of t (handle_of old))) old new c.pop.new.self c.settle.new.self c.in-Some.here c.requires.search c.in-Some.ensures.known c.in-Some.ensures.taken c.in_ok-mask.ensures.known c.in_ok-mask.ensures.waiting m mask raised c.in_ok-raise_all.ensures.gained
