@@ -5,6 +5,7 @@ ghost use Rattle.hdl_rows.specs.Debt.{is_owed};
 ghost use Rattle.hdl_laws.specs.Laws.{HostsNoRoot};
 ghost use Rattle.hdl_laws.specs.Runs.{Steps};
 ghost use Rattle.hdl_laws.specs.Reveals.{IsReadable, Reveals};
+ghost use Rattle.hdl_laws.specs.Worlds.{owner};
 
 use crate::lanes::Lanes;
 use crate::service::Service;
@@ -101,6 +102,16 @@ impl<R: Owing + Drop> Machine<R> {
 impl<R: Rows + Drop> Machine<R> {
     pub(crate) fn alloc(&self) -> Global {
         self.alloc
+    }
+
+    /// Whose lane it is, by the place of the publisher. It is nobody's beyond the last one.
+    pub fn owner(&self, lane: u16) -> Option<usize>
+        ensures { result ≡ owner self.now.world.site lane }
+    {
+        if lane as usize >= self.lanes.len() {
+            return None;
+        }
+        Some(self.lanes.publisher(lane))
     }
 
     /// The table.

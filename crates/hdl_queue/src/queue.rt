@@ -1,7 +1,7 @@
 //! The lanes whose writes wait.
 
 ghost use Rattle.std.specs.Prelude.{◌≡◌, ◌⊎◌, ◌||◌, not, IsTrue, IsFalse, IfOk, Some, None};
-ghost use Rattle.hdl_queue.specs.Waiting.{is_asked, is_turn, owner_after, owner_without, with_lane, without_lane};
+ghost use Rattle.hdl_queue.specs.Waiting.{is_asked, is_turn, owner_after, owner_without, turn_of, with_lane, without_lane};
 
 use std::alloc::{AllocError, Global};
 use std::marker::Model;
@@ -44,6 +44,16 @@ impl WriteQueue {
             waiting: Vec::with_capacity(alloc, lanes)?,
             owner: None,
         })
+    }
+
+    /// Whose turn it is to write: the lane's to which a write is owed, else that of the first one that waits. It is nobody's where none does.
+    pub fn turn(&self) -> Option<u16>
+        ensures { result ≡ turn_of self.now }
+    {
+        match self.owner {
+            Some(owner) => Some(owner),
+            None => self.waiting.first().copied(),
+        }
     }
 
     /// Whether the lane may write now: it is its turn, or nobody's.

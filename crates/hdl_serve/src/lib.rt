@@ -5,8 +5,8 @@
 //!          <- ring of outcomes <-
 //! ```
 //!
-//! [`serve`] goes round the lanes: of each it takes an event, serves it by `Service::step`, and puts the outcome back before it takes the next,
-//! up to 16 in a row. An event of a write that is under way stays in its lane meanwhile. What stands between a lane and a socket is `hdl_workers`, which knows no service; its names are passed on here.
+//! [`serve`] goes round the publishers, and round the lanes of each: of a lane it takes an event, serves it by `Service::step`, and puts the outcome back before it takes the next,
+//! up to 16 in a row. A publisher's turn ends once a millisecond has passed. An event of a write that is under way stays in its lane meanwhile. What stands between a lane and a socket is `hdl_workers`, which knows no service; its names are passed on here.
 //!
 //! Promised of `serve`: what the lanes gave, and nothing else, is a run of the service, in which publishers are isolated and no reply
 //! tells of a value that may not be read, and each lane was given its events' outcomes. [`laws`] joins this with what the workers promise: after the joins
@@ -33,8 +33,12 @@
 //!   its step claims the write or finds it undone, and who was answered Busy knows that nothing was changed. Other events that are busy meanwhile are told so a sync later.
 //! - **Of a table whose calls make their writes no event is copied**, and none stays.
 //! - **A lane's events in a row cost as many turns**, so of so many turns each lane has at most so many events, in whatever order lanes are asked.
-//! - **A client with many requests in flight has up to 16 answered before the next lane is asked.** Whoever has one at a time waits for that long at
-//!   most, times the lanes; one of each in turn would cost the workers half as much again.
+//! - **A client with many requests in flight has up to 16 answered before the next lane is asked.** One of each in turn would cost the workers half as much again.
+//! - **A publisher's turn ends with the event at which the clock has gone on by a millisecond**, whatever lanes it has and whatever they ask: so a publisher's dear
+//!   requests cost each other publisher one of them a round. An event is never broken off. The next turn begins at the lane behind, so each lane is asked again after as many rounds at
+//!   most as its publisher has lanes. Lanes are a publisher's where they stand beside each other and the machine says so (`Machine::owner`).
+//! - **The lane whose turn it is to write is asked before all others**, for one event, since all other writes wait for it. Where it gives that, the round is over; its next
+//!   write goes behind those that wait, so between two such rounds others have theirs.
 //! - **Serving ends one round after the last End**, so that a turn that served nothing is one with a pause, whatever round an End came in.
 //! - **`serve` has two clauses: one record (`served`) and that the lanes' numbers still differ (`distinct`)**, so that it can be called again.
 //!   One record and not a clause for each sentence, since four clauses would each speak of a list of events of its own.
@@ -45,6 +49,7 @@
 pub mod laws;
 mod rounds;
 mod serving;
+mod shares;
 
 pub use hdl_queue::WriteQueue;
 pub use hdl_workers::{

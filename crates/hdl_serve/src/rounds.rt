@@ -10,12 +10,13 @@ ghost use Rattle.hdl_queue.specs.Waiting.{without_lane};
 ghost use Rattle.hdl_rows.specs.Debt.{is_owed};
 ghost use Rattle.hdl_serve.specs.Rounds.{Answers, IsCopyOf, IsServing, Passes, PutsNoBusy, Serves};
 
+use crate::shares::{Rota, Share};
 use hdl_core::{Machine, Owed, Owing, Stepped};
 use hdl_events::{Event, Happening, Outcome};
 use hdl_laws::laws::runs_joined;
 use hdl_limits::Octets;
 use hdl_queue::WriteQueue;
-use hdl_workers::{Item, LaneEnds};
+use hdl_workers::{Clock, Item, LaneEnds};
 use std::alloc::{AllocError, Global};
 
 /// The lane's next event, if one is seen and its outcome finds room. A lane that gave End isn't asked again.
@@ -214,45 +215,147 @@ fn serve_next<R: Owing + Drop>(
     }
 }
 
-/// Serves the lane's events as long as one is seen, and at most so many. How many these were.
-fn serve_lane<R: Owing + Drop>(
-    alloc: Global,
+/// How many events a lane gave in a row, and whether its publisher's turn is over.
+#[derive(Clone, Copy)]
+struct Given {
+    events: u64,
+    is_over: bool,
+}
+
+/// Serves the lane's events as long as one is seen, at most as many as a lane gives in its publisher's turn, and until that is over.
+fn serve_lane<R: Owing + Drop, C: Clock>(
     machine: &mut Machine<R>,
     ends: &mut LaneEnds,
     ended: &mut bool,
     queue: &mut WriteQueue,
-    most: u64,
-) -> u64
-    ensures few { result ≤ most }
+    clock: &mut C,
+    share: &Share,
+) -> Given
+    ensures few { result.events ≤ share.now.most }
     ensures served { Serves ended.old ended.new machine.old.world machine.new.world ends.old ends.new }
 {
     runs_joined();
-    for served in 0..most {
-        if !serve_next(alloc, machine, ends, ended, queue) {
-            return served;
+    for served in 0..share.most {
+        if !serve_next(share.alloc, machine, ends, ended, queue) {
+            return Given {
+                events: served,
+                is_over: false,
+            };
+        }
+        if share.is_over(clock.now()) {
+            return Given {
+                events: served + 1,
+                is_over: true,
+            };
         }
     }
-    most
+    Given {
+        events: share.most,
+        is_over: false,
+    }
 }
 
-/// Serves one lane after another, of each at most so many events. The most that one of them gave.
-pub(crate) fn serve_round<R: Owing + Drop>(
+/// Serves the lanes of a publisher one after another, until its turn is over or each of them was asked. The most that one of them gave.
+fn serve_share<R: Owing + Drop, C: Clock>(
+    machine: &mut Machine<R>,
+    lanes: &mut [LaneEnds],
+    ended: &mut [bool],
+    queue: &mut WriteQueue,
+    clock: &mut C,
+    share: &mut Share,
+) -> u64
+    requires ended { length ended.old ≡ length lanes.old }
+    ensures few { result ≤ share.old.most }
+    ensures serving { (w : World) (before : List LaneEnds) → IsServing w before machine.old.world lanes.old ended.old → IsServing w before machine.new.world lanes.new ended.new }
+{
+    runs_joined();
+    let begun = share.next;
+    let mut longest = 0;
+    for _ in 0..lanes.len() {
+        let place = share.next;
+        if place >= lanes.len() {
+            return longest;
+        }
+        let given = serve_lane(
+            machine,
+            &mut lanes[place],
+            &mut ended[place],
+            queue,
+            clock,
+            share,
+        );
+        longest = longest.max(given.events);
+        share.next = share.behind(place);
+        if given.is_over || share.next == begun {
+            return longest;
+        }
+    }
+    longest
+}
+
+/// Each publisher has its turn. The most that one lane gave.
+fn serve_shares<R: Owing + Drop, C: Clock>(
+    machine: &mut Machine<R>,
+    lanes: &mut [LaneEnds],
+    ended: &mut [bool],
+    queue: &mut WriteQueue,
+    clock: &mut C,
+    rota: &mut Rota,
+) -> u64
+    requires ended { length ended.old ≡ length lanes.old }
+    ensures few { result ≤ rota.old.most }
+    ensures serving { (w : World) (before : List LaneEnds) → IsServing w before machine.old.world lanes.old ended.old → IsServing w before machine.new.world lanes.new ended.new }
+{
+    let most = rota.most;
+    let mut longest = 0;
+    for i in 0..rota.shares.len() {
+        let Some(share) = rota.shares.get_mut(i) else {
+            return longest;
+        };
+        share.begin(most, clock.now());
+        let served = serve_share(machine, lanes, ended, queue, clock, share);
+        longest = longest.max(served);
+    }
+    longest
+}
+
+/// Serves the next event of the lane whose turn it is to write. Whether there was one.
+fn serve_writer<R: Owing + Drop>(
     alloc: Global,
     machine: &mut Machine<R>,
     lanes: &mut [LaneEnds],
     ended: &mut [bool],
     queue: &mut WriteQueue,
-    most: u64,
-) -> u64
+) -> bool
     requires ended { length ended.old ≡ length lanes.old }
-    ensures few { result ≤ most }
-    ensures serving { (w : World) (before : List LaneEnds) → IsServing w before machine.old.world lanes.old ended.old → IsServing w before machine.new.world lanes.new ended.new }
+    ensures { (w : World) (before : List LaneEnds) → IsServing w before machine.old.world lanes.old ended.old → IsServing w before machine.new.world lanes.new ended.new }
 {
     runs_joined();
-    let mut longest = 0;
-    for i in 0..lanes.len() {
-        let served = serve_lane(alloc, machine, &mut lanes[i], &mut ended[i], queue, most);
-        longest = longest.max(served);
+    let Some(writer) = queue.turn() else {
+        return false;
+    };
+    let Some(at) = lanes.iter().position(|ends| ends.lane == writer) else {
+        return false;
+    };
+    serve_next(alloc, machine, &mut lanes[at], &mut ended[at], queue)
+}
+
+/// One round: the next event of the lane whose turn it is to write, or where that gives none each publisher's turn. The most that one lane gave.
+pub(crate) fn serve_round<R: Owing + Drop, C: Clock>(
+    machine: &mut Machine<R>,
+    lanes: &mut [LaneEnds],
+    ended: &mut [bool],
+    queue: &mut WriteQueue,
+    clock: &mut C,
+    rota: &mut Rota,
+) -> u64
+    requires ended { length ended.old ≡ length lanes.old }
+    requires some { 0 < rota.old.most }
+    ensures few { result ≤ rota.old.most }
+    ensures serving { (w : World) (before : List LaneEnds) → IsServing w before machine.old.world lanes.old ended.old → IsServing w before machine.new.world lanes.new ended.new }
+{
+    if serve_writer(rota.alloc, machine, lanes, ended, queue) {
+        return 1;
     }
-    longest
+    serve_shares(machine, lanes, ended, queue, clock, rota)
 }

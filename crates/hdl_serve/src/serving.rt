@@ -1,6 +1,6 @@
 //! The serving loop.
 
-ghost use Rattle.std.specs.Prelude.{◌≡◌, ◌≤◌, ◌⊎◌, [], List, IsTrue, length, true};
+ghost use Rattle.std.specs.Prelude.{◌≡◌, ◌≤◌, ◌<◌, ◌⊎◌, [], List, IsTrue, length, true};
 ghost use Rattle.std.specs.List.{AllByRecursion, AllZip};
 ghost use Rattle.hdl_laws.specs.Worlds.{World};
 ghost use Rattle.hdl_workers.specs.declared.ends.LaneEnds.{LaneEnds};
@@ -9,6 +9,7 @@ ghost use Rattle.hdl_serve.specs.Served.{IsServed};
 ghost use Rattle.hdl_workers.specs.Ends.{AreDistinct};
 
 use crate::rounds::serve_round;
+use crate::shares::Rota;
 use hdl_core::{Machine, Owing, Rows, Service};
 use hdl_laws::laws::{restricted, twin_replies};
 use hdl_queue::WriteQueue;
@@ -35,36 +36,35 @@ fn have_ended(ended: &[bool], lanes: usize) -> bool
     ended.len() == lanes && ended.iter().all(|ended| *ended)
 }
 
-/// One round, of so many turns at most. How many it took: 0 where nothing was served. Where the memory for it is refused no lane is asked.
-fn round<R: Owing + Drop>(
-    alloc: Global,
+/// One round, of as many turns at most as the rota says. How many it took: 0 where nothing was served. Where the memory for it is refused no lane is asked.
+fn round<R: Owing + Drop, C: Clock>(
     machine: &mut Machine<R>,
     lanes: &mut [LaneEnds],
     ended: &mut Vec<bool>,
     queue: &mut WriteQueue,
-    turns: u64,
+    clock: &mut C,
+    rota: &mut Rota,
 ) -> u64
-    ensures few { result ≤ turns }
+    requires some { 0 < rota.old.most }
+    ensures few { result ≤ rota.old.most }
     ensures serving { (w : World) (before : List LaneEnds) → IsServing w before machine.old.world lanes.old ended.old.items → IsServing w before machine.new.world lanes.new ended.new.items }
 {
+    if rota.share_out(machine, lanes).is_err() {
+        return 0;
+    }
     if ended.resize(lanes.len(), false).is_err() {
         return 0;
     }
-    serve_round(
-        alloc,
-        machine,
-        lanes,
-        ended.as_mut_slice(),
-        queue,
-        turns.min(IN_A_ROW),
-    )
+    serve_round(machine, lanes, ended.as_mut_slice(), queue, clock, rota)
 }
 
-/// Goes round the lanes by rising number of place until each has given End or the turns are spent. A turn serves at most one event of
-/// each lane whose inlet for outcomes has room, and of none that gave End. A round is up to 16 turns, lane by lane: it serves a
+/// Goes round the lanes until each has given End or the turns are spent. A turn serves at most one event of
+/// each lane whose inlet for outcomes has room, and of none that gave End. A round is up to 16 turns, publisher by publisher and lane by lane: it serves a
 /// lane's events one after another, and puts each outcome before the next event is taken, so nothing that was taken is without
-/// an outcome. If the table hands its writes over, an event whose step was answered busy can stay in its lane, and so does one of which no copy can be had: the queue says which
-/// lane may write, and no Busy is put while the table owes a write.
+/// an outcome. A publisher's turn ends once the clock has gone on by a millisecond, and its next one begins at the lane behind. Lanes are one publisher's where they
+/// stand beside each other and the service says so.
+/// If the table hands its writes over, an event whose step was answered busy can stay in its lane, and so does one of which no copy can be had: the queue says which
+/// lane may write, and no Busy is put while the table owes a write. The lane whose turn it is to write is asked before all others, for one event; where it gives that, this was the round.
 /// Where the memory for a round is refused nothing is taken. After a round that served nothing it calls `pause`, after any other `note_work`.
 ///
 /// There are one list of events and one list of their outcomes that are a run from the service handed in to the one given back;
@@ -92,15 +92,17 @@ pub fn serve<R: Owing + Drop, C: Clock>(
     let mut lanes = lanes;
     let mut turns = turns;
     let mut ended = Vec::new(alloc);
+    let mut rota = Rota::new(alloc);
     let mut has_served = false;
     while turns > 0 && (has_served || !have_ended(ended.as_slice(), lanes.len())) {
+        rota.most = turns.min(IN_A_ROW);
         let served = round(
-            alloc,
             &mut machine,
             lanes.as_mut_slice(),
             &mut ended,
             queue,
-            turns,
+            clock,
+            &mut rota,
         );
         has_served = served > 0;
         if has_served {

@@ -137,6 +137,13 @@ impl<R: std::rt::Clock> Clock for MachineClock<R> {
         }
     }
 
+    fn waited(&self) -> Duration {
+        match (self.began, Instant::now(&self.rt)) {
+            (Some(began), Ok(now)) => now.saturating_duration_since(began),
+            _ => Duration::ZERO,
+        }
+    }
+
     fn note_work(&mut self) {
         self.began = None;
     }

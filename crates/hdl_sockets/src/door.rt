@@ -79,6 +79,10 @@ impl<R: std::rt::Clock + Eprint + Drop> Door for SocketDoor<R> {
         Err(DoorFault)
     }
 
+    fn give_up(&mut self) {
+        self.faults = self.faults.saturating_add(1);
+    }
+
     fn leave(&mut self) {
         self.stream = None;
         self.watch.end();

@@ -1,5 +1,5 @@
 -- A conversation grows by what is heard, put and written.
-use Rattle.std.proofs.Common.{◌≡◌, inl, inr, ℕ, Option, List, [], ◌∷◌, ◌++◌, refl, ap, sym, subst, append_assoc, append-nil, ◌∙◌}
+use Rattle.std.proofs.Common.{◌≡◌, inl, inr, ℕ, Option, None, List, [], ◌∷◌, ◌++◌, refl, ap, sym, subst, append_assoc, append-nil, ◌∙◌}
 use Rattle.std.proofs.lemmas.List.{map-append}
 use Rattle.std.proofs.lemmas.List.Elements.{All-push}
 use Rattle.std.proofs.lemmas.List.Folds.{concat-append}
@@ -159,10 +159,30 @@ heard_on cs cs' c d items os rest rest' octets u e f same =
     rw (same, f) (under_hear (Waiting rest) (FramesSoFar (rest ++ octets)) cs c d octets items os u e (λ signs p. frames_heard rest c.read octets signs p.0))
 
 -- octets came, and the cutter may lack them
-pub heard_cut : (cs cs' : List Connection) (c d : Connection) (items : List Item) (os : List Outcome) (rest octets : List ℕ) → Underway (Waiting rest) cs c items os → d ≡ hear octets c → cs' ≡ cs → CutOff SomeFrames cs' d items os
-heard_cut cs cs' c d items os rest octets u e same =
-    let u' = under_hear (Waiting rest) (FramesSoFar (rest ++ octets)) cs c d octets items os u e (λ signs p. frames_heard rest c.read octets signs p.0) in
-    rw same (cut_same (FramesSoFar (rest ++ octets)) SomeFrames cs d items os (cut_of (FramesSoFar (rest ++ octets)) (FramesSoFar (rest ++ octets)) cs d items os u') (λ signs p. inl (rest ++ octets, p)))
+pub heard_cut : (cs cs' : List Connection) (c d : Connection) (items : List Item) (os : List Outcome) (rest octets : List ℕ) → Underway (Waiting rest) cs c items os → d.read ≡ c.read ++ octets → d.written ≡ c.written → cs' ≡ cs → CutOff SomeFrames cs' d items os
+heard_cut cs cs' c d items os rest octets (earlier, now, settled, answers, i, o, h, l, p, w) read written same =
+    rw same (
+      earlier,
+      now,
+      settled,
+      answers,
+      i,
+      o,
+      h,
+      l,
+      subst (λ (x : List ℕ). SomeFrames x (signs_of now)) (sym read) (inl (rest ++ octets, frames_heard rest c.read octets (signs_of now) p.0)),
+      ([], append-nil d.written ∙ written ∙ w),
+    )
+
+-- outcomes were relayed before the next frame
+pub far_on : (cs cs' : List Connection) (c d : Connection) (items items' : List Item) (os ps : List Outcome) (rest : List ℕ) → Underway (FramesSoFar rest) cs c items os → items' ≡ items → Relayed os c ps d → cs' ≡ cs → Underway (FramesSoFar rest) cs' d items' ps
+far_on cs cs' c d items items' os ps rest u e r same =
+    rw (same, e) (under_relay (FramesSoFar rest) (FramesSoFar rest) cs c d items os ps u r)
+
+-- and none stands next
+pub far_waits : (cs : List Connection) (c : Connection) (items : List Item) (os : List Outcome) (rest rest' : List ℕ) → Underway (FramesSoFar rest) cs c items os → (BeginsWithFrame rest → ⊥) → fault_at rest ≡ None → rest' ≡ rest → Underway (Waiting rest') cs c items os
+far_waits cs c items os rest rest' u none no_fault same =
+    rw same (under_same (FramesSoFar rest) (Waiting rest) cs c items os u (λ signs p. (p, none, no_fault)))
 
 -- nothing happened since
 pub far_cut : (cs : List Connection) (c : Connection) (items : List Item) (os : List Outcome) (rest : List ℕ) → Underway (FramesSoFar rest) cs c items os → CutOff SomeFrames cs c items os

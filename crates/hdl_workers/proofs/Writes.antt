@@ -25,6 +25,14 @@ part_of w i s = (drop i s, append_assoc w (take i s) (drop i s) ∙ ap (λ t. w 
 pub relayed_none : (t : List Outcome) (c : Connection) → Relayed t c t c
 relayed_none t c = ([], sym (append-nil t), sym (append-nil c.written), refl, refl)
 
+-- nothing was relayed to a connection that stays as it was
+pub relayed_still : (t u : List Outcome) (c d : Connection) → u ≡ t → d ≡ c → Relayed t c u d
+relayed_still t u c d same still = rw (same, still) (relayed_none t c)
+
+-- nor to one that was given up
+pub part_still : (t u : List Outcome) (c d : Connection) → u ≡ t → d.written ≡ c.written → d.read ≡ c.read → RelayedPart t c u d
+part_still t u c d same w r = ([], same ∙ sym (append-nil t), ([], append-nil d.written ∙ w ∙ sym (append-nil c.written)), r)
+
 pub relayed_one : (t : List Outcome) (o : Outcome) (c d : Connection) → d ≡ say (octets_of o) c → Relayed t c (t ++ o ∷ []) d
 relayed_one t o c d e =
     rw e (o ∷ [], refl, ap (λ w. c.written ++ w) (sym (append-nil (octets_of o))), refl, refl)

@@ -81,7 +81,7 @@ Serves cs c items outcomes = History cs items outcomes ⊎ CutOff AnyBeginning c
 abbrev pub Waiting : List ℕ → List ℕ → List Sign → Type 0
 Waiting rest read signs = FramesSoFar rest read signs × (BeginsWithFrame rest → ⊥) × (fault_at rest ≡ None)
 
--- nothing is owed: the conversation is whole, or a write on it failed
+-- nothing is owed: the conversation is whole, or broken
 abbrev pub CanClose : List Connection → Connection → List Item → List Outcome → Type 0
 CanClose cs c items outcomes =
     (Underway AllFrames cs c items outcomes × (length outcomes ≡ length items))

@@ -5,9 +5,10 @@
 //! faults alone.
 
 ghost use Rattle.std.specs.Prelude.{◌≡◌, ◌≤◌, ◌<◌, ◌++◌, ◌∷◌, [], List, ℕ, Bool, true, length, take, replicate, IfOk, IfSome, IsTrue, MatchOption, MatchResult};
-ghost use Rattle.hdl_workers.specs.Door.{Connection, fresh, hear, say, break_off, Counts, Takes};
+ghost use Rattle.hdl_workers.specs.Door.{Connection, fresh, hear, say, break_off, Counts, Raises, Takes};
 
 use hdl_limits::PEERS_MAX;
+use std::time::Duration;
 
 /// A call of a door that failed.
 #[derive(Clone, Copy, PartialEq, Eq)]
@@ -55,6 +56,13 @@ pub trait Door {
         ensures still_open { is_open self.new ≡ is_open self.old }
         ensures said { IsTrue is_observed → MatchResult result (λ n. current self.new ≡ say (take n octets.now) (current self.old)) (λ _. current self.new ≡ break_off (current self.old)) };
 
+    /// Gives the open connection up, for want of memory. It is broken, as behind a write that failed, and a fault is counted.
+    fn give_up(&mut self)
+        ensures faults { Raises (fault_count self.old) (fault_count self.new) }
+        ensures ended { IsTrue is_observed → ended self.new ≡ ended self.old }
+        ensures still_open { is_open self.new ≡ is_open self.old }
+        ensures broken { IsTrue is_observed → current self.new ≡ break_off (current self.old) };
+
     /// Closes the open connection.
     fn leave(&mut self)
         requires ready { is_open self.old ≡ true }
@@ -81,6 +89,9 @@ pub trait Clock {
     /// Lets other threads run. Workers and `serve` call it after a try that gave nothing.
     fn pause(&mut self)
         ensures { IsTrue is_observed → answers self.new ≡ answers self.old };
+
+    /// How long the wait is that goes on: since its first pause. Zero where none does, or where the machine's clock fails.
+    fn waited(&self) -> Duration;
 
     /// Something was done, so the next pause begins a wait. Workers call it once they put what came through their door, and when they took
     /// an outcome or wrote one; `serve` after a turn that answered.

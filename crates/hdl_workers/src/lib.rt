@@ -33,10 +33,15 @@
 //!   written after them by itself.
 //! - **A worker that took an outcome pauses once before it writes, where others are owed to it**: what comes meanwhile goes into the same
 //!   write, so many requests in flight cost fewer calls of the system (docs/BENCHMARKS.md, "Serving"). With one in flight nothing is owed, and it never pauses there.
+//! - **A connection whose frame finds no memory for a second is given up (`Door::give_up`).** The wait pauses between its tries, so nothing spins, and what is
+//!   owed is written first. It is then broken, as behind a write that failed, and a fault is counted: so each clause stays as it was, and of a connection
+//!   without a fault every frame is put. A datagram lane has no connection to give up, and goes on trying behind pauses.
+//! - **How long a wait took (`waited`) is asked of the clock, and isn't one of its moments**: of these each goes into a frame.
 //! - **A clock is told what was done (`note_work`).** A clock that sleeps where nobody asks has to tell one wait from the next, and from when it is
 //!   called it can't: what is done between two pauses takes less than a look at the machine's clock.
 #![tactic(auto)]
 
+mod copies;
 mod door;
 mod ends;
 mod failing;

@@ -156,6 +156,11 @@ impl Door for MemoryDoor {
         }
     }
 
+    fn give_up(&mut self) {
+        let _ = self.faults.raise();
+        self.current.broken = true;
+    }
+
     fn leave(&mut self) {
         let idle = MemoryConnection::new(self.alloc, Vec::new(self.alloc));
         let left = mem::replace(&mut self.current, idle);

@@ -14,7 +14,6 @@ ghost use Rattle.hdl_workers.specs.Replying.{OnlyReplies};
 ghost use Rattle.hdl_workers.specs.Mail.{to_peer, SendsReply, BeginsReply, Sends, Traded, Trades, correspondence_at, correspondence_with, TakesIn, MayTakeIn, Replies, MayReply};
 
 use crate::relay::octets_of;
-use crate::stream::copy;
 use crate::worker::{EndReason, WorkerEnd, finish, open, spend};
 use crate::worker_lane::WorkerLane;
 use crate::{Clock, DoorFault, Nonces, Packets, WorkerSide};
@@ -128,7 +127,26 @@ fn await_outcome<C: Clock>(line: &mut WorkerLane, clock: &mut C) -> Option<Outco
     None
 }
 
+/// A copy of the octets. Where memory for it is refused it pauses before it tries again.
+fn copy<C: Clock>(line: &mut WorkerLane, clock: &mut C, octets: &[u8]) -> Option<Octets>
+    ensures line { SameWorkerLane line.old line.new }
+    ensures taken { taken_by line.new ≡ taken_by line.old }
+    ensures put { put_by line.new ≡ put_by line.old }
+    ensures copied { IfSome result (λ copy. copy ≡ octets.now) }
+    ensures answers { IsTrue C.is_observed → C.answers clock.new ≡ C.answers clock.old }
+{
+    while line.turns > 0 {
+        match Vec::from_slice(line.alloc, octets) {
+            Ok(copy) => return Some(Octets::new(copy)),
+            Err(_) => clock.pause(),
+        }
+        line.turns -= 1;
+    }
+    None
+}
+
 /// Puts the frame that came last. Whether the turns sufficed.
+#[tactic(auto, using(crate::proofs::Used::used_rules))]
 fn submit<C: Clock, N: Nonces>(
     line: &mut WorkerLane,
     clock: &mut C,
@@ -142,9 +160,9 @@ fn submit<C: Clock, N: Nonces>(
     ensures unchanged { IsFalse result → put_by line.new ≡ put_by line.old }
     ensures stamps { StampsUsed C.Clock N.Nonces (clock.old, nonces.old, put_by line.old) (clock.new, nonces.new, put_by line.new) }
 {
-    match copy(line.alloc, octets, &mut line.turns) {
-        Err(_) => false,
-        Ok(bytes) => put_frame(line, clock, nonces, peer, bytes),
+    match copy(line, clock, octets) {
+        None => false,
+        Some(bytes) => put_frame(line, clock, nonces, peer, bytes),
     }
 }
 
@@ -338,7 +356,7 @@ fn serve_packets<P: Packets, C: Clock, N: Nonces>(
 ///
 /// It puts Open, and a Frame for each datagram that is one frame, in order, with the peer that sent it; other datagrams are dropped.
 /// Each outcome's octets are sent as their pieces to its event's peer, in the same order. As many frames as the door says are under way at most, so that others
-/// are received, without waiting for them, while a reply is owed; where a send fails the rest of that reply is dropped. Growths, full rings, moments and nonces are as with [`stream_worker`](crate::stream_worker).
+/// are received, without waiting for them, while a reply is owed; where a send fails the rest of that reply is dropped. A growth that is refused is tried again behind a pause, as a turn. Full rings, moments and nonces are as with [`stream_worker`](crate::stream_worker).
 #[tactic(auto, using(crate::proofs::Used::ended_rules))]
 pub fn packet_worker<P: Packets, C: Clock, N: Nonces>(
     alloc: Global,

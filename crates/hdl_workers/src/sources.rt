@@ -4,6 +4,7 @@ ghost use Rattle.std.specs.Prelude.{true};
 
 use crate::{Clock, Nonces};
 use std::collections::VecDeque;
+use std::time::Duration;
 
 /// A clock that gives these answers, and zeros after their end.
 #[derive(Drop)]
@@ -24,6 +25,10 @@ impl Clock for MemoryClock {
     }
 
     fn pause(&mut self) {}
+
+    fn waited(&self) -> Duration {
+        Duration::ZERO
+    }
 
     fn note_work(&mut self) {}
 }

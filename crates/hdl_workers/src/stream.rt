@@ -1,7 +1,7 @@
 //! The worker of a stream lane.
 
 ghost use Rattle.std.specs.Prelude.{◌≡◌, ◌++◌, ◌∷◌, [], ◌≤◌, ◌<◌, IsTrue, IsFalse, OnOk, ◌⊎◌, ◌^◌, ◌-◌, IfErr, IfOk, OnErr, List, true, length, None, replicate};
-ghost use Rattle.hdl_workers.specs.declared.worker.Stop.TheVariants.{Broken, Turns};
+ghost use Rattle.hdl_workers.specs.declared.worker.Stop.TheVariants.{Broken};
 ghost use Rattle.hdl_workers.specs.declared.worker.EndReason.TheVariants.{Device};
 ghost use Rattle.hdl_workers.specs.declared.item.Item.{Item};
 ghost use Rattle.hdl_workers.specs.declared.item.Item.TheVariants.{Event};
@@ -18,6 +18,7 @@ ghost use Rattle.hdl_workers.specs.Sign.{framed, moments_of, nonces_of, PutOne, 
 ghost use Rattle.hdl_workers.specs.Stamps.{StampsUsed};
 ghost use Rattle.hdl_workers.specs.Talk.{fault_sign, FramesSoFar, Waiting, AllFrames, SomeFrames, AnyBeginning, Underway, CutOff, CanClose, History, Serves};
 
+use crate::copies::copy;
 use crate::intake::Intake;
 use crate::relay::{await_outcomes, await_room};
 use crate::worker::{EndReason, Stop, WorkerEnd, finish, open, spend};
@@ -39,21 +40,6 @@ enum Found {
     Nothing,
 }
 
-/// A copy of the octets. A growth that is refused is tried again.
-pub(crate) fn copy(alloc: Global, octets: &[u8], turns: &mut u64) -> Result<Octets, Stop>
-    ensures turns { turns.new ≤ turns.old }
-    ensures copied { IfOk result (λ copy. copy ≡ octets.now) }
-    ensures turns_only { IfErr result (λ stop. stop ≡ Turns) }
-{
-    while *turns > 0 {
-        match Vec::from_slice(alloc, octets) {
-            Ok(copy) => return Ok(Octets::new(copy)),
-            Err(_) => *turns -= 1,
-        }
-    }
-    Err(Stop::Turns)
-}
-
 /// A fault by the two numbers of its envelope.
 fn numbers(fault: FrameFault) -> Found
     ensures { fault_found result ≡ fault_sign fault }
@@ -68,14 +54,20 @@ fn numbers(fault: FrameFault) -> Found
 }
 
 /// Takes what stands next.
-fn find(alloc: Global, cutter: &mut Cutter, turns: &mut u64) -> Result<Found, Stop>
+fn find<D: Door, C: Clock>(
+    door: &mut D,
+    line: &mut WorkerLane,
+    clock: &mut C,
+    cutter: &mut Cutter,
+) -> Result<Found, Stop>
     requires sound { cutter.old.fault ≡ None }
-    ensures turns { turns.new ≤ turns.old }
+    ensures relays { Relays D.Door door.old line.old result door.new line.new }
+    ensures put { put_by line.new ≡ put_by line.old }
+    ensures answers { IsTrue C.is_observed → C.answers clock.new ≡ C.answers clock.old }
     ensures found { IfOk result (λ found. Finds cutter.old found cutter.new) }
-    ensures turns_only { IfErr result (λ stop. stop ≡ Turns) }
 {
     match cutter.next_frame() {
-        Ok(Some(frame)) => Ok(Found::Whole(copy(alloc, frame.bytes, turns)?)),
+        Ok(Some(frame)) => Ok(Found::Whole(copy(door, line, clock, frame.bytes)?)),
         Ok(None) => Ok(Found::Nothing),
         Err(fault) => Ok(numbers(fault)),
     }
@@ -147,7 +139,7 @@ fn submit_frames<D: Door, C: Clock, N: Nonces>(
     ensures broken { IsTrue D.is_observed → IfErr result (λ stop. stop ≡ Broken → (D.current door.new).broken ≡ true) }
 {
     while line.turns > 0 {
-        match find(line.alloc, cutter, &mut line.turns)? {
+        match find(door, line, clock, cutter)? {
             Found::Whole(bytes) => submit_frame(door, line, clock, nonces, bytes)?,
             Found::Nothing => return Ok(false),
             Found::Fault { session, request } => {
@@ -177,7 +169,7 @@ fn converse<D: Door, C: Clock, N: Nonces>(
 {
     let mut intake = Intake::new(line.alloc);
     await_outcomes(door, line, clock)?;
-    while intake.hear(door, &mut line.turns)? {
+    while intake.hear(door, clock, &mut line.turns)? {
         let faulty = submit_frames(door, line, clock, nonces, &mut intake.cutter)?;
         if faulty {
             await_outcomes(door, line, clock)?;
@@ -325,8 +317,8 @@ fn serve_door<D: Door, C: Clock, N: Nonces>(
 /// Of each connection it puts Open, every frame that was read, Bad where a faulty envelope stands next, and Close. It reads at most
 /// 8,192 octets at a time, and again only once each event that it put has its outcome and that was written. What it writes is the
 /// octets of the outcomes, in order. Where a read or a write fails it puts Close and goes on with the next connection; octets of
-/// an unfinished frame are dropped. A growth that is refused is tried again, as a turn; where the ring is full it takes outcomes and
-/// puts again. Each frame has the next moment of the clock and the next nonce of the source, and none of these is left out.
+/// an unfinished frame are dropped. A growth that is refused is tried again behind a pause, as a turn, once what is owed was written; after a second of that the
+/// connection is given up, as where a write fails. Where the ring is full it takes outcomes and puts again. Each frame has the next moment of the clock and the next nonce of the source, and none of these is left out.
 pub fn stream_worker<D: Door, C: Clock, N: Nonces>(
     alloc: Global,
     door: &mut D,

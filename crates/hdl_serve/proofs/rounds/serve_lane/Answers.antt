@@ -9,3 +9,6 @@ loop-served-preserved g c = serves_then c.runs_joined.ensures _ _ _ _ _ _ _ _ _ 
 
 pub returns-then-not-serve_next-clause-served : goal.returns-then-not-serve_next-clause-served
 returns-then-not-serve_next-clause-served g c = serves_then c.runs_joined.ensures _ _ _ _ _ _ _ _ _ c.loop-served.invariant c.serve_next.ensures.served
+
+pub returns-then-is_over-clause-served : goal.returns-then-is_over-clause-served
+returns-then-is_over-clause-served g c = serves_then c.runs_joined.ensures _ _ _ _ _ _ _ _ _ c.loop-served.invariant c.serve_next.ensures.served

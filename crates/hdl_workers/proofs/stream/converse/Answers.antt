@@ -24,7 +24,7 @@ pub returns-in_err-hear-clause-cut : goal.returns-in_err-hear-clause-cut
 returns-in_err-hear-clause-cut g c = λ t.
     let heard = c.hear.ensures.heard t in
     heard_cut _ _ (g.D.Door.current c.loop-intake.door) (g.D.Door.current c.hear.new.door) _ _ _ heard.0
-    (c.loop-intake.invariant.talk t) heard.1 (c.hear.ensures.connection.ended t)
+    (c.loop-intake.invariant.talk t) heard.1 heard.2 (c.hear.ensures.connection.ended t)
 
 pub returns-in_err-await_outcomes-2-clause-cut : goal.returns-in_err-await_outcomes-2-clause-cut
 returns-in_err-await_outcomes-2-clause-cut g c = λ t.
@@ -48,7 +48,7 @@ pub loop-intake-preserved : goal.loop-intake-preserved
 loop-intake-preserved g c = record {
   goes_on = search rules;
   sound = search rules;
-  stamps = stamps_both _ _ _ _ _ c.loop-intake.invariant.stamps (stamps_both _ _ _ _ _ c.submit_frames.ensures.stamps (stamps_still _ _ _ _ c.await_outcomes-in-loop-intake.ensures.answers (λ _. refl) c.await_outcomes-in-loop-intake.ensures.put));
+  stamps = stamps_both _ _ _ _ _ (stamps_both _ _ _ _ _ c.loop-intake.invariant.stamps (stamps_still _ _ _ _ c.hear.ensures.answers (λ _. refl) refl)) (stamps_both _ _ _ _ _ c.submit_frames.ensures.stamps (stamps_still _ _ _ _ c.await_outcomes-in-loop-intake.ensures.answers (λ _. refl) c.await_outcomes-in-loop-intake.ensures.put));
   settled = search rules;
   talk = λ t.
       waiting_on _ _ (g.D.Door.current c.submit_frames.new.door) (g.D.Door.current c.await_outcomes-in-loop-intake.new.door) _ _ _ _ _
@@ -77,16 +77,16 @@ pub returns-in_err-await_outcomes-clause-stamps : goal.returns-in_err-await_outc
 returns-in_err-await_outcomes-clause-stamps g c = stamps_still _ _ _ _ c.await_outcomes.ensures.answers (λ _. refl) c.await_outcomes.ensures.put
 
 pub returns-in_err-faulty-clause-stamps : goal.returns-in_err-faulty-clause-stamps
-returns-in_err-faulty-clause-stamps g c = stamps_both _ _ _ _ _ c.loop-intake.invariant.stamps c.submit_frames.ensures.stamps
+returns-in_err-faulty-clause-stamps g c = stamps_both _ _ _ _ _ (stamps_both _ _ _ _ _ c.loop-intake.invariant.stamps (stamps_still _ _ _ _ c.hear.ensures.answers (λ _. refl) refl)) c.submit_frames.ensures.stamps
 
 pub returns-in_err-await_outcomes-2-clause-stamps : goal.returns-in_err-await_outcomes-2-clause-stamps
 returns-in_err-await_outcomes-2-clause-stamps g c =
-    stamps_both _ _ _ _ _ c.loop-intake.invariant.stamps (stamps_both _ _ _ _ _ c.submit_frames.ensures.stamps (stamps_still _ _ _ _ c.await_outcomes-then-faulty.ensures.answers (λ _. refl) c.await_outcomes-then-faulty.ensures.put))
+    stamps_both _ _ _ _ _ (stamps_both _ _ _ _ _ c.loop-intake.invariant.stamps (stamps_still _ _ _ _ c.hear.ensures.answers (λ _. refl) refl)) (stamps_both _ _ _ _ _ c.submit_frames.ensures.stamps (stamps_still _ _ _ _ c.await_outcomes-then-faulty.ensures.answers (λ _. refl) c.await_outcomes-then-faulty.ensures.put))
 
 pub returns-in_err-await_outcomes-3-clause-stamps : goal.returns-in_err-await_outcomes-3-clause-stamps
 returns-in_err-await_outcomes-3-clause-stamps g c =
-    stamps_both _ _ _ _ _ c.loop-intake.invariant.stamps (stamps_both _ _ _ _ _ c.submit_frames.ensures.stamps (stamps_still _ _ _ _ c.await_outcomes-in-loop-intake.ensures.answers (λ _. refl) c.await_outcomes-in-loop-intake.ensures.put))
+    stamps_both _ _ _ _ _ (stamps_both _ _ _ _ _ c.loop-intake.invariant.stamps (stamps_still _ _ _ _ c.hear.ensures.answers (λ _. refl) refl)) (stamps_both _ _ _ _ _ c.submit_frames.ensures.stamps (stamps_still _ _ _ _ c.await_outcomes-in-loop-intake.ensures.answers (λ _. refl) c.await_outcomes-in-loop-intake.ensures.put))
 
 pub returns-then-faulty-clause-stamps : goal.returns-then-faulty-clause-stamps
 returns-then-faulty-clause-stamps g c =
-    stamps_both _ _ _ _ _ c.loop-intake.invariant.stamps (stamps_both _ _ _ _ _ c.submit_frames.ensures.stamps (stamps_still _ _ _ _ c.await_outcomes-then-faulty.ensures.answers (λ _. refl) c.await_outcomes-then-faulty.ensures.put))
+    stamps_both _ _ _ _ _ (stamps_both _ _ _ _ _ c.loop-intake.invariant.stamps (stamps_still _ _ _ _ c.hear.ensures.answers (λ _. refl) refl)) (stamps_both _ _ _ _ _ c.submit_frames.ensures.stamps (stamps_still _ _ _ _ c.await_outcomes-then-faulty.ensures.answers (λ _. refl) c.await_outcomes-then-faulty.ensures.put))

@@ -1,8 +1,13 @@
-use Rattle.std.proofs.Common.{◌≡◌, ◌≤◌}
+use Rattle.std.proofs.Common.{◌≡◌, ◌≤◌, IsTrue}
 use Rattle.hdl_workers.proofs.intake.Intake.hear.Given as goal
 
 abbrev pub invariant-loop-turns : goal.invariant-loop-turns
-invariant-loop-turns g l = (l.turns ≤ l.initial.turns) × (l.self ≡ l.initial.self)
+invariant-loop-turns g l = record {
+  turns : l.turns ≤ l.initial.turns;
+  intake : l.self ≡ l.initial.self;
+  door : l.door ≡ l.initial.door;
+  answers : IsTrue g.C.Clock.is_observed → g.C.Clock.answers l.clock ≡ g.C.Clock.answers l.initial.clock;
+}
 
 abbrev pub decreases-loop-turns : goal.decreases-loop-turns
 decreases-loop-turns g l = l.turns

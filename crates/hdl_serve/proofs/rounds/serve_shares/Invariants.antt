@@ -2,7 +2,7 @@ use Rattle.std.proofs.Common.{◌≤◌, List}
 use Rattle.hdl_laws.specs.Worlds.{World}
 use Rattle.hdl_workers.specs.declared.ends.LaneEnds.{LaneEnds}
 use Rattle.hdl_serve.specs.Rounds.{IsServing}
-use Rattle.hdl_serve.proofs.rounds.serve_round.Given as goal
+use Rattle.hdl_serve.proofs.rounds.serve_shares.Given as goal
 
 abbrev pub invariant-loop-i : goal.invariant-loop-i
 invariant-loop-i g l = record {

@@ -1,0 +1,113 @@
+//! Whose lanes are asked in a round, and in which order.
+
+ghost use Rattle.std.specs.Prelude.{◌≡◌};
+
+use hdl_core::{Machine, Owing};
+use hdl_workers::LaneEnds;
+use std::alloc::{AllocError, Global};
+
+/// A publisher's share of each round. Its lanes stand beside each other, and are asked one after another, from behind the one at which its last turn ended.
+#[derive(Drop)]
+pub(crate) struct Share {
+    /// Where copies of events are made.
+    pub(crate) alloc: Global,
+    first: usize,
+    last: usize,
+    /// The place of the lane that is asked next.
+    pub(crate) next: usize,
+    /// How many events each lane gives at most in this turn.
+    pub(crate) most: u64,
+    /// The moment at which this turn began.
+    began: u64,
+}
+
+impl Share {
+    /// The share of one lane.
+    fn at(alloc: Global, place: usize) -> Share {
+        Share {
+            alloc,
+            first: place,
+            last: place,
+            next: place,
+            most: 0,
+            began: 0,
+        }
+    }
+
+    /// The place behind this one. Behind the last one comes the first.
+    pub(crate) fn behind(&self, place: usize) -> usize {
+        if place < self.last {
+            place + 1
+        } else {
+            self.first
+        }
+    }
+
+    /// A turn begins at this moment, in which each lane gives so many events at most.
+    pub(crate) fn begin(&mut self, most: u64, moment: u64)
+        ensures most { self.new.most ≡ most }
+    {
+        self.most = most;
+        self.began = moment;
+    }
+
+    /// Whether the turn is over at this moment: the clock, which counts milliseconds, went on.
+    pub(crate) fn is_over(&self, moment: u64) -> bool {
+        moment != self.began
+    }
+}
+
+/// The shares of all publishers.
+#[derive(Drop)]
+pub(crate) struct Rota {
+    pub(crate) alloc: Global,
+    pub(crate) shares: Vec<Share>,
+    /// How many events each lane gives at most in the next round.
+    pub(crate) most: u64,
+}
+
+impl Rota {
+    /// No shares yet.
+    pub(crate) fn new(alloc: Global) -> Rota {
+        Rota {
+            alloc,
+            shares: Vec::new(alloc),
+            most: 0,
+        }
+    }
+
+    /// Shares the lanes out, once: those that stand beside each other and have one owner make one share.
+    pub(crate) fn share_out<R: Owing + Drop>(
+        &mut self,
+        machine: &Machine<R>,
+        lanes: &[LaneEnds],
+    ) -> Result<(), AllocError>
+        ensures most { self.new.most ≡ self.old.most }
+    {
+        if self.shares.is_empty() {
+            self.shares = shares_of(self.alloc, machine, lanes)?;
+        }
+        Ok(())
+    }
+}
+
+/// A share for each stretch of lanes that have one owner.
+fn shares_of<R: Owing + Drop>(
+    alloc: Global,
+    machine: &Machine<R>,
+    lanes: &[LaneEnds],
+) -> Result<Vec<Share>, AllocError> {
+    let mut shares = Vec::new(alloc);
+    let mut owner = None;
+    for (place, ends) in lanes.iter().enumerate() {
+        let of = machine.owner(ends.lane);
+        if shares.is_empty() || of != owner {
+            shares.push(Share::at(alloc, place))?;
+            owner = of;
+        }
+        if let Some(share) = shares.last_mut() {
+            share.last = place;
+        }
+    }
+    Ok(shares)
+}
