@@ -144,10 +144,15 @@ fn import<'a>(alloc: Global) -> Result<Command<'a>, AllocError> {
             alloc,
             "csv",
             "FILE",
-            "Its first line names the columns handle, type, data and ttl, and index and permissions if they are given; a row is a value",
+            "Its first line names the columns handle, type and data, and ttl, index and permissions if they are given; a row is a value",
         )
         .required(true))?
         .arg(key(alloc).required(true))?
+        .arg(flag(
+            alloc,
+            "dry-run",
+            "Only says what is wrong with the file, and sends nothing",
+        ))?
         .arg(server(alloc))
 }
 
@@ -304,6 +309,7 @@ fn asked_of(alloc: Global, name: &str, matches: &ArgMatches<'_>) -> Result<Invoc
             file: word(alloc, matches, "csv")?,
             server: server_of(alloc, matches)?,
             key: word(alloc, matches, "key")?,
+            is_dry: matches.get_flag("dry-run"),
         })),
         "script" => Ok(Invocation::Script),
         "tenants" => Ok(Invocation::Tenants),

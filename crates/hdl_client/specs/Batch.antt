@@ -1,7 +1,8 @@
 -- What of a batch may be under way together, and which key answers a challenge.
-use Rattle.std.specs.Prelude.{◌≡◌, ◌⊎◌, ⊤, true, List, [], ◌∷◌, All, Option, Some, option_and_then}
+use Rattle.std.specs.Prelude.{◌≡◌, ◌⊎◌, ⊤, ℕ, true, List, [], ◌∷◌, All, Option, Some, option_and_then}
 use Rattle.std.specs.List.{slice_get}
 use Rattle.hdl_msg.specs.Reply.{ReplyParts}
+use Rattle.hdl_client.specs.About.{IsAnswerTo}
 use Rattle.hdl_client.specs.Challenge.{Answers}
 use Rattle.hdl_client.specs.declared.batch.Flight.{Flight}
 use Rattle.hdl_client.specs.declared.batch.Task.{Task}
@@ -26,7 +27,11 @@ AreApart (flight ∷ others) = All (IsApart flight.task.now) others × AreApart 
 abbrev pub key_of : List Key → Task → Option Key
 key_of keys task = option_and_then (λ place. slice_get keys place) task.key
 
--- a reply to a task is its outcome, or a challenge, which is answered by the key that the task names
+-- the key that a task names answers this reply, which challenges it
+abbrev pub AnswersFor : List Key → Task → ReplyParts → List ℕ → Type 0
+AnswersFor keys task reply answer = (key : Key) × (key_of keys task ≡ Some key) × Answers key task.message.items reply answer
+
+-- a reply to a task is its outcome, about what the task asks, or a challenge, which is answered by the key that the task names
 abbrev pub Lands : List Key → Task → ReplyParts → Landing → Type 0
-Lands keys task reply (Done code) = code ≡ reply.header.response_code
-Lands keys task reply (Challenge answer) = (key : Key) × (key_of keys task ≡ Some key) × Answers key task.message.items reply answer.items
+Lands keys task reply (Done code) = (code ≡ reply.header.response_code) × IsAnswerTo task.message.items reply
+Lands keys task reply (Challenge answer) = AnswersFor keys task reply answer.items

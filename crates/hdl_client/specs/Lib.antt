@@ -1,3 +1,4 @@
+pub mod About
 pub mod Batch
 pub mod Exchange
 pub mod Reply

@@ -1,9 +1,11 @@
 //! Many requests on one connection, several of them in flight.
 
-ghost use Rattle.std.specs.Prelude.{◌≡◌, ◌↔◌, IsTrue, All, IfOk, option_copied};
+ghost use Rattle.std.specs.Prelude.{◌≡◌, ◌↔◌, IsTrue, All, IfOk, IfSome, option_copied};
 ghost use Rattle.hdl_msg.specs.Reply.{reply_seen};
-ghost use Rattle.hdl_client.specs.Batch.{OrderMatters, IsApart, AreApart, key_of, Lands};
+ghost use Rattle.hdl_client.specs.About.{IsAnswerTo};
+ghost use Rattle.hdl_client.specs.Batch.{OrderMatters, IsApart, AreApart, key_of, AnswersFor, Lands};
 
+use crate::about::check_answer;
 use crate::challenge::{Key, challenge_answer};
 use crate::exchange::receive;
 use crate::fault::ClientFault;
@@ -39,8 +41,9 @@ pub struct Batch {
 
 /// Who is told what came of each request, as it comes.
 pub trait Outcomes {
-    /// The reply to this task came, with this code.
-    fn note_reply(&mut self, task: &Task, code: u32, reply: &ReplyView<'_>);
+    /// The reply to this task came, with this code. It is about what the task asks.
+    fn note_reply(&mut self, task: &Task, code: u32, reply: &ReplyView<'_>)
+        requires answers { IsAnswerTo task.now.message.items (reply_seen reply.now) };
 }
 
 /// A request that waits for its reply: its task, the RequestId of what was sent last for it, and whether that answers a challenge.
@@ -84,7 +87,25 @@ enum Landing {
     Challenge(Vec<u8>),
 }
 
-/// What a reply is to the flight that it answers. A challenge is answered once, by the task's key.
+/// The message that answers a reply to this flight by the task's key, where that is a challenge. One is answered once.
+fn answer_by_key(
+    alloc: Global,
+    keys: &[Key],
+    flight: &Flight<'_>,
+    reply: &ReplyView<'_>,
+) -> Result<Option<Vec<u8>>, ClientFault>
+    ensures { IfOk result (λ r. IfSome r (λ v. AnswersFor keys.now flight.now.task.now (reply_seen reply.now) v.items)) }
+{
+    if flight.is_answer {
+        return Ok(None);
+    }
+    match key_of(keys, flight.task) {
+        Some(key) => challenge_answer(alloc, key, &flight.task.message, reply),
+        None => Ok(None),
+    }
+}
+
+/// What a reply is to the flight that it answers. One that isn't a challenge to be answered has to be about what the task asks.
 fn land_reply(
     alloc: Global,
     keys: &[Key],
@@ -93,17 +114,11 @@ fn land_reply(
 ) -> Result<Landing, ClientFault>
     ensures { IfOk result (λ landing. Lands keys.now flight.now.task.now (reply_seen reply.now) landing) }
 {
-    let code = reply.header.response_code;
-    let Some(key) = key_of(keys, flight.task) else {
-        return Ok(Landing::Done(code));
-    };
-    if flight.is_answer {
-        return Ok(Landing::Done(code));
+    if let Some(answer) = answer_by_key(alloc, keys, flight, reply)? {
+        return Ok(Landing::Challenge(answer));
     }
-    match challenge_answer(alloc, key, &flight.task.message, reply)? {
-        Some(answer) => Ok(Landing::Challenge(answer)),
-        None => Ok(Landing::Done(code)),
-    }
+    check_answer(alloc, &flight.task.message, reply)?;
+    Ok(Landing::Done(reply.header.response_code))
 }
 
 /// Takes the flight of the request with this number out of those under way.

@@ -1,8 +1,8 @@
 //! Connections to a server.
 
-use crate::fault::ClientFault;
+use crate::fault::{ClientFault, ConnectFault};
 use crate::session::Session;
-use std::io::{self, Read, Write};
+use std::io::{self, ErrorKind, Read, Write};
 use std::net::{TcpStream, ToSocketAddrs};
 use std::time::{Duration, Instant};
 
@@ -28,7 +28,7 @@ pub struct Connection {
 fn time_left(rt: &HostRuntime, since: Instant, limit: Duration) -> io::Result<Duration> {
     let left = limit.saturating_sub(since.elapsed(rt)?);
     if left.is_zero() {
-        return Err(io::ErrorKind::TimedOut.into());
+        return Err(ErrorKind::TimedOut.into());
     }
     Ok(left)
 }
@@ -84,16 +84,46 @@ impl Write for Connection {
     }
 }
 
-/// Connects to `HOST:PORT`, by the first of its addresses that answers within ten seconds.
-pub fn connect(rt: &HostRuntime, server: &str) -> Result<Session<Connection>, ClientFault> {
+/// What a name's fault is.
+fn name_fault(kind: ErrorKind) -> ConnectFault {
+    match kind {
+        ErrorKind::InvalidInput => ConnectFault::NotHostPort,
+        _ => ConnectFault::UnknownName,
+    }
+}
+
+/// What an address's fault is.
+fn address_fault(kind: ErrorKind) -> ConnectFault {
+    match kind {
+        ErrorKind::ConnectionRefused => ConnectFault::Refused,
+        ErrorKind::HostUnreachable | ErrorKind::NetworkUnreachable => ConnectFault::NoRoute,
+        ErrorKind::TimedOut | ErrorKind::WouldBlock => ConnectFault::Silent,
+        _ => ConnectFault::Failed,
+    }
+}
+
+/// A stream to the first of a server's addresses that answers within ten seconds. The fault is that of the last one.
+fn stream_to(rt: &HostRuntime, server: &str) -> Result<TcpStream, ConnectFault> {
+    let addresses = match server.to_socket_addrs(rt) {
+        Ok(addresses) => addresses,
+        Err(error) => return Err(name_fault(error.kind())),
+    };
     let patience = Duration::from_secs(PATIENCE);
-    for address in server.to_socket_addrs(rt)? {
-        if let Ok(stream) = TcpStream::connect_timeout(rt, &address, patience) {
-            let connection = Connection::new(*rt, stream)?;
-            return Ok(Session::new(rt.alloc(), connection));
+    let mut last = ConnectFault::UnknownName;
+    for address in addresses {
+        match TcpStream::connect_timeout(rt, &address, patience) {
+            Ok(stream) => return Ok(stream),
+            Err(error) => last = address_fault(error.kind()),
         }
     }
-    Err(ClientFault::Connection)
+    Err(last)
+}
+
+/// Connects to `HOST:PORT`, by the first of its addresses that answers within ten seconds.
+pub fn connect(rt: &HostRuntime, server: &str) -> Result<Session<Connection>, ClientFault> {
+    let stream = stream_to(rt, server)?;
+    let connection = Connection::new(*rt, stream)?;
+    Ok(Session::new(rt.alloc(), connection))
 }
 
 /// Connects to `HOST:PORT` within a time that began then, which is that of the first request too: it has to be answered whole before the time is over. Each

@@ -9,9 +9,29 @@ use std::alloc::{AllocError, AllocFailed};
 use std::io::{self, ErrorKind};
 use thiserror::Error;
 
+/// Why there is no connection to a server.
+#[derive(Clone, Copy, Debug, PartialEq, Eq, Error)]
+pub enum ConnectFault {
+    #[error("this is no HOST:PORT")]
+    NotHostPort,
+    #[error("no address is known of this name")]
+    UnknownName,
+    /// The host is there.
+    #[error("nothing listens there")]
+    Refused,
+    #[error("no network leads there")]
+    NoRoute,
+    #[error("no answer in time")]
+    Silent,
+    #[error("the connection failed")]
+    Failed,
+}
+
 /// Why a request has no reply that can be read. None of them carries octets that came, or a secret.
 #[derive(Clone, Copy, Debug, PartialEq, Eq, Error)]
 pub enum ClientFault {
+    #[error("{0}")]
+    NoConnection(ConnectFault),
     /// A limit of time of the stream ran out.
     #[error("no answer in time")]
     TimedOut,
@@ -27,9 +47,12 @@ pub enum ClientFault {
     /// A piece of a message, or a message that is out of the grammar of replies.
     #[error("what came is no reply")]
     NoReply,
-    /// Its RequestId is that of no request which waits.
+    /// Its RequestId is that of no request which waits, or what it says to be done is another operation.
     #[error("a reply to another request came")]
     OtherRequest,
+    /// It shows the values of another handle, lists a handle of another prefix, or refers to the service of another one.
+    #[error("a reply about another handle came")]
+    OtherHandle,
     /// Its digest isn't that of the request.
     #[error("a challenge of another request came")]
     OtherChallenge,
@@ -37,6 +60,14 @@ pub enum ClientFault {
     TooLong,
     #[error("no memory")]
     Memory,
+}
+
+impl From<ConnectFault> for ClientFault {
+    ghost from_gives = { λ _ e. e ≢ TooLong };
+
+    fn from(fault: ConnectFault) -> ClientFault {
+        ClientFault::NoConnection(fault)
+    }
 }
 
 impl From<AllocError> for ClientFault {

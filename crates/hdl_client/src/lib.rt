@@ -6,7 +6,8 @@
 //! ```
 //!
 //! It stands on the codecs that the service stands on: what it sends is in the grammar of requests, and what it takes for a reply is
-//! in that of replies. It answers a challenge only where the digest in it is that of the request which it sent. A secret is in a
+//! in that of replies, and about the operation and the handle that were asked: a reply that shows another handle is refused. It answers a
+//! challenge only where the digest in it is that of the request which it sent. A secret is in a
 //! [`Key`] alone, which nothing prints, and no fault carries octets.
 //!
 //! ```rust
@@ -16,6 +17,7 @@
 //! ```
 #![tactic(auto)]
 
+mod about;
 mod batch;
 mod challenge;
 mod connecting;
@@ -28,6 +30,6 @@ pub use batch::{Batch, Outcomes, Task};
 pub use challenge::{Key, challenge_answer, challenge_response, request_message, signed_part};
 pub use connecting::{Connection, connect, connect_within};
 pub use exchange::{OwnedFrame, frame_of, receive, send};
-pub use fault::ClientFault;
+pub use fault::{ClientFault, ConnectFault};
 pub use reply::Reply;
 pub use session::Session;

@@ -3,11 +3,14 @@
 ghost use Rattle.std.specs.Prelude.{◌≡◌, IfOk, OnErr};
 ghost use Rattle.hdl_msg.specs.Reply.{SpellsReply, reply_seen};
 ghost use Rattle.hdl_client.specs.Reply.{IsReplyTo, IsNoReplyTo};
+ghost use Rattle.hdl_client.specs.About.{AnswersRequest};
 
+use crate::about::check_answer;
 use crate::exchange::OwnedFrame;
 use crate::fault::ClientFault;
 use hdl_frame::Envelope;
 use hdl_msg::{ReplyView, read_reply};
+use std::alloc::Global;
 use std::marker::Model;
 
 /// A reply: a message that came whole in one frame and that `read_reply` reads. Contracts see its envelope and its message.
@@ -50,6 +53,15 @@ impl Reply {
             }),
             Err(_) => Err(ClientFault::NoReply),
         }
+    }
+
+    /// This reply, if it is about what the request with this message asks.
+    pub(crate) fn about(self, alloc: Global, message: &[u8]) -> Result<Reply, ClientFault>
+        ensures same { IfOk result (λ reply. reply ≡ self) }
+        ensures answers { IfOk result (λ reply. AnswersRequest message.now reply.message) }
+    {
+        check_answer(alloc, message, &self.view())?;
+        Ok(self)
     }
 
     /// The envelope that it came in.

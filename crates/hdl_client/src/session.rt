@@ -1,7 +1,10 @@
 //! Requests on one connection.
 
 ghost use Rattle.std.specs.Prelude.{◌≡◌, IfOk};
+ghost use Rattle.hdl_msg.specs.RequestBody.{request_message};
+ghost use Rattle.hdl_client.specs.Challenge.{plain_header};
 ghost use Rattle.hdl_client.specs.Reply.{IsReplyTo};
+ghost use Rattle.hdl_client.specs.About.{AnswersRequest};
 
 use crate::challenge::{Key, challenge_answer, request_message};
 use crate::exchange::{receive, send};
@@ -54,18 +57,35 @@ impl<S: Read + Write> Session<S> {
         self.exchange_within(0, message)
     }
 
-    /// Asks, answers the challenge where one comes and a key is there, and takes the reply.
-    pub fn ask(&mut self, body: &RequestBody, key: Option<&Key>) -> Result<Reply, ClientFault>
+    /// The reply to the answer to a challenge by this key, where the reply that came is one; else that one.
+    fn behind_challenge(
+        &mut self,
+        key: &Key,
+        message: &[u8],
+        reply: Reply,
+    ) -> Result<Reply, ClientFault>
+        requires { IsReplyTo self.old.request reply }
         ensures reply { IfOk result (IsReplyTo self.new.request) }
     {
-        let message = request_message(self.alloc, body)?;
-        let reply = self.exchange_within(0, &message)?;
-        let Some(key) = key else {
-            return Ok(reply);
-        };
-        match challenge_answer(self.alloc, key, &message, &reply.view())? {
+        match challenge_answer(self.alloc, key, message, &reply.view())? {
             Some(answer) => self.exchange_within(reply.envelope().session, &answer),
             None => Ok(reply),
         }
+    }
+
+    /// Asks, answers the challenge where one comes and a key is there, and takes the reply. A reply about another operation, or about another handle, is
+    /// refused.
+    pub fn ask(&mut self, body: &RequestBody, key: Option<&Key>) -> Result<Reply, ClientFault>
+        ensures reply { IfOk result (IsReplyTo self.new.request) }
+        ensures answers { IfOk result (λ reply. AnswersRequest (request_message plain_header body.now) reply.message) }
+    {
+        let message = request_message(self.alloc, body)?;
+        let first = self.exchange_within(0, &message)?;
+        let reply = match key {
+            Some(key) => self.behind_challenge(key, &message, first)?,
+            None => first,
+        };
+        let reply = reply.about(self.alloc, &message)?;
+        Ok(reply)
     }
 }

@@ -30,7 +30,7 @@ pub record AreNamed (names : List (List ℕ)) (columns : Columns) : Type 0 where
   pub handle : field_at names columns.handle ≡ Some (codes "handle")
   pub kind : field_at names columns.kind ≡ Some (codes "type")
   pub bytes : field_at names columns.bytes ≡ Some (codes "data")
-  pub ttl : field_at names columns.ttl ≡ Some (codes "ttl")
+  pub ttl : IfSome columns.ttl (λ place. field_at names place ≡ Some (codes "ttl"))
   pub index : IfSome columns.index (λ place. field_at names place ≡ Some (codes "index"))
   pub permissions : IfSome columns.permissions (λ place. field_at names place ≡ Some (codes "permissions"))
 
@@ -38,6 +38,11 @@ pub record AreNamed (names : List (List ℕ)) (columns : Columns) : Type 0 where
 abbrev pub index_in : Option ℕ → ℕ → List (List ℕ) → Option ℕ
 index_in None place fields = Some place
 index_in (Some column) place fields = option_and_then number_in (field_at fields column)
+
+-- its TTL: that of its column, or without one a day
+abbrev pub ttl_of : Option ℕ → List (List ℕ) → Option ℕ
+ttl_of None fields = Some 86400
+ttl_of (Some column) fields = option_and_then number_in (field_at fields column)
 
 -- its permissions: those of their column, or without one 1110
 abbrev pub permissions_of : Option ℕ → List (List ℕ) → Option ℕ
@@ -49,7 +54,7 @@ unfoldable pub value_in_row : Columns → ℕ → List (List ℕ) → Result Val
 value_in_row columns place fields = do
   index ← ok_or (index_in columns.index place fields) fault.Index
   kind ← ok_or (field_at fields columns.kind) fault.Type
-  ttl ← ok_or (option_and_then number_in (field_at fields columns.ttl)) fault.Ttl
+  ttl ← ok_or (ttl_of columns.ttl fields) fault.Ttl
   permissions ← ok_or (permissions_of columns.permissions fields) fault.Permissions
   text ← ok_or (field_at fields columns.bytes) fault.Text
   value_by_type index kind ttl permissions text

@@ -3,11 +3,11 @@
 use crate::fault::WordFault;
 use crate::key::key_of;
 use crate::request::{Details, request_of, takes_values};
+use crate::telling::tell_fault;
 use crate::words::{Printout, code_name, push_reply, push_short_reply};
 use hdl_client::{ClientFault, Key, Reply, connect};
 use hdl_frame::Envelope;
 use hdl_msg::{OpCode, ReplyView, RequestBody, ResponseCode};
-use hdl_name::is_name;
 use std::alloc::{AllocError, Global};
 use std::io;
 use thiserror::Error;
@@ -125,7 +125,7 @@ fn way_on(operation: OpCode, code: Option<ResponseCode>) -> &'static str {
     }
     match operation {
         OpCode::ListHandles => {
-            ": more handles than one reply of 65,536 octets says; who runs the server writes all of them by `handled export`"
+            ": more handles than one reply of 65,536 octets says; who runs the server has all of them by `handled copy --table FILE --to COPY` and `handled export --table COPY < TENANTS`, while it goes on"
         }
         OpCode::Resolution => {
             ": more values than one reply of 65,536 octets says; ask for some of them by --index or --type"
@@ -183,13 +183,24 @@ fn ask_with_key(rt: &HostRuntime, question: &Inquiry) -> Result<u8, AskFault> {
     }
 }
 
+/// Says on standard error why a question to this server has no answer.
+fn tell(rt: &HostRuntime, server: &str, fault: AskFault) {
+    let _ = match fault {
+        AskFault::Client(fault) => {
+            tell_fault(rt, server, fault);
+            eprintln!(rt)
+        }
+        other => eprintln!(rt; "hdl: {other}"),
+    };
+}
+
 /// Asks, and prints the answer in words. Answers the exit status: 0 for code 1, 1 for another code, whose name is then on standard
 /// error, 2 for words that are no request, 3 where the server can't be reached or says nothing that can be read.
 pub fn run_question(rt: &HostRuntime, question: &Inquiry) -> u8 {
     match ask_with_key(rt, question) {
         Ok(status) => status,
         Err(fault) => {
-            let _ = eprintln!(rt; "hdl: {fault}");
+            tell(rt, &question.server, fault);
             fault.status()
         }
     }

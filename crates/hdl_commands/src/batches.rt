@@ -1,6 +1,7 @@
 //! A batch, asked of a server.
 
 use crate::batch_text::read_batch;
+use crate::telling::tell_fault;
 use crate::words::code_name;
 use hdl_client::{Batch, ClientFault, Outcomes, Task, connect};
 use hdl_lines::printed_octets;
@@ -94,7 +95,8 @@ pub fn run_batch_text(rt: &HostRuntime, server: &str, text: &str) -> u8 {
         Ok(()) => u8::from(!tally.failed.is_empty()),
         Err(fault) => {
             let left = batch.tasks.len().saturating_sub(tally.done);
-            let _ = eprintln!(rt; "hdl: {fault}; {left} without an outcome");
+            tell_fault(rt, server, fault);
+            let _ = eprintln!(rt; "; {left} without an outcome");
             3
         }
     }

@@ -36,8 +36,22 @@ pub enum WordFault {
     Return,
     #[error("more or fewer fields than the header names: a field with a comma in it stands in quotes")]
     Fields,
-    #[error("the header lacks a column: its line is handle,type,data,ttl, in any order, with index and permissions if they are given")]
+    #[error("the header lacks a column: its line is handle,type,data, in any order, with ttl, index and permissions if they are given")]
     Column,
+    #[error("the header has a column's name with capitals, or with spaces around it: the names are handle, type, data, ttl, index and permissions")]
+    Letters,
+    #[error("the header has ; between columns: save the file as CSV with commas between them")]
+    Semicolons,
+    #[error("the header has tabs between columns: save the file as CSV with commas between them")]
+    Tabs,
+    #[error("the file is UTF-16: save it as CSV UTF-8")]
+    Utf16,
+    #[error("the data is empty: write such a value by `hdl batch`")]
+    NoData,
+    #[error("a space begins or ends the data: write such a value by `hdl batch`")]
+    DataSpace,
+    #[error("the data isn't UTF-8: save the file as CSV UTF-8")]
+    DataNotUtf8,
     #[error("the header names a column twice")]
     ColumnTwice,
     #[error("a key can't stand in the file: write it by `hdl batch`")]

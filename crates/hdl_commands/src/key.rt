@@ -4,22 +4,32 @@ use crate::fault::WordFault;
 use hdl_client::Key;
 use hdl_limits::Octets;
 use hdl_lines::read_reference;
+use hdl_value::RawRef;
 use std::alloc::Global;
 use std::env;
 
 /// The variable of the environment that a secret is looked for in.
 pub const SECRET_VARIABLE: &str = "HDL_SECRET";
 
-/// A key by its reference in words, and its secret.
-pub(crate) fn read_key(alloc: Global, words: &str, secret: &[u8]) -> Result<Key, WordFault> {
+/// A reference to a key in words.
+pub(crate) fn read_key_reference(alloc: Global, words: &str) -> Result<RawRef, WordFault> {
     let Some((index, handle)) = read_reference(words) else {
         return Err(WordFault::Key);
     };
+    Ok(RawRef {
+        handle: Octets::new(Vec::from_slice(alloc, handle.as_bytes())?),
+        index,
+    })
+}
+
+/// A key by its reference in words, and its secret.
+pub(crate) fn read_key(alloc: Global, words: &str, secret: &[u8]) -> Result<Key, WordFault> {
+    let RawRef { handle, index } = read_key_reference(alloc, words)?;
     if secret.is_empty() {
         return Err(WordFault::NoSecret);
     }
     Ok(Key {
-        handle: Octets::new(Vec::from_slice(alloc, handle.as_bytes())?),
+        handle,
         index,
         secret: Octets::new(Vec::from_slice(alloc, secret)?),
     })

@@ -31,6 +31,7 @@ mod imports;
 mod key;
 mod request;
 mod scripts;
+mod telling;
 mod tenants;
 mod words;
 

@@ -16,33 +16,17 @@
 //! ```
 #![tactic(auto)]
 
-ghost use Rattle.std.specs.Prelude.{◌≡◌, if◌then◌else◌};
-
 mod fault;
 mod input;
 mod output;
 mod tenants;
+mod words;
 
 pub use fault::Fault;
 pub use input::{INPUT_LIMIT, read_input};
 pub use output::put_all;
-use std::alloc::AllocGlobal;
-use std::env::Env;
-use std::{env, io};
 pub use tenants::tenants_of;
+pub use words::{status_of_words, words_of};
 
 /// The version of the product, and the kit that it is proved with.
 pub const VERSION: &str = "0.1.0 (Buckramjade; rattle-kit-13b logic dac8208d650f15bf)";
-
-/// The exit status where the words leave nothing to do: 0 behind help or a version that was asked for, 2 behind a fault in them.
-pub fn status_of_words(is_help: bool) -> u8
-    ensures status { result ≡ (if is_help then 0 else 2) }
-{
-    if is_help { 0 } else { 2 }
-}
-
-/// The words of the command line, the program's name first. An error where one is no text, or memory is refused.
-pub fn words_of<R: Env + AllocGlobal>(rt: &R) -> io::Result<Vec<String>> {
-    let words = env::args(rt)?.collect(rt.alloc())?;
-    Ok(words)
-}

@@ -3,17 +3,21 @@
 use crate::batches::is_watched;
 use crate::fault::WordFault;
 use crate::imports::rows::{Faults, HandleRows};
-use crate::key::key_of;
+use crate::key::{key_of, read_key_reference};
+use crate::telling::tell_fault;
 use crate::words::code_name;
 use hdl_client::{Batch, ClientFault, Key, Outcomes, Session, Task, connect, request_message};
 use hdl_limits::{Items, Octets};
 use hdl_lines::{printed_octets, shown_line};
 use hdl_msg::{Body, ContentView, ReplyView, RequestBody, ResponseCode, Values, read_request};
-use hdl_value::RawRef;
 use std::alloc::{AllocError, Global};
 use std::io::{self, Read, Write};
 use std::{fs, mem};
 use thiserror::Error;
+
+/// What can be done where the connection failed.
+const AGAIN: &str =
+    "; start again with the same file: a handle that is there with its values counts as done";
 
 /// What is imported, and where.
 #[derive(Drop)]
@@ -24,6 +28,8 @@ pub struct Import {
     pub server: String,
     /// A reference to the key that answers the challenges.
     pub key: String,
+    /// Whether the file is only read, and nothing sent.
+    pub is_dry: bool,
 }
 
 /// Why nothing was imported, or the import stopped.
@@ -35,7 +41,7 @@ enum ImportFault {
     Header(WordFault),
     #[error("{0}")]
     Key(WordFault),
-    #[error("{0}; start again with the same file: a handle that is there with its values counts as done")]
+    #[error("{0}")]
     Client(ClientFault),
     #[error("the service refuses the key: look at --key and its secret; what stands behind wasn't tried")]
     Refused,
@@ -363,31 +369,81 @@ fn ask_all(
     ended
 }
 
+/// Reads all of the file, tells its faults, and counts as created the handles that could be asked for.
+fn read_all(rt: &HostRuntime, rows: &mut HandleRows<'_>, counts: &mut Counts) {
+    let mut creations = Creations {
+        rt,
+        counts: *counts,
+        found: Vec::new(rt.alloc()),
+    };
+    let mut tasks = Vec::new(rt.alloc());
+    for _ in 0..u64::MAX {
+        tasks.clear();
+        rows.fill(&mut tasks, &mut creations);
+        if tasks.is_empty() {
+            break;
+        }
+        let created = creations.counts.created;
+        creations.counts.created = created.saturating_add(tasks.len());
+    }
+    *counts = creations.counts;
+}
+
 fn import_rows(rt: &HostRuntime, import: &Import, counts: &mut Counts) -> Result<(), ImportFault> {
     let alloc = rt.alloc();
     let text = match fs::read(rt, import.file.as_str()) {
         Ok(text) => text,
         Err(error) => return Err(ImportFault::File(error)),
     };
-    let key = match key_of(rt, &import.key) {
-        Ok(key) => key,
+    let reference = match read_key_reference(alloc, &import.key) {
+        Ok(reference) => reference,
         Err(fault) => return Err(ImportFault::Key(fault)),
-    };
-    let reference = RawRef {
-        handle: Octets::new(Vec::from_slice(alloc, key.handle.as_slice())?),
-        index: key.index,
     };
     let mut rows = match HandleRows::new(alloc, reference, &text) {
         Ok(rows) => rows,
         Err(fault) => return Err(ImportFault::Header(fault)),
     };
+    if import.is_dry {
+        read_all(rt, &mut rows, counts);
+        return Ok(());
+    }
+    let key = match key_of(rt, &import.key) {
+        Ok(key) => key,
+        Err(fault) => return Err(ImportFault::Key(fault)),
+    };
     ask_all(rt, &import.server, &mut rows, key, counts, lines_in(&text))
+}
+
+fn print_counts(rt: &HostRuntime, is_dry: bool, counts: &Counts) {
+    let Counts {
+        created,
+        there,
+        failed,
+        ..
+    } = *counts;
+    let _ = if is_dry {
+        println!(rt; "{created} could be created, {failed} failed; nothing was sent")
+    } else {
+        println!(rt; "{created} created, {there} there already, {failed} failed")
+    };
+}
+
+/// Says on standard error why an import by this server stopped.
+fn tell(rt: &HostRuntime, server: &str, fault: &ImportFault) {
+    let _ = match fault {
+        ImportFault::Client(fault) => {
+            tell_fault(rt, server, *fault);
+            eprintln!(rt; "{AGAIN}")
+        }
+        other => eprintln!(rt; "hdl: {other}"),
+    };
 }
 
 /// Creates the handles of a CSV file, over one connection, a thousand at a time with several requests in flight, and prints a line for
 /// each row and each handle that failed, and at the end how many came to what; progress on standard error. A handle that is there with
 /// just the values of its rows, whenever they were written, counts as done. Answers the exit status: 0 where all handles are there, 1
-/// where some aren't or the key is refused, 2 where nothing was sent, and 3 where the connection failed.
+/// where some aren't or the key is refused, 2 where nothing was sent, and 3 where the connection failed. A dry import tells what is wrong
+/// with the file alone.
 pub fn import_file(rt: &HostRuntime, import: &Import) -> u8 {
     let mut counts = Counts {
         created: 0,
@@ -401,16 +457,10 @@ pub fn import_file(rt: &HostRuntime, import: &Import) -> u8 {
         Err(fault) => fault.status(),
     };
     if status != 2 {
-        let Counts {
-            created,
-            there,
-            failed,
-            ..
-        } = counts;
-        let _ = println!(rt; "{created} created, {there} there already, {failed} failed");
+        print_counts(rt, import.is_dry, &counts);
     }
     if let Err(fault) = ended {
-        let _ = eprintln!(rt; "hdl: {fault}");
+        tell(rt, &import.server, &fault);
     }
     status
 }

@@ -14,7 +14,7 @@ pub struct Columns {
     pub handle: usize,
     pub kind: usize,
     pub bytes: usize,
-    pub ttl: usize,
+    pub ttl: Option<usize>,
     pub index: Option<usize>,
     pub permissions: Option<usize>,
 }
@@ -55,12 +55,28 @@ fn column_from(names: &ByteRecord, name: &[u8], start: usize) -> Option<usize>
     None
 }
 
-/// The column of this name, if there is one.
+/// Whether a column has this name but for capitals, or for spaces around it.
+fn has_near(names: &ByteRecord, name: &[u8]) -> bool {
+    for place in 0..names.len() {
+        if let Some(field) = names.get(place) {
+            if field.trim_ascii().eq_ignore_ascii_case(name) {
+                return true;
+            }
+        }
+    }
+    false
+}
+
+/// The column of this name, if there is one. One that is nearly called so is refused, since it would be passed over.
 fn column(names: &ByteRecord, name: &[u8]) -> Result<Option<usize>, WordFault>
     ensures { IfOk result (λ found. IfSome found (λ place. field_at (fields_of names.now) place ≡ Some name.now)) }
 {
     let Some(place) = column_from(names, name, 0) else {
-        return Ok(None);
+        return if has_near(names, name) {
+            Err(WordFault::Letters)
+        } else {
+            Ok(None)
+        };
     };
     if column_from(names, name, place.saturating_add(1)).is_some() {
         return Err(WordFault::ColumnTwice);
@@ -82,7 +98,7 @@ pub(crate) fn columns_of(names: &ByteRecord) -> Result<Columns, WordFault>
         handle: needed_column(names, b"handle")?,
         kind: needed_column(names, b"type")?,
         bytes: needed_column(names, b"data")?,
-        ttl: needed_column(names, b"ttl")?,
+        ttl: column(names, b"ttl")?,
         index: column(names, b"index")?,
         permissions: column(names, b"permissions")?,
     })

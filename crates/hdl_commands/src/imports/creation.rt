@@ -8,7 +8,7 @@ ghost use Rattle.hdl_commands.specs.Rows.{AreAdministered, Creates};
 
 use crate::batch_text::{is_relied_on, may_disturb, message_or_fault};
 use crate::fault::WordFault;
-use crate::imports::row::OPEN;
+use crate::imports::row::{DAY, OPEN};
 use hdl_client::Task;
 use hdl_limits::{Items, NAME_MAX, Octets, WRITTEN_MAX};
 use hdl_lines::printed_octets;
@@ -16,9 +16,6 @@ use hdl_msg::{OpCode, RequestBody};
 use hdl_name::Name;
 use hdl_value::{HS_ADMIN, RawRef, RawRefs, Value, put_string, put_u16, put_u32};
 use std::alloc::Global;
-
-/// The TTL of an administrator who is added: a day.
-const DAY: u32 = 86_400;
 
 /// All that an administrator may do.
 const EVERYTHING: u16 = 0x0FFF;

@@ -15,6 +15,9 @@ use std::alloc::Global;
 /// The permissions 1110: administrators read and write, anybody reads.
 pub(crate) const OPEN: u8 = 14;
 
+/// The TTL where none is said: a day.
+pub(crate) const DAY: u32 = 86_400;
+
 fn number_at(fields: &ByteRecord, column: usize) -> Option<u32>
     ensures { result ≡ option_and_then line.number_in (field_at (fields_of fields.now) column) }
 {
@@ -26,6 +29,15 @@ fn index_in(column: Option<usize>, place: u32, fields: &ByteRecord) -> Option<u3
 {
     match column {
         None => Some(place),
+        Some(column) => number_at(fields, column),
+    }
+}
+
+fn ttl_of(column: Option<usize>, fields: &ByteRecord) -> Option<u32>
+    ensures { result ≡ rows.ttl_of column (fields_of fields.now) }
+{
+    match column {
+        None => Some(DAY),
         Some(column) => number_at(fields, column),
     }
 }
@@ -56,7 +68,7 @@ pub(crate) fn value_in_row(
     let Some(kind) = fields.get(columns.kind) else {
         return Err(LineFault::Type);
     };
-    let Some(ttl) = number_at(fields, columns.ttl) else {
+    let Some(ttl) = ttl_of(columns.ttl, fields) else {
         return Err(LineFault::Ttl);
     };
     let Some(permissions) = permissions_of(columns.permissions, fields) else {

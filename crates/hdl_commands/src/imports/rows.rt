@@ -11,7 +11,7 @@ use crate::imports::creation::creation_task;
 use crate::imports::row::value_in_row;
 use csv::ByteRecord;
 use hdl_client::Task;
-use hdl_lines::cut_at;
+use hdl_lines::{LineFault, cut_at};
 use hdl_value::{RawRef, Value};
 use std::alloc::{AllocError, Global};
 
@@ -25,6 +25,27 @@ pub(crate) trait Faults {
 
     /// One more handle isn't created.
     fn left_out(&mut self);
+}
+
+/// What is wrong with data that is no text on one line.
+fn data_fault(data: &[u8]) -> WordFault {
+    match data {
+        [] => WordFault::NoData,
+        [b' ', ..] | [.., b' '] => WordFault::DataSpace,
+        _ if std::str::from_utf8(data).is_err() => WordFault::DataNotUtf8,
+        _ => WordFault::Value(LineFault::Text),
+    }
+}
+
+/// Another form of a table than CSV, if its first line shows one.
+fn other_form(header: &[u8]) -> Option<WordFault> {
+    match header {
+        [0xFF, 0xFE, ..] | [0xFE, 0xFF, ..] => Some(WordFault::Utf16),
+        _ if header.contains(&b',') => None,
+        _ if header.contains(&b';') => Some(WordFault::Semicolons),
+        _ if header.contains(&b'\t') => Some(WordFault::Tabs),
+        _ => None,
+    }
 }
 
 /// A handle, and the values of its rows so far.
@@ -48,7 +69,13 @@ impl Entry {
         ensures { OnOk result ((v : Value) × (self.new.values.items ≡ self.old.values.items ++ v ∷ []) × (said.value_in_row columns.now self.new.rows (fields_of fields.now) ≡ Ok v)) }
     {
         self.rows = self.rows.saturating_add(1);
-        let value = value_in_row(alloc, columns, self.rows, fields)?;
+        let value = match value_in_row(alloc, columns, self.rows, fields) {
+            Ok(value) => value,
+            Err(LineFault::Text) => {
+                return Err(data_fault(fields.get(columns.bytes).unwrap_or(b"")));
+            }
+            Err(fault) => return Err(fault.into()),
+        };
         if value.is_secret_key() {
             return Err(WordFault::KeyInFile);
         }
@@ -90,6 +117,9 @@ impl<'t> HandleRows<'t> {
     /// The rows behind the header of this text.
     pub fn new(alloc: Global, key: RawRef, text: &'t [u8]) -> Result<HandleRows<'t>, WordFault> {
         let (header, rest) = line_of(text);
+        if let Some(fault) = other_form(header) {
+            return Err(fault);
+        }
         if has_return(header) {
             return Err(WordFault::Return);
         }

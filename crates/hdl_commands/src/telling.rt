@@ -1,0 +1,26 @@
+//! What is said where a server gave no reply.
+
+use hdl_client::{ClientFault, ConnectFault};
+
+/// What can be done where there is no connection.
+fn way_on(fault: ConnectFault) -> &'static str {
+    match fault {
+        ConnectFault::NotHostPort => ": write a host, a colon and a port, as in 127.0.0.1:2641",
+        ConnectFault::Refused => {
+            ": is a server running? ./handled serve < examples/serve.tenants starts one of the example's"
+        }
+        ConnectFault::UnknownName => ": look at --server",
+        ConnectFault::NoRoute | ConnectFault::Silent => {
+            ": look at --server, and at what stands between"
+        }
+        ConnectFault::Failed => "",
+    }
+}
+
+/// Says on standard error, and ends no line, why a server gave no reply: where there is no connection with its address, and what can be done.
+pub(crate) fn tell_fault(rt: &HostRuntime, server: &str, fault: ClientFault) {
+    let _ = match fault {
+        ClientFault::NoConnection(why) => eprint!(rt; "hdl: {server}: {why}{}", way_on(why)),
+        _ => eprint!(rt; "hdl: {fault}"),
+    };
+}
