@@ -10,7 +10,7 @@ use Rattle.hdl_proxy.specs.Keeping.{IsKeepingOf}
 use Rattle.hdl_proxy.specs.Link.{IsWayTo}
 use Rattle.hdl_proxy.specs.Locations.{IsChoice, SaysLocations}
 use Rattle.hdl_proxy.specs.Pages.{refusal_page, refusal_title, redirect_page, IsPageOf}
-use Rattle.hdl_proxy.specs.Status.{status_of_code, refused_words}
+use Rattle.hdl_proxy.specs.Status.{status_of_code, told_code, refused_words}
 use Rattle.hdl_proxy.specs.Url.{IsGraphic, extend}
 use Rattle.hdl_proxy.specs.declared.answer.Answer.{Answer}
 use Rattle.hdl_proxy.specs.declared.answer.Keeping.TheVariants.{Never}
@@ -167,7 +167,7 @@ pub record Refuses (given : Status) (form : Form) (handle : List ℕ) (code : �
 -- in this form what was found: values, or the status of a code, or that no server answered
 abbrev pub ShowsFound : Form → List ℕ → List ℕ → List ℕ → Found → Answer → Type 0
 ShowsFound form handle append locatt (Values values) answer = ShowsValues form handle append locatt values.items answer
-ShowsFound form handle append locatt (Refused code) answer = Refuses (status_of_code code) form handle code (refused_words code) answer
+ShowsFound form handle append locatt (Refused code) answer = Refuses (status_of_code code) form handle (told_code code) (refused_words code) answer
 ShowsFound form handle append locatt Nothing answer = Refuses status.BadGateway form handle 2 (codes "No server answered.") answer
 
 -- it answers the question by what was found of its handle in what a resolver gave, and by nothing else

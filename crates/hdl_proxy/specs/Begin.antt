@@ -11,6 +11,7 @@ use Rattle.hdl_proxy.specs.Link.{path_to}
 use Rattle.hdl_proxy.specs.Pasted.{IsPasted, IsWritten, between_spaces}
 use Rattle.hdl_proxy.specs.Query.{IsAppended, IsIndex, IsLast, IsLocatt, has_pair, index_of, values_named}
 use Rattle.hdl_proxy.specs.declared.answer.Answer.{Answer as Reply}
+use Rattle.hdl_proxy.specs.declared.answer.Keeping.{Keeping}
 use Rattle.hdl_proxy.specs.declared.answer.Keeping.TheVariants.{Never, Seconds}
 use Rattle.hdl_proxy.specs.declared.answer.Media.{Media}
 use Rattle.hdl_proxy.specs.declared.answer.Media.TheVariants as media
@@ -206,7 +207,12 @@ is_way Pretty = false
 abbrev pub follows_aliases : Form → List (List ℕ × List ℕ) → Bool
 follows_aliases form pairs = is_way form && not (has_pair (codes "ignore_aliases") pairs)
 
--- what is asked of this name: the indexes and types of all pairs `index` and `type`, what is appended, and whether aliases are followed, of which none was yet
+-- others may keep what is answered for a day at most, and where the query has `auth` not without asking again
+abbrev pub first_keeping : List (List ℕ × List ℕ) → Keeping
+first_keeping pairs = if has_pair (codes "auth") pairs then Seconds 0 else Seconds 86_400
+
+-- what is asked of this name: the indexes and types of all pairs `index` and `type`, what is appended, whether a server is asked whatever is kept, and whether aliases
+-- are followed, of which none was yet
 pub record IsAsked (asked : List ℕ) (wanted : Form) (pairs : List (List ℕ × List ℕ)) (question : Question) : Type 0 where
   pub name : question.name ≡ asked
   pub form : question.form ≡ wanted
@@ -217,7 +223,8 @@ pub record IsAsked (asked : List ℕ) (wanted : Form) (pairs : List (List ℕ ×
   pub locatt : IsLocatt pairs (string_bytes question.locatt)
   pub aliases : question.aliases ≡ follows_aliases wanted pairs
   pub passed : question.passed.items ≡ []
-  pub keeping : question.keeping ≡ Seconds 86_400
+  pub keeping : question.keeping ≡ first_keeping pairs
+  pub anew : question.anew ≡ has_pair (codes "auth") pairs
   pub no_call : is_called_back wanted pairs ≡ false
 
 -- why a request for this name is refused: a call is asked for, an index is none, or the name is none

@@ -3,17 +3,19 @@ use Rattle.std.specs.Prelude.{◌≡◌, ◌<◌, ℕ, true, List}
 use Rattle.hdl_limits.specs.declared.TheConstants.{MESSAGE_MAX}
 use Rattle.hdl_msg.specs.Codes.{has_flag}
 use Rattle.hdl_msg.specs.declared.codes.OpFlag.TheVariants.{PublicOnly}
-use Rattle.hdl_msg.specs.Message.{Content, SpellsRequest, resolution}
+use Rattle.hdl_msg.specs.Message.{Content, Operation, SpellsRequest, resolution}
 use Rattle.hdl_msg.specs.RequestBody.{requested_operation, request_length}
 use Rattle.hdl_msg.specs.declared.request_body.RequestBody.{RequestBody}
 use Rattle.hdl_proxy.specs.declared.question.Question.{Question}
 
--- the octets are the request for these values of this handle, of which it shows what anybody may read
+-- the octets are a request for this, of which it shows what anybody may read
+abbrev pub IsPublicRequest : List ℕ → Operation → Type 0
+IsPublicRequest octets asked =
+    (content : Content) × (SpellsRequest octets content × (has_flag content.header.op_flag PublicOnly ≡ true) × (content.operation ≡ asked))
+
+-- they are the request for these values of this handle
 abbrev pub AsksInPublic : List ℕ → Question → Type 0
-AsksInPublic octets question =
-    (content : Content) × (SpellsRequest octets content
-    × (has_flag content.header.op_flag PublicOnly ≡ true)
-    × (content.operation ≡ resolution question.name question.indexes.items question.types.items))
+AsksInPublic octets question = IsPublicRequest octets (resolution question.name question.indexes.items question.types.items)
 
 -- the request for these values of this handle has more octets than a message may
 abbrev pub IsTooLong : Question → Type 0

@@ -81,6 +81,7 @@ pub record IsNext (question : Question) (hop : Hop) (next : Question) : Type 0 w
   pub aliases : next.aliases ≡ question.aliases
   pub passed : next.passed.items ≡ asked_for question
   pub keeping : next.keeping ≡ sooner question.keeping hop.keeping
+  pub anew : next.anew ≡ question.anew
 
 -- that the aliases of these handles lead nowhere, the last of them to this one, told of the first one by all of them: a page has a link to each
 abbrev pub nowhere_body : Form → List ℕ → List (List ℕ) → List ℕ → List ℕ

@@ -42,9 +42,9 @@ abbrev pub IsMomentText : ℤ → List ℕ → Type 0
 IsMomentText nanoseconds words =
     (shown : DateTime) × (civil_nanos shown ≡ nanoseconds) × (words ≡ datetime_text false 84 None shown ++ zulu_text false)
 
--- the words are when the value was written, by its timestamp in milliseconds; there are none where the calendar hasn't that moment
+-- the words are when the value was written, by its timestamp in milliseconds, in whole seconds; there are none where the calendar hasn't that moment
 abbrev pub written_at : Value → ℤ
-written_at v = pos (v.timestamp * 1_000_000)
+written_at v = pos (v.timestamp / 1000 * 1_000_000_000)
 
 abbrev pub IsWritten : Value → Option (List ℕ) → Type 0
 IsWritten v None = ¬ IsTimestampNanos (written_at v)

@@ -2,7 +2,7 @@
 
 ghost use Rattle.std.specs.Prelude.{◌≡◌, []};
 ghost use Rattle.hdl_proxy.specs.Answer.{Tells};
-ghost use Rattle.hdl_proxy.specs.Status.{status_number, status_of_code};
+ghost use Rattle.hdl_proxy.specs.Status.{status_number, status_of_code, told_code};
 
 use crate::codes::{
     HANDLE_NOT_FOUND, INVALID_HANDLE, SERVER_BUSY, SERVICE_REFERRAL, SUCCESS, VALUE_NOT_FOUND,
@@ -49,6 +49,16 @@ impl Status {
             SERVER_BUSY => Status::Unavailable,
             _ => Status::BadGateway,
         }
+    }
+}
+
+/// The code that is told of a reply with this one: where no server has the prefix, that the handle isn't there.
+pub fn told_code(code: u32) -> u32
+    ensures { result ≡ told_code code }
+{
+    match code {
+        SERVICE_REFERRAL => HANDLE_NOT_FOUND,
+        _ => code,
     }
 }
 

@@ -52,7 +52,7 @@ mod way;
 mod words;
 mod xml;
 
-pub use answer::{Answer, Keeping, Media, Status};
+pub use answer::{Answer, Keeping, Media, Status, told_code};
 pub use choice::{first_url, is_shown};
 pub use found::Found;
 pub use json::{json_answer, put_text, refusal, values_answer};

@@ -2,11 +2,11 @@
 
 ghost use Rattle.std.specs.Prelude.{◌≡◌, ◌≢◌, IfOk, codes, string_bytes};
 ghost use Rattle.hdl_proxy.specs.Answer.{Answers, Goes, IsLocated, Refuses, ShowsFound, ShowsValues, is_json};
-ghost use Rattle.hdl_proxy.specs.Begin.{AsksAddress, AsksFor, IsAnswered, IsBare, IsFile, IsFront, IsLocatedIfAnswered, IsNoHandle, IsOfFile, IsOfHandle, IsOwn, IsReading, LeadsFromPasted, LeadsToName, RefusesMethod, RefusesMethodIn, RefusesRequest, asked_text, fault_sentence, follows_aliases, is_called_back, json_form, page_form, without_slash};
+ghost use Rattle.hdl_proxy.specs.Begin.{AsksAddress, AsksFor, IsAnswered, IsBare, IsFile, IsFront, IsLocatedIfAnswered, IsNoHandle, IsOfFile, IsOfHandle, IsOwn, IsReading, LeadsFromPasted, LeadsToName, RefusesMethod, RefusesMethodIn, RefusesRequest, asked_text, fault_sentence, first_keeping, follows_aliases, is_called_back, json_form, page_form, without_slash};
 ghost use Rattle.hdl_proxy.specs.Query.{pairs_of, texts_of};
 ghost use Rattle.hdl_proxy.specs.Status.{refused_words};
 
-use crate::answer::{Answer, Keeping, Media, Status};
+use crate::answer::{Answer, Keeping, Media, Status, told_code};
 use crate::codes::{
     HANDLE_NOT_FOUND, INVALID_HANDLE, OPERATION_DENIED, SERVER_BUSY, SERVICE_REFERRAL,
     VALUE_NOT_FOUND,
@@ -145,6 +145,17 @@ fn follows_aliases(form: Form, pairs: &[Pair]) -> bool
     matches!(form, Form::Follow) && !has_pair(pairs, "ignore_aliases")
 }
 
+/// How long others may keep what is answered at most: where a server is to be asked in any case, not without asking again.
+fn first_keeping(pairs: &[Pair]) -> Keeping
+    ensures { result ≡ first_keeping (texts_of pairs.now) }
+{
+    if has_pair(pairs, "auth") {
+        Keeping::Seconds(0)
+    } else {
+        Keeping::Seconds(DAY)
+    }
+}
+
 /// The question of an address: `sent` is the part of its path that names a handle, `octets` the name in it.
 fn begin_handle(
     alloc: Global,
@@ -177,7 +188,8 @@ fn begin_handle(
             locatt,
             aliases: follows_aliases(form, pairs),
             passed: Vec::new(alloc),
-            keeping: Keeping::Seconds(DAY),
+            keeping: first_keeping(pairs),
+            anew: has_pair(pairs, "auth"),
         })),
         Err(fault) => {
             let why = fault_sentence(fault);
@@ -405,7 +417,8 @@ pub(crate) fn answer_found(
         }
         Found::Refused(code) => {
             let status = Status::of_code(*code);
-            refusal_of(alloc, form, handle, status, *code, refused_words(*code))
+            let told = told_code(*code);
+            refusal_of(alloc, form, handle, status, told, refused_words(*code))
         }
         Found::Nothing => {
             let why = "No server answered.";

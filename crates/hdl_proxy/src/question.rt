@@ -1,11 +1,12 @@
 //! What a resolution asks for.
 
-ghost use Rattle.std.specs.Prelude.{◌≡◌, true, IfOk, IfNone, IfSome};
+ghost use Rattle.std.specs.Prelude.{◌≡◌, ◌<◌, true, IfOk, IfNone, IfSome};
+ghost use Rattle.hdl_limits.specs.declared.TheConstants.{MESSAGE_MAX};
 ghost use Rattle.hdl_msg.specs.Codes.{has_flag};
 ghost use Rattle.hdl_msg.specs.Message.{resolution};
-ghost use Rattle.hdl_msg.specs.RequestBody.{requested_operation};
+ghost use Rattle.hdl_msg.specs.RequestBody.{request_length, requested_operation};
 ghost use Rattle.hdl_msg.specs.declared.codes.OpFlag.TheVariants.{PublicOnly};
-ghost use Rattle.hdl_proxy.specs.Question.{AsksInPublic, IsTooLong};
+ghost use Rattle.hdl_proxy.specs.Question.{AsksInPublic, IsPublicRequest, IsTooLong};
 
 use crate::answer::Keeping;
 use hdl_limits::{Items, MESSAGE_MAX, Octets};
@@ -44,6 +45,8 @@ pub struct Question {
     pub passed: Vec<Name>,
     /// How long others may keep what those were told with.
     pub keeping: Keeping,
+    /// Whether a server is asked even where a reply is kept.
+    pub anew: bool,
 }
 
 fn copies(alloc: Global, types: &[Octets]) -> Result<Vec<Octets>, AllocError>
@@ -71,6 +74,18 @@ fn public_header() -> Header
     }
 }
 
+/// The message of a request without a key. None where it would have more octets than a message may.
+fn public_message(alloc: Global, body: &RequestBody) -> Result<Option<Vec<u8>>, AllocError>
+    ensures asks { IfOk result (λ o. IfSome o (λ v. IsPublicRequest v.items (requested_operation body.now))) }
+    ensures too_long { IfOk result (λ o. IfNone o (MESSAGE_MAX < request_length body.now)) }
+{
+    if request_len(body) > MESSAGE_MAX as usize {
+        return Ok(None);
+    }
+    let message = write_request(alloc, public_header(), body)?;
+    Ok(Some(message))
+}
+
 impl Question {
     fn body(&self, alloc: Global) -> Result<RequestBody, AllocError>
         ensures { IfOk result (λ body. requested_operation body ≡ resolution self.now.name self.now.indexes.items self.now.types.items) }
@@ -91,10 +106,6 @@ impl Question {
         ensures too_long { IfOk result (λ o. IfNone o (IsTooLong self.now)) }
     {
         let body = self.body(alloc)?;
-        if request_len(&body) > MESSAGE_MAX as usize {
-            return Ok(None);
-        }
-        let message = write_request(alloc, public_header(), &body)?;
-        Ok(Some(message))
+        public_message(alloc, &body)
     }
 }

@@ -119,6 +119,7 @@ fn follow(alloc: Global, question: Question, hop: Hop) -> Result<Next, AllocErro
         aliases,
         passed,
         keeping,
+        anew,
         ..
     } = question;
     let mut asked = passed;
@@ -142,6 +143,7 @@ fn follow(alloc: Global, question: Question, hop: Hop) -> Result<Next, AllocErro
         aliases,
         passed: asked,
         keeping: sooner(keeping, hop.keeping),
+        anew,
     }))
 }
 

@@ -75,11 +75,11 @@ fn moment_words(alloc: Global, moment: Timestamp) -> Result<String, AllocError>
     String::from_str(alloc, text.as_str())
 }
 
-/// When a value was written, as in RFC 3339, where the calendar has it.
+/// When a value was written, as in RFC 3339, in whole seconds, where the calendar has it.
 pub(crate) fn written_words(alloc: Global, value: &Value) -> Result<Option<String>, AllocError>
     ensures { IfOk result (λ o. IsWritten value.now (option_map string_bytes o)) }
 {
-    let nanoseconds = i128::from(value.timestamp) * 1_000_000;
+    let nanoseconds = i128::from(value.timestamp / 1000) * 1_000_000_000;
     match Timestamp::from_nanosecond(nanoseconds) {
         Ok(moment) => Ok(Some(moment_words(alloc, moment)?)),
         Err(_) => Ok(None),

@@ -2,4 +2,5 @@ pub mod Route
 pub mod Order
 pub mod Miss
 pub mod Standing
+pub mod Changes
 pub mod KeptReplies

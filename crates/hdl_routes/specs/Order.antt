@@ -1,5 +1,5 @@
 -- Whom to ask for the handles of a prefix.
-use Rattle.std.specs.Prelude.{◌==◌, ◌++◌, ℕ, Bool, true, false, not, List, [], ◌∷◌, map, filter, Option, Some, None, if◌then◌else◌}
+use Rattle.std.specs.Prelude.{◌==◌, ◌++◌, ℕ, Bool, true, false, not, List, [], ◌∷◌, map, filter, take, Option, Some, None, if◌then◌else◌}
 use Rattle.std.specs.List.{list_any}
 use Rattle.std.specs.Str.{bytes_eq}
 use Rattle.hdl_routes.specs.declared.route.Route.{Route}
@@ -34,3 +34,7 @@ is_known (Some known) place = known == place
 
 abbrev pub known_first : Option ℕ → List ℕ → List ℕ
 known_first known places = filter (is_known known) places ++ filter (λ place. not (is_known known place)) places
+
+-- a change goes to the first alone of those that were named with the prefix, and where none was to those that were named without prefixes, in turn
+abbrev pub places_to_change : List ℕ → List Route → List ℕ
+places_to_change prefix routes = if is_named prefix routes then take 1 (places_for prefix routes) else places_for prefix routes

@@ -1,9 +1,11 @@
 //! Replies that are kept.
 
-ghost use Rattle.std.specs.Prelude.{◌≡◌, [], IfOk, IfSome, option_copied};
+ghost use Rattle.std.specs.Prelude.{◌≡◌, ◌<◌, ◌↔◌, ◌&&◌, [], IsTrue, IfOk, IfSome, option_copied};
 ghost use Rattle.std.specs.Map.{lookup};
-ghost use Rattle.hdl_routes.specs.KeptReplies.{IsKept, Keeps, is_held, is_request};
+ghost use Rattle.hdl_routes.specs.Changes.{is_current, mark_of, with_change};
+ghost use Rattle.hdl_routes.specs.KeptReplies.{IsKept, Keeps, is_fresh, is_held, is_request};
 
+use crate::changes::{COUNTS, Mark, is_current, place_of};
 use lru::LruCache;
 use std::alloc::{AllocError, Global};
 use std::hash::RandomState;
@@ -15,19 +17,27 @@ pub const REPLIES_MOST: usize = 4096;
 /// The most octets of a reply that is kept.
 pub const REPLY_MOST: usize = 4096;
 
-/// A reply, and the moment in milliseconds from which on it is kept no longer.
+/// A reply, the moment in milliseconds from which on it is kept no longer, and what was known of changes when it was asked for.
 #[derive(Drop)]
 pub struct Fresh {
     pub reply: Vec<u8>,
     pub until: u64,
+    pub mark: Mark,
+}
+
+/// Whether a reply is fresh at this moment: its time isn't over, and its handle wasn't changed since it was asked for.
+fn is_fresh(fresh: &Fresh, counts: &[u64], now: u64) -> bool
+    ensures { result ≡ is_fresh counts.now now fresh.now }
+{
+    now < fresh.until && is_current(counts, fresh.mark)
 }
 
 /// Whether just this reply is the one that is kept, if one is, and fresh at this moment.
-fn is_held(kept: Option<&Fresh>, reply: &[u8], now: u64) -> bool
-    ensures { result ≡ is_held reply.now now (option_copied kept.entry) }
+fn is_held(kept: Option<&Fresh>, counts: &[u64], reply: &[u8], now: u64) -> bool
+    ensures { result ≡ is_held counts.now reply.now now (option_copied kept.entry) }
 {
     match kept {
-        Some(fresh) => now < fresh.until && fresh.reply.as_slice() == reply,
+        Some(fresh) => is_fresh(fresh, counts, now) && fresh.reply.as_slice() == reply,
         None => false,
     }
 }
@@ -37,6 +47,8 @@ fn is_held(kept: Option<&Fresh>, reply: &[u8], now: u64) -> bool
 pub struct KeptReplies {
     alloc: Global,
     replies: LruCache<Vec<u8>, Fresh, RandomState>,
+    /// How often handles of each place were changed.
+    counts: [u64; COUNTS],
 }
 
 impl KeptReplies {
@@ -46,29 +58,57 @@ impl KeptReplies {
     {
         let most = NonZeroUsize::new(REPLIES_MOST).unwrap_or(NonZeroUsize::MIN);
         let replies = LruCache::with_hasher(alloc, most, hasher)?;
-        Ok(KeptReplies { alloc, replies })
+        Ok(KeptReplies {
+            alloc,
+            replies,
+            counts: [0; COUNTS],
+        })
     }
 
     /// A copy of the reply to this request, if it is kept and fresh at this moment.
     pub fn find(&mut self, request: &[u8], now: u64) -> Option<Vec<u8>>
-        ensures { IfSome result (λ reply. IsKept self.old.replies request.now now reply.items) }
+        ensures { IfSome result (λ reply. IsKept self.old.replies self.old.counts request.now now reply.items) }
     {
         match self.replies.get(request) {
-            Some(fresh) if now < fresh.until => Vec::from_slice(self.alloc, &fresh.reply).ok(),
+            Some(fresh) if is_fresh(fresh, &self.counts, now) => {
+                Vec::from_slice(self.alloc, &fresh.reply).ok()
+            }
             _ => None,
         }
     }
 
     /// Whether just this reply to this request is kept and fresh at this moment, so that what was made of it may be given again.
     pub fn holds(&mut self, request: &[u8], reply: &[u8], now: u64) -> bool
-        ensures { result ≡ is_held reply.now now (lookup (is_request request.now) self.old.replies.entries) }
+        ensures { result ≡ is_held self.old.counts reply.now now (lookup (is_request request.now) self.old.replies.entries) }
     {
-        is_held(self.replies.get(request), reply, now)
+        is_held(self.replies.get(request), &self.counts, reply, now)
     }
 
-    /// Keeps the reply to a request for so many milliseconds from this moment on, unless it is too long. Want of memory keeps nothing.
-    pub fn keep(&mut self, request: &[u8], reply: &[u8], now: u64, time: u64)
-        ensures { Keeps self.old.replies self.new.replies request.now reply.now now time }
+    /// What is known of changes of this handle before it is asked for.
+    pub fn mark(&self, handle: &[u8]) -> Mark
+        ensures { result ≡ mark_of self.now.counts handle.now }
+    {
+        let place = place_of(handle);
+        Mark {
+            place,
+            count: self.counts[place],
+        }
+    }
+
+    /// This handle was changed: what was kept of it isn't fresh from now on, nor is what was asked for before.
+    pub fn forget(&mut self, handle: &[u8])
+        ensures counted { self.new.counts ≡ with_change handle.now self.old.counts }
+        ensures kept { self.new.replies ≡ self.old.replies }
+    {
+        let place = place_of(handle);
+        self.counts[place] = self.counts[place].wrapping_add(1);
+    }
+
+    /// Keeps the reply to a request for so many milliseconds from this moment on, unless it is too long; `mark` was there before it was asked for. Want of
+    /// memory keeps nothing.
+    pub fn keep(&mut self, request: &[u8], reply: &[u8], mark: Mark, now: u64, time: u64)
+        ensures kept { Keeps self.old.replies self.new.replies request.now reply.now mark now time }
+        ensures counts { self.new.counts ≡ self.old.counts }
     {
         if reply.len() > REPLY_MOST {
             return;
@@ -80,6 +120,6 @@ impl KeptReplies {
             return;
         };
         let until = now.saturating_add(time);
-        let _ = self.replies.put(key, Fresh { reply, until });
+        let _ = self.replies.put(key, Fresh { reply, until, mark });
     }
 }

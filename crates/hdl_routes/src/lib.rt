@@ -2,7 +2,7 @@
 //!
 //! ```text
 //! HOST:PORT=PREFIX,..  -> read_route -> Route
-//! a prefix, the routes -> places_for -> the servers that are asked, in turn
+//! a prefix, the routes -> places_for -> the servers that are asked, in turn; places_to_change -> those to which changes go
 //! a server's standing  -> Standing::admits -> whether it is asked now
 //! no good answer       -> worst -> what a browser is told
 //! a request, its reply -> KeptReplies::keep, find -> the reply, while it is fresh
@@ -10,8 +10,8 @@
 //!
 //! This crate has no sockets, no threads and no clock: moments are milliseconds that the caller gives. It promises that a prefix is
 //! asked for at just the servers that were named with it, or where none was at those without prefixes; that what is remembered of
-//! prefixes changes only the order; that a server that failed is tried by one question at a time; and that a kept reply is found by its own
-//! request alone, while it is fresh.
+//! prefixes changes only the order; that changes of a prefix with which servers were named go to the first of them alone; that a server that failed is
+//! tried by one question at a time; and that a kept reply is found by its own request alone, while it is fresh and its handle wasn't changed.
 //!
 //! ```rust
 //! // crates/hdl_web/src/board.rt
@@ -24,6 +24,7 @@
 //! ```
 #![tactic(auto)]
 
+mod changes;
 mod fault;
 mod kept;
 mod miss;
@@ -31,9 +32,10 @@ mod order;
 mod route;
 mod standing;
 
+pub use changes::Mark;
 pub use fault::RouteFault;
 pub use kept::{KeptReplies, REPLIES_MOST, REPLY_MOST};
 pub use miss::{Miss, worst};
-pub use order::places_for;
+pub use order::{places_for, places_to_change};
 pub use route::{Route, read_route};
 pub use standing::{LEFT_OUT, Standing};

@@ -1,7 +1,7 @@
 //! Whom to ask for a handle.
 
 ghost use Rattle.std.specs.Prelude.{◌≡◌, IfOk, filter, not};
-ghost use Rattle.hdl_routes.specs.Order.{has, is_open, is_named, is_asked, is_known, places_for, known_first};
+ghost use Rattle.hdl_routes.specs.Order.{has, is_open, is_named, is_asked, is_known, places_for, known_first, places_to_change};
 
 use crate::route::Route;
 use std::alloc::{AllocError, Global};
@@ -114,4 +114,20 @@ pub fn places_for(
 {
     let places = places_of(alloc, routes, prefix)?;
     known_first(alloc, &places, known)
+}
+
+/// The places of the servers to which changes of handles of this prefix go, in the order of the command line: the first one alone of those that were named
+/// with it, and where none was those that were named without prefixes, of which the first that doesn't refer elsewhere is the only one.
+pub fn places_to_change(
+    alloc: Global,
+    routes: &[Route],
+    prefix: &[u8],
+) -> Result<Vec<usize>, AllocError>
+    ensures { IfOk result (λ places. places.items ≡ places_to_change prefix.now routes.now) }
+{
+    let mut places = places_of(alloc, routes, prefix)?;
+    if is_named(routes, prefix) {
+        places.truncate(1);
+    }
+    Ok(places)
 }

@@ -13,8 +13,9 @@ use crossbeam_channel::Sender;
 use futures::channel::oneshot;
 use hdl_client::Reply;
 use hdl_msg::ResponseCode;
+use hdl_name::Name;
 use hdl_proxy::{Answer, HOPS_MOST, Next, NoAnswer, Question, Site, finish, next_step};
-use hdl_routes::{Miss, Route, Standing, places_for, worst};
+use hdl_routes::{Mark, Miss, Route, Standing, places_for, places_to_change, worst};
 use std::alloc::{AllocError, Global};
 use std::sync::atomic::{AtomicU64, Ordering};
 use std::sync::{Arc, Mutex, Wait};
@@ -111,6 +112,14 @@ impl<R: Wait + Clock> Board<R> {
         shelf.lock(&self.rt).kept.find(message, now)
     }
 
+    /// The reply that is kept for a question with this message, unless a server is to be asked anew.
+    fn reply_for(&self, question: &Question, message: &[u8]) -> Option<Vec<u8>> {
+        if question.anew {
+            return None;
+        }
+        self.kept_reply(message)
+    }
+
     /// The redirect that answers a request of this path alone, if one is kept.
     pub(crate) fn way(&self, path: &str) -> Option<Arc<KeptRedirect>> {
         let shelf = self.shelf.as_ref()?;
@@ -127,9 +136,22 @@ impl<R: Wait + Clock> Board<R> {
         }
     }
 
-    /// Keeps a reply, for as long as it may be kept.
-    fn keep(&self, message: &[u8], reply: &Reply) {
-        let Some(shelf) = &self.shelf else {
+    /// What is known of changes of this handle, where anything is kept.
+    fn mark(&self, name: &Name) -> Option<Mark> {
+        let shelf = self.shelf.as_ref()?;
+        Some(shelf.lock(&self.rt).kept.mark(name.canon()))
+    }
+
+    /// This handle was changed, or may have been: what is kept of it is given no more.
+    pub(crate) fn forget(&self, name: &Name) {
+        if let Some(shelf) = &self.shelf {
+            shelf.lock(&self.rt).kept.forget(name.canon());
+        }
+    }
+
+    /// Keeps a reply, for as long as it may be kept. The mark was there before it was asked for.
+    fn keep(&self, message: &[u8], reply: &Reply, mark: Option<Mark>) {
+        let (Some(shelf), Some(mark)) = (&self.shelf, mark) else {
             return;
         };
         let Some(seconds) = lifetime(self.alloc, &reply.view()) else {
@@ -140,7 +162,7 @@ impl<R: Wait + Clock> Board<R> {
         shelf
             .lock(&self.rt)
             .kept
-            .keep(message, reply.message(), now, time);
+            .keep(message, reply.message(), mark, now, time);
     }
 
     /// A question as far as what is kept answers it, and the handles that its aliases name. `path` is that of its request, where nothing else is asked by it.
@@ -153,7 +175,7 @@ impl<R: Wait + Clock> Board<R> {
                 let answer = finish(self.alloc, &question, Err(NoAnswer::Unreachable), 0)?;
                 return Ok(Known::Answer(answer));
             };
-            let Some(reply) = self.kept_reply(&message) else {
+            let Some(reply) = self.reply_for(&question, &message) else {
                 let turn = self.turn(question.name.prefix())?.into_iter();
                 return Ok(Known::Open(question, message, turn));
             };
@@ -270,7 +292,7 @@ impl<R: Wait + Clock> Board<R> {
     }
 
     /// Answers with the reply of the server at this place, unless that refers elsewhere.
-    fn take_reply(&self, place: usize, mut ask: Ask, reply: &Reply) {
+    fn take_reply(&self, place: usize, mut ask: Ask, reply: &Reply, mark: Option<Mark>) {
         let code = reply.view().code();
         if code == Some(ResponseCode::ServiceReferral) {
             ask.miss(Miss::Elsewhere);
@@ -280,7 +302,7 @@ impl<R: Wait + Clock> Board<R> {
             let prefix = ask.question.name.prefix();
             self.holders.lock(&self.rt).note(prefix, place, self.now());
         }
-        self.keep(&ask.message, reply);
+        self.keep(&ask.message, reply, mark);
         let (next, answer) = ask.next(reply.message(), self.chance());
         match next {
             Ok(Next::Ask(question)) => self.resume(question, answer),
@@ -298,10 +320,11 @@ impl<R: Wait + Clock> Board<R> {
             return self.forward(ask);
         }
         post.asked.fetch_add(1, Ordering::Relaxed);
+        let mark = self.mark(&ask.question.name);
         match server.ask(&ask.message) {
             Ok(reply) => {
                 post.standing.lock(&self.rt).note_answer();
-                self.take_reply(place, ask, &reply);
+                self.take_reply(place, ask, &reply, mark);
             }
             Err(NoAnswer::Memory) => ask.refuse(),
             Err(_) => {
@@ -314,13 +337,13 @@ impl<R: Wait + Clock> Board<R> {
         }
     }
 
-    /// Who carries out the changes of handles of this prefix, and which servers are asked for that, in turn. None where no server has the prefix, or no
+    /// Who carries out the changes of handles of this prefix, and to which servers they go, in turn. None where no server has the prefix, or no
     /// changes are made.
     pub(crate) fn clerk(
         &self,
         prefix: &[u8],
     ) -> Result<Option<(&Sender<Errand>, Vec<usize>)>, AllocError> {
-        let turn = places_for(self.alloc, &self.routes, prefix, None)?;
+        let turn = places_to_change(self.alloc, &self.routes, prefix)?;
         let Some(first) = turn.first() else {
             return Ok(None);
         };

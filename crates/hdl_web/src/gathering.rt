@@ -73,7 +73,7 @@ impl<R: Wait + Clock> Counter<R> {
 
     fn hand_on(&self, order: Order, body: bytes::Bytes) -> Result<Turn, AllocError> {
         let Some((errands, turn)) = self.board.clerk(order.name.prefix())? else {
-            let code = ResponseCode::ServiceReferral;
+            let code = ResponseCode::HandleNotFound;
             return Ok(self.refuse_order(&order, Status::NotFound, code, ELSEWHERE));
         };
         if errands.len() >= WAITING_MOST {

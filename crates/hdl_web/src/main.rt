@@ -34,9 +34,11 @@ mod words;
 mod worker;
 
 use event_loop::listen_at;
+use hdl_copied::{CopiedHandles, read_copy};
 use hdl_proxy::Site;
 use hdl_routes::{Route, read_route};
 use log::Log;
+use rand::make_rng;
 use servers::{OrderCarrier, Server};
 use serving::{Listening, serve_http};
 use staff::{Crew, Plan, Staff};
@@ -45,6 +47,7 @@ use std::fs::OpenOptions;
 use std::io;
 use std::net::SocketAddr;
 use std::process::ExitCode;
+use std::sync::Arc;
 use std::time::Duration;
 use words::{Invocation, ProxyWords, read_words};
 
@@ -80,23 +83,45 @@ fn askers(rt: &HostRuntime, words: &ProxyWords, route: &Route) -> Result<Vec<Ser
     Ok(askers)
 }
 
+/// The handles of the copy that the words name, if they name one. A fault is told, and then there are none.
+fn copied(rt: &HostRuntime, words: &ProxyWords) -> Result<Option<CopiedHandles>, ExitCode> {
+    let Some(path) = &words.lists else {
+        return Ok(None);
+    };
+    match read_copy(rt, path.as_str()) {
+        Ok(copied) => Ok(Some(copied)),
+        Err(fault) => {
+            let _ = eprintln!(rt; "hdl: --lists {path}: {fault}");
+            Err(ExitCode::from(1))
+        }
+    }
+}
+
+/// The same handles for another one who carries out orders.
+fn shared(copied: &Option<Arc<CopiedHandles>>) -> Result<Option<Arc<CopiedHandles>>, AllocError> {
+    match copied {
+        Some(copied) => Ok(Some(Arc::try_clone(copied)?)),
+        None => Ok(None),
+    }
+}
+
 /// Who carries out orders, where any are taken.
 fn writer(
     rt: &HostRuntime,
     words: &ProxyWords,
     routes: &[Route],
-) -> Result<Option<OrderCarrier>, AllocError> {
+    copied: &Option<Arc<CopiedHandles>>,
+) -> io::Result<Option<OrderCarrier>> {
     if !words.writes {
         return Ok(None);
     }
     let mut servers = Vec::new(rt.alloc());
     for route in routes {
-        match servers.push(asker(rt, words, route)?) {
-            Ok(()) => {}
-            Err(_) => return Err(AllocError),
-        }
+        servers.push(asker(rt, words, route)?)?;
     }
-    Ok(Some(OrderCarrier::new(servers, Vec::new(rt.alloc()))))
+    let rng = make_rng(rt)?;
+    let copied = shared(copied)?;
+    Ok(Some(OrderCarrier::new(servers, rng, copied, Vec::new(rt.alloc()))))
 }
 
 /// The servers, and who asks each.
@@ -104,11 +129,16 @@ fn hire(
     rt: &HostRuntime,
     words: &ProxyWords,
     routes: Vec<Route>,
+    copied: Option<CopiedHandles>,
 ) -> io::Result<Staff<Server, OrderCarrier>> {
+    let copied = match copied {
+        Some(copied) => Some(Arc::new(rt.alloc(), copied)?),
+        None => None,
+    };
     let mut crews = Vec::new(rt.alloc());
     for route in &routes {
         let askers = askers(rt, words, route)?;
-        let clerk = writer(rt, words, &routes)?;
+        let clerk = writer(rt, words, &routes, &copied)?;
         crews.push(Crew { askers, clerk })?;
     }
     let plan = Plan {
@@ -181,6 +211,10 @@ fn main(rt: HostRuntime) -> ExitCode {
     let Some(routes) = routes(&rt, &words) else {
         return ExitCode::from(2);
     };
+    let copied = match copied(&rt, &words) {
+        Ok(copied) => copied,
+        Err(status) => return status,
+    };
     let log = match lines_to(&rt, &words) {
         Ok(log) => log,
         Err(fault) => {
@@ -191,7 +225,7 @@ fn main(rt: HostRuntime) -> ExitCode {
     let Some(listening) = listening(&rt, &words) else {
         return ExitCode::from(1);
     };
-    let served = match hire(&rt, &words, routes) {
+    let served = match hire(&rt, &words, routes, copied) {
         Ok(staff) => serve_http(&rt, listening, staff, log, &mut rt.stdout()),
         Err(fault) => Err(fault),
     };

@@ -6,6 +6,7 @@ ghost use Rattle.hdl_proxy.specs.Status.{status_number};
 
 use bytes::Bytes;
 use hdl_proxy::{Answer, Keeping, Media, Status};
+use hdl_routes::LEFT_OUT;
 use http::StatusCode;
 use http::header::{
     ACCESS_CONTROL_ALLOW_HEADERS, ACCESS_CONTROL_ALLOW_METHODS, ACCESS_CONTROL_ALLOW_ORIGIN,
@@ -21,8 +22,8 @@ use std::alloc::{AllocError, Global};
 const POLICY: &str =
     "default-src 'none'; style-src 'unsafe-inline'; img-src 'self'; base-uri 'none'; frame-ancestors 'none'";
 
-/// When a client may ask again where a server is busy or doesn't answer, in seconds.
-const RETRY_SECONDS: &str = "30";
+/// When a client may ask again where a server is busy or doesn't answer, in seconds: a server that failed is left out for so long.
+const RETRY_SECONDS: u64 = LEFT_OUT / 1000;
 
 /// Adds a field whose value is made here.
 fn put_text(
@@ -125,8 +126,15 @@ fn put_options(headers: &mut HeaderMap<HeaderValue>, changes: bool) -> Result<()
     )
 }
 
+/// When a client may ask again.
+fn put_retry(alloc: Global, headers: &mut HeaderMap<HeaderValue>) -> Result<(), AllocError> {
+    let seconds = format!(in alloc; "{RETRY_SECONDS}")?;
+    put_text(alloc, headers, RETRY_AFTER, seconds.as_str())
+}
+
 /// The fields of an answer by its status.
 fn put_status(
+    alloc: Global,
     headers: &mut HeaderMap<HeaderValue>,
     answer: &Answer,
     changes: bool,
@@ -139,13 +147,7 @@ fn put_status(
             let basic = HeaderValue::from_static("Basic realm=\"handles\"");
             put(headers, WWW_AUTHENTICATE, basic)
         }
-        (Status::BadGateway | Status::Unavailable, _) => {
-            put(
-                headers,
-                RETRY_AFTER,
-                HeaderValue::from_static(RETRY_SECONDS),
-            )
-        }
+        (Status::BadGateway | Status::Unavailable, _) => put_retry(alloc, headers),
         _ => Ok(()),
     }
 }
@@ -172,7 +174,7 @@ pub(crate) fn headers_of(
 ) -> Result<HeaderMap<HeaderValue>, AllocError> {
     let mut headers = HeaderMap::new(alloc);
     put_media(&mut headers, answer.media)?;
-    put_status(&mut headers, answer, changes)?;
+    put_status(alloc, &mut headers, answer, changes)?;
     put_keeping(alloc, &mut headers, answer.keeping)?;
     if let Some(tag) = &answer.tag {
         put_text(alloc, &mut headers, ETAG, tag.as_str())?;

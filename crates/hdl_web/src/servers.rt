@@ -1,10 +1,15 @@
 //! Servers, and the connections to them.
 
 use hdl_client::{ClientFault, Connection, Key, Reply, Session, connect_within};
+use hdl_copied::CopiedHandles;
+use hdl_limits::Octets;
 use hdl_msg::{RequestBody, ResponseCode};
 use hdl_proxy::NoAnswer;
-use hdl_writes::ChangeServer;
+use hdl_writes::{ChangeServer, NoReply, SUFFIX_LEN};
+use rand::RngExt;
+use rand::rngs::StdRng;
 use std::alloc::AllocError;
+use std::sync::Arc;
 use std::time::{Duration, Instant};
 
 /// A server that is asked one question at a time, and the connection to it where it was asked before.
@@ -88,6 +93,18 @@ impl Server {
         self.session = Some(session);
         Ok(reply)
     }
+
+    /// Asks for a change, on the connection that was kept or a new one.
+    fn change(&mut self, body: &RequestBody, key: &Key) -> Result<Reply, NoReply> {
+        let session = match self.open() {
+            Ok(session) => session,
+            Err(fault) => return Err(unreached(fault)),
+        };
+        match self.ask_with(session, body, key) {
+            Ok(reply) => Ok(reply),
+            Err(fault) => Err(silent(fault)),
+        }
+    }
 }
 
 /// What a client's fault is to who asks.
@@ -95,6 +112,22 @@ fn no_answer(fault: ClientFault) -> NoAnswer {
     match fault {
         ClientFault::Memory => NoAnswer::Memory,
         _ => NoAnswer::Unreachable,
+    }
+}
+
+/// What it is to who asks for a change, where the server wasn't reached.
+fn unreached(fault: ClientFault) -> NoReply {
+    match fault {
+        ClientFault::Memory => NoReply::Memory,
+        _ => NoReply::Unreached,
+    }
+}
+
+/// The same, where the request was sent.
+fn silent(fault: ClientFault) -> NoReply {
+    match fault {
+        ClientFault::Memory => NoReply::Memory,
+        _ => NoReply::Silent,
     }
 }
 
@@ -113,43 +146,47 @@ impl Resolver for Server {
     }
 }
 
-/// Who carries out orders: all servers, of which those of an order's prefix are asked in turn.
+/// Who carries out orders: all servers, of which those of an order's prefix are asked in turn, the generator that draws suffixes, and the handles of a copy
+/// of the table, where there is one.
 #[derive(Drop)]
 pub struct OrderCarrier {
     servers: Vec<Server>,
+    rng: StdRng,
+    copied: Option<Arc<CopiedHandles>>,
     turn: Vec<usize>,
 }
 
 impl OrderCarrier {
     /// Who asks these servers, in their places.
-    pub fn new(servers: Vec<Server>, turn: Vec<usize>) -> OrderCarrier {
-        OrderCarrier { servers, turn }
+    pub fn new(
+        servers: Vec<Server>,
+        rng: StdRng,
+        copied: Option<Arc<CopiedHandles>>,
+        turn: Vec<usize>,
+    ) -> OrderCarrier {
+        OrderCarrier {
+            servers,
+            rng,
+            copied,
+            turn,
+        }
     }
 
-    /// The reply of the first server in turn that gives one which is no referral. A server that can't be reached is passed over; where one that was
-    /// asked doesn't answer, no other is asked, since it may have done what was asked for.
-    fn reply_with(&mut self, body: &RequestBody, key: &Key) -> Result<Reply, ClientFault> {
-        let mut last = Err(ClientFault::Connection);
-        let mut failed = None;
+    /// The reply of the first server in turn that doesn't refer elsewhere. Where one isn't reached, or doesn't answer, no other is asked: its records
+    /// and those of another server would part.
+    fn reply_with(&mut self, body: &RequestBody, key: &Key) -> Result<Reply, NoReply> {
+        let mut last = Err(NoReply::Unreached);
         for place in &self.turn {
             let Some(server) = self.servers.get_mut(*place) else {
                 continue;
             };
-            match server.open() {
-                Ok(session) => {
-                    let reply = server.ask_with(session, body, key)?;
-                    if !refers(&reply) {
-                        return Ok(reply);
-                    }
-                    last = Ok(reply);
-                }
-                Err(fault) => failed = Some(fault),
+            let reply = server.change(body, key)?;
+            if !refers(&reply) {
+                return Ok(reply);
             }
+            last = Ok(reply);
         }
-        match failed {
-            Some(fault) => Err(fault),
-            None => last,
-        }
+        last
     }
 }
 
@@ -172,10 +209,18 @@ impl ChangeServer for OrderCarrier {
         }
     }
 
-    fn ask(&mut self, body: &RequestBody, key: &Key) -> Result<Reply, NoAnswer> {
-        match self.reply_with(body, key) {
-            Ok(reply) => Ok(reply),
-            Err(fault) => Err(no_answer(fault)),
-        }
+    fn ask(&mut self, body: &RequestBody, key: &Key) -> Result<Reply, NoReply> {
+        self.reply_with(body, key)
+    }
+
+    fn draw(&mut self) -> [u8; SUFFIX_LEN] {
+        let mut drawn = [0; SUFFIX_LEN];
+        self.rng.fill(&mut drawn);
+        drawn
+    }
+
+    fn copied(&self, prefix: &[u8]) -> Option<&[Octets]> {
+        let copied = self.copied.as_ref()?;
+        Some(copied.of(prefix))
     }
 }

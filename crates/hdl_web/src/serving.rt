@@ -29,15 +29,19 @@ use tokio::time::{Handle, Sleep};
 /// The most octets of a request's head.
 const HEAD_MOST: usize = 8192;
 
+/// The most fields of a request's head.
+const FIELDS_MOST: usize = 64;
+
 /// How long a head may take to come, in seconds; also how long a connection may be idle.
 const HEAD_SECONDS: u64 = 10;
 
 /// How long no connection is taken where there is no room for another one, in milliseconds.
 const REST_MILLISECONDS: u64 = 100;
 
-/// The limits of connections: of a head's octets, and of the time that it takes.
+/// The limits of connections: of a head's octets and fields, and of the time that it takes.
 pub(crate) fn with_limits<T: Timer>(mut http: Builder<T>) -> Builder<T> {
     http.max_buf_size(HEAD_MOST);
+    http.max_headers(FIELDS_MOST);
     http.header_read_timeout(Some(Duration::from_secs(HEAD_SECONDS)));
     http
 }

@@ -116,9 +116,8 @@ where
         drop(thread::spawn(rt, move || work(&theirs, place, asker, asks))?);
     }
     if let Some(clerk) = clerk {
-        let theirs = *rt;
-        let alloc = rt.alloc();
-        drop(thread::spawn(rt, move || work_on_orders(&theirs, alloc, clerk, errands))?);
+        let theirs = Arc::try_clone(board)?;
+        drop(thread::spawn(rt, move || work_on_orders(&theirs, clerk, errands))?);
     }
     Ok(())
 }

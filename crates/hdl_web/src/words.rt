@@ -45,6 +45,8 @@ pub struct ProxyWords {
     pub log: Option<String>,
     /// Whether handles are changed, by who has a key.
     pub writes: bool,
+    /// A copy of the table, from which more handles of a prefix are listed than one answer of a server says: a file's path.
+    pub lists: Option<String>,
 }
 
 /// What the command line asks for.
@@ -148,20 +150,33 @@ fn keeping_args<'a>(alloc: Global, command: Command<'a>) -> Result<Command<'a>, 
         ))
 }
 
+/// The options that say what it does for who has a key.
+fn writing_args<'a>(alloc: Global, command: Command<'a>) -> Result<Command<'a>, AllocError> {
+    command
+        .arg(
+            Arg::new(alloc, "writes")
+                .long("writes")
+                .help(
+                    "Changes handles too, by PUT and DELETE with a key, which needs TLS in front of it",
+                )
+                .action(ArgAction::SetTrue),
+        )?
+        .arg(option(
+            alloc,
+            "lists",
+            "FILE",
+            "With --writes, a copy of the table (handled copy), from which lists are told that are too long for a server's answer",
+        )
+        .requires_arg("writes")?)
+}
+
 fn command<'a>(alloc: Global) -> Result<Command<'a>, AllocError> {
     let command = Command::new(alloc, NAME)
         .version(VERSION)
         .bin_name(NAME)?
         .about("Leads browsers from a handle's address to its URL, over HTTP");
     let command = asking_args(alloc, listening_args(alloc, command)?)?;
-    keeping_args(alloc, site_args(alloc, command)?)?.arg(
-        Arg::new(alloc, "writes")
-            .long("writes")
-            .help(
-                "Changes handles too, by PUT and DELETE with a key, which needs TLS in front of it",
-            )
-            .action(ArgAction::SetTrue),
-    )
+    writing_args(alloc, keeping_args(alloc, site_args(alloc, command)?)?)
 }
 
 /// These words, each as a text of its own.
@@ -194,6 +209,7 @@ fn proxy_words(alloc: Global, found: &ArgMatches<'_>) -> Result<ProxyWords, Allo
         cache: found.get_one::<u64>("cache").unwrap_or(0),
         log: text(alloc, found.get_str("log"))?,
         writes: found.get_flag("writes"),
+        lists: text(alloc, found.get_str("lists"))?,
     })
 }
 

@@ -7,7 +7,6 @@ use bytes::Bytes;
 use crossbeam_channel::Receiver;
 use futures::channel::oneshot;
 use hdl_writes::{Order, carry_out};
-use std::alloc::Global;
 use std::sync::Wait;
 use std::time::Clock;
 
@@ -32,14 +31,13 @@ pub(crate) fn work<R: Wait + Clock, S: Resolver>(
     }
 }
 
-/// Carries out orders one after the other, until nobody is left who could give one.
-pub(crate) fn work_on_orders<R: Wait, C: Clerk>(
-    rt: &R,
-    alloc: Global,
+/// Carries out orders one after the other, until nobody is left who could give one. What is kept of a handle is forgotten before its change is answered.
+pub(crate) fn work_on_orders<R: Wait + Clock, C: Clerk>(
+    board: &Board<R>,
     mut clerk: C,
     errands: Receiver<Errand>,
 ) {
-    for errand in errands.iter(rt) {
+    for errand in errands.iter(&board.rt) {
         let Errand {
             order,
             turn,
@@ -47,6 +45,10 @@ pub(crate) fn work_on_orders<R: Wait, C: Clerk>(
             answer,
         } = errand;
         clerk.turn_to(turn);
-        let _ = answer.send(carry_out(alloc, &mut clerk, &order, &body));
+        let made = carry_out(board.alloc, &mut clerk, &order, &body);
+        if order.changes() {
+            board.forget(&order.name);
+        }
+        let _ = answer.send(made);
     }
 }

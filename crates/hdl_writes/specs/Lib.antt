@@ -6,3 +6,7 @@ pub mod Laws
 pub mod Plan
 pub mod Record
 pub mod ChangeAnswers
+pub mod Words
+pub mod Suffix
+pub mod Shapes
+pub mod Keys

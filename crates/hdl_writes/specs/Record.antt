@@ -13,6 +13,8 @@ use Rattle.hdl_writes.specs.declared.fault.RecordFault.{RecordFault}
 use Rattle.hdl_writes.specs.declared.fault.RecordFault.TheVariants as fault
 use Rattle.hdl_writes.specs.Data.{◌>>>◌, each}
 use Rattle.hdl_writes.specs.Entry.{value_in_json}
+use Rattle.hdl_writes.specs.declared.shapes.Shape.TheVariants.{Body}
+use Rattle.hdl_writes.specs.Shapes.{fits, entry_fits, all_fit}
 
 -- why nothing is read: there was no memory, or what is wrong
 abbrev pub IsRecordFault : {A : Type 0} → Result A RecordFault → RecordFault → Type 0
@@ -61,8 +63,24 @@ abbrev pub record_by : Option Items → Data → Result (List Value) RecordFault
 record_by (Some ds) d = entries_in_json (each ds)
 record_by None d = if is_single d then entries_in_json (d ∷ []) else Err fault.Shape
 
+unfoldable pub values_in_json : Data → Result (List Value) RecordFault
+values_in_json d = record_by (listed_in d) d
+
+-- the first member that isn't known: of the body, or else of its values
+abbrev pub strange_by : Option Items → Data → Option RecordFault
+strange_by None d = if entry_fits d then None else Some fault.Strange
+strange_by (Some ds) d = if fits Body d then (if all_fit (each ds) then None else Some fault.Strange) else Some fault.Members
+
+abbrev pub strange_in : Data → Option RecordFault
+strange_in d = strange_by (listed_in d) d
+
+abbrev pub known_by : Option RecordFault → List Value → Result (List Value) RecordFault
+known_by None vs = Ok vs
+known_by (Some e) vs = Err e
+
+-- those values, where there is none
 unfoldable pub record_in_json : Data → Result (List Value) RecordFault
-record_in_json d = record_by (listed_in d) d
+record_in_json d = values_in_json d >>> known_by (strange_in d)
 
 -- the JSON that a body is, in UTF-8
 abbrev pub text_in : List ℕ → Option (List ℕ)

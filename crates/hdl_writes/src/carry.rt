@@ -1,89 +1,20 @@
 //! An order that is carried out.
 
-use crate::change_answers::{change_words, failure, status_of_change, success};
+use crate::change_answers::success;
 use crate::fault::RecordFault;
 use crate::listing::list_answer;
+use crate::mint::mint;
 use crate::order::{Act, Order, WriteMode};
 use crate::plan::{is_among, merging, replacing};
 use crate::record::read_record;
 use crate::service::ChangeServer;
+use crate::stop::{ChangeFault, answer_to_stop};
 use hdl_client::Reply;
 use hdl_limits::{Items, MESSAGE_MAX, Octets, WRITTEN_MAX};
 use hdl_msg::{ContentView, ReplyView, RequestBody, ResponseCode, Values, request_len};
-use hdl_proxy::{Answer, Keeping, NoAnswer, Status, refusal, values_answer};
+use hdl_proxy::{Answer, Keeping, Status, refusal, values_answer};
 use hdl_value::{Value, ValueFault};
 use std::alloc::{AllocError, Global};
-
-/// Why a change, or what it needs, wasn't done.
-#[derive(Clone, Copy)]
-pub(crate) enum ChangeFault {
-    /// A reply of this code.
-    Code(u32),
-    /// No reply came that can be read, so what became of the request isn't known.
-    Silent,
-    /// A request would be longer than a message may be.
-    TooLong,
-    /// More values would be removed than one request may.
-    TooMany,
-    Memory,
-}
-
-impl From<AllocError> for ChangeFault {
-    fn from(_: AllocError) -> ChangeFault {
-        ChangeFault::Memory
-    }
-}
-
-impl From<NoAnswer> for ChangeFault {
-    fn from(none: NoAnswer) -> ChangeFault {
-        match none {
-            NoAnswer::Memory => ChangeFault::Memory,
-            NoAnswer::Unreachable => ChangeFault::Silent,
-            NoAnswer::Elsewhere => ChangeFault::Code(ResponseCode::ServiceReferral.number()),
-            NoAnswer::Crowded => ChangeFault::Code(ResponseCode::ServerBusy.number()),
-        }
-    }
-}
-
-const SILENT: &str = "No answer of a server came. Whether this was done isn't known.";
-
-const TOO_LONG: &str = "The change needs a request of more than 65536 octets. Nothing was done.";
-
-const TOO_MANY: &str = "The change would remove more than 256 values. Nothing was done.";
-
-/// The answer to an order that stopped, behind the requests of it that were done.
-pub(crate) fn answer_to_stop(
-    alloc: Global,
-    handle: &[u8],
-    stop: ChangeFault,
-    done: &[RequestBody],
-) -> Result<Answer, AllocError> {
-    let error = ResponseCode::Error.number();
-    match stop {
-        ChangeFault::Code(code) => {
-            let status = status_of_change(code);
-            failure(alloc, handle, status, code, change_words(code), done)
-        }
-        ChangeFault::Silent => failure(alloc, handle, Status::BadGateway, error, SILENT, done),
-        ChangeFault::TooLong => failure(
-            alloc,
-            handle,
-            Status::ContentTooLarge,
-            error,
-            TOO_LONG,
-            done,
-        ),
-        ChangeFault::TooMany => failure(
-            alloc,
-            handle,
-            Status::ContentTooLarge,
-            error,
-            TOO_MANY,
-            done,
-        ),
-        ChangeFault::Memory => Err(AllocError),
-    }
-}
 
 /// A copy of the order's handle.
 fn handle_of(alloc: Global, order: &Order) -> Result<Octets, AllocError> {
@@ -300,15 +231,16 @@ fn overwrite<S: ChangeServer>(
     carry_steps(alloc, service, order, &steps)
 }
 
-/// Asks that the handle is created with these values.
-fn ask_to_create<S: ChangeServer>(
+/// Asks that this handle is created with these values.
+pub(crate) fn ask_to_create<S: ChangeServer>(
     alloc: Global,
     service: &mut S,
     order: &Order,
+    handle: &[u8],
     values: &[Value],
 ) -> Result<(), ChangeFault> {
     let body = RequestBody::Create {
-        handle: handle_of(alloc, order)?,
+        handle: Octets::new(Vec::from_slice(alloc, handle)?),
         values: copies(alloc, values)?,
     };
     make_change(service, order, &body)
@@ -321,7 +253,7 @@ fn replace<S: ChangeServer>(
     order: &Order,
     values: &[Value],
 ) -> Result<Answer, AllocError> {
-    match ask_to_create(alloc, service, order, values) {
+    match ask_to_create(alloc, service, order, order.name.sent(), values) {
         Ok(()) => success(alloc, order.name.sent(), Status::Created),
         Err(ChangeFault::Code(code)) if code == ResponseCode::HandleAlreadyExists.number() => {
             overwrite(alloc, service, order, values)
@@ -381,6 +313,18 @@ fn carry_put<S: ChangeServer>(
         WriteMode::Replace => replace(alloc, service, order, &values),
         WriteMode::Merge => merge(alloc, service, order, &values),
         WriteMode::Add => add(alloc, service, order, &values),
+    }
+}
+
+fn carry_mint<S: ChangeServer>(
+    alloc: Global,
+    service: &mut S,
+    order: &Order,
+    body: &[u8],
+) -> Result<Answer, AllocError> {
+    match read_record(alloc, body) {
+        Ok(values) => mint(alloc, service, order, &values),
+        Err(fault) => bad_record(alloc, order.name.sent(), fault),
     }
 }
 
@@ -477,6 +421,7 @@ pub fn carry_out<S: ChangeServer>(
     service.renew();
     match &order.act {
         Act::Put { way, among } => carry_put(alloc, service, order, *way, among, body),
+        Act::Mint => carry_mint(alloc, service, order, body),
         Act::Delete => carry_delete(alloc, service, order),
         Act::Remove { indexes } => carry_remove(alloc, service, order, indexes),
         Act::List { window } => list_answer(alloc, service, order, *window),

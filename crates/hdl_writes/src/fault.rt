@@ -55,6 +55,12 @@ pub enum RecordFault {
     Entry { place: u64, fault: EntryFault },
     #[error("value {place}: its index stands twice")]
     Twice { place: u64 },
+    #[error("an object of it has a key twice")]
+    Again,
+    #[error("the body has a member other than values, handle and responseCode")]
+    Members,
+    #[error("a value has a member other than index, type, data, ttl, permissions and timestamp, or its data has one that its format hasn't")]
+    Strange,
     #[error("value {place}: its index isn't among those that the address names")]
     Unasked { place: u64 },
     #[error("no memory")]

@@ -11,12 +11,12 @@
 //! What it promises: `specs/Record.antt` defines the record that a body in JSON means, or the first thing that is wrong with it
 //! (`record_in`), `specs/Credentials.antt` the key that a field means (`key_in`), and `specs/Plan.antt` which requests put values into a
 //! handle, in which order (`merging`, `replacing`); [`read_record`], [`read_key`], [`merging`] and [`replacing`] do just that, want of
-//! memory aside. Laws: the JSON of a value is read as it ([`written_is_read`]), and a change loses nothing ([`nothing_is_lost`]).
+//! memory aside. An order to change has no word in its query but those that `specs/Words.antt` knows ([`begin_with_key`]). Laws: the JSON of a value is read as it ([`written_is_read`]), and a change loses nothing ([`nothing_is_lost`]).
 //!
 //! ```rust
 //! // crates/hdl_web/src/worker.rt
 //! clerk.turn_to(turn);
-//! let _ = answer.send(carry_out(alloc, &mut clerk, &order, &body));
+//! let made = carry_out(board.alloc, &mut clerk, &order, &body);
 //! ```
 #![tactic(auto)]
 
@@ -27,12 +27,18 @@ mod data;
 mod entry;
 mod fault;
 mod fields;
+mod keys;
 mod laws;
 mod listing;
+mod mint;
 mod order;
 mod plan;
 mod record;
 mod service;
+mod shapes;
+mod stop;
+mod suffix;
+mod words;
 
 pub use carry::carry_out;
 pub use credentials::{KeyFault, read_key};
@@ -41,4 +47,5 @@ pub use laws::{nothing_is_lost, written_is_read};
 pub use order::{Act, Begun, Order, SentRequest, Window, WriteMode, begin_with_key};
 pub use plan::{merging, replacing};
 pub use record::read_record;
-pub use service::ChangeServer;
+pub use service::{ChangeServer, NoReply};
+pub use suffix::{SUFFIX_LEN, with_suffix};

@@ -1,9 +1,10 @@
 //! The handles of a prefix.
 
-use crate::carry::{ChangeFault, answer_to_stop, reply_to};
+use crate::carry::reply_to;
 use crate::change_answers::{failure, status_of_change};
 use crate::order::{Order, Window};
 use crate::service::ChangeServer;
+use crate::stop::{ChangeFault, answer_to_stop};
 use hdl_client::Reply;
 use hdl_limits::Octets;
 use hdl_msg::{ContentView, ReplyView, RequestBody, ResponseCode, Strings};
@@ -52,6 +53,23 @@ fn page_of(
     Ok(ListPage { handles, count })
 }
 
+/// The page of handles that a copy has.
+fn page_of_copy(
+    alloc: Global,
+    copied: &[Octets],
+    window: Option<Window>,
+) -> Result<ListPage, AllocError> {
+    let mut handles = Vec::new(alloc);
+    let mut count = 0u32;
+    for handle in copied {
+        if is_within(window, u64::from(count)) {
+            handles.push(text_json(alloc, handle.as_slice())?)?;
+        }
+        count = count.saturating_add(1);
+    }
+    Ok(ListPage { handles, count })
+}
+
 /// The page and its size, as they were asked for: without a size one page has all.
 fn told_window(window: Option<Window>, count: u32) -> Window {
     match window {
@@ -63,14 +81,21 @@ fn told_window(window: Option<Window>, count: u32) -> Window {
     }
 }
 
+/// The answer of a page: `note` says where its handles are from, unless they are the server's.
 fn page_answer(
     alloc: Global,
-    prefix: &[u8],
+    handle: &[u8],
     page: ListPage,
-    window: Window,
+    window: Option<Window>,
+    note: Option<&str>,
 ) -> Result<Answer, AllocError> {
     let ListPage { handles, count } = page;
+    let window = told_window(window, count);
+    let prefix = handle.get(FRONT_LEN..).unwrap_or(handle);
     let mut object = Map::new(alloc);
+    if let Some(note) = note {
+        put_text(alloc, &mut object, "message", note.as_bytes())?;
+    }
     let code = ResponseCode::Success.number();
     put(&mut object, alloc, "responseCode", Json::from(code))?;
     put_text(alloc, &mut object, "prefix", prefix)?;
@@ -83,25 +108,54 @@ fn page_answer(
 
 /// What is said of more handles than one reply of a server says.
 const LONG_LIST: &str =
-    "The prefix has more handles than one answer of the server says. Who runs it writes all of them by `handled export`.";
+    "The prefix has more handles than one answer of the server says. Whoever runs this proxy gives it a copy of the table: `handled copy`, and then `--lists` with the copy.";
 
-fn listing_answer(
+/// Where handles are from that a copy has.
+const COPIED: &str =
+    "The prefix has more handles than one answer of the server says: these are of a copy of the table.";
+
+/// What is answered to who may list more handles than one reply of the server says: those that a copy has, where there is one.
+fn long_answer<S: ChangeServer>(
     alloc: Global,
-    handle: &[u8],
+    service: &S,
+    order: &Order,
+    window: Option<Window>,
+) -> Result<Answer, AllocError> {
+    let handle = order.name.sent();
+    match service.copied(order.name.prefix()) {
+        Some(copied) => {
+            let page = page_of_copy(alloc, copied, window)?;
+            page_answer(alloc, handle, page, window, Some(COPIED))
+        }
+        None => {
+            let code = ResponseCode::Error.number();
+            failure(alloc, handle, status_of_change(code), code, LONG_LIST, &[])
+        }
+    }
+}
+
+/// What a reply to the request for a list says. A server answers code 2 just where the key may list the handles and they are too many for a reply.
+fn listing_answer<S: ChangeServer>(
+    alloc: Global,
+    service: &S,
+    order: &Order,
     reply: &ReplyView<'_>,
     window: Option<Window>,
 ) -> Result<Answer, AllocError> {
-    let ContentView::Handles { handles } = reply.content else {
-        let code = reply.header.response_code;
-        if reply.code() == Some(ResponseCode::Error) {
-            return failure(alloc, handle, status_of_change(code), code, LONG_LIST, &[]);
+    let handle = order.name.sent();
+    match reply.content {
+        ContentView::Handles { handles } => {
+            let page = page_of(alloc, handles, window)?;
+            page_answer(alloc, handle, page, window, None)
         }
-        return answer_to_stop(alloc, handle, ChangeFault::Code(code), &[]);
-    };
-    let page = page_of(alloc, handles, window)?;
-    let told = told_window(window, page.count);
-    let prefix = handle.get(FRONT_LEN..).unwrap_or(handle);
-    page_answer(alloc, prefix, page, told)
+        _ if reply.code() == Some(ResponseCode::Error) => {
+            long_answer(alloc, service, order, window)
+        }
+        _ => {
+            let stop = ChangeFault::Code(reply.header.response_code);
+            answer_to_stop(alloc, handle, stop, &[])
+        }
+    }
 }
 
 /// Asks for the handles of the prefix whose administrative handle the order names.
@@ -123,7 +177,7 @@ pub(crate) fn list_answer<S: ChangeServer>(
     window: Option<Window>,
 ) -> Result<Answer, AllocError> {
     match ask_for_list(alloc, service, order) {
-        Ok(reply) => listing_answer(alloc, order.name.sent(), &reply.view(), window),
+        Ok(reply) => listing_answer(alloc, service, order, &reply.view(), window),
         Err(stop) => answer_to_stop(alloc, order.name.sent(), stop, &[]),
     }
 }

@@ -1,6 +1,11 @@
 //! What a request that comes with a key asks for.
 
+ghost use Rattle.std.specs.Prelude.{ℕ, List, IfOk};
+ghost use Rattle.hdl_proxy.specs.Query.{pairs_of, texts_of};
+ghost use Rattle.hdl_writes.specs.Words.{HasKnownWords, IsChanging};
+
 use crate::credentials::{KeyFault, read_key};
+use crate::words::are_known;
 use hdl_client::Key;
 use hdl_limits::Octets;
 use hdl_msg::ResponseCode;
@@ -48,6 +53,8 @@ pub enum Act {
         way: WriteMode,
         among: Option<Vec<u32>>,
     },
+    /// A handle whose name begins so is created with the values of the body; its suffix is drawn.
+    Mint,
     Delete,
     /// The values of these indexes are removed.
     Remove {
@@ -73,9 +80,14 @@ pub struct Order {
 }
 
 impl Order {
+    /// Whether the handle may be another one behind it.
+    pub fn changes(&self) -> bool {
+        !matches!(self.act, Act::List { .. } | Act::Read { .. })
+    }
+
     /// Whether it needs the body of its request.
     pub fn takes_body(&self) -> bool {
-        matches!(self.act, Act::Put { .. })
+        matches!(self.act, Act::Put { .. } | Act::Mint)
     }
 }
 
@@ -124,11 +136,17 @@ fn named_indexes(alloc: Global, pairs: &[Pair]) -> Result<Vec<u32>, AddressFault
     }
 }
 
+const ONCE: &str = "The words overwrite, mintNewSuffix and auth are true or false, and stand once.";
+
 fn is_set(alloc: Global, pairs: &[Pair], name: &str) -> Result<Option<bool>, AddressFault> {
-    match last_named(alloc, pairs, name)? {
+    let mut values = values_named(alloc, pairs, name)?;
+    if values.len() > 1 {
+        return Err(address_fault(ONCE));
+    }
+    match values.pop() {
         Some("true") => Ok(Some(true)),
         Some("false") => Ok(Some(false)),
-        Some(_) => Err(address_fault("The words overwrite and auth are true or false.")),
+        Some(_) => Err(address_fault(ONCE)),
         None => Ok(None),
     }
 }
@@ -144,7 +162,20 @@ fn among(alloc: Global, pairs: &[Pair]) -> Result<Option<Vec<u32>>, AddressFault
     Ok(Some(named_indexes(alloc, pairs)?))
 }
 
+/// A handle whose suffix is drawn is new, so nothing is overwritten.
+fn minting(alloc: Global, pairs: &[Pair]) -> Result<Act, AddressFault> {
+    if has_pair(pairs, "index") || is_set(alloc, pairs, "overwrite")? == Some(true) {
+        return Err(address_fault(
+            "With mintNewSuffix a new handle is created, so index and overwrite=true aren't taken.",
+        ));
+    }
+    Ok(Act::Mint)
+}
+
 fn putting(alloc: Global, pairs: &[Pair]) -> Result<Act, AddressFault> {
+    if is_set(alloc, pairs, "mintNewSuffix")? == Some(true) {
+        return minting(alloc, pairs);
+    }
     let overwrites = is_set(alloc, pairs, "overwrite")?.unwrap_or(true);
     if !has_pair(pairs, "index") {
         let way = if overwrites {
@@ -214,7 +245,7 @@ fn bad_address(alloc: Global, asked: &[u8], why: &str) -> Result<Answer, AllocEr
 }
 
 /// That what is named is no handle, and why.
-fn no_name(alloc: Global, asked: &[u8], fault: NameFault) -> Result<Answer, AllocError> {
+pub(crate) fn no_name(alloc: Global, asked: &[u8], fault: NameFault) -> Result<Answer, AllocError> {
     let why = format!(in alloc; "This is no handle: {fault}.")?;
     bad_address(alloc, asked, &why)
 }
@@ -296,7 +327,9 @@ fn begin_handle(
     order_of(alloc, &octets, act, sent.authorization)
 }
 
-fn other_method(alloc: Global, path: &str) -> Result<Begun, AllocError> {
+fn other_method(alloc: Global, path: &str) -> Result<Begun, AllocError>
+    ensures { (method : List ℕ) → (pairs : List (List ℕ × List ℕ)) → IfOk result (HasKnownWords method pairs) }
+{
     let why = "A handle is asked for by GET or HEAD, and changed by PUT or DELETE.";
     let code = ResponseCode::OperationDenied.number();
     let answer = refusal(alloc, Status::MethodNotAllowed, path.as_bytes(), code, why)?;
@@ -319,11 +352,39 @@ fn begin_reading(alloc: Global, sent: SentRequest<'_>) -> Result<Begun, AllocErr
     }
 }
 
-fn begin_changing(alloc: Global, sent: SentRequest<'_>) -> Result<Begun, AllocError> {
+const KNOWN: &str =
+    "The query has a word that isn't done here. Nothing was done. A PUT takes overwrite, index and mintNewSuffix, a DELETE index.";
+
+/// That the query has a word that isn't known: nothing is passed over that may change what is meant.
+fn unknown_word(alloc: Global, text: &str) -> Result<Begun, AllocError>
+    ensures { (method : List ℕ) → (pairs : List (List ℕ × List ℕ)) → IfOk result (HasKnownWords method pairs) }
+{
+    let octets = unescape(alloc, text)?;
+    Ok(Begun::Answer(bad_address(alloc, &octets, KNOWN)?))
+}
+
+/// What is to be done for a change of the handle that this text names.
+fn begin_change(
+    alloc: Global,
+    sent: SentRequest<'_>,
+    text: &str,
+    pairs: &[Pair],
+) -> Result<Begun, AllocError>
+    ensures { IfOk result (HasKnownWords sent.entry.method.now (texts_of pairs.now)) }
+{
+    if !are_known(sent.method, pairs) {
+        return unknown_word(alloc, text);
+    }
+    begin_handle(alloc, sent, text, pairs)
+}
+
+fn begin_changing(alloc: Global, sent: SentRequest<'_>) -> Result<Begun, AllocError>
+    ensures { IfOk result (HasKnownWords sent.entry.method.now (pairs_of sent.entry.query.now)) }
+{
     match sent.path.strip_prefix(HANDLES_PATH) {
         Some(text) => {
             let pairs = read_pairs(alloc, sent.query)?;
-            begin_handle(alloc, sent, text, &pairs)
+            begin_change(alloc, sent, text, &pairs)
         }
         None => other_method(alloc, sent.path),
     }
@@ -331,8 +392,10 @@ fn begin_changing(alloc: Global, sent: SentRequest<'_>) -> Result<Begun, AllocEr
 
 /// What is to be done for a request, where the proxy changes handles: PUT and DELETE of a handle's address under `/api/handles/`, GET of
 /// it with `auth=true`, and GET of `/api/handles`, each with a key; OPTIONS of any address under `/api/`. Every other request that reads is
-/// [`Begun::Other`].
-pub fn begin_with_key(alloc: Global, sent: SentRequest<'_>) -> Result<Begun, AllocError> {
+/// [`Begun::Other`]. A change is refused where its query has a word that isn't known.
+pub fn begin_with_key(alloc: Global, sent: SentRequest<'_>) -> Result<Begun, AllocError>
+    ensures { IsChanging sent.entry.method.now → IfOk result (HasKnownWords sent.entry.method.now (pairs_of sent.entry.query.now)) }
+{
     if !sent.path.starts_with(JSON_PATH) {
         return Ok(Begun::Other);
     }

@@ -1,15 +1,19 @@
 //! The record of a handle in JSON.
 
-ghost use Rattle.std.specs.Prelude.{◌≡◌, option_map, ◌+◌, ◌≤◌, ◌<◌, ◌^◌, ◌∷◌, [], length, map, IfOk, IfErr, IfNone};
+ghost use Rattle.std.specs.Prelude.{◌≡◌, ◌⊎◌, option_map, ◌+◌, ◌≤◌, ◌<◌, ◌^◌, ◌∷◌, [], length, map, IfOk, IfErr, IfNone};
 ghost use Rattle.hdl_limits.specs.declared.TheConstants.{WRITTEN_MAX};
 ghost use Rattle.hdl_value.specs.Reading.{Reads};
 ghost use Rattle.serde_json.specs.Data.{Data};
+ghost use Rattle.serde_json.specs.Read.{read};
 ghost use Rattle.serde_json.specs.View.{view, items_view};
 ghost use Rattle.hdl_writes.specs.Entry.{value_in_json};
-ghost use Rattle.hdl_writes.specs.Record.{value_in_record, values_from, has_index, twice_from, distinct_at, entries_in_json, listed_in, is_single, record_in_json, text_in, json_in_body, record_in, IsRecordFault};
+ghost use Rattle.hdl_writes.specs.Record.{value_in_record, values_from, has_index, twice_from, distinct_at, entries_in_json, listed_in, is_single, values_in_json, strange_in, record_in_json, text_in, record_in, IsRecordFault};
+ghost use Rattle.hdl_writes.specs.Keys.{SaysAgain, SaysOnce};
 
 use crate::entry::value_in_json;
 use crate::fault::{EntryFault, RecordFault};
+use crate::keys::says_once;
+use crate::shapes::{Shape, all_fit, entry_fits};
 use hdl_limits::WRITTEN_MAX;
 use hdl_value::Value;
 use serde_json::Value as Json;
@@ -102,11 +106,11 @@ fn single_in_json(alloc: Global, json: &Json) -> Result<Vec<Value>, RecordFault>
     Ok(values)
 }
 
-/// The record that a body means: an object with a list of values as its `values`, such a list, or one value.
-#[tactic(auto, using(crate::proofs::Items::each_items_of), unfolding(crate::specs::Record::record_in_json))]
-fn record_in_json(alloc: Global, json: &Json) -> Result<Vec<Value>, RecordFault>
-    ensures value { IfOk result (λ v. record_in_json (view json.now) ≡ Ok v.items) }
-    ensures fault { IfErr result (IsRecordFault (record_in_json (view json.now))) }
+/// The values that a body means: an object with a list of values as its `values`, such a list, or one value.
+#[tactic(auto, using(crate::proofs::Items::each_items_of), unfolding(crate::specs::Record::values_in_json))]
+fn values_in_json(alloc: Global, json: &Json) -> Result<Vec<Value>, RecordFault>
+    ensures value { IfOk result (λ v. values_in_json (view json.now) ≡ Ok v.items) }
+    ensures fault { IfErr result (IsRecordFault (values_in_json (view json.now))) }
 {
     if let Some(list) = listed_in(json) {
         return entries_in_json(alloc, list);
@@ -115,6 +119,32 @@ fn record_in_json(alloc: Global, json: &Json) -> Result<Vec<Value>, RecordFault>
         return single_in_json(alloc, json);
     }
     Err(RecordFault::Shape)
+}
+
+/// The first member that isn't known: of the body, or else of its values.
+#[tactic(auto, using(crate::proofs::Items::each_items_of))]
+fn strange_in(json: &Json) -> Option<RecordFault>
+    ensures { result ≡ strange_in (view json.now) }
+{
+    match listed_in(json) {
+        Some(_) if !Shape::Body.fits(json) => Some(RecordFault::Members),
+        Some(list) if !all_fit(list) => Some(RecordFault::Strange),
+        None if !entry_fits(json) => Some(RecordFault::Strange),
+        _ => None,
+    }
+}
+
+/// The record that a body means, which has no member but those that are known.
+#[tactic(auto, unfolding(crate::specs::Record::record_in_json))]
+fn record_in_json(alloc: Global, json: &Json) -> Result<Vec<Value>, RecordFault>
+    ensures value { IfOk result (λ v. record_in_json (view json.now) ≡ Ok v.items) }
+    ensures fault { IfErr result (IsRecordFault (record_in_json (view json.now))) }
+{
+    let values = values_in_json(alloc, json)?;
+    match strange_in(json) {
+        None => Ok(values),
+        Some(fault) => Err(fault),
+    }
 }
 
 /// A body as text.
@@ -127,13 +157,10 @@ fn text_in(body: &[u8]) -> Option<&str>
     }
 }
 
-/// The JSON that a body is, if it is some.
-fn json_in_body(alloc: Global, body: &[u8]) -> Result<Option<Json>, AllocError>
-    ensures { IfOk result (λ o. option_map view o ≡ json_in_body body.now) }
+/// The JSON that a text is, if it is some.
+fn json_in(alloc: Global, text: &str) -> Result<Option<Json>, AllocError>
+    ensures { IfOk result (λ o. option_map view o ≡ read text.now) }
 {
-    let Some(text) = text_in(body) else {
-        return Ok(None);
-    };
     match Json::from_str(alloc, text) {
         Ok(json) => Ok(Some(json)),
         Err(error) if error.is_memory() => Err(AllocError),
@@ -142,14 +169,22 @@ fn json_in_body(alloc: Global, body: &[u8]) -> Result<Option<Json>, AllocError>
 }
 
 /// The record that a body means, or the first thing that is wrong with it: it is no JSON; it has no list of values, an empty one, or one
-/// that is too long; then the first value that is none, by its fields in their order; then an index that stands twice.
+/// that is too long; then the first value that is none, by its fields in their order; then an index that stands twice; then a member that isn't known. A
+/// body in which an object has a key twice is refused too.
 #[tactic(auto, unfolding(crate::specs::Record::record_in))]
 pub fn read_record(alloc: Global, body: &[u8]) -> Result<Vec<Value>, RecordFault>
     ensures value { IfOk result (λ v. record_in body.now ≡ Ok v.items) }
-    ensures fault { IfErr result (IsRecordFault (record_in body.now)) }
+    ensures once { IfOk result (λ _. SaysOnce body.now) }
+    ensures fault { IfErr result (λ e. IsRecordFault (record_in body.now) e ⊎ ((e ≡ RecordFault.Again) × SaysAgain body.now)) }
 {
-    match json_in_body(alloc, body)? {
-        Some(json) => record_in_json(alloc, &json),
-        None => Err(RecordFault::Json),
+    let Some(text) = text_in(body) else {
+        return Err(RecordFault::Json);
+    };
+    let Some(json) = json_in(alloc, text)? else {
+        return Err(RecordFault::Json);
+    };
+    if !says_once(alloc, text, &json)? {
+        return Err(RecordFault::Again);
     }
+    record_in_json(alloc, &json)
 }

@@ -1,8 +1,26 @@
 //! Who is asked with a key.
 
+use crate::suffix::SUFFIX_LEN;
 use hdl_client::{Key, Reply};
+use hdl_limits::Octets;
 use hdl_msg::RequestBody;
-use hdl_proxy::NoAnswer;
+use std::alloc::AllocError;
+
+/// Why a request has no reply.
+#[derive(Clone, Copy, Debug, PartialEq, Eq)]
+pub enum NoReply {
+    /// The server wasn't reached, so nothing was sent.
+    Unreached,
+    /// It was sent, and no reply came that can be read: what became of it isn't known.
+    Silent,
+    Memory,
+}
+
+impl From<AllocError> for NoReply {
+    fn from(_: AllocError) -> NoReply {
+        NoReply::Memory
+    }
+}
 
 /// A way to ask with a key: servers over sockets.
 pub trait ChangeServer: Drop {
@@ -12,5 +30,11 @@ pub trait ChangeServer: Drop {
 
     /// The reply to a request, whose challenge the key answers. The connection, time-outs, and whom to ask after a referral are the
     /// service's. It may wait, but not for ever.
-    fn ask(&mut self, body: &RequestBody, key: &Key) -> Result<Reply, NoAnswer>;
+    fn ask(&mut self, body: &RequestBody, key: &Key) -> Result<Reply, NoReply>;
+
+    /// Octets that nobody can guess, of which the suffix of a new name is made.
+    fn draw(&mut self) -> [u8; SUFFIX_LEN];
+
+    /// The handles of a prefix in canonical form that a copy of the table has, where there is a copy.
+    fn copied(&self, prefix: &[u8]) -> Option<&[Octets]>;
 }

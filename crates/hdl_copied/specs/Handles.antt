@@ -1,0 +1,11 @@
+-- Handles by their prefixes.
+use Rattle.std.specs.Prelude.{ℕ, Bool, List, [], ◌∷◌, bytes_eq, if◌then◌else◌}
+use Rattle.hdl_copied.specs.declared.handles.PrefixHandles.{PrefixHandles}
+
+abbrev pub is_of : List ℕ → PrefixHandles → Bool
+is_of prefix one = bytes_eq one.prefix.items prefix
+
+-- those of the first that has this prefix, and none where none has it
+abbrev pub handles_of : List ℕ → List PrefixHandles → List (List ℕ)
+handles_of prefix [] = []
+handles_of prefix (one ∷ rest) = if is_of prefix one then one.handles.items else handles_of prefix rest

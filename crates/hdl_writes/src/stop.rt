@@ -1,0 +1,87 @@
+//! Why a change wasn't done, and what is answered then.
+
+use crate::change_answers::{change_words, failure, status_of_change};
+use crate::service::NoReply;
+use hdl_msg::{RequestBody, ResponseCode};
+use hdl_proxy::{Answer, Status, told_code};
+use std::alloc::{AllocError, Global};
+
+/// Why a change, or what it needs, wasn't done.
+#[derive(Clone, Copy)]
+pub(crate) enum ChangeFault {
+    /// A reply of this code.
+    Code(u32),
+    /// The server wasn't reached, so nothing was sent.
+    Unreached,
+    /// No reply came that can be read, so what became of the request isn't known.
+    Silent,
+    /// A request would be longer than a message may be.
+    TooLong,
+    /// More values would be removed than one request may.
+    TooMany,
+    Memory,
+}
+
+impl From<AllocError> for ChangeFault {
+    fn from(_: AllocError) -> ChangeFault {
+        ChangeFault::Memory
+    }
+}
+
+impl From<NoReply> for ChangeFault {
+    fn from(none: NoReply) -> ChangeFault {
+        match none {
+            NoReply::Memory => ChangeFault::Memory,
+            NoReply::Unreached => ChangeFault::Unreached,
+            NoReply::Silent => ChangeFault::Silent,
+        }
+    }
+}
+
+const SILENT: &str = "No answer of a server came. Whether this was done isn't known.";
+
+const UNREACHED: &str = "The server to which changes go wasn't reached. Nothing was done.";
+
+const UNREACHED_BEHIND: &str =
+    "The server to which changes go was reached no more. Nothing but what stands under done was done.";
+
+const TOO_LONG: &str = "The change needs a request of more than 65536 octets. Nothing was done.";
+
+const TOO_MANY: &str = "The change would remove more than 256 values. Nothing was done.";
+
+/// What is said of a server that wasn't reached, behind so many requests that were done.
+fn unreached_words(done: usize) -> &'static str {
+    if done == 0 {
+        UNREACHED
+    } else {
+        UNREACHED_BEHIND
+    }
+}
+
+/// The status, the code and the words of a stop behind so many requests that were done. None: memory was refused.
+fn words_of_stop(stop: ChangeFault, done: usize) -> Option<(Status, u32, &'static str)> {
+    let error = ResponseCode::Error.number();
+    match stop {
+        ChangeFault::Code(code) => {
+            Some((status_of_change(code), told_code(code), change_words(code)))
+        }
+        ChangeFault::Unreached => Some((Status::BadGateway, error, unreached_words(done))),
+        ChangeFault::Silent => Some((Status::BadGateway, error, SILENT)),
+        ChangeFault::TooLong => Some((Status::ContentTooLarge, error, TOO_LONG)),
+        ChangeFault::TooMany => Some((Status::ContentTooLarge, error, TOO_MANY)),
+        ChangeFault::Memory => None,
+    }
+}
+
+/// The answer to an order that stopped, behind the requests of it that were done.
+pub(crate) fn answer_to_stop(
+    alloc: Global,
+    handle: &[u8],
+    stop: ChangeFault,
+    done: &[RequestBody],
+) -> Result<Answer, AllocError> {
+    match words_of_stop(stop, done.len()) {
+        Some((status, code, why)) => failure(alloc, handle, status, code, why, done),
+        None => Err(AllocError),
+    }
+}
