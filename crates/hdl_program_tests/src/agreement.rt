@@ -1,4 +1,4 @@
-//! Two tables side by side, which answer alike after each of many writes.
+//! Two tables side by side, which answer alike after each of many writes, and count alike what they gave.
 
 use crate::assertion::same;
 use crate::values::great;
@@ -61,7 +61,7 @@ fn agree<R: Rows>(
     Ok(told.as_slice() == answers(alloc, plain, &place.name)?.as_slice())
 }
 
-/// Five hundred writes in no order.
+/// Five hundred writes in no order. Both tables give the same, so their counts of what they gave stay as far apart as they were.
 pub(crate) fn writes_agree<R: Rows>(
     rt: &impl Abort,
     plain: &mut PlainRows,
@@ -69,6 +69,7 @@ pub(crate) fn writes_agree<R: Rows>(
     alloc: Global,
 ) -> Result<(), Fail> {
     let names: [&[u8]; 4] = [b"10.abc/b", b"10.abc/a", b"10.abcd/a", b"10.abc/ab"];
+    let apart = other.reads().wrapping_sub(plain.reads());
     let mut state = 1u32;
     for turn in 0..500u32 {
         state = state.wrapping_mul(1_664_525).wrapping_add(1_013_904_223);
@@ -81,5 +82,7 @@ pub(crate) fn writes_agree<R: Rows>(
             true,
         );
     }
+    let reads = other.reads().wrapping_sub(plain.reads());
+    same(rt, "reads", reads, apart);
     Ok(())
 }

@@ -81,6 +81,10 @@ impl<D: Door> Door for Paired<D> {
         Ok(count)
     }
 
+    fn give_up(&mut self) {
+        self.door.give_up();
+    }
+
     fn leave(&mut self) {
         self.door.leave();
         self.left.fetch_add(1, SeqCst);
@@ -113,6 +117,10 @@ impl<R: std::rt::Clock> Clock for Sleeping<R> {
         if self.left.load(SeqCst) < 4 {
             thread::sleep(&self.rt, Duration::from_micros(100));
         }
+    }
+
+    fn waited(&self) -> Duration {
+        Duration::ZERO
     }
 
     fn note_work(&mut self) {}

@@ -71,8 +71,8 @@ fn finds(
     same(rt, what, rows.mask(name, key), wanted);
 }
 
-/// One call stops behind the list, since that holds more than 2,048 references, and the next behind 2,048 of these. Both are refused, which no
-/// table counts. The third ends, and each reference was looked up once.
+/// One call looks up the list, which counts 45,044 octets, and as many of its references as 20,492 octets more are, 32 each; the next 2,048 of these.
+/// Both are refused, which no table counts. The third ends, and each reference was looked up once.
 #[test]
 fn a_search_goes_on(rt: HostRuntime) -> Result<(), Fail> {
     let rows = table(&rt, rt.alloc(), LOOKS)?;
@@ -84,6 +84,50 @@ fn a_search_goes_on(rt: HostRuntime) -> Result<(), Fail> {
     finds(&rt, "second", &mut rows, &name, &last, Err(Refused));
     finds(&rt, "third", &mut rows, &name, &last, ALL);
     same(&rt, "refused", rows.refusals(), 0);
+    Ok(())
+}
+
+/// How many lists of the same references there are.
+const LISTS: u32 = 4;
+
+/// The data of a list of these lists.
+fn list_of_lists(alloc: Global) -> Result<Vec<u8>, AllocError> {
+    let mut data = Vec::new(alloc);
+    put_u32(&mut data, LISTS)?;
+    for index in 0..LISTS {
+        put_string(&mut data, b"10/g")?;
+        put_u32(&mut data, index.saturating_add(2))?;
+    }
+    Ok(data)
+}
+
+/// A table where a list leads to these lists.
+fn table_of_lists(rt: &impl Abort, alloc: Global) -> Result<PlainRows, Fail> {
+    let mut rows = PlainRows::new(alloc);
+    let admin = value(alloc, 100, b"HS_ADMIN", b"\x0f\xff\0\0\0\x0410/g\0\0\0\x01")?;
+    put(rt, alloc, &mut rows, b"10/c", admin)?;
+    let lists = list_of_lists(alloc)?;
+    let first = value(alloc, 1, b"HS_VLIST", lists.as_slice())?;
+    put(rt, alloc, &mut rows, b"10/g", first)?;
+    let data = list(alloc)?;
+    for index in 0..LISTS {
+        let listed = value(alloc, index.saturating_add(2), b"HS_VLIST", data.as_slice())?;
+        put(rt, alloc, &mut rows, b"10/g", listed)?;
+    }
+    Ok(rows)
+}
+
+/// What lists hold counts where it was known too: the fourth list of the same references takes a call more, though it brings none.
+#[test]
+fn what_lists_hold_counts(rt: HostRuntime) -> Result<(), Fail> {
+    let rows = table_of_lists(&rt, rt.alloc())?;
+    let mut rows = MaskedRows::new(rt.alloc(), rows)?;
+    let name = Name::read(rt.alloc(), b"10/c")?;
+    let last = key(rt.alloc(), LISTED)?;
+    for what in ["first", "second", "third"] {
+        finds(&rt, what, &mut rows, &name, &last, Err(Refused));
+    }
+    finds(&rt, "fourth", &mut rows, &name, &last, ALL);
     Ok(())
 }
 

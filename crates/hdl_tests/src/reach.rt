@@ -112,7 +112,7 @@ const KEY: Row = (b"20/keys", 3, SECRET_KEY, b"k1");
 const TWO_LISTS: [Row; 4] = [ADMIN_LIST, FIRST, SECOND, KEY];
 
 /// What it is, a table, a handle, and the masks of references for it.
-const CASES: [(&str, &[Row], &[u8], &[Want]); 9] = [
+const CASES: [(&str, &[Row], &[u8], &[Want]); 10] = [
     (
         "lists lead to the key",
         &TWO_LISTS,
@@ -182,6 +182,33 @@ const CASES: [(&str, &[Row], &[u8], &[Want]); 9] = [
             (b"20/keys", 4, Some(AdminMask(0x0800))),
             (b"20/keys", 5, Some(AdminMask(0))),
             (b"20/keys", 6, None),
+        ],
+    ),
+    (
+        "three administrators with bits of their own, whose lists refer to each other",
+        &[
+            (b"10/c", 1, ADMIN, b"\0\x01\0\0\0\x0410/g\0\0\0\x01"),
+            (b"10/c", 2, ADMIN, b"\0\x02\0\0\0\x0410/g\0\0\0\x02"),
+            (b"10/c", 3, ADMIN, b"\0\x04\0\0\0\x0420/k\0\0\0\x02"),
+            (
+                b"10/g",
+                1,
+                LIST,
+                b"\0\0\0\x02\0\0\0\x0410/g\0\0\0\x02\0\0\0\x0420/k\0\0\0\x01",
+            ),
+            (
+                b"10/g",
+                2,
+                LIST,
+                b"\0\0\0\x02\0\0\0\x0410/g\0\0\0\x01\0\0\0\x0420/k\0\0\0\x02",
+            ),
+        ],
+        b"10/c",
+        &[
+            (b"10/g", 1, Some(AdminMask(3))),
+            (b"10/g", 2, Some(AdminMask(3))),
+            (b"20/k", 1, Some(AdminMask(3))),
+            (b"20/k", 2, Some(AdminMask(7))),
         ],
     ),
     (

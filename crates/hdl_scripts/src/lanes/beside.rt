@@ -15,6 +15,7 @@ use hdl_serve::{
 use std::alloc::{AllocError, Global};
 use std::collections::VecDeque;
 use std::marker::{Brand, PhantomData};
+use std::time::Duration;
 
 /// The number used once of every frame.
 const NONCE: [u8; 16] = [0, 1, 2, 3, 4, 5, 6, 7, 8, 9, 10, 11, 12, 13, 14, 15];
@@ -93,6 +94,10 @@ impl<L: Made, S: Serving> Clock for Beside<L, S> {
         if !self.idle {
             self.serve();
         }
+    }
+
+    fn waited(&self) -> Duration {
+        Duration::ZERO
     }
 
     fn note_work(&mut self) {}

@@ -13,6 +13,7 @@ use hdl_serve::{
 use std::alloc::Global;
 use std::collections::VecDeque;
 use std::io::{self, Write};
+use std::time::Duration;
 
 /// Answers at most so many items at a time, each by so many octets.
 #[derive(Drop)]
@@ -64,6 +65,10 @@ impl Clock for Recorder {
         let _ = self.answer_all(self.most);
     }
 
+    fn waited(&self) -> Duration {
+        Duration::ZERO
+    }
+
     fn note_work(&mut self) {}
 }
 
@@ -102,6 +107,10 @@ impl<D: Door> Door for Counting<D> {
         self.writes = self.writes.saturating_add(1);
         self.longest = self.longest.max(octets.len());
         self.door.write(octets)
+    }
+
+    fn give_up(&mut self) {
+        self.door.give_up();
     }
 
     fn leave(&mut self) {

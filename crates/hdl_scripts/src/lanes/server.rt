@@ -10,6 +10,7 @@ use crate::table::{Table, TableRows, empty_rows};
 use hdl_core::{Service, Tenants};
 use hdl_serve::{Clock, LaneEnds, Served, WriteQueue, serve};
 use std::alloc::Global;
+use std::time::Duration;
 use std::{io, mem};
 
 /// A service that is opened, and serves lanes.
@@ -46,6 +47,10 @@ impl Clock for Pauses {
 
     fn pause(&mut self) {
         self.count = self.count.saturating_add(1);
+    }
+
+    fn waited(&self) -> Duration {
+        Duration::ZERO
     }
 
     fn note_work(&mut self) {}
