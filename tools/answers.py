@@ -55,7 +55,7 @@ def fields_of(media, status, kept, body, location=None, methods="GET, HEAD"):
     if status == 405:
         fields.append(("allow", methods))
     if status in (502, 503):
-        fields.append(("retry-after", "30"))
+        fields.append(("retry-after", "3"))
     fields.append(("cache-control", kept))
     if status == 200 and kept != NEVER:
         fields.append(("etag", tag(body)))

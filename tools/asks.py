@@ -92,12 +92,36 @@ ANSWERS = (
     ("a key, short", KEY_ANSWER, ["resolve", "10/k", "--short"], "HIDDEN 11 octets\n"),
     ("a key that is asked for", KEY_ANSWER, ["resolve", "10/k", "--keys"], ";; reply to resolve 1, session 0: 1 success\n10/k\n%s\n" % KEY_LINE),
     ("a key that is asked for, short", KEY_ANSWER, ["resolve", "10/k", "--keys", "--short"], SECRET + "\n"),
+    ("a list in other letters", wire.frame(reply(wire.LIST, body=wire.listed([wire.string(b"0.na/10.abc"), wire.string(b"10.abc/a")])), 0, 1), ["list", "10.ABC", "--short"],
+     "0.na/10.abc\n10.abc/a\n"),
     ("control characters in handles", LIST_ANSWER, ["list", "10", "--short"], "10/a\\u{a}10/b\n10/\\u{1b}[2J\\u{9b}\n"),
 )
 
+# Of a reply about something else: its name, its octets, what is asked, and what is said on standard error. Nothing of it is shown.
+PLAIN = wire.value(1, b"URL", b"https://other.example/", 0x0E, 86400)
+OTHER_HANDLE, OTHER_REQUEST = "hdl: a reply about another handle came\n", "hdl: a reply to another request came\n"
+CREATE = ["create", "10/a", "1 URL 86400 1110 UTF8 a"]
+OTHERS = (
+    ("another handle's values", wire.values_reply(b"9/other", PLAIN), ["resolve", "10/a"], OTHER_HANDLE),
+    ("another handle's values, short", wire.values_reply(b"9/other", PLAIN), ["resolve", "10/a", "--short"], OTHER_HANDLE),
+    ("the handle in other letters", wire.values_reply(b"10/A", PLAIN), ["resolve", "10/a"], OTHER_HANDLE),
+    ("a list with a handle of another prefix", reply(wire.LIST, body=wire.listed([wire.string(b"10/a"), wire.string(b"9/other")])), ["list", "10"], OTHER_HANDLE),
+    ("a list with octets that are no handle", reply(wire.LIST, body=wire.listed([wire.string(b"10/\xff")])), ["list", "10"], OTHER_HANDLE),
+    ("a referral to the service of another prefix", reply(wire.RESOLVE, 302, wire.reference(b"0.NA/9", 0)), ["resolve", "10/a"], OTHER_HANDLE),
+    ("values in the place of a list", wire.values_reply(b"0.NA/10", PLAIN), ["list", "10"], OTHER_REQUEST),
+    ("a list in the place of values", reply(wire.LIST, body=wire.listed([wire.string(b"10/a")])), ["resolve", "10/a"], OTHER_REQUEST),
+    ("another write that was done", reply(wire.DELETE), CREATE, OTHER_REQUEST),
+    ("no operation that was done", reply(999, body=wire.number(0)), CREATE, OTHER_REQUEST),
+)
+# The same behind a challenge, and in a batch.
+RESOLVE = wire.resolution(b"10/a")
+OTHER_BEHIND = [wire.frame(wire.challenge(RESOLVE), 1, 1), wire.frame(wire.values_reply(b"9/other", PLAIN), 1, 2)]
+
 # Of what one reply doesn't say: what is asked, the operation, and what is said on standard error.
+MANY_HANDLES = ("hdl: 2 error: more handles than one reply of 65,536 octets says; who runs the server has all of them by `handled copy --table FILE --to COPY` and "
+                "`handled export --table COPY < TENANTS`, while it goes on\n")
 TOO_LONG = (
-    (["list", "10"], wire.LIST, "hdl: 2 error: more handles than one reply of 65,536 octets says; who runs the server writes all of them by `handled export`\n"),
+    (["list", "10"], wire.LIST, MANY_HANDLES),
     (["resolve", "10/a"], wire.RESOLVE, "hdl: 2 error: more values than one reply of 65,536 octets says; ask for some of them by --index or --type\n"),
     (["delete", "10/a"], wire.DELETE, "hdl: 2 error\n"),
 )
@@ -129,6 +153,17 @@ SERVERS = (
 
 KEY_REFUSED = ("hdl: a key can't stand on the command line, where others on this machine can read its secret: "
                "write it by `hdl batch`, from standard input")
+
+# Of a server that can't be reached: its words, and what is said behind them. A broadcast address has no way for a connection.
+NOBODY = "nothing listens there: is a server running? ./handled serve < examples/serve.tenants starts one of the example's"
+NO_PORT = "this is no HOST:PORT: write a host, a colon and a port, as in 127.0.0.1:2641"
+UNREACHED = (
+    ("127.0.0.1:1", NOBODY),
+    ("127.0.0.1", NO_PORT),
+    ("127.0.0.1:99999", NO_PORT),
+    ("nowhere.invalid:2641", "no address is known of this name: look at --server"),
+    ("255.255.255.255:2641", "no network leads there: look at --server, and at what stands between"),
+)
 
 # Words that are no request: arguments, standard input, and what is said.
 WORDS = (
@@ -324,6 +359,13 @@ def exchanges():
     for name, sent, words, said in ANSWERS:
         done = asked(lambda listener: served(listener, [sent], []), words)
         yield name, (done.returncode, done.stdout + done.stderr) == (0, said)
+    for name, message, words, said in OTHERS:
+        done = asked(lambda listener: served(listener, [wire.frame(message, 0, 1)], []), words)
+        yield name, (done.returncode, done.stdout, done.stderr) == (3, "", said)
+    done = asked(lambda listener: served(listener, OTHER_BEHIND, []), ["resolve", "10/a", "--key", "300:0.NA/10"])
+    yield "another handle's values behind a challenge", (done.returncode, done.stdout, done.stderr) == (3, "", OTHER_HANDLE)
+    done = asked(lambda listener: served(listener, [wire.frame(wire.values_reply(b"9/other", PLAIN), 0, 1)], []), ["batch"], "RESOLVE 10/a\n")
+    yield "another handle's values in a batch", (done.returncode, done.stdout, done.stderr) == (3, "0 succeeded, 0 failed\n", OTHER_HANDLE[:-1] + "; 1 without an outcome\n")
     came = []
     done = asked(lambda listener: served(listener, [KEY_DONE], came), ["batch"], KEY_BATCH)
     yield "a key by a batch", done.returncode == 0 and came == [KEY_ASKED] and SECRET not in done.stdout + done.stderr
@@ -349,7 +391,9 @@ def cases():
     for name, sent, status, said in SERVERS:
         yield name, deleted(sent, []), status, said
     yield "an octet a second", asked(lambda listener: served_slowly(listener, DONE), ["delete", "10/c", "--key", "300:0.NA/10"]), 3, "hdl: no answer in time"
-    yield "nobody listens", run(["resolve", "10/a", "--server", "127.0.0.1:1"]), 3, "hdl: the connection failed"
+    for server, said in UNREACHED:
+        yield "no connection to " + server, run(["resolve", "10/a", "--server", server]), 3, "hdl: %s: %s" % (server, said)
+    yield "no connection for a batch", run(["batch", "--server", "127.0.0.1:1"], "DELETE 10/a\n"), 3, "hdl: 127.0.0.1:1: %s; 1 without an outcome" % NOBODY
     for words, text, said in WORDS:
         yield " ".join(words), run(words, text), 2, said
 

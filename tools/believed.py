@@ -1,7 +1,7 @@
 #!/usr/bin/env python3
 """believed.py [--write] [CRATE/FILE/FUNCTION..]: the definitions that a function's contract rests on, which a reader has to believe.
 
-Without words: of `Service::run` (hdl_core/service/run) and `serve` (hdl_serve/serving/serve), with the machine that both are made of, as docs/THEOREM.md lists them; where the page differs it
+Without words: of `Service::run` (hdl_core/service/run) and `serve` (hdl_serve/serving/serve), with the machine that both are made of, as docs/BELIEVED.md lists them; where the page differs it
 says so, and then the exit status is 1. With --write it puts the list there.
 
 From the clauses of a function, and from the views of the types in its file and in the files that its clauses name, it follows names through the `use`
@@ -150,14 +150,14 @@ def main():
     if places:
         print(listed(places), end="")
         return 0
-    table, page = listed(CONTRACTS), repository.text_of("docs", "THEOREM.md")
+    table, page = listed(CONTRACTS), repository.text_of("docs", "BELIEVED.md")
     before, rest = page.split(BEGIN)
     if "--write" in sys.argv[1:]:
         page = before + BEGIN + "\n" + table + "\n" + END + rest.split(END)[1]
-        with open(repository.path("docs", "THEOREM.md"), "w", encoding="utf-8") as text:
+        with open(repository.path("docs", "BELIEVED.md"), "w", encoding="utf-8") as text:
             text.write(page)
     same = table in page
-    print("what must be believed: %s%s" % (table.splitlines()[-1], "" if same else " docs/THEOREM.md differs; tools/believed.py --write"))
+    print("what must be believed: %s%s" % (table.splitlines()[-1], "" if same else " docs/BELIEVED.md differs; tools/believed.py --write"))
     return 0 if same else 1
 
 

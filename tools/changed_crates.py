@@ -18,7 +18,7 @@ def git(*words):
 def changed():
     base = git("rev-parse", "-q", "--verify", "origin/main") or git("rev-list", "--max-parents=0", "HEAD") or [""]
     files = (git("diff", "--name-only", base[0]) or []) + (git("ls-files", "--others", "--exclude-standard") or [])
-    found = (re.match(r"crates/([^/]+)/", name) for name in files)
+    found = (re.match(r"crates/([^/]+)/", name) for name in files if not name.endswith(".md"))
     return {match.group(1) for match in found if match}
 
 

@@ -1,10 +1,12 @@
 #!/usr/bin/env python3
 """Sees that what the pages and comments cite is there, and that docs/PROTOCOL.md has the numbers of the limits.
 
-- `FUNCTION` (`CLAUSE`, ..) of README.md and docs/: some function of that name has each clause, or a record of specs/ has a field of that name.
+- `FUNCTION` (`CLAUSE`, ..) of README.md, docs/ and crates/*/DECISIONS.md: some function of that name has each clause, or a record of specs/ has a field of that name.
+- CRATE `NAME`, `NAME` (`CLAUSE`, ..), and `NAME` of CRATE: that crate declares each name, and its function has each clause. In docs/PROMISES.md a name of a table
+  that stands below **CRATE** is that crate's, unless its cell names another one before it.
 - must-fail `NAME`, .. and wrong `NAME`, ..: a crate has an edit of that name in that folder; and docs/WRONG.md names each edit so.
 - vectors `NAME`, ..: crates/hdl_vectors/stdin has a group of that name, which begins with a line `# NAME: WHAT`.
-- [PAGE.md](PAGE.md) of a page: there is such a file.
+- [PAGE](PAGE.md#SECTION) of a page: there is such a file, and it has such a heading.
 - docs/PAGE.md, "SECTION" of crates/ and docs/: the page has a heading that begins so.
 - tools/NAME, bench/NAME and examples/NAME, wherever they are named: there is such a file (words in capitals stand for any). A file of tools/ or
   bench/ that nothing names or imports is told too.
@@ -25,6 +27,14 @@ NAME = r"`(?:\w+::)*(\w+)`"
 LIST = r"((?:`\w+`(?:, | and )?)+)"
 FUNCTION = re.compile(r"^\s*(?:pub(?:\(crate\))? )?fn (\w+)")
 CLAUSE = re.compile(r"^\s*(?:ensures|requires)\*? (\w+) \{")
+DECLARED = re.compile(r"\b(?:fn|struct|enum|trait|type|const|static|mod) (\w+)")
+IMPLEMENTED = re.compile(r"^impl(?:<.*?>)? (\w+)(?:<.*>)? for ", re.MULTILINE)
+VARIANT = re.compile(r"^    (?:pub )?([A-Z]\w*)(?:[,({]| \{)", re.MULTILINE)
+DEFINED = re.compile(r"^ *(?:abbrev |unfoldable |opaque )?(?:pub )?(?:record |data )?(\w[\w']*) (?::|\(|=)", re.MULTILINE)
+SPAN = r"`(\w+(?:::\w+)*)`((?: \([^)]*\))?)"
+CITED = re.compile(SPAN)
+OF_CRATE = re.compile(r"\b(hdl_\w+|handled) ((?:`\w+(?:::\w+)*`(?: \([^)]*\))?(?! of hdl_)(?:, and |, | and )?)+)")
+BEFORE_CRATE = re.compile(SPAN + r" of (hdl_\w+)")
 LIMIT = re.compile(r"^    ensures \w+ \{ (\w+) ≡ (\d+) \}$", re.MULTILINE)
 INPUT_LIMIT = re.compile(r"^pub const (INPUT_LIMIT): usize = ([\d_]+);$", re.MULTILINE)
 ROW = re.compile(r"^\| [^|]* \| ([\d,]+) \| `(\w+)` \|$", re.MULTILINE)
@@ -60,8 +70,8 @@ def fields():
 
 
 def pages():
-    """Each line of README.md and docs/, with its page and number."""
-    for path in files("*.md", "docs/*.md"):
+    """Each line of README.md, docs/ and the crates' decisions, with its page and number."""
+    for path in files("*.md", "docs/*.md", "crates/*/*.md"):
         for number, line in enumerate(text_of(path).splitlines(), 1):
             yield path, number, line
 
@@ -73,6 +83,62 @@ def missing_clauses():
             for clause in re.findall(r"\w+", cited.replace(" and ", " ")):
                 if name in of and clause not in of[name] and clause not in records:
                     yield "%s:%d: %s has no clause %s" % (path, number, name, clause)
+
+
+class Crate:
+    """What a crate declares: functions with their clauses, types, constants, modules and files, variants, definitions and what it exports again."""
+
+    def __init__(self, name):
+        self.names, self.clauses = {name}, {}
+        for path in files("crates/%s/src/**/*.rt" % name):
+            current = None
+            self.names.add(os.path.basename(path)[: -len(".rt")])
+            text = text_of(path)
+            for line in text.splitlines():
+                if FUNCTION.match(line):
+                    current = self.clauses.setdefault(FUNCTION.match(line)[1], set())
+                elif CLAUSE.match(line) and current is not None:
+                    current.add(CLAUSE.match(line)[1])
+            self.names |= set(DECLARED.findall(text)) | set(VARIANT.findall(text)) | set(IMPLEMENTED.findall(text))
+            for used in re.findall(r"^pub use ([^;]+);", text, re.MULTILINE):
+                self.names |= set(re.findall(r"\w+", used))
+        for path in files("crates/%s/specs/**/*.antt" % name):
+            self.names |= {os.path.basename(path)[: -len(".antt")]} | set(DEFINED.findall(text_of(path)))
+        self.names |= {os.path.basename(path).partition(".")[0] for path in files("crates/%s/proofs/**/*.antt" % name, "crates/%s/data/*" % name)}
+
+
+def cited_of_crates():
+    """What the pages say of a crate: page, number of the line, crate, name and clauses."""
+    section = None
+    for path, number, line in pages():
+        if line.startswith("#"):
+            section = None
+        bold = re.match(r"\*\*(hdl_\w+|handled)\*\*", line)
+        section = bold[1] if bold and path == "docs/PROMISES.md" else section
+        for cell in line.split("|"):
+            for crate, listed in OF_CRATE.findall(cell):
+                yield from ((path, number, crate, name, clauses) for name, clauses in CITED.findall(listed))
+            for name, clauses, crate in BEFORE_CRATE.findall(cell):
+                yield path, number, crate, name, clauses
+            if section and line.startswith("|"):
+                first = re.split(r"\bhdl_\w+ `", cell)[0]
+                yield from ((path, number, section, name, clauses) for name, clauses in CITED.findall(first) if clauses and "of hdl_" not in cell)
+
+
+def missing_names():
+    crates, records = {name: Crate(name) for name in os.listdir("crates") if os.path.isdir("crates/%s/src" % name)}, fields()
+    for path, number, crate, name, clauses in cited_of_crates():
+        if crate not in crates:
+            yield "%s:%d: there is no crate %s" % (path, number, crate)
+            continue
+        known = crates[crate].names | set(crates[crate].clauses)
+        for part in name.split("::"):
+            if part not in known and part not in crates:
+                yield "%s:%d: %s has no %s" % (path, number, crate, part)
+        of = crates[crate].clauses.get(name.split("::")[-1])
+        for clause in set(re.findall(r"`(\w+)`", clauses)):
+            if of is not None and clause not in of and clause not in records and clause not in known:
+                yield "%s:%d: %s of %s has no clause %s" % (path, number, name, crate, clause)
 
 
 def missing_edits():
@@ -115,11 +181,20 @@ def missing_places():
             yield "%s: nothing names it" % path
 
 
+def slug(heading):
+    """How a link names a heading."""
+    return re.sub(r"[^\w\- ]", "", heading.lower()).replace(" ", "-")
+
+
 def missing_links():
+    slugs = {path: {slug(heading) for heading in re.findall(r"^#+ (.*)$", text_of(path), re.MULTILINE)} for path in files("*.md", "docs/*.md")}
     for path, number, line in pages():
-        for target in re.findall(r"\]\((?!https?:)([^)#\s]+)", line):
-            if not os.path.exists(os.path.join(os.path.dirname(path), target)):
+        for target, anchor in re.findall(r"\]\((?!https?:)([^)#\s]*)(?:#([^)\s]+))?\)", line):
+            found = os.path.normpath(os.path.join(os.path.dirname(path), target)) if target else path
+            if not os.path.exists(found):
                 yield "%s:%d: there is no %s" % (path, number, target)
+            elif anchor and anchor not in slugs.get(found, ()):
+                yield "%s:%d: %s has no section #%s" % (path, number, found, anchor)
 
 
 def missing_stations():
@@ -156,7 +231,7 @@ def wrong_versions():
 
 def main():
     os.chdir(ROOT)
-    found = [fault for faults in (missing_clauses, missing_edits, missing_vectors, missing_places, missing_links, missing_stations, wrong_limits, wrong_versions) for fault in faults()]
+    found = [fault for faults in (missing_clauses, missing_names, missing_edits, missing_vectors, missing_places, missing_links, missing_stations, wrong_limits, wrong_versions) for fault in faults()]
     for fault in found:
         print(fault)
     print("citations: %d faults" % len(found))

@@ -1,4 +1,4 @@
-"""The gate of a submission, from nothing: the definitions quoted in docs/, the map, what pages cite and what must be believed, ./test, memory refused in turn, random scripts,
+"""The gate of a submission, from nothing: the definitions quoted in docs/, the map, what pages cite, what must be believed and how long pages and sentences are, ./test, memory refused in turn, random scripts,
 scripts that a loop makes, the examples, answers that are none, the proxy for browsers, imports, what README shows and --help says, a table in a file over kills and changes that may shut it for nobody, addresses, clients that
 hold a lane, come in a crowd, from many ports or are strangers, an operator's day, what is installed, and a dry run of each benchmark.
 
@@ -20,7 +20,7 @@ import spent
 
 ROOT = os.path.dirname(os.path.dirname(os.path.abspath(__file__)))
 LIMITS = os.path.join(ROOT, "tools/limits.tsv")
-PAGES = ("tools/quotes.py", "tools/map.py", "tools/cites.py", "tools/believed.py", "tools/heads.py")
+PAGES = ("tools/quotes.py", "tools/map.py", "tools/cites.py", "tools/believed.py", "tools/heads.py", "tools/words.py")
 # All but the first run programs that ./test proved and built.
 PARTS = (
     ["./test"],

@@ -40,12 +40,12 @@ def tenants(port):
     return wire.text(["publisher acme 8 %d" % port, "prefix 10 acme", *(wire.value_line(*row) for row in rows)])
 
 
-def run(port, octets, key=KEY, secret=SECRET):
+def run(port, octets, key=KEY, secret=SECRET, more=()):
     """The exit status and both outputs of an import of these octets."""
     with tempfile.NamedTemporaryFile(suffix=".csv") as file:
         file.write(octets)
         file.flush()
-        words = [PROGRAM, "import", "--csv", file.name, "--key", key, "--server", "127.0.0.1:%d" % port]
+        words = [PROGRAM, "import", "--csv", file.name, "--key", key, "--server", "127.0.0.1:%d" % port, *more]
         done = subprocess.run(words, stdin=subprocess.DEVNULL, env={**os.environ, "HDL_SECRET": secret}, capture_output=True, check=False, timeout=60 * servers.SLOWER)
     assert SECRET.encode() not in done.stdout + done.stderr
     return done.returncode, done.stdout.decode(), done.stderr.decode()
@@ -112,6 +112,7 @@ def whole(port):
     """What files say is there, and nothing else is said."""
     yield "a file", run(port, WHOLE) == (0, "4 created, 0 there already, 0 failed\n", "") and are_there(port, WHOLE_VALUES)
     yield "indexes and permissions", run(port, PLACED) == (0, "1 created, 0 there already, 0 failed\n", "") and are_there(port, PLACED_VALUES)
+    yield "no TTL", run(port, b"handle,type,data\n10/day,URL,https://example.org/\n") == (0, "1 created, 0 there already, 0 failed\n", "") and are_there(port, {b"10/day": [url(1, b"https://example.org/"), administrator()]})
     yield "the header alone", run(port, b"handle,type,data,ttl\n") == (0, "0 created, 0 there already, 0 failed\n", "")
 
 
@@ -132,6 +133,7 @@ QUOTE = "a quote isn't closed: a field with a quote in it stands in quotes, with
 FIELDS = "more or fewer fields than the header names: a field with a comma in it stands in quotes"
 RETURN = "a CR stands in the line: lines end with LF, or with CR LF"
 TEXT = "the data isn't text on one line"
+SPACE = "a space begins or ends the data: write such a value by `hdl batch`"
 MANY_VALUES = "the handle has more than 256 values: create it with some of them, and add the others by `hdl batch`"
 # Of a faulty handle: its rows, and which of them is told with which words.
 FAULTS = (
@@ -141,8 +143,9 @@ FAULTS = (
     (["10/f4,1,two words,https://example.org/,1,1110"], 0, "the type isn't a word"),
     (["10/f5,1,,https://example.org/,1,1110"], 0, "the type isn't a word"),
     (["10/f6,1,URL,https://example.org/,1,111"], 0, "the permissions aren't four digits 0 or 1"),
-    (["10/f7,1,URL,,1,1110"], 0, TEXT),
-    (["10/f8,1,URL, https://example.org/,1,1110"], 0, TEXT),
+    (["10/f7,1,URL,,1,1110"], 0, "the data is empty: write such a value by `hdl batch`"),
+    (["10/f8,1,URL, https://example.org/,1,1110"], 0, SPACE),
+    (["10/f24,1,URL,https://example.org/ ,1,1110"], 0, SPACE),
     (["10/f9,1,URL,a\x1b[2J,1,1110"], 0, TEXT),
     (["10/f10,1,URL," + "x" * 32769 + ",1,1110"], 0, "the value's data is too long"),
     (["10/f11,1,URL,https://example.org/a,b,1,1110"], 0, FIELDS),
@@ -188,17 +191,23 @@ def faults(port):
     with client_of(port) as client:
         yield "nothing of what is faulty", all(values_of(client, rows[0].split(",")[0].encode()) is None for rows, _, _ in FAULTS)
     octets = b"handle,type,data,ttl\n10/\xff,URL,a,1\n10/latin,TITLE,\xfc,1\n"
-    yield "octets that are no UTF-8", run(port, octets) == (1, "line 2: 31302fff: the name is not UTF-8\nline 3: 10/latin: %s\n0 created, 0 there already, 2 failed\n" % TEXT, "")
+    yield "octets that are no UTF-8", run(port, octets) == (1, "line 2: 31302fff: the name is not UTF-8\nline 3: 10/latin: the data isn't UTF-8: save the file as CSV UTF-8\n0 created, 0 there already, 2 failed\n", "")
 
 
-COLUMN = "hdl: line 1: the header lacks a column: its line is handle,type,data,ttl, in any order, with index and permissions if they are given\n"
+COLUMN = "hdl: line 1: the header lacks a column: its line is handle,type,data, in any order, with ttl, index and permissions if they are given\n"
+LETTERS = "hdl: line 1: the header has a column's name with capitals, or with spaces around it: the names are handle, type, data, ttl, index and permissions\n"
+BETWEEN = "hdl: line 1: the header has %s between columns: save the file as CSV with commas between them\n"
 
 
 def unsent(port):
     """Nothing is sent where the file or the key can't be read: nobody listens here."""
     yield "an empty file", run(port, b"") == (2, "", COLUMN)
-    yield "a header without a column", run(port, b"handle,type,data\n10/a,URL,a\n") == (2, "", COLUMN)
-    yield "semicolons", run(port, b"handle;type;data;ttl\n") == (2, "", COLUMN)
+    yield "a header without a column", run(port, b"handle,type,ttl\n10/a,URL,1\n") == (2, "", COLUMN)
+    yield "semicolons", run(port, b"handle;type;data;ttl\n") == (2, "", BETWEEN % ";")
+    yield "tabs", run(port, b"handle\ttype\tdata\tttl\r\n") == (2, "", BETWEEN % "tabs")
+    yield "UTF-16", run(port, "\ufeffhandle,type,data\r\n".encode("utf-16-le")) == (2, "", "hdl: line 1: the file is UTF-16: save it as CSV UTF-8\n")
+    for head in (b"Handle,type,data", b"handle,type,data,TTL", b"handle, type,data,ttl", b"handle,type,data,ttl,Index"):
+        yield "a column's name that is nearly right", run(port, head + b"\n") == (2, "", LETTERS)
     yield "lines that end with CR", run(port, b"handle,type,data,ttl\r10/a,URL,a,1\r") == (2, "", "hdl: line 1: %s\n" % RETURN)
     yield "a column twice", run(port, b"handle,type,data,ttl,data\n") == (2, "", "hdl: line 1: the header names a column twice\n")
     yield "a key that is none", run(port, WHOLE, key="10/a") == (2, "", "hdl: a key isn't INDEX:HANDLE\n")
@@ -206,7 +215,11 @@ def unsent(port):
     done = subprocess.run([PROGRAM, "import", "--csv", "/none/file.csv", "--key", KEY], capture_output=True, check=False, text=True, env={**os.environ, "HDL_SECRET": SECRET})
     yield "no file", (done.returncode, done.stdout, done.stderr) == (2, "", "hdl: the file can't be read: No such file or directory (os error 2)\n")
     status, out, err = run(port, WHOLE)
-    yield "no server", (status, out, err.startswith("hdl: the connection failed; start again with the same file")) == (3, "0 created, 0 there already, 0 failed\n", True)
+    yield "no server", (status, out) == (3, "0 created, 0 there already, 0 failed\n") and bool(re.fullmatch(r"hdl: 127\.0\.0\.1:\d+: nothing listens there: .*; start again with the same file: .*\n", err))
+    yield "a dry run", run(port, WHOLE, more=["--dry-run"], secret="") == (0, "4 could be created, 0 failed; nothing was sent\n", "")
+    faulty = b"handle,type,data,ttl\n10/a,URL,a,x\n10/b,URL,b,1\n"
+    yield "a dry run of faults", run(port, faulty, more=["--dry-run"]) == (1, "line 2: 10/a: the TTL isn't a number\n1 could be created, 1 failed; nothing was sent\n", "")
+    yield "a dry run of a faulty header", run(port, b"handle\n", more=["--dry-run"]) == (2, "", COLUMN)
 
 
 REFUSED = "hdl: the service refuses the key: look at --key and its secret; what stands behind wasn't tried\n"
@@ -223,7 +236,8 @@ def keys(port):
         yield name, good and (status, err) == (1, REFUSED if count == 1000 else "")
 
 
-LONG_LIST = "hdl: 2 error: more handles than one reply of 65,536 octets says; who runs the server writes all of them by `handled export`\n"
+LONG_LIST = ("hdl: 2 error: more handles than one reply of 65,536 octets says; who runs the server has all of them by `handled copy --table FILE --to COPY` and "
+             "`handled export --table COPY < TENANTS`, while it goes on\n")
 
 
 def large_file():

@@ -41,6 +41,11 @@ def kit():
     return made
 
 
+def needed(crate):
+    """The bytes of memory that a check of one job takes at most."""
+    return LEAST + PER_LINE * crate.count(rb"\n")
+
+
 class Lines:
     """A file to which `rt` prints what a crate's build says: each line is handed on."""
 
@@ -102,7 +107,7 @@ class Lanes:
         ready = [crate for crate in self.left if not any(below in self.left or below in self.running for below in crate.below())]
         is_alone = not self.running and len(ready) == 1
         for crate in ready:
-            least, free = LEAST + PER_LINE * crate.count(rb"\n"), self.memory - sum(self.running.values())
+            least, free = needed(crate), self.memory - sum(self.running.values())
             jobs = max(1, min(self.processors, 1 + int((free - least) // PER_JOB))) if is_alone else 1
             if len(self.running) < self.processors and (not self.running or least <= free):
                 self.left.remove(crate)

@@ -1,9 +1,7 @@
 #!/usr/bin/env python3
-"""map.py [--write]: sees that docs/DESIGN.md lists the crates as crates.txt does, and that crates.txt lists no crate in vain.
+"""Sees that docs/DESIGN.md lists the crates as crates.txt does, and that crates.txt lists no crate in vain.
 
 - "Crates" has a heading for each group of crates.txt, in its order, and below it a row for each crate of the group, in any order.
-- "Who stands on whom" says of each crate on which crates of this repository it stands, and which stand on it. With --write the table is
-  written from crates.txt.
 - What a line of crates.txt lists for a crate is named somewhere in that crate's src/, specs/ or proofs/, comments aside.
 
 Prints what differs, and then the exit status is 1."""
@@ -18,7 +16,6 @@ import repository
 
 PAGE = ("docs", "DESIGN.md")
 ROW = re.compile(r"^\| (\w+) \|", re.MULTILINE)
-HEAD = "| Crate | Stands on | Is stood on by |\n|---|---|---|\n"
 
 
 def section(page, title):
@@ -51,27 +48,9 @@ def differing(page):
     for heading, names in groups.items():
         for name in sorted(set(names) ^ set(rows.get(heading, []))):
             yield "docs/DESIGN.md, %s: %s stands in one of the page and crates.txt" % (heading, name)
-    if table() not in page:
-        yield "docs/DESIGN.md: who stands on whom isn't what crates.txt says; tools/map.py --write"
-
-
-def table():
-    own = repository.stands_on_own()
-    rows = ["| %s | %s | %s |" % (name, ", ".join(own[name]), ", ".join(repository.above(name))) for name in own]
-    return HEAD + "\n".join(rows) + "\n"
-
-
-def write(page):
-    old = section(page, "Who stands on whom")
-    kept = old.split(HEAD.split("\n")[0])[0]
-    rest = re.sub(r"^(\|.*\n)+", "", old[len(kept):])
-    with open(repository.path(*PAGE), "w", encoding="utf-8") as text:
-        text.write(page.replace(old, kept + table() + rest))
 
 
 def main():
-    if "--write" in sys.argv[1:]:
-        write(repository.text_of(*PAGE))
     page = repository.text_of(*PAGE)
     faults = [*differing(page), *unnamed()]
     for fault in faults:

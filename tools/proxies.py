@@ -49,7 +49,7 @@ def until(index, data):
 
 READABLE = wire.ADMIN_READ | wire.ADMIN_WRITE | wire.PUBLIC_READ
 ASKED = wire.resolution(b"10/a", flags=wire.PUBLIC_ONLY)
-# 2026-11-25T18:20:41.07Z, in milliseconds
+# 2026-11-25T18:20:41.07Z, in milliseconds; what is told has whole seconds
 WRITTEN = 1795630841070
 HIDDEN_VALUES = (wire.value(1, b"NOTE", SECRET, wire.ADMIN_READ | wire.ADMIN_WRITE, 5), wire.value(2, b"HS_SECKEY", SECRET, READABLE, 5))
 HIDDEN_ALONE = shown(*HIDDEN_VALUES)
@@ -83,9 +83,9 @@ REPLIES = (
     ("a moment as a TTL, and one beyond a day", lambda n: wire.frame(UNTIL, 0, n), 302, KEPT % 0, way("10/a", "https://example.org/until")),
     ("a TTL beyond a day", lambda n: wire.frame(LONG, 0, n), 302, KEPT % 86400, way("10/a", "https://example.org/long")),
     ("when it was written", lambda n: wire.frame(shown(stamped(1, b"open", 45)), 0, n), 200, KEPT % 45,
-     values("10/a", value("TEXT", 1, text("open"), "for 45 seconds<br>written 2026-11-25T18:20:41.07Z"))),
+     values("10/a", value("TEXT", 1, text("open"), "for 45 seconds<br>written 2026-11-25T18:20:41Z"))),
     ("until a moment", lambda n: wire.frame(shown(stamped(1, b"open", 4294967295, True)), 0, n), 200, KEPT % 0,
-     values("10/a", value("TEXT", 1, text("open"), "until 2106-02-07T06:28:15Z<br>written 2026-11-25T18:20:41.07Z"))),
+     values("10/a", value("TEXT", 1, text("open"), "until 2106-02-07T06:28:15Z<br>written 2026-11-25T18:20:41Z"))),
     ("it is busy", short(3), 503, NEVER, refusal("10/a", CROWDED, LATER, "No answer")),
     ("it says that this is no handle", short(102), 400, NEVER, refusal("10/a", "The server says that this is no handle.", FORM, "No handle")),
     ("it is silent", silence, 502, NEVER, refusal("10/a", UNANSWERED, LATER, "No answer")),
@@ -96,7 +96,7 @@ REPLIES = (
     ("it closes at once", lambda n: b"", 502, NEVER, refusal("10/a", UNANSWERED, LATER, "No answer")),
 )
 # A value that was written at a moment, as JSON.
-STAMPED = '{"data":%s,"index":1,"timestamp":"2026-11-25T18:20:41.07Z","ttl":45,"type":"TEXT"}' % json_text("open")
+STAMPED = '{"data":%s,"index":1,"timestamp":"2026-11-25T18:20:41Z","ttl":45,"type":"TEXT"}' % json_text("open")
 LOCATIONS = {"values in any order": "HTTPS://example.org/first", "a moment as a TTL, and one beyond a day": "https://example.org/until",
              "a TTL beyond a day": "https://example.org/long"}
 
@@ -216,8 +216,9 @@ def too_long(port):
     yield "a first line of 9,000 octets", answered(port, line) == answers.unread(414)
     head = b"GET /10/a HTTP/1.1\r\nhost: h\r\n" + b"x: %s\r\n" % (b"a" * 9000) + b"\r\n"
     yield "a field of 9,000 octets", said(port, head) == answers.unread(431)
-    head = b"GET /10/a HTTP/1.1\r\nhost: h\r\n" + b"x: y\r\n" * 200 + b"\r\n"
-    yield "200 fields", said(port, head) == answers.unread(431)
+    for count, answer in ((64, answers.file(answers.ICON, KEPT % DAY, ICON)), (65, answers.unread(431)), (200, answers.unread(431))):
+        head = b"GET /favicon.ico HTTP/1.1\r\nhost: h\r\nconnection: close\r\n" + b"x: y\r\n" * (count - 2) + b"\r\n"
+        yield "%d fields" % count, answers.undated(said(port, head)) == answer
 
 
 def slow(port, ended):

@@ -17,8 +17,6 @@ BLOCK = re.compile(r"^```antt (\S+)\n(.*?)^```$", re.MULTILINE | re.DOTALL)
 NAME = re.compile(r"(?<![\w.'])[A-Za-z_][\w']+")
 DEFINED = re.compile(r"^(?:abbrev pub|unfoldable pub|pub record|pub data) (\S+)|^  pub (\w+) :", re.MULTILINE)
 BOUND = re.compile(r"\((\w[\w' ]*?) :|λ (\w+)\.")
-# The list of all that must be believed names everything and explains nothing.
-LISTED = "\n## What must be believed\n"
 
 
 def drifted(page):
@@ -37,7 +35,7 @@ def unexplained(page):
     """The words of the page's definitions that it neither defines nor names outside its blocks. Variables of equations have two letters at most."""
     text = repository.text_of("docs", page)
     code = "\n".join(line for _, block in BLOCK.findall(text) for line in block.splitlines() if not line.startswith("--"))
-    known = set(re.findall(r"[\w']+", BLOCK.sub("", text.split(LISTED)[0])))
+    known = set(re.findall(r"[\w']+", BLOCK.sub("", text)))
     for found in DEFINED.findall(code) + BOUND.findall(code):
         known |= set(" ".join(found).split())
     return ["docs/%s doesn't explain %s" % (page, name) for name in sorted(set(NAME.findall(code)) - known) if len(name) > 2]

@@ -1,11 +1,14 @@
 """release.py: puts together what is installed.
 
-    tools/release.py [FOLDER]     writes into FOLDER, by default out/, an archive and a Debian package of the commit that is checked out, and their sums
-    tools/release.py --try        does the same into a folder of its own, and tries what came of it; its last line is 'N passed, M failed'
+    tools/release.py [--from CLONE] [--proved] [FOLDER]   writes into FOLDER, by default out/, an archive and a Debian package of the commit that is checked out, and their sums
+    tools/release.py --try                                does the same into a folder of its own, and tries what came of it; its last line is 'N passed, M failed'
 
-Both hold the programs that the gate proved and built, the pages, the examples and a service file. Without --try it asks for a tree whose gate passed, and then has tools/wrong.py try
-all wrong bodies, those too that the gate leaves out; the repository's own folder notes for which tree each passed. The same tree gives the same octets: each moment in them is that of the commit."""
+Both hold the programs that the gate proved and built, the pages, the licence, the examples and a service file. A gate that passes keeps its programs in the repository's own folder, for just these files, so that a release needs
+no second proof: there, or by --from in another clone. Before a release tools/wrong.py tries the wrong bodies that the gate leaves out, of each crate that changed, or stands on one that did, since they were
+refused; with --proved it is made without, and says which weren't tried. The same files and programs give the same octets: each moment in them is that of the commit."""
 
+import argparse
+import glob
 import gzip
 import hashlib
 import io
@@ -25,9 +28,14 @@ import servers
 PRODUCT = "buckramjade"
 PROGRAMS = {"handled": "bin/handled", "hdl": "lib/buckramjade/hdl", "hdl_web": "lib/buckramjade/hdl_web"}
 SERVICE = "packaging/handled.service"
-SHOWN = (SERVICE, "packaging/haproxy.cfg", "packaging/nginx.conf")
-# What passes for a tree, by the file that notes it.
-GATE, WRONG_BODIES = "gate-passed", "wrong-bodies-refused"
+NGINX = "packaging/nginx.conf"
+FILES = (SERVICE, "packaging/haproxy.cfg", NGINX)
+# In the repository's own folder: the programs with which the gate passed, by a sum of the files that it passed for, and which crates' wrong bodies were refused, by a sum of what that read.
+PASSED, REFUSED = "passed", "refused"
+# What the gate writes itself once it has passed.
+MEASURED = "tools/limits.tsv"
+# The programs of so many gates are kept.
+KEPT = 3
 TENANTS = """# Replace this by the text of your publishers: see OPERATING.md beside this package, and `hdl init`.
 """
 CONTROL = """Package: {product}
@@ -43,52 +51,115 @@ Description: local handle service with isolated publishers
 """
 
 
-def git(*words):
-    return subprocess.run(["git", *words], cwd=repository.ROOT, capture_output=True, text=True, check=True).stdout.strip()
+def git(*words, at=repository.ROOT):
+    return subprocess.run(["git", *words], cwd=at, capture_output=True, text=True, check=True).stdout.rstrip()
 
 
-def tree():
-    """The tree that is checked out, or None where a file differs from it."""
-    return None if git("status", "--porcelain") else git("rev-parse", "HEAD^{tree}")
+def own(what, at=repository.ROOT):
+    """A place in the own folder of the repository, or of a clone."""
+    return os.path.join(git("rev-parse", "--absolute-git-dir", at=at), what)
 
 
-def mark(what):
-    """Where it is noted for which tree this passed."""
-    return os.path.join(git("rev-parse", "--absolute-git-dir"), what)
+def sum_of(lines):
+    return hashlib.sha256("\n".join(lines).encode()).hexdigest()
 
 
-def note_passed(what=GATE):
-    """Notes that the gate, or something else, passed for what is checked out, if that is a commit's tree."""
+def files(others="all"):
+    """Each file of the commit that is checked out, with the sum of its octets, but for what the gate measured; None where another file differs from it, or stands beside its files, or with "no" where one differs."""
+    if any(line[3:] != MEASURED for line in git("status", "--porcelain", "--untracked-files=" + others).splitlines()):
+        return None
+    return [line for line in git("ls-tree", "-r", "HEAD").splitlines() if line.partition("\t")[2] != MEASURED]
+
+
+def built(root=repository.ROOT):
+    """Where the gate leaves each program."""
+    return {crate: os.path.join(root, "crates", crate, "out", crate) for crate in PROGRAMS}
+
+
+def keep(programs):
+    """Keeps programs with which the gate passed for the files of the commit."""
+    place = own(PASSED)
+    folder = os.path.join(place, sum_of(files()))
+    shutil.rmtree(folder + ".new", ignore_errors=True)
+    os.makedirs(folder + ".new")
+    for crate, program in programs.items():
+        shutil.copy2(program, os.path.join(folder + ".new", crate))
+    shutil.rmtree(folder, ignore_errors=True)
+    os.rename(folder + ".new", folder)
+    by_age = sorted((os.path.join(place, name) for name in os.listdir(place)), key=os.path.getmtime)
+    for old in by_age[:-KEPT]:
+        shutil.rmtree(old)
+
+
+def note_passed():
+    """Notes that the gate passed for what is checked out, if that is a commit's."""
     try:
-        passed = tree()
-        if passed:
-            with open(mark(what), "w", encoding="utf-8") as file:
-                file.write(passed + "\n")
+        if files() is not None:
+            keep(built())
     except (OSError, subprocess.CalledProcessError):
         pass
 
 
-def has_passed(what=GATE):
-    try:
-        with open(mark(what), encoding="utf-8") as file:
-            return file.read().strip() == tree()
-    except OSError:
-        return False
+def passed(clones):
+    """The programs with which the gate passed for these files in one of these clones, or None."""
+    listed = files("no")
+    folders = [os.path.join(own(PASSED, clone), sum_of(listed)) for clone in clones] if listed is not None else []
+    folder = next(filter(os.path.isdir, folders), None)
+    return {crate: os.path.join(folder, crate) for crate in PROGRAMS} if folder else None
 
 
-def are_refused():
-    """Whether all wrong bodies are refused, as was noted for this tree or is tried now."""
-    if has_passed(WRONG_BODIES):
-        return True
-    words = [sys.executable, "tools/wrong.py", "--all", "--jobs", str(len(os.sched_getaffinity(0)))]
-    if subprocess.run(words, cwd=repository.ROOT, check=False).returncode:
-        return False
-    note_passed(WRONG_BODIES)
-    return True
+def wrong_keys(listed):
+    """Of each crate with wrong bodies a line of its name and a sum of all that trying them reads: the kit, the crate and all below it, and its edits."""
+    kit = said("rt", "version").stdout
+    parts = re.compile(r".*\tcrates/(\w+)/(src|specs|proofs|must-fail|wrong)/.*")
+    found = [(line, *parts.fullmatch(line).groups()) for line in listed if parts.fullmatch(line)]
+    keys = {}
+    for crate in repository.stands_on():
+        below = repository.below(crate)
+        read = [line for line, name, part in found if name == crate or name in below and part in ("src", "specs", "proofs")]
+        if any(name == crate and part in ("must-fail", "wrong") for _, name, part in found):
+            keys[crate] = "%s %s" % (crate, sum_of([kit, *read]))
+    return keys
+
+
+def note_refused(crates):
+    """Notes that all wrong bodies of these crates are refused, as they stand in the commit."""
+    listed = files()
+    keys = wrong_keys(listed) if listed is not None else {}
+    with open(own(REFUSED), "a", encoding="utf-8") as lines:
+        lines.write("".join(keys[crate] + "\n" for crate in crates if crate in keys))
+
+
+def untried(clones):
+    """The crates whose wrong bodies weren't refused as they stand, in any of these clones."""
+    noted = set()
+    for place in (own(REFUSED, clone) for clone in clones):
+        if os.path.exists(place):
+            with open(place, encoding="utf-8") as lines:
+                noted |= set(lines.read().splitlines())
+    return [crate for crate, key in wrong_keys(files("no")).items() if key not in noted]
+
+
+def are_refused(crates):
+    """Whether all wrong bodies of these crates are refused. tools/wrong.py notes it."""
+    words = [sys.executable, "tools/wrong.py", "--all", "--jobs", str(len(os.sched_getaffinity(0))), *crates]
+    return subprocess.run(words, cwd=repository.ROOT, check=False).returncode == 0
 
 
 def version():
     return re.search(r'VERSION: &str = "(\S+) ', repository.text_of("crates", "hdl_programs", "src", "lib.rt"))[1]
+
+
+def licences():
+    """The licences of all crates of the kit, of which the programs have some in them: each text once, behind the names of its crates."""
+    if not shutil.which("rt"):
+        sys.exit("release: the kit's `rt` isn't on the PATH, and the licences of its crates go with the programs: see docs/TOOLCHAIN.md")
+    crates = os.path.join(os.path.dirname(os.path.dirname(os.path.realpath(shutil.which("rt")))), "rattle")
+    found = {}
+    for name in sorted(glob.glob(os.path.join(crates, "*", "LICENSE*"))):
+        with open(name, encoding="utf-8", errors="replace") as text:
+            found.setdefault(text.read().strip(), []).append(os.path.relpath(name, crates))
+    return "\n\n".join("%s\n%s\n\n%s" % ("-" * 80, "\n".join(names), text) for text, names in found.items()).encode() + b"\n"
 
 
 def octets_of(*names):
@@ -97,40 +168,40 @@ def octets_of(*names):
 
 
 def pages():
-    """README, the changes, and all of docs/ and examples/, by their paths."""
-    names = git("ls-files", "README.md", "CHANGES.md", "docs", "examples").splitlines()
-    return {name: octets_of(name) for name in names}
+    """README, the licences, the changes, and all of docs/ and examples/, by their paths."""
+    names = git("ls-files", "README.md", "LICENSE", "CHANGES.md", "docs", "examples").splitlines()
+    return {**{name: octets_of(name) for name in names}, "LICENSES-OF-CRATES": licences()}
 
 
-def program_files(prefix):
+def program_files(prefix, programs):
     """The programs and the word `hdl`, each with its octets and mode, under a prefix."""
-    found = {prefix + place: (octets_of("crates", crate, "out", crate), 0o755) for crate, place in PROGRAMS.items()}
+    found = {prefix + place: (octets_of(programs[crate]), 0o755) for crate, place in PROGRAMS.items()}
     found[prefix + "bin/hdl"] = (octets_of("packaging/hdl"), 0o755)
     return found
 
 
-def archive_files():
-    found = program_files("")
-    found.update((os.path.basename(name), (octets_of(name), 0o644)) for name in SHOWN)
+def archive_files(programs):
+    found = program_files("", programs)
+    found.update((os.path.basename(name), (octets_of(name), 0o644)) for name in FILES)
     found.update((name, (octets, 0o644)) for name, octets in pages().items())
     return found
 
 
-def package_files():
-    found = program_files("usr/")
+def package_files(programs):
+    found = program_files("usr/", programs)
     found["lib/systemd/system/handled.service"] = (octets_of(SERVICE), 0o644)
-    found.update(("usr/share/doc/buckramjade/" + name.partition("/")[2], (octets_of(name), 0o644)) for name in SHOWN[1:])
+    found.update(("usr/share/doc/buckramjade/" + name.partition("/")[2], (octets_of(name), 0o644)) for name in FILES[1:])
     found["etc/buckramjade/publishers.tenants"] = (TENANTS.encode(), 0o600)
     for name, octets in pages().items():
         found["usr/share/doc/buckramjade/" + re.sub(r"^docs/", "", name)] = (octets, 0o644)
     return found
 
 
-def archived(files, folder, moment):
+def archived(contents, folder, moment):
     """A compressed archive of these files in a folder, the same octets each time."""
     made = io.BytesIO()
     with gzip.GzipFile(fileobj=made, mode="wb", mtime=moment) as packed, tarfile.open(fileobj=packed, mode="w") as archive:
-        for name, (octets, mode) in sorted(files.items()):
+        for name, (octets, mode) in sorted(contents.items()):
             entry = tarfile.TarInfo(folder + name)
             entry.size, entry.mode, entry.mtime, entry.uname, entry.gname = len(octets), mode, moment, "root", "root"
             archive.addfile(entry, io.BytesIO(octets))
@@ -144,17 +215,17 @@ def put(name, octets, mode):
     os.chmod(name, mode)
 
 
-def packaged(to, moment):
+def packaged(to, programs, moment):
     """Makes the Debian package, if its tool is there: its name, or None."""
     if not shutil.which("dpkg-deb"):
         return None
-    files = package_files()
-    sums = "".join("%s  %s\n" % (hashlib.md5(octets).hexdigest(), name) for name, (octets, _) in sorted(files.items()) if not name.startswith("etc/"))
+    put_there = package_files(programs)
+    sums = "".join("%s  %s\n" % (hashlib.md5(octets).hexdigest(), name) for name, (octets, _) in sorted(put_there.items()) if not name.startswith("etc/"))
     own = {"DEBIAN/control": CONTROL.format(product=PRODUCT, version=version()), "DEBIAN/md5sums": sums, "DEBIAN/conffiles": "/etc/buckramjade/publishers.tenants\n"}
     name = "%s_%s_amd64.deb" % (PRODUCT, version())
     with tempfile.TemporaryDirectory() as folder:
         os.chmod(folder, 0o755)
-        for place, (octets, mode) in files.items():
+        for place, (octets, mode) in put_there.items():
             put(os.path.join(folder, place), octets, mode)
         for place, text in own.items():
             put(os.path.join(folder, place), text.encode(), 0o644)
@@ -163,14 +234,14 @@ def packaged(to, moment):
     return name
 
 
-def release(to):
-    """Writes all into a folder, and answers the names."""
+def release(to, programs):
+    """Writes all into a folder, with these programs, and answers the names."""
     os.makedirs(to, exist_ok=True)
     moment = int(git("log", "-1", "--format=%ct"))
     folder = "%s-%s" % (PRODUCT, version())
     names = [folder + "-linux-x86_64.tar.gz"]
-    put(os.path.join(to, names[0]), archived(archive_files(), folder + "/", moment), 0o644)
-    package = packaged(to, moment)
+    put(os.path.join(to, names[0]), archived(archive_files(programs), folder + "/", moment), 0o644)
+    package = packaged(to, programs, moment)
     names += [package] if package else []
     sums = ""
     for name in names:
@@ -195,11 +266,41 @@ def answers(bin_folder):
         yield "hdl resolve", asked.stdout == "https://example.org/report-7\n"
 
 
+def ran(clone, *words):
+    """What tools/release.py of a clone says."""
+    return said(sys.executable, "tools/release.py", *words, cwd=clone)
+
+
+def committed(clone, name):
+    """Writes a line more into a file of a clone, and commits that."""
+    with open(os.path.join(clone, name), "a", encoding="utf-8") as file:
+        file.write("\n")
+    git("-c", "user.name=release", "-c", "user.email=release", "commit", "-q", "-a", "-m", "Try", at=clone)
+
+
+def kept_trials(room, archive):
+    """What the gate kept is enough for a release: in its clone, in another one, and once its minutes are committed. For other files it is none."""
+    here, other = (os.path.join(room, name) for name in ("here", "other"))
+    for clone in (here, other):
+        git("clone", "-q", repository.ROOT, clone)
+    name = os.path.basename(archive)
+    yield "no release without a gate", ran(here, "--proved", "made").returncode == 1
+    said(sys.executable, "-c", "import release; release.keep(release.built(%r))" % repository.ROOT, cwd=os.path.join(here, "tools"))
+    for clone, words in ((here, ()), (other, ("--from", here))):
+        done = ran(clone, "--proved", *words, "made")
+        yield "a release of what was kept", done.returncode == 0 and said("cmp", archive, os.path.join(clone, "made", name)).returncode == 0
+    yield "a release says what wasn't tried", "weren't tried" in done.stderr
+    committed(other, MEASURED)
+    yield "a release with the gate's minutes", ran(other, "--proved", "--from", here, "made").returncode == 0
+    committed(other, "README.md")
+    yield "no release of other files", ran(other, "--proved", "--from", here, "made").returncode == 1
+
+
 def trials(room):
     first, second = os.path.join(room, "first"), os.path.join(room, "second")
-    names = release(first)
+    names = release(first, built())
     yield "the sums", said("sha256sum", "--check", "--strict", "SHA256SUMS", cwd=first).returncode == 0
-    release(second)
+    release(second, built())
     for name in names:
         yield "the same %s twice" % name, said("cmp", os.path.join(first, name), os.path.join(second, name)).returncode == 0
     with tarfile.open(os.path.join(first, names[0])) as archive:
@@ -208,9 +309,12 @@ def trials(room):
     if len(names) > 1:
         said("dpkg-deb", "--extract", os.path.join(first, names[1]), os.path.join(room, "installed"))
         yield from answers(os.path.join(room, "installed", "usr", "bin"))
-    for name in SHOWN:
-        shown = "\n".join("    " + line if line else "" for line in repository.text_of(*name.split("/")).splitlines())
-        yield "docs/OPERATING.md shows %s" % name, shown in repository.text_of("docs", "OPERATING.md")
+    yield from kept_trials(room, os.path.join(first, names[0]))
+    shown = "\n".join("    " + line if line else "" for line in repository.text_of(*NGINX.split("/")).splitlines())
+    yield "docs/PROXY.md shows %s" % NGINX, shown in repository.text_of("docs", "PROXY.md")
+    named = re.findall(r"^\| `(\w+=[^.`]*)", repository.text_of("docs", "OPERATING.md"), re.MULTILINE)
+    service = repository.text_of(*SERVICE.split("/"))
+    yield "docs/OPERATING.md names lines of %s" % SERVICE, len(named) > 3 and all(it in service for it in named if not it.startswith("Ambient"))
 
 
 def tried():
@@ -224,18 +328,30 @@ def tried():
     return 1 if failed else 0
 
 
-def main(words):
-    if words == ["--try"]:
+def words_of(given):
+    words = argparse.ArgumentParser(prog="tools/release.py", description=__doc__.split("\n\n", maxsplit=1)[0])
+    words.add_argument("--try", dest="tries", action="store_true", help="makes one of the programs that stand here, and tries it")
+    words.add_argument("--from", dest="clone", metavar="CLONE", help="a clone of this repository in which the gate passed for just these files")
+    words.add_argument("--proved", action="store_true", help="without trying wrong bodies: what the gate proved is enough")
+    words.add_argument("folder", nargs="?", default=repository.path("out"), metavar="FOLDER", help="where it is written; out/ by default")
+    return words.parse_args(given)
+
+
+def main(given):
+    words = words_of(given)
+    if words.tries:
         return tried()
-    if len(words) > 1 or words and words[0].startswith("-"):
-        sys.exit(__doc__)
-    if not has_passed():
-        sys.exit("release: the gate hasn't passed for what is checked out here, or a file differs from it: commit, and run .ci/run first")
-    if not are_refused():
+    clones = [repository.ROOT] + ([words.clone] if words.clone else [])
+    programs = passed(clones)
+    if not programs:
+        sys.exit("release: the gate hasn't passed for what is checked out here, or a file differs from it: commit, and run .ci/run first, or name by --from a clone in which it passed for these files")
+    left = untried(clones)
+    if left and words.proved:
+        print("release: wrong bodies of these crates weren't tried as they stand; tools/wrong.py --all does that: %s" % " ".join(left), file=sys.stderr)
+    elif left and not are_refused(left):
         sys.exit("release: tools/wrong.py failed, as its lines above say: mend that, commit, and run .ci/run again")
-    to = words[0] if words else repository.path("out")
-    for name in release(to):
-        print(os.path.join(to, name))
+    for name in release(words.folder, programs):
+        print(os.path.join(words.folder, name))
     return 0
 
 

@@ -65,11 +65,6 @@ def below(*names):
     return [name for name in own if name in found]
 
 
-def above(name):
-    """The crates that stand on this one directly."""
-    return [one for one, below_it in stands_on_own().items() if name in below_it]
-
-
 def lines_of(names):
     """The lines of crates.txt that list these crates."""
     return [line for _, name, _, line in listed(text_of("crates.txt").splitlines()) if name in names]

@@ -8,9 +8,12 @@ import contextlib
 import http.client
 import json
 import os
+import re
 import socket
 import struct
+import subprocess
 import sys
+import tempfile
 import threading
 import urllib.parse
 
@@ -111,7 +114,15 @@ LACKS = "The key lacks a permission for this."
 WRONG = "The secret isn't that of the key."
 NO_VALUES = "The server refuses the values: a record has an HS_ADMIN value, and at most 1024 values."
 SILENT = "No answer of a server came. Whether this was done isn't known."
-LONG_LIST = "The prefix has more handles than one answer of the server says. Who runs it writes all of them by `handled export`."
+UNREACHED = "The server to which changes go wasn't reached. Nothing was done."
+ELSEWHERE = "No server that was asked has handles of this prefix."
+WORDS = "The query has a word that isn't done here. Nothing was done. A PUT takes overwrite, index and mintNewSuffix, a DELETE index."
+ONCE = "The words overwrite, mintNewSuffix and auth are true or false, and stand once."
+MINTS = "With mintNewSuffix a new handle is created, so index and overwrite=true aren't taken."
+NONE_NEW = "Of eight suffixes that were drawn none was new. Nothing was done."
+STRANGE = "a value has a member other than index, type, data, ttl, permissions and timestamp, or its data has one that its format hasn't"
+LONG_LIST = "The prefix has more handles than one answer of the server says. Whoever runs this proxy gives it a copy of the table: `handled copy`, and then `--lists` with the copy."
+COPIED = "The prefix has more handles than one answer of the server says: these are of a copy of the table."
 RECORD = "The record can't be read: %s."
 
 # Requests one after the other: method, path, body, key, and the status and body of the answer.
@@ -137,9 +148,18 @@ CHANGES = (
     ("PUT", "10/none?index=various", {"values": [URL]}, KEY, 404, refused("10/none", ABSENT, 100)),
     ("PUT", "10/kept?index=1", {"values": [URL]}, basic("301:0.NA/10", "weak"), 403, refused("10/kept", LACKS, 401)),
     ("DELETE", "10/kept", None, basic("301:0.NA/10", "weak"), 403, refused("10/kept", LACKS, 401)),
-    ("PUT", "20/a", {"values": [ADMINISTRATOR]}, KEY, 404, refused("20/a", "No server that was asked has handles of this prefix.", 302)),
+    ("PUT", "20/a", {"values": [ADMINISTRATOR]}, KEY, 404, refused("20/a", ELSEWHERE, 100)),
     ("PUT", "ten", {"values": [ADMINISTRATOR]}, KEY, 400, refused("ten", "This is no handle: the name has no slash.", 102)),
-    ("PUT", "10/a?overwrite=perhaps", [URL], KEY, 400, refused("10/a", "The words overwrite and auth are true or false.", 102)),
+    ("PUT", "10/a?overwrite=perhaps", [URL], KEY, 400, refused("10/a", ONCE, 102)),
+    ("PUT", "10/a?overwrite=false&overwrite=true", [URL], KEY, 400, refused("10/a", ONCE, 102)),
+    ("PUT", "10/a?mintnewsuffix=true", [URL], KEY, 400, refused("10/a", WORDS, 102)),
+    ("PUT", "10/a?overwrite=true&pretty", [URL], KEY, 400, refused("10/a", WORDS, 102)),
+    ("PUT", "10/a?auth=true", [URL], KEY, 400, refused("10/a", WORDS, 102)),
+    ("DELETE", "10/a?overwrite=true", None, KEY, 400, refused("10/a", WORDS, 102)),
+    ("DELETE", "10/a?type=EMAIL", None, KEY, 400, refused("10/a", WORDS, 102)),
+    ("PUT", "10/a?mintNewSuffix=yes", [URL], KEY, 400, refused("10/a", ONCE, 102)),
+    ("PUT", "10/a?mintNewSuffix=true&overwrite=true", [URL], KEY, 400, refused("10/a", MINTS, 102)),
+    ("PUT", "10/a?mintNewSuffix=true&index=various", [URL], KEY, 400, refused("10/a", MINTS, 102)),
     ("DELETE", "10/a?index=x", None, KEY, 400, refused("10/a", "An index is a number below 4294967296.", 102)),
     ("POST", "10/a", [URL], KEY, 405, refused("/api/handles/10/a", "A handle is asked for by GET or HEAD, and changed by PUT or DELETE.", 5)),
 )
@@ -175,6 +195,15 @@ BODIES = (
     ([entry(1, "URL", "x", ttl="soon")], "value 1: the TTL isn't a number of seconds below 4294967296"),
     ([entry(1, "URL", "x", permissions="111")], "value 1: the permissions aren't four digits 0 or 1"),
     ([URL, ADMINISTRATOR, entry(1, "TEXT", "x")], "value 1: its index stands twice"),
+    ('[{"index": 1, "index": 2, "type": "URL", "data": "x"}]', "an object of it has a key twice"),
+    ('{"values": [], "values": [{"index": 1, "type": "URL", "data": "x"}]}', "an object of it has a key twice"),
+    ('[{"index": 1, "type": "URL", "data": {"format": "string", "value": "x", "\\u0076alue": "y"}}]', "an object of it has a key twice"),
+    ({"values": [URL], "overwrite": True}, "the body has a member other than values, handle and responseCode"),
+    ([ADMINISTRATOR, entry(1, "URL", "x", references=[])], STRANGE),
+    ([entry(1, "URL", {"format": "string", "value": "x", "charset": "latin1"})], STRANGE),
+    ([entry(1, "HS_ADMIN", {"format": "admin", "value": {"handle": "0.NA/10", "index": 1, "permissions": "0" * 12, "until": 1}})], STRANGE),
+    ([entry(1, "HS_VLIST", {"format": "vlist", "value": [{"handle": "10/a", "index": 1}, {"handle": "10/a", "index": 2, "weight": 1}]})], STRANGE),
+    (dict(URL, comment="x"), STRANGE),
 )
 
 
@@ -215,6 +244,28 @@ def changes(port):
     yield "what was there stays", shown(ask(port, "GET", at("10/a?auth=true"))) == (200, LEFT)
 
 
+MINTED = re.compile("10/mint-[0-9a-hjkmnp-tv-z]{16}")
+
+
+def minted(port):
+    """Each request with mintNewSuffix creates another handle, and overwrites none."""
+    record, path = {"values": [ADMINISTRATOR, URL]}, at("10/mint-?mintNewSuffix=true")
+    found = [ask(port, "PUT", path + more, record)[::2] for more in ("", "&overwrite=false", "")]
+    names = [told.get("handle", "") for _, told in found]
+    yield "a suffix is drawn", [(status, told.get("responseCode")) for status, told in found] == [(201, 1)] * 3 and all(map(MINTED.fullmatch, names)) and len(set(names)) == 3
+    yield "the handles are there", [[value[0] for value in shown(ask(port, "GET", at(name)))[1]] for name in names] == [[1, 100]] * 3
+    yield "the name itself isn't", ask(port, "GET", at("10/mint-"))[::2] == (404, refused("10/mint-", ABSENT, 100))
+    yield "a body that is none", ask(port, "PUT", path, "{")[::2] == (400, refused("10/mint-", RECORD % "the body isn't JSON, or it is nested too deep", 202))
+    yield "no key", ask(port, "PUT", path, record, None)[::2] == (401, refused("10/mint-", NO_KEY, 402))
+    long = "10/" + "x" * 2040
+    yield "a name that gets too long", ask(port, "PUT", at(long + "?mintNewSuffix=true"), record)[::2] == (400, refused(long, "This is no handle: the name is too long.", 102))
+    status, _, told = ask(port, "PUT", at("10/?mintNewSuffix=true"), record)
+    yield "a suffix alone", status == 201 and re.fullmatch("10/[0-9a-z]{16}", told["handle"])
+    names.append(told["handle"])
+    yield "false is the same as none", ask(port, "PUT", at("10/mint-?mintNewSuffix=false"), record)[::2] == (201, done("10/mint-"))
+    yield "each is deleted", [ask(port, "DELETE", at(name))[0] for name in (*names, "10/mint-")] == [200] * 5
+
+
 def large(port):
     long = {"values": [ADMINISTRATOR, entry(1, "A", "x" * 32768), entry(2, "B", "x" * 32768)]}
     found = ask(port, "PUT", at("10/a"), long)
@@ -240,6 +291,38 @@ def listed(port):
     yield "a list of no prefix", ask(port, "GET", "/api/handles")[0] == 400
     yield "a list that is too long", ask(port, "GET", "/api/handles?prefix=30&page=0&pageSize=10")[::2] == (502, refused("0.NA/30", LONG_LIST, 2))
     yield "a page that is no number", ask(port, "GET", "/api/handles?prefix=10&page=x")[0] == 400
+
+
+def lists(cases):
+    """A list beyond one reply is that of a copy, whole or in pages, for who may list it at the server; any other list stays the server's."""
+    names = sorted(handle.decode() for handle, _ in OPENING if handle.startswith(b"30/"))
+
+    def page(handles, number, size):
+        return 200, {"handles": handles, "message": COPIED, "page": number, "pageSize": size, "prefix": "30", "responseCode": 1, "totalCount": 700}
+
+    with tempfile.TemporaryDirectory() as folder:
+        table, copy = os.path.join(folder, "handles.db"), os.path.join(folder, "copy.db")
+        with servers.serving(tenants, 1, options=["--table", table]) as (behind,):
+            subprocess.run([servers.HANDLED, "copy", "--table", table, "--to", copy], check=True, capture_output=True, timeout=60 * servers.SLOWER)
+            with proxy(behind, "--writes", "--lists", copy) as port:
+                asked = "/api/handles?prefix=30"
+                cases += [
+                    ("a list of a copy", ask(port, "GET", asked)[::2] == page(names, 0, 700)),
+                    ("its pages", [ask(port, "GET", asked + "&page=%d&pageSize=300" % number)[::2] for number in range(4)]
+                     == [page(names[300 * number:300 * number + 300], number, 300) for number in range(4)]),
+                    ("its count", ask(port, "GET", asked + "&pageSize=0")[::2] == page([], 0, 0)),
+                    ("a list of a copy without a key", ask(port, "GET", asked, key=None)[::2] == (401, refused("0.NA/30", NO_KEY, 402))),
+                    ("a list of a copy with a wrong secret", ask(port, "GET", asked, key=basic(secret="x"))[::2] == (401, refused("0.NA/30", WRONG, 403))),
+                    ("a list of a copy without a permission", ask(port, "GET", asked, key=basic("301:0.NA/10", "weak"))[::2] == (403, refused("0.NA/30", LACKS, 401))),
+                    ("a list of the server", ask(port, "GET", "/api/handles?prefix=10")[2].get("handles") == ["10/kept"]),
+                ]
+        with open(os.path.join(folder, "text"), "w", encoding="ascii") as text_file:
+            text_file.write("no database\n" * 100)
+        for words, status, said in ((["--writes", "--lists", os.path.join(folder, "none")], 1, "hdl: --lists "), (["--lists", copy], 2, "error: "),
+                                    (["--writes", "--lists", os.path.join(folder, "text")], 1, "hdl: --lists ")):
+            ended = subprocess.run([PROGRAM, "--listen", "127.0.0.1:0", "--server", "h:1", *words], stdin=subprocess.DEVNULL, capture_output=True, text=True, timeout=20 * servers.SLOWER, check=False)
+            cases.append((" ".join(words[:2]) + " is refused in words", (ended.returncode, ended.stdout) == (status, "") and ended.stderr.startswith(said)))
+        cases.append(("nothing is made", not os.path.exists(os.path.join(folder, "none"))))
 
 
 def browsers(port):
@@ -291,7 +374,7 @@ def real(cases):
             ended = []
             waiting = threading.Thread(target=slow, args=(port, ended))
             waiting.start()
-            for part in (changes, large, at_once, listed, browsers):
+            for part in (changes, minted, large, at_once, listed, browsers):
                 cases += part(port)
             waiting.join()
             cases.append(("a body that doesn't come", ended[0].startswith(b"HTTP/1.1 408 ") and b"The body didn't come within 10 seconds. Nothing was done." in ended[0]))
@@ -356,10 +439,35 @@ def broken(cases):
         cases.append((name + ": what is asked", came == operations))
 
 
+def drawn_again(cases):
+    """A suffix is drawn until the handle is new, and eight times at most."""
+    for name, script, status, wanted in (("a suffix that is new", (code(101), code(101), code(1)), 201, None), ("none is new", (code(101),) * 8, 409, refused("10/x", NONE_NEW, 101)),
+                                         ("no answer to it", (code(101), None), 502, None)):
+        came = []
+        with socket.create_server(("127.0.0.1", 0)) as listener:
+            threading.Thread(target=serve_script, args=(listener, script, came), daemon=True).start()
+            with proxy(listener.getsockname()[1], "--writes") as port:
+                found, _, told = ask(port, "PUT", at("10/x?mintNewSuffix=true"), {"values": [ADMINISTRATOR]})
+        cases.append((name, found == status and (told == wanted if wanted else re.fullmatch("10/x[0-9a-z]{16}", told["handle"]))))
+        cases.append((name + ": what is asked", came == [wire.CREATE] * len(script)))
+
+
+def unreached(cases):
+    """A change to a server that isn't reached says that nothing was done, and how soon to come again."""
+    (closed,) = servers.free_ports(1)
+    with proxy(closed, "--writes") as port:
+        for method, path in (("PUT", "10/a"), ("PUT", "10/a?index=1"), ("DELETE", "10/a"), ("DELETE", "10/a?index=1"), ("PUT", "10/a?index=various&overwrite=false")):
+            status, fields, told = ask(port, method, at(path), [URL] if method == "PUT" else None)
+            cases.append(("%s %s where nobody listens" % (method, path), (status, fields["retry-after"], told) == (502, "3", refused("10/a", UNREACHED, 2))))
+
+
 def main():
     cases = []
     real(cases)
     broken(cases)
+    drawn_again(cases)
+    unreached(cases)
+    lists(cases)
     return servers.tally(cases, "another answer than the one that should be")
 
 

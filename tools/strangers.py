@@ -1,7 +1,7 @@
 """strangers.py: connects to the proved program crates/handled/out/handled as strangers do who hold a lane: one that says nothing, one that gives its frame
 slower than a frame may come, and one that asks for much and reads nothing. Each must be closed, at its time and not before, and the
 client that waits behind it must get its whole answer. On a lane that many share the slow one and the greedy one are closed too, and the others there
-get their answers meanwhile.
+get their answers meanwhile. And one names keys that nobody has, behind lists that are dear to search: each of its requests may look up some of them alone.
 
 The cases run side by side and take some 12 seconds, of which most is waiting. Its last line is 'N passed, M failed', a case counting one."""
 
@@ -21,13 +21,25 @@ import wire
 IDLE, LIMIT, LATE = 2, 10, 8
 OFTEN = 800
 LARGE = wire.value(1, b"TEXT", b"x" * 32000, wire.PUBLIC_READ)
+# How many lists have the same references, which these lists are the first of, and how many requests looking all of them up takes: 65,536 octets each, and a list has some 12,000.
+LISTS, REFERENCES, REQUESTS = 100, 1_000, range(10, 40)
+BUSY, NOT_AUTHORIZED = 3, 400
 
 
 def tenants(*ports):
-    """A publisher with two lanes for connections, two with one, and one with an overflow lane beside two, who share a prefix."""
-    names = ("silent", "slow", "greedy", "crowded")
-    lines = ["publisher %s %d %d" % row for row in zip(names, (3, 2, 2, 4), ports)]
-    return wire.text(lines + ["prefix 10 %s" % name for name in names] + [wire.value_line(b"10/large", LARGE)])
+    """A publisher with two lanes for connections, three with one, and one with an overflow lane beside two, who share a prefix."""
+    names = ("silent", "slow", "greedy", "crowded", "dear")
+    lines = ["publisher %s %d %d" % row for row in zip(names, (3, 2, 2, 4, 2), ports)]
+    rows = [wire.value_line(*row) for row in [(b"10/large", LARGE)] + lists()]
+    return wire.text(lines + ["prefix 10 %s" % name for name in names] + rows)
+
+
+def lists():
+    """The rows of these lists, and of a handle whose administrator is the first."""
+    places = [(b"10/lists", index + 1) for index in range(LISTS)] + [(b"10/absent", index + 1) for index in range(REFERENCES - LISTS)]
+    data = wire.listed([wire.reference(*place) for place in places])
+    rows = [(handle, wire.value(index, b"HS_VLIST", data, wire.PUBLIC_READ)) for handle, index in places[:LISTS]]
+    return rows + [(b"10/kept", wire.value(100, b"HS_ADMIN", wire.administrator(*places[0]), wire.PUBLIC_READ))]
 
 
 def asked(request, handle=b"10/a"):
@@ -122,19 +134,38 @@ def crowded(port):
     return good and count_to_end(greedy_one) < OFTEN * len(LARGE) and all(is_answered(other, 3) for other in others)
 
 
+def answered_at_last(port, index):
+    """How many requests by a key that nobody has are answered Busy, and the code of the one behind."""
+    with servers.Client(port, b"10/nobody", index, b"made up") as one:
+        for count in range(REQUESTS.stop + 1):
+            code = one.delete(b"10/kept")
+            if code != BUSY:
+                break
+        return count, code
+
+
+def dear(port):
+    """A key that nobody has, for a handle with a hundred lists of the same references: one request looks up some of them, and the next such key is answered at once."""
+    count, code = answered_at_last(port, 1)
+    return count in REQUESTS and code == NOT_AUTHORIZED and answered_at_last(port, 2) == (0, NOT_AUTHORIZED)
+
+
 def tried(case, port, passed):
     if case(port):
         passed.append(case)
 
 
 def main():
-    cases, passed = (silent, slow, greedy, crowded), []
+    timed, passed = (silent, slow, greedy, crowded), []
+    cases = (*timed, dear)
     with servers.serving(tenants, len(cases), options=("--idle", str(IDLE))) as ports:
-        threads = [threading.Thread(target=tried, args=(case, port, passed), daemon=True) for case, port in zip(cases, ports)]
+        threads = [threading.Thread(target=tried, args=(case, port, passed), daemon=True) for case, port in zip(timed, ports)]
         for thread in threads:
             thread.start()
         for thread in threads:
             thread.join(60)
+        # what it costs the server would be in the others' times
+        tried(dear, ports[-1], passed)
     return servers.tally([("%s, %s" % (case.__name__, case.__doc__), case in passed) for case in cases], "it isn't so")
 
 

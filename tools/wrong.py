@@ -3,13 +3,15 @@
 
 The edits of a crate are tried together: one text has as many of them as change functions of their own, it is checked once, and each of these functions must be refused by a goal of its own. A caller
 rests on a function's contract and not on its body, so a wrong body beside another changes nothing of its verdict. What isn't told so is tried alone, as are edits of constants and definitions. A
-crate that isn't proved is proved first, and each check begins with what that kept. --jobs N tries N crates at a time, with one check of one job each.
+crate that isn't proved is proved first, and each check begins with what that kept. --jobs N tries N crates at a time, with one check of one job each, as far as there is memory for one more. With --all it notes
+for tools/release.py which crates it tried without a failure, if no file differs from the commit.
 
 An edit that can't be applied, doesn't compile, or is refused only since a proof names what it took away has failed. The last line is 'N passed, M failed'."""
 
 import argparse
 import collections
 import concurrent.futures
+import contextlib
 import functools
 import glob
 import os
@@ -18,10 +20,12 @@ import shutil
 import subprocess
 import sys
 import tempfile
+import threading
 
 # nothing is left beside the tools
 sys.dont_write_bytecode = True
 import lanes
+import release
 import repository
 
 PARTS = ("src", "specs", "proofs")
@@ -41,6 +45,30 @@ Said = collections.namedtuple("Said", "lines status seconds")
 
 class Unfit(Exception):
     """Why an edit can't be applied."""
+
+
+class Memory:
+    """Lets a check begin only where there is memory for it beside those that run. One alone begins at once, since nothing that runs here would make room for it."""
+
+    def __init__(self, free):
+        self.free, self.room, self.running, self.turn = free, 0.85 * free(), [], threading.Condition()
+
+    def fits(self, bytes_needed):
+        return not self.running or sum(self.running) + bytes_needed <= self.room and bytes_needed <= 0.85 * self.free()
+
+    @contextlib.contextmanager
+    def taken(self, bytes_needed):
+        with self.turn:
+            while not self.fits(bytes_needed):
+                # others on the machine say nothing when they end
+                self.turn.wait(5)
+            self.running.append(bytes_needed)
+        try:
+            yield
+        finally:
+            with self.turn:
+                self.running.remove(bytes_needed)
+                self.turn.notify_all()
 
 
 class Edit:
@@ -208,12 +236,13 @@ def told_together(crate, together, texts, check):
     return [edit for edit, functions in together if is_refusal(said) and all(is_told(crate, one, said) for one in functions)]
 
 
-def tried(crate, edits):
+def tried(crate, edits, memory):
     """Tries the edits of a crate, all together as far as that tells each, and prints each verdict once it is known, and what all took. Answers how many are refused, and how many aren't."""
     texts, seen, counts = texts_of(crate), [], collections.Counter()
 
     def check(made):
-        seen.append(checked(crate, {file: text for file, text in made.items() if text != texts[file]}))
+        with memory.taken(lanes.needed(crate)):
+            seen.append(checked(crate, {file: text for file, text in made.items() if text != texts[file]}))
         return seen[-1]
 
     def tell(edit, what):
@@ -273,9 +302,12 @@ def main():
     crates = {crate.name: crate for crate in kit().crates_below(repository.ROOT)}
     # the largest first, so that none of them is left for the end
     order = sorted(edits, key=lambda name: -crates[name].count(rb"\n"))
+    memory = Memory(lanes.free)
     with concurrent.futures.ThreadPoolExecutor(words.jobs) as pool:
-        counts = [(0, 0), *pool.map(lambda name: tried(crates[name], edits[name]), order)]
-    passed, failed = (sum(column) for column in zip(*counts))
+        counts = list(pool.map(lambda name: tried(crates[name], edits[name], memory), order))
+    if words.all:
+        release.note_refused([name for name, (_, failed) in zip(order, counts) if not failed])
+    passed, failed = (sum(column) for column in zip((0, 0), *counts))
     print("%d passed, %d failed" % (passed, failed))
     return 1 if failed else 0
 
