@@ -133,7 +133,11 @@ fn write_joined<D: Door, C: Clock>(
 }
 
 /// One try to take an outcome, which is then written, and with it those that are there.
-pub(crate) fn relay<D: Door, C: Clock>(door: &mut D, line: &mut WorkerLane, clock: &mut C) -> Result<(), Stop>
+pub(crate) fn relay<D: Door, C: Clock>(
+    door: &mut D,
+    line: &mut WorkerLane,
+    clock: &mut C,
+) -> Result<(), Stop>
     ensures turns { OnOk result (line.new.turns < line.old.turns) }
     ensures relays { Relays D.Door door.old line.old result door.new line.new }
     ensures put { put_by line.new ≡ put_by line.old }

@@ -16,7 +16,7 @@ loop-line-preserved g c =
       talk = λ t.
           framed_on _ _ (g.D.Door.current c.find.new.door) (g.D.Door.current c.submit_frame.new.door) _ _ _ _ _ _ _
           (far_on _ _ (g.D.Door.current c.loop-line.door) (g.D.Door.current c.find.new.door) _ _ _ _ _
-    (c.loop-line.invariant.talk t) c.find.ensures.put (c.in_ok-bytes.ensures.relays.whole t) (c.find.ensures.relays.goes_on.connection.ended t)) f.1 f.0 c.in_ok-submit_frame-in-Whole.ensures.put (c.in_ok-submit_frame-in-Whole.ensures.relays.whole t) (c.submit_frame.ensures.relays.goes_on.connection.ended t);
+          (c.loop-line.invariant.talk t) c.find.ensures.put (c.in_ok-bytes.ensures.relays.whole t) (c.find.ensures.relays.goes_on.connection.ended t)) f.1 f.0 c.in_ok-submit_frame-in-Whole.ensures.put (c.in_ok-submit_frame-in-Whole.ensures.relays.whole t) (c.submit_frame.ensures.relays.goes_on.connection.ended t);
     }
 
 pub returns-in_err-bytes-clause-cut : goal.returns-in_err-bytes-clause-cut
