@@ -30,6 +30,8 @@ END = 5
 # Octets of a log that has no page.
 EMPTY = 41
 REFERENCE = "300:0.NA/10"
+# The address of a proxy before the server.
+PROXY = "127.0.0.2"
 
 
 def tenants(*ports):
@@ -344,9 +346,75 @@ def together(folder):
     servers.end(process)
 
 
+def header(command, family, rest):
+    """A header of the PROXY protocol, version 2."""
+    return b"\r\n\r\n\0\r\nQUIT\n" + bytes([0x20 | command, family]) + len(rest).to_bytes(2, "big") + rest
+
+
+class Proxied(Stream):
+    """A client by a connection of the proxy, which begins with these octets."""
+
+    def __init__(self, port, *parts):
+        self.socket = socket.create_connection(("127.0.0.1", port), 30, (PROXY, 0))
+        self.socket.setsockopt(socket.IPPROTO_TCP, socket.TCP_NODELAY, 1)
+        self.address = "%s:%d" % self.socket.getsockname()
+        self.request = 0
+        for part in parts:
+            self.socket.sendall(part)
+            time.sleep(0.05)
+
+
+def closed(client):
+    """Whether the server closes a connection without an answer."""
+    with contextlib.suppress(ConnectionError):
+        client.send(delete(b"10/unheard"))
+        return client.socket.recv(1) == b""
+    return True
+
+
+def behind_a_proxy(folder):
+    """A proxy says whose its connections are, on a lane for one connection and on the overflow lane; nobody else is believed, and the proxy has to say it."""
+    log = os.path.join(folder, "proxied.log")
+    process, (acme, bolt) = servers.serve(tenants, 2, options=("--log", log, "--proxied", PROXY))
+    ports = (50001).to_bytes(2, "big") + (2641).to_bytes(2, "big")
+    v4 = header(1, 0x11, socket.inet_aton("192.0.2.7") + socket.inet_aton("192.0.2.1") + ports)
+    v6 = header(1, 0x21, socket.inet_pton(socket.AF_INET6, "2001:db8::7") + bytes(16) + ports + b"\4\0\1\0")
+    expected = []
+    for name, from_, parts in (("in pieces", "192.0.2.7:50001", (v4[:5], v4[5:20], v4[20:])), ("by IPv6", "[2001:db8::7]:50001", (v6,)), ("for itself", None, (header(0, 0, b""),)),
+                               ("by another family", None, (header(1, 0x31, b"x" * 216),))):
+        client = Proxied(acme, *parts)
+        yield "the proxy speaks %s" % name, client.ask(delete(b"10/gone")) == wire.ABSENT
+        expected.append("acme 0 %s delete 10/gone - 100" % (from_ or client.address))
+        client.socket.close()
+    client = Proxied(acme, v4 + wire.frame(delete(b"10/gone"), 0, 1))
+    yield "a request comes with the header", code_of(client.reply()[1]) == wire.ABSENT
+    expected.append("acme 0 192.0.2.7:50001 delete 10/gone - 100")
+    client.socket.close()
+    for name, octets in (("no header", b""), ("version 1", b"PROXY TCP4 192.0.2.7 192.0.2.1 50001 2641\r\n"), ("another command", header(2, 0x11, bytes(12))), ("too long a header", header(1, 0x11, bytes(1009))),
+                         ("too short a header", header(1, 0x21, bytes(35)))):
+        client = Proxied(acme, octets)
+        yield name, closed(client)
+        client.socket.close()
+    client = Stream(acme)
+    yield "another address has no header", client.ask(delete(b"10/gone")) == wire.ABSENT
+    expected.append("acme 0 %s delete 10/gone - 100" % client.address)
+    others = [Proxied(bolt, header(0, 0, b"")) for _ in range(2)]
+    for other in others:
+        yield "a lane answers", other.ask(wire.resolution(b"10/open")) == wire.SUCCESS
+    for name, parts in (("in pieces", (v4[:13], v4[13:])), ("with a request", (v4,))):
+        crowded = Proxied(bolt, *parts)
+        yield "the proxy speaks on the overflow lane, %s" % name, crowded.ask(delete(b"10/gone")) == wire.ABSENT
+        expected.append("bolt 2 192.0.2.7:50001 delete 10/gone - 100")
+    yield "no header on the overflow lane", closed(Proxied(bolt))
+    yield "the log names the clients", logged(log, len(expected)) == expected
+    servers.end(process)
+    done = subprocess.run([servers.HANDLED, "serve", "--proxied", "localhost"], input=b"", stdout=subprocess.PIPE, stderr=subprocess.PIPE)
+    yield "no address of a proxy", (done.returncode, b"'--proxied <ADDRESS>'" in done.stderr) == (2, True)
+
+
 def main():
     with tempfile.TemporaryDirectory() as folder:
-        return servers.tally(case for part in (watched, together, busy_end, failing, full) for case in part(folder))
+        return servers.tally(case for part in (watched, together, behind_a_proxy, busy_end, failing, full) for case in part(folder))
 
 
 sys.exit(main())

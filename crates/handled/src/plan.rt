@@ -65,10 +65,12 @@ fn supervision_of(rt: &HostRuntime, options: SupervisionOptions) -> Result<Super
         log,
         status,
         control,
+        proxied,
     } = options;
     let mut supervision = Supervision::none(rt.alloc())?;
     supervision.status = status;
     supervision.control = control;
+    supervision.proxied = proxied;
     if let Some(path) = log {
         supervision.log = Some(log_at(rt, path.as_str())?);
     }

@@ -188,6 +188,7 @@ fn place_of<R: Net + Clock>(
         door: Patience::of(limits.turns).door,
         idle: limits.idle,
         ending: Arc::try_clone(&setting.supervision.ending)?,
+        proxied: setting.supervision.proxied,
     };
     let sockets = Sockets::with_watch(rt, alloc, sockets, waits.door)?;
     let record = setting.supervision.record_of(alloc, name, lanes)?;

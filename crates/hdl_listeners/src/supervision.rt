@@ -9,7 +9,7 @@ use hdl_sockets::Ending;
 use hdl_telemetry::{Counts, Health, Log, Record};
 use std::alloc::{AllocError, Global};
 use std::fs::Files;
-use std::net::{Net, SocketAddr, TcpListener, TcpStream};
+use std::net::{IpAddr, Net, SocketAddr, TcpListener, TcpStream};
 use std::os::unix::net::UnixListener;
 use std::rt::Clock;
 use std::sync::Arc;
@@ -25,6 +25,8 @@ pub struct Supervision {
     pub status: Option<SocketAddr>,
     /// The path of the Unix socket at which the word to end is taken.
     pub control: Option<String>,
+    /// The address of a proxy that says by the PROXY protocol whose each of its connections is, for the log.
+    pub proxied: Option<IpAddr>,
     /// Whether the table takes changes.
     pub health: Arc<Health>,
     /// Whether the server is asked to end.
@@ -38,6 +40,7 @@ impl Supervision {
             log: None,
             status: None,
             control: None,
+            proxied: None,
             health: Arc::new(alloc, Health::new())?,
             ending: Arc::new(alloc, Ending::new())?,
         })

@@ -118,6 +118,12 @@ fn supervision_args<'a>(alloc: Global, command: Command<'a>) -> Result<Command<'
             "control",
             "PATH",
             "Takes the word of `handled stop` at this Unix socket",
+        ))?
+        .arg(option(
+            alloc,
+            "proxied",
+            "ADDRESS",
+            "Expects a header of the PROXY protocol, version 2, on each TCP connection from this address, and logs the client that it names",
         ))
 }
 

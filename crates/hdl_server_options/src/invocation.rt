@@ -38,6 +38,8 @@ pub struct SupervisionOptions {
     pub status: Option<SocketAddr>,
     /// The path of the socket at which the word to end is taken.
     pub control: Option<String>,
+    /// A proxy that says by the PROXY protocol whose its connections are.
+    pub proxied: Option<IpAddr>,
 }
 
 /// The options of `serve`.

@@ -114,15 +114,28 @@ fn status_at(alloc: Global, found: &ArgMatches) -> Result<Option<SocketAddr>, Un
     }
 }
 
+/// The proxy that says whose its connections are.
+fn proxied(alloc: Global, found: &ArgMatches) -> Result<Option<IpAddr>, Unclear> {
+    let Some(word) = found.get_str("proxied") else {
+        return Ok(None);
+    };
+    match address_of(word) {
+        Some(address) => Ok(Some(address)),
+        None => Err(Unclear::Proxied(String::from_str(alloc, word)?)),
+    }
+}
+
 /// What the server tells of itself, and how it takes the word to end.
 fn supervision(alloc: Global, found: &ArgMatches) -> Result<SupervisionOptions, Unclear> {
     let status = status_at(alloc, found)?;
+    let proxied = proxied(alloc, found)?;
     let control = copy_of(alloc, found.get_str("control"))?;
     let log = copy_of(alloc, found.get_str("log"))?;
     Ok(SupervisionOptions {
         log,
         status,
         control,
+        proxied,
     })
 }
 

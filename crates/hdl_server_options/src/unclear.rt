@@ -13,6 +13,8 @@ pub enum Unclear {
     Words(Error),
     /// This is no address to listen at.
     Address(String),
+    /// This is no address of a proxy.
+    Proxied(String),
     /// This is no bound.
     Bound(String),
     /// This is a second bound of its publisher.
@@ -48,6 +50,9 @@ fn print_help(rt: &HostRuntime, error: Error) -> Result<u8, OptionsFault> {
 /// How the option of a bound is written.
 const BOUND: &str = "--bound <NAME=VALUES,OCTETS>";
 
+/// What a word for an address has to be.
+const ADDRESS: &str = "no IPv4 or IPv6 address, such as 192.0.2.1 or 2001:db8::1";
+
 /// Says what is wrong with the value of an option, and answers the exit status.
 fn refuse_value(rt: &HostRuntime, word: &str, option: &str, reason: &str) -> u8 {
     let _ = eprintln!(rt;
@@ -64,7 +69,13 @@ pub fn print_unclear(rt: &HostRuntime, unclear: Unclear) -> Result<u8, OptionsFa
             rt,
             word.as_str(),
             "--listen <ADDRESS>",
-            "no IPv4 or IPv6 address, such as 192.0.2.1 or 2001:db8::1",
+            ADDRESS,
+        )),
+        Unclear::Proxied(word) => Ok(refuse_value(
+            rt,
+            word.as_str(),
+            "--proxied <ADDRESS>",
+            ADDRESS,
         )),
         Unclear::Bound(word) => Ok(refuse_value(
             rt,

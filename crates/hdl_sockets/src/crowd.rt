@@ -137,6 +137,7 @@ impl Crowd {
         let Some(place) = self.book.enter(self.now) else {
             return;
         };
+        let introduction = self.entrance.seat.introduction_of(stream.peer_addr().ok());
         let mut stream = TcpStream::from_std(stream);
         let token = Token(place.saturating_add(1));
         let both = Interest::READABLE | Interest::WRITABLE;
@@ -145,7 +146,7 @@ impl Crowd {
             .registry()
             .register(&mut stream, token, both)
             .is_ok()
-            && self.wires.put(place, stream).is_ok();
+            && self.wires.put(place, stream, introduction).is_ok();
         if !is_in {
             self.close(place);
         }
@@ -198,8 +199,25 @@ impl Crowd {
         }
     }
 
-    /// Reads once at this place.
+    /// Nothing more is there to be read at this place for now.
+    fn waits(&mut self, place: usize) -> NextAtPlace {
+        self.book.waits(place, self.now);
+        self.is_watched = self.is_watched || self.keeps_waiting(place);
+        NextAtPlace::Nothing
+    }
+
+    /// Reads once at this place, in the header of a proxy first.
     fn hear(&mut self, place: usize) -> NextAtPlace {
+        match self.wires.hear_introduction(place) {
+            None => self.hear_frames(place),
+            Some(Ok(_)) => NextAtPlace::More,
+            Some(Err(e)) if nothing_came(e.kind()) => self.waits(place),
+            Some(Err(_)) => NextAtPlace::End,
+        }
+    }
+
+    /// Reads once at this place what belongs to frames.
+    fn hear_frames(&mut self, place: usize) -> NextAtPlace {
         let Some(stream) = self.wires.stream(place) else {
             return NextAtPlace::End;
         };
@@ -210,11 +228,7 @@ impl Crowd {
                 Ok(()) => NextAtPlace::More,
                 Err(_) => NextAtPlace::End,
             },
-            Err(e) if nothing_came(e.kind()) => {
-                self.book.waits(place, self.now);
-                self.is_watched = self.is_watched || self.keeps_waiting(place);
-                NextAtPlace::Nothing
-            }
+            Err(e) if nothing_came(e.kind()) => self.waits(place),
             Err(_) => NextAtPlace::End,
         }
     }
@@ -344,9 +358,8 @@ impl Crowd {
     }
 
     /// The address of the client whose frame was received last.
-    fn asker(&mut self) -> Option<SocketAddr> {
-        let place = self.asked?;
-        self.wires.stream(place)?.peer_addr().ok()
+    fn asker(&self) -> Option<SocketAddr> {
+        self.wires.client(self.asked?)
     }
 
     /// Says a datagram of an answer. False: its client is left.

@@ -10,6 +10,8 @@
 //! [`Crowd`] a [`SocketCrowd`], of many. [`SocketPackets`] are a publisher's datagram sockets; beyond loopback a reply that is too long for a stranger stays back there, behind the
 //! worker's door (docs/PROTOCOL.md, "Replies to strangers"). [`MachineClock`] tells the moment and pauses, and [`MachineNonces`] gives nonces. [`Ending`] says to all of them that the server is to end.
 //!
+//! From a proxy that is named a connection begins with a header, which says whose it is ([`Waits`]).
+//!
 //! It stands on `hdl_workers`, whose traits it implements, on `hdl_trail` for the numbers of datagram peers, on `hdl_crowd` for what a crowd of connections keeps, and on `hdl_telemetry`, which reads along; neither
 //! on the machine nor on a table. No contract can say what a socket gives, so the doors here tell nothing, and nothing is promised of octets on a wire.
 //!
@@ -59,6 +61,7 @@ mod door;
 mod ending;
 mod entrance;
 mod instead;
+mod introduction;
 mod lookout;
 mod nonces;
 mod packets;

@@ -1,12 +1,13 @@
 //! Since when the connections of a publisher are silent, and whether a client waits for one of its lanes.
 
 use crate::ending::Ending;
+use crate::introduction::Introduction;
 use crate::sockets::Sockets;
 use mio::unix::SourceFd;
 use mio::{Interest, Poll, Token};
 use std::alloc::Global;
 use std::io;
-use std::net::{Net, TcpListener, TcpStream};
+use std::net::{IpAddr, Net, SocketAddr, TcpListener, TcpStream};
 use std::os::fd::AsRawFd;
 use std::sync::Arc;
 use std::sync::atomic::AtomicU64;
@@ -71,6 +72,9 @@ pub struct Seat {
     /// Since when the connection is silent.
     since: u64,
     ending: Arc<Ending>,
+    /// The proxy that says for whom its connections speak.
+    proxied: Option<IpAddr>,
+    alloc: Global,
 }
 
 impl Seat {
@@ -104,6 +108,17 @@ impl Seat {
     /// Whether the server is asked to end.
     pub fn is_ending(&self) -> bool {
         self.ending.is_asked()
+    }
+
+    /// The header with which a connection of this peer has to begin, if the peer is the proxy.
+    pub fn introduction_of(&self, peer: Option<SocketAddr>) -> Option<Introduction> {
+        let peer = peer?.ip().to_canonical();
+        let proxy = self.proxied?.to_canonical();
+        if peer == proxy {
+            Some(Introduction::new(self.alloc))
+        } else {
+            None
+        }
     }
 
     /// Whether another lane of the publisher is free.
@@ -163,13 +178,14 @@ fn share(alloc: Global, listeners: &[TcpListener]) -> io::Result<Vec<TcpListener
     Ok(owned)
 }
 
-/// How long a publisher's workers wait for a connection, for how many seconds a connection may be silent while another client waits, and whether
-/// the server is to end.
+/// How long a publisher's workers wait for a connection, for how many seconds a connection may be silent while another client waits, whether
+/// the server is to end, and from which proxy each connection begins with a header of the PROXY protocol.
 #[derive(Drop)]
 pub struct Waits {
     pub door: Duration,
     pub idle: u32,
     pub ending: Arc<Ending>,
+    pub proxied: Option<IpAddr>,
 }
 
 /// The seat of the lane at this place.
@@ -193,6 +209,8 @@ fn seat_at<R: Net>(
         idle: u64::from(waits.idle).saturating_mul(1000),
         since: 1,
         ending,
+        proxied: waits.proxied,
+        alloc,
     })
 }
 

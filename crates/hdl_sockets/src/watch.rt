@@ -1,11 +1,13 @@
 //! The time limits of a connection.
 
+use crate::introduction::{HEADER, Introduction};
 use crate::progress::Progress;
 use crate::silence::Seat;
 use crate::sockets::nothing_came;
+use hdl_proxied::HeaderStep;
 use hdl_telemetry::StreamRecorder;
 use std::io::{self, ErrorKind, Read, Write};
-use std::net::TcpStream;
+use std::net::{SocketAddr, TcpStream};
 use std::thread;
 use std::time::Duration;
 
@@ -30,6 +32,8 @@ pub struct Watch<R> {
     /// For how many milliseconds the rest of the frame under way was waited for. What an answer before it takes doesn't count.
     waited: u64,
     recorder: Option<StreamRecorder<R>>,
+    /// The header that is awaited before anything else, if the connection is a proxy's.
+    introduction: Option<Introduction>,
 }
 
 impl<R: std::rt::Clock + Eprint + Drop> Watch<R> {
@@ -41,6 +45,7 @@ impl<R: std::rt::Clock + Eprint + Drop> Watch<R> {
             recorder,
             progress: Progress::new(),
             waited: 0,
+            introduction: None,
         }
     }
 
@@ -60,8 +65,10 @@ impl<R: std::rt::Clock + Eprint + Drop> Watch<R> {
         self.progress = Progress::new();
         self.waited = 0;
         self.seat.set_busy();
+        let peer = stream.peer_addr().ok();
+        self.introduction = self.seat.introduction_of(peer);
         if let Some(recorder) = &mut self.recorder {
-            recorder.begin(stream.peer_addr().ok());
+            recorder.begin(peer);
         }
     }
 
@@ -105,11 +112,42 @@ impl<R: std::rt::Clock + Eprint + Drop> Watch<R> {
         (self.progress.is_begun() && waited > FRAME) || self.seat.makes_room(now)
     }
 
+    /// The header is whole. A proxy may speak for itself.
+    fn end_introduction(&mut self, client: Option<SocketAddr>) {
+        self.introduction = None;
+        if let (Some(recorder), Some(client)) = (&mut self.recorder, client) {
+            recorder.set_client(client);
+        }
+    }
+
+    /// Reads the header that is awaited, if one is. Whether it is whole; else the connection is to be closed.
+    fn is_introduced(&mut self, stream: &mut TcpStream, since: u64) -> bool {
+        for _ in 0..u64::MAX {
+            let Some(introduction) = &mut self.introduction else {
+                return true;
+            };
+            match introduction.read_on(stream) {
+                Ok(HeaderStep::Whole(client)) => self.end_introduction(client),
+                Ok(HeaderStep::More(_)) => {}
+                Err(e) if nothing_came(e.kind()) => {}
+                Err(_) => return false,
+            }
+            let waited = self.seat.moment(&self.rt).saturating_sub(since);
+            if waited > HEADER || self.seat.is_ending() {
+                return false;
+            }
+        }
+        false
+    }
+
     /// Reads some octets, and answers how many. 0: the peer closed the connection, or is too slow, or has to make room for another, or the server
     /// is to end.
     pub fn read(&mut self, stream: &mut TcpStream, buffer: &mut [u8]) -> io::Result<usize> {
         let since = self.seat.moment(&self.rt);
         self.seat.set_silent(since);
+        if !self.is_introduced(stream, since) {
+            return Ok(0);
+        }
         for _ in 0..u64::MAX {
             if self.seat.is_ending() {
                 break;

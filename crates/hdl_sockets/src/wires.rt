@@ -1,14 +1,35 @@
 //! The sockets of a crowd, by place, and which of them may have something.
 
+use crate::introduction::Introduction;
+use hdl_proxied::HeaderStep;
 use mio::net::TcpStream;
 use std::alloc::{AllocError, Global};
 use std::collections::VecDeque;
+use std::io;
+use std::net::SocketAddr;
 
 /// A connection's socket.
 #[derive(Drop)]
 struct ClientSocket {
     stream: TcpStream,
     is_queued: bool,
+    /// The header that is awaited before anything else, if the socket is a proxy's.
+    introduction: Option<Introduction>,
+    /// The client that a proxy named.
+    client: Option<SocketAddr>,
+}
+
+impl ClientSocket {
+    /// Reads on in the header that is awaited. None: none is.
+    fn hear_introduction(&mut self) -> Option<io::Result<HeaderStep>> {
+        let introduction = self.introduction.as_mut()?;
+        let step = introduction.read_on(&mut self.stream);
+        if let Ok(HeaderStep::Whole(client)) = step {
+            self.client = client;
+            self.introduction = None;
+        }
+        Some(step)
+    }
 }
 
 /// Sockets by place, and a queue of places at which something may stand next.
@@ -34,8 +55,13 @@ impl Wires {
         self.wires.len()
     }
 
-    /// Puts a socket at this place.
-    pub fn put(&mut self, place: usize, stream: TcpStream) -> Result<(), AllocError> {
+    /// Puts a socket at this place, which begins with a header if one is awaited.
+    pub fn put(
+        &mut self,
+        place: usize,
+        stream: TcpStream,
+        introduction: Option<Introduction>,
+    ) -> Result<(), AllocError> {
         let missing = place.saturating_add(1).saturating_sub(self.wires.len());
         for _ in 0..missing {
             self.wires.push(None)?;
@@ -44,6 +70,8 @@ impl Wires {
             *slot = Some(ClientSocket {
                 stream,
                 is_queued: false,
+                introduction,
+                client: None,
             });
         }
         Ok(())
@@ -53,6 +81,22 @@ impl Wires {
     pub fn stream(&mut self, place: usize) -> Option<&mut TcpStream> {
         match self.wires.get_mut(place) {
             Some(Some(wire)) => Some(&mut wire.stream),
+            _ => None,
+        }
+    }
+
+    /// Reads on in the header that is awaited at this place. None: none is.
+    pub fn hear_introduction(&mut self, place: usize) -> Option<io::Result<HeaderStep>> {
+        match self.wires.get_mut(place) {
+            Some(Some(wire)) => wire.hear_introduction(),
+            _ => None,
+        }
+    }
+
+    /// Whence the socket at this place comes: the client that a proxy named, or its peer.
+    pub fn client(&self, place: usize) -> Option<SocketAddr> {
+        match self.wires.get(place) {
+            Some(Some(wire)) => wire.client.or(wire.stream.peer_addr().ok()),
             _ => None,
         }
     }

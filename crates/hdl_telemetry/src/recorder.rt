@@ -217,6 +217,11 @@ impl<R: Clock + Eprint + Drop> StreamRecorder<R> {
         self.said = Some(Cutter::new(alloc));
     }
 
+    /// The proxy that the connection comes from named its client.
+    pub fn set_client(&mut self, client: SocketAddr) {
+        self.from = Some(client);
+    }
+
     /// The connection has ended.
     pub fn end(&mut self) {
         self.recorder.set_connections(0);

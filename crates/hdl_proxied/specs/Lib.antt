@@ -1,0 +1,2 @@
+-- What a proxy says before the octets of a client.
+pub mod Header
