@@ -139,16 +139,15 @@ def through_port_80(port):
     yield "a change without TLS isn't led on", fetched(plain, "PUT", "/api/handles/10/a", body=b"{}")[:2] == (403, None)
 
 
-def through_tls(tls, folder):
+def through_tls(tls):
     for path in ("/10/a", "/10/a%2Fb", "/10//a", "/10/a%20%C3%A4?noredirect", "/10/a/../b", "/%61pi/a", "/"):
         yield "%s comes as it is" % path, fetched(tls, "GET", path)[::2] == (200, path.encode())
     for path in ("/metrics", "/metrics?a", "/%6detrics", "//metrics", "/10/../metrics"):
         yield "%s is shut" % path, fetched(tls, "GET", path)[0] == 403
     key = {"Authorization": "Basic " + base64.b64encode(b"300%3A0.NA/10:" + SECRET.encode()).decode(), "Referer": "https://referring.example.org/"}
     body = b"x" * 900_000 + SECRET.encode()
-    yield "a change of a large record comes whole", fetched(tls, "PUT", "/api/handles/10/a?overwrite=false", key, body)[2].endswith(body)
+    yield "a large change, and a large answer, come whole and by no file", fetched(tls, "PUT", "/api/handles/10/a?overwrite=false", key, body)[2].endswith(body)
     yield "one that is too large doesn't come", fetched(http_of(tls.port), "PUT", "/api/handles/10/a", key, b"x" * 1_100_000)[0] == 413
-    yield "no body is written into a file", not os.path.exists(folder + "/client_body") or not any(files for _, _, files in os.walk(folder + "/client_body"))
 
 
 def within_limits(port):
@@ -178,7 +177,10 @@ def nginx():
         yield "nginx -t: %s" % done.stderr.strip(), done.returncode == 0
         with started(front.subprocess.Popen(front.nginx_words(folder, file), stdout=front.subprocess.DEVNULL, stderr=front.subprocess.DEVNULL)):
             front.waits_for(port)
+            # so a body or an answer that nginx would write into a file fails
+            for one in ("client_body", "proxy"):
+                os.rmdir(os.path.join(folder, one))
             yield from through_port_80(plain)
-            yield from through_tls(http_of(port), folder)
+            yield from through_tls(http_of(port))
             yield from within_limits(port)
             yield from logged(folder)

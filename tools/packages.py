@@ -4,11 +4,14 @@ What needs no other program: each option that a file names is in the help of its
 port, path or job name the same, and copy-table keeps and removes the right copies. With Debian's systemd, prometheus, logrotate, haproxy and nginx each file is checked by the program that reads it; the last three
 run too, before small servers. What isn't installed is left out, and said so. Where `handled` and `hdl proxy` are built, the units' command lines are run. Its last line is 'N passed, M failed', a case counting one."""
 
+import contextlib
 import glob
+import http.client
 import json
 import os
 import re
 import shlex
+import sqlite3
 import subprocess
 import sys
 import tempfile
@@ -51,12 +54,17 @@ def text_of(name):
     return re.sub(r"\\\n[#\s]*", " ", repository.text_of("packaging", name))
 
 
+def octets_of(path):
+    with open(path, "rb") as file:
+        return file.read()
+
+
 def names():
     return sorted(os.listdir(repository.path("packaging")))
 
 
 def left_out(program, what):
-    print("left out, since %s isn't installed: %s" % (program, what))
+    print("left out, since %s isn't here: %s" % (program, what))
 
 
 def said(words, **how):
@@ -147,8 +155,6 @@ def has_metrics():
     for panel in panels:
         unknown = [one for target in panel["targets"] for one in unknown_in(target["expr"], known, labels)] + sorted(set(shown(panel)) - labels)
         yield "packaging/board.json: %s: %s" % (panel["title"], unknown), not unknown
-    used = "".join(expression for _, expression, _ in found) + repository.text_of("packaging", "board.json")
-    yield "the board or a rule has each metric", all(name in used for name in known)
     yield "the panels have numbers of their own", sorted(panel["id"] for panel in panels) == list(range(1, len(panels) + 1))
     places = [(x, y) for panel in panels for at in [panel["gridPos"]] for x in range(at["x"], at["x"] + at["w"]) for y in range(at["y"], at["y"] + at["h"])]
     yield "no panel covers another", len(places) == len(set(places)) and max(x for x, _ in places) < 24
@@ -192,11 +198,11 @@ def statuses():
 
 def exec_of(name, key):
     """The words of a unit's command line."""
-    return shlex.split(re.search(r"^%s=(.*)$" % key, text_of(name), re.MULTILINE)[1])
+    return shlex.split(re.search(r"^%s=-?(.*)$" % key, text_of(name), re.MULTILINE)[1])
 
 
 def value_of(words, option):
-    return words[words.index(option) + 1]
+    return dict(zip(words, words[1:])).get(option, "")
 
 
 def agrees():
@@ -234,12 +240,11 @@ esac
 """
 
 
-def copied(folder, kept, status=0, program=None):
-    """Runs copy-table over a folder of copies, with a program or the stub before it, and answers its exit status and what is there then."""
+def copied(folder, kept, text=b"", status=0):
+    """Runs copy-table over a folder of copies, with the `handled` of a folder, and answers its exit status and what is there then."""
     words = [repository.path("packaging", "copy-table"), os.path.join(folder, "handles.db"), kept, "14"]
-    environment = dict(os.environ, PATH=os.path.dirname(program or os.path.join(folder, "handled")) + ":" + os.environ["PATH"], STATUS=str(status))
-    with open(os.path.join(folder, "publishers.tenants"), "rb") as text:
-        done = subprocess.run(words, stdin=text, env=environment, check=False, timeout=60)
+    environment = dict(os.environ, PATH=folder + ":" + os.environ["PATH"], STATUS=str(status))
+    done = subprocess.run(words, input=text, env=environment, check=False, timeout=60 * servers.SLOWER)
     return done.returncode, sorted(os.listdir(kept))
 
 
@@ -247,20 +252,93 @@ def keeps_copies():
     with tempfile.TemporaryDirectory() as folder:
         os.chmod(front.put(folder, "handled", STUB), 0o755)
         front.put(folder, "handles.db", "a table")
-        front.put(folder, "publishers.tenants", "")
         kept = os.path.join(folder, "copies")
         os.mkdir(kept)
         for name, days in (("handles-2026-01-01T023000Z.db", 20), ("handles-2026-01-02T023000Z.db", 10), ("other.db", 20), ("unchecked.db", 1)):
             os.utime(front.put(kept, name, name), (time.time() - days * 86400,) * 2)
-        status, there = copied(folder, kept, 4)
+        status, there = copied(folder, kept, status=4)
         yield "a copy that can't be read has no name, and no copy is removed", status == 4 and len(there) == 5 and {"unchecked.db", "unchecked.db-wal"} <= set(there)
         status, there = copied(folder, kept)
         yield "an old copy is removed, and nothing else", status == 0 and there[0] == "handles-2026-01-02T023000Z.db" and there[2:] == ["other.db"]
         yield "a copy is named by its moment", bool(re.fullmatch(r"handles-20\d\d-\d\d-\d\dT\d{6}Z\.db", there[1]))
         made = os.path.join(kept, there[1])
-        yield "it is root's alone, and the table's octets", os.stat(made).st_mode & 0o777 == 0o600 and open(made, encoding="utf-8").read() == "a table"
+        yield "it has the table's octets, for its owner alone", os.stat(made).st_mode & 0o777 == 0o600 and octets_of(made) == b"a table"
         os.remove(made)
-        yield "an export without some handles is a copy too", copied(folder, kept, 5) == (0, there) or copied(folder, kept, 5)[0] == 0
+        status, there = copied(folder, kept, status=5)
+        yield "an export without some handles is a copy too", status == 0 and len(there) == 3
+
+
+# The command lines of the units
+
+
+def in_folder(words, folder, status):
+    """A command line with its files in a folder, its status page at this port, and the program that is built."""
+    words = [re.sub(r"/(?:var/lib|var/log|run)/[\w-]+", folder, word) for word in words]
+    return [{"/usr/bin/handled": servers.HANDLED, "127.0.0.1:12641": "127.0.0.1:%d" % status}.get(word, word) for word in words]
+
+
+def page_of(port, path):
+    """A page's lines, of a server that listens on loopback."""
+    connection = http.client.HTTPConnection("127.0.0.1", port, timeout=10 * servers.SLOWER)
+    connection.request("GET", path)
+    return connection.getresponse().read().decode().splitlines()
+
+
+def printed(lines):
+    return {line.split()[2] for line in lines if line.startswith("# TYPE ")}
+
+
+def asked_of(beginning):
+    """The metrics of a program that a rule or the board names."""
+    return set(re.findall(r"\b%s\w+" % beginning, repository.text_of("packaging", "rules.yml") + repository.text_of("packaging", "board.json")))
+
+
+def status_of(words, text):
+    return subprocess.run(words, input=text, capture_output=True, check=False, timeout=60 * servers.SLOWER).returncode
+
+
+def serves():
+    """handled.service, and a copy while it runs."""
+    if not os.access(servers.HANDLED, os.X_OK):
+        return left_out("`handled`", "the command lines of handled.service")
+    with tempfile.TemporaryDirectory() as folder:
+        status, *ports = servers.free_ports(3)
+        words, text = in_folder(exec_of("handled.service", "ExecStart"), folder, status), servers.example(*ports)
+        process = servers.start(words, text, len(ports))
+        yield "the command line of handled.service serves", process is not None
+        if not process:
+            return
+        yield "its status page", page_of(status, "/health") == ["ok"]
+        yield "it has the metrics that are asked of it", asked_of("handled_") <= printed(page_of(status, "/metrics"))
+        yield "its log", os.path.exists(folder + "/changes.log")
+        kept = os.path.join(folder, "copies")
+        os.mkdir(kept)
+        os.symlink(servers.HANDLED, os.path.join(folder, "handled"))
+        done, there = copied(folder, kept, text)
+        yield "a copy while it runs", done == 0 and len(there) == 1
+        with contextlib.closing(sqlite3.connect(os.path.join(kept, there[0]))) as table:
+            yield "which is whole", table.execute("PRAGMA integrity_check").fetchall() == [("ok",)] and table.execute("SELECT count(*) FROM handles").fetchone()[0] > 0
+        yield "its end", (status_of(in_folder(exec_of("handled.service", "ExecStop"), folder, status), b""), process.wait(60)) == (0, 0)
+        process.stdout.close()
+        yield "a bad option ends by 2", status_of([*words, "--none"], text) == 2
+        yield "a bad text ends by 3", status_of(words, b"none\n") == 3
+        front.put(folder, "handles.db", "no table" * 100)
+        yield "a bad table ends by 4", status_of(words, text) == 4
+
+
+def leads():
+    """hdl-proxy.service, before no server."""
+    program = os.environ.get("PROXY", repository.program("hdl_web"))
+    if not os.access(program, os.X_OK):
+        return left_out("`hdl proxy`", "the command line of hdl-proxy.service")
+    with tempfile.TemporaryDirectory() as folder:
+        port, = servers.free_ports(1)
+        words = [word.replace("127.0.0.1:8080", "127.0.0.1:%d" % port) for word in in_folder(exec_of("hdl-proxy.service", "ExecStart"), folder, 0)]
+        with servers.running([program, *words[2:]], 1):
+            yield "hdl-proxy.service has its page", page_of(port, "/health") == ["ok"]
+            yield "it has the metrics that are asked of it", asked_of("hdl_proxy_") <= printed(page_of(port, "/metrics"))
+            yield "its log", os.path.exists(folder + "/visits.log")
+        yield "a bad option ends by 2", status_of([program, *words[2:], "--none"], b"") == 2
 
 
 # The programs of Debian
@@ -319,7 +397,7 @@ def logrotate():
                 lines.flush()
                 if word == "before\n":
                     yield "logrotate -f", said([program, "-f", "-s", folder + "/state", file])[0]
-        yield "a program that appends goes on at the front", open(log, encoding="utf-8").read() == "after\n"
+        yield "a program that appends goes on at the front", octets_of(log) == b"after\n"
         yield "what it wrote before is kept", said(["gzip", "-dc", log + ".1.gz"])[1] == "before\n"
 
 
@@ -338,7 +416,7 @@ def in_front():
 
 
 def main():
-    parts = (options, has_metrics, statuses, agrees, keeps_copies, systemd, prometheus, logrotate, in_front)
+    parts = (options, has_metrics, statuses, agrees, keeps_copies, serves, leads, systemd, prometheus, logrotate, in_front)
     return servers.tally(case for part in parts for case in part())
 
 
