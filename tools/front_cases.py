@@ -19,6 +19,8 @@ import servers
 SECRET = "a-secret-of-these-trials"
 # What one client may ask for at once, by packaging/nginx.conf.
 BURST = 100
+# More octets than sockets hold.
+LONG = 8_000_000
 
 
 class Threads(socketserver.ThreadingMixIn):
@@ -34,9 +36,9 @@ class TcpServer(Threads, socketserver.TCPServer):
 
 
 class Pages(Threads, http.server.HTTPServer):
-    """Answers a request by its path as it came, or by the status that it was given; and keeps what it was sent."""
+    """Answers a request by its path as it came and by this status, and each path but one by 404 where it has only that one."""
 
-    status = 200
+    status, only = 200, ""
 
 
 class Caller(socketserver.BaseRequestHandler):
@@ -52,8 +54,8 @@ class Page(http.server.BaseHTTPRequestHandler):
 
     def do_GET(self):
         length = int(self.headers.get("Content-Length", 0))
-        body = self.path.encode() + self.rfile.read(length)
-        self.send_response(self.server.status)
+        body = self.path.encode() + self.rfile.read(length) + b"x" * (LONG if self.path == "/10/long" else 0)
+        self.send_response(404 if self.server.only not in ("", self.path) else self.server.status)
         self.send_header("Content-Length", str(len(body)))
         self.end_headers()
         self.wfile.write(body)
@@ -106,6 +108,7 @@ def haproxy():
         log.bind(("127.0.0.1", 0))
         log.settimeout(5)
         status = Pages(("127.0.0.1", 0), Page)
+        status.only = "/health"
         port, = servers.free_ports(1)
         with started(front.haproxy(folder, port, behind, status.server_address[1], "127.0.0.1:%d" % log.getsockname()[1])):
             with running(status):
@@ -146,8 +149,18 @@ def through_tls(tls):
         yield "%s is shut" % path, fetched(tls, "GET", path)[0] == 403
     key = {"Authorization": "Basic " + base64.b64encode(b"300%3A0.NA/10:" + SECRET.encode()).decode(), "Referer": "https://referring.example.org/"}
     body = b"x" * 900_000 + SECRET.encode()
-    yield "a large change, and a large answer, come whole and by no file", fetched(tls, "PUT", "/api/handles/10/a?overwrite=false", key, body)[2].endswith(body)
+    yield "a large change comes whole and by no file", fetched(tls, "PUT", "/api/handles/10/a?overwrite=false", key, body)[2].endswith(body)
     yield "one that is too large doesn't come", fetched(http_of(tls.port), "PUT", "/api/handles/10/a", key, b"x" * 1_100_000)[0] == 413
+
+
+def slowly(port):
+    slow = http_of(port)
+    slow.request("GET", "/10/long")
+    time.sleep(0.3)
+    with contextlib.suppress(http.client.IncompleteRead):
+        yield "a long answer comes whole and by no file to a client who waits", len(slow.getresponse().read()) == len("/10/long") + LONG
+        return
+    yield "a long answer is broken off", False
 
 
 def within_limits(port):
@@ -175,6 +188,8 @@ def nginx():
         file = front.nginx_file(folder, plain, port, behind)
         done = front.subprocess.run([*front.nginx_words(folder, file), "-t"], capture_output=True, text=True, check=False)
         yield "nginx -t: %s" % done.stderr.strip(), done.returncode == 0
+        if done.returncode != 0:
+            return
         with started(front.subprocess.Popen(front.nginx_words(folder, file), stdout=front.subprocess.DEVNULL, stderr=front.subprocess.DEVNULL)):
             front.waits_for(port)
             # so a body or an answer that nginx would write into a file fails
@@ -182,5 +197,6 @@ def nginx():
                 os.rmdir(os.path.join(folder, one))
             yield from through_port_80(plain)
             yield from through_tls(http_of(port))
+            yield from slowly(port)
             yield from within_limits(port)
             yield from logged(folder)

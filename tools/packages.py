@@ -405,8 +405,9 @@ def in_front():
     if not front.found("haproxy"):
         left_out("haproxy", "haproxy.cfg")
     else:
-        yield "haproxy -c", said([front.found("haproxy"), "-c", "-f", repository.path("packaging", "haproxy.cfg")])[0]
-        yield from front_cases.haproxy()
+        good, _ = said([front.found("haproxy"), "-c", "-f", repository.path("packaging", "haproxy.cfg")])
+        yield "haproxy -c", good
+        yield from front_cases.haproxy() if good else ()
     if not front.found("nginx"):
         left_out("nginx", "nginx.conf")
     elif not front.found("openssl"):
