@@ -70,8 +70,8 @@ def fields():
 
 
 def pages():
-    """Each line of README.md, docs/ and the crates' decisions, with its page and number."""
-    for path in files("*.md", "docs/*.md", "crates/*/*.md"):
+    """Each line of README.md, docs/, packaging/ and the crates' decisions, with its page and number."""
+    for path in files("*.md", "docs/*.md", "packaging/*.md", "crates/*/*.md"):
         for number, line in enumerate(text_of(path).splitlines(), 1):
             yield path, number, line
 
@@ -165,7 +165,7 @@ def missing_vectors():
 def missing_places():
     headings = {os.path.basename(path): re.findall(r"^#+ (.*)$", text_of(path), re.MULTILINE) for path in files("docs/*.md")}
     named = set()
-    for path in files("*.md", "docs/*.md", "crates/**/*.rt", "crates/**/*.antt", "tools/*", "bench/*", *SCRIPTS):
+    for path in files("*.md", "docs/*.md", "packaging/*", "crates/**/*.rt", "crates/**/*.antt", "tools/*", "bench/*", *SCRIPTS):
         for number, line in enumerate(text_of(path).splitlines(), 1):
             for page, section in re.findall(r'docs/(\w+\.md), "([^"]+)"', line):
                 if not section.isupper() and not any(heading.startswith(section) for heading in headings.get(page, [])):
@@ -187,7 +187,7 @@ def slug(heading):
 
 
 def missing_links():
-    slugs = {path: {slug(heading) for heading in re.findall(r"^#+ (.*)$", text_of(path), re.MULTILINE)} for path in files("*.md", "docs/*.md")}
+    slugs = {path: {slug(heading) for heading in re.findall(r"^#+ (.*)$", text_of(path), re.MULTILINE)} for path in files("*.md", "docs/*.md", "packaging/*.md")}
     for path, number, line in pages():
         for target, anchor in re.findall(r"\]\((?!https?:)([^)#\s]*)(?:#([^)\s]+))?\)", line):
             found = os.path.normpath(os.path.join(os.path.dirname(path), target)) if target else path

@@ -7,6 +7,7 @@ The files are used as they are, but for addresses, ports and the certificate's p
 
 import os
 import re
+import shutil
 import socket
 import ssl
 import subprocess
@@ -41,6 +42,11 @@ def put(folder, name, text):
     return place
 
 
+def found(program):
+    """Where a program of Debian is, also for a user whose PATH is without the folders of root's; None where it isn't installed."""
+    return shutil.which(program, path=os.environ.get("PATH", "") + ":/usr/sbin:/sbin")
+
+
 def waits_for(port):
     for _ in range(100):
         try:
@@ -50,20 +56,38 @@ def waits_for(port):
     sys.exit("nothing listens at %d" % port)
 
 
-def haproxy(folder, port, behind):
-    text = repository.text_of("packaging", "haproxy.cfg").replace("192.0.2.10:2641", "127.0.0.1:%d" % port)
-    file = put(folder, "haproxy.cfg", text.replace("handled 127.0.0.1:2641", "handled 127.0.0.1:%d" % behind))
-    return subprocess.Popen(["haproxy", "-db", "-f", file], stdout=subprocess.DEVNULL, stderr=subprocess.DEVNULL)
+def haproxy(folder, port, behind, status, log="/dev/log"):
+    """HAProxy at this port, before a server with a status page; it looks at that page each tenth of a second, and sends its log there."""
+    text = repository.text_of("packaging", "haproxy.cfg")
+    for own, other in (("192.0.2.10:2641", "127.0.0.1:%d" % port), ("handled 127.0.0.1:2641", "handled 127.0.0.1:%d" % behind),
+                       ("port 12641 inter 2s", "port %d inter 100ms" % status), ("/dev/log", log)):
+        text = text.replace(own, other)
+    # it stays the user who tries it
+    text = re.sub(r"(?m)^    (user|group) .*\n", "", text)
+    return subprocess.Popen([found("haproxy"), "-db", "-f", put(folder, "haproxy.cfg", text)], stdout=subprocess.DEVNULL, stderr=subprocess.DEVNULL)
 
 
-def nginx(folder, port, behind):
-    subprocess.run(["openssl", "req", "-x509", "-newkey", "rsa:2048", "-nodes", "-days", "1", "-subj", "/CN=handles.example.org", "-keyout",
-                    folder + "/key", "-out", folder + "/pem"], check=True, capture_output=True)
-    text = repository.text_of("packaging", "nginx.conf").replace("192.0.2.10:443", "127.0.0.1:%d" % port).replace("127.0.0.1:8080", "127.0.0.1:%d" % behind)
-    site = put(folder, "site.conf", re.sub(r"/etc/ssl/\S+\.key;", folder + "/key;", re.sub(r"/etc/ssl/\S+\.pem;", folder + "/pem;", text)))
+def nginx_file(folder, plain, tls, behind):
+    """A configuration of nginx that takes packaging/nginx.conf in, at these two ports, before this one; with a certificate, and all that is written in the folder."""
+    subprocess.run(["openssl", "req", "-x509", "-newkey", "ec", "-pkeyopt", "ec_paramgen_curve:prime256v1", "-nodes", "-days", "1", "-subj", "/CN=handles.example.org",
+                    "-keyout", folder + "/key", "-out", folder + "/pem"], check=True, capture_output=True)
+    text = repository.text_of("packaging", "nginx.conf")
+    for own, other in ((r"192\.0\.2\.10:80\b", "127.0.0.1:%d" % plain), (r"192\.0\.2\.10:443\b", "127.0.0.1:%d" % tls), (r"127\.0\.0\.1:8080", "127.0.0.1:%d" % behind),
+                       (r"/etc/ssl/\S+\.key;", folder + "/key;"), (r"/etc/ssl/\S+\.pem;", folder + "/pem;"), (r"/var/log/nginx", folder)):
+        text = re.sub(own, other, text)
+    site = put(folder, "site.conf", text)
     kept = "".join("%s_temp_path %s/%s; " % (one, folder, one) for one in ("client_body", "proxy", "fastcgi", "uwsgi", "scgi"))
-    file = put(folder, "nginx.conf", "daemon off; pid %s/pid; error_log %s/log; events {} http { access_log off; %s include %s; }\n" % (folder, folder, kept, site))
-    return subprocess.Popen(["nginx", "-p", folder, "-e", folder + "/log", "-c", file], stdout=subprocess.DEVNULL, stderr=subprocess.DEVNULL)
+    # it stays the user who tries it
+    user = "" if os.geteuid() else "user root root; "
+    return put(folder, "nginx.conf", "%sdaemon off; pid %s/pid; error_log %s/log; events {} http { access_log off; %s include %s; }\n" % (user, folder, folder, kept, site))
+
+
+def nginx_words(folder, file):
+    return [found("nginx"), "-p", folder, "-e", folder + "/log", "-c", file]
+
+
+def nginx(folder, plain, tls, behind):
+    return subprocess.Popen(nginx_words(folder, nginx_file(folder, plain, tls, behind)), stdout=subprocess.DEVNULL, stderr=subprocess.DEVNULL)
 
 
 def asked(port):
@@ -103,14 +127,15 @@ def through_nginx(front):
     yield "a page by HTTPS", fetched(front, "/10/report-7?noredirect")[0] == 200
     statuses = [fetched(front, "/10/none")[0] for _ in range(3)]
     yield "a handle that isn't there", statuses == [404] * 3
+    yield "the proxy's numbers stay inside", fetched(front, "/metrics")[0] == 403
 
 
 def trials(folder):
-    front, site, proxy = servers.free_ports(3)
-    with servers.serving(servers.example, 2) as (acme, bolt):
+    front, site, plain, proxy, status = servers.free_ports(5)
+    with servers.serving(servers.example, 2, options=("--status", "127.0.0.1:%d" % status)) as (acme, bolt):
         words = [repository.program("hdl_web"), "--server", "127.0.0.1:%d" % acme, "--server", "127.0.0.1:%d" % bolt, "--listen", "127.0.0.1:%d" % proxy]
         with servers.running(words, 1):
-            before = [haproxy(folder, front, acme), nginx(folder, site, proxy)]
+            before = [haproxy(folder, front, acme, status), nginx(folder, plain, site, proxy)]
             try:
                 waits_for(front)
                 waits_for(site)

@@ -1,6 +1,6 @@
 """The gate of a submission, from nothing: the definitions quoted in docs/, the map, what pages cite, what must be believed and how long pages and sentences are, ./test, memory refused in turn, random scripts,
 scripts that a loop makes, the examples, answers that are none, the proxy for browsers, imports, what README shows and --help says, a table in a file over kills and changes that may shut it for nobody, addresses, clients that
-hold a lane, come in a crowd, from many ports or are strangers, an operator's day, what is installed, and a dry run of each benchmark.
+hold a lane, come in a crowd, from many ports or are strangers, an operator's day, the files of packaging/, what is installed, and a dry run of each benchmark.
 
 Before its last line it prints what each crate and each part took, in processor minutes, names the crates that took more than tools/limits.tsv
 allows them, and says how many wrong bodies it didn't try. With --write it writes what they took there, if all passed: for a run in which nothing was kept. Its last line is 'N passed, M failed', the sum of what the parts' last lines count; its status is 0 only where nothing failed."""
@@ -51,6 +51,7 @@ PARTS = (
     [sys.executable, "tools/copies.py"],
     [sys.executable, "tools/listens.py"],
     [sys.executable, "tools/amplify.py"],
+    [sys.executable, "tools/packages.py"],
     [sys.executable, "tools/release.py", "--try"],
     [sys.executable, "tools/benches.py"],
 )

@@ -3,7 +3,7 @@
     tools/release.py [--from CLONE] [--proved] [FOLDER]   writes into FOLDER, by default out/, an archive and a Debian package of the commit that is checked out, and their sums
     tools/release.py --try                                does the same into a folder of its own, and tries what came of it; its last line is 'N passed, M failed'
 
-Both hold the programs that the gate proved and built, the pages, the licence, the examples and a service file. A gate that passes keeps its programs in the repository's own folder, for just these files, so that a release needs
+Both hold the programs that the gate proved and built, the pages, the licence, the examples and the files of packaging/. A gate that passes keeps its programs in the repository's own folder, for just these files, so that a release needs
 no second proof: there, or by --from in another clone. Before a release tools/wrong.py tries the wrong bodies that the gate leaves out, of each crate that changed, or stands on one that did, since they were
 refused; with --proved it is made without, and says which weren't tried. The same files and programs give the same octets: each moment in them is that of the commit."""
 
@@ -29,7 +29,17 @@ PRODUCT = "buckramjade"
 PROGRAMS = {"handled": "bin/handled", "hdl": "lib/buckramjade/hdl", "hdl_web": "lib/buckramjade/hdl_web"}
 SERVICE = "packaging/handled.service"
 NGINX = "packaging/nginx.conf"
-FILES = (SERVICE, "packaging/haproxy.cfg", NGINX)
+# Where the package puts files of packaging/, with their modes. All others are pages of it.
+PLACES = {
+    "hdl": ("usr/bin/hdl", 0o755),
+    "copy-table": ("usr/lib/buckramjade/copy-table", 0o755),
+    "handled.service": ("lib/systemd/system/handled.service", 0o644),
+    "hdl-proxy.service": ("lib/systemd/system/hdl-proxy.service", 0o644),
+    "handled-copy.service": ("lib/systemd/system/handled-copy.service", 0o644),
+    "handled-copy.timer": ("lib/systemd/system/handled-copy.timer", 0o644),
+    "logrotate": ("etc/logrotate.d/buckramjade", 0o644),
+}
+CONFFILES = ("etc/buckramjade/publishers.tenants", "etc/logrotate.d/buckramjade")
 # In the repository's own folder: the programs with which the gate passed, by a sum of the files that it passed for, and which crates' wrong bodies were refused, by a sum of what that read.
 PASSED, REFUSED = "passed", "refused"
 # What the gate writes itself once it has passed.
@@ -180,17 +190,23 @@ def program_files(prefix, programs):
     return found
 
 
+def operators_files():
+    """The names of packaging/."""
+    return [os.path.basename(name) for name in git("ls-files", "packaging").splitlines()]
+
+
 def archive_files(programs):
     found = program_files("", programs)
-    found.update((os.path.basename(name), (octets_of(name), 0o644)) for name in FILES)
+    found.update(("packaging/" + name, (octets_of("packaging", name), PLACES.get(name, ("", 0o644))[1])) for name in operators_files())
     found.update((name, (octets, 0o644)) for name, octets in pages().items())
     return found
 
 
 def package_files(programs):
     found = program_files("usr/", programs)
-    found["lib/systemd/system/handled.service"] = (octets_of(SERVICE), 0o644)
-    found.update(("usr/share/doc/buckramjade/" + name.partition("/")[2], (octets_of(name), 0o644)) for name in FILES[1:])
+    for name in operators_files():
+        place, mode = PLACES.get(name, ("usr/share/doc/buckramjade/packaging/" + name, 0o644))
+        found[place] = (octets_of("packaging", name), mode)
     found["etc/buckramjade/publishers.tenants"] = (TENANTS.encode(), 0o600)
     for name, octets in pages().items():
         found["usr/share/doc/buckramjade/" + re.sub(r"^docs/", "", name)] = (octets, 0o644)
@@ -221,7 +237,7 @@ def packaged(to, programs, moment):
         return None
     put_there = package_files(programs)
     sums = "".join("%s  %s\n" % (hashlib.md5(octets).hexdigest(), name) for name, (octets, _) in sorted(put_there.items()) if not name.startswith("etc/"))
-    own = {"DEBIAN/control": CONTROL.format(product=PRODUCT, version=version()), "DEBIAN/md5sums": sums, "DEBIAN/conffiles": "/etc/buckramjade/publishers.tenants\n"}
+    own = {"DEBIAN/control": CONTROL.format(product=PRODUCT, version=version()), "DEBIAN/md5sums": sums, "DEBIAN/conffiles": "".join("/%s\n" % name for name in CONFFILES)}
     name = "%s_%s_amd64.deb" % (PRODUCT, version())
     with tempfile.TemporaryDirectory() as folder:
         os.chmod(folder, 0o755)
@@ -310,8 +326,8 @@ def trials(room):
         said("dpkg-deb", "--extract", os.path.join(first, names[1]), os.path.join(room, "installed"))
         yield from answers(os.path.join(room, "installed", "usr", "bin"))
     yield from kept_trials(room, os.path.join(first, names[0]))
-    shown = "\n".join("    " + line if line else "" for line in repository.text_of(*NGINX.split("/")).splitlines())
-    yield "docs/PROXY.md shows %s" % NGINX, shown in repository.text_of("docs", "PROXY.md")
+    named = re.findall(r"^\| `(\w+.*?[;s])` \|", repository.text_of("docs", "PROXY.md").partition("## nginx and TLS")[2], re.MULTILINE)
+    yield "docs/PROXY.md names lines of %s" % NGINX, len(named) > 3 and all(it in repository.text_of(*NGINX.split("/")) for it in named)
     named = re.findall(r"^\| `(\w+=[^.`]*)", repository.text_of("docs", "OPERATING.md"), re.MULTILINE)
     service = repository.text_of(*SERVICE.split("/"))
     yield "docs/OPERATING.md names lines of %s" % SERVICE, len(named) > 3 and all(it in service for it in named if not it.startswith("Ambient"))

@@ -3,7 +3,7 @@
 
 Prints for each page its words, the most that it may have, and the median and the longest of its sentences. It fails on
 
-- a page with more words than `MOST` allows, and on more than `ALL` in README.md, CHANGES.md and docs/ together;
+- a page with more words than `MOST` allows, and on more than `ALL` in README.md, CHANGES.md, docs/ and packaging/ together;
 - a sentence of more than 40 words, and a table's cell of more than 45;
 - a word or phrase of `BANNED`.
 
@@ -24,6 +24,7 @@ ALL = 45_000
 MOST = {
     "README.md": 700,
     "CHANGES.md": 800,
+    "packaging/README.md": 300,
     "docs/BELIEVED.md": 1_050,
     "docs/BENCHMARKS.md": 2_600,
     "docs/DECISIONS.md": 5_500,
@@ -53,7 +54,7 @@ ENDS = re.compile(r"(?<=[.!?])[\"')*]*\s+(?=[A-Z0-9\"'(*\[]|acme|bolt|hdl|nginx|
 
 def pages():
     """The pages, by their paths."""
-    found = [*glob.glob(repository.path("*.md")), *glob.glob(repository.path("docs", "*.md")), *glob.glob(repository.path("crates", "*", "*.md"))]
+    found = [*glob.glob(repository.path("*.md")), *glob.glob(repository.path("docs", "*.md")), *glob.glob(repository.path("packaging", "*.md")), *glob.glob(repository.path("crates", "*", "*.md"))]
     return sorted(os.path.relpath(path, repository.ROOT) for path in found)
 
 
