@@ -205,6 +205,7 @@ impl Follower {
 /// The entry of a reply of which nothing else is certain.
 fn entry_without_name(answer: ReplySummary) -> Option<Entry>
     ensures told { IsTrue (ends_change answer) → IsSome result }
+    ensures only { IsSome result → IsTrue (ends_change answer) }
     ensures code { IfSome result (λ entry. entry.code ≡ answer.code) }
 {
     if !answer.ends_change() {

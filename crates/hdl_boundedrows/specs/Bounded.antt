@@ -1,15 +1,16 @@
 -- A table with bounds: whose handles count for whom, and what a write makes of the counts.
-use Rattle.std.specs.Prelude.{refl, ◌≡◌, ◌≤◌, max, ℕ, List, Bool, true, not, ◌&&◌, ◌||◌, if◌then◌else◌}
+use Rattle.std.specs.Prelude.{refl, ◌≡◌, ◌≤◌, max, ◌+◌, ℕ, List, [], ◌∷◌, ◌++◌, sum_by, codes, Bool, true, not, ◌&&◌, ◌||◌, if◌then◌else◌}
 use Rattle.std.specs.List.{list_any, list_all}
 use Rattle.std.specs.Str.{bytes_eq}
 use Rattle.std.specs.Coded.{Coded, code_by, coded×, coded_ℕ, coded_list}
-use Rattle.hdl_name.specs.Name.{prefix}
-use Rattle.hdl_rows.specs.Table.{Table, table_code}
+use Rattle.hdl_name.specs.Name.{canonical, prefix, is_admin}
+use Rattle.hdl_rows.specs.Table.{Table, table_code, has, values_of, names_of}
 use Rattle.hdl_rows.specs.Debt.{Debt, debt_code}
 use Rattle.hdl_boundedrows.specs.declared.amount.Amount.{Amount}
 use Rattle.hdl_boundedrows.specs.declared.account.Account.{Account}
+use Rattle.hdl_boundedrows.specs.declared.account.Bound.{Bound}
 use Rattle.hdl_boundedrows.specs.declared.account.CountChange.{CountChange}
-use Rattle.hdl_boundedrows.specs.Amount.{Measure, in_values, in_octets, moved_count, may_become}
+use Rattle.hdl_boundedrows.specs.Amount.{Measure, in_values, in_octets, with_handle, moved_count, may_become}
 use Rattle.hdl_limits.specs.Counts.{at_most_u64}
 
 -- ---- what is kept
@@ -44,6 +45,35 @@ is_permitted p c a = not (has_prefix a p) || may_change a c
 abbrev pub are_permitted : List Account → List ℕ → CountChange → Bool
 are_permitted accounts p c = list_all (is_permitted p c) accounts
 
+-- ---- what a bound counts
+
+-- the administrative handles of its prefixes
+abbrev pub roots_of : Bound → List (List ℕ)
+roots_of b = b.roots.items
+
+-- a prefix counts by its administrative handle, unless that is 0.NA/0.NA or the prefix counts already
+abbrev pub is_new_root : List (List ℕ) → List ℕ → Bool
+is_new_root roots root = is_admin root && not (bytes_eq (prefix root) (codes "0.na")) && not (is_among roots (prefix root))
+
+abbrev pub with_root : List (List ℕ) → List ℕ → List (List ℕ)
+with_root roots root = if is_new_root roots root then roots ++ root ∷ [] else roots
+
+-- what a handle of the table counts with its values
+abbrev pub held_at : Measure → Table → List ℕ → ℕ
+held_at m t h = with_handle m h (values_of t h)
+
+-- an administrative handle where the table has it, else nothing
+abbrev pub held_at_root : Measure → Table → List ℕ → ℕ
+held_at_root m t root = if has t (canonical root) then held_at m t (canonical root) else 0
+
+-- the handles of a prefix: its administrative handle, and those of the authority
+abbrev pub held_under : Measure → Table → List ℕ → ℕ
+held_under m t root = held_at_root m t root + sum_by (held_at m t) (names_of t (prefix root))
+
+-- the handles of these prefixes
+abbrev pub held_by : Measure → Table → List (List ℕ) → ℕ
+held_by m t roots = sum_by (held_under m t) roots
+
 -- ---- what a contract sees
 
 -- What is counted for a publisher: the administrative handles of its prefixes, the most that these may count, and what is held as far as it is counted.
@@ -56,6 +86,10 @@ pub record Holding : Type 0 where
 
 abbrev pub holding_of : Account → Holding
 holding_of a = record { roots = a.bound.roots.items; most_values = a.bound.most.values; most_octets = a.bound.most.octets; values = a.held.values; octets = a.held.octets }
+
+-- what is counted for a bound over a table at the start: all that the table holds under its prefixes
+abbrev pub holding_at_first : Table → Bound → Holding
+holding_at_first t b = record { roots = roots_of b; most_values = b.most.values; most_octets = b.most.octets; values = at_most_u64 (held_by in_values t (roots_of b)); octets = at_most_u64 (held_by in_octets t (roots_of b)) }
 
 -- what the table holds, how many calls were refused by it or by a bound, what was read, what is counted for each publisher with a bound, and what the table owes
 pub record Bounded : Type 0 where

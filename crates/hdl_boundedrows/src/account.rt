@@ -1,9 +1,9 @@
 //! What a publisher holds, and how much it may.
 
-ghost use Rattle.std.specs.Prelude.{◌≡◌, map, [], ◌∷◌, ◌++◌, OnOk};
+ghost use Rattle.std.specs.Prelude.{◌≡◌, map, not, option_map, position, slice_get, [], ◌∷◌, ◌++◌, IfSome, OnOk, OnErr};
 ghost use Rattle.hdl_boundedrows.specs.Amount as spec;
 ghost use Rattle.hdl_boundedrows.specs.Bounded as bounded;
-ghost use Rattle.hdl_boundedrows.specs.Bounded.{is_among, has_prefix, is_counted, are_permitted, after_change, may_change};
+ghost use Rattle.hdl_boundedrows.specs.Bounded.{is_among, roots_of, with_root, has_prefix, is_counted, are_permitted, after_change, may_change};
 
 use crate::amount::{Amount, handle_amount, values_amount};
 use hdl_name::Name;
@@ -29,7 +29,11 @@ pub struct Bound {
 
 impl Bound {
     /// The bound of a publisher, of which no handle counts yet.
-    pub fn new(alloc: Global, publisher: String, most: Amount) -> Bound {
+    pub fn new(alloc: Global, publisher: String, most: Amount) -> Bound
+        ensures publisher { result.publisher ≡ publisher }
+        ensures most { result.most ≡ most }
+        ensures roots { roots_of result ≡ [] }
+    {
         Bound {
             publisher,
             most,
@@ -39,7 +43,12 @@ impl Bound {
 
     /// From now on the handles of a prefix count, named by its administrative handle, which counts too. A prefix counts once; another
     /// handle than an administrative one changes nothing, and neither does 0.NA/0.NA.
-    pub fn add(&mut self, root: Name) -> Result<(), AllocError> {
+    pub fn add(&mut self, root: Name) -> Result<(), AllocError>
+        ensures roots { OnOk result (roots_of self.new ≡ with_root (roots_of self.old) root) }
+        ensures unchanged { OnErr result (roots_of self.new ≡ roots_of self.old) }
+        ensures publisher { self.new.publisher ≡ self.old.publisher }
+        ensures most { self.new.most ≡ self.old.most }
+    {
         let prefix = root.prefix();
         if !root.is_admin_handle() || prefix == ROOT || self.has(prefix) {
             return Ok(());
@@ -210,19 +219,24 @@ impl Accounts {
             .all(|account| account.is_permitted(prefix, change))
     }
 
+    /// The place of the first publisher that may not.
+    fn place_beyond(&self, prefix: &[u8], change: CountChange) -> Option<usize>
+        ensures { result ≡ position (λ account. not (bounded.is_permitted prefix.now change account)) self.now }
+    {
+        self.all
+            .iter()
+            .position(|account| !account.is_permitted(prefix, change))
+    }
+
     /// The place of the first publisher that may not, and its bound.
-    pub(crate) fn first_beyond(
-        &self,
-        prefix: &[u8],
-        change: CountChange,
-    ) -> Option<(usize, &Bound)> {
-        for place in 0..self.all.len() {
-            let account = &self.all[place];
-            if !account.is_permitted(prefix, change) {
-                return Some((place, &account.bound));
-            }
+    pub(crate) fn first_beyond(&self, prefix: &[u8], change: CountChange) -> Option<(usize, &Bound)>
+        ensures first { option_map (λ found. found.0) result ≡ position (λ account. not (bounded.is_permitted prefix.now change account)) self.now }
+        ensures bound { IfSome result (λ found. option_map (λ account. account.bound) (slice_get self.now found.0) ≡ Some found.1.now) }
+    {
+        match self.place_beyond(prefix, change) {
+            Some(place) => Some((place, &self.all[place].bound)),
+            None => None,
         }
-        None
     }
 
     /// Counts the change of a handle of this prefix.

@@ -1,9 +1,11 @@
 //! The table.
 
 ghost use Rattle.std.specs.Prelude.{◌≡◌, ◌+◌, min, true, false, map, sum_by, is_some, is_ok, IfOk, OnOk, OnErr};
-ghost use Rattle.hdl_boundedrows.specs.Bounded.{are_permitted, none, holding_after, IsWithin};
+ghost use Rattle.hdl_boundedrows.specs.Bounded as counted;
+ghost use Rattle.hdl_boundedrows.specs.Bounded.{are_permitted, none, holding_after, holding_at_first, IsWithin};
 ghost use Rattle.std.specs.List.{AllByRecursion};
-ghost use Rattle.hdl_boundedrows.specs.Amount.{with_handle, values_at};
+ghost use Rattle.hdl_boundedrows.specs.Amount.{in_values, in_octets, with_handle, values_at};
+ghost use Rattle.hdl_limits.specs.Counts.{at_most_u64};
 ghost use Rattle.hdl_name.specs.Name.{canonical, prefix};
 ghost use Rattle.hdl_value.specs.Refs.{place_of};
 ghost use Rattle.hdl_rows.specs.Reads.{reads_after, nothing, of_value, values_octets, names_octets};
@@ -72,6 +74,8 @@ fn permit<A: Alarm>(
 /// What the administrative handle of a prefix counts.
 fn held_at_root<R: Rows>(rows: &mut R, root: &Name) -> Result<Amount, Refused>
     ensures unchanged { R.content rows.new ≡ R.content rows.old }
+    ensures values { IfOk result (λ amount. amount.values ≡ at_most_u64 (counted.held_at_root in_values (R.content rows.old) root.now)) }
+    ensures octets { IfOk result (λ amount. amount.octets ≡ at_most_u64 (counted.held_at_root in_octets (R.content rows.old) root.now)) }
 {
     match rows.look(root)? {
         Some(values) => Ok(handle_amount(root.canon(), &values)),
@@ -82,6 +86,8 @@ fn held_at_root<R: Rows>(rows: &mut R, root: &Name) -> Result<Amount, Refused>
 /// What the handle with these octets counts, which must be a name in canonical form.
 fn held_at<R: Rows>(alloc: Global, rows: &mut R, handle: &[u8]) -> Result<Amount, Refused>
     ensures unchanged { R.content rows.new ≡ R.content rows.old }
+    ensures values { IfOk result (λ amount. amount.values ≡ at_most_u64 (counted.held_at in_values (R.content rows.old) handle.now)) }
+    ensures octets { IfOk result (λ amount. amount.octets ≡ at_most_u64 (counted.held_at in_octets (R.content rows.old) handle.now)) }
 {
     let Ok(name) = Name::read(alloc, handle) else {
         return Err(Refused);
@@ -96,9 +102,12 @@ fn held_at<R: Rows>(alloc: Global, rows: &mut R, handle: &[u8]) -> Result<Amount
 /// What the handles of a prefix count, its administrative handle among them.
 fn held_under<R: Rows>(alloc: Global, rows: &mut R, root: &Name) -> Result<Amount, Refused>
     ensures unchanged { R.content rows.new ≡ R.content rows.old }
+    ensures values { IfOk result (λ amount. amount.values ≡ at_most_u64 (counted.held_under in_values (R.content rows.old) root.now)) }
+    ensures octets { IfOk result (λ amount. amount.octets ≡ at_most_u64 (counted.held_under in_octets (R.content rows.old) root.now)) }
 {
     let mut sum = held_at_root(rows, root)?;
-    for handle in rows.names(root.prefix())? {
+    let names = rows.names(root.prefix())?;
+    for handle in &names {
         sum = sum.plus(held_at(alloc, rows, handle.as_slice())?);
     }
     Ok(sum)
@@ -107,6 +116,8 @@ fn held_under<R: Rows>(alloc: Global, rows: &mut R, root: &Name) -> Result<Amoun
 /// What the handles of these prefixes count.
 fn held_by<R: Rows>(alloc: Global, rows: &mut R, roots: &[Name]) -> Result<Amount, Refused>
     ensures unchanged { R.content rows.new ≡ R.content rows.old }
+    ensures values { IfOk result (λ amount. amount.values ≡ at_most_u64 (counted.held_by in_values (R.content rows.old) roots.now)) }
+    ensures octets { IfOk result (λ amount. amount.octets ≡ at_most_u64 (counted.held_by in_octets (R.content rows.old) roots.now)) }
 {
     let mut sum = Amount::NONE;
     for root in roots {
@@ -126,7 +137,8 @@ impl<R: Owing + Drop, A: Alarm + Drop> BoundedRows<R, A> {
         bounds: Vec<Bound>,
         alarm: A,
     ) -> Result<BoundedRows<R, A>, Refused>
-        ensures { IfOk result (λ bounded. bounded.table ≡ R.content rows) }
+        ensures table { IfOk result (λ bounded. bounded.table ≡ R.content rows) }
+        ensures holdings { IfOk result (λ bounded. bounded.holdings ≡ map (holding_at_first (R.content rows)) bounds.items) }
     {
         let mut accounts = Accounts::new(alloc);
         for bound in bounds {

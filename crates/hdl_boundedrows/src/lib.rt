@@ -5,7 +5,8 @@
 //! [`Alarm`] is told. What makes no count larger than it is goes through, and a remove or a delete always does. Every other call goes to the
 //! table as it came.
 //!
-//! What is counted is defined (`specs/Amount.antt`), and each write's clauses say what becomes of the counts: what the write gains is added and what
+//! What is counted is defined (`specs/Amount.antt`). At the start the bounds are those that were given, in order, and each count is what the table holds
+//! under the bound's prefixes (`BoundedRows::new`, `holdings`). Each write's clauses say what becomes of the counts: what the write gains is added and what
 //! it gives back, by what the table held, is taken away (`settled`); where it was done each count is within its bound, or no more than it was
 //! (`within`).
 //!

@@ -1,9 +1,9 @@
 -- What a step on one connection is in the book.
-use Rattle.std.proofs.Common.{◌≡◌, ◌⊎◌, ℕ, List, [], ◌∷◌, Option, Some, MatchOption, refl, sym, subst, inl, inr}
-use Rattle.slab.specs.Slab.{Slab, get, with_value, Updates, SameValues}
+use Rattle.std.proofs.Common.{◌≡◌, ℕ, List, [], ◌∷◌, Option, Some, MatchOption, refl, sym, subst, inl, inr}
+use Rattle.slab.specs.Slab.{Slab, get, with_value, SameValues}
 use Rattle.slab.proofs.SlabLemmas.{Updates-with_value}
 use Rattle.hdl_crowd.specs.declared.entry.ConnectionEntry.{ConnectionEntry}
-use Rattle.hdl_crowd.specs.Talk.{Talking, Step, is_observed, says, refusal_of, Takes, TakesAll, TurnsAway}
+use Rattle.hdl_crowd.specs.Talk.{Step, is_observed, says, refusal_of, Takes, TakesAll, Pauses}
 use Rattle.hdl_crowd.specs.Book.{Goes, Rests}
 
 pub goes : (s : Slab ConnectionEntry) (place : ℕ) (e f : ConnectionEntry) (steps : List Step) → get s place ≡ Some e → f.serial ≡ e.serial → TakesAll e.talk steps f.talk
@@ -14,12 +14,12 @@ pub goes_one : (s : Slab ConnectionEntry) (place : ℕ) (e f : ConnectionEntry) 
     → Goes s (with_value s place f) place (step ∷ [])
 goes_one s place e f step here same takes = goes s place e f (step ∷ []) here same (f.talk, takes, refl)
 
-pub rests : (s : Slab ConnectionEntry) (place : ℕ) (e f : ConnectionEntry) → get s place ≡ Some e → f.serial ≡ e.serial → (f.talk ≡ e.talk) ⊎ TurnsAway e.talk f.talk
+pub rests : (s : Slab ConnectionEntry) (place : ℕ) (e f : ConnectionEntry) → get s place ≡ Some e → f.serial ≡ e.serial → Pauses e.talk f.talk
     → Rests s (with_value s place f) place
-rests s place e f here same (inl stays) = inl (goes s place e f [] here same stays)
-rests s place e f here same (inr (fault, v, told, said)) =
+rests s place e f here same (inl (nothing, stays)) = (e, here, inl (nothing, goes s place e f [] here same stays))
+rests s place e f here same (inr (fresh, (fault, v, told, said))) =
     let run : TakesAll e.talk (is_observed fault ∷ says (refusal_of fault) ∷ []) f.talk = (v, told, (f.talk, said, refl)) in
-    inr (fault, goes s place e f (is_observed fault ∷ says (refusal_of fault) ∷ []) here same run)
+    (e, here, inr (fault, fresh, goes s place e f (is_observed fault ∷ says (refusal_of fault) ∷ []) here same run))
 
 -- the same of the connection that is at a place
 pub goes_at : (s : Slab ConnectionEntry) (place : ℕ) (e f : ConnectionEntry) (steps : ConnectionEntry → List Step) → get s place ≡ Some e → f.serial ≡ e.serial → TakesAll e.talk (steps e) f.talk

@@ -1,11 +1,11 @@
 -- The datagrams of a reply say it whole.
-use Rattle.std.proofs.Common.{◌≡◌, ℕ, zero, suc, ◌+◌, ◌-◌, ◌*◌, ◌/◌, ◌≤◌, ◌<◌, ◌^◌, List, [], ◌∷◌, ◌++◌, length, take, drop, map, refl, sym, ap, ◌∙◌, append_assoc, arith, lit<, inl, inr}
+use Rattle.std.proofs.Common.{◌≡◌, ℕ, zero, suc, ◌+◌, ◌-◌, ◌*◌, ◌≤◌, ◌<◌, ◌^◌, List, ◌++◌, length, drop, map, refl, sym, ap, ◌∙◌, append_assoc, arith, lit<, inl, inr}
 use Rattle.std.specs.List.{flat_map, range_with_len}
 use Rattle.std.proofs.lemmas.Bool.{cases_lt, le-ltb}
 use Rattle.std.proofs.lemmas.Bool.Decides.{nat_tests}
 use Rattle.std.proofs.lemmas.List.{append-nil, drop_at, drop_all, drop-drop, length-append, take_all, take-append-drop}
 use Rattle.hdl_frame.specs.declared.envelope.Envelope.{Envelope}
-use Rattle.hdl_frame.specs.Envelope.{envelope_at, envelope_octets, is_truncated, Fits}
+use Rattle.hdl_frame.specs.Envelope.{envelope_at, envelope_octets, Fits}
 use Rattle.hdl_frame.specs.Pieces.{stretch, datagram, datagrams, datagram_count, datagram_envelope, piece_count}
 use Rattle.hdl_frame.proofs.FrameLemmas.{envelope_at-append}
 use Rattle.hdl_frame.proofs.SpellingLemmas.{length-envelope_octets, envelope_at-octets}

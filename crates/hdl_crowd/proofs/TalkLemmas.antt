@@ -1,13 +1,13 @@
 -- What is handed out, read, said and written over a list of steps.
-use Rattle.std.proofs.Common.{◌≡◌, ℕ, ◌+◌, ◌≤◌, List, [], ◌∷◌, ◌++◌, length, All, Option, None, refl, sym, ap, ◌∙◌, append_assoc, arith}
-use Rattle.std.specs.List.{concat, flat_map}
+use Rattle.std.proofs.Common.{◌≡◌, ℕ, List, [], ◌∷◌, ◌++◌, All, Option, refl, sym, ap, ◌∙◌, append_assoc}
+use Rattle.std.specs.List.{concat}
 use mathlib.Core.List.{IsPrefix}
 use Rattle.std.proofs.lemmas.List.{append-nil}
 use Rattle.std.proofs.lemmas.List.Elements.{All-nil, All-cons, All-head, All-tail}
 use Rattle.hdl_frame.specs.declared.envelope.FrameFault.{FrameFault}
 use Rattle.hdl_frame.specs.Frames.{IsFrame, BeginsWithFrame, fault_at, IsCut}
 use Rattle.hdl_frame.proofs.CutLemmas.{all_rest, frame_first, one_cut_lem, each_is_cut_lem}
-use Rattle.hdl_crowd.specs.Talk.{Talking, Step, reads, hands, is_observed, says, writes, fresh, Takes, TakesAll, all_read, all_handed, all_said, all_written}
+use Rattle.hdl_crowd.specs.Talk.{Talking, Step, reads, hands, is_observed, says, writes, fresh, TakesAll, all_read, all_handed, all_said, all_written}
 
 -- what is left of a connection is what it had and what was read, without what was handed out
 pub rest_after : (steps : List Step) (t u : Talking) → TakesAll t steps u

@@ -1,11 +1,12 @@
 -- The connections of a crowd, by their places.
-use Rattle.std.specs.Prelude.{◌≡◌, ◌≢◌, ◌⊎◌, ℕ, List, [], ◌∷◌, Option, Some, IfSome}
-use Rattle.slab.specs.Slab.{Slab, get, Updates, SameValues}
+use Rattle.std.specs.Prelude.{◌≡◌, ◌≢◌, ◌⊎◌, ℕ, List, [], ◌∷◌, Option, Some, None, option_map}
+use Rattle.slab.specs.Slab.{Slab, get, Updates}
 use Rattle.hdl_frame.specs.declared.envelope.FrameFault.{FrameFault}
 use Rattle.hdl_trail.specs.Peers.{address_among}
 use Rattle.hdl_crowd.specs.declared.entry.ConnectionEntry.{ConnectionEntry}
 use Rattle.hdl_crowd.specs.declared.entry.Member.{Member}
-use Rattle.hdl_crowd.specs.Talk.{Step, is_observed, says, refusal_of, TakesAll}
+use Rattle.hdl_crowd.specs.declared.pace.Pace.{Pace}
+use Rattle.hdl_crowd.specs.Talk.{Step, is_observed, says, refusal_of, HasNothing, TakesAll}
 
 -- the connection at this place is this one
 abbrev pub IsAt : Slab ConnectionEntry → Member → ℕ → Type 0
@@ -20,9 +21,18 @@ abbrev pub Goes : Slab ConnectionEntry → Slab ConnectionEntry → ℕ → List
 Goes old new place steps =
     (e f : ConnectionEntry) × (get old place ≡ Some e) × Updates old new place (Some f) × (f.serial ≡ e.serial) × TakesAll e.talk steps f.talk
 
--- nothing happens there, or the fault that stands next is told and refused
+-- where nothing is left to hand out there nothing happens, else the fault that stands next is told and refused, once
 abbrev pub Rests : Slab ConnectionEntry → Slab ConnectionEntry → ℕ → Type 0
-Rests old new place = Goes old new place [] ⊎ ((fault : FrameFault) × Goes old new place (is_observed fault ∷ says (refusal_of fault) ∷ []))
+Rests old new place =
+    (e : ConnectionEntry) × (get old place ≡ Some e)
+    × ((HasNothing e.talk × Goes old new place []) ⊎ ((fault : FrameFault) × (e.talk.fault ≡ None) × Goes old new place (is_observed fault ∷ says (refusal_of fault) ∷ [])))
+
+-- since when the connection at this place keeps others waiting
+abbrev pub pace_at : Slab ConnectionEntry → ℕ → Option Pace
+pace_at entries place = option_map (λ e. e.pace) (get entries place)
+
+abbrev pub SamePaces : Slab ConnectionEntry → Slab ConnectionEntry → Type 0
+SamePaces old new = (place : ℕ) → pace_at new place ≡ pace_at old place
 
 -- every other place has what it had
 abbrev pub SameBut : ℕ → Slab ConnectionEntry → Slab ConnectionEntry → Type 0

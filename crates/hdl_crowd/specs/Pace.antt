@@ -1,5 +1,5 @@
 -- Since when a connection keeps others waiting.
-use Rattle.std.specs.Prelude.{ℕ, ◌-◌, Bool, false, ◌||◌, nat_lt, Option, Some, None, is_some}
+use Rattle.std.specs.Prelude.{ℕ, ◌-◌, Bool, false, ◌||◌, nat_lt, if◌then◌else◌, Option, Some, None, is_some}
 use Rattle.hdl_crowd.specs.declared.pace.TheConstants.{WAIT_MAX}
 use Rattle.hdl_crowd.specs.declared.pace.Pace.{Pace}
 
@@ -11,6 +11,31 @@ at_first now = record { silent = now; begun = None; untaken = None }
 abbrev pub since_first : Option ℕ → ℕ → Option ℕ
 since_first None now = Some now
 since_first (Some moment) now = Some moment
+
+-- ---- what becomes of it
+
+-- octets came
+abbrev pub after_octets : ℕ → Pace → Pace
+after_octets now p = record p { silent = now }
+
+-- a frame was handed out, or none was
+abbrev pub after_frame : {X : Type 0} → Option X → Pace → Pace
+after_frame None p = p
+after_frame (Some x) p = record p { begun = None }
+
+-- no more octets are there: where a frame is begun its rest is waited for
+abbrev pub after_reading : Bool → ℕ → Pace → Pace
+after_reading is_begun now p = if is_begun then record p { begun = since_first p.begun now } else p
+
+-- so many octets were written of so many that were owed: some, or all
+abbrev pub after_writing : ℕ → ℕ → ℕ → Pace → Pace
+after_writing owed count now p = if nat_lt count owed then record p { untaken = Some now } else record p { silent = now; untaken = None }
+
+-- nothing more of what is owed is taken
+abbrev pub after_refusal : ℕ → Pace → Pace
+after_refusal now p = record p { untaken = since_first p.untaken now }
+
+-- ---- what it says
 
 -- what began, if anything did, is waited for longer than may be
 abbrev pub has_lasted : Option ℕ → ℕ → Bool

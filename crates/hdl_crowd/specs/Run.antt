@@ -2,7 +2,7 @@
 use Rattle.std.specs.Prelude.{◌≡◌, ℕ, ◌==◌, if◌then◌else◌, List, [], ◌∷◌, ◌++◌, Some, None}
 use Rattle.slab.specs.Slab.{Slab, get, Updates, SameValues}
 use Rattle.hdl_crowd.specs.declared.entry.ConnectionEntry.{ConnectionEntry}
-use Rattle.hdl_crowd.specs.Talk.{Step, fresh, TakesAll}
+use Rattle.hdl_crowd.specs.Talk.{Step, fresh}
 use Rattle.hdl_crowd.specs.Book.{Goes}
 
 -- a connection comes to a place, steps happen on the one at a place, the one at a place is left, or nothing happens

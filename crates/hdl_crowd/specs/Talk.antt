@@ -1,9 +1,9 @@
 -- What a connection has under way, and what happens on it.
-use Rattle.std.specs.Prelude.{◌≡◌, ℕ, List, [], ◌∷◌, ◌++◌, Option, Some, None}
+use Rattle.std.specs.Prelude.{◌≡◌, ◌⊎◌, ℕ, Bool, true, ◌&&◌, ◌==◌, nat_lt, length, List, [], ◌∷◌, ◌++◌, Option, Some, None, is_some}
 use Rattle.std.specs.List.{flat_map}
 use Rattle.hdl_frame.specs.declared.envelope.FrameFault.{FrameFault}
 use Rattle.hdl_frame.specs.declared.envelope.FrameFault.TheVariants.{Version, Flags, TooLong, Memory}
-use Rattle.hdl_frame.specs.Frames.{IsFrame, fault_at}
+use Rattle.hdl_frame.specs.Frames.{IsFrame, BeginsWithFrame, fault_at}
 use Rattle.hdl_msg.specs.Codes.{response_number}
 use Rattle.hdl_msg.specs.declared.codes.ResponseCode.TheVariants.{ProtocolError}
 use Rattle.hdl_msg.specs.Reply.{short_reply}
@@ -17,6 +17,18 @@ pub record Talking : Type 0 where
 -- a connection on which nothing happened yet
 abbrev pub fresh : Talking
 fresh = record { rest = []; fault = None; owed = [] }
+
+-- a part of a frame stands next, or the fault that was told
+abbrev pub is_begun : Talking → Bool
+is_begun t = nat_lt 0 (length t.rest)
+
+-- a fault was told, and all that was said is written
+abbrev pub is_over : Talking → Bool
+is_over t = is_some t.fault && length t.owed == 0
+
+-- nothing is left to hand out or to tell: a fault was told, or neither a frame nor a fault stands next
+abbrev pub HasNothing : Talking → Type 0
+HasNothing t = (is_some t.fault ≡ true) ⊎ ((¬ BeginsWithFrame t.rest) × (fault_at t.rest ≡ None))
 
 -- octets are read, the frame that stands next is handed out, the fault that stands next is told, octets are said to the client, or written
 pub data Step : Type 0 where
@@ -44,6 +56,10 @@ refusal_of Memory = []
 -- the fault that stands next is told, and refused
 abbrev pub TurnsAway : Talking → Talking → Type 0
 TurnsAway t u = (fault : FrameFault) × (v : Talking) × Takes t (is_observed fault) v × Takes v (says (refusal_of fault)) u
+
+-- no frame is handed out: where nothing is left nothing happens, else the fault that stands next is told and refused, once
+abbrev pub Pauses : Talking → Talking → Type 0
+Pauses t u = (HasNothing t × (u ≡ t)) ⊎ ((t.fault ≡ None) × TurnsAway t u)
 
 -- steps one after the other
 abbrev pub TakesAll : Talking → List Step → Talking → Type 0

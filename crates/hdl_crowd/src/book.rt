@@ -1,14 +1,14 @@
 //! The connections of a crowd.
 
-ghost use Rattle.std.specs.Prelude.{◌≡◌, ◌≤◌, ◌<◌, ◌+◌, ◌∷◌, [], ℕ, true, IsTrue, length, option_map, take, None, Some, IfSome, IfNone, IfErr, IfOk, OnOk, OnErr, MatchOption};
-ghost use Rattle.slab.specs.Slab.{get, slab_len, Updates, SameValues};
+ghost use Rattle.std.specs.Prelude.{◌≡◌, ◌≤◌, ◌<◌, ◌+◌, ◌-◌, ◌^◌, ◌∷◌, [], ℕ, true, IsTrue, IsSome, length, option_map, take, None, Some, IfSome, IfNone, IfErr, IfOk, OnOk, OnErr, MatchOption};
+ghost use Rattle.slab.specs.Slab.{get, slab_len, HasRoomFor, Updates, SameValues};
 ghost use Rattle.hdl_frame.specs.Frames.{IsFrame};
 ghost use Rattle.hdl_limits.specs.declared.TheConstants.{PEERS_MAX};
 ghost use Rattle.hdl_trail.specs.Peers.{address_among, holds, reply_seen, finish_oldest, with_room};
-ghost use Rattle.hdl_crowd.specs.Book.{Goes, IsAt, IsNumberAt, Rests, SameBut};
+ghost use Rattle.hdl_crowd.specs.Book.{Goes, IsAt, IsNumberAt, Rests, SameBut, SamePaces, pace_at};
 ghost use Rattle.hdl_crowd.specs.Joining.{said_of};
-ghost use Rattle.hdl_crowd.specs.Pace.{at_first};
-ghost use Rattle.hdl_crowd.specs.Talk.{fresh, reads, hands, says, writes};
+ghost use Rattle.hdl_crowd.specs.Pace.{at_first, after_octets, after_frame, after_reading, after_writing, after_refusal};
+ghost use Rattle.hdl_crowd.specs.Talk.{fresh, is_begun, is_over, reads, hands, says, writes};
 
 use crate::entry::{ConnectionEntry, Member};
 use crate::pace::Pace;
@@ -45,11 +45,12 @@ impl Book {
     }
 
     /// A connection comes: its place, which nobody has. Its serial is one more than that of the connection before, so no two ever have the same. None where
-    /// memory is refused.
+    /// memory is refused, or no serial is left.
     pub fn enter(&mut self, now: u64) -> Option<usize>
         ensures serial { IfSome result (λ _. self.new.last ≡ self.old.last + 1) }
         ensures vacant { IfSome result (λ place. get self.old.entries place ≡ None) }
         ensures entered { IfSome result (λ place. Updates self.old.entries self.new.entries place (Some (record { serial = self.new.last; talk = fresh; pace = at_first now }))) }
+        ensures succeeds { self.old.last < 2 ^ 64 - 1 → HasRoomFor self.old.entries 1 → IsSome result }
         ensures refused { IfNone result ((self.new.last ≡ self.old.last) × SameValues self.old.entries self.new.entries) }
         ensures peers { self.new.peers ≡ self.old.peers }
     {
@@ -82,6 +83,7 @@ impl Book {
     /// Octets were read on the connection at this place. An `Err` changes nothing.
     pub fn note_octets(&mut self, place: usize, octets: &[u8], now: u64) -> Result<(), Left>
         ensures ok { OnOk result (Goes self.old.entries self.new.entries place (reads octets.now ∷ [])) }
+        ensures pace { OnOk result (pace_at self.new.entries place ≡ option_map (λ e. after_octets now e.pace) (get self.old.entries place)) }
         ensures unchanged { OnErr result (SameValues self.old.entries self.new.entries) }
         ensures last { self.new.last ≡ self.old.last }
         ensures peers { self.new.peers ≡ self.old.peers }
@@ -104,6 +106,7 @@ impl Book {
         requires room { ENVELOPE_LEN + MESSAGE_MAX ≤ length buffer.old }
         ensures frame { IfOk result (λ found. IfSome found (λ f. (f.1 ≤ length buffer.new) × IsFrame (take f.1 buffer.new) × IsAt self.new.entries f.0 place × Goes self.old.entries self.new.entries place (hands (take f.1 buffer.new) ∷ []))) }
         ensures none { IfOk result (λ found. IfNone found (Rests self.old.entries self.new.entries place)) }
+        ensures pace { IfOk result (λ found. pace_at self.new.entries place ≡ option_map (λ e. after_frame found e.pace) (get self.old.entries place)) }
         ensures others { SameBut place self.old.entries self.new.entries }
         ensures last { self.new.last ≡ self.old.last }
         ensures peers { self.new.peers ≡ self.old.peers }
@@ -145,6 +148,7 @@ impl Book {
         ensures frame { IfOk result (λ found. IfSome found (λ f. (f.1 ≤ length buffer.new) × Goes self.old.entries self.new.entries place (hands (take f.1 buffer.new) ∷ []))) }
         ensures number { IfOk result (λ found. IfSome found (λ f. (0 < f.0) × (f.0 ≤ PEERS_MAX) × IsNumberAt self.new.peers.known self.new.entries f.0 place)) }
         ensures none { IfOk result (λ found. IfNone found (Rests self.old.entries self.new.entries place)) }
+        ensures pace { IfOk result (λ found. pace_at self.new.entries place ≡ option_map (λ e. after_frame found e.pace) (get self.old.entries place)) }
         ensures kept { (n : ℕ) → IsTrue (holds (with_room self.old.peers) n) → IfSome (address_among self.old.peers.known n) (λ m. address_among self.new.peers.known n ≡ Some m) }
         ensures others { SameBut place self.old.entries self.new.entries }
         ensures last { self.new.last ≡ self.old.last }
@@ -163,6 +167,7 @@ impl Book {
     pub fn put_datagram(&mut self, number: u16, datagram: &[u8]) -> Option<usize>
         ensures said { IfSome result (λ place. IsNumberAt self.old.peers.known self.old.entries number place × Goes self.old.entries self.new.entries place (says (said_of datagram.now) ∷ [])) }
         ensures unsaid { IfNone result (SameValues self.old.entries self.new.entries) }
+        ensures paces { SamePaces self.old.entries self.new.entries }
         ensures known { self.new.peers.known ≡ self.old.peers.known }
         ensures followed { self.new.peers.followed ≡ self.old.peers.followed }
         ensures under_way { self.new.peers.under_way ≡ reply_seen datagram.now self.old.peers.under_way }
@@ -186,6 +191,7 @@ impl Book {
     fn say(&mut self, member: Member, datagram: &[u8]) -> Option<usize>
         ensures said { IfSome result (λ place. IsAt self.old.entries member place × Goes self.old.entries self.new.entries place (says (said_of datagram.now) ∷ [])) }
         ensures unsaid { IfNone result (SameValues self.old.entries self.new.entries) }
+        ensures paces { SamePaces self.old.entries self.new.entries }
         ensures peers { self.new.peers ≡ self.old.peers }
         ensures last { self.new.last ≡ self.old.last }
     {
@@ -212,6 +218,7 @@ impl Book {
     /// So many of the octets that are owed to the connection at this place were written.
     pub fn wrote(&mut self, place: usize, count: usize, now: u64)
         ensures written { MatchOption (get self.old.entries place) (SameValues self.old.entries self.new.entries) (λ e. Goes self.old.entries self.new.entries place (writes (take count e.talk.owed) ∷ [])) }
+        ensures pace { pace_at self.new.entries place ≡ option_map (λ e. after_writing (length e.talk.owed) count now e.pace) (get self.old.entries place) }
         ensures peers { self.new.peers ≡ self.old.peers }
         ensures last { self.new.last ≡ self.old.last }
     {
@@ -223,6 +230,7 @@ impl Book {
     /// Nothing more is there to be read at this place for now, and what isn't needed meanwhile is given back.
     pub fn waits(&mut self, place: usize, now: u64)
         ensures talks { MatchOption (get self.old.entries place) (SameValues self.old.entries self.new.entries) (λ _. Goes self.old.entries self.new.entries place []) }
+        ensures pace { pace_at self.new.entries place ≡ option_map (λ e. after_reading (is_begun e.talk) now e.pace) (get self.old.entries place) }
         ensures peers { self.new.peers ≡ self.old.peers }
         ensures last { self.new.last ≡ self.old.last }
     {
@@ -234,6 +242,7 @@ impl Book {
     /// Nothing more of what is owed at this place is taken for now.
     pub fn refuses(&mut self, place: usize, now: u64)
         ensures talks { MatchOption (get self.old.entries place) (SameValues self.old.entries self.new.entries) (λ _. Goes self.old.entries self.new.entries place []) }
+        ensures pace { pace_at self.new.entries place ≡ option_map (λ e. after_refusal now e.pace) (get self.old.entries place) }
         ensures peers { self.new.peers ≡ self.old.peers }
         ensures last { self.new.last ≡ self.old.last }
     {
@@ -244,7 +253,7 @@ impl Book {
 
     /// Whether the connection at this place is to be left: its envelope was faulty, and the refusal is written. So is one that isn't there.
     pub fn is_over(&self, place: usize) -> bool
-        ensures { MatchOption (get self.now.entries place) (result ≡ true) (λ e. IsTrue result → e.talk.owed ≡ []) }
+        ensures { MatchOption (get self.now.entries place) (result ≡ true) (λ e. result ≡ is_over e.talk) }
     {
         match self.entries.get(place) {
             Some(entry) => entry.is_over(),
@@ -254,7 +263,7 @@ impl Book {
 
     /// Since when the connection at this place keeps others waiting, if one is there.
     pub fn pace(&self, place: usize) -> Option<Pace>
-        ensures { result ≡ option_map (λ e. e.pace) (get self.now.entries place) }
+        ensures { result ≡ pace_at self.now.entries place }
     {
         let entry = self.entries.get(place)?;
         Some(entry.pace)

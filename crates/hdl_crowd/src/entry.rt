@@ -1,8 +1,9 @@
 //! One connection of a crowd.
 
-ghost use Rattle.std.specs.Prelude.{◌≡◌, ◌≤◌, ◌+◌, ◌⊎◌, [], IsTrue, length, take, IfErr, IfOk, IfSome, IfNone, OnOk, OnErr};
+ghost use Rattle.std.specs.Prelude.{◌≡◌, ◌≤◌, ◌+◌, length, take, IfErr, IfOk, IfSome, IfNone, OnOk, OnErr};
 ghost use Rattle.hdl_crowd.specs.Joining.{said_of};
-ghost use Rattle.hdl_crowd.specs.Talk.{reads, hands, says, writes, Takes, TurnsAway};
+ghost use Rattle.hdl_crowd.specs.Pace.{after_octets, after_frame, after_reading, after_writing, after_refusal};
+ghost use Rattle.hdl_crowd.specs.Talk.{is_begun, is_over, reads, hands, says, writes, Takes, Pauses};
 
 use crate::pace::Pace;
 use crate::talk::Talk;
@@ -29,6 +30,7 @@ impl ConnectionEntry {
     /// Octets were read. An `Err` changes nothing.
     pub(crate) fn note_octets(&mut self, octets: &[u8], now: u64) -> Result<(), FrameFault>
         ensures ok { OnOk result (Takes self.old.talk (reads octets.now) self.new.talk) }
+        ensures pace { OnOk result (self.new.pace ≡ after_octets now self.old.pace) }
         ensures unchanged { OnErr result (self.new ≡ self.old) }
         ensures serial { self.new.serial ≡ self.old.serial }
     {
@@ -42,7 +44,8 @@ impl ConnectionEntry {
     pub(crate) fn next_frame(&mut self, buffer: &mut [u8]) -> Result<Option<usize>, AllocError>
         requires room { ENVELOPE_LEN + MESSAGE_MAX ≤ length buffer.old }
         ensures frame { IfOk result (λ found. IfSome found (λ len. (len ≤ length buffer.new) × Takes self.old.talk (hands (take len buffer.new)) self.new.talk)) }
-        ensures none { IfOk result (λ found. IfNone found ((self.new.talk ≡ self.old.talk) ⊎ TurnsAway self.old.talk self.new.talk)) }
+        ensures none { IfOk result (λ found. IfNone found (Pauses self.old.talk self.new.talk)) }
+        ensures pace { IfOk result (λ found. self.new.pace ≡ after_frame found self.old.pace) }
         ensures serial { self.new.serial ≡ self.old.serial }
     {
         if self.talk.is_faulty() {
@@ -65,6 +68,7 @@ impl ConnectionEntry {
     pub(crate) fn say(&mut self, datagram: &[u8]) -> Result<(), AllocError>
         ensures ok { OnOk result (Takes self.old.talk (says (said_of datagram.now)) self.new.talk) }
         ensures unchanged { OnErr result (self.new ≡ self.old) }
+        ensures pace { self.new.pace ≡ self.old.pace }
         ensures serial { self.new.serial ≡ self.old.serial }
     {
         self.talk.say(datagram)
@@ -73,6 +77,7 @@ impl ConnectionEntry {
     /// So much of what is owed was written, as far as it is owed.
     pub(crate) fn wrote(&mut self, count: usize, now: u64)
         ensures written { Takes self.old.talk (writes (take count self.old.talk.owed)) self.new.talk }
+        ensures pace { self.new.pace ≡ after_writing (length self.old.talk.owed) count now self.old.pace }
         ensures serial { self.new.serial ≡ self.old.serial }
     {
         let owed = self.talk.owed().len();
@@ -87,6 +92,7 @@ impl ConnectionEntry {
     /// Nothing more is there to be read for now.
     pub(crate) fn waits(&mut self, now: u64)
         ensures talk { self.new.talk ≡ self.old.talk }
+        ensures pace { self.new.pace ≡ after_reading (is_begun self.old.talk) now self.old.pace }
         ensures serial { self.new.serial ≡ self.old.serial }
     {
         self.talk.give_back();
@@ -98,6 +104,7 @@ impl ConnectionEntry {
     /// Nothing more of what is owed is taken for now.
     pub(crate) fn refuses(&mut self, now: u64)
         ensures talk { self.new.talk ≡ self.old.talk }
+        ensures pace { self.new.pace ≡ after_refusal now self.old.pace }
         ensures serial { self.new.serial ≡ self.old.serial }
     {
         self.pace = self.pace.refuses(now);
@@ -105,7 +112,7 @@ impl ConnectionEntry {
 
     /// Whether a fault was told, and everything said is written.
     pub(crate) fn is_over(&self) -> bool
-        ensures { IsTrue result → self.now.talk.owed ≡ [] }
+        ensures { result ≡ is_over self.now.talk }
     {
         self.talk.is_faulty() && self.talk.owed().is_empty()
     }

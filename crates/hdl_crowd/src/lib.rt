@@ -14,7 +14,8 @@
 //!
 //! Promised of a connection, from its coming to its end: what is handed out under its numbers is a beginning of the frames of what was read on it; what is written is
 //! a beginning of what was said to it; and what is said by the datagrams of a reply is that reply (`laws`). Each call of the book is one such step on one connection,
-//! and none on another. A faulty envelope is refused with code 4 as on a lane of one connection, and nothing behind it is handed out.
+//! and none on another. A faulty envelope is refused with code 4 as on a lane of one connection, once, and nothing behind it is handed out. Each call says what becomes of the
+//! connection's [`Pace`] (`pace`), so who is idle, slow or greedy is what happened.
 //!
 //! It stands on the limits, on frames, on `hdl_msg` for that refusal and on `hdl_trail`, and knows no sockets: it is told what was read and written. That it is told the
 //! truth, hdl_sockets has to see to.

@@ -1,9 +1,9 @@
 //! What a connection has under way.
 
-ghost use Rattle.std.specs.Prelude.{◌≡◌, ◌≤◌, ◌+◌, length, take, None, [], ◌↔◌, IsFalse, IfErr, IfOk, OnOk, OnErr, MatchOption};
+ghost use Rattle.std.specs.Prelude.{◌≡◌, ◌≤◌, ◌+◌, length, take, None, is_some, IfErr, IfOk, OnOk, OnErr, MatchOption};
 ghost use Rattle.hdl_frame.specs.Frames.{BeginsWithFrame, fault_at};
 ghost use Rattle.hdl_crowd.specs.Joining.{said_of};
-ghost use Rattle.hdl_crowd.specs.Talk.{fresh, reads, hands, is_observed, says, writes, refusal_of, Takes};
+ghost use Rattle.hdl_crowd.specs.Talk.{fresh, is_begun, reads, hands, is_observed, says, writes, refusal_of, Takes};
 
 use crate::joining::push_said;
 use hdl_frame::{Cutter, ENVELOPE_LEN, FrameFault};
@@ -26,14 +26,14 @@ pub struct Talk {
 }
 
 impl Model for Talk {
-    ghost use Rattle.std.specs.Prelude.{◌≡◌, ◌≤◌, length, drop, None, IsFalse};
+    ghost use Rattle.std.specs.Prelude.{◌≡◌, ◌≤◌, length, drop, is_some};
     ghost use Rattle.hdl_crowd.specs.Talk.{Talking};
 
     ghost Value = { Talking };
 
     ghost view = { λ t. record { rest = t.cutter.rest; fault = t.cutter.fault; owed = drop t.written t.said.items } };
 
-    ghost invariant = { λ t. (t.held ≡ length t.cutter.rest) × (t.written ≤ length t.said.items) × (IsFalse t.is_faulty → t.cutter.fault ≡ None) };
+    ghost invariant = { λ t. (t.held ≡ length t.cutter.rest) × (t.written ≤ length t.said.items) × (t.is_faulty ≡ is_some t.cutter.fault) };
 }
 
 impl Talk {
@@ -90,7 +90,7 @@ impl Talk {
 
     /// Whether a part of a frame stands next, or the fault that was told.
     pub fn is_begun(&self) -> bool
-        ensures { IsFalse result ↔ self.now.rest ≡ [] }
+        ensures { result ≡ is_begun self.now }
     {
         self.held > 0
     }
@@ -118,7 +118,7 @@ impl Talk {
 
     /// Whether a fault was told, behind which nothing is read.
     pub fn is_faulty(&self) -> bool
-        ensures { IsFalse result → self.now.fault ≡ None }
+        ensures { result ≡ is_some self.now.fault }
     {
         self.is_faulty
     }

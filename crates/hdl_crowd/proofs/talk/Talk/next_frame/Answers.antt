@@ -1,4 +1,4 @@
-use Rattle.std.proofs.Common.{◌≤◌, length, sym, arith}
+use Rattle.std.proofs.Common.{sym, arith}
 use Rattle.hdl_crowd.proofs.FrameLemmas.{so_long, taken_short}
 use Rattle.hdl_crowd.proofs.talk.Talk.next_frame.Goals as goal
 
