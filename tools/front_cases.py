@@ -111,7 +111,7 @@ def soon(holds):
 def haproxy():
     with tempfile.TemporaryDirectory() as folder, socket.socket(socket.AF_INET, socket.SOCK_DGRAM) as log, running(TcpServer(("127.0.0.1", 0), Caller)) as behind:
         log.bind(("127.0.0.1", 0))
-        log.settimeout(5)
+        log.settimeout(20)
         status = Pages(("127.0.0.1", 0), Page)
         status.only = "/health"
         port, = servers.free_ports(1)

@@ -302,12 +302,11 @@ def serves():
     if not os.access(servers.HANDLED, os.X_OK):
         return left_out("`handled`", "the command lines of handled.service")
     with tempfile.TemporaryDirectory() as folder:
-        status, *ports = servers.free_ports(3)
-        words, text = in_folder(exec_of("handled.service", "ExecStart"), folder, status), servers.example(*ports)
-        process = servers.start(words, text, len(ports))
-        yield "the command line of handled.service serves", process is not None
-        if not process:
-            return
+        status, = servers.free_ports(1)
+        words = in_folder(exec_of("handled.service", "ExecStart"), folder, status)
+        process, ports = servers.serve(servers.example, 2, options=words[2:])
+        text = servers.example(*ports)
+        yield "handled.service serves", words[:2] == [servers.HANDLED, "serve"]
         yield "its status page", page_of(status, "/health") == ["ok"]
         yield "it has the metrics that are asked of it", asked_of("handled_") <= printed(page_of(status, "/metrics"))
         yield "its log", os.path.exists(folder + "/changes.log")
