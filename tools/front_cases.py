@@ -9,6 +9,7 @@ import re
 import socket
 import socketserver
 import ssl
+import subprocess
 import tempfile
 import threading
 import time
@@ -42,12 +43,16 @@ class Pages(Threads, http.server.HTTPServer):
 
 
 class Caller(socketserver.BaseRequestHandler):
+    """A client of the one."""
+
     def handle(self):
         if self.request.recv(100):
             self.request.sendall(b"%s:%d" % (self.client_address[0].encode(), self.client_address[1]))
 
 
 class Page(http.server.BaseHTTPRequestHandler):
+    """A client of the other."""
+
     protocol_version = "HTTP/1.1"
     # head and body in one piece, so that no client waits
     wbufsize = -1
@@ -106,7 +111,7 @@ def soon(holds):
 def haproxy():
     with tempfile.TemporaryDirectory() as folder, socket.socket(socket.AF_INET, socket.SOCK_DGRAM) as log, running(TcpServer(("127.0.0.1", 0), Caller)) as behind:
         log.bind(("127.0.0.1", 0))
-        log.settimeout(5)
+        log.settimeout(20)
         status = Pages(("127.0.0.1", 0), Page)
         status.only = "/health"
         port, = servers.free_ports(1)
@@ -154,13 +159,15 @@ def through_tls(tls):
 
 
 def slowly(port):
+    """A client who waits before it reads."""
     slow = http_of(port)
     slow.request("GET", "/10/long")
     time.sleep(0.3)
-    with contextlib.suppress(http.client.IncompleteRead):
-        yield "a long answer comes whole and by no file to a client who waits", len(slow.getresponse().read()) == len("/10/long") + LONG
-        return
-    yield "a long answer is broken off", False
+    try:
+        length = len(slow.getresponse().read())
+    except http.client.IncompleteRead:
+        length = 0
+    yield "a long answer comes whole and by no file to a client who waits", length == len("/10/long") + LONG
 
 
 def within_limits(port):
@@ -186,11 +193,11 @@ def nginx():
     with tempfile.TemporaryDirectory() as folder, running(Pages(("127.0.0.1", 0), Page)) as behind:
         plain, port = servers.free_ports(2)
         file = front.nginx_file(folder, plain, port, behind)
-        done = front.subprocess.run([*front.nginx_words(folder, file), "-t"], capture_output=True, text=True, check=False)
+        done = subprocess.run([*front.nginx_words(folder, file), "-t"], capture_output=True, text=True, check=False)
         yield "nginx -t: %s" % done.stderr.strip(), done.returncode == 0
         if done.returncode != 0:
             return
-        with started(front.subprocess.Popen(front.nginx_words(folder, file), stdout=front.subprocess.DEVNULL, stderr=front.subprocess.DEVNULL)):
+        with started(subprocess.Popen(front.nginx_words(folder, file), stdout=subprocess.DEVNULL, stderr=subprocess.DEVNULL)):
             front.waits_for(port)
             # so a body or an answer that nginx would write into a file fails
             for one in ("client_body", "proxy"):
