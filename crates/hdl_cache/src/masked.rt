@@ -4,8 +4,10 @@ ghost use Rattle.std.specs.Prelude.{◌≡◌, IfOk};
 ghost use Rattle.hdl_name.specs.Name.{canonical};
 ghost use Rattle.hdl_value.specs.Refs.{place_of};
 ghost use Rattle.hdl_rows.specs.Table.{AreRefusalsAfter};
+ghost use Rattle.hdl_reach.specs.Cost.{ReadsWithin};
 ghost use Rattle.hdl_reach.specs.Reach.{IsMask};
 ghost use Rattle.hdl_reach.specs.Views.{mask_of};
+ghost use Rattle.hdl_cache.specs.Cost.{mask_cost};
 
 use crate::last::LastMask;
 use crate::masks::Masks;
@@ -26,7 +28,8 @@ pub trait Masked: Rows {
     fn mask(&mut self, name: &Name, key: &Reference) -> Result<Option<AdminMask>, Refused>
         ensures unchanged { Self.content self.new ≡ Self.content self.old }
         ensures mask { IfOk result (λ mask. IsMask (Self.content self.old) (canonical name.now) (place_of key.now) (mask_of mask)) }
-        ensures count { AreRefusalsAfter result (Self.refused self.old) (Self.refused self.new) };
+        ensures count { AreRefusalsAfter result (Self.refused self.old) (Self.refused self.new) }
+        ensures cost { ReadsWithin (Self.content self.old) mask_cost (Self.reads self.old) (Self.reads self.new) };
 }
 
 /// Any table, with the masks and searches that are kept of it. Contracts see the table.

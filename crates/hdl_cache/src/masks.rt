@@ -4,9 +4,11 @@ ghost use Rattle.std.specs.Prelude.{◌≡◌, IfOk, IfSome, OnOk, OnErr};
 ghost use Rattle.hdl_name.specs.Name.{canonical};
 ghost use Rattle.hdl_value.specs.Refs.{place_of};
 ghost use Rattle.hdl_rows.specs.Table.{Table, AreRefusalsAfter};
+ghost use Rattle.hdl_reach.specs.Cost.{ReadsWithin, values_cost};
 ghost use Rattle.hdl_reach.specs.Reach.{IsMask};
 ghost use Rattle.hdl_reach.specs.Search.{handle_of, IsSearch, AgreeBeside};
 ghost use Rattle.hdl_reach.specs.Views.{mask_of};
+ghost use Rattle.hdl_cache.specs.Cost.{mask_cost};
 ghost use Rattle.hdl_cache.specs.Truth.{AreTrue};
 
 use crate::KeptMasks;
@@ -119,6 +121,7 @@ impl Masks {
         ensures of_table { AreTrue (R.content rows.old) self.new }
         ensures search { IfOk result (λ search. IsSearch (R.content rows.old) search × (handle_of search ≡ canonical name.now)) }
         ensures count { AreRefusalsAfter result (R.refused rows.old) (R.refused rows.new) }
+        ensures cost { ReadsWithin (R.content rows.old) values_cost (R.reads rows.old) (R.reads rows.new) }
     {
         if let Some(search) = self.take(name) {
             return Ok(search);
@@ -133,6 +136,7 @@ impl Masks {
         ensures of_table { AreTrue (R.content rows.old) self.new }
         ensures search { IfOk result (λ search. IsSearch (R.content rows.old) search × (handle_of search ≡ canonical name.now)) }
         ensures count { AreRefusalsAfter result (R.refused rows.old) (R.refused rows.new) }
+        ensures cost { ReadsWithin (R.content rows.old) mask_cost (R.reads rows.old) (R.reads rows.new) }
     {
         let search = self.search_for(rows, name)?;
         search.go_on(self.alloc, rows, LOOKED_UP)
@@ -154,6 +158,7 @@ impl Masks {
         ensures of_table { AreTrue (R.content rows.new) self.new }
         ensures mask { IfOk result (λ mask. IsMask (R.content rows.old) (canonical name.now) (place_of key.now) (mask_of mask)) }
         ensures count { AreRefusalsAfter result (R.refused rows.old) (R.refused rows.new) }
+        ensures cost { ReadsWithin (R.content rows.old) mask_cost (R.reads rows.old) (R.reads rows.new) }
     {
         if let Ok(Some(mask)) = self.kept.find(name, key) {
             return Ok(mask);

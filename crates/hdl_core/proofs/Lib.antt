@@ -6,3 +6,4 @@ pub mod Places
 pub mod Steps
 pub mod Opened
 pub mod Ordered
+pub mod Costs

@@ -1,4 +1,4 @@
--- What a contract sees of a machine.
+-- What a contract sees of a machine, and of a service.
 use Rattle.std.specs.Prelude.{refl}
 use Rattle.std.specs.Coded.{Coded, code_by, coded×}
 use Rattle.hdl_laws.specs.Worlds.{World}

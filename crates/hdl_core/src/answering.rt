@@ -22,6 +22,7 @@ fn make<R: Rows>(rows: &mut R, change: Option<Change>, moment: u64) -> Result<()
     requires can_apply { IfSome change (λ change. CanApply (R.content rows.old) change) }
     ensures done { OnOk result (R.content rows.new ≡ apply_if (R.content rows.old) moment change) }
     ensures undone { OnErr result (R.content rows.new ≡ R.content rows.old) }
+    ensures reads { R.reads rows.new ≡ R.reads rows.old }
 {
     match change {
         Some(change) => apply(rows, change, moment),
@@ -43,6 +44,7 @@ pub(crate) fn answer<R: Rows>(
     ensures read { IfOk result (λ octets. Announces asked.now.algorithm origin.now.envelope asked.now.request.now (response_number decision.code) decision.content → IsReplyFrame octets) }
     ensures done { OnOk result (R.content rows.new ≡ apply_if (R.content rows.old) origin.now.moment decision.change) }
     ensures undone { OnErr result (R.content rows.new ≡ R.content rows.old) }
+    ensures reads { R.reads rows.new ≡ R.reads rows.old }
 {
     let Decision {
         code,

@@ -4,6 +4,10 @@ ghost use Rattle.std.specs.Prelude.{◌≡◌, ◌==◌, ◌<◌, ℕ, List, len
 ghost use Rattle.hdl_msg.specs.Codes.{response_number};
 ghost use Rattle.hdl_msg.specs.Reply.{IsReplyFrame};
 ghost use Rattle.hdl_ops.specs.Views.{response_view};
+ghost use Rattle.hdl_reach.specs.Cost.{ReadsWithin, values_cost};
+ghost use Rattle.hdl_ops.specs.Cost.{proof_cost};
+ghost use Rattle.hdl_laws.specs.Cost.{IsUnchallenged};
+ghost use Rattle.hdl_core.specs.Held.{state_at};
 ghost use Rattle.hdl_laws.specs.Tasks.{is_late};
 ghost use Rattle.hdl_core.specs.Serving.{challenge_of_request, context, message_as, scene, sent_of, HasItsCode, IsHeardForAnyone, IsRedeemed, RespondsAt, HearsAt};
 
@@ -64,6 +68,7 @@ fn hear_for_anyone<R: Masked>(
     ensures asked { IfOk result (λ heard. IsHeardForAnyone (context owner.now (R.content rows.old)) origin.now next request.now heard (R.content rows.new)) }
     ensures read { IfOk result (λ heard. HasItsCode request.now → IsReplyFrame (sent_of heard)) }
     ensures undone { OnErr result (R.content rows.new ≡ R.content rows.old) }
+    ensures cost { ReadsWithin (R.content rows.old) values_cost (R.reads rows.old) (R.reads rows.new) }
 {
     let named = NamedRequest::of_owner(owner, request)?;
     let asked = named.asked;
@@ -94,6 +99,7 @@ fn redeem<'a, R: Masked>(
     ensures redeemed { IfOk result (λ octets. IsRedeemed (context owner.now (R.content rows.old)) origin.now (response_view response.entry) pending.now octets (R.content rows.new)) }
     ensures read { IfOk result (λ octets. IsReplyFrame octets) }
     ensures undone { OnErr result (R.content rows.new ≡ R.content rows.old) }
+    ensures cost { ReadsWithin (R.content rows.old) proof_cost (R.reads rows.old) (R.reads rows.new) }
 {
     let Ok(request) = read_request(pending.message.as_slice()) else {
         return malformed_reply(owner.alloc, &origin.envelope);
@@ -134,6 +140,8 @@ fn respond<R: Masked>(
     ensures read { IfOk result (λ octets. IsReplyFrame octets) }
     ensures undone { OnErr result (R.content rows.new ≡ R.content rows.old) }
     ensures unchanged { OnErr result (lanes.new ≡ lanes.old) }
+    ensures cost { ReadsWithin (R.content rows.old) proof_cost (R.reads rows.old) (R.reads rows.new) }
+    ensures unknown { IsUnchallenged (state_at lanes.old origin.now.lane) origin.now.peer → R.reads rows.new ≡ R.reads rows.old }
 {
     let session = origin.envelope.session;
     let Some(pending) = lanes.find(origin.lane, origin.peer, session) else {
@@ -161,6 +169,8 @@ pub(crate) fn hear<R: Masked>(
     ensures read { IfOk result (λ octets. IsReplyFrame octets) }
     ensures undone { OnErr result (R.content rows.new ≡ R.content rows.old) }
     ensures unchanged { OnErr result (lanes.new ≡ lanes.old) }
+    ensures cost { ReadsWithin (R.content rows.old) proof_cost (R.reads rows.old) (R.reads rows.new) }
+    ensures stranger { IsUnchallenged (state_at lanes.old origin.now.lane) origin.now.peer → ReadsWithin (R.content rows.old) values_cost (R.reads rows.old) (R.reads rows.new) }
 {
     let Ok(request) = read_request(&message) else {
         return malformed_reply(owner.alloc, &origin.envelope);

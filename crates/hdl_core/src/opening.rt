@@ -175,7 +175,7 @@ impl<R: Rows + Drop> Service<R> {
     /// table is dropped then.
     pub fn open(alloc: Global, tenants: Tenants, rows: R) -> Result<Service<R>, OpenFault>
         requires empty { R.content rows ≡ no_rows }
-        ensures opening { IfOk result (λ service. IsOpening tenants service) }
+        ensures opening { IfOk result (λ service. IsOpening tenants service.world) }
     {
         let (lanes, rows) = opened(alloc, &tenants, rows)?;
         Ok(Service {
@@ -193,7 +193,7 @@ impl<R: Rows + Drop> Service<R> {
     ///
     /// Refused: `Memory` for the lanes or the masks that are kept. The table is dropped then.
     pub fn resume(alloc: Global, tenants: Tenants, rows: R) -> Result<Service<R>, OpenFault>
-        ensures resumed { IfOk result (λ service. IsResumed tenants (R.content rows) service) }
+        ensures resumed { IfOk result (λ service. IsResumed tenants (R.content rows) service.world) }
     {
         let (lanes, rows) = resumed(alloc, &tenants, rows)?;
         Ok(Service {

@@ -1,9 +1,13 @@
 //! The service over any table.
 
 ghost use Rattle.std.specs.Prelude.{◌≡◌, All, IfOk, IfErr, OnErr};
+ghost use Rattle.hdl_reach.specs.Cost.{ReadsWithin, values_cost};
+ghost use Rattle.hdl_ops.specs.Cost.{proof_cost};
+ghost use Rattle.hdl_laws.specs.Cost.{IsStranger, RunReads};
 ghost use Rattle.hdl_laws.specs.Laws.{Hidden, HostsNoRoot, Isolated};
 ghost use Rattle.hdl_laws.specs.Runs.{Run, Steps};
 ghost use Rattle.hdl_laws.specs.Reveals.{IsReadable, Reveals};
+ghost use Rattle.hdl_laws.specs.Worlds.{lane_of};
 
 use crate::machine::Machine;
 use hdl_events::{Event, Outcome};
@@ -12,25 +16,25 @@ use hdl_ops::Rows;
 use hdl_rows::Owing;
 use std::marker::Model;
 
-/// A service of several publishers, over a table. Contracts see its world: the lanes' owners, the hosted prefixes, the table,
-/// and the lanes' states.
+/// A service of several publishers, over a table. Contracts see its world, which is the lanes' owners, the hosted prefixes, the table's content
+/// and the lanes' states, and the table itself, which counts what is read of it.
 #[derive(Drop)]
 pub struct Service<R: Rows + Drop> {
     pub(crate) machine: Machine<R>,
 }
 
 impl<R: Rows + Drop> Model for Service<R> {
-    ghost use Rattle.hdl_laws.specs.Worlds.{World};
+    ghost use Rattle.hdl_core.specs.Machine.{Machine, machine_code};
 
-    ghost Value = { World };
+    ghost Value = { Machine R };
 
     ghost use Rattle.std.specs.Coded.{codes};
     ghost use Rattle.std.specs.FinMap as map;
     ghost use Rattle.std.specs.FinSet as set;
 
-    ghost coded = { Prim.hlevel (codes, map.code, set.code) };
+    ghost coded = { machine_code (Prim.hlevel (codes, map.code, set.code)) R.code };
 
-    ghost view = { λ s. s.machine.world };
+    ghost view = { λ s. s.machine };
 }
 
 /// Room for a run's outcomes was refused: the events come back as they were, and nothing changed.
@@ -46,10 +50,15 @@ impl<R: Owing + Drop> Service<R> {
     /// A reply holds nothing of the table but what is told with its code: with code 1 the values that its caller may read, or
     /// the handles of the prefix that is listed (`told`). What is sent is one frame, and `hdl_msg::read_reply` reads its message
     /// (`read`).
+    ///
+    /// What it reads of the table is bounded by what the table's values, handles and lists count: at most two handles, two values, one list and what one call
+    /// of a search looks up (`cost`), and one handle for a peer to whom no challenge is pending (`stranger`).
     pub fn step(&mut self, event: Event) -> Outcome
-        ensures step { Steps self.old event result self.new }
-        ensures told { Reveals self.old event result }
+        ensures step { Steps self.old.world event result self.new.world }
+        ensures told { Reveals self.old.world event result }
         ensures read { IsReadable result }
+        ensures cost { ReadsWithin self.old.world.table proof_cost (R.reads self.old.rows) (R.reads self.new.rows) }
+        ensures stranger { IsStranger (lane_of self.old.world event.lane) event.what → ReadsWithin self.old.world.table values_cost (R.reads self.old.rows) (R.reads self.new.rows) }
     {
         self.machine.step(event, true).outcome
     }
@@ -61,10 +70,11 @@ impl<R: Owing + Drop> Service<R> {
     /// serves its events alone, so long as no other publisher changed these (`isolated`). Beyond codes no reply depends on a
     /// value that nobody in the run was allowed to read (`hidden`).
     pub fn run(&mut self, events: Vec<Event>) -> Result<Vec<Outcome>, Early>
-        ensures run { IfOk result (λ outcomes. Run self.old events.items outcomes.items self.new) }
-        ensures isolated { IfOk result (λ outcomes. Isolated self.old events.items outcomes.items) }
-        ensures hidden { IfOk result (λ outcomes. Hidden self.old events.items outcomes.items) }
+        ensures run { IfOk result (λ outcomes. Run self.old.world events.items outcomes.items self.new.world) }
+        ensures isolated { IfOk result (λ outcomes. Isolated self.old.world events.items outcomes.items) }
+        ensures hidden { IfOk result (λ outcomes. Hidden self.old.world events.items outcomes.items) }
         ensures read { IfOk result (λ outcomes. All IsReadable outcomes.items) }
+        ensures cost { IfOk result (λ outcomes. RunReads self.old.world events.items outcomes.items self.new.world (R.reads self.old.rows) (R.reads self.new.rows)) }
         ensures early { IfErr result (λ back. back.0.items ≡ events.items) }
         ensures unchanged { OnErr result (self.new ≡ self.old) }
     {
@@ -88,14 +98,15 @@ impl<R: Owing + Drop> Service<R> {
 impl<R: Rows + Drop> Service<R> {
     /// The table. What is said of it beside [`Rows`], as what a crash leaves of a table that lasts, is said of the service's.
     pub fn rows(&self) -> &R
-        ensures { R.content result.now ≡ self.now.table }
+        ensures table { R.content result.now ≡ self.now.world.table }
+        ensures rows { result.now ≡ self.now.rows }
     {
         self.machine.rows()
     }
 
     /// The table, as the run left it.
     pub fn into_rows(self) -> R
-        ensures { R.content result ≡ self.table }
+        ensures { R.content result ≡ self.world.table }
     {
         self.machine.into_rows()
     }
@@ -103,14 +114,14 @@ impl<R: Rows + Drop> Service<R> {
     /// Nobody hosts the prefix of the administrative handles. Whoever joins runs of a service needs it to isolate publishers in the
     /// whole.
     pub fn root_is_unhosted(&self)
-        ensures { HostsNoRoot self.now.site }
+        ensures { HostsNoRoot self.now.world.site }
     {
         self.machine.root_is_unhosted();
     }
 
     /// The machine of the service, for who serves lanes by it.
     pub fn into_machine(self) -> Machine<R>
-        ensures { result.world ≡ self }
+        ensures { result ≡ self }
     {
         self.machine
     }

@@ -4,7 +4,11 @@ ghost use Rattle.std.specs.Prelude.{◌≡◌, ◌<◌, true, drop, length, IfOk
 ghost use Rattle.hdl_frame.specs.Envelope.{envelope_at, is_truncated};
 ghost use Rattle.hdl_frame.specs.Splitting.{IsFrameOf};
 ghost use Rattle.hdl_msg.specs.Reply.{IsReplyFrame};
+ghost use Rattle.hdl_reach.specs.Cost.{ReadsWithin, values_cost};
+ghost use Rattle.hdl_ops.specs.Cost.{proof_cost};
+ghost use Rattle.hdl_laws.specs.Cost.{IsStranger, IsUnchallenged};
 ghost use Rattle.hdl_laws.specs.Reveals.{IsReadable};
+ghost use Rattle.hdl_core.specs.Held.{state_at};
 ghost use Rattle.hdl_core.specs.Serving.{AssemblesAt, outcome_of, received_as, received_of, scene, ReceivesAt, ServesAt};
 
 use crate::hearing::hear;
@@ -45,6 +49,8 @@ fn assemble<R: Masked>(
     ensures read { IfOk result (λ reply. IfSome reply IsReplyFrame) }
     ensures undone { OnErr result (R.content rows.new ≡ R.content rows.old) }
     ensures unchanged { OnErr result (lanes.new ≡ lanes.old) }
+    ensures cost { ReadsWithin (R.content rows.old) proof_cost (R.reads rows.old) (R.reads rows.new) }
+    ensures stranger { IsUnchallenged (state_at lanes.old origin.now.lane) origin.now.peer → ReadsWithin (R.content rows.old) values_cost (R.reads rows.old) (R.reads rows.new) }
 {
     let Ok(taken) = lanes.take_piece(origin.lane, origin.peer, frame) else {
         return Err(Refused);
@@ -82,6 +88,8 @@ fn receive<R: Masked>(
     requires there { received.lane < length lanes.old }
     ensures received { ReceivesAt (scene owner.now (R.content rows.old) lanes.old) received.lane (received_of received) result lanes.new (R.content rows.new) }
     ensures read { IsReadable result }
+    ensures cost { ReadsWithin (R.content rows.old) proof_cost (R.reads rows.old) (R.reads rows.new) }
+    ensures stranger { IsUnchallenged (state_at lanes.old received.lane) received.peer → ReadsWithin (R.content rows.old) values_cost (R.reads rows.old) (R.reads rows.new) }
 {
     let Received {
         lane,
@@ -122,6 +130,8 @@ pub(crate) fn serve<R: Masked>(
     requires there { event.lane < length lanes.old }
     ensures served { ServesAt (scene owner.now (R.content rows.old) lanes.old) event.lane event.what result lanes.new (R.content rows.new) }
     ensures read { IsReadable result }
+    ensures cost { ReadsWithin (R.content rows.old) proof_cost (R.reads rows.old) (R.reads rows.new) }
+    ensures stranger { IsStranger (state_at lanes.old event.lane) event.what → ReadsWithin (R.content rows.old) values_cost (R.reads rows.old) (R.reads rows.new) }
 {
     let Event { lane, what } = event;
     match what {

@@ -6,11 +6,11 @@ use Rattle.hdl_laws.specs.Steps.{Turn}
 use Rattle.hdl_laws.specs.Runs.{IsRun, last}
 use Rattle.hdl_laws.specs.Laws.{JoinsRuns}
 
-run_joined : (w : World) (ts us : List Turn) → IsRun w ts → IsRun (last w ts) us → IsRun w (ts ++ us)
+pub run_joined : (w : World) (ts us : List Turn) → IsRun w ts → IsRun (last w ts) us → IsRun w (ts ++ us)
 run_joined w [] us a b = b
 run_joined w (t ∷ ts) us a b = (a.0, run_joined t.after ts us a.1 b)
 
-last_joined : (w : World) (ts us : List Turn) → last w (ts ++ us) ≡ last (last w ts) us
+pub last_joined : (w : World) (ts us : List Turn) → last w (ts ++ us) ≡ last (last w ts) us
 last_joined w [] us = refl
 last_joined w (t ∷ ts) us = last_joined t.after ts us
 

@@ -4,6 +4,7 @@ pub mod Tasks
 pub mod Effects
 pub mod Steps
 pub mod Runs
+pub mod Cost
 pub mod Reveals
 pub mod Isolation
 pub mod Laws

@@ -6,3 +6,4 @@ pub mod Decided
 pub mod Codes
 pub mod Announced
 pub mod Unlisted
+pub mod Costs

@@ -43,6 +43,7 @@ pub fn apply<R: Rows>(rows: &mut R, change: Change, moment: u64) -> Result<(), R
     ensures done { OnOk result (R.content rows.new ≡ apply (R.content rows.old) moment change) }
     ensures undone { OnErr result (R.content rows.new ≡ R.content rows.old) }
     ensures count { R.refused rows.new ≡ refusals_after result (R.refused rows.old) }
+    ensures reads { R.reads rows.new ≡ R.reads rows.old }
 {
     match change {
         Change::Create { name, values } => rows.create(&name, &stamp(values, moment)),

@@ -3,9 +3,10 @@
 ghost use Rattle.std.specs.Prelude.{◌≡◌, ◌≤◌, ◌+◌, None, IfOk, IfSome, OnOk, IsTrue};
 ghost use Rattle.hdl_auth.specs.declared.algorithm.Algorithm.{Algorithm};
 ghost use Rattle.hdl_msg.specs.Codes.{response_number};
+ghost use Rattle.hdl_reach.specs.Cost.{ReadsWithin};
 ghost use Rattle.hdl_rows.specs.Table.{refusals_after, HaveTheirIndexes, AreRefusalsAfter};
 ghost use Rattle.hdl_ops.specs.Admission.{refusal};
-ghost use Rattle.hdl_ops.specs.Cost.{cost_of_values, cost_of_names};
+ghost use Rattle.hdl_ops.specs.Cost.{cost_of_values, cost_of_names, decision_cost, proof_cost};
 ghost use Rattle.hdl_ops.specs.Decisions as decisions;
 ghost use Rattle.hdl_ops.specs.Decisions.{Decides, DecidesBy};
 ghost use Rattle.hdl_ops.specs.Replies.{fits};
@@ -115,6 +116,7 @@ fn decide_with_proof<R: Masked>(
     ensures carried { IfOk result (λ d. IsTrue (fits asked.now.algorithm asked.now.request.now d.content)) }
     ensures by_index { OnOk result (HaveTheirIndexes (R.content rows.old) (handle_of asked.now.request.now) (sight (R.content rows.old) asked.now.request.now).values) }
     ensures count { AreRefusalsAfter result (R.refused rows.old) (R.refused rows.new) }
+    ensures cost { ReadsWithin (R.content rows.old) proof_cost (R.reads rows.old) (R.reads rows.new) }
 {
     let sight = look(alloc, rows, asked.request, &name)?;
     let code = code_for_proof(alloc, rows, asked.request, &sight, &name, proof)?;
@@ -126,7 +128,8 @@ fn decide_with_proof<R: Masked>(
 /// that is kept of it isn't looked for again.
 ///
 /// Refused: the table refused a look, and its count rose by one; or memory for the decision was refused, and the count is as
-/// it was. What is carried fits into the message of a reply, and a change meets the conditions of its write.
+/// it was. What is carried fits into the message of a reply, and a change meets the conditions of its write. What it reads of the table
+/// is bounded by what its values, handles and lists count (`cost`): for anyone the handle that is named, and nothing else.
 pub fn decide<R: Masked>(
     request: NamedRequest<'_>,
     rows: &mut R,
@@ -137,6 +140,7 @@ pub fn decide<R: Masked>(
     ensures carried { IfOk result (λ d. IsTrue (fits request.entry.asked.algorithm request.entry.asked.request.now d.content)) }
     ensures can_apply { IfOk result (λ d. IfSome d.change (λ change. CanApply (R.content rows.old) change)) }
     ensures count { AreRefusalsAfter result (R.refused rows.old) (R.refused rows.new) }
+    ensures cost { ReadsWithin (R.content rows.old) (decision_cost (level_of level.now)) (R.reads rows.old) (R.reads rows.new) }
 {
     let alloc = request.owner.alloc;
     let asked = request.asked;

@@ -4,10 +4,13 @@ ghost use Rattle.std.specs.Prelude.{◌≡◌, Some, option_map, IfOk};
 ghost use Rattle.hdl_name.specs.Name.{canonical, prefix};
 ghost use Rattle.hdl_value.specs.Refs.{place_of};
 ghost use Rattle.hdl_rows.specs.Table.{AreRefusalsAfter};
+ghost use Rattle.hdl_reach.specs.Cost.{ReadsWithin};
 ghost use Rattle.hdl_reach.specs.Views.{mask_of};
+ghost use Rattle.hdl_cache.specs.Cost.{mask_cost};
 ghost use Rattle.hdl_msg.specs.Views.{operation_of};
 ghost use Rattle.hdl_msg.specs.Codes.{response_number};
 ghost use Rattle.hdl_ops.specs.Admission.{handle_in};
+ghost use Rattle.hdl_ops.specs.Cost.{key_cost};
 ghost use Rattle.hdl_ops.specs.Proven.{admin_octets, target, key_of, MaskOf, IsCodeForKey, IsCodeForProof};
 ghost use Rattle.hdl_ops.specs.Requests.{sent_handle};
 ghost use Rattle.hdl_ops.specs.Sights as sights;
@@ -67,6 +70,7 @@ fn mask_of<R: Masked>(
     ensures unchanged { R.content rows.new ≡ R.content rows.old }
     ensures mask { IfOk result (λ mask. MaskOf (R.content rows.old) (target (operation_of body.now)) (Some (place_of key.now)) (mask_of mask)) }
     ensures count { AreRefusalsAfter result (R.refused rows.old) (R.refused rows.new) }
+    ensures cost { ReadsWithin (R.content rows.old) mask_cost (R.reads rows.old) (R.reads rows.new) }
 {
     if !creates(body) {
         return rows.mask(name, key);
@@ -90,6 +94,7 @@ fn code_for_key<R: Masked>(
     ensures unchanged { R.content rows.new ≡ R.content rows.old }
     ensures code { IfOk result (λ code. IsCodeForKey (R.content rows.old) (sight_of sight.now) request.now (proof_of proof.now) (response_number code)) }
     ensures count { AreRefusalsAfter result (R.refused rows.old) (R.refused rows.new) }
+    ensures cost { ReadsWithin (R.content rows.old) key_cost (R.reads rows.old) (R.reads rows.new) }
 {
     let Some(key) = key_of(alloc, proof)? else {
         return Ok(ResponseCode::NotAuthorized);
@@ -115,6 +120,7 @@ pub(crate) fn code_for_proof<R: Masked>(
     ensures unchanged { R.content rows.new ≡ R.content rows.old }
     ensures code { IfOk result (λ code. IsCodeForProof (R.content rows.old) request.now (proof_of proof.now) (response_number code)) }
     ensures count { AreRefusalsAfter result (R.refused rows.old) (R.refused rows.new) }
+    ensures cost { ReadsWithin (R.content rows.old) key_cost (R.reads rows.old) (R.reads rows.new) }
 {
     match code_before_key(request, sight, proof) {
         Some(code) => Ok(code),

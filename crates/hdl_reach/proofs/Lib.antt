@@ -11,3 +11,4 @@ pub mod Ends
 pub mod Stays
 pub mod Ranges
 pub mod Agreement
+pub mod Costs

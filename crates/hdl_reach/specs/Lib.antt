@@ -2,5 +2,6 @@ pub mod Reach
 pub mod Seen
 pub mod Found
 pub mod Search
+pub mod Cost
 pub mod Views
 pub mod Laws

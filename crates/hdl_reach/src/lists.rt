@@ -1,11 +1,16 @@
 //! What the lists at references hold.
 
-ghost use Rattle.std.specs.Prelude.{◌≡◌, ◌<◌, filter, IfOk};
+ghost use Rattle.std.specs.Prelude.{◌≡◌, ◌≤◌, ◌<◌, ◌+◌, filter, IfOk};
+ghost use Rattle.hdl_limits.specs.Counts.{at_most_u64};
 ghost use Rattle.hdl_value.specs.Refs.{listed_places, refers, place_of};
-ghost use Rattle.hdl_rows.specs.Table.{AreRefusalsAfter};
+ghost use Rattle.hdl_rows.specs.declared.reads.TheConstants.{CALL_OCTETS};
+ghost use Rattle.hdl_rows.specs.Reads as reads;
+ghost use Rattle.hdl_rows.specs.Reads.{of_value};
+ghost use Rattle.hdl_rows.specs.Table.{at, AreRefusalsAfter};
 ghost use Rattle.hdl_reach.specs.Reach.{lists};
 ghost use Rattle.hdl_reach.specs.Seen.{places};
 
+use hdl_rows::reads::{REFERENCE_OCTETS, value_octets};
 use hdl_rows::{Refused, Rows};
 use hdl_value::{Reference, Value, vlist_of};
 use std::alloc::{AllocError, Global};
@@ -33,8 +38,11 @@ fn references_of(alloc: Global, value: &Value) -> Result<Vec<Reference>, AllocEr
     }
 }
 
-/// How many octets one look counts, besides those of the value that it finds.
+/// How many octets one look counts, besides those of the value that it finds, and each reference of that, besides those of its handle.
 const LOOK_OCTETS: usize = 32;
+
+/// What a reference counts here beside what it counts where a table gives it.
+const MORE_OCTETS: usize = LOOK_OCTETS - REFERENCE_OCTETS as usize;
 
 /// What one look found: the references of the list that stands there, and how many octets it came to.
 #[derive(Drop)]
@@ -43,15 +51,13 @@ pub(crate) struct Looked {
     pub(crate) octets: usize,
 }
 
-/// How many octets a value's type, data and references have.
-fn octets_in(value: &Value) -> usize {
-    let mut octets = value.kind.as_slice().len();
-    octets = octets.saturating_add(value.bytes.as_slice().len());
-    for reference in value.references.as_slice() {
-        octets = octets.saturating_add(LOOK_OCTETS);
-        octets = octets.saturating_add(reference.handle.as_slice().len());
-    }
-    octets
+/// How many octets a value has: what it counts where a table gives it, and more for each reference.
+fn octets_in(value: &Value) -> usize
+    ensures { at_most_u64 (reads.value_octets value.now) ≤ result }
+{
+    let references = value.references.as_slice().len();
+    let octets = value_octets(value) as usize;
+    octets.saturating_add(references.saturating_mul(MORE_OCTETS))
 }
 
 /// Looks up what stands there.
@@ -64,6 +70,8 @@ pub(crate) fn list_at<R: Rows>(
     ensures found { IfOk result (λ looked. places looked.listed.items ≡ lists (R.content rows.old) (place_of here.now)) }
     ensures counted { IfOk result (λ looked. 0 < looked.octets) }
     ensures count { AreRefusalsAfter result (R.refused rows.old) (R.refused rows.new) }
+    ensures read { IfOk result (λ looked. R.reads rows.new ≤ R.reads rows.old + looked.octets) }
+    ensures cost { R.reads rows.new ≤ R.reads rows.old + (CALL_OCTETS + of_value (at (R.content rows.old) (place_of here.now))) }
 {
     let Some(value) = rows.at(here)? else {
         return Ok(Looked {

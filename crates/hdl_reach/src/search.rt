@@ -1,10 +1,13 @@
 //! A search for the administrators of a handle.
 
-ghost use Rattle.std.specs.Prelude.{◌≡◌, ◌⊎◌, ◌<◌, take, length, option_copied, bytes_eq, IfOk, OnOk, IsTrue};
+ghost use Rattle.std.specs.Prelude.{◌≡◌, ◌⊎◌, ◌≤◌, ◌<◌, ◌+◌, take, length, option_copied, bytes_eq, IfOk, OnOk, IsTrue};
 ghost use Rattle.std.specs.Bool.{Decides};
 ghost use Rattle.hdl_name.specs.Name.{canonical};
 ghost use Rattle.hdl_value.specs.Refs.{place_of};
+ghost use Rattle.hdl_rows.specs.declared.reads.TheConstants.{CALL_OCTETS};
+ghost use Rattle.hdl_rows.specs.Reads.{values_octets};
 ghost use Rattle.hdl_rows.specs.Table.{Table, values_of, AreRefusalsAfter};
+ghost use Rattle.hdl_reach.specs.Cost.{ReadsWithin, value_cost};
 ghost use Rattle.hdl_reach.specs.Reach.{IsMask};
 ghost use Rattle.hdl_reach.specs.Search.{handle_of, IsFound, IsSearch, IsDone, IsFurther, AgreeBeside};
 ghost use Rattle.hdl_reach.specs.Views.{mask_of, grants_in};
@@ -59,6 +62,7 @@ impl Search {
         ensures unchanged { R.content rows.new ≡ R.content rows.old }
         ensures begun { IfOk result (λ search. IsSearch (R.content rows.old) search × (handle_of search ≡ canonical name.now)) }
         ensures count { AreRefusalsAfter result (R.refused rows.old) (R.refused rows.new) }
+        ensures cost { R.reads rows.new ≤ R.reads rows.old + (CALL_OCTETS + values_octets (values_of (R.content rows.old) (canonical name.now))) }
     {
         let values = rows.values(name)?;
         Ok(search_from(alloc, name, &values)?)
@@ -112,6 +116,8 @@ impl Search {
         ensures further { OnOk result (IsFurther self.old self.new) }
         ensures counted { IfOk result (λ octets. 0 < octets) }
         ensures count { AreRefusalsAfter result (R.refused rows.old) (R.refused rows.new) }
+        ensures read { IfOk result (λ octets. R.reads rows.new ≤ R.reads rows.old + octets) }
+        ensures cost { ReadsWithin (R.content rows.old) value_cost (R.reads rows.old) (R.reads rows.new) }
     {
         let Some(here) = self.found.pop() else {
             unreachable!()
@@ -124,8 +130,9 @@ impl Search {
         Ok(looked.octets)
     }
 
-    /// Goes on until so many octets were looked up, with the value that brings the last of them, or to the end: a look counts 32, and each octet of what
-    /// stands there one, so that what lists hold counts also where it was known. The table stays as it is.
+    /// Goes on until so many octets were looked up, with the value that brings the last of them, or to the end: a look counts 32, a value 30 and its octets,
+    /// and each of its references 32, so that what lists hold counts also where it was known. No look counts less than the table reads for it, so the call
+    /// reads no more than that, and one value (`cost`). The table stays as it is.
     ///
     /// A list is looked up again only where a mask leads to it that has bits which were not known there.
     ///
@@ -142,6 +149,7 @@ impl Search {
         ensures search { IfOk result (λ search. IsSearch (R.content rows.old) search × (handle_of search ≡ handle_of self)) }
         ensures further { IfOk result (λ search. IsDone self ⊎ IsFurther self search) }
         ensures count { AreRefusalsAfter result (R.refused rows.old) (R.refused rows.new) }
+        ensures cost { ReadsWithin (R.content rows.old) (λ m. most + value_cost m) (R.reads rows.old) (R.reads rows.new) }
     {
         let mut left = most;
         while !self.is_done() {

@@ -81,7 +81,7 @@ pub fn serve<R: Owing + Drop, C: Clock>(
     turns: u64,
 ) -> Served<R>
     requires { AreDistinct lanes.items }
-    ensures served { IsServed service lanes.items result.service result.lanes.items }
+    ensures served { IsServed service.world lanes.items result.service.world result.lanes.items }
     ensures ended { (result.turns ≡ 0) ⊎ AllZip GaveEnd lanes.items result.lanes.items }
     ensures distinct { AreDistinct result.lanes.items }
 {

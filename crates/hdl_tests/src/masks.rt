@@ -71,7 +71,7 @@ fn finds(
     same(rt, what, rows.mask(name, key), wanted);
 }
 
-/// One call looks up the list, which counts 45,044 octets, and as many of its references as 20,492 octets more are, 32 each; the next 2,048 of these.
+/// One call looks up the list, which counts 45,074 octets, and as many of its references as 20,462 octets more are, 32 each; the next 2,048 of these.
 /// Both are refused, which no table counts. The third ends, and each reference was looked up once.
 #[test]
 fn a_search_goes_on(rt: HostRuntime) -> Result<(), Fail> {

@@ -9,6 +9,9 @@ use Rattle.hdl_core.specs.declared.hearing.Heard.{Heard}
 use Rattle.hdl_core.specs.Held.{state_at, with_state}
 use Rattle.hdl_core.specs.Serving.{sent_of}
 use Rattle.hdl_core.proofs.Heard.{on_ok, no_request, responded, answered, challenges}
+use Rattle.hdl_reach.specs.Cost.{values_cost}
+use Rattle.hdl_reach.proofs.Costs.{unread}
+use Rattle.hdl_core.proofs.Costs.{anyone_less}
 use Rattle.hdl_core.proofs.hearing.hear.Goals as goal
 
 pub returns-in_default-clause-heard : goal.returns-in_default-clause-heard
@@ -51,3 +54,24 @@ returns-in-Answered-clause-read g c = subst (λ (x : Heard). IsReplyFrame (sent_
 
 pub returns-in-Challenged-clause-read : goal.returns-in-Challenged-clause-read
 returns-in-Challenged-clause-read g c = subst (λ (x : Heard). IsReplyFrame (sent_of x)) c.in-Challenged.is (c.in_ok-octets.ensures.read c.in-Ok.ensures.read.has_code)
+
+pub returns-in-Some-clause-stranger : goal.returns-in-Some-clause-stranger
+returns-in-Some-clause-stranger g c = λ none. unread (g.R.Rows.content c.args.rows.now) values_cost _ _ (c.respond.ensures.unknown none)
+
+pub returns-in_err-octets-clause-cost : goal.returns-in_err-octets-clause-cost
+returns-in_err-octets-clause-cost g c = anyone_less (g.R.Rows.content c.args.rows.now) _ _ c.hear_for_anyone.ensures.cost
+
+pub returns-in_err-octets-clause-stranger : goal.returns-in_err-octets-clause-stranger
+returns-in_err-octets-clause-stranger g c = λ none. c.hear_for_anyone.ensures.cost
+
+pub returns-in-Answered-clause-cost : goal.returns-in-Answered-clause-cost
+returns-in-Answered-clause-cost g c = anyone_less (g.R.Rows.content c.args.rows.now) _ _ c.hear_for_anyone.ensures.cost
+
+pub returns-in-Answered-clause-stranger : goal.returns-in-Answered-clause-stranger
+returns-in-Answered-clause-stranger g c = λ none. c.hear_for_anyone.ensures.cost
+
+pub returns-in-Challenged-clause-cost : goal.returns-in-Challenged-clause-cost
+returns-in-Challenged-clause-cost g c = anyone_less (g.R.Rows.content c.args.rows.now) _ _ c.hear_for_anyone.ensures.cost
+
+pub returns-in-Challenged-clause-stranger : goal.returns-in-Challenged-clause-stranger
+returns-in-Challenged-clause-stranger g c = λ none. c.hear_for_anyone.ensures.cost

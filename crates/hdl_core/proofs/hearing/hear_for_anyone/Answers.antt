@@ -9,6 +9,8 @@ use Rattle.hdl_laws.specs.Effects.{answer_octets}
 use Rattle.hdl_core.specs.Serving.{challenge_of_request, context, HasItsCode, IsHeardForAnyone}
 use Rattle.hdl_core.specs.declared.hearing.Heard.{Heard}
 use Rattle.hdl_core.proofs.Heard.{on_ok, named_decides}
+use Rattle.hdl_reach.specs.Cost.{values_cost}
+use Rattle.hdl_core.proofs.Costs.{then_nothing}
 use Rattle.hdl_core.proofs.hearing.hear_for_anyone.Goals as goal
 
 pub returns-then-is_challenged-clause-asked : goal.returns-then-is_challenged-clause-asked
@@ -48,3 +50,15 @@ returns-clause-read g c = λ has.
     let asked = c.in_ok-named.named.asked in
     c.in_ok-octets.ensures.read
     (answer_announced_lem (hosted_by c.in_ok-named.named.owner.now) asked.algorithm (g.R.Rows.content c.args.rows.now) asked.request.now Anyone (decision_of c.in_ok-decision.decision) e.session e.request (subst (λ (x : HashedRequest). HasItsCode x.request.now) (sym c.in_ok-named.ensures.asked) has) c.in_ok-decision.ensures.decided answered)
+
+pub returns-in_err-decision-clause-cost : goal.returns-in_err-decision-clause-cost
+returns-in_err-decision-clause-cost g c = c.decide.ensures.cost
+
+pub returns-then-is_challenged-clause-cost : goal.returns-then-is_challenged-clause-cost
+returns-then-is_challenged-clause-cost g c = c.decide.ensures.cost
+
+pub returns-in_err-octets-clause-cost : goal.returns-in_err-octets-clause-cost
+returns-in_err-octets-clause-cost g c = then_nothing (g.R.Rows.content c.args.rows.now) values_cost _ _ _ c.decide.ensures.cost c.answer.ensures.reads
+
+pub returns-clause-cost : goal.returns-clause-cost
+returns-clause-cost g c = then_nothing (g.R.Rows.content c.args.rows.now) values_cost _ _ _ c.decide.ensures.cost c.answer.ensures.reads

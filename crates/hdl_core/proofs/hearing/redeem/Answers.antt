@@ -6,6 +6,8 @@ use Rattle.hdl_ops.specs.Proven.{Proof}
 use Rattle.hdl_ops.specs.Tables.{apply_if}
 use Rattle.hdl_ops.specs.Views.{algorithms_by, decision_of, hosted_by, response_view}
 use Rattle.hdl_core.proofs.Heard.{on_ok, on_both, named_decides, unreadable, late, proven}
+use Rattle.hdl_ops.specs.Cost.{proof_cost}
+use Rattle.hdl_core.proofs.Costs.{then_nothing}
 use Rattle.hdl_core.proofs.hearing.redeem.Goals as goal
 
 pub returns-in_default-clause-redeemed : goal.returns-in_default-clause-redeemed
@@ -51,3 +53,9 @@ returns-clause-read g c =
     on_ok c.answer.result _ _
     (λ octets reads. reads (answer_announced_lem hosts c.algorithm.result t r (Proven p) d e.session e.request c.in-Ok.ensures.read.has_code decided (proven_code hosts c.algorithm.result t r p d decided)))
     c.answer.ensures.read
+
+pub returns-in_err-decision-clause-cost : goal.returns-in_err-decision-clause-cost
+returns-in_err-decision-clause-cost g c = c.decide.ensures.cost
+
+pub returns-clause-cost : goal.returns-clause-cost
+returns-clause-cost g c = then_nothing (g.R.Rows.content c.args.rows.now) proof_cost _ _ _ c.decide.ensures.cost c.answer.ensures.reads

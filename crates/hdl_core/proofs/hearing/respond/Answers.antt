@@ -4,6 +4,7 @@ use Rattle.hdl_auth.specs.declared.algorithm.Algorithm.TheVariants.{Sha1}
 use Rattle.hdl_ops.proofs.Announced.{protocol_error_announced}
 use Rattle.hdl_ops.specs.Views.{algorithms_by, hosted_by, response_view}
 use Rattle.hdl_core.proofs.Heard.{on_ok, unknown, known}
+use Rattle.hdl_core.proofs.Costs.{none_found}
 use Rattle.hdl_core.proofs.hearing.respond.Goals as goal
 
 pub returns-in_default-clause-responded : goal.returns-in_default-clause-responded
@@ -22,3 +23,9 @@ pub returns-in_default-clause-read : goal.returns-in_default-clause-read
 returns-in_default-clause-read g c =
     let e = c.args.origin.now.envelope in
     on_ok c.code_reply.result _ _ (λ octets reads. reads (protocol_error_announced Sha1 e.session e.request c.args.request.now)) c.code_reply.ensures.read
+
+pub returns-in_err-octets-clause-unknown : goal.returns-in_err-octets-clause-unknown
+returns-in_err-octets-clause-unknown g c = λ none. absurd (none_found c.args.lanes.now c.args.origin.now.lane c.args.origin.now.peer c.args.origin.now.envelope.session c.in-Some.pending.now (sym (ap option_copied c.in-Some.is) ∙ c.find.ensures) none)
+
+pub returns-clause-unknown : goal.returns-clause-unknown
+returns-clause-unknown g c = λ none. absurd (none_found c.args.lanes.now c.args.origin.now.lane c.args.origin.now.peer c.args.origin.now.envelope.session c.in-Some.pending.now (sym (ap option_copied c.in-Some.is) ∙ c.find.ensures) none)

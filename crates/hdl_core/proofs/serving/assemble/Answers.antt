@@ -1,6 +1,7 @@
 use Rattle.std.proofs.Common.{List, refl, sym, ap, ◌∙◌, subst}
 use Rattle.hdl_pool.specs.Taking.{kept, ignored, displaced, fate_of}
-use Rattle.hdl_core.specs.Held.{Held}
+use Rattle.hdl_laws.specs.Cost.{IsUnchallenged}
+use Rattle.hdl_core.specs.Held.{Held, state_at}
 use Rattle.hdl_ops.specs.Views.{algorithms_by, hosted_by}
 use Rattle.hdl_core.specs.Serving.{message_as, scene, HearsAt}
 use Rattle.hdl_core.proofs.Assembled.{waits, unchanged, whole}
@@ -30,3 +31,13 @@ returns-in-Ignored-clause-assembled g c =
 pub returns-in-Displaced-clause-assembled : goal.returns-in-Displaced-clause-assembled
 returns-in-Displaced-clause-assembled g c =
     waits (hosted_by c.args.owner.now) (algorithms_by c.args.owner.now) (g.R.Rows.content c.args.rows.now) c.args.lanes.now c.args.origin.now.lane c.args.origin.now c.args.frame.now.bytes.now c.requires.envelope displaced c.take_piece.new.self refl (sym (ap fate_of c.in-Displaced.is) ∙ c.in-Ok.ensures.fate) c.in-Ok.ensures.lanes
+
+pub returns-in_err-reply-in-Whole-clause-stranger : goal.returns-in_err-reply-in-Whole-clause-stranger
+returns-in_err-reply-in-Whole-clause-stranger g c = λ none.
+    let same = unchanged (hosted_by c.args.owner.now) (algorithms_by c.args.owner.now) (g.R.Rows.content c.args.rows.now) c.args.lanes.now c.args.origin.now.lane c.args.origin.now c.args.frame.now.bytes.now c.requires.envelope c.in-Whole.message.items c.take_piece.new.self (sym (ap fate_of c.in-Whole.is) ∙ c.in-Ok.ensures.fate) c.in-Ok.ensures.lanes in
+    c.hear.ensures.stranger (subst (λ (ls : List Held). IsUnchallenged (state_at ls c.args.origin.now.lane) c.args.origin.now.peer) (sym same) none)
+
+pub returns-in_ok-reply-in-Whole-clause-stranger : goal.returns-in_ok-reply-in-Whole-clause-stranger
+returns-in_ok-reply-in-Whole-clause-stranger g c = λ none.
+    let same = unchanged (hosted_by c.args.owner.now) (algorithms_by c.args.owner.now) (g.R.Rows.content c.args.rows.now) c.args.lanes.now c.args.origin.now.lane c.args.origin.now c.args.frame.now.bytes.now c.requires.envelope c.in-Whole.message.items c.take_piece.new.self (sym (ap fate_of c.in-Whole.is) ∙ c.in-Ok.ensures.fate) c.in-Ok.ensures.lanes in
+    c.hear.ensures.stranger (subst (λ (ls : List Held). IsUnchallenged (state_at ls c.args.origin.now.lane) c.args.origin.now.peer) (sym same) none)

@@ -4,6 +4,8 @@ use Rattle.hdl_msg.proofs.ReplyReadings.{short_reply_read}
 use Rattle.hdl_laws.specs.Tasks.{Received}
 use Rattle.hdl_core.proofs.Received.{opened, closed, unbroken, broken, unheard, received}
 use Rattle.hdl_ops.specs.Views.{algorithms_by, hosted_by}
+use Rattle.hdl_laws.specs.Cost.{IsStranger}
+use Rattle.hdl_core.specs.Held.{state_at}
 use Rattle.hdl_core.proofs.serving.serve.Goals as goal
 
 pub returns-then-not-is_open-clause-served : goal.returns-then-not-is_open-clause-served
@@ -35,3 +37,6 @@ returns-else-not-is_open-2-clause-served g c =
 
 pub returns-else-not-is_open-clause-read : goal.returns-else-not-is_open-clause-read
 returns-else-not-is_open-clause-read g c = subst IsReplyFrame (sym c.refuse.ensures) (short_reply_read c.of_message.result).1
+
+pub returns-else-not-is_open-2-clause-stranger : goal.returns-else-not-is_open-2-clause-stranger
+returns-else-not-is_open-2-clause-stranger g c = λ stranger. c.receive.ensures.stranger (subst (IsStranger (state_at c.args.lanes.now c.args.event.lane)) c.in-Frame.is stranger)

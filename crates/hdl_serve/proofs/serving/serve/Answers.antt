@@ -1,5 +1,6 @@
 use Rattle.std.proofs.Common.{◌≡◌, length, ap, subst, sym, ◌∙◌, inl, inr, arith, true, true≢false}
 use Rattle.std.specs.List.{AllByRecursion}
+use Rattle.hdl_core.specs.Machine.{Machine}
 use Rattle.hdl_serve.specs.Served.{IsServed}
 use Rattle.hdl_serve.specs.Rounds.{IsServing}
 use Rattle.hdl_serve.proofs.Lanes.{serving_first, written_back, served, still_distinct, turned, gave_end}
@@ -7,24 +8,24 @@ use Rattle.hdl_serve.proofs.serving.serve.Goals.{then-loop-turns-test+else-not-h
 use Rattle.hdl_serve.proofs.serving.serve.Goals as goal
 
 pub loop-turns-init : goal.loop-turns-init
-loop-turns-init g c = subst (λ w. IsServing c.args.service c.args.lanes.items w c.args.lanes.items c.new-ended.result.items) (sym c.into_machine-machine.ensures) (serving_first c.args.service c.args.lanes.items _ c.requires c.new-ended.ensures.items)
+loop-turns-init g c = subst (λ w. IsServing c.args.service.world c.args.lanes.items w c.args.lanes.items c.new-ended.result.items) (sym (ap (λ (m : Machine _). m.world) c.into_machine-machine.ensures)) (serving_first c.args.service.world c.args.lanes.items _ c.requires c.new-ended.ensures.items)
 
 pub loop-turns-preserved-then-has_served-2 : goal.loop-turns-preserved-then-has_served-2
 loop-turns-preserved-then-has_served-2 g c =
-    let lent = subst (λ lanes. IsServing c.args.service c.args.lanes.items c.loop-turns.machine.world lanes c.loop-turns.ended.items) (sym c.as_mut_slice.ensures.value) c.loop-turns.invariant in
+    let lent = subst (λ lanes. IsServing c.args.service.world c.args.lanes.items c.loop-turns.machine.world lanes c.loop-turns.ended.items) (sym c.as_mut_slice.ensures.value) c.loop-turns.invariant in
     let back = written_back c.loop-turns.lanes.items c.round-served.new.lanes c.loop-turns.lanes.len c.loop-turns.lanes.ok.0 (c.round-served.auto.lanes ∙ ap length c.as_mut_slice.ensures.value) in
-    subst (λ lanes. IsServing c.args.service c.args.lanes.items c.round-served.new.machine.world lanes c.round-served.new.ended.items) (sym back)
-    (c.round-served.ensures.serving c.args.service c.args.lanes.items lent)
+    subst (λ lanes. IsServing c.args.service.world c.args.lanes.items c.round-served.new.machine.world lanes c.round-served.new.ended.items) (sym back)
+    (c.round-served.ensures.serving c.args.service.world c.args.lanes.items lent)
 
 pub loop-turns-preserved : goal.loop-turns-preserved
 loop-turns-preserved g c =
-    let lent = subst (λ lanes. IsServing c.args.service c.args.lanes.items c.loop-turns.machine.world lanes c.loop-turns.ended.items) (sym c.as_mut_slice.ensures.value) c.loop-turns.invariant in
+    let lent = subst (λ lanes. IsServing c.args.service.world c.args.lanes.items c.loop-turns.machine.world lanes c.loop-turns.ended.items) (sym c.as_mut_slice.ensures.value) c.loop-turns.invariant in
     let back = written_back c.loop-turns.lanes.items c.round-served.new.lanes c.loop-turns.lanes.len c.loop-turns.lanes.ok.0 (c.round-served.auto.lanes ∙ ap length c.as_mut_slice.ensures.value) in
-    subst (λ lanes. IsServing c.args.service c.args.lanes.items c.round-served.new.machine.world lanes c.round-served.new.ended.items) (sym back)
-    (c.round-served.ensures.serving c.args.service c.args.lanes.items lent)
+    subst (λ lanes. IsServing c.args.service.world c.args.lanes.items c.round-served.new.machine.world lanes c.round-served.new.ended.items) (sym back)
+    (c.round-served.ensures.serving c.args.service.world c.args.lanes.items lent)
 
 pub returns-clause-served : goal.returns-clause-served
-returns-clause-served g c = subst (λ w. IsServed c.args.service c.args.lanes.items w c.loop-turns.lanes.items) (sym c.into_service.ensures) (served c.restricted.ensures.alone c.twin_replies.ensures _ _ _ _ _ c.root_is_unhosted.ensures c.loop-turns.invariant)
+returns-clause-served g c = subst (λ w. IsServed c.args.service.world c.args.lanes.items w c.loop-turns.lanes.items) (sym (ap (λ (m : Machine _). m.world) c.into_service.ensures)) (served c.restricted.ensures.alone c.twin_replies.ensures _ _ _ _ _ c.root_is_unhosted.ensures c.loop-turns.invariant)
 
 pub returns-clause-distinct : goal.returns-clause-distinct
 returns-clause-distinct g c = still_distinct _ _ _ _ _ c.loop-turns.invariant

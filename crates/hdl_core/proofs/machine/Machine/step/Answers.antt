@@ -1,4 +1,8 @@
-use Rattle.std.proofs.Common.{◌∙◌, ap, subst}
+use Rattle.std.proofs.Common.{◌∙◌, ℕ, ap, subst}
+use Rattle.hdl_reach.specs.Cost.{ReadsWithin, values_cost}
+use Rattle.hdl_ops.specs.Cost.{proof_cost}
+use Rattle.hdl_laws.specs.Cost.{IsStranger}
+use Rattle.hdl_laws.specs.Worlds.{World, lane_of}
 use Rattle.hdl_laws.specs.Runs.{Steps}
 use Rattle.hdl_core.specs.Machine.{Machine}
 use Rattle.hdl_core.specs.Worlds.{world_of}
@@ -8,3 +12,19 @@ pub returns-clause-step : goal.returns-clause-step
 returns-clause-step g c =
     let same = ap (world_of c.self.inside.tenants c.self.inside.lanes) c.let_write.ensures.unchanged ∙ ap (λ (m : Machine _). m.world) c.self.view_is in
     subst (λ w. Steps w c.args.event c.serve-outcome.result c.serve-outcome.new.self.world) same c.serve-outcome.ensures.step
+
+pub returns-clause-cost : goal.returns-clause-cost
+returns-clause-cost g c =
+    let same = ap (world_of c.self.inside.tenants c.self.inside.lanes) c.let_write.ensures.unchanged ∙ ap (λ (m : Machine _). m.world) c.self.view_is in
+    let read = c.let_write.ensures.reads ∙ ap (λ (m : Machine _). g.R.Rows.reads m.rows) c.self.view_is in
+    let new = g.R.Rows.reads c.serve-outcome.new.self.rows in
+    subst (λ (n : ℕ). ReadsWithin c.args.self.now.world.table proof_cost n new) read
+    (subst (λ (w : World). ReadsWithin w.table proof_cost (g.R.Rows.reads c.let_write.new.self) new) same c.serve-outcome.ensures.cost)
+
+pub returns-clause-stranger : goal.returns-clause-stranger
+returns-clause-stranger g c =
+    let same = ap (world_of c.self.inside.tenants c.self.inside.lanes) c.let_write.ensures.unchanged ∙ ap (λ (m : Machine _). m.world) c.self.view_is in
+    let read = c.let_write.ensures.reads ∙ ap (λ (m : Machine _). g.R.Rows.reads m.rows) c.self.view_is in
+    let new = g.R.Rows.reads c.serve-outcome.new.self.rows in
+    subst (λ (n : ℕ). IsStranger (lane_of c.args.self.now.world c.args.event.lane) c.args.event.what → ReadsWithin c.args.self.now.world.table values_cost n new) read
+    (subst (λ (w : World). IsStranger (lane_of w c.args.event.lane) c.args.event.what → ReadsWithin w.table values_cost (g.R.Rows.reads c.let_write.new.self) new) same c.serve-outcome.ensures.stranger)

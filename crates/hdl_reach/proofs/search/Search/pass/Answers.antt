@@ -1,5 +1,6 @@
 use Rattle.std.proofs.Common.{◌≡◌, ◌∙◌, refl, sym, ap, subst, List}
 use Rattle.hdl_value.specs.Place.{Place}
+use Rattle.hdl_value.specs.Refs.{place_of}
 use Rattle.hdl_rows.specs.Table.{values_of}
 use Rattle.hdl_reach.specs.declared.search.Search.{Search}
 use Rattle.hdl_reach.specs.Reach.{grants}
@@ -7,6 +8,7 @@ use Rattle.hdl_reach.specs.Seen.{places}
 use Rattle.hdl_reach.specs.Found.{known_at, raised_at}
 use Rattle.hdl_reach.specs.Search.{handle_of}
 use Rattle.hdl_reach.specs.Views.{mask_of}
+use Rattle.hdl_reach.proofs.Costs.{value_read}
 use Rattle.hdl_reach.proofs.Steps.{passed_none, further_none, passed_on, further_on}
 use Rattle.hdl_reach.proofs.search.Search.pass.Goals as goal
 
@@ -47,3 +49,12 @@ returns-clause-further g c =
     let listed = ap places c.deref.ensures.value ∙ c.in_ok-looked.ensures.found in
     let raised = subst (λ (ps : List Place). (q : Place) → known_at c.raise_all.new.self q ≡ raised_at (known_at c.settle.new.self) ps m q) listed c.in_ok-raise_all.ensures.known in
     further_on t (grants (values_of t (handle_of old))) old new c.pop.new.self c.settle.new.self c.in-Some.here c.requires.search c.in-Some.ensures.known c.in-Some.ensures.taken c.in_ok-mask.ensures.known c.in_ok-mask.ensures.waiting m mask raised c.in_ok-raise_all.ensures.gained
+
+pub returns-in_err-looked-clause-cost : goal.returns-in_err-looked-clause-cost
+returns-in_err-looked-clause-cost g c = value_read (g.R.Rows.content c.args.rows.now) (place_of c.in-Some.here) _ _ c.list_at.ensures.cost
+
+pub returns-in_err-raise_all-clause-cost : goal.returns-in_err-raise_all-clause-cost
+returns-in_err-raise_all-clause-cost g c = value_read (g.R.Rows.content c.args.rows.now) (place_of c.in-Some.here) _ _ c.list_at.ensures.cost
+
+pub returns-clause-cost : goal.returns-clause-cost
+returns-clause-cost g c = value_read (g.R.Rows.content c.args.rows.now) (place_of c.in-Some.here) _ _ c.list_at.ensures.cost

@@ -1,0 +1,33 @@
+-- What is read of a table, as the table counts what it gives.
+use Rattle.std.specs.Prelude.{◌≤◌, ℕ, ◌+◌, List}
+use Rattle.hdl_value.specs.Place.{Place}
+use Rattle.hdl_rows.specs.declared.reads.TheConstants.{CALL_OCTETS}
+use Rattle.hdl_rows.specs.Reads.{of_value, values_octets, names_octets}
+use Rattle.hdl_rows.specs.Table.{Table, at, values_of, names_of}
+
+-- Octets: of one value, of the values of one handle, and of the list of one naming authority's handles.
+pub record Most : Type 0 where
+  pub value : ℕ
+  pub values : ℕ
+  pub names : ℕ
+
+-- no value, no handle and no list of the table counts more
+pub record HasAtMost (t : Table) (most : Most) : Type 0 where
+  pub value : (p : Place) → of_value (at t p) ≤ most.value
+  pub values : (h : List ℕ) → values_octets (values_of t h) ≤ most.values
+  pub names : (a : List ℕ) → names_octets (names_of t a) ≤ most.names
+
+-- what was read rose by no more than this, whatever bounds the table
+abbrev pub ReadsWithin : Table → (Most → ℕ) → ℕ → ℕ → Type 0
+ReadsWithin t cost old new = (most : Most) → HasAtMost t most → new ≤ old + cost most
+
+-- one call that gives a value, the values of a handle, or the handles of an authority
+
+abbrev pub value_cost : Most → ℕ
+value_cost most = CALL_OCTETS + most.value
+
+abbrev pub values_cost : Most → ℕ
+values_cost most = CALL_OCTETS + most.values
+
+abbrev pub names_cost : Most → ℕ
+names_cost most = CALL_OCTETS + most.names
