@@ -1,5 +1,5 @@
 -- What values refer to is covered by more and more places.
-use Rattle.std.proofs.Common.{◌≡◌, ℕ, ◌+◌, ◌<◌, ◌≤◌, length, take, get_or, map, List, [], ◌∷◌, ◌++◌, sym, ap, subst, ◌∙◌, arith, IsTrue}
+use Rattle.std.proofs.Common.{◌≡◌, ◌⊎◌, Bool, true, false, ◌||◌, true≢false, inl, inr, refl, ℕ, ◌+◌, ◌<◌, ◌≤◌, length, take, get_or, map, List, [], ◌∷◌, ◌++◌, sym, ap, subst, ◌∙◌, arith, IsTrue}
 use Rattle.std.specs.List.{AllByRecursion, IsDistinct}
 use Rattle.std.proofs.lemmas.List.{map-append}
 use Rattle.hdl_value.specs.Place.{Place, same_place}
@@ -12,9 +12,10 @@ use Rattle.hdl_reach.specs.Reach.{is_among, lists}
 use Rattle.hdl_reach.specs.Laws.{IsOnward}
 use Rattle.hdl_reach.specs.Seen.{places, Extends}
 use Rattle.hdl_reach.specs.Search.{IsSearched}
-use Rattle.hdl_reach.proofs.Members.{at_among, among_front, among_first, or_true}
+use Rattle.hdl_reach.proofs.Members.{at_among, among_append, among_front, among_first, or_true, all_weaker}
 use Rattle.hdl_reach.proofs.Searches.{ends, take_next}
 use Rattle.hdl_laws.specs.Isolation.{Covers, EachCovered}
+use Rattle.hdl_export.specs.Covers.{AreReferred, IsLed}
 
 -- each of places that are covered is among those that cover them
 each_of : (ps qs : List Place) → Covers qs ps → AllByRecursion (λ p. IsTrue (is_among p qs)) ps
@@ -53,22 +54,49 @@ covered_next rows i row old more new low is refs ext h =
     subst (EachCovered new) (sym (values_next rows i row low is))
     (covered_push new vs row.1 (covered_by_more old new vs (covers_old old more new ext) h) (subst (Covers new) refs (covers_each more new ext.all)))
 
+-- ---- and no other place
+
+either_true : (a b : Bool) → (a || b) ≡ true → (a ≡ true) ⊎ (b ≡ true)
+either_true true b h = inl refl
+either_true false b h = inr h
+
+-- what holds the places that were there, and those that were to be added, holds all
+covers_new : (old more new other : List Place) → Extends old more new → Covers other old → Covers other more → Covers other new
+covers_new old more new other ext olds mores p here =
+    let both = sym (among_append old ext.tail p) ∙ subst (λ ps. IsTrue (is_among p ps)) ext.is here in
+    elim (either_true (is_among p old) (is_among p ext.tail) both) [
+      | inl before ↦ olds p before
+      | inr behind ↦ mores p (at_among (λ q. IsTrue (is_among q more)) ext.tail p ext.from behind)
+    ]
+
+covered_parts : (C : List Place) (vs : List Value) (v : Value) → EachCovered C (vs ++ v ∷ []) → EachCovered C vs × Covers C (refs_of v)
+covered_parts C [] v h = (tt, h.0)
+covered_parts C (x ∷ vs) v h = let rest = covered_parts C vs v h.1 in ((h.0, rest.0), rest.1)
+
+pub none_referred : (rs : List Reference) (vs : List Value) → rs ≡ [] → AreReferred vs (places rs)
+none_referred rs vs none = λ other each p here. absurd (true≢false (sym (subst (λ (xs : List Reference). IsTrue (is_among p (places xs))) none here)))
+
+-- one row more refers to what was added for it
+pub referred_next : (rows : List Row) (i : ℕ) (row : Row) (old more new : List Place) → i < length rows → row ≡ get_or rows i row → more ≡ refs_of row.1 → Extends old more new
+    → AreReferred (map (λ (r : Row). r.1) (take i rows)) old → AreReferred (map (λ (r : Row). r.1) (take (i + 1) rows)) new
+referred_next rows i row old more new low is refs ext h = λ other each.
+    let parts = covered_parts other (map (λ (r : Row). r.1) (take i rows)) row.1 (subst (EachCovered other) (values_next rows i row low is) each) in
+    covers_new old more new other ext (h other parts.0) (subst (Covers other) (sym refs) parts.1)
+
 -- ---- the search
 
-pub starts_at : (t : Table) (ps : List Place) → IsDistinct same_place ps → IsSearched (lists t) (λ p. Unit {0}) ps 0 ps
-starts_at t ps distinct = record {
-  within = omega arith;
-  reached = all_there ps;
-  closed = tt;
-  begun = each_of ps ps (λ p here. here);
-  distinct = distinct;
-}
-  where
-    all_there : (qs : List Place) → AllByRecursion (λ p. Unit {0}) qs
-    all_there [] = tt
-    all_there (q ∷ qs) = (tt, all_there qs)
+pub starts_at : (t : Table) (ps : List Place) → IsDistinct same_place ps → IsSearched (lists t) (IsLed t ps) ps 0 ps
+starts_at t ps distinct =
+    let all = each_of ps ps (λ p here. here) in
+    record {
+      within = omega arith;
+      reached = all_weaker (λ p. IsTrue (is_among p ps)) (IsLed t ps) (λ p here other wider onward. wider p here) ps all;
+      closed = tt;
+      begun = all;
+      distinct = distinct;
+    }
 
-pub onward_at : (t : Table) (starts seen : List Place) (next : ℕ) → IsSearched (lists t) (λ p. Unit {0}) starts next seen → length seen ≤ next → IsOnward t seen
+pub onward_at : (t : Table) (starts seen : List Place) (next : ℕ) → IsSearched (lists t) (IsLed t starts) starts next seen → length seen ≤ next → IsOnward t seen
 onward_at t starts seen next h done = λ r p here listed.
-    let closed = ends (lists t) (λ q. Unit {0}) starts seen next h done in
+    let closed = ends (lists t) (IsLed t starts) starts seen next h done in
     at_among (λ q. IsTrue (is_among q seen)) (lists t r) p (at_among (λ s. AllByRecursion (λ q. IsTrue (is_among q seen)) (lists t s)) seen r closed here) listed

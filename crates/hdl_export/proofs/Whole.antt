@@ -16,6 +16,7 @@ use Rattle.hdl_tenants.specs.Register.{Register, Row, prefixes_of}
 use Rattle.hdl_tenants.specs.Text.{IsAccepted}
 use Rattle.hdl_export.specs.Lines.{Lacks, is_sayable, value_line, with_line_end, text_of, is_other, IsWritable}
 use Rattle.hdl_export.specs.Prefixes.{AreAmong}
+use Rattle.hdl_export.specs.Covers.{AreReferred, AreLed}
 use Rattle.hdl_export.specs.Rows.{is_among, is_written, values_at, rows_at, rows_under, rows_in, foreign_rows, line_text, handle_text, authority_text, AreWritable, AreWritableUnder}
 use Rattle.hdl_export.specs.Laws.{IsWritableRow, with_rows, written_lines, prefixes_in, prefixes_for, IsWritten, IsExport, HasCover, IsPublisherExport}
 use Rattle.hdl_export.proofs.LinesRead.{all_read}
@@ -125,14 +126,15 @@ more_rows texts rows more =
     ∙ ap text_of (append_assoc (filter is_other texts) (map value_line rows) (map value_line more) ∙ ap (λ (ls : List (List ℕ)). filter is_other texts ++ ls) (sym (map-append {A = Row} {B = List ℕ} value_line rows more)))
 
 pub publisher_is : (text name own out : List ℕ) (t : Table) (first C : List Place) (r s : Register) → IsAccepted (lines text) r → IsWritten (lines text) (prefixes_for name (lines text)) t own
-    → HasCover (lines own) first → Covers C first → IsOnward t C → out ≡ own ++ text_of (map value_line (foreign_rows (prefixes_for name (lines text)) t C))
+    → HasCover (lines own) first → Covers C first → IsOnward t C → AreLed t first C → out ≡ own ++ text_of (map value_line (foreign_rows (prefixes_for name (lines text)) t C))
     → AllByRecursion IsWritableRow (foreign_rows (prefixes_for name (lines text)) t C) → IsAccepted (lines out) s → IsPublisherExport (lines text) name t out
-publisher_is text name own out t first C r s h w has wider onward e more k =
+publisher_is text name own out t first C r s h w has wider onward led e more k =
     let texts = lines text in
     let rows = rows_in (prefixes_for name texts) w.authorities t in
     let foreign = foreign_rows (prefixes_for name texts) t C in
     let opened : has.register ≡ with_rows r rows = read_back text own r has.register rows h w.rows w.text has.read in
     let covered : EachCovered first (map (λ (row : Row). row.1) rows) = subst (λ (x : Register). EachCovered first (map (λ (row : Row). row.1) x.opening)) opened has.covered in
+    let referred : AreReferred (map (λ (row : Row). row.1) rows) first = subst (λ (x : Register). AreReferred (map (λ (row : Row). row.1) x.opening) first) opened has.referred in
     let shape : out ≡ text_of (written_lines texts (rows ++ foreign)) = e ∙ ap (λ (octets : List ℕ). octets ++ text_of (map value_line foreign)) w.text ∙ more_rows texts rows foreign in
     let same : s ≡ with_rows r (rows ++ foreign) = read_back text out r s (rows ++ foreign) h (all_joined IsWritableRow rows foreign w.rows more) shape k in
     record {
@@ -143,5 +145,6 @@ publisher_is text name own out t first C r s h w has wider onward e more k =
       cover = C;
       rows = covered_by_more first C (map (λ (row : Row). row.1) rows) wider covered;
       onward = onward;
+      least = λ other each closed p here. led p here other (referred other each) closed;
       written = subst (λ (x : Register). IsAccepted (lines out) x) same k;
     }

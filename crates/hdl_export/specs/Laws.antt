@@ -19,6 +19,7 @@ use Rattle.hdl_laws.specs.Runs.{IsRun, events, outcomes}
 use Rattle.hdl_laws.specs.Laws.{HostsNoRoot}
 use Rattle.hdl_laws.specs.Isolation.{EachCovered, IsClosed, IsQuiet, restrict, turns_of, own_writes}
 use Rattle.hdl_core.specs.Opening.{opening_table}
+use Rattle.hdl_export.specs.Covers.{AreReferred, IsLeast}
 use Rattle.hdl_export.specs.Prefixes.{prefix_named, prefix_given, AreAmong}
 use Rattle.hdl_export.specs.Rows.{is_among, rows_in, foreign_rows}
 
@@ -81,15 +82,16 @@ pub record IsExport (texts : List (List ℕ)) (t : Table) (out : List ℕ) : Typ
 abbrev pub prefixes_for : List ℕ → List (List ℕ) → List (List ℕ)
 prefixes_for name texts = flat_map (λ line. prefix_given name (fields_of line)) texts
 
--- what the rows refer to that a text says
+-- what the rows refer to that a text says, and nothing else
 pub record HasCover (texts : List (List ℕ)) (places : List Place) : Type 0 where
   pub register : Register
   pub read : IsAccepted texts register
   pub covered : EachCovered places (map (λ row. row.1) register.opening)
+  pub referred : AreReferred (map (λ row. row.1) register.opening) places
 
 -- The text that was given says a register. The text that was written says the same publishers and prefixes, the rows of the table with the
 -- prefixes of this publisher, and of the rows with other prefixes those at the places of a cover: all that its rows refer to, and all that the
--- lists there refer to.
+-- lists there refer to, and no other place.
 pub record IsPublisherExport (texts : List (List ℕ)) (name : List ℕ) (t : Table) (out : List ℕ) : Type 0 where
   pub register : Register
   pub given : IsAccepted texts register
@@ -98,6 +100,7 @@ pub record IsPublisherExport (texts : List (List ℕ)) (name : List ℕ) (t : Ta
   pub cover : List Place
   pub rows : EachCovered cover (map (λ row. row.1) (rows_in (prefixes_for name texts) authorities t))
   pub onward : IsOnward t cover
+  pub least : IsLeast t (map (λ row. row.1) (rows_in (prefixes_for name texts) authorities t)) cover
   pub written : IsAccepted (lines out) (with_rows register (rows_in (prefixes_for name texts) authorities t ++ foreign_rows (prefixes_for name texts) t cover))
 
 -- ---- what a moved publisher has

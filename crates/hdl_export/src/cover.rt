@@ -7,7 +7,7 @@ ghost use Rattle.std.specs.List.{IsDistinct};
 ghost use Rattle.hdl_reach.specs.Laws.{IsOnward};
 ghost use Rattle.hdl_reach.specs.Seen.{places, with_place, place_at, Extends};
 ghost use Rattle.hdl_laws.specs.Isolation.{Covers, EachCovered};
-ghost use Rattle.hdl_export.specs.Covers.{places_in, AreKept};
+ghost use Rattle.hdl_export.specs.Covers.{places_in, AreKept, AreReferred, AreLed};
 
 use crate::fault::ExportFault;
 use crate::references::{list_at, references_of};
@@ -83,6 +83,7 @@ impl Cover {
     /// What these values refer to.
     pub(crate) fn of(alloc: Global, rows: &[(Name, Value)]) -> Result<Cover, AllocError>
         ensures covered { IfOk result (λ cover. EachCovered (places_in cover) (map (λ row. row.1) rows.now)) }
+        ensures referred { IfOk result (λ cover. AreReferred (map (λ row. row.1) rows.now) (places_in cover)) }
         ensures distinct { IfOk result (λ cover. IsDistinct same_place (places_in cover)) }
         ensures kept { IfOk result AreKept }
     {
@@ -105,6 +106,7 @@ impl Cover {
         ensures unchanged { R.content rows.new ≡ R.content rows.old }
         ensures grown { IfOk result (λ cover. Covers (places_in cover) (places_in self)) }
         ensures onward { IfOk result (λ cover. IsOnward (R.content rows.old) (places_in cover)) }
+        ensures led { IfOk result (λ cover. AreLed (R.content rows.old) (places_in self) (places_in cover)) }
     {
         // each turn passes one place
         for next in 0..usize::MAX {

@@ -12,7 +12,7 @@
 //! say is read back as it was written; and [`rows_are_only`] that such a text says nothing else.
 //!
 //! [`export_publisher`] writes one publisher's part in the same way, with what it rests on: the values of other publishers to which its values
-//! refer, and those to which the lists there refer (`specs/Laws.antt`, `IsPublisherExport`). [`publisher_moves`] is the law that the service which
+//! refer, those to which the lists there refer, and no others (`specs/Laws.antt`, `IsPublisherExport`). [`publisher_moves`] is the law that the service which
 //! opens with it has of the publisher just what the old one had, in the words of `hdl_laws`: the restricted worlds are one. So it is answered alike ([`moved_is_answered_alike`]).
 //!
 //! A text can't say a handle without a value, nor one with a space or a line feed in its name. [`left_out`] and [`left_out_of`] count

@@ -5,7 +5,7 @@ use Rattle.std.specs.String.{string_bytes}
 use Rattle.hdl_rows.specs.Table.{Table}
 use Rattle.hdl_tenants.specs.Register.{Row}
 use Rattle.hdl_reach.specs.Laws.{IsOnward}
-use Rattle.hdl_export.specs.Covers.{places_in}
+use Rattle.hdl_export.specs.Covers.{places_in, AreLed}
 use Rattle.hdl_export.specs.Laws.{IsPublisherExport, HasCover, IsWritten, IsWritableRow, prefixes_for}
 use Rattle.hdl_export.specs.Lines.{text_of, value_line}
 use Rattle.hdl_export.proofs.ForeignRows.{same_rows}
@@ -26,9 +26,10 @@ returns-clause-export g c =
     let written = subst (λ (ps : List (List ℕ)). IsWritten texts ps t own) (ap texts_of c.as_slice.ensures.value ∙ c.in_ok-prefixes.ensures) c.in_ok-out.ensures.written in
     let has = subst (λ (octets : List ℕ). HasCover (lines octets) first) c.as_slice-2.ensures.value c.in_ok-cover_of.ensures.covered in
     let onward = subst (λ (x : Table). IsOnward x cover) c.write_unread.ensures.unchanged c.in_ok-cover.ensures.onward in
+    let led = subst (λ (x : Table). AreLed x first cover) c.write_unread.ensures.unchanged c.in_ok-cover.ensures.led in
     let same = same_rows (texts_of c.as_slice-3.result.now) (prefixes_for name texts) (g.R.Rows.content c.close.new.rows) t c.as_slice-4.result.now c.in_ok-cover.cover.references.items
     (ap texts_of c.as_slice-3.ensures.value ∙ c.in_ok-prefixes.ensures) (c.close.ensures.unchanged ∙ c.write_unread.ensures.unchanged) c.as_slice-4.ensures.value in
     let put = c.in_ok-put_foreign.ensures.put ∙ ap (λ (rows : List Row). own ++ text_of (map value_line rows)) same in
     let writable = subst (AllByRecursion IsWritableRow) same c.in_ok-put_foreign.ensures.writable in
     sound_as string_bytes (IsPublisherExport texts name t) c.sound.result out c.sound.ensures.same c.sound.ensures.read
-    (λ s read. publisher_is c.args.text.now name own out t first cover given.0 s given.1 written has c.in_ok-cover.ensures.grown onward put writable read)
+    (λ s read. publisher_is c.args.text.now name own out t first cover given.0 s given.1 written has c.in_ok-cover.ensures.grown onward led put writable read)
