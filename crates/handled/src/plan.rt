@@ -3,10 +3,11 @@
 use crate::bounds::bounds_of;
 use crate::supervising::log_at;
 use hdl_core::Tenants;
-use hdl_host::{Limits, Setting, Supervision};
+use hdl_host::{Limits, Setting, Supervision, notices_of};
 use hdl_programs::{Fault, tenants_of};
 use hdl_server_options::{BoundWord, LimitOptions, SupervisionOptions};
 use std::net::IpAddr;
+use std::sync::Arc;
 
 /// Whom is served, and in which setting.
 ///
@@ -102,6 +103,8 @@ pub fn plan_of(
     let tenants = tenants_of(rt.alloc(), text)?;
     match bounds_of(rt.alloc(), words, text, &tenants) {
         Ok(bounds) => {
+            let notices = notices_of(rt.alloc(), bounds.as_slice())?;
+            setting.supervision.bounds = Arc::new(rt.alloc(), notices)?;
             setting.bounds = bounds;
             Ok(Planned::Plan(TextPlan { tenants, setting }))
         }

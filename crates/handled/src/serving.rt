@@ -7,7 +7,7 @@ use crate::fault::ProgramFault;
 use crate::notices::{Notice, say_begins, say_ends};
 use crate::plan::Plan;
 use hdl_core::Owing;
-use hdl_host::{Ending, Setting, host_resumed, host_tenants};
+use hdl_host::{Ending, Health, Setting, host_resumed, host_tenants};
 use hdl_programs::Fault;
 use hdl_tables::Closing;
 use std::fs::Files;
@@ -20,6 +20,11 @@ use std::thread::Threads;
 /// Whether the server was asked to end, which is looked at behind its end.
 fn ending_of(setting: &Setting) -> Result<Arc<Ending>, Fault> {
     Ok(Arc::try_clone(&setting.supervision.ending)?)
+}
+
+/// What is told of the table, which is looked at behind the end.
+fn health_of(setting: &Setting) -> Result<Arc<Health>, Fault> {
+    Ok(Arc::try_clone(&setting.supervision.health)?)
 }
 
 /// Serves by this plan over an empty table in memory, and answers the exit status.
@@ -43,9 +48,10 @@ pub fn serve_memory<
     say_begins(rt, plan.tenants(), Notice::Memory { row_cache }, limits);
     let mut output = rt.stdout();
     let ending = ending_of(plan.setting())?;
+    let health = health_of(plan.setting())?;
     let (tenants, setting) = plan.into_parts();
     host_tenants(machine, rt.alloc(), rows, tenants, setting, &mut output)?;
-    say_ends(rt, ending.is_asked());
+    say_ends(rt, &health, ending.is_asked());
     Ok(0)
 }
 
@@ -68,8 +74,9 @@ pub fn serve_table<
     say_begins(rt, plan.tenants(), Notice::File(path), limits);
     let mut output = rt.stdout();
     let ending = ending_of(plan.setting())?;
+    let health = health_of(plan.setting())?;
     let (tenants, setting) = plan.into_parts();
     host_resumed(machine, rt.alloc(), table, tenants, setting, &mut output)?.close()?;
-    say_ends(rt, ending.is_asked());
+    say_ends(rt, &health, ending.is_asked());
     Ok(0)
 }

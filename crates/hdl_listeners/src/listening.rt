@@ -31,7 +31,7 @@ pub struct Limits {
 pub const AMPLIFY: u32 = 8;
 
 impl Limits {
-    /// No end of turns, a minute of silence, and a thousand connections.
+    /// No end of turns, a minute of silence and a thousand connections.
     pub const DEFAULT: Limits = Limits {
         turns: u64::MAX,
         idle: 60,
@@ -179,7 +179,7 @@ fn place_of<R: Net + Clock>(
     alloc: Global,
     opened: Opened,
     publisher: (&str, u16),
-    setting: &Setting,
+    setting: &mut Setting,
 ) -> io::Result<PublisherSockets<Crowd>> {
     let Opened { listeners, sockets } = opened;
     let (name, lanes) = publisher;
@@ -206,7 +206,7 @@ pub fn places_of<R: Net<Listener = TcpListener, Stream = TcpStream> + Clock>(
     rt: &R,
     alloc: Global,
     tenants: &Tenants,
-    setting: &Setting,
+    setting: &mut Setting,
 ) -> Result<(Vec<PublisherSockets<Crowd>>, String), HostFault> {
     let mut places = Vec::new(alloc);
     let mut lines = String::new(alloc);

@@ -2,7 +2,7 @@
 
 use hdl_programs::VERSION;
 use hdl_sockets::nothing_came;
-use hdl_telemetry::{Counts, Health};
+use hdl_telemetry::{Counts, Flow, Health};
 use httparse::Status;
 use httparse::spans::{EMPTY_HEADER_SPAN, parse_request};
 use std::alloc::{AllocError, Global};
@@ -28,6 +28,8 @@ const READS: usize = 8;
 pub struct StatusPage {
     pub counts: Vec<Arc<Counts>>,
     pub health: Arc<Health>,
+    /// How the lines of the log go, where there is one.
+    pub log: Option<Arc<Flow>>,
 }
 
 /// What is answered: the line behind the version, the kind of the body, and the body.
@@ -91,6 +93,18 @@ impl StatusPage {
         )
     }
 
+    /// Puts how many lines of the log were lost, where there is one.
+    fn put_log<W: fmt::Write>(&self, out: &mut W) -> fmt::Result {
+        let Some(log) = &self.log else {
+            return Ok(());
+        };
+        let lost = log.lost();
+        writeln!(
+            out,
+            "# HELP handled_log_lines_lost_total Lines of the log of changes that weren't written.\n# TYPE handled_log_lines_lost_total counter\nhandled_log_lines_lost_total {lost}"
+        )
+    }
+
     /// Puts everything that is counted.
     fn put_metrics<W: fmt::Write>(&self, out: &mut W) -> fmt::Result {
         writeln!(
@@ -98,7 +112,8 @@ impl StatusPage {
             "# HELP handled_info The program's version.\n# TYPE handled_info gauge\nhandled_info{{version=\"{VERSION}\"}} 1"
         )?;
         self.put_counts(out)?;
-        self.put_table(out)
+        self.put_table(out)?;
+        self.put_log(out)
     }
 
     /// Everything that is counted.

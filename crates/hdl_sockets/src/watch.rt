@@ -32,7 +32,7 @@ pub struct Watch<R> {
     recorder: Option<StreamRecorder<R>>,
 }
 
-impl<R: std::rt::Clock + Eprint + Drop> Watch<R> {
+impl<R: std::rt::Clock + Drop> Watch<R> {
     /// Of a lane without a connection.
     pub fn new(rt: R, seat: Seat, recorder: Option<StreamRecorder<R>>) -> Watch<R> {
         Watch {

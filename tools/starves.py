@@ -1,0 +1,166 @@
+"""starves.py: tries a server whose log or standard error nobody reads, over the program crates/handled/out/handled.
+
+Nobody's answer waits for a log that nobody reads, and what is lost is counted and told. Its last line is 'N passed, M failed', a case counting one."""
+
+import contextlib
+import os
+import re
+import subprocess
+import sys
+import tempfile
+import time
+import urllib.error
+import urllib.request
+
+# nothing is left beside the tools
+sys.dont_write_bytecode = True
+import servers
+import wire
+
+KEY = b"example-secret"
+# Seconds within which something that is told a moment later is told, and within which a server ends.
+SOON, END = 10, 20
+# More changes than a pipe and the queue of a lane hold.
+MANY = 2600
+
+
+def tenants(*ports):
+    """Two publishers, each with an administrator, its key, a handle that anybody changes, and one that it administers; bolt has an overflow lane."""
+    lines = ["publisher acme 3 %d" % ports[0], "publisher bolt 4 %d" % ports[1], "prefix 10 acme", "prefix 20 bolt"]
+    for prefix in (b"10", b"20"):
+        root = b"0.NA/" + prefix
+        lines += [wire.value_line(root, administrator(root)), wire.value_line(root, wire.value(300, b"HS_SECKEY", KEY, 0x0C, 86400)), wire.value_line(prefix + b"/open", note(1, b"x" * 100))]
+        lines += [wire.value_line(prefix + b"/own", one) for one in (administrator(root), note(1, b"x"), note(2, b"x"))]
+    return wire.text(lines)
+
+
+def administrator(root):
+    return wire.value(100, b"HS_ADMIN", wire.administrator(root, 300), 0x0E, 86400)
+
+
+def note(index, data):
+    return wire.value(index, b"NOTE", data, 0x0F, 86400)
+
+
+class Publisher(servers.Client):
+    """A client of one publisher, whose key answers its challenges."""
+
+    def __init__(self, port, prefix):
+        super().__init__(port, b"0.NA/" + prefix)
+        self.stream.settimeout(60)
+
+    def make(self, name, data=b"0123456789"):
+        return self.create(self.handle[5:] + b"/" + name, [administrator(self.handle), note(1, data)])
+
+    def change(self, data=b"y" * 100):
+        return self.modify(self.handle[5:] + b"/open", [note(1, data)])
+
+    def resolved(self, name=b"open"):
+        return self.code(wire.resolution(self.handle[5:] + b"/" + name))
+
+
+class Server:
+    """A server with these options, a status page and a socket for the word to end; its standard error goes to a file, unless it is said where."""
+
+    def __init__(self, folder, options=(), **how):
+        self.status, = servers.free_ports(1)
+        self.control = os.path.join(folder, "control")
+        self.errors = os.path.join(folder, "errors-%d" % self.status)
+        options = [*options, "--status", "127.0.0.1:%d" % self.status, "--control", self.control]
+        with open(self.errors, "ab") as errors:
+            self.process, ports = servers.serve(tenants, 2, options=options, **{"stderr": errors, **how})
+        self.acme, self.bolt = Publisher(ports[0], b"10"), Publisher(ports[1], b"20")
+
+    def __enter__(self):
+        return self
+
+    def __exit__(self, *_):
+        for one in (self.acme, self.bolt):
+            one.stream.close()
+        if self.process.poll() is None:
+            self.process.kill()
+        self.process.wait()
+        self.process.stdout.close()
+
+    def said(self, word):
+        """The lines of standard error that begin so."""
+        with open(self.errors, encoding="utf-8", errors="replace") as errors:
+            return [line for line in errors.read().splitlines() if line.startswith(word)]
+
+    def page(self, path):
+        """The status and the body of a page."""
+        try:
+            with urllib.request.urlopen("http://127.0.0.1:%d%s" % (self.status, path), timeout=SOON) as reply:
+                return reply.status, reply.read().decode()
+        except urllib.error.HTTPError as fault:
+            return fault.code, fault.read().decode()
+
+    def health(self):
+        return self.page("/health")[0]
+
+    def count(self, name):
+        """What the page says of a count."""
+        found = re.search(r"^%s ([0-9]+)$" % re.escape(name), self.page("/metrics")[1], re.M)
+        return int(found[1]) if found else None
+
+    def stop(self):
+        return subprocess.run([servers.HANDLED, "stop", "--control", self.control], capture_output=True, timeout=END).returncode
+
+
+def soon(holds):
+    until = time.monotonic() + SOON
+    while not holds() and time.monotonic() < until:
+        time.sleep(0.05)
+    return holds()
+
+
+def unread_log(folder):
+    """A FIFO as the log, which nobody reads at first: all changes of both publishers are answered; who reads then gets lines, and what was lost is counted and told."""
+    log = os.path.join(folder, "fifo")
+    os.mkfifo(log)
+    with Server(folder, ["--log", log]) as server:
+        yield "a log that nobody reads: all is answered", {server.acme.change(b"%d" % number) for number in range(MANY)} == {wire.SUCCESS}
+        yield "and of the other publisher", {server.bolt.change(b"%d" % number) for number in range(20)} == {wire.SUCCESS}
+        yield "what is lost is counted", soon(lambda: server.count("handled_log_lines_lost_total"))
+        reader = os.open(log, os.O_RDONLY | os.O_NONBLOCK)
+        got = b""
+
+        def read():
+            nonlocal got
+            with contextlib.suppress(BlockingIOError):
+                got += os.read(reader, 1 << 20)
+            return server.said("log: ")
+
+        yield "it is told once somebody reads", soon(read)
+        lost = server.count("handled_log_lines_lost_total")
+        read()
+        yield "each line is there or counted", got.count(b"\n") + lost == MANY + 20 and server.said("log: ")[0].startswith("log: %d lines were lost" % lost)
+        yield "none of the other publisher's is lost", got.count(b"Z bolt ") == 20
+        yield "each line is whole", all(re.match(rb"\S+Z (acme|bolt) [0-9] 127.0.0.1:\d+ modify (10|20)/open - 1$", line) for line in got.splitlines())
+        os.close(reader)
+
+
+def unread_errors(folder):
+    """Standard error is a pipe that nobody reads, and the log goes there."""
+    reader, writer = os.pipe()
+    with Server(folder, ["--log", "-"], stderr=writer) as server:
+        os.close(writer)
+        yield "standard error that nobody reads: all is answered", {server.acme.change(b"%d" % number) for number in range(MANY)} == {wire.SUCCESS}
+        yield "and of the other publisher", server.bolt.change() == wire.SUCCESS and server.health() == 200
+    os.close(reader)
+
+
+def main():
+    parts = [unread_log, unread_errors]
+    words = sys.argv[1:]
+
+    def cases():
+        for part in parts:
+            if not words or part.__name__ in words:
+                with tempfile.TemporaryDirectory() as folder:
+                    yield from part(folder)
+
+    return servers.tally(cases())
+
+
+sys.exit(main())
