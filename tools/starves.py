@@ -1,10 +1,11 @@
-"""starves.py: tries a server whose log or standard error nobody reads, over the program crates/handled/out/handled.
+"""starves.py: tries a server whose log, standard error or status page nobody reads, or somebody slowly, over the program crates/handled/out/handled.
 
 Nobody's answer waits for a log that nobody reads, and what is lost is counted and told. Its last line is 'N passed, M failed', a case counting one."""
 
 import contextlib
 import os
 import re
+import socket
 import subprocess
 import sys
 import tempfile
@@ -150,8 +151,26 @@ def unread_errors(folder):
     os.close(reader)
 
 
+def slow_clients(folder):
+    """Clients that ask slowly hide neither the status page nor the word to end."""
+    with Server(folder) as server:
+        slow = [socket.create_connection(("127.0.0.1", server.status), 10) for _ in range(60)]
+        for number, one in enumerate(slow):
+            # the page may have left it for one that came later
+            with contextlib.suppress(OSError):
+                one.sendall(b"GET /metrics HTTP/1.1\r\nX: " if number % 2 else b"G")
+        yield "health behind slow clients", [server.health() for _ in range(5)] == [200] * 5
+        silent = [socket.socket(socket.AF_UNIX) for _ in range(100)]
+        for one in silent:
+            one.connect(server.control)
+        silent[-1].sendall(b"sto")
+        yield "an end behind silent clients", server.stop() == 0 and server.process.wait(END) == 0
+        for one in slow + silent:
+            one.close()
+
+
 def main():
-    parts = [unread_log, unread_errors]
+    parts = [unread_log, unread_errors, slow_clients]
     words = sys.argv[1:]
 
     def cases():

@@ -20,11 +20,14 @@
 //! # Decisions
 //!
 //! - **Shared listeners**: a publisher's stream workers have clones of its listeners, one at each address, so whichever is free takes the next connection.
+//! - **Who asks slowly holds nobody up** (`guests`): the status page and the socket of `--control` have a thread each, whose calls don't wait while somebody asks. It serves 32 clients at a time; one more
+//!   ends the one that came first, and each has five seconds.
 //! - **Every worker's nonces are seeded before the first one starts**: where the machine's random source fails, nothing serves.
 #![tactic(auto)]
 
 mod control;
 mod fault;
+mod guests;
 mod listening;
 mod status;
 mod supervision;

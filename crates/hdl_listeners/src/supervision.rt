@@ -1,9 +1,10 @@
 //! What a server tells of itself beside its answers, and how it takes the word to end.
 
-use crate::control::{listen, serve_control};
+use crate::control::{Control, listen};
 use crate::fault::HostFault;
+use crate::guests::serve_guests;
 use crate::listening::{PublisherSockets, or_device};
-use crate::status::{StatusPage, serve_status};
+use crate::status::StatusPage;
 use crate::telling::{Telling, tell};
 use hdl_programs::Fault;
 use hdl_sockets::Ending;
@@ -198,7 +199,7 @@ fn start_status<R: Threads + Clock + Copy + Send + Drop + 'static>(
 ) -> Result<(), Fault> {
     let theirs = *rt;
     match thread::spawn(rt, move || {
-        serve_status(&theirs, alloc, &listener, &page);
+        serve_guests(&theirs, alloc, &listener, &page);
     }) {
         Ok(_) => Ok(()),
         Err(_) => Err(Fault::Device),
@@ -213,9 +214,10 @@ fn start_control<R: Threads + Clock + Copy + Send + Drop + 'static>(
     ending: &Arc<Ending>,
 ) -> Result<(), Fault> {
     let ending = or_device(Arc::try_clone(ending).map_err(io::Error::from))?;
+    let control = Control { ending };
     let theirs = *rt;
     match thread::spawn(rt, move || {
-        serve_control(&theirs, alloc, &listener, &ending);
+        serve_guests(&theirs, alloc, &listener, &control);
     }) {
         Ok(_) => Ok(()),
         Err(_) => Err(Fault::Device),
