@@ -1,10 +1,13 @@
-"""starves.py: tries a server whose log, standard error or status page nobody reads, or somebody slowly, over the program crates/handled/out/handled.
+"""starves.py: tries a server that is short of something, over the program crates/handled/out/handled: readers of its log, room on its disk, or quick clients of its status page.
 
-Nobody's answer waits for a log that nobody reads, and what is lost is counted and told. Its last line is 'N passed, M failed', a case counting one."""
+Nobody's answer waits for a log that nobody reads, and what is lost is counted. A disk that is full is told: on standard error, by
+/health and by /metrics; and reads go on. Its last line is 'N passed, M failed', a case counting one."""
 
 import contextlib
 import os
 import re
+import resource
+import signal
 import socket
 import subprocess
 import sys
@@ -18,6 +21,7 @@ sys.dont_write_bytecode = True
 import servers
 import wire
 
+BUSY = 3
 KEY = b"example-secret"
 # Seconds within which something that is told a moment later is told, and within which a server ends.
 SOON, END = 10, 20
@@ -169,8 +173,31 @@ def slow_clients(folder):
             one.close()
 
 
+def bounded_file():
+    """No file grows beyond 200,000 octets, and who tries gets an error."""
+    signal.signal(signal.SIGXFSZ, signal.SIG_IGN)
+    resource.setrlimit(resource.RLIMIT_FSIZE, (200000, resource.RLIM_INFINITY))
+
+
+def full_disk(folder):
+    """A file that can't grow is told, once, until it can."""
+    with Server(folder, ["--table", os.path.join(folder, "full.db")], preexec_fn=bounded_file) as server:
+        yield "well before", server.health() == 200 and server.count("handled_table_failing") == 0
+        codes = [server.acme.change(bytes(20000)) for _ in range(30)]
+        busy = codes.count(BUSY)
+        yield "busy once it is full", codes[0] == wire.SUCCESS and codes[-1] == BUSY and set(codes) == {wire.SUCCESS, BUSY}
+        yield "not well", server.health() == 503
+        yield "it is said once", soon(lambda: server.said("table: ")) and len(server.said("table: a change can't be written")) == 1
+        yield "it is counted", (server.count("handled_table_failing"), server.count("handled_table_failures_total"), server.count("handled_table_shut")) == (1, busy, 0)
+        yield "by operation", server.count('handled_replies_total{publisher="acme",operation="modify",code="3"}') == busy
+        yield "reads go on", server.acme.resolved() == wire.SUCCESS
+        resource.prlimit(server.process.pid, resource.RLIMIT_FSIZE, (resource.RLIM_INFINITY, resource.RLIM_INFINITY))
+        yield "with room all goes on", server.acme.change() == wire.SUCCESS and server.health() == 200 and server.count("handled_table_failing") == 0
+        yield "an end in order", server.stop() == 0
+
+
 def main():
-    parts = [unread_log, unread_errors, slow_clients]
+    parts = [unread_log, unread_errors, slow_clients, full_disk]
     words = sys.argv[1:]
 
     def cases():

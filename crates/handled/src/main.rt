@@ -9,6 +9,7 @@
 mod bounds;
 mod checking;
 mod fault;
+mod guarding;
 mod notices;
 mod plan;
 mod ports;

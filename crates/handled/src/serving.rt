@@ -4,9 +4,11 @@ ghost use Rattle.std.specs.Prelude.{◌≡◌};
 ghost use Rattle.hdl_rows.specs.Table.{no_rows};
 
 use crate::fault::ProgramFault;
+use crate::guarding::TableGuard;
 use crate::notices::{Notice, say_begins, say_ends};
 use crate::plan::Plan;
 use hdl_core::Owing;
+use hdl_guardedrows::GuardedRows;
 use hdl_host::{Ending, Health, Setting, host_resumed, host_tenants};
 use hdl_programs::Fault;
 use hdl_tables::Closing;
@@ -25,6 +27,11 @@ fn ending_of(setting: &Setting) -> Result<Arc<Ending>, Fault> {
 /// What is told of the table, which is looked at behind the end.
 fn health_of(setting: &Setting) -> Result<Arc<Health>, Fault> {
     Ok(Arc::try_clone(&setting.supervision.health)?)
+}
+
+/// The guard of a table that is served in this setting.
+fn guard_of(setting: &Setting) -> Result<TableGuard, Fault> {
+    Ok(TableGuard::new(health_of(setting)?))
 }
 
 /// Serves by this plan over an empty table in memory, and answers the exit status.
@@ -49,7 +56,9 @@ pub fn serve_memory<
     let mut output = rt.stdout();
     let ending = ending_of(plan.setting())?;
     let health = health_of(plan.setting())?;
+    let guard = guard_of(plan.setting())?;
     let (tenants, setting) = plan.into_parts();
+    let rows = GuardedRows::new(rows, guard);
     host_tenants(machine, rt.alloc(), rows, tenants, setting, &mut output)?;
     say_ends(rt, &health, ending.is_asked());
     Ok(0)
@@ -75,8 +84,12 @@ pub fn serve_table<
     let mut output = rt.stdout();
     let ending = ending_of(plan.setting())?;
     let health = health_of(plan.setting())?;
+    let guard = guard_of(plan.setting())?;
     let (tenants, setting) = plan.into_parts();
-    host_resumed(machine, rt.alloc(), table, tenants, setting, &mut output)?.close()?;
+    let rows = GuardedRows::new(table, guard);
+    let rows = host_resumed(machine, rt.alloc(), rows, tenants, setting, &mut output)?;
+    let (table, _guard) = rows.into_parts();
+    table.close()?;
     say_ends(rt, &health, ending.is_asked());
     Ok(0)
 }

@@ -42,14 +42,9 @@ fn plain(alloc: Global, status: &'static str, words: &str) -> Result<Page, Alloc
 impl StatusPage {
     /// Whether the table takes changes.
     fn health(&self, alloc: Global) -> Result<Page, AllocError> {
-        if self.health.is_shut() {
-            plain(
-                alloc,
-                "503 Service Unavailable",
-                "the table is shut for writes: a sync of its file failed; reads go on; restart the server once the cause is gone\n",
-            )
-        } else {
-            plain(alloc, "200 OK", "ok\n")
+        match self.health.trouble() {
+            Some(words) => plain(alloc, "503 Service Unavailable", words),
+            None => plain(alloc, "200 OK", "ok\n"),
         }
     }
 
@@ -81,7 +76,17 @@ impl StatusPage {
         let shut = u8::from(self.health.is_shut());
         writeln!(
             out,
-            "# HELP handled_table_shut 1 where the table takes no changes until the next start.\n# TYPE handled_table_shut gauge\nhandled_table_shut {shut}"
+            "# HELP handled_table_shut 1 where the table takes no changes until the next start, since a sync of its file failed.\n# TYPE handled_table_shut gauge\nhandled_table_shut {shut}"
+        )?;
+        let failing = u8::from(self.health.is_failing());
+        writeln!(
+            out,
+            "# HELP handled_table_failing 1 where the last change couldn't be written.\n# TYPE handled_table_failing gauge\nhandled_table_failing {failing}"
+        )?;
+        let failures = self.health.failures();
+        writeln!(
+            out,
+            "# HELP handled_table_failures_total Changes that couldn't be written.\n# TYPE handled_table_failures_total counter\nhandled_table_failures_total {failures}"
         )
     }
 
