@@ -1,12 +1,13 @@
-"""starves.py: tries a server that is short of something, over the program crates/handled/out/handled: readers of its log, room on its disk, or quick clients of its status page.
+"""starves.py: tries a server that is short of something, over the program crates/handled/out/handled: readers of its log, room on its disk, its own file, or quick clients of its status page.
 
-Nobody's answer waits for a log that nobody reads, and what is lost is counted. A disk that is full is told: on standard error, by
-/health and by /metrics; and reads go on. Its last line is 'N passed, M failed', a case counting one."""
+Nobody's answer waits for a log that nobody reads, and what is lost is counted. A disk that is full and a file that somebody else changed are told: on standard error, by
+/health and by /metrics; deletes and reads go on, and nothing is answered as done that is lost. Its last line is 'N passed, M failed', a case counting one."""
 
 import contextlib
 import os
 import re
 import resource
+import shutil
 import signal
 import socket
 import subprocess
@@ -196,8 +197,63 @@ def full_disk(folder):
         yield "an end in order", server.stop() == 0
 
 
+def taken_file(folder):
+    """The file or its log is deleted, replaced or overwritten under a server: no change is answered as done from then on."""
+    def gone(file):
+        os.unlink(file)
+        os.unlink(file + "-wal")
+
+    def without_log(file):
+        os.unlink(file + "-wal")
+
+    def replaced(file):
+        os.rename(file + ".old", file)
+        os.rename(file + "-wal.old", file + "-wal")
+
+    def overwritten(file):
+        shutil.copy(file + ".old", file)
+        shutil.copy(file + "-wal.old", file + "-wal")
+
+    for number, (do, word) in enumerate(((gone, "is gone"), (without_log, "is gone"), (replaced, "another file"), (overwritten, "another program wrote"))):
+        file = os.path.join(folder, "%d.db" % number)
+        with Server(folder, ["--table", file]) as server:
+            server.acme.change(b"old")
+            for end in ("", "-wal"):
+                shutil.copy(file + end, file + end + ".old")
+            yield "changes before it is %s" % do.__name__, [server.acme.change(b"new"), server.bolt.change()] == [wire.SUCCESS] * 2 and server.health() == 200
+            do(file)
+            yield "none behind it (%s)" % do.__name__, {server.acme.change(), server.bolt.change(), server.acme.make(b"a"), server.acme.delete(b"10/own")} == {BUSY}
+            yield "it is told (%s)" % do.__name__, soon(lambda: server.said("table: shut for writes")) and [word in line for line in server.said("table: shut for writes")] == [True]
+            yield "by the pages too (%s)" % do.__name__, server.health() == 503 and server.count("handled_table_shut") == 1
+            yield "reads go on (%s)" % do.__name__, server.acme.resolved() == wire.SUCCESS
+            before = {name: open(os.path.join(folder, name), "rb").read() for name in os.listdir(folder) if name.startswith("%d.db" % number)}
+            yield "an end that writes nothing there (%s)" % do.__name__, server.stop() == 0 and before == {name: open(os.path.join(folder, name), "rb").read() for name in before}
+    file = os.path.join(folder, "moved.db")
+    with Server(folder, ["--table", file]) as server:
+        server.acme.change()
+        for end in ("", "-wal"):
+            os.rename(file + end, file + end + ".away")
+        yield "none while it is away", server.acme.change() == BUSY and server.health() == 503
+        for end in ("", "-wal"):
+            os.rename(file + end + ".away", file + end)
+        yield "all goes on once it is back", server.acme.change() == wire.SUCCESS and server.health() == 200 and server.stop() == 0
+    file = os.path.join(folder, "last.db")
+    with Server(folder, ["--table", file]) as server:
+        server.acme.change()
+        for end in ("", "-wal"):
+            shutil.copy(file + end, file + end + ".old")
+        server.acme.change(b"new")
+        overwritten(file)
+        yield "overwritten before the end", server.stop() == 0 and [open(file + end, "rb").read() for end in ("", "-wal")] == [open(file + end + ".old", "rb").read() for end in ("", "-wal")]
+    file = os.path.join(folder, "idle.db")
+    with Server(folder, ["--table", file]) as server:
+        server.acme.change()
+        gone(file)
+        yield "told while nobody changes anything", soon(lambda: server.said("table: shut for writes")) and server.health() == 503
+
+
 def main():
-    parts = [unread_log, unread_errors, slow_clients, full_disk]
+    parts = [unread_log, unread_errors, slow_clients, full_disk, taken_file]
     words = sys.argv[1:]
 
     def cases():

@@ -1,31 +1,53 @@
-//! What is told of the changes that are written.
+//! What is looked at before a change is written, and told of it.
 
 use hdl_guardedrows::{Effect, Fate, Guard};
-use hdl_host::Health;
+use hdl_host::{FileChange, FileWatch, Health};
 use std::sync::Arc;
 
-/// Tells whether changes can be written.
+/// Forbids every write while the table's file isn't as the server left it.
 #[derive(Drop)]
 pub struct TableGuard {
+    rt: HostRuntime,
     health: Arc<Health>,
+    /// The table's file, where it has one, and what somebody else had made of it when it was looked at last.
+    file: Option<FileWatch>,
+    change: Option<FileChange>,
 }
 
 impl TableGuard {
-    pub fn new(health: Arc<Health>) -> TableGuard {
-        TableGuard { health }
+    pub fn new(rt: &HostRuntime, health: Arc<Health>, file: Option<FileWatch>) -> TableGuard {
+        TableGuard {
+            rt: *rt,
+            health,
+            file,
+            change: None,
+        }
+    }
+
+    /// Whether the table's file is as the server left it. What is seen is told.
+    pub fn sees_file(&mut self) -> bool {
+        if let Some(file) = &self.file {
+            self.change = file.change(&self.rt);
+            self.health.see_file(self.change);
+        }
+        self.change.is_none()
     }
 }
 
 impl Guard for TableGuard {
     fn permits(&mut self, _effect: Effect) -> bool {
-        true
+        self.sees_file()
     }
 
     fn note(&mut self, fate: Fate) {
-        match fate {
-            Fate::Made => self.health.note_write(true),
-            Fate::Failed => self.health.note_write(false),
-            Fate::Deferred | Fate::Forbidden => {}
+        if fate == Fate::Forbidden {
+            return;
+        }
+        if let Some(file) = &mut self.file {
+            file.note(&self.rt);
+        }
+        if fate != Fate::Deferred {
+            self.health.note_write(fate == Fate::Made);
         }
     }
 }

@@ -9,9 +9,9 @@ use crate::notices::{Notice, say_begins, say_ends};
 use crate::plan::Plan;
 use hdl_core::Owing;
 use hdl_guardedrows::GuardedRows;
-use hdl_host::{Ending, Health, Setting, host_resumed, host_tenants};
+use hdl_host::{Ending, FileWatch, Health, Setting, host_resumed, host_tenants};
 use hdl_programs::Fault;
-use hdl_tables::Closing;
+use hdl_tables::{Closing, TabledFault};
 use std::fs::Files;
 use std::net::{Net, TcpListener, TcpStream};
 use std::random::RandomSource;
@@ -29,9 +29,30 @@ fn health_of(setting: &Setting) -> Result<Arc<Health>, Fault> {
     Ok(Arc::try_clone(&setting.supervision.health)?)
 }
 
-/// The guard of a table that is served in this setting.
-fn guard_of(setting: &Setting) -> Result<TableGuard, Fault> {
-    Ok(TableGuard::new(health_of(setting)?))
+/// The guard of a table that is served in this setting, and of its file, where it has one.
+fn guard_of(
+    rt: &HostRuntime,
+    setting: &Setting,
+    file: Option<FileWatch>,
+) -> Result<TableGuard, Fault> {
+    Ok(TableGuard::new(rt, health_of(setting)?, file))
+}
+
+/// The table's file as it is now, for who looks at it.
+fn watch(rt: &HostRuntime, path: &str) -> Result<Option<FileWatch>, Fault> {
+    Ok(Some(FileWatch::new(rt, rt.alloc(), path)?))
+}
+
+/// Closes the table's file, unless somebody else changed it: then nothing more is written there.
+fn close_guarded<T: Owing + Closing + Drop>(
+    rows: GuardedRows<T, TableGuard>,
+) -> Result<(), TabledFault> {
+    let (table, mut guard) = rows.into_parts();
+    if guard.sees_file() {
+        table.close()
+    } else {
+        Ok(())
+    }
 }
 
 /// Serves by this plan over an empty table in memory, and answers the exit status.
@@ -56,7 +77,7 @@ pub fn serve_memory<
     let mut output = rt.stdout();
     let ending = ending_of(plan.setting())?;
     let health = health_of(plan.setting())?;
-    let guard = guard_of(plan.setting())?;
+    let guard = guard_of(rt, plan.setting(), None)?;
     let (tenants, setting) = plan.into_parts();
     let rows = GuardedRows::new(rows, guard);
     host_tenants(machine, rt.alloc(), rows, tenants, setting, &mut output)?;
@@ -84,12 +105,12 @@ pub fn serve_table<
     let mut output = rt.stdout();
     let ending = ending_of(plan.setting())?;
     let health = health_of(plan.setting())?;
-    let guard = guard_of(plan.setting())?;
-    let (tenants, setting) = plan.into_parts();
+    let guard = guard_of(rt, plan.setting(), watch(rt, path)?)?;
+    let (tenants, mut setting) = plan.into_parts();
+    setting.supervision.file = watch(rt, path)?;
     let rows = GuardedRows::new(table, guard);
     let rows = host_resumed(machine, rt.alloc(), rows, tenants, setting, &mut output)?;
-    let (table, _guard) = rows.into_parts();
-    table.close()?;
+    close_guarded(rows)?;
     say_ends(rt, &health, ending.is_asked());
     Ok(0)
 }

@@ -5,6 +5,7 @@ ghost use Rattle.hdl_rows.specs.Table.{no_rows};
 ghost use Rattle.hdl_workers.specs.Ends.{AreDistinct};
 
 use crate::bounds::Notices;
+use crate::watching::{WatchingClock, Watchman, watchman_of};
 use hdl_boundedrows::{Bound, BoundedRows};
 use hdl_core::{OpenFault, Owing, Service, Tenants};
 use hdl_listeners::{
@@ -36,7 +37,7 @@ struct Opened {
     supervised: Supervised,
 }
 
-/// What is there before anything is served: every lane, the queue of lanes whose writes wait, every socket, and how many turns each worker and the
+/// What is there before anything is served: every lane, the queue of lanes whose writes wait, every socket, who looks at the table's file, and how many turns each worker and the
 /// service have.
 #[derive(Drop)]
 struct Ready {
@@ -44,6 +45,7 @@ struct Ready {
     sides: Vec<WorkerSide>,
     queue: WriteQueue,
     opened: Opened,
+    watchman: Option<Watchman>,
     turns: u64,
     ghost distinct: { AreDistinct ends.items },
 }
@@ -84,11 +86,13 @@ fn ready_in<R: Net<Listener = TcpListener, Stream = TcpStream> + Clock + Files>(
     let (ends, sides) = lanes_of(alloc, tenants.lanes(), RING)?;
     let queue = WriteQueue::with_capacity(alloc, ends.len())?;
     let opened = open_sockets(rt, alloc, tenants, setting)?;
+    let watchman = watchman_of(&mut setting.supervision)?;
     Ok(Ready {
         ends,
         sides,
         queue,
         opened,
+        watchman,
         turns: setting.limits.turns,
     })
 }
@@ -173,7 +177,7 @@ fn start_all<R: Threads + Clock + RandomSource + Eprint + Copy + Send + Drop + '
 
 /// Starts the workers, serves on this thread, joins them, and gives back what served.
 fn run_workers<
-    R: Threads + Clock + RandomSource + Eprint + Copy + Send + Drop + 'static,
+    R: Threads + Clock + RandomSource + Files + Eprint + Copy + Send + Drop + 'static,
     S: Serving + Drop,
 >(rt: &R, alloc: Global, service: S, ready: Ready) -> Result<S, Fault> {
     let Ready {
@@ -181,6 +185,7 @@ fn run_workers<
         sides,
         mut queue,
         opened,
+        watchman,
         turns,
         ..
     } = ready;
@@ -189,7 +194,8 @@ fn run_workers<
         watched,
         sleep,
     } = start_all(rt, alloc, opened, sides, turns)?;
-    let mut clock = MachineClock::new(*rt, Part::Serves(sleep));
+    let clock = MachineClock::new(*rt, Part::Serves(sleep));
+    let mut clock = WatchingClock::new(*rt, clock, watchman);
     let service = service.serve_lanes(alloc, ends, &mut clock, &mut queue, turns);
     let joined = join_all(rt, workers, &watched.ending);
     watched.leave(rt);
@@ -199,7 +205,7 @@ fn run_workers<
 
 /// Tells where it listens, serves, and gives back what served.
 fn tell_and_serve<
-    R: Threads + Clock + RandomSource + Eprint + Copy + Send + Drop + 'static,
+    R: Threads + Clock + RandomSource + Files + Eprint + Copy + Send + Drop + 'static,
     S: Serving + Drop,
     W: Write,
 >(rt: &R, alloc: Global, service: S, ready: Ready, output: &mut W) -> Result<S, Fault> {
@@ -253,7 +259,7 @@ fn resume_within<T: Owing + Drop>(
 
 /// Opens the service of the tenants over an empty table within these bounds, tells where it listens, and serves.
 fn open_and_serve<
-    R: Threads + Clock + RandomSource + Eprint + Copy + Send + Drop + 'static,
+    R: Threads + Clock + RandomSource + Files + Eprint + Copy + Send + Drop + 'static,
     T: Owing + Drop,
     W: Write,
 >(
@@ -274,7 +280,7 @@ fn open_and_serve<
 
 /// Resumes the service of the tenants over a table that is there already, within these bounds, tells where it listens, serves, and gives the table back.
 fn resume_and_serve<
-    R: Threads + Clock + RandomSource + Eprint + Copy + Send + Drop + 'static,
+    R: Threads + Clock + RandomSource + Files + Eprint + Copy + Send + Drop + 'static,
     T: Owing + Drop,
     W: Write,
 >(

@@ -22,10 +22,11 @@
 
 mod bounds;
 mod hosting;
+mod watching;
 
 pub use bounds::{Notices, notices_of};
 pub use hdl_boundedrows::{Amount, Bound};
 pub use hdl_listeners::{AMPLIFY, HostFault, Limits, STOP, Setting, Supervision};
 pub use hdl_sockets::Ending;
-pub use hdl_telemetry::{Health, Log, Notice};
+pub use hdl_telemetry::{FileChange, FileWatch, Health, Log, Notice};
 pub use hosting::{host, host_resumed, host_tenants};

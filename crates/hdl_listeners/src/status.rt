@@ -76,7 +76,7 @@ impl StatusPage {
         let shut = u8::from(self.health.is_shut());
         writeln!(
             out,
-            "# HELP handled_table_shut 1 where the table takes no changes until the next start, since a sync of its file failed.\n# TYPE handled_table_shut gauge\nhandled_table_shut {shut}"
+            "# HELP handled_table_shut 1 where the table takes no changes until the next start, since its file failed or was taken away.\n# TYPE handled_table_shut gauge\nhandled_table_shut {shut}"
         )?;
         let failing = u8::from(self.health.is_failing());
         writeln!(

@@ -8,7 +8,7 @@ use crate::status::StatusPage;
 use crate::telling::{Telling, tell};
 use hdl_programs::Fault;
 use hdl_sockets::Ending;
-use hdl_telemetry::{Counts, Flow, Health, Log, Notice, Record, Voice};
+use hdl_telemetry::{Counts, FileWatch, Flow, Health, Log, Notice, Record, Voice};
 use std::alloc::{AllocError, Global};
 use std::fs::Files;
 use std::net::{Net, SocketAddr, TcpListener, TcpStream};
@@ -35,6 +35,8 @@ pub struct Supervision {
     pub control: Option<String>,
     /// Whether the table takes changes.
     pub health: Arc<Health>,
+    /// The table's file, as it was opened, where it has one.
+    pub file: Option<FileWatch>,
     /// What is said of each bound, in their order, once it is reached.
     pub bounds: Arc<Vec<Notice>>,
     /// Whether the server is asked to end.
@@ -49,6 +51,7 @@ impl Supervision {
             status: None,
             control: None,
             health: Arc::new(alloc, Health::new(alloc)?)?,
+            file: None,
             bounds: Arc::new(alloc, Vec::new(alloc))?,
             ending: Arc::new(alloc, Ending::new())?,
         })

@@ -1,5 +1,6 @@
 //! Whether a server's table takes changes, and why not.
 
+use crate::file_watch::FileChange;
 use crate::notice::Notice;
 use std::alloc::{AllocError, Global};
 use std::sync::atomic::Ordering::SeqCst;
@@ -8,6 +9,15 @@ use std::sync::atomic::{AtomicBool, AtomicU64};
 /// What is said on standard error.
 const SHUT: &str =
     "table: shut for writes: a sync of the file failed, so nobody can tell whether it has the last change; reads go on, changes are answered busy; restart once the cause is gone";
+
+const GONE: &str =
+    "table: shut for writes: the file or its log is gone from its path, so that the next start would find none; reads go on, changes are answered busy; move both back, or copy them from /proc/PID/fd of this process, and restart";
+
+const REPLACED: &str =
+    "table: shut for writes: another file is at the path of the file or its log; reads go on, changes are answered busy; move both back, or copy them from /proc/PID/fd of this process, and restart over the one or the other";
+
+const OVERWRITTEN: &str =
+    "table: shut for writes: another program wrote the file or its log; reads go on, changes are answered busy; put a whole copy of both in their place, and restart";
 
 const FAILING: &str =
     "table: a change can't be written: the disk may be full, or memory short; reads go on, and changes that can't be written are answered busy, of which nothing is done; make room";
@@ -20,9 +30,14 @@ const SPENT: &str = "handled: ends: the turns are spent";
 #[derive(Drop)]
 pub struct Health {
     shut: Notice,
+    gone: Notice,
+    replaced: Notice,
+    overwritten: Notice,
     failing: Notice,
     asked: Notice,
     spent: Notice,
+    /// Whether its file was gone or replaced when it was seen last.
+    is_away: AtomicBool,
     /// Whether the last change couldn't be written, and how many couldn't.
     is_failing: AtomicBool,
     failures: AtomicU64,
@@ -33,9 +48,13 @@ impl Health {
     pub fn new(alloc: Global) -> Result<Health, AllocError> {
         Ok(Health {
             shut: Notice::new(alloc, SHUT)?,
+            gone: Notice::new(alloc, GONE)?,
+            replaced: Notice::new(alloc, REPLACED)?,
+            overwritten: Notice::new(alloc, OVERWRITTEN)?,
             failing: Notice::new(alloc, FAILING)?,
             asked: Notice::new(alloc, ASKED)?,
             spent: Notice::new(alloc, SPENT)?,
+            is_away: AtomicBool::new(false),
             is_failing: AtomicBool::new(false),
             failures: AtomicU64::new(0),
         })
@@ -46,9 +65,26 @@ impl Health {
         self.shut.raise();
     }
 
+    /// What somebody else made of its file, as it was seen just now. While the file is away it takes none, and once it was overwritten never again.
+    pub fn see_file(&self, change: Option<FileChange>) {
+        let is_away = matches!(change, Some(FileChange::Gone | FileChange::Replaced));
+        self.is_away.store(is_away, SeqCst);
+        match change {
+            Some(FileChange::Gone) => self.gone.raise(),
+            Some(FileChange::Replaced) => self.replaced.raise(),
+            Some(FileChange::Overwritten) => self.overwritten.raise(),
+            None => {}
+        }
+    }
+
+    /// Whether its file is away or overwritten.
+    fn has_lost_file(&self) -> bool {
+        self.is_away.load(SeqCst) || self.overwritten.is_raised()
+    }
+
     /// Whether it takes none.
     pub fn is_shut(&self) -> bool {
-        self.shut.is_raised()
+        self.shut.is_raised() || self.has_lost_file()
     }
 
     /// A change was written, or couldn't be.
@@ -76,6 +112,10 @@ impl Health {
             Some(
                 "the table is shut for writes: a sync of its file failed; reads go on; restart the server once the cause is gone\n",
             )
+        } else if self.has_lost_file() {
+            Some(
+                "the table is shut for writes: its file or log was taken away, replaced or written by another program; reads go on; standard error says what to do\n",
+            )
         } else if self.is_failing() {
             Some(
                 "the last change couldn't be written: the disk may be full, or memory short; reads go on\n",
@@ -95,8 +135,16 @@ impl Health {
     }
 
     /// Each line that may have to be said.
-    fn notices(&self) -> [&Notice; 4] {
-        [&self.shut, &self.failing, &self.asked, &self.spent]
+    fn notices(&self) -> [&Notice; 7] {
+        [
+            &self.shut,
+            &self.gone,
+            &self.replaced,
+            &self.overwritten,
+            &self.failing,
+            &self.asked,
+            &self.spent,
+        ]
     }
 
     /// Whether something is to be said that nobody said.
