@@ -1,6 +1,6 @@
-"""starves.py: tries a server that is short of something, over the program crates/handled/out/handled: readers of its log, room on its disk, its own file, or quick clients of its status page.
+"""starves.py: tries a server that is short of something, over the program crates/handled/out/handled: readers of its log, room on its disk, memory, its own file, or quick clients of its status page.
 
-Nobody's answer waits for a log that nobody reads, and what is lost is counted. A disk that is full and a file that somebody else changed are told: on standard error, by
+Nobody's answer waits for a log that nobody reads, and what is lost is counted. A disk that is full, memory that is short and a file that somebody else changed are told: on standard error, by
 /health and by /metrics; deletes and reads go on, and nothing is answered as done that is lost. Its last line is 'N passed, M failed', a case counting one."""
 
 import contextlib
@@ -28,6 +28,10 @@ KEY = b"example-secret"
 SOON, END = 10, 20
 # More changes than a pipe and the queue of a lane hold.
 MANY = 2600
+# More octets of memory than any process has.
+TOO_MUCH = 1 << 50
+# How much address space a process has that is to run out of memory, and what a value takes.
+SCARCE, LONG = 400 << 20, 30000
 
 
 def tenants(*ports):
@@ -197,6 +201,42 @@ def full_disk(folder):
         yield "an end in order", server.stop() == 0
 
 
+def short_memory(folder):
+    """Less memory than is kept aside: what takes more is Busy, the rest goes on."""
+    environment = {**os.environ, "ASAN_OPTIONS": "allocator_may_return_null=1"}
+    with Server(folder, ["--reserve", str(TOO_MUCH)], env=environment) as server:
+        yield "what takes more is busy", [server.acme.make(b"a"), server.acme.change(b"y" * 101), server.bolt.make(b"a")] == [BUSY] * 3
+        yield "not well", server.health() == 503 and server.count("handled_memory_short") == 1
+        yield "what takes no more is done", [server.acme.change(b"z" * 100), server.bolt.change(b"z"), server.bolt.change(b"zz")] == [wire.SUCCESS, wire.SUCCESS, BUSY]
+        yield "it is counted", server.count("handled_memory_refusals_total") == 4
+        yield "it is said once", soon(lambda: server.said("memory: ")) and len(server.said("memory: ")) == 1
+        yield "deletes and removes go on", [server.acme.remove(b"10/own", [1]), server.acme.delete(b"10/own")] == [wire.SUCCESS, wire.SUCCESS]
+        yield "reads go on", server.bolt.resolved() == wire.SUCCESS
+    with Server(folder, ["--reserve", "0"]) as server:
+        yield "nothing kept aside", server.acme.make(b"a") == wire.SUCCESS and server.health() == 200
+
+
+def scarce_memory(folder):
+    """Memory that ends by a limit: once changes are Busy, deletes make room, and new handles come again."""
+    def scarce():
+        resource.setrlimit(resource.RLIMIT_AS, (SCARCE, SCARCE))
+
+    for options in ([], ["--table", os.path.join(folder, "scarce.db")]):
+        where = "over a file" if options else "in memory"
+        with Server(folder, options, preexec_fn=scarce) as server:
+            made, codes = 0, []
+            while codes.count(BUSY) < 3 and len(codes) < 20000:
+                codes.append(server.bolt.make(b"%d" % len(codes), bytes(LONG)))
+            made = codes.index(BUSY)
+            yield "memory ends " + where, made > 10 and soon(lambda: server.said("memory: "))
+            yield "not well " + where, server.health() == 503
+            yield "another's change and read go on " + where, (server.acme.change(), server.acme.resolved()) == (wire.SUCCESS, wire.SUCCESS)
+            gone = [server.bolt.delete(b"20/%d" % number) for number in range(made)]
+            yield "deletes go on " + where, set(gone) == {wire.SUCCESS}
+            yield "well again " + where, server.health() == 200
+            yield "handles come again " + where, server.bolt.make(b"again") == wire.SUCCESS
+
+
 def taken_file(folder):
     """The file or its log is deleted, replaced or overwritten under a server: no change is answered as done from then on."""
     def gone(file):
@@ -224,7 +264,7 @@ def taken_file(folder):
             do(file)
             yield "none behind it (%s)" % do.__name__, {server.acme.change(), server.bolt.change(), server.acme.make(b"a"), server.acme.delete(b"10/own")} == {BUSY}
             yield "it is told (%s)" % do.__name__, soon(lambda: server.said("table: shut for writes")) and [word in line for line in server.said("table: shut for writes")] == [True]
-            yield "by the pages too (%s)" % do.__name__, server.health() == 503 and server.count("handled_table_shut") == 1
+            yield "by the pages too (%s)" % do.__name__, server.health() == 503 and server.count("handled_table_shut") == 1 and server.count("handled_memory_refusals_total") == 0
             yield "reads go on (%s)" % do.__name__, server.acme.resolved() == wire.SUCCESS
             before = {name: open(os.path.join(folder, name), "rb").read() for name in os.listdir(folder) if name.startswith("%d.db" % number)}
             yield "an end that writes nothing there (%s)" % do.__name__, server.stop() == 0 and before == {name: open(os.path.join(folder, name), "rb").read() for name in before}
@@ -253,7 +293,9 @@ def taken_file(folder):
 
 
 def main():
-    parts = [unread_log, unread_errors, slow_clients, full_disk, taken_file]
+    parts = [unread_log, unread_errors, slow_clients, full_disk, short_memory, taken_file]
+    # the checks of an unproved program need more memory than there is then
+    parts += [] if servers.IS_UNPROVED else [scarce_memory]
     words = sys.argv[1:]
 
     def cases():

@@ -4,7 +4,7 @@ use hdl_guardedrows::{Effect, Fate, Guard};
 use hdl_host::{FileChange, FileWatch, Health};
 use std::sync::Arc;
 
-/// Forbids every write while the table's file isn't as the server left it.
+/// Forbids what takes more while memory is short, and everything while the table's file isn't as the server left it.
 #[derive(Drop)]
 pub struct TableGuard {
     rt: HostRuntime,
@@ -35,12 +35,15 @@ impl TableGuard {
 }
 
 impl Guard for TableGuard {
-    fn permits(&mut self, _effect: Effect) -> bool {
-        self.sees_file()
+    fn permits(&mut self, effect: Effect) -> bool {
+        self.sees_file() && (effect == Effect::Frees || self.health.see_room(self.rt.alloc()))
     }
 
     fn note(&mut self, fate: Fate) {
         if fate == Fate::Forbidden {
+            if self.change.is_none() {
+                self.health.note_refusal();
+            }
             return;
         }
         if let Some(file) = &mut self.file {
@@ -48,6 +51,9 @@ impl Guard for TableGuard {
         }
         if fate != Fate::Deferred {
             self.health.note_write(fate == Fate::Made);
+        }
+        if self.health.is_short() {
+            self.health.see_room(self.rt.alloc());
         }
     }
 }

@@ -166,7 +166,7 @@ fn serve<
 
 /// What is told of a table that nobody serves.
 fn health_of(rt: &HostRuntime) -> Result<Arc<Health>, Fault> {
-    Ok(Arc::new(rt.alloc(), Health::new(rt.alloc())?)?)
+    Ok(Arc::new(rt.alloc(), Health::new(rt.alloc(), 0)?)?)
 }
 
 /// Does this over the table in the file, which nobody serves.

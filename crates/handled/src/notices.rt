@@ -43,6 +43,7 @@ impl fmt::Display for Beginning<'_> {
             idle,
             crowd,
             amplify,
+            reserve,
         } = self.limits;
         write!(
             f,
@@ -54,6 +55,7 @@ impl fmt::Display for Beginning<'_> {
             Some(times) => write!(f, "{times}")?,
             None => write!(f, "{AMPLIFY} beyond loopback")?,
         }
+        write!(f, ", reserve {reserve} octets")?;
         if turns < u64::MAX {
             write!(f, ", turns {turns}")?;
         }

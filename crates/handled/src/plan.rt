@@ -3,7 +3,7 @@
 use crate::bounds::bounds_of;
 use crate::supervising::log_at;
 use hdl_core::Tenants;
-use hdl_host::{Limits, Setting, Supervision, notices_of};
+use hdl_host::{Health, Limits, Setting, Supervision, notices_of};
 use hdl_programs::{Fault, tenants_of};
 use hdl_server_options::{BoundWord, LimitOptions, SupervisionOptions};
 use std::net::IpAddr;
@@ -57,17 +57,23 @@ fn limits_of(options: LimitOptions) -> Limits {
         idle: options.idle.unwrap_or(Limits::DEFAULT.idle),
         amplify: options.amplify,
         crowd: options.crowd.unwrap_or(Limits::DEFAULT.crowd),
+        reserve: options.reserve.unwrap_or(Limits::DEFAULT.reserve),
     }
 }
 
 /// What the server tells of itself, and how it takes the word to end.
-fn supervision_of(rt: &HostRuntime, options: SupervisionOptions) -> Result<Supervision, Fault> {
+fn supervision_of(
+    rt: &HostRuntime,
+    options: SupervisionOptions,
+    reserve: usize,
+) -> Result<Supervision, Fault> {
     let SupervisionOptions {
         log,
         status,
         control,
     } = options;
     let mut supervision = Supervision::none(rt.alloc())?;
+    supervision.health = Arc::new(rt.alloc(), Health::new(rt.alloc(), reserve)?)?;
     supervision.status = status;
     supervision.control = control;
     if let Some(path) = log {
@@ -83,10 +89,11 @@ pub fn setting_of(
     limits: LimitOptions,
     supervision: SupervisionOptions,
 ) -> Result<Setting, Fault> {
-    let supervision = supervision_of(rt, supervision)?;
+    let limits = limits_of(limits);
+    let supervision = supervision_of(rt, supervision, limits.reserve)?;
     Ok(Setting {
         addresses,
-        limits: limits_of(limits),
+        limits,
         bounds: Vec::new(rt.alloc()),
         supervision,
     })

@@ -25,18 +25,21 @@ pub struct Limits {
     /// How many times the octets that asked a reply over UDP may have, to an address that answered no challenge lately. None: `AMPLIFY` times,
     /// and on loopback as many as it has.
     pub amplify: Option<u32>,
+    /// How many octets of memory are kept aside: what takes more is refused where less is left.
+    pub reserve: usize,
 }
 
 /// How many times the octets that asked a reply over UDP may have, where nothing else is said, and the server listens beyond loopback.
 pub const AMPLIFY: u32 = 8;
 
 impl Limits {
-    /// No end of turns, a minute of silence and a thousand connections.
+    /// No end of turns, a minute of silence, a thousand connections, and 8 MiB.
     pub const DEFAULT: Limits = Limits {
         turns: u64::MAX,
         idle: 60,
         crowd: 1000,
         amplify: None,
+        reserve: 8_388_608,
     };
 
     /// How many times the octets that asked a reply may have, through a datagram socket at this address.

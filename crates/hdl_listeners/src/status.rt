@@ -90,6 +90,20 @@ impl StatusPage {
         )
     }
 
+    /// Puts what is known of memory.
+    fn put_memory<W: fmt::Write>(&self, out: &mut W) -> fmt::Result {
+        let short = u8::from(self.health.is_short());
+        writeln!(
+            out,
+            "# HELP handled_memory_short 1 where less memory is left than is kept aside.\n# TYPE handled_memory_short gauge\nhandled_memory_short {short}"
+        )?;
+        let refusals = self.health.refusals();
+        writeln!(
+            out,
+            "# HELP handled_memory_refusals_total Changes that were refused since less memory was left.\n# TYPE handled_memory_refusals_total counter\nhandled_memory_refusals_total {refusals}"
+        )
+    }
+
     /// Puts how many lines of the log were lost, where there is one.
     fn put_log<W: fmt::Write>(&self, out: &mut W) -> fmt::Result {
         let Some(log) = &self.log else {
@@ -110,6 +124,7 @@ impl StatusPage {
         )?;
         self.put_counts(out)?;
         self.put_table(out)?;
+        self.put_memory(out)?;
         self.put_log(out)
     }
 

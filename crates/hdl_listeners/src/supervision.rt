@@ -50,7 +50,7 @@ impl Supervision {
             log: None,
             status: None,
             control: None,
-            health: Arc::new(alloc, Health::new(alloc)?)?,
+            health: Arc::new(alloc, Health::new(alloc, 0)?)?,
             file: None,
             bounds: Arc::new(alloc, Vec::new(alloc))?,
             ending: Arc::new(alloc, Ending::new())?,

@@ -2,6 +2,7 @@
 
 use crate::file_watch::FileChange;
 use crate::notice::Notice;
+use crate::room::has_room;
 use std::alloc::{AllocError, Global};
 use std::sync::atomic::Ordering::SeqCst;
 use std::sync::atomic::{AtomicBool, AtomicU64};
@@ -22,6 +23,9 @@ const OVERWRITTEN: &str =
 const FAILING: &str =
     "table: a change can't be written: the disk may be full, or memory short; reads go on, and changes that can't be written are answered busy, of which nothing is done; make room";
 
+const SHORT: &str =
+    "memory: less is left than is kept aside (--reserve), so what takes more is answered busy; reads, deletes and removes go on; delete handles, bound publishers (--bound), or let the process have more";
+
 const ASKED: &str = "handled: ends: it was asked to";
 
 const SPENT: &str = "handled: ends: the turns are spent";
@@ -34,6 +38,7 @@ pub struct Health {
     replaced: Notice,
     overwritten: Notice,
     failing: Notice,
+    short: Notice,
     asked: Notice,
     spent: Notice,
     /// Whether its file was gone or replaced when it was seen last.
@@ -41,22 +46,30 @@ pub struct Health {
     /// Whether the last change couldn't be written, and how many couldn't.
     is_failing: AtomicBool,
     failures: AtomicU64,
+    /// How many octets of memory are kept aside, whether they couldn't be had when that was seen last, and how many changes were refused for that.
+    reserve: usize,
+    is_short: AtomicBool,
+    refusals: AtomicU64,
 }
 
 impl Health {
-    /// It does.
-    pub fn new(alloc: Global) -> Result<Health, AllocError> {
+    /// It does. So many octets of memory are kept aside.
+    pub fn new(alloc: Global, reserve: usize) -> Result<Health, AllocError> {
         Ok(Health {
             shut: Notice::new(alloc, SHUT)?,
             gone: Notice::new(alloc, GONE)?,
             replaced: Notice::new(alloc, REPLACED)?,
             overwritten: Notice::new(alloc, OVERWRITTEN)?,
             failing: Notice::new(alloc, FAILING)?,
+            short: Notice::new(alloc, SHORT)?,
             asked: Notice::new(alloc, ASKED)?,
             spent: Notice::new(alloc, SPENT)?,
             is_away: AtomicBool::new(false),
             is_failing: AtomicBool::new(false),
             failures: AtomicU64::new(0),
+            reserve,
+            is_short: AtomicBool::new(false),
+            refusals: AtomicU64::new(0),
         })
     }
 
@@ -106,6 +119,29 @@ impl Health {
         self.failures.load(SeqCst)
     }
 
+    /// Sees whether as much memory can be had as is kept aside.
+    pub fn see_room(&self, alloc: Global) -> bool {
+        let is_there = has_room(alloc, self.reserve);
+        self.is_short.store(!is_there, SeqCst);
+        is_there
+    }
+
+    /// Whether less could be had when that was seen last.
+    pub fn is_short(&self) -> bool {
+        self.is_short.load(SeqCst)
+    }
+
+    /// A change was refused, since less memory could be had.
+    pub fn note_refusal(&self) {
+        self.refusals.fetch_add(1, SeqCst);
+        self.short.raise();
+    }
+
+    /// How many changes were refused so.
+    pub fn refusals(&self) -> u64 {
+        self.refusals.load(SeqCst)
+    }
+
     /// What is wrong now, in words, if something is.
     pub fn trouble(&self) -> Option<&'static str> {
         if self.shut.is_raised() {
@@ -119,6 +155,10 @@ impl Health {
         } else if self.is_failing() {
             Some(
                 "the last change couldn't be written: the disk may be full, or memory short; reads go on\n",
+            )
+        } else if self.is_short() {
+            Some(
+                "memory is short: what takes more is answered busy; reads, deletes and removes go on\n",
             )
         } else {
             None
@@ -135,13 +175,14 @@ impl Health {
     }
 
     /// Each line that may have to be said.
-    fn notices(&self) -> [&Notice; 7] {
+    fn notices(&self) -> [&Notice; 8] {
         [
             &self.shut,
             &self.gone,
             &self.replaced,
             &self.overwritten,
             &self.failing,
+            &self.short,
             &self.asked,
             &self.spent,
         ]

@@ -28,6 +28,9 @@
 //! - **A thread of its own writes the log, and another says the notices**: a pipe whose reader stalls, or a disk that hangs, holds that thread up alone. Each lane has a queue of its own, which takes
 //!   no lock: 1,024 lines and 131,072 octets, so that no lane takes another's room. What finds no room is lost and counted; once lines are written again, standard error says how many were.
 //! - **Lines of several lanes stand in the order in which they were written**, a line of each lane in turn; each has its moment.
+//! - **Memory is kept aside by asking for it** (`Health::see_room`): as much as is kept aside is asked for before a write that takes more, and given back at once. Where it can't be had, the write is refused, and what is
+//!   left serves deletes and frames; once it can be had again, all goes on. It is asked for in one piece, which costs next to nothing, and then in 128, since what deletes free lies between what stays. The thread that serves asks:
+//!   glibc gives each thread memory of its own, and threads that find no more of theirs take from that one's.
 //! - **A file is known by device and inode, and between the server's own writes by its size and the moment of its last change too.** It is looked at before each write, so that none is answered over a file that is gone;
 //!   and every two seconds at the pauses of the thread that serves, so that an idle server tells it: a thread of its own that may read files isn't taken by the prover. A file that is moved back is written again.
 //! - **A notice is a flag**, raised by whoever serves and said within a tenth of a second; its line is made at the start, so that it needs no memory once that is refused.
@@ -40,6 +43,7 @@ mod health;
 mod log;
 mod notice;
 mod recorder;
+mod room;
 
 pub use counts::Counts;
 pub use file_watch::{FileChange, FileWatch};
