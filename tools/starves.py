@@ -1,4 +1,4 @@
-"""starves.py: tries a server that is short of something, over the program crates/handled/out/handled: readers of its log, room on its disk, memory, its own file, or quick clients of its status page.
+"""starves.py: tries a server that is short of something, over the program crates/handled/out/handled: readers of its log, room on its disk, memory, descriptors, its own file, or quick clients of its status page.
 
 Nobody's answer waits for a log that nobody reads, and what is lost is counted. A disk that is full, memory that is short and a file that somebody else changed are told: on standard error, by
 /health and by /metrics; deletes and reads go on, and nothing is answered as done that is lost. Its last line is 'N passed, M failed', a case counting one."""
@@ -292,8 +292,16 @@ def taken_file(folder):
         yield "told while nobody changes anything", soon(lambda: server.said("table: shut for writes")) and server.health() == 503
 
 
+def few_descriptors(folder):
+    """A limit of descriptors that is less than lanes and crowds may want is told at the start."""
+    with Server(folder, preexec_fn=lambda: resource.setrlimit(resource.RLIMIT_NOFILE, (64, 64))) as server:
+        yield "few descriptors", len(server.said("descriptors: the process may have 64, and its lanes and crowds may want 1038")) == 1
+    with Server(folder, ["--crowd", "0"]) as server:
+        yield "enough descriptors", server.said("descriptors") == []
+
+
 def main():
-    parts = [unread_log, unread_errors, slow_clients, full_disk, short_memory, taken_file]
+    parts = [unread_log, unread_errors, slow_clients, full_disk, short_memory, taken_file, few_descriptors]
     # the checks of an unproved program need more memory than there is then
     parts += [] if servers.IS_UNPROVED else [scarce_memory]
     words = sys.argv[1:]

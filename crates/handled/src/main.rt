@@ -8,6 +8,7 @@
 
 mod bounds;
 mod checking;
+mod descriptors;
 mod fault;
 mod guarding;
 mod notices;

@@ -3,6 +3,7 @@
 ghost use Rattle.std.specs.Prelude.{◌≡◌};
 ghost use Rattle.hdl_rows.specs.Table.{no_rows};
 
+use crate::descriptors::say_descriptors;
 use crate::fault::ProgramFault;
 use crate::guarding::TableGuard;
 use crate::notices::{Notice, say_begins, say_ends};
@@ -73,6 +74,7 @@ pub fn serve_memory<
     requires empty { T.content rows ≡ no_rows }
 {
     let limits = plan.setting().limits;
+    say_descriptors(rt, plan.tenants(), limits);
     say_begins(rt, plan.tenants(), Notice::Memory { row_cache }, limits);
     let mut output = rt.stdout();
     let ending = ending_of(plan.setting())?;
@@ -101,6 +103,7 @@ pub fn serve_table<
     P: Plan,
 >(machine: &R, rt: &HostRuntime, table: T, plan: P, path: &str) -> Result<u8, ProgramFault> {
     let limits = plan.setting().limits;
+    say_descriptors(rt, plan.tenants(), limits);
     say_begins(rt, plan.tenants(), Notice::File(path), limits);
     let mut output = rt.stdout();
     let ending = ending_of(plan.setting())?;

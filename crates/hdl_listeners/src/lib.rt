@@ -36,6 +36,8 @@ mod workers;
 
 pub use control::STOP;
 pub use fault::HostFault;
-pub use listening::{AMPLIFY, Limits, PublisherSockets, Setting, or_device, places_of};
+pub use listening::{
+    AMPLIFY, Limits, PublisherSockets, Setting, descriptors_for, or_device, places_of,
+};
 pub use supervision::{Supervised, Supervision, Watched, supervise};
 pub use workers::{join_all, start};

@@ -80,6 +80,26 @@ impl Setting {
 /// So many lanes a publisher has at least that has an overflow lane: two for a connection each, this one, and that of its datagrams.
 const LANES_WITH_CROWD: u16 = 4;
 
+/// How many descriptors each lane wants beside its crowd, and the program beside its lanes.
+const OF_LANE: u64 = 4;
+
+const OF_PROGRAM: u64 = 10;
+
+/// How many descriptors the lanes and crowds of these publishers may want.
+pub fn descriptors_for(tenants: &Tenants, limits: Limits) -> u64 {
+    let mut sum = OF_PROGRAM;
+    for place in 0..tenants.publishers() {
+        let Some((_, lanes, _)) = tenants.publisher(place) else {
+            break;
+        };
+        sum = sum.saturating_add(OF_LANE.saturating_mul(u64::from(lanes)));
+        if lanes >= LANES_WITH_CROWD {
+            sum = sum.saturating_add(u64::from(limits.crowd));
+        }
+    }
+    sum
+}
+
 /// A publisher's datagram sockets, the seats of its lanes for a connection each, its overflow lane, if it has one, and what is recorded of them all.
 ///
 /// What starts the workers is generic over the overflow lane: proving a function that owns a [`Crowd`] costs several times as much.
