@@ -12,6 +12,7 @@ import resource
 import subprocess
 import sys
 import tempfile
+import time
 
 # nothing is left beside the tools
 sys.dont_write_bytecode = True
@@ -84,6 +85,8 @@ def served(options, said=None, **how):
         try:
             yield ports
         finally:
+            # lines are said a moment behind what they are of
+            time.sleep(0.5 if said is not None else 0)
             servers.end(process)
             errors.seek(0)
             if said is not None:

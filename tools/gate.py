@@ -47,6 +47,7 @@ PARTS = (
     [sys.executable, "tools/ports.py"],
     [sys.executable, "tools/bounds.py"],
     [sys.executable, "tools/watches.py"],
+    [sys.executable, "tools/starves.py"],
     [sys.executable, "tools/operates.py"],
     [sys.executable, "tools/copies.py"],
     [sys.executable, "tools/listens.py"],

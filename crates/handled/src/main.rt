@@ -8,7 +8,9 @@
 
 mod bounds;
 mod checking;
+mod descriptors;
 mod fault;
+mod guarding;
 mod notices;
 mod plan;
 mod ports;
@@ -163,6 +165,11 @@ fn serve<
     }
 }
 
+/// What is told of a table that nobody serves.
+fn health_of(rt: &HostRuntime) -> Result<Arc<Health>, Fault> {
+    Ok(Arc::new(rt.alloc(), Health::new(rt.alloc(), 0)?)?)
+}
+
 /// Does this over the table in the file, which nobody serves.
 fn over_unserved<R: Threads + Drop, W: FileWork>(
     machine: R,
@@ -170,9 +177,11 @@ fn over_unserved<R: Threads + Drop, W: FileWork>(
     file: &TableFile,
     work: W,
 ) -> Result<u8, TabledFault> {
-    let health = Arc::new(rt.alloc(), Health::new()).map_err(Fault::from)?;
-    let notices = TableNotices::new(rt, health);
-    over_file(machine, rt, place_of(file), notices, work)
+    let health = health_of(rt)?;
+    let notices = TableNotices::new(rt, Arc::try_clone(&health).map_err(Fault::from)?);
+    let done = over_file(machine, rt, place_of(file), notices, work);
+    health.say_due(rt);
+    done
 }
 
 /// Prints the table in the file as a tenants text, or the part of the publisher of this name, and answers the exit status. The file is opened as

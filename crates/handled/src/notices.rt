@@ -5,8 +5,9 @@ use hdl_host::{AMPLIFY, Health, Limits};
 use hdl_lastingrows::Alarm;
 use hdl_programs::VERSION;
 use hdl_sqlrows::load::Progress;
-use std::fmt;
 use std::sync::Arc;
+use std::time::Duration;
+use std::{fmt, thread};
 
 /// Where the table is.
 #[derive(Clone, Copy)]
@@ -42,6 +43,7 @@ impl fmt::Display for Beginning<'_> {
             idle,
             crowd,
             amplify,
+            reserve,
         } = self.limits;
         write!(
             f,
@@ -53,6 +55,7 @@ impl fmt::Display for Beginning<'_> {
             Some(times) => write!(f, "{times}")?,
             None => write!(f, "{AMPLIFY} beyond loopback")?,
         }
+        write!(f, ", reserve {reserve} octets")?;
         if turns < u64::MAX {
             write!(f, ", turns {turns}")?;
         }
@@ -71,26 +74,32 @@ pub fn say_begins(rt: &HostRuntime, tenants: &Tenants, kept: Notice<'_>, limits:
     let _ = eprintln!(rt; "handled {VERSION}: begins: {beginning}");
 }
 
-/// Says that the server ends, and why.
-pub fn say_ends(rt: &HostRuntime, was_asked: bool) {
-    let reason = if was_asked {
-        "it was asked to"
-    } else {
-        "the turns are spent"
-    };
-    let _ = eprintln!(rt; "handled: ends: {reason}");
+/// How often it is looked whether the last line was said, and for how many milliseconds each time.
+const LOOKS: u32 = 100;
+
+const LOOK: u64 = 20;
+
+/// Has it said that the server ends, and why. Where nobody reads standard error, that is waited for two seconds.
+pub fn say_ends(rt: &HostRuntime, health: &Health, was_asked: bool) {
+    health.end(was_asked);
+    for _ in 0..LOOKS {
+        if !health.has_due() {
+            break;
+        }
+        thread::sleep(rt, Duration::from_millis(LOOK));
+    }
 }
 
 /// After so many rows that were read it is said.
 const STEP: u64 = 100_000;
 
-/// Says on standard error how far the load of a large table is, and that the table takes no more writes.
+/// Says on standard error how far the load of a large table is, and has it said that the table takes no more writes.
 #[derive(Drop)]
 pub struct TableNotices {
     rt: HostRuntime,
-    /// What the status page tells of the table.
+    /// What is told of the table.
     health: Arc<Health>,
-    /// How many times it was said that the table takes no more writes.
+    /// How many times it was told that the table takes no more writes.
     rings: u64,
 }
 
@@ -111,9 +120,6 @@ impl Alarm for TableNotices {
     fn ring(&mut self) {
         self.rings = self.rings.saturating_add(1);
         self.health.shut();
-        let _ = eprintln!(self.rt;
-            "table: shut for writes: a sync of the file failed, so nobody can tell whether it has the last change; reads go on, changes are answered busy; restart once the cause is gone"
-        );
     }
 }
 

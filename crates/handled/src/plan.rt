@@ -3,10 +3,11 @@
 use crate::bounds::bounds_of;
 use crate::supervising::log_at;
 use hdl_core::Tenants;
-use hdl_host::{Limits, Setting, Supervision};
+use hdl_host::{Health, Limits, Setting, Supervision, notices_of};
 use hdl_programs::{Fault, tenants_of};
 use hdl_server_options::{BoundWord, LimitOptions, SupervisionOptions};
 use std::net::IpAddr;
+use std::sync::Arc;
 
 /// Whom is served, and in which setting.
 ///
@@ -56,11 +57,16 @@ fn limits_of(options: LimitOptions) -> Limits {
         idle: options.idle.unwrap_or(Limits::DEFAULT.idle),
         amplify: options.amplify,
         crowd: options.crowd.unwrap_or(Limits::DEFAULT.crowd),
+        reserve: options.reserve.unwrap_or(Limits::DEFAULT.reserve),
     }
 }
 
 /// What the server tells of itself, and how it takes the word to end.
-fn supervision_of(rt: &HostRuntime, options: SupervisionOptions) -> Result<Supervision, Fault> {
+fn supervision_of(
+    rt: &HostRuntime,
+    options: SupervisionOptions,
+    reserve: usize,
+) -> Result<Supervision, Fault> {
     let SupervisionOptions {
         log,
         status,
@@ -68,6 +74,7 @@ fn supervision_of(rt: &HostRuntime, options: SupervisionOptions) -> Result<Super
         proxied,
     } = options;
     let mut supervision = Supervision::none(rt.alloc())?;
+    supervision.health = Arc::new(rt.alloc(), Health::new(rt.alloc(), reserve)?)?;
     supervision.status = status;
     supervision.control = control;
     supervision.proxied = proxied;
@@ -84,10 +91,11 @@ pub fn setting_of(
     limits: LimitOptions,
     supervision: SupervisionOptions,
 ) -> Result<Setting, Fault> {
-    let supervision = supervision_of(rt, supervision)?;
+    let limits = limits_of(limits);
+    let supervision = supervision_of(rt, supervision, limits.reserve)?;
     Ok(Setting {
         addresses,
-        limits: limits_of(limits),
+        limits,
         bounds: Vec::new(rt.alloc()),
         supervision,
     })
@@ -104,6 +112,8 @@ pub fn plan_of(
     let tenants = tenants_of(rt.alloc(), text)?;
     match bounds_of(rt.alloc(), words, text, &tenants) {
         Ok(bounds) => {
+            let notices = notices_of(rt.alloc(), bounds.as_slice())?;
+            setting.supervision.bounds = Arc::new(rt.alloc(), notices)?;
             setting.bounds = bounds;
             Ok(Planned::Plan(TextPlan { tenants, setting }))
         }

@@ -10,16 +10,18 @@ use hdl_host::Notices;
 use hdl_programs::{Fault, put_all, tenants_of};
 use hdl_replay::{events_of, lines_of_resumed, parts_of, replay};
 use hdl_tables::{Closing, FileWork, TabledFault};
+use std::sync::Arc;
 
 /// A table behind no bounds, as one that is served is behind its own.
 fn without_bounds<T: Owing + Drop>(
     rt: &HostRuntime,
     rows: T,
-) -> Result<BoundedRows<T, Notices<HostRuntime>>, Fault>
+) -> Result<BoundedRows<T, Notices>, Fault>
     ensures { IfOk result (λ bounded. bounded.table ≡ T.content rows) }
 {
     let alloc = rt.alloc();
-    match BoundedRows::new(alloc, rows, Vec::new(alloc), Notices::new(*rt)) {
+    let notices = Notices::new(Arc::new(alloc, Vec::new(alloc))?);
+    match BoundedRows::new(alloc, rows, Vec::new(alloc), notices) {
         Ok(rows) => Ok(rows),
         Err(_) => Err(Fault::StoreRefused),
     }

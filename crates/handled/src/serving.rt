@@ -3,13 +3,16 @@
 ghost use Rattle.std.specs.Prelude.{◌≡◌};
 ghost use Rattle.hdl_rows.specs.Table.{no_rows};
 
+use crate::descriptors::say_descriptors;
 use crate::fault::ProgramFault;
+use crate::guarding::TableGuard;
 use crate::notices::{Notice, say_begins, say_ends};
 use crate::plan::Plan;
 use hdl_core::Owing;
-use hdl_host::{Ending, Setting, host_resumed, host_tenants};
+use hdl_guardedrows::GuardedRows;
+use hdl_host::{Ending, FileWatch, Health, Setting, host_resumed, host_tenants};
 use hdl_programs::Fault;
-use hdl_tables::Closing;
+use hdl_tables::{Closing, TabledFault};
 use std::fs::Files;
 use std::net::{Net, TcpListener, TcpStream};
 use std::random::RandomSource;
@@ -20,6 +23,37 @@ use std::thread::Threads;
 /// Whether the server was asked to end, which is looked at behind its end.
 fn ending_of(setting: &Setting) -> Result<Arc<Ending>, Fault> {
     Ok(Arc::try_clone(&setting.supervision.ending)?)
+}
+
+/// What is told of the table, which is looked at behind the end.
+fn health_of(setting: &Setting) -> Result<Arc<Health>, Fault> {
+    Ok(Arc::try_clone(&setting.supervision.health)?)
+}
+
+/// The guard of a table that is served in this setting, and of its file, where it has one.
+fn guard_of(
+    rt: &HostRuntime,
+    setting: &Setting,
+    file: Option<FileWatch>,
+) -> Result<TableGuard, Fault> {
+    Ok(TableGuard::new(rt, health_of(setting)?, file))
+}
+
+/// The table's file as it is now, for who looks at it.
+fn watch(rt: &HostRuntime, path: &str) -> Result<Option<FileWatch>, Fault> {
+    Ok(Some(FileWatch::new(rt, rt.alloc(), path)?))
+}
+
+/// Closes the table's file, unless somebody else changed it: then nothing more is written there.
+fn close_guarded<T: Owing + Closing + Drop>(
+    rows: GuardedRows<T, TableGuard>,
+) -> Result<(), TabledFault> {
+    let (table, mut guard) = rows.into_parts();
+    if guard.sees_file() {
+        table.close()
+    } else {
+        Ok(())
+    }
 }
 
 /// Serves by this plan over an empty table in memory, and answers the exit status.
@@ -40,12 +74,16 @@ pub fn serve_memory<
     requires empty { T.content rows ≡ no_rows }
 {
     let limits = plan.setting().limits;
+    say_descriptors(rt, plan.tenants(), limits);
     say_begins(rt, plan.tenants(), Notice::Memory { row_cache }, limits);
     let mut output = rt.stdout();
     let ending = ending_of(plan.setting())?;
+    let health = health_of(plan.setting())?;
+    let guard = guard_of(rt, plan.setting(), None)?;
     let (tenants, setting) = plan.into_parts();
+    let rows = GuardedRows::new(rows, guard);
     host_tenants(machine, rt.alloc(), rows, tenants, setting, &mut output)?;
-    say_ends(rt, ending.is_asked());
+    say_ends(rt, &health, ending.is_asked());
     Ok(0)
 }
 
@@ -65,11 +103,17 @@ pub fn serve_table<
     P: Plan,
 >(machine: &R, rt: &HostRuntime, table: T, plan: P, path: &str) -> Result<u8, ProgramFault> {
     let limits = plan.setting().limits;
+    say_descriptors(rt, plan.tenants(), limits);
     say_begins(rt, plan.tenants(), Notice::File(path), limits);
     let mut output = rt.stdout();
     let ending = ending_of(plan.setting())?;
-    let (tenants, setting) = plan.into_parts();
-    host_resumed(machine, rt.alloc(), table, tenants, setting, &mut output)?.close()?;
-    say_ends(rt, ending.is_asked());
+    let health = health_of(plan.setting())?;
+    let guard = guard_of(rt, plan.setting(), watch(rt, path)?)?;
+    let (tenants, mut setting) = plan.into_parts();
+    setting.supervision.file = watch(rt, path)?;
+    let rows = GuardedRows::new(table, guard);
+    let rows = host_resumed(machine, rt.alloc(), rows, tenants, setting, &mut output)?;
+    close_guarded(rows)?;
+    say_ends(rt, &health, ending.is_asked());
     Ok(0)
 }

@@ -2,9 +2,10 @@
 
 use hdl_host::{Log, STOP};
 use hdl_programs::Fault;
+use std::fs;
 use std::fs::OpenOptions;
 use std::io::{self, ErrorKind, Read, Write};
-use std::os::unix::fs::OpenOptionsExt;
+use std::os::unix::fs::{FileTypeExt, OpenOptionsExt};
 use std::os::unix::net::UnixStream;
 
 /// The program's own user alone reads a log: it tells who changes what.
@@ -18,8 +19,18 @@ fn open_log(rt: &HostRuntime, path: &str) -> io::Result<Log> {
         return Log::to_errors(rt.alloc());
     }
     let mut options = OpenOptions::new();
-    let file = options.append(true).create(true).mode(MODE).open(rt, path)?;
-    Log::to_file(rt.alloc(), file)
+    options.append(true).create(true).mode(MODE);
+    // who opens a FIFO to read too waits for no reader, and lines wait in it for one
+    options.read(is_fifo(rt, path));
+    Log::to_file(rt.alloc(), options.open(rt, path)?)
+}
+
+/// Whether a FIFO is there.
+fn is_fifo(rt: &HostRuntime, path: &str) -> bool {
+    match fs::metadata(rt, path) {
+        Ok(found) => found.file_type().is_fifo(),
+        Err(_) => false,
+    }
 }
 
 /// Opens the log of changes. What can't be opened is said on standard error.

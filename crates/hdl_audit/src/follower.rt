@@ -1,11 +1,11 @@
 //! Following the frames of a lane, and the replies to them.
 
-ghost use Rattle.std.specs.Prelude.{◌≡◌, Some, IfSome, IsSome, IsTrue, option_map};
+ghost use Rattle.std.specs.Prelude.{◌≡◌, ◌<◌, IfSome, IsSome, IsTrue, option_map};
 ghost use Rattle.hdl_audit.specs.ReplySummary.{answer_of, ends_change};
 
 use crate::answer::ReplySummary;
 use crate::entry::{Entry, KeyName};
-use crate::question::{Matter, UnansweredFrame, copy_of};
+use crate::question::{Detail, Matter, UNKNOWN, UnansweredFrame, copy_of};
 use std::alloc::{AllocError, Global};
 use std::collections::VecDeque;
 
@@ -22,13 +22,26 @@ struct Challenged {
     /// The SessionId of the challenge.
     session: u32,
     operation: u32,
-    handle: Vec<u8>,
+    /// The handle, where names are followed.
+    handle: Option<Vec<u8>>,
+}
+
+/// A frame of a reply, and what is known of the request that it answers.
+#[derive(Drop)]
+pub struct Followed {
+    /// What the frame says.
+    pub answer: ReplySummary,
+    /// The number of the operation that it answers: where it names none that of its request, if that is certain, and else 0.
+    pub operation: u32,
+    /// The entry of the change that was accepted or refused by it.
+    pub entry: Option<Entry>,
 }
 
 /// Follows the frames of the clients of a lane, and the replies to them, in the order in which they pass.
 #[derive(Drop)]
 pub struct Follower {
     alloc: Global,
+    detail: Detail,
     unanswered: VecDeque<UnansweredFrame>,
     challenged: Vec<Challenged>,
     /// Whether it isn't certain any more which frame is answered next.
@@ -37,9 +50,10 @@ pub struct Follower {
 
 impl Follower {
     /// At the beginning of a connection, or of a lane of datagrams.
-    pub fn new(alloc: Global) -> Follower {
+    pub fn new(alloc: Global, detail: Detail) -> Follower {
         Follower {
             alloc,
+            detail,
             unanswered: VecDeque::new(alloc),
             challenged: Vec::new(alloc),
             is_lost: false,
@@ -58,19 +72,26 @@ impl Follower {
 
     /// A frame came from a peer.
     pub fn note_request(&mut self, peer: u16, frame: &[u8]) {
-        if self.note(peer, frame).is_err() {
-            self.is_lost = true;
-        }
+        let question = self.question(peer, frame);
+        self.put(question);
     }
 
-    fn note(&mut self, peer: u16, frame: &[u8]) -> Result<(), AllocError> {
+    /// What a frame asks, which a peer sent: nothing, where it has no envelope.
+    pub fn question(&self, peer: u16, frame: &[u8]) -> Result<Option<UnansweredFrame>, AllocError> {
+        UnansweredFrame::of(self.alloc, self.detail, peer, frame)
+    }
+
+    /// A frame came that asks this. One for which memory was refused can't be followed.
+    pub fn put(&mut self, question: Result<Option<UnansweredFrame>, AllocError>) {
         if self.is_lost || self.unanswered.len() >= UNANSWERED {
-            return Err(AllocError);
+            self.is_lost = true;
+            return;
         }
-        if let Some(question) = UnansweredFrame::of(self.alloc, peer, frame)? {
-            self.unanswered.push_back(question)?;
+        match question {
+            Ok(Some(question)) => self.is_lost = self.unanswered.push_back(question).is_err(),
+            Ok(None) => {}
+            Err(_) => self.is_lost = true,
         }
-        Ok(())
     }
 
     /// The place of the frame that a reply with this RequestId answers, where that is certain: the first whole one, or a piece before it.
@@ -104,18 +125,18 @@ impl Follower {
     /// Takes what a reply with this RequestId answers. Where that isn't certain nothing is followed any more.
     fn take_matter(&mut self, request: u32) -> Matter {
         if self.is_lost {
-            return Matter::Other;
+            return UNKNOWN;
         }
         let Some(place) = self.place_of(request) else {
             self.is_lost = true;
-            return Matter::Other;
+            return UNKNOWN;
         };
         for _ in 0..place {
             self.unanswered.pop_front();
         }
         match self.unanswered.pop_front() {
             Some(question) => question.matter,
-            None => Matter::Other,
+            None => UNKNOWN,
         }
     }
 
@@ -129,6 +150,12 @@ impl Follower {
         }
     }
 
+    /// The place of the change with this challenge.
+    fn place_of_challenge(&self, peer: u16, session: u32) -> Option<usize> {
+        let mut all = self.challenged.iter();
+        all.position(|one| one.peer == peer && one.session == session)
+    }
+
     /// The change whose challenge was answered by this reply's request. It stays where the reply says busy.
     fn take_challenged(
         &mut self,
@@ -136,18 +163,49 @@ impl Follower {
         session: u32,
         answer: ReplySummary,
     ) -> Option<Challenged> {
-        let mut all = self.challenged.iter();
-        let place = all.position(|one| one.peer == peer && one.session == session)?;
+        let place = self.place_of_challenge(peer, session)?;
+        if place >= self.challenged.len() {
+            return None;
+        }
         if !answer.is_busy() {
             return Some(self.challenged.remove(place));
         }
         let kept = self.challenged.get(place)?;
+        let handle = match &kept.handle {
+            Some(handle) => Some(copy_of(self.alloc, handle).ok()?),
+            None => None,
+        };
         Some(Challenged {
             peer,
             session,
             operation: kept.operation,
-            handle: copy_of(self.alloc, &kept.handle).ok()?,
+            handle,
         })
+    }
+
+    /// The number of the operation that a reply to this matter answers.
+    fn operation_of(&self, peer: u16, matter: &Matter, answer: ReplySummary) -> u32
+        ensures { 0 < answer.operation → result ≡ answer.operation }
+    {
+        if answer.operation != 0 {
+            return answer.operation;
+        }
+        match matter {
+            Matter::Change { operation, .. } | Matter::Other { operation } => *operation,
+            Matter::Response { challenge, .. } => self.challenged_operation(peer, *challenge),
+            Matter::Piece => 0,
+        }
+    }
+
+    /// The number of the operation that was challenged so; 0 where that isn't known.
+    fn challenged_operation(&self, peer: u16, challenge: u32) -> u32 {
+        let Some(place) = self.place_of_challenge(peer, challenge) else {
+            return 0;
+        };
+        match self.challenged.get(place) {
+            Some(challenged) => challenged.operation,
+            None => 0,
+        }
     }
 
     /// The entry of a response's reply.
@@ -155,7 +213,7 @@ impl Follower {
         &mut self,
         peer: u16,
         challenge: u32,
-        key: KeyName,
+        key: Option<KeyName>,
         answer: ReplySummary,
     ) -> Option<Entry>
         ensures told { IsTrue (ends_change answer) → IsSome result }
@@ -164,21 +222,20 @@ impl Follower {
         match self.take_challenged(peer, challenge, answer) {
             Some(challenged) => Some(Entry {
                 operation: challenged.operation,
-                handle: Some(challenged.handle),
-                key: Some(key),
+                handle: challenged.handle,
+                key,
                 code: answer.code,
             }),
             None => entry_without_name(answer),
         }
     }
 
-    /// A frame goes to a peer. The entry of the change that was accepted or refused by it, where its front says so.
-    pub fn note_reply(&mut self, peer: u16, frame: &[u8]) -> Option<Entry>
-        ensures told { IfSome (answer_of frame.now) (λ answer. IsTrue (ends_change answer) → IsSome result) }
-        ensures code { IfSome result (λ entry. option_map (λ answer. answer.code) (answer_of frame.now) ≡ Some entry.code) }
+    /// The entry of a reply to this matter.
+    fn entry_of(&mut self, peer: u16, matter: Matter, answer: ReplySummary) -> Option<Entry>
+        ensures told { IsTrue (ends_change answer) → IsSome result }
+        ensures code { IfSome result (λ entry. entry.code ≡ answer.code) }
     {
-        let answer = ReplySummary::of(frame)?;
-        match self.take_matter(answer.request) {
+        match matter {
             Matter::Change { operation, handle } if answer.is_challenge() => {
                 self.put_challenged(Challenged {
                     peer,
@@ -190,15 +247,34 @@ impl Follower {
             }
             Matter::Change { operation, handle } => Some(Entry {
                 operation,
-                handle: Some(handle),
+                handle,
                 key: None,
                 code: answer.code,
             }),
             Matter::Response { challenge, key } => {
                 self.entry_of_response(peer, challenge, key, answer)
             }
-            Matter::Piece | Matter::Other => entry_without_name(answer),
+            Matter::Piece | Matter::Other { .. } => entry_without_name(answer),
         }
+    }
+
+    /// A frame goes to a peer. What its front says, where it has one, with the operation that it answers, and the entry of the change that was
+    /// accepted or refused by it.
+    pub fn note_reply(&mut self, peer: u16, frame: &[u8]) -> Option<Followed>
+        ensures answer { option_map (λ followed. followed.answer) result ≡ answer_of frame.now }
+        ensures operation { IfSome result (λ followed. 0 < followed.answer.operation → followed.operation ≡ followed.answer.operation) }
+        ensures told { IfSome result (λ followed. IsTrue (ends_change followed.answer) → IsSome followed.entry) }
+        ensures code { IfSome result (λ followed. IfSome followed.entry (λ entry. entry.code ≡ followed.answer.code)) }
+    {
+        let answer = ReplySummary::of(frame)?;
+        let matter = self.take_matter(answer.request);
+        let operation = self.operation_of(peer, &matter, answer);
+        let entry = self.entry_of(peer, matter, answer);
+        Some(Followed {
+            answer,
+            operation,
+            entry,
+        })
     }
 }
 

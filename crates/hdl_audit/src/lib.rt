@@ -1,22 +1,22 @@
-//! What the frames of a client and the replies to them say of changes: the lines of an audit log.
+//! What the frames of a client and the replies to them say: the lines of an audit log, and what replies are counted by.
 //!
 //! ```text
 //! a frame from the client -> Follower::note_request
-//! a frame to the client   -> Follower::note_reply -> Entry: operation, handle, key, code    (where a change was accepted or refused)
-//! a frame to the client   -> ReplySummary::of   -> operation and code, to be counted
+//! a frame to the client   -> Follower::note_reply -> Followed: operation and code, to be counted
+//!                                                   └ Entry: operation, handle, key, code    (where a change was accepted or refused)
 //! ```
 //!
 //! A [`Follower`] reads along, between the socket and the service, and decides nothing: the service answers as it would without it. Promised is
-//! that each reply which names a change's operation gives an entry, unless it is a challenge, and that an entry's code is that of the reply (`specs/ReplySummary.antt`). Which handle and key it names is found
-//! by the order of frames and replies; where that isn't certain it names none.
+//! that each reply which names a change's operation gives an entry, unless it is a challenge, that an entry's code is that of the reply, and that a reply which names an operation is counted by it (`specs/ReplySummary.antt`). A short reply names none:
+//! its operation, and which handle and key an entry names, is found by the order of frames and replies; where that isn't certain there is none. Without a log no name is kept ([`Detail`]).
 //!
 //! It stands on frames and on the fields of messages, and knows no sockets and no service.
 //!
 //! ```rust
 //! // crates/hdl_telemetry/src/recorder.rt
-//! let answer = ReplySummary::of(frame)?;
-//! self.counts.count(answer);
-//! if answer.accepts_change() {
+//! let followed = self.follower.note_reply(peer, frame)?;
+//! self.counts.count(followed.operation, followed.answer.code);
+//! if followed.answer.accepts_change() {
 //!     self.counts.set_changed(self.moment());
 //! }
 //! ```
@@ -38,5 +38,6 @@ mod question;
 
 pub use answer::ReplySummary;
 pub use entry::{Entry, KeyName};
-pub use follower::Follower;
+pub use follower::{Followed, Follower};
 pub use moment::Moment;
+pub use question::{Detail, UnansweredFrame};

@@ -10,17 +10,32 @@ use std::alloc::{AllocError, Global};
 /// How many octets the header of a message has.
 const HEADER_LEN: usize = 24;
 
-/// What a whole frame asks, as far as an entry speaks of it.
+/// Whether the names of handles and keys are followed too.
+#[derive(Clone, Copy, PartialEq, Eq)]
+pub enum Detail {
+    Operations,
+    Names,
+}
+
+/// What a whole frame asks, as far as an entry and a count speak of it.
 #[derive(Drop)]
 pub enum Matter {
-    /// A change of the handle, as it was sent.
-    Change { operation: u32, handle: Vec<u8> },
-    /// The response to the challenge with this SessionId, by this key.
-    Response { challenge: u32, key: KeyName },
+    /// A change of the handle, as it was sent, where names are followed.
+    Change {
+        operation: u32,
+        handle: Option<Vec<u8>>,
+    },
+    /// The response to the challenge with this SessionId, by this key, where names are followed.
+    Response {
+        challenge: u32,
+        key: Option<KeyName>,
+    },
     /// A piece of a message, of which nothing is known.
     Piece,
-    /// Anything else.
-    Other,
+    /// Anything else: the number of its operation; 0 where that isn't known.
+    Other {
+        operation: u32,
+    },
 }
 
 /// A frame that came, and isn't answered.
@@ -31,6 +46,9 @@ pub struct UnansweredFrame {
     pub matter: Matter,
 }
 
+/// What asks nothing that is known.
+pub const UNKNOWN: Matter = Matter::Other { operation: 0 };
+
 /// A copy on the heap.
 pub fn copy_of(alloc: Global, octets: &[u8]) -> Result<Vec<u8>, AllocError> {
     let mut all = Vec::new(alloc);
@@ -38,15 +56,21 @@ pub fn copy_of(alloc: Global, octets: &[u8]) -> Result<Vec<u8>, AllocError> {
     Ok(all)
 }
 
-/// The handle that a change's body names first.
-fn change_of(alloc: Global, operation: u32, body: &[u8]) -> Result<Matter, AllocError> {
-    match string_at(body) {
-        Some((handle, _)) => Ok(Matter::Change {
-            operation,
-            handle: copy_of(alloc, handle)?,
-        }),
-        None => Ok(Matter::Other),
-    }
+/// A change, by the handle that its body names first.
+fn change_of(
+    alloc: Global,
+    detail: Detail,
+    operation: u32,
+    body: &[u8],
+) -> Result<Matter, AllocError> {
+    let Some((handle, _)) = string_at(body) else {
+        return Ok(Matter::Other { operation });
+    };
+    let handle = match detail {
+        Detail::Names => Some(copy_of(alloc, handle)?),
+        Detail::Operations => None,
+    };
+    Ok(Matter::Change { operation, handle })
 }
 
 /// The key that a response's body names, behind the type of authentication.
@@ -57,33 +81,44 @@ fn key_at(body: &[u8]) -> Option<(&[u8], u32)> {
     Some((handle, index))
 }
 
-fn response_of(alloc: Global, challenge: u32, body: &[u8]) -> Result<Matter, AllocError> {
-    match key_at(body) {
-        Some((handle, index)) => Ok(Matter::Response {
-            challenge,
-            key: KeyName {
-                index,
-                handle: copy_of(alloc, handle)?,
-            },
+fn response_of(
+    alloc: Global,
+    detail: Detail,
+    challenge: u32,
+    body: &[u8],
+) -> Result<Matter, AllocError> {
+    let Some((handle, index)) = key_at(body) else {
+        return Ok(UNKNOWN);
+    };
+    let key = match detail {
+        Detail::Names => Some(KeyName {
+            index,
+            handle: copy_of(alloc, handle)?,
         }),
-        None => Ok(Matter::Other),
-    }
+        Detail::Operations => None,
+    };
+    Ok(Matter::Response { challenge, key })
 }
 
 /// What a whole message asks.
-fn matter_of(alloc: Global, session: u32, message: &[u8]) -> Result<Matter, AllocError> {
+fn matter_of(
+    alloc: Global,
+    detail: Detail,
+    session: u32,
+    message: &[u8],
+) -> Result<Matter, AllocError> {
     let Some((operation, _)) = u32_at(message) else {
-        return Ok(Matter::Other);
+        return Ok(UNKNOWN);
     };
     let Some((_, body)) = message.split_at_checked(HEADER_LEN) else {
-        return Ok(Matter::Other);
+        return Ok(Matter::Other { operation });
     };
     if changes(operation) {
-        change_of(alloc, operation, body)
+        change_of(alloc, detail, operation, body)
     } else if operation == OpCode::ChallengeResponse as u32 {
-        response_of(alloc, session, body)
+        response_of(alloc, detail, session, body)
     } else {
-        Ok(Matter::Other)
+        Ok(Matter::Other { operation })
     }
 }
 
@@ -96,6 +131,7 @@ impl UnansweredFrame {
     /// What a frame asks, which a peer sent. None: it has no envelope.
     pub fn of(
         alloc: Global,
+        detail: Detail,
         peer: u16,
         frame: &[u8],
     ) -> Result<Option<UnansweredFrame>, AllocError> {
@@ -106,7 +142,7 @@ impl UnansweredFrame {
         let matter = if envelope.is_truncated() {
             Matter::Piece
         } else {
-            matter_of(alloc, envelope.session, message)?
+            matter_of(alloc, detail, envelope.session, message)?
         };
         Ok(Some(UnansweredFrame {
             peer,

@@ -14,7 +14,7 @@
 //!
 //! ```rust
 //! // crates/handled/src/replaying.rt
-//! match BoundedRows::new(alloc, rows, Vec::new(alloc), Notices::new(*rt)) {
+//! match BoundedRows::new(alloc, rows, Vec::new(alloc), notices) {
 //!     Ok(rows) => Ok(rows),
 //!     Err(_) => Err(Fault::StoreRefused),
 //! }

@@ -1,35 +1,46 @@
 //! Bounds of publishers, over any table.
 
 use hdl_boundedrows::{Alarm, Bound};
+use hdl_telemetry::Notice;
+use std::alloc::{AllocError, Global};
+use std::sync::Arc;
 
-/// Says on standard error that a publisher reached its bound, once for each.
+/// Raises the notice of the publisher that reached its bound.
 #[derive(Drop)]
-pub struct Notices<R: Eprint + Drop> {
-    rt: R,
-    /// A bit for each place among the bounds, of which a server has as many as publishers, so at most 32.
-    told: u64,
+pub struct Notices {
+    all: Arc<Vec<Notice>>,
 }
 
-impl<R: Eprint + Drop> Notices<R> {
-    /// Nothing was said.
-    pub fn new(rt: R) -> Notices<R> {
-        Notices { rt, told: 0 }
+impl Notices {
+    /// Of bounds whose notices are these, in their order.
+    pub fn new(all: Arc<Vec<Notice>>) -> Notices {
+        Notices { all }
     }
 }
 
-impl<R: Eprint + Drop> Alarm for Notices<R> {
-    fn ring(&mut self, place: usize, bound: &Bound) {
-        let bit = 1u64
-            .checked_shl(u32::try_from(place).unwrap_or(u32::MAX))
-            .unwrap_or(0);
-        if self.told & bit != 0 {
-            return;
+/// The notice that a bound is reached.
+fn notice_of(alloc: Global, bound: &Bound) -> Result<Notice, AllocError> {
+    let publisher = bound.publisher.as_str();
+    let most = bound.most;
+    let words = format!(in alloc;
+        "bound: {publisher} has reached {most}: a change that would take more is answered busy; remove values or handles, or start anew with a larger --bound"
+    )?;
+    Notice::new(alloc, words.as_str())
+}
+
+/// A notice for each of these bounds, in their order.
+pub fn notices_of(alloc: Global, bounds: &[Bound]) -> Result<Vec<Notice>, AllocError> {
+    let mut all = Vec::with_capacity(alloc, bounds.len())?;
+    for bound in bounds {
+        all.push(notice_of(alloc, bound)?)?;
+    }
+    Ok(all)
+}
+
+impl Alarm for Notices {
+    fn ring(&mut self, place: usize, _bound: &Bound) {
+        if let Some(notice) = self.all.get(place) {
+            notice.raise();
         }
-        self.told |= bit;
-        let publisher = bound.publisher.as_str();
-        let most = bound.most;
-        let _ = eprintln!(self.rt;
-            "bound: {publisher} has reached {most}: a change that would take more is answered busy; remove values or handles, or start anew with a larger --bound"
-        );
     }
 }

@@ -5,16 +5,17 @@ ghost use Rattle.hdl_rows.specs.Table.{no_rows};
 ghost use Rattle.hdl_workers.specs.Ends.{AreDistinct};
 
 use crate::bounds::Notices;
+use crate::watching::{WatchingClock, Watchman, watchman_of};
 use hdl_boundedrows::{Bound, BoundedRows};
 use hdl_core::{OpenFault, Owing, Service, Tenants};
 use hdl_listeners::{
-    HostFault, Limits, PublisherSockets, Setting, Supervised, join_all, or_device, places_of,
-    start, supervise,
+    HostFault, Limits, PublisherSockets, Setting, Supervised, Watched, join_all, or_device,
+    places_of, start, supervise,
 };
 use hdl_programs::{Fault, put_all, tenants_of};
 use hdl_queue::WriteQueue;
 use hdl_serve::{Clock as Pauses, LaneEnds, WorkerEnd, WorkerSide, lanes_of, serve};
-use hdl_sockets::{Crowd, Ending, MachineClock, Part, Patience, Sleep};
+use hdl_sockets::{Crowd, MachineClock, Part, Patience, Sleep};
 use std::alloc::Global;
 use std::fs;
 use std::fs::Files;
@@ -22,7 +23,6 @@ use std::io::Write;
 use std::net::{Net, TcpListener, TcpStream};
 use std::random::RandomSource;
 use std::rt::Clock;
-use std::sync::Arc;
 use std::thread::{JoinHandle, Threads};
 
 /// How many items a lane's ring has room for, each way.
@@ -37,7 +37,7 @@ struct Opened {
     supervised: Supervised,
 }
 
-/// What is there before anything is served: every lane, the queue of lanes whose writes wait, every socket, and how many turns each worker and the
+/// What is there before anything is served: every lane, the queue of lanes whose writes wait, every socket, who looks at the table's file, and how many turns each worker and the
 /// service have.
 #[derive(Drop)]
 struct Ready {
@@ -45,8 +45,16 @@ struct Ready {
     sides: Vec<WorkerSide>,
     queue: WriteQueue,
     opened: Opened,
+    watchman: Option<Watchman>,
     turns: u64,
     ghost distinct: { AreDistinct ends.items },
+}
+
+/// The bounds of publishers, and who hears that one is reached.
+#[derive(Drop)]
+struct Limited {
+    bounds: Vec<Bound>,
+    notices: Notices,
 }
 
 /// Listens for each publisher, and for whoever watches the server.
@@ -54,12 +62,12 @@ fn open_sockets<R: Net<Listener = TcpListener, Stream = TcpStream> + Clock + Fil
     rt: &R,
     alloc: Global,
     tenants: &Tenants,
-    setting: &Setting,
+    setting: &mut Setting,
 ) -> Result<Opened, HostFault> {
     let most = Patience::of(setting.limits.turns).events;
     let sleep = or_device(Sleep::new(rt, alloc, most))?;
     let (places, lines) = places_of(rt, alloc, tenants, setting)?;
-    let supervised = supervise(rt, alloc, &setting.supervision, places.as_slice())?;
+    let supervised = supervise(rt, alloc, &mut setting.supervision, places.as_slice())?;
     Ok(Opened {
         sleep,
         places,
@@ -73,35 +81,38 @@ fn ready_in<R: Net<Listener = TcpListener, Stream = TcpStream> + Clock + Files>(
     rt: &R,
     alloc: Global,
     tenants: &Tenants,
-    setting: &Setting,
+    setting: &mut Setting,
 ) -> Result<Ready, HostFault> {
     let (ends, sides) = lanes_of(alloc, tenants.lanes(), RING)?;
     let queue = WriteQueue::with_capacity(alloc, ends.len())?;
     let opened = open_sockets(rt, alloc, tenants, setting)?;
+    let watchman = watchman_of(&mut setting.supervision)?;
     Ok(Ready {
         ends,
         sides,
         queue,
         opened,
+        watchman,
         turns: setting.limits.turns,
     })
 }
 
-/// Makes the lanes of the tenants and listens for each publisher. With what is ready come the bounds of publishers, and the path of the socket at which
+/// Makes the lanes of the tenants and listens for each publisher. With what is ready come the bounds of publishers and who hears of them, and the path of the socket at which
 /// the word to end is taken: all else of a setting ends here, so that who opens a table owns little.
 fn ready_for<R: Net<Listener = TcpListener, Stream = TcpStream> + Clock + Files>(
     rt: &R,
     alloc: Global,
     tenants: &Tenants,
-    setting: Setting,
-) -> Result<(Ready, Vec<Bound>, Option<String>), HostFault> {
-    let ready = ready_in(rt, alloc, tenants, &setting)?;
+    mut setting: Setting,
+) -> Result<(Ready, Limited, Option<String>), HostFault> {
+    let ready = ready_in(rt, alloc, tenants, &mut setting)?;
     let Setting {
         bounds,
         supervision,
         ..
     } = setting;
-    Ok((ready, bounds, supervision.control))
+    let notices = Notices::new(supervision.bounds);
+    Ok((ready, Limited { bounds, notices }, supervision.control))
 }
 
 /// What serves lanes on the calling thread, until each of them ended or the turns are spent.
@@ -133,11 +144,11 @@ impl<T: Owing + Drop> Serving for Service<T> {
     }
 }
 
-/// The workers that run, whether they are asked to end, and the sleep of the thread that serves them.
+/// The workers that run, what is looked at meanwhile, and the sleep of the thread that serves them.
 #[derive(Drop)]
 struct Started {
     workers: Vec<JoinHandle<WorkerEnd>>,
-    ending: Arc<Ending>,
+    watched: Watched,
     sleep: Sleep,
 }
 
@@ -155,18 +166,18 @@ fn start_all<R: Threads + Clock + RandomSource + Eprint + Copy + Send + Drop + '
         supervised,
         ..
     } = opened;
-    let ending = supervised.start(rt, alloc)?;
+    let watched = supervised.start(rt, alloc)?;
     let workers = start(rt, alloc, places, sides, &sleep, turns)?;
     Ok(Started {
         workers,
-        ending,
+        watched,
         sleep,
     })
 }
 
 /// Starts the workers, serves on this thread, joins them, and gives back what served.
 fn run_workers<
-    R: Threads + Clock + RandomSource + Eprint + Copy + Send + Drop + 'static,
+    R: Threads + Clock + RandomSource + Files + Eprint + Copy + Send + Drop + 'static,
     S: Serving + Drop,
 >(rt: &R, alloc: Global, service: S, ready: Ready) -> Result<S, Fault> {
     let Ready {
@@ -174,23 +185,27 @@ fn run_workers<
         sides,
         mut queue,
         opened,
+        watchman,
         turns,
         ..
     } = ready;
     let Started {
         workers,
-        ending,
+        watched,
         sleep,
     } = start_all(rt, alloc, opened, sides, turns)?;
-    let mut clock = MachineClock::new(*rt, Part::Serves(sleep));
+    let clock = MachineClock::new(*rt, Part::Serves(sleep));
+    let mut clock = WatchingClock::new(*rt, clock, watchman);
     let service = service.serve_lanes(alloc, ends, &mut clock, &mut queue, turns);
-    join_all(rt, workers, &ending)?;
+    let joined = join_all(rt, workers, &watched.ending);
+    watched.leave(rt);
+    joined?;
     Ok(service)
 }
 
 /// Tells where it listens, serves, and gives back what served.
 fn tell_and_serve<
-    R: Threads + Clock + RandomSource + Eprint + Copy + Send + Drop + 'static,
+    R: Threads + Clock + RandomSource + Files + Eprint + Copy + Send + Drop + 'static,
     S: Serving + Drop,
     W: Write,
 >(rt: &R, alloc: Global, service: S, ready: Ready, output: &mut W) -> Result<S, Fault> {
@@ -207,16 +222,16 @@ fn opening_fault(fault: OpenFault) -> Fault {
 }
 
 /// The service of the tenants over an empty table within these bounds.
-fn open_within<R: Eprint + Copy + Drop, T: Owing + Drop>(
-    rt: &R,
+fn open_within<T: Owing + Drop>(
     alloc: Global,
     rows: T,
-    bounds: Vec<Bound>,
+    limited: Limited,
     tenants: Tenants,
-) -> Result<Service<BoundedRows<T, Notices<R>>>, Fault>
+) -> Result<Service<BoundedRows<T, Notices>>, Fault>
     requires empty { T.content rows ≡ no_rows }
 {
-    let Ok(rows) = BoundedRows::new(alloc, rows, bounds, Notices::new(*rt)) else {
+    let Limited { bounds, notices } = limited;
+    let Ok(rows) = BoundedRows::new(alloc, rows, bounds, notices) else {
         return Err(Fault::StoreRefused);
     };
     match Service::open(alloc, tenants, rows) {
@@ -226,14 +241,14 @@ fn open_within<R: Eprint + Copy + Drop, T: Owing + Drop>(
 }
 
 /// The service of the tenants over a table that is there already, within these bounds.
-fn resume_within<R: Eprint + Copy + Drop, T: Owing + Drop>(
-    rt: &R,
+fn resume_within<T: Owing + Drop>(
     alloc: Global,
     rows: T,
-    bounds: Vec<Bound>,
+    limited: Limited,
     tenants: Tenants,
-) -> Result<Service<BoundedRows<T, Notices<R>>>, Fault> {
-    let Ok(rows) = BoundedRows::new(alloc, rows, bounds, Notices::new(*rt)) else {
+) -> Result<Service<BoundedRows<T, Notices>>, Fault> {
+    let Limited { bounds, notices } = limited;
+    let Ok(rows) = BoundedRows::new(alloc, rows, bounds, notices) else {
         return Err(Fault::StoreRefused);
     };
     match Service::resume(alloc, tenants, rows) {
@@ -244,7 +259,7 @@ fn resume_within<R: Eprint + Copy + Drop, T: Owing + Drop>(
 
 /// Opens the service of the tenants over an empty table within these bounds, tells where it listens, and serves.
 fn open_and_serve<
-    R: Threads + Clock + RandomSource + Eprint + Copy + Send + Drop + 'static,
+    R: Threads + Clock + RandomSource + Files + Eprint + Copy + Send + Drop + 'static,
     T: Owing + Drop,
     W: Write,
 >(
@@ -252,20 +267,20 @@ fn open_and_serve<
     alloc: Global,
     rows: T,
     tenants: Tenants,
-    prepared: (Ready, Vec<Bound>),
+    prepared: (Ready, Limited),
     output: &mut W,
 ) -> Result<(), Fault>
     requires empty { T.content rows ≡ no_rows }
 {
-    let (ready, bounds) = prepared;
-    let service = open_within(rt, alloc, rows, bounds, tenants)?;
+    let (ready, limited) = prepared;
+    let service = open_within(alloc, rows, limited, tenants)?;
     drop(tell_and_serve(rt, alloc, service, ready, output)?);
     Ok(())
 }
 
 /// Resumes the service of the tenants over a table that is there already, within these bounds, tells where it listens, serves, and gives the table back.
 fn resume_and_serve<
-    R: Threads + Clock + RandomSource + Eprint + Copy + Send + Drop + 'static,
+    R: Threads + Clock + RandomSource + Files + Eprint + Copy + Send + Drop + 'static,
     T: Owing + Drop,
     W: Write,
 >(
@@ -273,11 +288,11 @@ fn resume_and_serve<
     alloc: Global,
     rows: T,
     tenants: Tenants,
-    prepared: (Ready, Vec<Bound>),
+    prepared: (Ready, Limited),
     output: &mut W,
 ) -> Result<T, Fault> {
-    let (ready, bounds) = prepared;
-    let service = resume_within(rt, alloc, rows, bounds, tenants)?;
+    let (ready, limited) = prepared;
+    let service = resume_within(alloc, rows, limited, tenants)?;
     let service = tell_and_serve(rt, alloc, service, ready, output)?;
     Ok(service.into_rows().into_rows())
 }
@@ -318,8 +333,8 @@ pub fn host_tenants<
 ) -> Result<(), HostFault>
     requires empty { T.content rows ≡ no_rows }
 {
-    let (ready, bounds, control) = ready_for(rt, alloc, &tenants, setting)?;
-    let served = open_and_serve(rt, alloc, rows, tenants, (ready, bounds), output);
+    let (ready, limited, control) = ready_for(rt, alloc, &tenants, setting)?;
+    let served = open_and_serve(rt, alloc, rows, tenants, (ready, limited), output);
     leave_control(rt, &control);
     Ok(served?)
 }
@@ -346,8 +361,8 @@ pub fn host_resumed<
     setting: Setting,
     output: &mut W,
 ) -> Result<T, HostFault> {
-    let (ready, bounds, control) = ready_for(rt, alloc, &tenants, setting)?;
-    let served = resume_and_serve(rt, alloc, rows, tenants, (ready, bounds), output);
+    let (ready, limited, control) = ready_for(rt, alloc, &tenants, setting)?;
+    let served = resume_and_serve(rt, alloc, rows, tenants, (ready, limited), output);
     leave_control(rt, &control);
     Ok(served?)
 }

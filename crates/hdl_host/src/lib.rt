@@ -10,22 +10,23 @@
 //! [`host_tenants`] listens at each publisher's port and each address of a [`Setting`] by TCP and UDP, starts a worker for each lane, and serves on the thread
 //! that called it. [`host_resumed`] does so over a table that is there already, and gives it back; [`host`] takes a text, on loopback. Everything between a door and a table is proved of `hdl_workers`,
 //! `hdl_serve` and `hdl_core`, and the numbers of datagram peers of `hdl_trail`, what a crowd of connections keeps of `hdl_crowd`. The doors, the clock and the random numbers are those of `hdl_sockets`;
-//! `hdl_listeners` opens the sockets and starts the workers. This crate makes the lanes, opens the service over a table within the bounds of its publishers ([`Notices`] says that one is reached), and serves.
+//! `hdl_listeners` opens the sockets and starts the workers. This crate makes the lanes, opens the service over a table within the bounds of its publishers ([`Notices`] hears that one is reached), and serves.
 //! No contract can say what sockets give, so nothing is promised of octets on a wire.
 //!
 //! ```rust
 //! // crates/handled/src/serving.rt
 //! host_tenants(machine, rt.alloc(), rows, tenants, setting, &mut output)?;
-//! say_ends(rt, ending.is_asked());
+//! say_ends(rt, &health, ending.is_asked());
 //! ```
 #![tactic(auto)]
 
 mod bounds;
 mod hosting;
+mod watching;
 
-pub use bounds::Notices;
+pub use bounds::{Notices, notices_of};
 pub use hdl_boundedrows::{Amount, Bound};
-pub use hdl_listeners::{AMPLIFY, HostFault, Limits, STOP, Setting, Supervision};
+pub use hdl_listeners::{AMPLIFY, HostFault, Limits, STOP, Setting, Supervision, descriptors_for};
 pub use hdl_sockets::Ending;
-pub use hdl_telemetry::{Health, Log};
+pub use hdl_telemetry::{FileChange, FileWatch, Health, Log, Notice};
 pub use hosting::{host, host_resumed, host_tenants};

@@ -2,36 +2,42 @@
 //!
 //! ```text
 //! a Setting ─ places_of ─► the sockets of each publisher ─ start ─► a thread for each lane, with its worker ─ join_all
-//!           └ supervise ─► the status page, and the socket at which the word to end is taken
+//!           └ supervise ─► the status page, the socket at which the word to end is taken, the log, and what is said on standard error: a thread for each
 //! ```
 //!
 //! A [`Setting`] says at which addresses a server listens, for how long it waits and serves, and what is told of it ([`Supervision`]). [`places_of`] opens each publisher's port at each address by TCP
 //! and UDP, and answers the lines that tell where; [`start`] starts a worker of `hdl_workers` for each lane, over the doors of `hdl_sockets`; [`join_all`] joins them. [`supervise`] opens the sockets
-//! at which a server is watched and ended, and `Supervised::start` has threads answer there. Why a server doesn't serve is a [`HostFault`], which says what to do.
+//! at which a server is watched and ended, and `Supervised::start` has threads answer there, write the log and say what is due. Why a server doesn't serve is a [`HostFault`], which says what to do.
 //!
 //! It stands on `hdl_tenants` for the publishers, and on nothing of the machine: no lane's other side and no table. Nothing here has a clause, since no contract can name what a machine's sockets carry.
 //!
 //! ```rust
 //! // crates/hdl_host/src/hosting.rt
-//! let ending = supervised.start(rt, alloc)?;
+//! let watched = supervised.start(rt, alloc)?;
 //! let workers = start(rt, alloc, places, sides, &sleep, turns)?;
 //! ```
 //!
 //! # Decisions
 //!
 //! - **Shared listeners**: a publisher's stream workers have clones of its listeners, one at each address, so whichever is free takes the next connection.
+//! - **Who asks slowly holds nobody up** (`guests`): the status page and the socket of `--control` have a thread each, whose calls don't wait while somebody asks. It serves 32 clients at a time; one more
+//!   ends the one that came first, and each has five seconds.
 //! - **Every worker's nonces are seeded before the first one starts**: where the machine's random source fails, nothing serves.
 #![tactic(auto)]
 
 mod control;
 mod fault;
+mod guests;
 mod listening;
 mod status;
 mod supervision;
+mod telling;
 mod workers;
 
 pub use control::STOP;
 pub use fault::HostFault;
-pub use listening::{AMPLIFY, Limits, PublisherSockets, Setting, or_device, places_of};
-pub use supervision::{Supervised, Supervision, supervise};
+pub use listening::{
+    AMPLIFY, Limits, PublisherSockets, Setting, descriptors_for, or_device, places_of,
+};
+pub use supervision::{Supervised, Supervision, Watched, supervise};
 pub use workers::{join_all, start};

@@ -25,18 +25,21 @@ pub struct Limits {
     /// How many times the octets that asked a reply over UDP may have, to an address that answered no challenge lately. None: `AMPLIFY` times,
     /// and on loopback as many as it has.
     pub amplify: Option<u32>,
+    /// How many octets of memory are kept aside: what takes more is refused where less is left.
+    pub reserve: usize,
 }
 
 /// How many times the octets that asked a reply over UDP may have, where nothing else is said, and the server listens beyond loopback.
 pub const AMPLIFY: u32 = 8;
 
 impl Limits {
-    /// No end of turns, a minute of silence, and a thousand connections.
+    /// No end of turns, a minute of silence, a thousand connections, and 8 MiB.
     pub const DEFAULT: Limits = Limits {
         turns: u64::MAX,
         idle: 60,
         crowd: 1000,
         amplify: None,
+        reserve: 8_388_608,
     };
 
     /// How many times the octets that asked a reply may have, through a datagram socket at this address.
@@ -76,6 +79,26 @@ impl Setting {
 
 /// So many lanes a publisher has at least that has an overflow lane: two for a connection each, this one, and that of its datagrams.
 const LANES_WITH_CROWD: u16 = 4;
+
+/// How many descriptors each lane wants beside its crowd, and the program beside its lanes.
+const OF_LANE: u64 = 4;
+
+const OF_PROGRAM: u64 = 10;
+
+/// How many descriptors the lanes and crowds of these publishers may want.
+pub fn descriptors_for(tenants: &Tenants, limits: Limits) -> u64 {
+    let mut sum = OF_PROGRAM;
+    for place in 0..tenants.publishers() {
+        let Some((_, lanes, _)) = tenants.publisher(place) else {
+            break;
+        };
+        sum = sum.saturating_add(OF_LANE.saturating_mul(u64::from(lanes)));
+        if lanes >= LANES_WITH_CROWD {
+            sum = sum.saturating_add(u64::from(limits.crowd));
+        }
+    }
+    sum
+}
 
 /// A publisher's datagram sockets, the seats of its lanes for a connection each, its overflow lane, if it has one, and what is recorded of them all.
 ///
@@ -179,7 +202,7 @@ fn place_of<R: Net + Clock>(
     alloc: Global,
     opened: Opened,
     publisher: (&str, u16),
-    setting: &Setting,
+    setting: &mut Setting,
 ) -> io::Result<PublisherSockets<Crowd>> {
     let Opened { listeners, sockets } = opened;
     let (name, lanes) = publisher;
@@ -207,7 +230,7 @@ pub fn places_of<R: Net<Listener = TcpListener, Stream = TcpStream> + Clock>(
     rt: &R,
     alloc: Global,
     tenants: &Tenants,
-    setting: &Setting,
+    setting: &mut Setting,
 ) -> Result<(Vec<PublisherSockets<Crowd>>, String), HostFault> {
     let mut places = Vec::new(alloc);
     let mut lines = String::new(alloc);

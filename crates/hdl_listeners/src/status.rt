@@ -1,33 +1,25 @@
 //! The page that says how a server is, over HTTP: `/health` and `/metrics`.
 
+use crate::guests::{Answer, Desk};
 use hdl_programs::VERSION;
-use hdl_sockets::nothing_came;
-use hdl_telemetry::{Counts, Health};
+use hdl_telemetry::{Counts, Flow, Health};
 use httparse::Status;
 use httparse::spans::{EMPTY_HEADER_SPAN, parse_request};
 use std::alloc::{AllocError, Global};
+use std::fmt;
 use std::fmt::Write as _;
-use std::io::{self, Read, Write};
-use std::net::{TcpListener, TcpStream};
 use std::sync::Arc;
-use std::time::Duration;
-use std::{fmt, fs, thread};
 
-/// For how many seconds one read or write may take.
-const PATIENCE: u64 = 2;
-
-/// How many octets and headers of a request are read at most, and by how many reads.
-const HEAD: usize = 4096;
-
+/// How many headers of a request are read at most.
 const HEADERS: usize = 64;
-
-const READS: usize = 8;
 
 /// What the page tells.
 #[derive(Drop)]
 pub struct StatusPage {
     pub counts: Vec<Arc<Counts>>,
     pub health: Arc<Health>,
+    /// How the lines of the log go, where there is one.
+    pub log: Option<Arc<Flow>>,
 }
 
 /// What is answered: the line behind the version, the kind of the body, and the body.
@@ -50,12 +42,9 @@ fn plain(alloc: Global, status: &'static str, words: &str) -> Result<Page, Alloc
 impl StatusPage {
     /// Whether the table takes changes.
     fn health(&self, alloc: Global) -> Result<Page, AllocError> {
-        if self.health.is_shut() {
-            let words =
-                "the table is shut for writes: a sync of its file failed; reads go on; restart the server once the cause is gone\n";
-            plain(alloc, "503 Service Unavailable", words)
-        } else {
-            plain(alloc, "200 OK", "ok\n")
+        match self.health.trouble() {
+            Some(words) => plain(alloc, "503 Service Unavailable", words),
+            None => plain(alloc, "200 OK", "ok\n"),
         }
     }
 
@@ -87,7 +76,43 @@ impl StatusPage {
         let shut = u8::from(self.health.is_shut());
         writeln!(
             out,
-            "# HELP handled_table_shut 1 where the table takes no changes, since its file failed.\n# TYPE handled_table_shut gauge\nhandled_table_shut {shut}"
+            "# HELP handled_table_shut 1 where the table takes no changes until the next start, since its file failed or was taken away.\n# TYPE handled_table_shut gauge\nhandled_table_shut {shut}"
+        )?;
+        let failing = u8::from(self.health.is_failing());
+        writeln!(
+            out,
+            "# HELP handled_table_failing 1 where the last change couldn't be written.\n# TYPE handled_table_failing gauge\nhandled_table_failing {failing}"
+        )?;
+        let failures = self.health.failures();
+        writeln!(
+            out,
+            "# HELP handled_table_failures_total Changes that couldn't be written.\n# TYPE handled_table_failures_total counter\nhandled_table_failures_total {failures}"
+        )
+    }
+
+    /// Puts what is known of memory.
+    fn put_memory<W: fmt::Write>(&self, out: &mut W) -> fmt::Result {
+        let short = u8::from(self.health.is_short());
+        writeln!(
+            out,
+            "# HELP handled_memory_short 1 where less memory is left than is kept aside.\n# TYPE handled_memory_short gauge\nhandled_memory_short {short}"
+        )?;
+        let refusals = self.health.refusals();
+        writeln!(
+            out,
+            "# HELP handled_memory_refusals_total Changes that were refused since less memory was left.\n# TYPE handled_memory_refusals_total counter\nhandled_memory_refusals_total {refusals}"
+        )
+    }
+
+    /// Puts how many lines of the log were lost, where there is one.
+    fn put_log<W: fmt::Write>(&self, out: &mut W) -> fmt::Result {
+        let Some(log) = &self.log else {
+            return Ok(());
+        };
+        let lost = log.lost();
+        writeln!(
+            out,
+            "# HELP handled_log_lines_lost_total Lines of the log of changes that weren't written.\n# TYPE handled_log_lines_lost_total counter\nhandled_log_lines_lost_total {lost}"
         )
     }
 
@@ -98,7 +123,9 @@ impl StatusPage {
             "# HELP handled_info The program's version.\n# TYPE handled_info gauge\nhandled_info{{version=\"{VERSION}\"}} 1"
         )?;
         self.put_counts(out)?;
-        self.put_table(out)
+        self.put_table(out)?;
+        self.put_memory(out)?;
+        self.put_log(out)
     }
 
     /// Everything that is counted.
@@ -126,67 +153,32 @@ impl StatusPage {
         }
     }
 
-    /// Reads the head of a request, and answers its page. None: it is none, or too long, or came too slowly.
-    fn read_question<S: Read>(&self, alloc: Global, stream: &mut S) -> io::Result<Option<Page>> {
-        let mut octets = [0; HEAD];
-        let mut count = 0usize;
-        for _ in 0..READS {
-            let Some(room) = octets.get_mut(count..) else {
-                break;
-            };
-            let more = stream.read(room)?;
-            count = count.saturating_add(more).min(HEAD);
-            let mut headers = [EMPTY_HEADER_SPAN; HEADERS];
-            let head = &octets[..count];
-            match parse_request(head, &mut headers) {
-                Ok(Status::Complete(spans)) => {
-                    let page = self.page(alloc, spans.method.of(head), spans.path.of(head))?;
-                    return Ok(Some(page));
-                }
-                Ok(Status::Partial) if more > 0 => {}
-                _ => break,
-            }
-        }
-        Ok(None)
-    }
-
-    /// Answers one request.
-    fn answer<S: Read + Write>(&self, alloc: Global, stream: &mut S) -> io::Result<()> {
-        let Some(page) = self.read_question(alloc, stream)? else {
-            return Ok(());
-        };
-        let Page { status, kind, body } = page;
+    /// The octets of the answer to a request for this path.
+    fn reply(&self, alloc: Global, method: &[u8], path: &[u8]) -> Result<Vec<u8>, AllocError> {
+        let Page { status, kind, body } = self.page(alloc, method, path)?;
         let length = body.len();
-        write!(
-            stream,
+        let mut reply = format!(in alloc;
             "HTTP/1.1 {status}\r\nContent-Type: {kind}\r\nContent-Length: {length}\r\nCache-Control: no-store\r\nConnection: close\r\n\r\n"
         )?;
-        stream.write_all(body.as_bytes())
+        reply.push_str(body.as_str())?;
+        Ok(reply.into_bytes())
     }
 }
 
-/// Answers one client.
-fn serve_client(alloc: Global, page: &StatusPage, mut stream: TcpStream) -> io::Result<()> {
-    stream.set_read_timeout(Some(Duration::from_secs(PATIENCE)))?;
-    stream.set_write_timeout(Some(Duration::from_secs(PATIENCE)))?;
-    page.answer(alloc, &mut stream)
-}
-
-/// Answers whoever asks, one after the other, as long as the program runs.
-pub fn serve_status<R: std::rt::Clock>(
-    rt: &R,
-    alloc: Global,
-    listener: &TcpListener,
-    page: &StatusPage,
-) {
-    for _ in 0..u64::MAX {
-        match listener.accept() {
-            // whom it can't answer asks again
-            Ok((stream, _)) => {
-                let _ = serve_client(alloc, page, stream);
+impl Desk for StatusPage {
+    /// The page that is asked for, once the head of the request is whole.
+    fn answer(&self, alloc: Global, question: &[u8]) -> Answer {
+        let mut headers = [EMPTY_HEADER_SPAN; HEADERS];
+        match parse_request(question, &mut headers) {
+            Ok(Status::Complete(spans)) => {
+                let (method, path) = (spans.method.of(question), spans.path.of(question));
+                match self.reply(alloc, method, path) {
+                    Ok(reply) => Answer::Octets(reply),
+                    Err(_) => Answer::Nothing,
+                }
             }
-            Err(e) if nothing_came(e.kind()) => {}
-            Err(_) => thread::sleep(rt, Duration::from_secs(PATIENCE)),
+            Ok(Status::Partial) => Answer::More,
+            Err(_) => Answer::Nothing,
         }
     }
 }

@@ -1,12 +1,14 @@
 //! What a server tells of itself beside its answers, and how it takes the word to end.
 
-use crate::control::{listen, serve_control};
+use crate::control::{Control, listen};
 use crate::fault::HostFault;
+use crate::guests::serve_guests;
 use crate::listening::{PublisherSockets, or_device};
-use crate::status::{StatusPage, serve_status};
+use crate::status::StatusPage;
+use crate::telling::{Telling, tell};
 use hdl_programs::Fault;
 use hdl_sockets::Ending;
-use hdl_telemetry::{Counts, Health, Log, Record};
+use hdl_telemetry::{Counts, FileWatch, Flow, Health, Log, Notice, Record, Voice};
 use std::alloc::{AllocError, Global};
 use std::fs::Files;
 use std::net::{IpAddr, Net, SocketAddr, TcpListener, TcpStream};
@@ -14,7 +16,13 @@ use std::os::unix::net::UnixListener;
 use std::rt::Clock;
 use std::sync::Arc;
 use std::thread::Threads;
+use std::time::Duration;
 use std::{io, thread};
+
+/// How often it is looked at the end whether everything is told, and for how many milliseconds each time.
+const LOOKS: u32 = 100;
+
+const LOOK: u64 = 20;
 
 /// What a server tells of itself, and how it takes the word to end.
 #[derive(Drop)]
@@ -29,6 +37,10 @@ pub struct Supervision {
     pub proxied: Option<IpAddr>,
     /// Whether the table takes changes.
     pub health: Arc<Health>,
+    /// The table's file, as it was opened, where it has one.
+    pub file: Option<FileWatch>,
+    /// What is said of each bound, in their order, once it is reached.
+    pub bounds: Arc<Vec<Notice>>,
     /// Whether the server is asked to end.
     pub ending: Arc<Ending>,
 }
@@ -41,14 +53,27 @@ impl Supervision {
             status: None,
             control: None,
             proxied: None,
-            health: Arc::new(alloc, Health::new())?,
+            health: Arc::new(alloc, Health::new(alloc, 0)?)?,
+            file: None,
+            bounds: Arc::new(alloc, Vec::new(alloc))?,
             ending: Arc::new(alloc, Ending::new())?,
         })
     }
 
+    /// Voices for so many lanes; none where there is no log.
+    fn voices(&mut self, alloc: Global, lanes: u16) -> Result<Vec<Voice>, AllocError> {
+        let mut voices = Vec::new(alloc);
+        if let Some(log) = &mut self.log {
+            for _ in 0..lanes {
+                voices.push(log.voice(alloc)?)?;
+            }
+        }
+        Ok(voices)
+    }
+
     /// What is recorded of a publisher with so many lanes, if anything is.
     pub fn record_of(
-        &self,
+        &mut self,
         alloc: Global,
         publisher: &str,
         lanes: u16,
@@ -56,21 +81,45 @@ impl Supervision {
         if self.log.is_none() && self.status.is_none() {
             return Ok(None);
         }
-        let log = match &self.log {
-            Some(log) => Some(log.try_clone()?),
-            None => None,
-        };
         let counts = Arc::new(alloc, Counts::new(alloc, publisher, lanes)?)?;
-        Ok(Some(Record { counts, log }))
+        let voices = self.voices(alloc, lanes)?.into_iter();
+        Ok(Some(Record { counts, voices }))
     }
 }
 
-/// The sockets at which a server is watched and ended.
+/// The sockets at which a server is watched and ended, its log, and what it may have to say.
 #[derive(Drop)]
 pub struct Supervised {
     status: Option<(TcpListener, StatusPage)>,
     control: Option<UnixListener>,
+    log: Option<Log>,
+    watched: Watched,
+}
+
+/// What is looked at while a server runs, and at its end.
+#[derive(Drop)]
+pub struct Watched {
+    /// Whether the server is asked to end.
     pub ending: Arc<Ending>,
+    telling: Telling,
+}
+
+impl Watched {
+    /// Whether everything is said, and the last lines of the log are written.
+    fn is_told(&self) -> bool {
+        self.telling.is_log_written() && !self.telling.has_due()
+    }
+
+    /// At the end, once all lanes have ended: waits until everything is told, two seconds at most.
+    pub fn leave<R: Clock>(&self, rt: &R) {
+        self.telling.end_log();
+        for _ in 0..LOOKS {
+            if self.is_told() {
+                break;
+            }
+            thread::sleep(rt, Duration::from_millis(LOOK));
+        }
+    }
 }
 
 /// The counts of all publishers.
@@ -84,6 +133,14 @@ fn all_counts<C>(alloc: Global, places: &[PublisherSockets<C>]) -> io::Result<Ve
     Ok(all)
 }
 
+/// How the lines of the log go, where there is one.
+fn flow_of(supervision: &Supervision) -> Result<Option<Arc<Flow>>, AllocError> {
+    match &supervision.log {
+        Some(log) => Ok(Some(log.flow()?)),
+        None => Ok(None),
+    }
+}
+
 /// What the status page tells.
 fn page_of<C>(
     alloc: Global,
@@ -93,14 +150,27 @@ fn page_of<C>(
     Ok(StatusPage {
         counts: all_counts(alloc, places)?,
         health: Arc::try_clone(&supervision.health)?,
+        log: flow_of(supervision)?,
     })
 }
 
-/// Opens the sockets at which a server is watched and ended.
+/// What is looked at while the server runs.
+fn watched_of(supervision: &Supervision) -> io::Result<Watched> {
+    Ok(Watched {
+        ending: Arc::try_clone(&supervision.ending)?,
+        telling: Telling {
+            health: Arc::try_clone(&supervision.health)?,
+            bounds: Arc::try_clone(&supervision.bounds)?,
+            log: flow_of(supervision)?,
+        },
+    })
+}
+
+/// Opens the sockets at which a server is watched and ended, and takes its log.
 pub fn supervise<R: Net<Listener = TcpListener, Stream = TcpStream> + Files, C>(
     rt: &R,
     alloc: Global,
-    supervision: &Supervision,
+    supervision: &mut Supervision,
     places: &[PublisherSockets<C>],
 ) -> Result<Supervised, HostFault> {
     let status = match supervision.status {
@@ -117,11 +187,12 @@ pub fn supervise<R: Net<Listener = TcpListener, Stream = TcpStream> + Files, C>(
         },
         None => None,
     };
-    let ending = or_device(Arc::try_clone(&supervision.ending).map_err(io::Error::from))?;
+    let watched = or_device(watched_of(supervision))?;
     Ok(Supervised {
         status,
         control,
-        ending,
+        log: supervision.log.take(),
+        watched,
     })
 }
 
@@ -134,7 +205,7 @@ fn start_status<R: Threads + Clock + Copy + Send + Drop + 'static>(
 ) -> Result<(), Fault> {
     let theirs = *rt;
     match thread::spawn(rt, move || {
-        serve_status(&theirs, alloc, &listener, &page);
+        serve_guests(&theirs, alloc, &listener, &page);
     }) {
         Ok(_) => Ok(()),
         Err(_) => Err(Fault::Device),
@@ -146,11 +217,42 @@ fn start_control<R: Threads + Clock + Copy + Send + Drop + 'static>(
     rt: &R,
     alloc: Global,
     listener: UnixListener,
-    ending: Arc<Ending>,
+    ending: &Arc<Ending>,
+) -> Result<(), Fault> {
+    let ending = or_device(Arc::try_clone(ending).map_err(io::Error::from))?;
+    let control = Control { ending };
+    let theirs = *rt;
+    match thread::spawn(rt, move || {
+        serve_guests(&theirs, alloc, &listener, &control);
+    }) {
+        Ok(_) => Ok(()),
+        Err(_) => Err(Fault::Device),
+    }
+}
+
+/// Starts the thread that writes the log.
+fn start_log<R: Threads + Clock + Eprint + Copy + Send + Drop + 'static>(
+    rt: &R,
+    log: Log,
 ) -> Result<(), Fault> {
     let theirs = *rt;
     match thread::spawn(rt, move || {
-        serve_control(&theirs, alloc, &listener, &ending);
+        let mut log = log;
+        log.write_lines(&theirs);
+    }) {
+        Ok(_) => Ok(()),
+        Err(_) => Err(Fault::Device),
+    }
+}
+
+/// Starts the thread that says what is due.
+fn start_telling<R: Threads + Clock + Eprint + Copy + Send + Drop + 'static>(
+    rt: &R,
+    telling: Telling,
+) -> Result<(), Fault> {
+    let theirs = *rt;
+    match thread::spawn(rt, move || {
+        tell(&theirs, &telling);
     }) {
         Ok(_) => Ok(()),
         Err(_) => Err(Fault::Device),
@@ -158,24 +260,28 @@ fn start_control<R: Threads + Clock + Copy + Send + Drop + 'static>(
 }
 
 impl Supervised {
-    /// Starts what answers at these sockets, on threads that end with the program.
-    pub fn start<R: Threads + Clock + Copy + Send + Drop + 'static>(
+    /// Starts what answers at these sockets, writes the log and says what is due, on threads that end with the program.
+    pub fn start<R: Threads + Clock + Eprint + Copy + Send + Drop + 'static>(
         self,
         rt: &R,
         alloc: Global,
-    ) -> Result<Arc<Ending>, Fault> {
+    ) -> Result<Watched, Fault> {
         let Supervised {
             status,
             control,
-            ending,
+            log,
+            watched,
         } = self;
         if let Some((listener, page)) = status {
             start_status(rt, alloc, listener, page)?;
         }
         if let Some(listener) = control {
-            let ending = or_device(Arc::try_clone(&ending).map_err(io::Error::from))?;
-            start_control(rt, alloc, listener, ending)?;
+            start_control(rt, alloc, listener, &watched.ending)?;
         }
-        Ok(ending)
+        if let Some(log) = log {
+            start_log(rt, log)?;
+        }
+        start_telling(rt, watched.telling.try_clone()?)?;
+        Ok(watched)
     }
 }

@@ -31,7 +31,7 @@ pub struct Side {
 /// What starts a worker is generic over it: proving a function that owns sockets costs several times as much.
 pub trait Working {
     /// Works at the lane on this thread, until the lane or the turns end.
-    fn work_lane<R: Clock + Eprint + Copy + Drop>(
+    fn work_lane<R: Clock + Copy + Drop>(
         self,
         rt: R,
         alloc: Global,
@@ -42,7 +42,7 @@ pub trait Working {
 
 /// A connection at a time.
 impl Working for Seat {
-    fn work_lane<R: Clock + Eprint + Copy + Drop>(
+    fn work_lane<R: Clock + Copy + Drop>(
         self,
         rt: R,
         alloc: Global,
@@ -64,7 +64,7 @@ impl Working for Seat {
 
 /// Many connections.
 impl Working for Crowd {
-    fn work_lane<R: Clock + Eprint + Copy + Drop>(
+    fn work_lane<R: Clock + Copy + Drop>(
         self,
         rt: R,
         alloc: Global,
@@ -91,7 +91,7 @@ struct PacketLane {
 }
 
 impl Working for PacketLane {
-    fn work_lane<R: Clock + Eprint + Copy + Drop>(
+    fn work_lane<R: Clock + Copy + Drop>(
         self,
         rt: R,
         alloc: Global,
@@ -112,10 +112,10 @@ impl Working for PacketLane {
 }
 
 /// What reads along with the lane at this place, if anything is recorded.
-fn recorder_of<R: Clock + Eprint + Copy + Drop>(
+fn recorder_of<R: Clock + Copy + Drop>(
     rt: &R,
     alloc: Global,
-    record: &Option<Record>,
+    record: &mut Option<Record>,
     lane: usize,
 ) -> Result<Option<Recorder<R>>, Fault> {
     match record {
@@ -126,7 +126,7 @@ fn recorder_of<R: Clock + Eprint + Copy + Drop>(
 
 /// Starts the worker of a lane.
 fn start_worker<
-    R: Threads + Clock + Eprint + Copy + Send + Drop + 'static,
+    R: Threads + Clock + Copy + Send + Drop + 'static,
     L: Working + Send + Drop + 'static,
 >(
     rt: &R,
@@ -152,14 +152,14 @@ struct Workers {
 impl Workers {
     /// Starts the next worker, at the lane that stands at this place among those of its publisher.
     fn start_next<
-        R: Threads + Clock + Eprint + Copy + Send + Drop + 'static,
+        R: Threads + Clock + Copy + Send + Drop + 'static,
         L: Working + Send + Drop + 'static,
     >(
         &mut self,
         rt: &R,
         alloc: Global,
         lane: L,
-        record: &Option<Record>,
+        record: &mut Option<Record>,
         place: usize,
     ) -> Result<(), Fault> {
         let Some(side) = self.sides.next() else {
@@ -173,14 +173,14 @@ impl Workers {
 
     /// Starts the workers of these lanes, which are the first of their publisher.
     fn start_first<
-        R: Threads + Clock + Eprint + Copy + Send + Drop + 'static,
+        R: Threads + Clock + Copy + Send + Drop + 'static,
         L: Working + Send + Drop + 'static,
     >(
         &mut self,
         rt: &R,
         alloc: Global,
         lanes: Vec<L>,
-        record: &Option<Record>,
+        record: &mut Option<Record>,
     ) -> Result<(), Fault> {
         let mut place = 0usize;
         for lane in lanes {
@@ -192,7 +192,7 @@ impl Workers {
 
     /// Starts the workers of the last lanes of a publisher, from this place on: the overflow lane, if it has one, and that of its datagrams.
     fn start_last<
-        R: Threads + Clock + Eprint + Copy + Send + Drop + 'static,
+        R: Threads + Clock + Copy + Send + Drop + 'static,
         C: Working + Send + Drop + 'static,
         P: Working + Send + Drop + 'static,
     >(
@@ -200,7 +200,7 @@ impl Workers {
         rt: &R,
         alloc: Global,
         lanes: (Option<C>, P),
-        record: &Option<Record>,
+        record: &mut Option<Record>,
         place: usize,
     ) -> Result<(), Fault> {
         let (crowd, packets) = lanes;
@@ -213,20 +213,20 @@ impl Workers {
 
     /// Starts the workers of a publisher's lanes.
     fn start_place<
-        R: Threads + Clock + Eprint + Copy + Send + Drop + 'static,
+        R: Threads + Clock + Copy + Send + Drop + 'static,
         C: Working + Send + Drop + 'static,
     >(&mut self, rt: &R, alloc: Global, place: PublisherSockets<C>) -> Result<(), Fault> {
         let PublisherSockets {
             seats,
             crowd,
             sockets,
-            record,
+            mut record,
             ending,
         } = place;
         let packets = PacketLane { sockets, ending };
         let count = seats.len();
-        self.start_first(rt, alloc, seats, &record)?;
-        self.start_last(rt, alloc, (crowd, packets), &record, count)
+        self.start_first(rt, alloc, seats, &mut record)?;
+        self.start_last(rt, alloc, (crowd, packets), &mut record, count)
     }
 }
 
@@ -254,7 +254,7 @@ fn sides_of<R: RandomSource>(
 
 /// Starts a worker for each lane.
 pub fn start<
-    R: Threads + Clock + RandomSource + Eprint + Copy + Send + Drop + 'static,
+    R: Threads + Clock + RandomSource + Copy + Send + Drop + 'static,
     C: Working + Send + Drop + 'static,
 >(
     rt: &R,

@@ -91,6 +91,13 @@ fn bound_args<'a>(alloc: Global, command: Command<'a>) -> Result<Command<'a>, Al
         .action(ArgAction::Append))?
         .arg(option(
             alloc,
+            "reserve",
+            "OCTETS",
+            "Keeps so many octets of memory aside: where less is left, what takes more is answered busy, and the rest goes on; 8388608 by default, 0 for none",
+        )
+        .value_parser(value_parser!(u64)))?
+        .arg(option(
+            alloc,
             "row-cache",
             "OCTETS",
             "Keeps the handles read last, in at most so many octets; 41943040 by default, 0 for none",

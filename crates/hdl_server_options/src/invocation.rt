@@ -28,6 +28,8 @@ pub struct LimitOptions {
     pub amplify: Option<u32>,
     /// In connections.
     pub crowd: Option<u32>,
+    /// In octets.
+    pub reserve: Option<usize>,
 }
 
 /// The options of `serve` by which a server is watched and ended.

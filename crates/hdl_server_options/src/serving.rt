@@ -7,9 +7,9 @@ use clap::ArgMatches;
 use std::alloc::{AllocError, Global};
 use std::net::{IpAddr, Ipv4Addr, SocketAddr};
 
-/// How many octets the handles that were read last may take.
-fn row_cache(found: &ArgMatches) -> Option<usize> {
-    let octets = found.get_one::<u64>("row-cache")?;
+/// The number of octets behind an option.
+fn octets_behind(found: &ArgMatches, option: &str) -> Option<usize> {
+    let octets = found.get_one::<u64>(option)?;
     Some(usize::try_from(octets).unwrap_or(usize::MAX))
 }
 
@@ -20,6 +20,7 @@ fn limits(found: &ArgMatches) -> LimitOptions {
         idle: found.get_one::<u32>("idle"),
         amplify: found.get_one::<u32>("amplify"),
         crowd: found.get_one::<u32>("crowd"),
+        reserve: octets_behind(found, "reserve"),
     }
 }
 
@@ -150,7 +151,7 @@ pub fn serve_options(alloc: Global, found: &ArgMatches) -> Result<ServeOptions, 
         limits: limits(found),
         supervision,
         bounds,
-        row_cache: row_cache(found),
+        row_cache: octets_behind(found, "row-cache"),
         table,
     })
 }

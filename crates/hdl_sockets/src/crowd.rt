@@ -402,14 +402,14 @@ impl<R> SocketCrowd<R> {
     }
 }
 
-impl<R: std::rt::Clock + Eprint + Drop> SocketCrowd<R> {
+impl<R: std::rt::Clock + Drop> SocketCrowd<R> {
     /// The moment, of the clock that the lanes of the publisher share.
     fn now(&self) -> u64 {
         self.crowd.entrance.seat.moment(&self.rt)
     }
 }
 
-impl<R: std::rt::Clock + Eprint + Drop> Packets for SocketCrowd<R> {
+impl<R: std::rt::Clock + Drop> Packets for SocketCrowd<R> {
     ghost use Rattle.std.specs.Prelude.{false, []};
 
     ghost is_observed = { false };

@@ -24,7 +24,7 @@ impl<R> SocketDoor<R> {
     }
 }
 
-impl<R: std::rt::Clock + Eprint + Drop> Door for SocketDoor<R> {
+impl<R: std::rt::Clock + Drop> Door for SocketDoor<R> {
     ghost use Rattle.std.specs.Prelude.{false, true, []};
     ghost use Rattle.hdl_workers.specs.Door.{fresh};
 

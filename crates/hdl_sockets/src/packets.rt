@@ -47,7 +47,7 @@ struct Post<R> {
     recorder: Option<PacketRecorder<R>>,
 }
 
-impl<R: std::rt::Clock + Eprint + Drop> Post<R> {
+impl<R: std::rt::Clock + Drop> Post<R> {
     /// A frame came from the peer with this number.
     fn note_request(&mut self, peer: u16, frame: &[u8]) {
         if let Some(recorder) = &mut self.recorder {
@@ -160,7 +160,7 @@ pub struct SocketPackets<R> {
     faults: u64,
 }
 
-impl<R: std::rt::Clock + Eprint + Drop> SocketPackets<R> {
+impl<R: std::rt::Clock + Drop> SocketPackets<R> {
     pub fn new(
         rt: R,
         alloc: Global,
@@ -185,7 +185,7 @@ impl<R: std::rt::Clock + Eprint + Drop> SocketPackets<R> {
     }
 }
 
-impl<R: std::rt::Clock + Eprint + Drop> Packets for SocketPackets<R> {
+impl<R: std::rt::Clock + Drop> Packets for SocketPackets<R> {
     ghost use Rattle.std.specs.Prelude.{false, []};
 
     ghost is_observed = { false };

@@ -36,7 +36,7 @@ pub struct Watch<R> {
     introduction: Option<Introduction>,
 }
 
-impl<R: std::rt::Clock + Eprint + Drop> Watch<R> {
+impl<R: std::rt::Clock + Drop> Watch<R> {
     /// Of a lane without a connection.
     pub fn new(rt: R, seat: Seat, recorder: Option<StreamRecorder<R>>) -> Watch<R> {
         Watch {

@@ -1,6 +1,5 @@
 //! What the lanes of a publisher answered, in numbers.
 
-use hdl_audit::ReplySummary;
 use hdl_msg::{OpCode, ResponseCode};
 use std::alloc::{AllocError, Global};
 use std::fmt;
@@ -91,15 +90,15 @@ impl Counts {
         })
     }
 
-    /// Counts a reply.
-    pub fn count(&self, answer: ReplySummary) {
+    /// Counts a reply, by the numbers of the operation that it answers and of its code.
+    pub fn count(&self, operation: u32, code: u32) {
         let mut operations = OPERATIONS.iter();
         let row = operations
-            .position(|operation| operation.number() == answer.operation)
+            .position(|one| one.number() == operation)
             .unwrap_or(OPERATIONS.len());
         let mut codes = CODES.iter();
         let column = codes
-            .position(|code| code.number() == answer.code)
+            .position(|one| one.number() == code)
             .unwrap_or(CODES.len());
         if let Some(count) = self
             .replies

@@ -1,29 +1,202 @@
-//! Whether a server's table takes changes.
+//! Whether a server's table takes changes, and why not.
 
-use std::sync::atomic::AtomicBool;
+use crate::file_watch::FileChange;
+use crate::notice::Notice;
+use crate::room::has_room;
+use std::alloc::{AllocError, Global};
 use std::sync::atomic::Ordering::SeqCst;
+use std::sync::atomic::{AtomicBool, AtomicU64};
 
-/// Whether the table takes changes. What keeps it says so, and the status page reads it.
+/// What is said on standard error.
+const SHUT: &str =
+    "table: shut for writes: a sync of the file failed, so nobody can tell whether it has the last change; reads go on, changes are answered busy; restart once the cause is gone";
+
+const GONE: &str =
+    "table: shut for writes: the file or its log is gone from its path, so that the next start would find none; reads go on, changes are answered busy; move both back, or copy them from /proc/PID/fd of this process, and restart";
+
+const REPLACED: &str =
+    "table: shut for writes: another file is at the path of the file or its log; reads go on, changes are answered busy; move both back, or copy them from /proc/PID/fd of this process, and restart over the one or the other";
+
+const OVERWRITTEN: &str =
+    "table: shut for writes: another program wrote the file or its log; reads go on, changes are answered busy; put a whole copy of both in their place, and restart";
+
+const FAILING: &str =
+    "table: a change can't be written: the disk may be full, or memory short; reads go on, and changes that can't be written are answered busy, of which nothing is done; make room";
+
+const SHORT: &str =
+    "memory: less is left than is kept aside (--reserve), so what takes more is answered busy; reads, deletes and removes go on; delete handles, bound publishers (--bound), or let the process have more";
+
+const ASKED: &str = "handled: ends: it was asked to";
+
+const SPENT: &str = "handled: ends: the turns are spent";
+
+/// Whether the table takes changes, and why not; and why the server ends. What keeps it says so; the status page and the thread that says the lines read it.
 #[derive(Drop)]
 pub struct Health {
-    is_shut: AtomicBool,
+    shut: Notice,
+    gone: Notice,
+    replaced: Notice,
+    overwritten: Notice,
+    failing: Notice,
+    short: Notice,
+    asked: Notice,
+    spent: Notice,
+    /// Whether its file was gone or replaced when it was seen last.
+    is_away: AtomicBool,
+    /// Whether the last change couldn't be written, and how many couldn't.
+    is_failing: AtomicBool,
+    failures: AtomicU64,
+    /// How many octets of memory are kept aside, whether they couldn't be had when that was seen last, and how many changes were refused for that.
+    reserve: usize,
+    is_short: AtomicBool,
+    refusals: AtomicU64,
 }
 
 impl Health {
-    /// It does.
-    pub fn new() -> Health {
-        Health {
-            is_shut: AtomicBool::new(false),
+    /// It does. So many octets of memory are kept aside.
+    pub fn new(alloc: Global, reserve: usize) -> Result<Health, AllocError> {
+        Ok(Health {
+            shut: Notice::new(alloc, SHUT)?,
+            gone: Notice::new(alloc, GONE)?,
+            replaced: Notice::new(alloc, REPLACED)?,
+            overwritten: Notice::new(alloc, OVERWRITTEN)?,
+            failing: Notice::new(alloc, FAILING)?,
+            short: Notice::new(alloc, SHORT)?,
+            asked: Notice::new(alloc, ASKED)?,
+            spent: Notice::new(alloc, SPENT)?,
+            is_away: AtomicBool::new(false),
+            is_failing: AtomicBool::new(false),
+            failures: AtomicU64::new(0),
+            reserve,
+            is_short: AtomicBool::new(false),
+            refusals: AtomicU64::new(0),
+        })
+    }
+
+    /// From now on it takes none, since a sync of its file failed.
+    pub fn shut(&self) {
+        self.shut.raise();
+    }
+
+    /// What somebody else made of its file, as it was seen just now. While the file is away it takes none, and once it was overwritten never again.
+    pub fn see_file(&self, change: Option<FileChange>) {
+        let is_away = matches!(change, Some(FileChange::Gone | FileChange::Replaced));
+        self.is_away.store(is_away, SeqCst);
+        match change {
+            Some(FileChange::Gone) => self.gone.raise(),
+            Some(FileChange::Replaced) => self.replaced.raise(),
+            Some(FileChange::Overwritten) => self.overwritten.raise(),
+            None => {}
         }
     }
 
-    /// From now on it takes none.
-    pub fn shut(&self) {
-        self.is_shut.store(true, SeqCst);
+    /// Whether its file is away or overwritten.
+    fn has_lost_file(&self) -> bool {
+        self.is_away.load(SeqCst) || self.overwritten.is_raised()
     }
 
     /// Whether it takes none.
     pub fn is_shut(&self) -> bool {
-        self.is_shut.load(SeqCst)
+        self.shut.is_raised() || self.has_lost_file()
+    }
+
+    /// A change was written, or couldn't be.
+    pub fn note_write(&self, is_made: bool) {
+        self.is_failing.store(!is_made, SeqCst);
+        if !is_made {
+            self.failures.fetch_add(1, SeqCst);
+            self.failing.raise();
+        }
+    }
+
+    /// Whether the last change couldn't be written.
+    pub fn is_failing(&self) -> bool {
+        self.is_failing.load(SeqCst)
+    }
+
+    /// How many changes couldn't be written.
+    pub fn failures(&self) -> u64 {
+        self.failures.load(SeqCst)
+    }
+
+    /// Sees whether as much memory can be had as is kept aside.
+    pub fn see_room(&self, alloc: Global) -> bool {
+        let is_there = has_room(alloc, self.reserve);
+        self.is_short.store(!is_there, SeqCst);
+        is_there
+    }
+
+    /// Whether less could be had when that was seen last.
+    pub fn is_short(&self) -> bool {
+        self.is_short.load(SeqCst)
+    }
+
+    /// A change was refused, since less memory could be had.
+    pub fn note_refusal(&self) {
+        self.refusals.fetch_add(1, SeqCst);
+        self.short.raise();
+    }
+
+    /// How many changes were refused so.
+    pub fn refusals(&self) -> u64 {
+        self.refusals.load(SeqCst)
+    }
+
+    /// What is wrong now, in words, if something is.
+    pub fn trouble(&self) -> Option<&'static str> {
+        if self.shut.is_raised() {
+            Some(
+                "the table is shut for writes: a sync of its file failed; reads go on; restart the server once the cause is gone\n",
+            )
+        } else if self.has_lost_file() {
+            Some(
+                "the table is shut for writes: its file or log was taken away, replaced or written by another program; reads go on; standard error says what to do\n",
+            )
+        } else if self.is_failing() {
+            Some(
+                "the last change couldn't be written: the disk may be full, or memory short; reads go on\n",
+            )
+        } else if self.is_short() {
+            Some(
+                "memory is short: what takes more is answered busy; reads, deletes and removes go on\n",
+            )
+        } else {
+            None
+        }
+    }
+
+    /// The server ends, since it was asked to, or since its turns are spent.
+    pub fn end(&self, was_asked: bool) {
+        if was_asked {
+            self.asked.raise();
+        } else {
+            self.spent.raise();
+        }
+    }
+
+    /// Each line that may have to be said.
+    fn notices(&self) -> [&Notice; 8] {
+        [
+            &self.shut,
+            &self.gone,
+            &self.replaced,
+            &self.overwritten,
+            &self.failing,
+            &self.short,
+            &self.asked,
+            &self.spent,
+        ]
+    }
+
+    /// Whether something is to be said that nobody said.
+    pub fn has_due(&self) -> bool {
+        self.notices().iter().any(|notice| notice.is_due())
+    }
+
+    /// Says on standard error what is due.
+    pub fn say_due<R: Eprint>(&self, rt: &R) {
+        for notice in self.notices() {
+            notice.say_if_due(rt);
+        }
     }
 }

@@ -1,11 +1,24 @@
-//! Where the lines of an audit log go.
+//! The log of changes, whose lines a thread of its own writes.
+//!
+//! ```text
+//! the recorder of a lane -> Voice ==a queue for each==> Log::write_lines -> standard error, or a file
+//! ```
 
-use std::alloc::Global;
+use crate::flow::{Backlog, Flow};
+use hdl_lanes::{Inlet, Outlet, lane};
+use std::alloc::{AllocError, Global};
 use std::fs::File;
 use std::io::{self, Write};
+use std::rt::Clock;
 use std::sync::Arc;
-use std::sync::atomic::AtomicBool;
-use std::sync::atomic::Ordering::SeqCst;
+use std::thread;
+use std::time::Duration;
+
+/// How many lines of a lane wait at most to be written.
+const LINES_MOST: usize = 1024;
+
+/// For how many milliseconds the thread sleeps that found no line.
+const PAUSE: u64 = 20;
 
 /// Where lines go.
 #[derive(Drop)]
@@ -14,18 +27,97 @@ enum Sink {
     File(File),
 }
 
-/// Where the lines of an audit log go. Each of a server's lanes has an owner of its own.
+/// Where the recorder of a lane says its lines. Who says one waits for nobody.
+#[derive(Drop)]
+pub struct Voice {
+    lines: Inlet<String>,
+    backlog: Arc<Backlog>,
+    flow: Arc<Flow>,
+}
+
+impl Voice {
+    /// Says a line, with its LF. Where too many wait it is lost, and counted.
+    pub fn say(&mut self, line: String) {
+        let octets = line.len() as u64;
+        if !self.backlog.enters(octets) {
+            return self.flow.lose();
+        }
+        if self.lines.put(line).is_err() {
+            self.backlog.leaves(octets);
+            self.flow.lose();
+        }
+    }
+
+    /// A line couldn't be made.
+    pub fn lose(&self) {
+        self.flow.lose();
+    }
+}
+
+/// The other end of a voice.
+#[derive(Drop)]
+struct Queue {
+    lines: Outlet<String>,
+    backlog: Arc<Backlog>,
+}
+
+impl Queue {
+    /// Takes the line that waits longest.
+    fn take(&mut self) -> Option<String> {
+        let line = self.lines.take()?;
+        self.backlog.leaves(line.len() as u64);
+        Some(line)
+    }
+}
+
+/// What writes lines.
+#[derive(Drop)]
+struct Pen {
+    sink: Sink,
+    flow: Arc<Flow>,
+    /// Whether the last line couldn't be written.
+    is_failing: bool,
+}
+
+impl Pen {
+    /// Writes a line by one call.
+    fn write<R: Eprint>(&mut self, rt: &R, line: &str) {
+        let written = match &mut self.sink {
+            Sink::Errors => eprint!(rt; "{line}"),
+            Sink::File(file) => file.write_all(line.as_bytes()),
+        };
+        self.is_failing = written.is_err();
+        if self.is_failing {
+            self.flow.fail();
+        }
+    }
+
+    /// No line waits.
+    fn rest(&self) {
+        if !self.is_failing {
+            self.flow.show_lost();
+        }
+    }
+}
+
+/// Where the lines of changes go, and the queue of each voice.
 #[derive(Drop)]
 pub struct Log {
-    sink: Sink,
-    /// Whether a line couldn't be written and that was said.
-    has_failed: Arc<AtomicBool>,
+    queues: Vec<Queue>,
+    pen: Pen,
 }
 
 impl Log {
     fn new(alloc: Global, sink: Sink) -> io::Result<Log> {
-        let has_failed = Arc::new(alloc, AtomicBool::new(false))?;
-        Ok(Log { sink, has_failed })
+        let flow = Arc::new(alloc, Flow::new(alloc)?)?;
+        Ok(Log {
+            queues: Vec::new(alloc),
+            pen: Pen {
+                sink,
+                flow,
+                is_failing: false,
+            },
+        })
     }
 
     /// To standard error.
@@ -33,33 +125,57 @@ impl Log {
         Log::new(alloc, Sink::Errors)
     }
 
-    /// To the end of a file, which was opened to be appended to: so lines of several lanes don't mix.
+    /// To the end of a file, which was opened to be appended to.
     pub fn to_file(alloc: Global, file: File) -> io::Result<Log> {
         Log::new(alloc, Sink::File(file))
     }
 
-    /// Another owner of the same.
-    pub fn try_clone(&self) -> io::Result<Log> {
-        let sink = match &self.sink {
-            Sink::Errors => Sink::Errors,
-            Sink::File(file) => Sink::File(file.try_clone()?),
+    /// How its lines go.
+    pub fn flow(&self) -> Result<Arc<Flow>, AllocError> {
+        Ok(Arc::try_clone(&self.pen.flow)?)
+    }
+
+    /// A voice for one more lane.
+    pub fn voice(&mut self, alloc: Global) -> Result<Voice, AllocError> {
+        let (inlet, lines) = lane(alloc, LINES_MOST)?;
+        let backlog = Arc::new(alloc, Backlog::new())?;
+        let queue = Queue {
+            lines,
+            backlog: Arc::try_clone(&backlog)?,
         };
-        Ok(Log {
-            sink,
-            has_failed: Arc::try_clone(&self.has_failed)?,
+        self.queues.push(queue)?;
+        Ok(Voice {
+            lines: inlet,
+            backlog,
+            flow: self.flow()?,
         })
     }
 
-    /// Writes a line, with its LF. Where that fails it is said on standard error, once for all lanes, and the line is lost.
-    pub fn put<R: Eprint>(&mut self, rt: &R, line: &str) {
-        let written = match &mut self.sink {
-            Sink::Errors => eprint!(rt; "{line}"),
-            Sink::File(file) => file.write_all(line.as_bytes()),
-        };
-        if written.is_err() && !self.has_failed.swap(true, SeqCst) {
-            let _ = eprintln!(rt;
-                "log: a line can't be written: the disk may be full; changes are answered as before, and their lines are lost until there is room"
-            );
+    /// Writes a line of each voice that said one. Whether any did.
+    fn write_round<R: Eprint>(&mut self, rt: &R) -> bool {
+        let mut any = false;
+        for queue in self.queues.iter_mut() {
+            if let Some(line) = queue.take() {
+                self.pen.write(rt, line.as_str());
+                any = true;
+            }
         }
+        any
+    }
+
+    /// Writes what is said, until no more comes.
+    pub fn write_lines<R: Clock + Eprint>(&mut self, rt: &R) {
+        for _ in 0..u64::MAX {
+            let is_over = self.pen.flow.is_over();
+            if self.write_round(rt) {
+                continue;
+            }
+            self.pen.rest();
+            if is_over {
+                break;
+            }
+            thread::sleep(rt, Duration::from_millis(PAUSE));
+        }
+        self.pen.flow.set_written();
     }
 }

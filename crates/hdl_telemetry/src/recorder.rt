@@ -1,8 +1,8 @@
 //! Reading along with a lane: its replies are counted, and each change gets a line.
 
 use crate::counts::Counts;
-use crate::log::Log;
-use hdl_audit::{Entry, Follower, Moment, ReplySummary};
+use crate::log::Voice;
+use hdl_audit::{Detail, Entry, Follower, Moment, UnansweredFrame};
 use hdl_frame::Cutter;
 use std::alloc::{AllocError, Global};
 use std::collections::VecDeque;
@@ -11,12 +11,22 @@ use std::net::SocketAddr;
 use std::rt::Clock;
 use std::sync::Arc;
 use std::time::SystemTime;
+use std::vec::IntoIter;
 
-/// What is recorded of a publisher's lanes.
+/// What is recorded of a publisher's lanes, and the voices of those that are to come, if there is a log.
 #[derive(Drop)]
 pub struct Record {
     pub counts: Arc<Counts>,
-    pub log: Option<Log>,
+    pub voices: IntoIter<Voice>,
+}
+
+/// What is followed for this voice: names are for lines alone.
+fn detail_for(voice: &Option<Voice>) -> Detail {
+    if voice.is_some() {
+        Detail::Names
+    } else {
+        Detail::Operations
+    }
 }
 
 /// Reads along with the frames of one lane, and the replies to them.
@@ -27,24 +37,21 @@ pub struct Recorder<R> {
     counts: Arc<Counts>,
     /// The lane's place among those of its publisher.
     lane: usize,
-    log: Option<Log>,
+    voice: Option<Voice>,
     follower: Follower,
 }
 
-impl<R: Clock + Eprint + Drop> Recorder<R> {
-    /// Of the lane at this place.
-    pub fn new(rt: R, alloc: Global, record: &Record, lane: usize) -> io::Result<Recorder<R>> {
-        let log = match &record.log {
-            Some(log) => Some(log.try_clone()?),
-            None => None,
-        };
+impl<R: Clock + Drop> Recorder<R> {
+    /// Of the lane at this place, with the next voice.
+    pub fn new(rt: R, alloc: Global, record: &mut Record, lane: usize) -> io::Result<Recorder<R>> {
+        let voice = record.voices.next();
         Ok(Recorder {
             rt,
             alloc,
             counts: Arc::try_clone(&record.counts)?,
             lane,
-            log,
-            follower: Follower::new(alloc),
+            follower: Follower::new(alloc, detail_for(&voice)),
+            voice,
         })
     }
 
@@ -55,20 +62,13 @@ impl<R: Clock + Eprint + Drop> Recorder<R> {
 
     /// A connection begins, or nothing of the lane is certain any more.
     fn begin(&mut self) {
-        self.follower = Follower::new(self.alloc);
-    }
-
-    /// A frame came.
-    fn note_request(&mut self, peer: u16, frame: &[u8]) {
-        if self.log.is_some() {
-            self.follower.note_request(peer, frame);
-        }
+        self.follower = Follower::new(self.alloc, detail_for(&self.voice));
     }
 
     /// A frame came on a lane that has one at a time.
     pub fn note_lone_request(&mut self, peer: u16, frame: &[u8]) {
         self.follower.forget_unanswered();
-        self.note_request(peer, frame);
+        self.follower.note_request(peer, frame);
     }
 
     /// The moment, in milliseconds since the beginning of 1970; 0 where the clock fails.
@@ -84,15 +84,15 @@ impl<R: Clock + Eprint + Drop> Recorder<R> {
 
     /// A frame of a reply goes. The entry of the change that it ends, where there is a log.
     pub fn note_reply(&mut self, peer: u16, frame: &[u8]) -> Option<Entry> {
-        let answer = ReplySummary::of(frame)?;
-        self.counts.count(answer);
-        if answer.accepts_change() {
+        let followed = self.follower.note_reply(peer, frame)?;
+        self.counts.count(followed.operation, followed.answer.code);
+        if followed.answer.accepts_change() {
             self.counts.set_changed(self.moment());
         }
-        if self.log.is_none() {
+        if self.voice.is_none() {
             return None;
         }
-        self.follower.note_reply(peer, frame)
+        followed.entry
     }
 
     /// The line of an entry: moment, publisher, lane, address, and what the entry says.
@@ -106,22 +106,16 @@ impl<R: Clock + Eprint + Drop> Recorder<R> {
         }
     }
 
-    /// Writes the line of an entry. Where memory for it is refused it is lost.
+    /// Says the line of an entry. Where memory for it is refused it is lost.
     pub fn put(&mut self, from: Option<SocketAddr>, entry: &Entry) {
-        let Ok(line) = self.line_of(from, entry) else {
-            return;
-        };
-        if let Some(log) = &mut self.log {
-            log.put(&self.rt, line.as_str());
+        let line = self.line_of(from, entry);
+        if let Some(voice) = &mut self.voice {
+            match line {
+                Ok(line) => voice.say(line),
+                Err(_) => voice.lose(),
+            }
         }
     }
-}
-
-/// A frame of a lane of datagrams that isn't the oldest under way.
-#[derive(Drop)]
-struct Waiting {
-    peer: u16,
-    frame: Vec<u8>,
 }
 
 /// Reads along with the frames of a lane of datagrams, of which several may be under way: each is followed once it is the oldest, so that it is certain which
@@ -129,13 +123,13 @@ struct Waiting {
 #[derive(Drop)]
 pub struct PacketRecorder<R> {
     recorder: Recorder<R>,
-    /// The frames behind the oldest, where there is a log.
-    waiting: VecDeque<Waiting>,
+    /// What the frames behind the oldest ask; nothing of one for which memory was refused.
+    waiting: VecDeque<Result<Option<UnansweredFrame>, AllocError>>,
     /// Whether the oldest is followed.
     is_busy: bool,
 }
 
-impl<R: Clock + Eprint + Drop> PacketRecorder<R> {
+impl<R: Clock + Drop> PacketRecorder<R> {
     /// Of a lane that got no frame yet.
     pub fn new(recorder: Recorder<R>) -> PacketRecorder<R> {
         let alloc = recorder.alloc;
@@ -148,29 +142,25 @@ impl<R: Clock + Eprint + Drop> PacketRecorder<R> {
 
     /// A frame came.
     pub fn note_request(&mut self, peer: u16, frame: &[u8]) {
-        if self.recorder.log.is_none() {
-            return;
-        }
         if !self.is_busy {
             self.is_busy = true;
             self.recorder.note_lone_request(peer, frame);
-        } else if self.wait(peer, frame).is_err() {
+            return;
+        }
+        let question = self.recorder.follower.question(peer, frame);
+        if self.waiting.push_back(question).is_err() {
             self.recorder.follower.lose();
         }
-    }
-
-    fn wait(&mut self, peer: u16, frame: &[u8]) -> Result<(), AllocError> {
-        let frame = Vec::from_slice(self.recorder.alloc, frame)?;
-        self.waiting.push_back(Waiting { peer, frame })?;
-        Ok(())
     }
 
     /// The reply to the oldest frame is whole, or there is none.
     pub fn end_reply(&mut self) {
         match self.waiting.pop_front() {
-            Some(next) => self
-                .recorder
-                .note_lone_request(next.peer, next.frame.as_slice()),
+            Some(next) => {
+                let follower = &mut self.recorder.follower;
+                follower.forget_unanswered();
+                follower.put(next);
+            }
             None => self.is_busy = false,
         }
     }
@@ -180,7 +170,7 @@ impl<R: Clock + Eprint + Drop> PacketRecorder<R> {
         self.recorder.note_reply(peer, datagram)
     }
 
-    /// Writes the line of an entry. Where memory for it is refused it is lost.
+    /// Says the line of an entry. Where memory for it is refused it is lost.
     pub fn put(&mut self, from: Option<SocketAddr>, entry: &Entry) {
         self.recorder.put(from, entry);
     }
@@ -196,7 +186,7 @@ pub struct StreamRecorder<R> {
     said: Option<Cutter>,
 }
 
-impl<R: Clock + Eprint + Drop> StreamRecorder<R> {
+impl<R: Clock + Drop> StreamRecorder<R> {
     /// Of a lane without a connection.
     pub fn new(recorder: Recorder<R>) -> StreamRecorder<R> {
         StreamRecorder {
@@ -239,7 +229,7 @@ impl<R: Clock + Eprint + Drop> StreamRecorder<R> {
         // each frame ends with one of these octets or behind it
         for _ in 0..octets.len() {
             match cutter.next_frame() {
-                Ok(Some(frame)) => self.recorder.note_request(0, frame.bytes),
+                Ok(Some(frame)) => self.recorder.follower.note_request(0, frame.bytes),
                 _ => break,
             }
         }

@@ -1,0 +1,59 @@
+//! What is looked at before a change is written, and told of it.
+
+use hdl_guardedrows::{Effect, Fate, Guard};
+use hdl_host::{FileChange, FileWatch, Health};
+use std::sync::Arc;
+
+/// Forbids what takes more while memory is short, and everything while the table's file isn't as the server left it.
+#[derive(Drop)]
+pub struct TableGuard {
+    rt: HostRuntime,
+    health: Arc<Health>,
+    /// The table's file, where it has one, and what somebody else had made of it when it was looked at last.
+    file: Option<FileWatch>,
+    change: Option<FileChange>,
+}
+
+impl TableGuard {
+    pub fn new(rt: &HostRuntime, health: Arc<Health>, file: Option<FileWatch>) -> TableGuard {
+        TableGuard {
+            rt: *rt,
+            health,
+            file,
+            change: None,
+        }
+    }
+
+    /// Whether the table's file is as the server left it. What is seen is told.
+    pub fn sees_file(&mut self) -> bool {
+        if let Some(file) = &self.file {
+            self.change = file.change(&self.rt);
+            self.health.see_file(self.change);
+        }
+        self.change.is_none()
+    }
+}
+
+impl Guard for TableGuard {
+    fn permits(&mut self, effect: Effect) -> bool {
+        self.sees_file() && (effect == Effect::Frees || self.health.see_room(self.rt.alloc()))
+    }
+
+    fn note(&mut self, fate: Fate) {
+        if fate == Fate::Forbidden {
+            if self.change.is_none() {
+                self.health.note_refusal();
+            }
+            return;
+        }
+        if let Some(file) = &mut self.file {
+            file.note(&self.rt);
+        }
+        if fate != Fate::Deferred {
+            self.health.note_write(fate == Fate::Made);
+        }
+        if self.health.is_short() {
+            self.health.see_room(self.rt.alloc());
+        }
+    }
+}

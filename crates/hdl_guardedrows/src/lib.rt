@@ -1,0 +1,35 @@
+//! A table whose writes a guard may refuse: the contract of `hdl_rows::Rows`, word for word, over any other table.
+//!
+//! ```text
+//! a write -> Guard::permits ── no ─► refused: the table is as it was
+//!                  └─ yes ─► the table behind ─► Guard::note: its Fate
+//! ```
+//!
+//! [`GuardedRows`] has a table of any kind behind it, and a [`Guard`], which is asked before each write whether it may be made, by its [`Effect`], and told what became of it ([`Fate`]). So a program refuses what
+//! takes more while memory is short, and everything once somebody else has written the table's file; and it hears of a write that failed, as on a full disk. Every look goes to the table as it came.
+//!
+//! A write that the table owes goes on, whatever the guard thinks: its call is made again until it is claimed. Which of the calls that come it is is known by a mark, on which no clause rests:
+//! so a call that found another's write to be settled first isn't told as one that failed.
+//!
+//! It stands on `hdl_rows` and what that speaks of.
+//!
+//! ```rust
+//! // crates/handled/src/serving.rt
+//! let rows = GuardedRows::new(rows, guard);
+//! host_tenants(machine, rt.alloc(), rows, tenants, setting, &mut output)?;
+//! ```
+//!
+//! # Decisions
+//!
+//! - **A modify may free**: where what may take more is refused, the values that it replaces are looked at, and it is made if it has no more octets than they. Who keeps to what it has goes on so.
+//! - **A guard is no part of the contract**: what it refuses is refused as by any table, with everything as it was. So no clause above knows of it.
+#![tactic(auto)]
+
+mod gate;
+mod guard;
+mod guarded;
+mod mark;
+mod sizes;
+
+pub use guard::{Effect, Fate, Guard};
+pub use guarded::GuardedRows;

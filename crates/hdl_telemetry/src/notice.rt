@@ -1,0 +1,48 @@
+//! Lines of a server on standard error, each said once, by a thread of its own.
+
+use std::alloc::{AllocError, Global};
+use std::sync::atomic::AtomicBool;
+use std::sync::atomic::Ordering::SeqCst;
+
+/// A line that is said once. Who raises it waits for nobody: a thread of its own says it.
+#[derive(Drop)]
+pub struct Notice {
+    line: String,
+    is_raised: AtomicBool,
+    is_said: AtomicBool,
+}
+
+impl Notice {
+    /// Of these words, without an LF.
+    pub fn new(alloc: Global, words: &str) -> Result<Notice, AllocError> {
+        Ok(Notice {
+            line: format!(in alloc; "{words}\n")?,
+            is_raised: AtomicBool::new(false),
+            is_said: AtomicBool::new(false),
+        })
+    }
+
+    /// From now on it shall be said.
+    pub fn raise(&self) {
+        self.is_raised.store(true, SeqCst);
+    }
+
+    /// Whether it was raised.
+    pub fn is_raised(&self) -> bool {
+        self.is_raised.load(SeqCst)
+    }
+
+    /// Whether it was raised, and nobody said it.
+    pub fn is_due(&self) -> bool {
+        self.is_raised() && !self.is_said.load(SeqCst)
+    }
+
+    /// Says it on standard error by one call, if it is due. One thread alone does.
+    pub fn say_if_due<R: Eprint>(&self, rt: &R) {
+        if self.is_due() {
+            let line = self.line.as_str();
+            let _ = eprint!(rt; "{line}");
+            self.is_said.store(true, SeqCst);
+        }
+    }
+}
