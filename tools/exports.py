@@ -3,7 +3,8 @@
 A server over a file gets changes from a client; then the file is written as a tenants text. Its lines are compared with those that are made here of what was written, in the order of handles and
 indexes; a server that opens with the text answers every resolution with the same octets; what is written of that one is the same text, octet for octet; and a text that has one publisher's lines alone
 gives its rows alone, with which it answers the same. Then `--publisher`: of three publishers, of whom the first leaves a handle to a list of the second, which leads to a list of the third and back, the first one's export has its rows
-and what these lists lead to, and a server that opens with it answers it as the old one does, changes by each administrator too. Then what no text says, and what is refused, in words. Its last line is 'N passed, M failed', a case counting one."""
+and what these lists lead to, and a server that opens with it answers it as the old one does, changes by each administrator too. Then what no text says, and what is refused, in words; and a text of more octets than standard input
+takes, which is checked, served, exported and read again from files. Its last line is 'N passed, M failed', a case counting one."""
 
 import contextlib
 import itertools
@@ -19,6 +20,8 @@ import servers
 import wire
 
 KEY = b"example-secret"
+# The octets that standard input takes, and a number of handles with values so long that their text has more.
+LIMIT, MANY, LONG = 16_777_216, 9_000, 1_000
 ADMIN, KEPT = 0x0E, 0x0C
 NO_ADMINISTRATOR = 400
 
@@ -273,9 +276,41 @@ def refused(folder):
     yield "lines as they stand", (done.returncode, done.stdout) == (0, b"# a\r\r\n\npublisher acme 2 1\nprefix 10 acme\n")
 
 
+def large(folder):
+    """A text of more octets than standard input takes, from a file: checked, served over a file, exported, and read again."""
+    rows = [(b"0.NA/10", value) for _, value in owner(b"0.NA/10")] + [(b"10/%06d" % number, url(1, b"https://%06d/" % number + b"x" * LONG)) for number in range(MANY)]
+    given = text(["acme"], {"acme": servers.free_ports(1)[0]}, rows)
+    source, file, to = (os.path.join(folder, name) for name in ("large.tenants", "large.db", "again.tenants"))
+    with open(source, "wb") as made:
+        made.write(given)
+    done = handled("check", given)
+    yield "standard input takes no more", len(given) > LIMIT and (done.returncode, done.stderr) == (1, b"input too long\n")
+    done = handled("check", b"", "--text", source)
+    yield "a long text is checked", done.returncode == 0 and b"%d values\n" % len(rows) in done.stdout
+    done = handled("serve", b"", "--text", source, "--table", file, "--turns", "1")
+    yield "a long text is served", done.returncode == 0
+    done = export(b"", "--table", file, "--text", source)
+    with open(to, "wb") as made:
+        made.write(done.stdout)
+    yield "a long text of a long text", done.returncode == 0 and sorted(value_lines(done.stdout)) == sorted(value_lines(given))
+    done = handled("check", b"", "--text", to)
+    yield "it is read again", done.returncode == 0 and b"%d values\n" % len(rows) in done.stdout
+    done = handled("check", b"", "--text", os.path.join(folder, "none"))
+    yield "no text", (done.returncode, done.stdout, done.stderr.splitlines()[1:]) == (1, b"", [b"device fault"]) and done.stderr.startswith(b"text: cannot read ")
+
+
+def value_lines(octets):
+    """The lines of values, with authorities as the server writes them."""
+    return [line.replace(b"0.NA/", b"0.na/") for line in octets.splitlines() if line.startswith(b"value ")]
+
+
+def handled(word, given, *options):
+    return subprocess.run([servers.HANDLED, word, *options], input=given, capture_output=True, timeout=120 * servers.SLOWER, check=False)
+
+
 def main():
-    with tempfile.TemporaryDirectory() as folder:
-        return servers.tally(itertools.chain(exported(folder), moved(folder), refused(folder)))
+    with tempfile.TemporaryDirectory() as folder, tempfile.TemporaryDirectory() as other:
+        return servers.tally(itertools.chain(exported(folder), moved(folder), refused(folder), [] if servers.IS_UNPROVED else large(other)))
 
 
 sys.exit(main())

@@ -1,7 +1,7 @@
 //! The program `handled`: replays a script, or serves over TCP and UDP.
 //!
 //! `handled` and `handled replay` are [`hdl_replay::replay`], handed the standard streams and a table in SQL, in memory.
-//! `handled serve` is [`hdl_host::host_tenants`], handed the tenants text on standard input and such a table, whose handles are kept where they
+//! `handled serve` is [`hdl_host::host_tenants`], handed the tenants text on standard input, or in a file, and such a table, whose handles are kept where they
 //! were read last (hdl_cachedrows). `handled check` says what such a text has, or all of its faults (hdl_check), `handled export` writes a table as such a text (hdl_export). With `--table FILE` both go on over the table in that file (hdl_lastingrows). What is printed, the fault lines and the exit statuses are those of docs/PROTOCOL.md, "The tenants
 //! text and scripts". The command line is hdl_server_options, and what opens, copies and exports tables hdl_tables.
 #![tactic(auto)]
@@ -15,6 +15,7 @@ mod ports;
 mod replaying;
 mod serving;
 mod supervising;
+mod texts;
 
 use checking::check_text;
 use fault::ProgramFault;
@@ -22,8 +23,10 @@ use hdl_cachedrows::LIMIT_DEFAULT;
 use hdl_core::Tenants;
 use hdl_host::{Health, HostFault, Setting};
 use hdl_lastingrows::TableFault;
-use hdl_programs::{Fault, read_input, status_of_words, tenants_of};
-use hdl_server_options::{Invocation, ServeOptions, TableFile, read_options};
+use hdl_programs::{Fault, status_of_words, tenants_of};
+use hdl_server_options::{
+    BoundWord, ExportOptions, Invocation, ServeOptions, TableFile, read_options,
+};
 use hdl_tables::{
     Export, FileWork, TablePath, TabledFault, copy_table, empty_table, has_named, is_new,
     open_served, over_file,
@@ -41,15 +44,7 @@ use std::rt::Clock;
 use std::sync::Arc;
 use std::thread::Threads;
 use supervising::stop;
-
-/// The whole input as a text.
-fn read_text(rt: &HostRuntime) -> Result<String, Fault> {
-    let octets = read_input(rt.alloc(), &mut rt.stdin())?;
-    match String::from_utf8(octets) {
-        Ok(text) => Ok(text),
-        Err(_) => Err(Fault::InputNotUtf8),
-    }
-}
+use texts::{read_text, text_of};
 
 /// Runs the script on standard input over a table in memory, and answers the exit status.
 fn replay_memory<R: Threads + Drop>(rt: &HostRuntime) -> Result<u8, ProgramFault> {
@@ -133,7 +128,18 @@ fn serve_plan<
     }
 }
 
-/// Serves the tenants of the text on standard input, and answers the exit status.
+/// The plan of the text in the file at a path, if one is given, or on standard input. The text is let go once it was read.
+fn plan_in(
+    rt: &HostRuntime,
+    path: Option<String>,
+    setting: Setting,
+    bounds: Vec<BoundWord>,
+) -> Result<Planned, Fault> {
+    let text = text_of(rt, path)?;
+    plan_of(rt, text.as_str(), setting, bounds)
+}
+
+/// Serves the tenants of a text, and answers the exit status.
 fn serve<
     R: Net<Listener = TcpListener, Stream = TcpStream>
         + Threads
@@ -147,6 +153,7 @@ fn serve<
         + 'static,
 >(machine: &R, rt: &HostRuntime, options: ServeOptions) -> Result<u8, ProgramFault> {
     let ServeOptions {
+        text,
         addresses,
         limits,
         supervision,
@@ -156,8 +163,7 @@ fn serve<
     } = options;
     let setting = setting_of(rt, addresses, limits, supervision)?;
     let row_cache = row_cache.unwrap_or(LIMIT_DEFAULT);
-    let text = read_text(rt)?;
-    match plan_of(rt, text.as_str(), setting, bounds)? {
+    match plan_in(rt, text, setting, bounds)? {
         Planned::Plan(plan) => serve_plan(machine, rt, plan, row_cache, table),
         Planned::Refused(status) => Ok(status),
     }
@@ -180,11 +186,15 @@ fn over_unserved<R: Threads + Drop, W: FileWork>(
 fn export_file<R: Threads + Drop>(
     machine: R,
     rt: &HostRuntime,
-    file: &TableFile,
-    publisher: Option<String>,
+    options: ExportOptions,
 ) -> Result<u8, ProgramFault> {
-    let text = read_text(rt)?;
-    export_text(machine, rt, file, text.as_str(), publisher)
+    let ExportOptions {
+        table,
+        text,
+        publisher,
+    } = options;
+    let text = text_of(rt, text)?;
+    export_text(machine, rt, &table, text.as_str(), publisher)
 }
 
 /// Does so with the publishers and prefixes of this text.
@@ -221,9 +231,9 @@ fn replay_file<R: Threads + Drop>(
     Ok(over_unserved(machine, rt, file, script)?)
 }
 
-/// Says what the text on standard input has, or all of its faults, and answers the exit status.
-fn check_input(rt: &HostRuntime) -> Result<u8, ProgramFault> {
-    let text = read_text(rt)?;
+/// Says what a text has, or all of its faults, and answers the exit status.
+fn check_input(rt: &HostRuntime, path: Option<String>) -> Result<u8, ProgramFault> {
+    let text = text_of(rt, path)?;
     Ok(check_text(rt, text.as_str())?)
 }
 
@@ -248,8 +258,8 @@ fn run<
 >(machine: &R, rt: &HostRuntime) -> Result<u8, ProgramFault> {
     match read_options(rt)? {
         Invocation::Ended(status) => Ok(status),
-        Invocation::Check => check_input(rt),
-        Invocation::Export { table, publisher } => export_file(*machine, rt, &table, publisher),
+        Invocation::Check { text } => check_input(rt, text),
+        Invocation::Export(options) => export_file(*machine, rt, options),
         Invocation::Replay { table: None } => replay_memory::<R>(rt),
         Invocation::Replay { table: Some(file) } => replay_file(*machine, rt, &file),
         Invocation::Copy { from, to } => copy_file(rt, from.as_str(), to.as_str()),

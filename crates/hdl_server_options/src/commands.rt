@@ -32,9 +32,20 @@ fn table_args<'a>(alloc: Global, command: Command<'a>) -> Result<Command<'a>, Al
         )
 }
 
+/// The option of a file that the tenants text is in.
+fn text_arg<'a>(alloc: Global) -> Arg<'a> {
+    option(
+        alloc,
+        "text",
+        "FILE",
+        "Reads the tenants text from this file, of any length, in place of standard input",
+    )
+}
+
 fn serve_command<'a>(alloc: Global) -> Result<Command<'a>, AllocError> {
     let command = Command::new(alloc, "serve")
-        .about("Serves the tenants text on standard input over TCP and UDP")
+        .about("Serves the tenants text on standard input, or in a file, over TCP and UDP")
+        .arg(text_arg(alloc))?
         .arg(option(
             alloc,
             "listen",
@@ -154,7 +165,7 @@ fn replay_command<'a>(alloc: Global) -> Result<Command<'a>, AllocError> {
 fn export_command<'a>(alloc: Global) -> Result<Command<'a>, AllocError> {
     Command::new(alloc, "export")
         .about(
-            "Writes the table in a file as a tenants text, with the publishers and prefixes of the one on standard input",
+            "Writes the table in a file as a tenants text, with the publishers and prefixes of the one on standard input, or in a file",
         )
         .arg(option(
             alloc,
@@ -163,6 +174,7 @@ fn export_command<'a>(alloc: Global) -> Result<Command<'a>, AllocError> {
             "The SQLite file of the table, which no server has open",
         )
         .required(true))?
+        .arg(text_arg(alloc))?
         .arg(option(
             alloc,
             "publisher",
@@ -171,10 +183,12 @@ fn export_command<'a>(alloc: Global) -> Result<Command<'a>, AllocError> {
         ))
 }
 
-fn check_command<'a>(alloc: Global) -> Command<'a> {
-    Command::new(alloc, "check").about(
-        "Says what the tenants text on standard input has, or all of its faults, and serves nothing",
-    )
+fn check_command<'a>(alloc: Global) -> Result<Command<'a>, AllocError> {
+    Command::new(alloc, "check")
+        .about(
+            "Says what the tenants text on standard input, or in a file, has, or all of its faults, and serves nothing",
+        )
+        .arg(text_arg(alloc))
 }
 
 /// The command line, before it has commands.
@@ -202,5 +216,5 @@ pub fn command<'a>(alloc: Global) -> Result<Command<'a>, AllocError> {
     let whole = with_command(whole, export_command(alloc))?;
     let whole = with_command(whole, copy_command(alloc))?;
     let whole = with_command(whole, stop_command(alloc))?;
-    with_command(whole, Ok(check_command(alloc)))
+    with_command(whole, check_command(alloc))
 }

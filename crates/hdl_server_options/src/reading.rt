@@ -1,7 +1,7 @@
 //! Reading the command line.
 
 use crate::commands::command;
-use crate::invocation::{Invocation, OptionsFault, TableFile};
+use crate::invocation::{ExportOptions, Invocation, OptionsFault, TableFile};
 use crate::serving::serve_options;
 use crate::unclear::{Unclear, print_unclear};
 use crate::values::{copy_of, required, table_file};
@@ -16,6 +16,12 @@ fn copy_options(alloc: Global, found: &ArgMatches) -> Result<Invocation, Unclear
     Ok(Invocation::Copy { from, to })
 }
 
+/// What is asked for by the words behind `check`.
+fn check_options(alloc: Global, found: &ArgMatches) -> Result<Invocation, Unclear> {
+    let text = copy_of(alloc, found.get_str("text"))?;
+    Ok(Invocation::Check { text })
+}
+
 /// What is asked for by the words behind `stop`.
 fn stop_options(alloc: Global, found: &ArgMatches) -> Result<Invocation, Unclear> {
     let control = required(alloc, found, "control")?;
@@ -25,18 +31,23 @@ fn stop_options(alloc: Global, found: &ArgMatches) -> Result<Invocation, Unclear
 /// What is asked for by the words behind `export`.
 fn export_options(alloc: Global, found: &ArgMatches) -> Result<Invocation, Unclear> {
     let path = required(alloc, found, "table")?;
-    let publisher = copy_of(alloc, found.get_str("publisher"))?;
     let table = TableFile {
         path,
         has_sums: false,
     };
-    Ok(Invocation::Export { table, publisher })
+    let text = copy_of(alloc, found.get_str("text"))?;
+    let publisher = copy_of(alloc, found.get_str("publisher"))?;
+    Ok(Invocation::Export(ExportOptions {
+        table,
+        text,
+        publisher,
+    }))
 }
 
 /// What is asked for by the words that `clap` took.
 fn invocation_of(alloc: Global, matches: &ArgMatches) -> Result<Invocation, Unclear> {
-    if matches.subcommand_matches("check").is_some() {
-        return Ok(Invocation::Check);
+    if let Some(found) = matches.subcommand_matches("check") {
+        return check_options(alloc, found);
     }
     if let Some(found) = matches.subcommand_matches("export") {
         return export_options(alloc, found);

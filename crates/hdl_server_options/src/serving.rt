@@ -132,7 +132,9 @@ pub fn serve_options(alloc: Global, found: &ArgMatches) -> Result<ServeOptions, 
     let supervision = supervision(alloc, found)?;
     let bounds = bound_words(alloc, found.get_strs("bound").unwrap_or(&[]))?;
     let table = table_file(alloc, found)?;
+    let text = copy_of(alloc, found.get_str("text"))?;
     Ok(ServeOptions {
+        text,
         addresses,
         limits: limits(found),
         supervision,
