@@ -181,7 +181,7 @@ fn over_unserved<R: Threads + Drop, W: FileWork>(
     over_file(machine, rt, place_of(file), notices, work)
 }
 
-/// Prints the table in the file as a tenants text, or the part of the publisher of this name, and answers the exit status. The file is opened as
+/// Writes the table in the file as a tenants text, or the part of the publisher of this name, and answers the exit status. The file is opened as
 /// a server's start opens it, but none is made.
 fn export_file<R: Threads + Drop>(
     machine: R,
@@ -192,9 +192,10 @@ fn export_file<R: Threads + Drop>(
         table,
         text,
         publisher,
+        to,
     } = options;
     let text = text_of(rt, text)?;
-    export_text(machine, rt, &table, text.as_str(), publisher)
+    export_text(machine, rt, &table, text.as_str(), &publisher, &to)
 }
 
 /// Does so with the publishers and prefixes of this text.
@@ -203,19 +204,21 @@ fn export_text<R: Threads + Drop>(
     rt: &HostRuntime,
     file: &TableFile,
     text: &str,
-    publisher: Option<String>,
+    publisher: &Option<String>,
+    to: &Option<String>,
 ) -> Result<u8, ProgramFault> {
     if is_new(rt, file.path.as_str()) {
         return Err(ProgramFault::from(TableFault::CannotOpen));
     }
     let tenants = tenants_of(rt.alloc(), text)?;
-    if !has_named(rt, &tenants, &publisher) {
+    if !has_named(rt, &tenants, publisher) {
         return Ok(status_of_words(false));
     }
     let export = Export {
         tenants,
         text,
         publisher,
+        to,
     };
     Ok(over_unserved(machine, rt, file, export)?)
 }

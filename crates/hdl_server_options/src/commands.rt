@@ -171,7 +171,7 @@ fn export_command<'a>(alloc: Global) -> Result<Command<'a>, AllocError> {
             alloc,
             "table",
             "FILE",
-            "The SQLite file of the table, which no server has open",
+            "The SQLite file of the table, or a copy of it, which no server has open",
         )
         .required(true))?
         .arg(text_arg(alloc))?
@@ -180,6 +180,12 @@ fn export_command<'a>(alloc: Global) -> Result<Command<'a>, AllocError> {
             "publisher",
             "NAME",
             "Write the values of this publisher's prefixes alone, and those on which its answers rest",
+        ))?
+        .arg(option(
+            alloc,
+            "to",
+            "NEW",
+            "Write to this new file, for its owner alone, in place of standard output",
         ))
 }
 

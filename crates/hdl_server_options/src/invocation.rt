@@ -65,6 +65,8 @@ pub struct ExportOptions {
     pub text: Option<String>,
     /// Whose part is written. Without one it is the whole table.
     pub publisher: Option<String>,
+    /// The new file that it is written to. Without one it is printed.
+    pub to: Option<String>,
 }
 
 /// What the command line asks for.

@@ -37,10 +37,12 @@ fn export_options(alloc: Global, found: &ArgMatches) -> Result<Invocation, Uncle
     };
     let text = copy_of(alloc, found.get_str("text"))?;
     let publisher = copy_of(alloc, found.get_str("publisher"))?;
+    let to = copy_of(alloc, found.get_str("to"))?;
     Ok(Invocation::Export(ExportOptions {
         table,
         text,
         publisher,
+        to,
     }))
 }
 

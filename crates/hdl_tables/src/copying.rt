@@ -38,13 +38,6 @@ pub enum CopyFault {
     Busy,
 }
 
-impl CopyFault {
-    /// The exit status.
-    pub fn status(&self) -> u8 {
-        4
-    }
-}
-
 impl fmt::Display for CopyFault {
     fn fmt<W: fmt::Write>(&self, f: &mut fmt::Formatter<W>) -> fmt::Result {
         match self {

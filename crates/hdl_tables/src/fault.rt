@@ -1,7 +1,7 @@
 //! Why a run over a table ends with a fault line.
 
 use crate::copying::CopyFault;
-use crate::exporting::status_of;
+use crate::exporting::{WriteFault, status_of};
 use hdl_export::ExportFault;
 use hdl_lastingrows::TableFault;
 use hdl_programs::Fault;
@@ -13,6 +13,8 @@ pub enum TabledFault {
     Run(Fault),
     Table(TableFault),
     Export(ExportFault),
+    /// What is exported can't be written.
+    Write(WriteFault),
     Copy(CopyFault),
 }
 
@@ -22,9 +24,8 @@ impl TabledFault {
         match self {
             TabledFault::Run(fault) => fault.status(),
             TabledFault::Table(TableFault::Memory) => Fault::NoMemory.status(),
-            TabledFault::Table(_) => 4,
             TabledFault::Export(fault) => status_of(fault),
-            TabledFault::Copy(fault) => fault.status(),
+            TabledFault::Table(_) | TabledFault::Write(_) | TabledFault::Copy(_) => 4,
         }
     }
 }
@@ -35,6 +36,7 @@ impl fmt::Display for TabledFault {
             TabledFault::Run(fault) => write!(f, "{fault}"),
             TabledFault::Table(fault) => write!(f, "{fault}"),
             TabledFault::Export(fault) => write!(f, "{fault}"),
+            TabledFault::Write(fault) => write!(f, "{fault}"),
             TabledFault::Copy(fault) => write!(f, "{fault}"),
         }
     }
@@ -55,6 +57,12 @@ impl From<ExportFault> for TabledFault {
 impl From<CopyFault> for TabledFault {
     fn from(fault: CopyFault) -> TabledFault {
         TabledFault::Copy(fault)
+    }
+}
+
+impl From<WriteFault> for TabledFault {
+    fn from(fault: WriteFault) -> TabledFault {
+        TabledFault::Write(fault)
     }
 }
 
