@@ -2,7 +2,8 @@
 //!
 //! `handled` and `handled replay` are [`hdl_replay::replay`], handed the standard streams and a table in SQL, in memory.
 //! `handled serve` is [`hdl_host::host_tenants`], handed the tenants text on standard input, or in a file, and such a table, whose handles are kept where they
-//! were read last (hdl_cachedrows). `handled check` says what such a text has, or all of its faults (hdl_check), `handled export` writes a table as such a text (hdl_export). With `--table FILE` both go on over the table in that file (hdl_lastingrows). What is printed, the fault lines and the exit statuses are those of docs/PROTOCOL.md, "The tenants
+//! were read last (hdl_cachedrows). `handled check` says what such a text has, or all of its faults (hdl_check), `handled export` writes a table as such a text (hdl_export), `handled copy` and
+//! `handled restore` copy its file while it is served and put a copy back. With `--table FILE` both go on over the table in that file (hdl_lastingrows). What is printed, the fault lines and the exit statuses are those of docs/PROTOCOL.md, "The tenants
 //! text and scripts". The command line is hdl_server_options, and what opens, copies and exports tables hdl_tables.
 #![tactic(auto)]
 
@@ -29,7 +30,7 @@ use hdl_server_options::{
 };
 use hdl_tables::{
     Export, FileWork, TablePath, TabledFault, copy_table, empty_table, has_named, is_new,
-    open_served, over_file,
+    not_there, open_served, over_file, restore_table,
 };
 use notices::TableNotices;
 use plan::{Plan, Planned, plan_of, setting_of};
@@ -207,8 +208,9 @@ fn export_text<R: Threads + Drop>(
     publisher: &Option<String>,
     to: &Option<String>,
 ) -> Result<u8, ProgramFault> {
-    if is_new(rt, file.path.as_str()) {
-        return Err(ProgramFault::from(TableFault::CannotOpen));
+    let path = file.path.as_str();
+    if is_new(rt, path) {
+        return Err(ProgramFault::from(not_there(rt, path)));
     }
     let tenants = tenants_of(rt.alloc(), text)?;
     if !has_named(rt, &tenants, publisher) {
@@ -246,6 +248,12 @@ fn copy_file(rt: &HostRuntime, from: &str, to: &str) -> Result<u8, ProgramFault>
     Ok(0)
 }
 
+/// Puts a copy in the place of the table's file, and answers the exit status.
+fn restore_file(rt: &HostRuntime, from: &str, table: &str) -> Result<u8, ProgramFault> {
+    restore_table(rt, from, table)?;
+    Ok(0)
+}
+
 /// Does what the command line asks for, and answers the exit status.
 fn run<
     R: Net<Listener = TcpListener, Stream = TcpStream>
@@ -266,6 +274,7 @@ fn run<
         Invocation::Replay { table: None } => replay_memory::<R>(rt),
         Invocation::Replay { table: Some(file) } => replay_file(*machine, rt, &file),
         Invocation::Copy { from, to } => copy_file(rt, from.as_str(), to.as_str()),
+        Invocation::Restore { from, table } => restore_file(rt, from.as_str(), table.as_str()),
         Invocation::Stop { control } => Ok(stop(rt, control.as_str())),
         Invocation::Serve(options) => serve(machine, rt, options),
     }

@@ -145,6 +145,27 @@ fn copy_command<'a>(alloc: Global) -> Result<Command<'a>, AllocError> {
         .required(true))
 }
 
+fn restore_command<'a>(alloc: Global) -> Result<Command<'a>, AllocError> {
+    Command::new(alloc, "restore")
+        .about(
+            "Checks a copy of a table's file, and puts it in the place of the file, with the owner and the permissions of what it replaces",
+        )
+        .arg(option(
+            alloc,
+            "from",
+            "COPY",
+            "The copy, as `handled copy` makes it",
+        )
+        .required(true))?
+        .arg(option(
+            alloc,
+            "table",
+            "FILE",
+            "The SQLite file of the table, which no server has open; it and its log are replaced",
+        )
+        .required(true))
+}
+
 fn stop_command<'a>(alloc: Global) -> Result<Command<'a>, AllocError> {
     Command::new(alloc, "stop")
         .about("Ends a server in order, and waits until it has ended")
@@ -221,6 +242,7 @@ pub fn command<'a>(alloc: Global) -> Result<Command<'a>, AllocError> {
     let whole = with_command(whole, serve_command(alloc))?;
     let whole = with_command(whole, export_command(alloc))?;
     let whole = with_command(whole, copy_command(alloc))?;
+    let whole = with_command(whole, restore_command(alloc))?;
     let whole = with_command(whole, stop_command(alloc))?;
     with_command(whole, check_command(alloc))
 }

@@ -83,6 +83,11 @@ pub enum Invocation {
         from: String,
         to: String,
     },
+    /// A copy of the table's file is put in its place.
+    Restore {
+        from: String,
+        table: String,
+    },
     /// The server that listens at this socket is asked to end.
     Stop {
         control: String,

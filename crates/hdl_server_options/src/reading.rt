@@ -16,6 +16,13 @@ fn copy_options(alloc: Global, found: &ArgMatches) -> Result<Invocation, Unclear
     Ok(Invocation::Copy { from, to })
 }
 
+/// What is asked for by the words behind `restore`.
+fn restore_options(alloc: Global, found: &ArgMatches) -> Result<Invocation, Unclear> {
+    let from = required(alloc, found, "from")?;
+    let table = required(alloc, found, "table")?;
+    Ok(Invocation::Restore { from, table })
+}
+
 /// What is asked for by the words behind `check`.
 fn check_options(alloc: Global, found: &ArgMatches) -> Result<Invocation, Unclear> {
     let text = copy_of(alloc, found.get_str("text"))?;
@@ -59,6 +66,9 @@ fn invocation_of(alloc: Global, matches: &ArgMatches) -> Result<Invocation, Uncl
     }
     if let Some(found) = matches.subcommand_matches("copy") {
         return copy_options(alloc, found);
+    }
+    if let Some(found) = matches.subcommand_matches("restore") {
+        return restore_options(alloc, found);
     }
     if let Some(found) = matches.subcommand_matches("stop") {
         return stop_options(alloc, found);
