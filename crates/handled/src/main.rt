@@ -18,7 +18,7 @@ mod serving;
 mod supervising;
 mod texts;
 
-use checking::check_text;
+use checking::{check_ports, check_text};
 use fault::ProgramFault;
 use hdl_cachedrows::LIMIT_DEFAULT;
 use hdl_core::Tenants;
@@ -38,7 +38,7 @@ use ports::can_listen;
 use replaying::{ReadScript, replay_input};
 use serving::{serve_memory, serve_table};
 use std::fs::Files;
-use std::net::{Net, TcpListener, TcpStream};
+use std::net::{IpAddr, Net, TcpListener, TcpStream};
 use std::process::ExitCode;
 use std::random::RandomSource;
 use std::rt::Clock;
@@ -236,10 +236,17 @@ fn replay_file<R: Threads + Drop>(
     Ok(over_unserved(machine, rt, file, script)?)
 }
 
-/// Says what a text has, or all of its faults, and answers the exit status.
-fn check_input(rt: &HostRuntime, path: Option<String>) -> Result<u8, ProgramFault> {
+/// Says what a text has, or all of its faults, and which of its ports are taken. Answers the exit status.
+fn check_input(
+    rt: &HostRuntime,
+    path: Option<String>,
+    addresses: &[IpAddr],
+) -> Result<u8, ProgramFault> {
     let text = text_of(rt, path)?;
-    Ok(check_text(rt, text.as_str())?)
+    match check_text(rt, text.as_str())? {
+        0 => Ok(check_ports(rt, text.as_str(), addresses)?),
+        status => Ok(status),
+    }
 }
 
 /// Copies the table's file, and answers the exit status.
@@ -269,7 +276,7 @@ fn run<
 >(machine: &R, rt: &HostRuntime) -> Result<u8, ProgramFault> {
     match read_options(rt)? {
         Invocation::Ended(status) => Ok(status),
-        Invocation::Check { text } => check_input(rt, text),
+        Invocation::Check { text, addresses } => check_input(rt, text, addresses.as_slice()),
         Invocation::Export(options) => export_file(*machine, rt, options),
         Invocation::Replay { table: None } => replay_memory::<R>(rt),
         Invocation::Replay { table: Some(file) } => replay_file(*machine, rt, &file),

@@ -42,17 +42,19 @@ fn text_arg<'a>(alloc: Global) -> Arg<'a> {
     )
 }
 
+/// The option of the addresses at which ports are opened.
+fn listen_arg<'a>(alloc: Global, help: &'a str) -> Arg<'a> {
+    option(alloc, "listen", "ADDRESS", help).action(ArgAction::Append)
+}
+
 fn serve_command<'a>(alloc: Global) -> Result<Command<'a>, AllocError> {
     let command = Command::new(alloc, "serve")
         .about("Serves the tenants text on standard input, or in a file, over TCP and UDP")
         .arg(text_arg(alloc))?
-        .arg(option(
+        .arg(listen_arg(
             alloc,
-            "listen",
-            "ADDRESS",
             "Opens each publisher's port at this IPv4 or IPv6 address, repeated for more; without it on 127.0.0.1",
-        )
-        .action(ArgAction::Append))?;
+        ))?;
     let command = bound_args(alloc, limit_args(alloc, command)?)?;
     table_args(alloc, supervision_args(alloc, command)?)
 }
@@ -213,9 +215,13 @@ fn export_command<'a>(alloc: Global) -> Result<Command<'a>, AllocError> {
 fn check_command<'a>(alloc: Global) -> Result<Command<'a>, AllocError> {
     Command::new(alloc, "check")
         .about(
-            "Says what the tenants text on standard input, or in a file, has, or all of its faults, and serves nothing",
+            "Says what the tenants text on standard input, or in a file, has, or all of its faults, and which ports are taken; serves nothing",
         )
-        .arg(text_arg(alloc))
+        .arg(text_arg(alloc))?
+        .arg(listen_arg(
+            alloc,
+            "Looks at the ports at this IPv4 or IPv6 address, repeated for more; without it on 127.0.0.1",
+        ))
 }
 
 /// The command line, before it has commands.

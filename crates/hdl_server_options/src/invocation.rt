@@ -94,10 +94,11 @@ pub enum Invocation {
     },
     /// The table in a file is written as a tenants text.
     Export(ExportOptions),
-    /// The tenants text is checked.
+    /// The tenants text is checked, and whether its ports can be had at these addresses.
     Check {
         /// The file that it is in. Without one it is on standard input.
         text: Option<String>,
+        addresses: Vec<IpAddr>,
     },
     /// Nothing: help, the version or a fault was printed, and this is the exit status.
     Ended(u8),

@@ -13,7 +13,7 @@
 //! // crates/handled/src/main.rt
 //! match read_options(rt)? {
 //!     Invocation::Ended(status) => Ok(status),
-//!     Invocation::Check { text } => check_input(rt, text),
+//!     Invocation::Check { text, addresses } => check_input(rt, text, addresses.as_slice()),
 //! ```
 #![tactic(auto)]
 

@@ -2,7 +2,7 @@
 
 use crate::commands::command;
 use crate::invocation::{ExportOptions, Invocation, OptionsFault, TableFile};
-use crate::serving::serve_options;
+use crate::serving::{addresses, serve_options};
 use crate::unclear::{Unclear, print_unclear};
 use crate::values::{copy_of, required, table_file};
 use clap::ArgMatches;
@@ -26,7 +26,8 @@ fn restore_options(alloc: Global, found: &ArgMatches) -> Result<Invocation, Uncl
 /// What is asked for by the words behind `check`.
 fn check_options(alloc: Global, found: &ArgMatches) -> Result<Invocation, Unclear> {
     let text = copy_of(alloc, found.get_str("text"))?;
-    Ok(Invocation::Check { text })
+    let addresses = addresses(alloc, found.get_strs("listen").unwrap_or(&[]))?;
+    Ok(Invocation::Check { text, addresses })
 }
 
 /// What is asked for by the words behind `stop`.

@@ -53,7 +53,7 @@ fn addresses_of(alloc: Global, words: &[&str]) -> Result<Vec<IpAddr>, AllocError
 }
 
 /// The addresses behind `--listen`, each of which has to be one.
-fn addresses(alloc: Global, words: &[&str]) -> Result<Vec<IpAddr>, Unclear> {
+pub fn addresses(alloc: Global, words: &[&str]) -> Result<Vec<IpAddr>, Unclear> {
     if let Some(word) = no_address(words) {
         return Err(Unclear::Address(String::from_str(alloc, word)?));
     }
