@@ -342,10 +342,13 @@ bolt: port 2642, 3 connections at a time; prefixes 20
 
 def checks():
     """`handled check` of a text with faults of each kind, of one without, and of one with an index twice."""
-    good = repository.text_of("examples", "serve.tenants")
+    good, has = repository.text_of("examples", "serve.tenants"), TEXT_HAS
+    # a port that is taken would be said
+    for port, free in zip(("2641", "2642"), servers.free_ports(2)):
+        good, has = good.replace(" %s\n" % port, " %d\n" % free), has.replace(port, str(free))
     line = next(line for line in good.splitlines() if line.startswith("value 10/report-7"))
     twice = "tenants: line %d: a value with this index stands above: give each value of a handle an index of its own\n" % (len(good.splitlines()) + 1)
-    for name, text, wanted in (("faults", TEXT_FAULTS, (3, "", TEXT_SAID)), ("none", good, (0, TEXT_HAS, "")), ("twice", good + line + "\n", (3, "", twice))):
+    for name, text, wanted in (("faults", TEXT_FAULTS, (3, "", TEXT_SAID)), ("none", good, (0, has, "")), ("twice", good + line + "\n", (3, "", twice))):
         done = subprocess.run([servers.HANDLED, "check"], input=text, capture_output=True, text=True, check=False, timeout=60 * servers.SLOWER)
         yield "handled check: " + name, (done.returncode, done.stdout, done.stderr) == wanted
 

@@ -2,9 +2,10 @@
 
 Clients change handles without a pause, each by rising numbers, while copies of the table's file are made. Each copy must be whole by sqlite3's own checks, and have of each client the handles
 as they were after one of its changes: not before the last one that was answered as the copy began, and not behind the last one that was asked as it ended. Then one case each: a file that no server has open, what is there
-already, what isn't there. Its last line is 'N passed, M failed', a case counting one."""
+already, what isn't there. Last `handled restore`: a copy in the place of the file of a server, which runs as another user where root tries, and what is refused. Its last line is 'N passed, M failed', a case counting one."""
 
 import contextlib
+import itertools
 import os
 import socket
 import sqlite3
@@ -21,6 +22,8 @@ import servers
 import wire
 
 SECONDS = 5
+# a user who owns nothing here
+OTHER = 65534
 CLIENTS, HANDLES = 3, 5
 KEY, KEY_HANDLE = b"example-secret", b"0.NA/10"
 ADMINISTRATOR = wire.value(100, b"HS_ADMIN", wire.administrator(KEY_HANDLE, 300), 0x0E, 86400)
@@ -158,10 +161,94 @@ def single(folder, file, copied, ports):
     yield "no folder", (done.returncode, done.stderr[:32]) == (4, b"copy: the copy can't be written:")
 
 
+def restore(copied, file, **user):
+    return subprocess.run([servers.HANDLED, "restore", "--from", copied, "--table", file], stdin=subprocess.DEVNULL, stdout=subprocess.PIPE, stderr=subprocess.PIPE, **user)
+
+
+def changed(port, number):
+    """Changes the first handle of the first client."""
+    with servers.Client(port) as client:
+        return client.modify(named(0, 0), [numbered(number)]) == wire.SUCCESS
+
+
+def number_in(port):
+    with servers.Client(port) as client:
+        return int(client.asked(wire.resolution(named(0, 0)))[1].split(b"URL")[1][4:].split(b" ")[0])
+
+
+def owner_and_mode(path):
+    found = os.stat(path)
+    return found.st_uid, found.st_gid, found.st_mode & 0o777
+
+
+def restored(folder):
+    """A copy in the place of a table's file, over which a server of another user starts."""
+    user = {"user": OTHER, "group": OTHER, "extra_groups": []} if servers.can_be(OTHER) else {}
+    own, link = os.path.join(folder, "own"), os.path.join(folder, "link.db")
+    os.mkdir(own, 0o700)
+    os.chmod(folder, 0o755)
+    if user:
+        os.chown(own, OTHER, OTHER)
+    file, copied = os.path.join(own, "table.db"), os.path.join(folder, "kept.db")
+    os.symlink(file, link)
+    process, ports = servers.serve(tenants, 1, options=("--table", file, "--sums"), **user)
+    yield "a change", changed(ports[0], 1)
+    yield "a copy by a link has what is in the log", copy(link, copied).returncode == 0
+    yield "a change after the copy", changed(ports[0], 2)
+    done = restore(copied, file)
+    yield "a restore under a server", (done.returncode, done.stderr[:14]) == (4, b"table: in use:") and number_in(ports[0]) == 2
+    process.kill()
+    process.wait()
+    process.stdout.close()
+    modes = owner_and_mode(file)
+    done = restore(copied, file)
+    yield "a restore", (done.returncode, done.stdout, done.stderr) == (0, b"", b"")
+    yield "it has the owner and the mode of what it replaces, and no log is left", owner_and_mode(file) == modes and os.listdir(own) == ["table.db"]
+    process, ports = servers.serve(tenants, 1, options=("--table", file), **user)
+    yield "a server of that user goes on from the copy", number_in(ports[0]) == 1 and changed(ports[0], 3)
+    servers.end(process)
+    if user:
+        os.chown(file, 0, 0)
+        yield "a file of root's in another user's folder", restore(copied, file).returncode == 0 and owner_and_mode(file) == modes
+        done = restore(copied, os.path.join(folder, "other.db"), **user)
+        yield "a copy that another user has", done.returncode == 4 and done.stderr.startswith(b"restore: the copy can't be read: ")
+        for one in (copied, copied + "-wal"):
+            os.chown(one, OTHER, OTHER)
+        done = restore(copied, os.path.join(folder, "other.db"), **user)
+        yield "another user's folder", done.returncode == 4 and done.stderr.startswith(b"restore: the copy can't be put in its place: ")
+    new = os.path.join(folder, "anew.db")
+    yield "a restore where no file is", restore(copied, new).returncode == 0 and owner_and_mode(new) == (os.getuid(), os.getgid(), 0o600)
+    yield from unrestored(folder, copied, new)
+
+
+def unrestored(folder, copied, file):
+    """What is no copy of a table is refused; the file stays as it was, and nothing is left in its folder."""
+    with open(copied, "rb") as octets, open(file, "rb") as old:
+        whole, before = octets.read(), old.read()
+    bad = os.path.join(folder, "bad.db")
+
+    def refused(done, said):
+        with open(file, "rb") as now:
+            return done.returncode == 4 and done.stderr.startswith(said) and now.read() == before
+
+    for name, octets, said in (("a copy that was cut", whole[:5000], b"damaged"), ("an empty copy", b"", b"another layout"), ("a changed bit", whole[:9000] + bytes([whole[9000] ^ 1]) + whole[9001:], b"damaged")):
+        with open(bad, "wb") as made:
+            made.write(octets)
+        yield name, refused(restore(bad, file), b"restore: the copy isn't taken, and the table stays as it is: table: " + said)
+        yield name + " leaves nothing", not any(left.startswith("anew.db.") for left in os.listdir(folder))
+    yield "no copy", refused(restore(os.path.join(folder, "none.db"), file), b"restore: the copy can't be read: ")
+    yield "a folder as the table", refused(restore(copied, folder), b"table: cannot open: at the path is a folder")
+    with open(file + ".restored", "wb") as left:
+        left.write(b"kept")
+    yield "what another restore left", refused(restore(copied, file), b"restore: beside the table is what a restore left")
+    with open(file + ".restored", "rb") as left:
+        yield "what was left stays", left.read() == b"kept"
+
+
 def main():
     seconds = float(sys.argv[1]) if len(sys.argv) > 1 else SECONDS
-    with tempfile.TemporaryDirectory() as folder:
-        return servers.tally(under_changes(folder, seconds))
+    with tempfile.TemporaryDirectory() as folder, tempfile.TemporaryDirectory() as other:
+        return servers.tally(itertools.chain(under_changes(folder, seconds), restored(other)))
 
 
 sys.exit(main())

@@ -3,11 +3,13 @@
 A server over a file gets changes from a client; then the file is written as a tenants text. Its lines are compared with those that are made here of what was written, in the order of handles and
 indexes; a server that opens with the text answers every resolution with the same octets; what is written of that one is the same text, octet for octet; and a text that has one publisher's lines alone
 gives its rows alone, with which it answers the same. Then `--publisher`: of three publishers, of whom the first leaves a handle to a list of the second, which leads to a list of the third and back, the first one's export has its rows
-and what these lists lead to, and a server that opens with it answers it as the old one does, changes by each administrator too. Then what no text says, and what is refused, in words. Its last line is 'N passed, M failed', a case counting one."""
+and what these lists lead to, and a server that opens with it answers it as the old one does, changes by each administrator too. Then what no text says, and what is refused, in words; and a text of more octets than standard input
+takes, which is checked, served, exported and read again from files; last a new file for its owner alone, of a copy while the server runs. Its last line is 'N passed, M failed', a case counting one."""
 
 import contextlib
 import itertools
 import os
+import resource
 import struct
 import subprocess
 import sys
@@ -19,6 +21,10 @@ import servers
 import wire
 
 KEY = b"example-secret"
+# The octets that standard input takes, and a number of handles with values so long that their text has more.
+LIMIT, MANY, LONG = 16_777_216, 9_000, 1_000
+# The octets of which a file may have more than any log that an export leaves, and less than such a text.
+ROOM = 1_000_000
 ADMIN, KEPT = 0x0E, 0x0C
 NO_ADMINISTRATOR = 400
 
@@ -273,9 +279,66 @@ def refused(folder):
     yield "lines as they stand", (done.returncode, done.stdout) == (0, b"# a\r\r\n\npublisher acme 2 1\nprefix 10 acme\n")
 
 
+def large(folder):
+    """A text of more octets than standard input takes, from a file: checked, served over a file, exported, and read again."""
+    rows = [(b"0.NA/10", value) for _, value in owner(b"0.NA/10")] + [(b"10/%06d" % number, url(1, b"https://%06d/" % number + b"x" * LONG)) for number in range(MANY)]
+    given = text(["acme"], {"acme": servers.free_ports(1)[0]}, rows)
+    source, file, to = (os.path.join(folder, name) for name in ("large.tenants", "large.db", "again.tenants"))
+    with open(source, "wb") as made:
+        made.write(given)
+    done = handled("check", given)
+    yield "standard input takes no more", len(given) > LIMIT and (done.returncode, done.stderr) == (1, b"input too long\n")
+    done = handled("check", b"", "--text", source)
+    yield "a long text is checked", done.returncode == 0 and b"%d values\n" % len(rows) in done.stdout
+    done = handled("serve", b"", "--text", source, "--table", file, "--turns", "1")
+    yield "a long text is served", done.returncode == 0
+    done = handled("export", b"", "--table", file, "--text", source, "--to", to, restore_signals=False, preexec_fn=lambda: resource.setrlimit(resource.RLIMIT_FSIZE, (ROOM, ROOM)))
+    yield "a text that isn't written whole is none", done.returncode == 4 and b"export: the text can't be written: " in done.stderr and not os.path.exists(to)
+    done = export(b"", "--table", file, "--text", source, "--to", to)
+    with open(to, "rb") as made:
+        again = made.read()
+    yield "a long text of a long text", (done.returncode, done.stdout) == (0, b"") and sorted(value_lines(again)) == sorted(value_lines(given))
+    yield "how long it is is said", done.stderr == b"export: the text has %d octets, and standard input takes %d at most: hand it to handled by --text FILE\n" % (len(again), LIMIT)
+    done = handled("check", b"", "--text", to)
+    yield "it is read again", done.returncode == 0 and b"%d values\n" % len(rows) in done.stdout
+    done = handled("check", b"", "--text", os.path.join(folder, "none"))
+    yield "no text", (done.returncode, done.stdout, done.stderr.splitlines()[1:]) == (1, b"", [b"device fault"]) and done.stderr.startswith(b"text: cannot read ")
+
+
+def written(folder):
+    """A new file for its owner alone; what no text says is said before anything is written; a copy is exported while the server runs."""
+    one, file, copied, to = ("acme",), *(os.path.join(folder, name) for name in ("table.db", "copy.db", "whole.tenants"))
+    with serving(one, lambda ports: text(one, ports, owner(b"0.NA/10")), "--table", file) as ports:
+        given = text(one, ports, owner(b"0.NA/10"))
+        yield "a handle that no text says", write(ports, UNSAYABLE[:1])
+        yield "a table that is served", export(given, "--table", file).returncode == 4
+        yield "a copy while the server runs", handled("copy", b"", "--table", file, "--to", copied).returncode == 0
+        printed = export(given, "--table", copied)
+        said = b"export: left out, since no tenants text says them: 0 handles without a value, 1 with a space or a line feed in the name\n"
+        yield "what is left out is said", (printed.returncode, printed.stderr) == (5, said) and printed.stdout.startswith(b"#")
+        done = handled("export", given, "--table", copied, "--to", to, preexec_fn=lambda: os.umask(0))
+        with open(to, "rb") as octets:
+            yield "a file for its owner alone", (done.returncode, done.stdout, done.stderr, octets.read(), os.stat(to).st_mode & 0o777) == (5, b"", said, printed.stdout, 0o600)
+        done = export(given, "--table", copied, "--to", to)
+        with open(to, "rb") as octets:
+            yield "a file that is there stays", (done.returncode, done.stderr, octets.read()) == (4, said + b"export: there is a file at the path of --to: move it away, or name another path\n", printed.stdout)
+        with open("/dev/full", "wb") as full:
+            done = subprocess.run([servers.HANDLED, "export", "--table", copied], input=given, stdout=full, stderr=subprocess.PIPE, timeout=120 * servers.SLOWER, check=False)
+        yield "what is left out is said before a line is written", (done.returncode, done.stderr) == (1, said + b"device fault\n")
+
+
+def value_lines(octets):
+    """The lines of values, with authorities as the server writes them."""
+    return [line.replace(b"0.NA/", b"0.na/") for line in octets.splitlines() if line.startswith(b"value ")]
+
+
+def handled(word, given, *options, **how):
+    return subprocess.run([servers.HANDLED, word, *options], input=given, capture_output=True, timeout=120 * servers.SLOWER, check=False, **how)
+
+
 def main():
-    with tempfile.TemporaryDirectory() as folder:
-        return servers.tally(itertools.chain(exported(folder), moved(folder), refused(folder)))
+    with tempfile.TemporaryDirectory() as folder, tempfile.TemporaryDirectory() as other:
+        return servers.tally(itertools.chain(exported(folder), moved(folder), refused(folder), [] if servers.IS_UNPROVED else large(other), written(other)))
 
 
 sys.exit(main())

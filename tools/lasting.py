@@ -31,6 +31,8 @@ ROUNDS, SEED = 20, 1
 CLIENTS = 3
 # How many handles a round looks at; the last one looks at all.
 LOOKED = 200
+# A user who owns nothing here.
+OTHER = 65534
 KEY, KEY_HANDLE, KEY_INDEX = b"example-secret", b"0.NA/10", 300
 ADMINISTRATOR = wire.value(100, b"HS_ADMIN", wire.administrator(KEY_HANDLE, KEY_INDEX), 0x0E, 86400)
 
@@ -214,9 +216,9 @@ def named(folder):
     return [changed and found == b"kept", files == [["acme's table", "acme's table-wal"], []]]
 
 
-def run(words, text):
+def run(words, text, **user):
     try:
-        ended = subprocess.run([servers.HANDLED, *words], input=text, capture_output=True, timeout=60 * servers.SLOWER, check=False)
+        ended = subprocess.run([servers.HANDLED, *words], input=text, capture_output=True, timeout=60 * servers.SLOWER, check=False, **user)
     except subprocess.TimeoutExpired:
         return -1, b"", b"it didn't end"
     return ended.returncode, ended.stdout, ended.stderr
@@ -237,10 +239,10 @@ def sum_of(file):
         return hashlib.sha256(octets.read()).digest()
 
 
-def refused(file, line, text=None):
+def refused(file, line, **user):
     """Whether a start over this file says so with status 4, prints nothing, and leaves the file as it was."""
     before = sum_of(file) if os.path.isfile(file) else None
-    status, said, fault = run(["serve", "--table", file], text or tenants(servers.free_ports(1)[0]))
+    status, said, fault = run(["serve", "--table", file], tenants(servers.free_ports(1)[0]), **user)
     after = sum_of(file) if os.path.isfile(file) else None
     good = status == 4 and not said and fault.startswith(b"table: " + line) and before == after
     if not good:
@@ -280,9 +282,55 @@ def faults(folder):
         refused(table(folder, "name.db", "UPDATE entries SET idx = idx + 4294967296"), b"unsound row"),
         refused(table(folder, "authority.db", "UPDATE handles SET authority = cast('11' as blob)"), b"unsound row"),
         refused(table(folder, "kind.db", "UPDATE entries SET ttl = cast('long' as blob)"), b"unsound row"),
-        refused(folder, b"cannot open"),
-        refused(os.path.join(folder, "none", "table.db"), b"cannot open"),
-        refused(":memory:", b"cannot open"),
+        refused(folder, b"cannot open: at the path is a folder"),
+        refused(os.path.join(folder, "none", "table.db"), b"cannot open: the file isn't there, nor is its folder"),
+        refused(":memory:", b"cannot open: the path names no file"),
+        refused(linked(folder), b"cannot open: the file has 2 names"),
+        refused(beside_a_link(folder), b"cannot open: beside the file, with -wal at the end, is a link"),
+        refused(with_a_journal(folder), b"cannot open: SQLite left a journal"),
+        *not_permitted(folder),
+    ]
+
+
+def linked(folder):
+    """A file that has a second name."""
+    file = table(folder, "names.db")
+    os.link(file, file + ".too")
+    return file
+
+
+def beside_a_link(folder):
+    """A file whose log is a link."""
+    file = table(folder, "link.db")
+    with contextlib.suppress(FileNotFoundError):
+        os.remove(file + "-wal")
+    os.symlink("elsewhere", file + "-wal")
+    return file
+
+
+def with_a_journal(folder):
+    """A file with what SQLite leaves of a change that was cut off."""
+    file = table(folder, "journal.db")
+    with open(file + "-journal", "wb") as octets:
+        octets.write(b"\xd9\xd5\x05\xf9\x20\xa1\x63\xd7" + bytes(504))
+    return file
+
+
+def not_permitted(folder):
+    """What another user than the file's, or the folder's, hears; only root can try."""
+    if not servers.can_be(OTHER):
+        return []
+    own, others = os.path.join(folder, "own"), os.path.join(folder, "others")
+    for one in (own, others):
+        os.mkdir(one)
+    os.chmod(folder, 0o755)
+    os.chown(own, OTHER, OTHER)
+    file = table(own, "root.db")
+    user = {"user": OTHER, "group": OTHER, "extra_groups": []}
+    return [
+        refused(file, b"cannot open: the file may not be read and written: it belongs to user 0 with mode 0600, and this program is user %d" % OTHER, **user),
+        refused(os.path.join(others, "new.db"), b"cannot open: no file can be made in the folder: it belongs to user 0", **user),
+        sorted(os.listdir(others)) == [],
     ]
 
 

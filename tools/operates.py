@@ -2,8 +2,9 @@
 
 The blocks are taken from the page, so that page and trial can't part; ports are replaced by free ones. Behind a block that starts servers it waits until they listen. What each block prints, and what the servers hold then, is
 compared with what the page leads one to expect: the secrets of three departments create, change and list, the copy that was restored has what was there, the fourth department serves, the moved one answers as before, and
-the text of the whole table has every handle. Its last line is 'N passed, M failed', a case counting one."""
+the text of the whole table has every handle. After the move a fifth department is added, and all serve. Before the day a port that is given twice, or taken, is told. Its last line is 'N passed, M failed', a case counting one."""
 
+import itertools
 import os
 import re
 import shutil
@@ -21,6 +22,23 @@ SECTION = "## A day, from an empty folder\n"
 # the ports of the page: those of publishers, the one of the status page, and those that a text gets when a publisher moves
 PORTS = (2641, 2642, 2643, 2644, 9100)
 MOVED = (3641, 3642, 3643, 3644)
+# the port of a department that the page doesn't have
+FIFTH = 2645
+# What is done after the move: a fifth department, first with a port that the moved one has.
+ADDED = """\
+cp publishers.words fifth.words
+hdl init 50 | grep --invert-match '^#' >> fifth.words
+hdl tenants < fifth.words > fifth.tenants
+echo "-- check"
+handled check < fifth.tenants 2>&1 || echo "status $?"
+sed -i 's/^\\(publisher 50 .*\\) %(first)d$/\\1 %(fifth)d/' fifth.words
+hdl tenants < fifth.words > publishers.tenants
+handled stop --control control
+handled serve --table handles.db --log changes.log --control control --text publishers.tenants < /dev/null &
+listens %(second)d %(fifth)d
+asked resolve 0.NA/50 --type URL --server 127.0.0.1:%(fifth)d
+asked resolve 10/report-8 --type URL --server 127.0.0.1:%(first)d
+"""
 
 # the words that the page uses: what `hdl init` writes has the ports of the trial, and a request without a server goes to the first one's
 WORDS = {
@@ -70,8 +88,8 @@ def script(ports):
         "First handles": "asked list 10 --key 300:0.NA/10 --server 127.0.0.1:%d" % first,
         "Restore": "listens %d\nasked resolve 10/report-7 --type URL --server 127.0.0.1:%d\nasked list 10 --key 300:0.NA/10 --server 127.0.0.1:%d" % (third, first, first),
         "A fourth department": "listens %d\nasked resolve 0.NA/40 --type URL --server 127.0.0.1:%d\nasked resolve 10/report-8 --type URL --server 127.0.0.1:%d" % (fourth, fourth, first),
-        "A department moves": "listens %d %d\nasked resolve 10/report-7 --type URL --server 127.0.0.1:%d\nasked list 10 --key 300:0.NA/10 --server 127.0.0.1:%d\nasked resolve 20/none --server 127.0.0.1:%d"
-        % (first, second, first, first, second),
+        "A department moves": "listens %d %d\nasked resolve 10/report-7 --type URL --server 127.0.0.1:%d\nasked list 10 --key 300:0.NA/10 --server 127.0.0.1:%d\nasked resolve 20/none --server 127.0.0.1:%d\n%s"
+        % (first, second, first, first, second, ADDED % {"first": first, "second": second, "fifth": ports[FIFTH]}),
     }
     for name, lines in blocks():
         words += ["echo '== %s'" % name, moved_ports(replaced(lines, ports), ports), asks.get(name, "")]
@@ -84,7 +102,7 @@ def moved_ports(lines, ports):
         return lines
     changed = []
     for line in lines.splitlines():
-        found = re.match(r"sed -i .* (\S+\.tenants)$", line)
+        found = re.match(r"sed -i .* (\S+\.(?:tenants|words))$", line)
         if found:
             kept = "10" if found[1] == "moved.tenants" else None
             pairs = [pair for pair in zip(PORTS, MOVED) if (pair[0] != PORTS[0]) == (kept is not None)]
@@ -100,7 +118,7 @@ def said(output):
 
 
 def day(folder):
-    ports = dict(zip(PORTS + MOVED, servers.free_ports(len(PORTS) + len(MOVED))))
+    ports = dict(zip((*PORTS, *MOVED, FIFTH), servers.free_ports(len(PORTS) + len(MOVED) + 1)))
     with open(os.path.join(folder, "day"), "w", encoding="utf-8") as file:
         file.write(script(ports))
     work, words = os.path.join(folder, "work"), os.path.join(folder, "words")
@@ -139,11 +157,14 @@ def compared(parts, ports, work):
     yield "the copy restored", has(parts, "Restore", "https://example.org/moved\n", "10/report-7\n10/report-8\n")
     yield "a fourth department", has(parts, "A fourth department", "40 127.0.0.1:%d\n" % ports[PORTS[3]], "https://example.org/report-8\n", "begins: publishers 4")
     yield "a department moved", has(parts, "A department moves", "10 127.0.0.1:%d\n" % ports[PORTS[0]], "https://example.org/moved\n", "10/report-7\n10/report-8\n", "100")
+    taken = "check: 127.0.0.1:%d of 50 is taken now, by a server that runs or by another program: a start needs it free\n" % ports[PORTS[0]]
+    yield "a fifth department can't have the port of the one that moved", has(parts, "A department moves", taken) and "have one port" not in parts["A department moves"]
+    yield "a fifth department", has(parts, "A department moves", "50 127.0.0.1:%d\n" % ports[FIFTH], "begins: publishers 5", "https://example.org/report-8\n")
     yield "servers end in order", has(parts, "End", "handled: ends: ")
     yield "a damaged file", has(parts, "A file that is damaged", "table: damaged", "status 4\n")
     with open(os.path.join(work, "whole.tenants"), encoding="utf-8") as text:
         handles = {line.split()[1] for line in text if line.startswith("value ")}
-    yield "the whole table as a text", handles == {"0.na/10", "0.na/20", "0.na/30", "0.na/40", "10/report-7", "10/report-8"}
+    yield "the whole table as a text", handles == {"0.na/10", "0.na/20", "0.na/30", "0.na/40", "0.na/50", "10/report-7", "10/report-8"}
     with open(os.path.join(work, "moved.tenants"), encoding="utf-8") as text:
         handles = {line.split()[1] for line in text if line.startswith("value ")}
     yield "the text of the department that moved", handles == {"0.na/10", "10/report-7", "10/report-8"}
@@ -153,10 +174,38 @@ def compared(parts, ports, work):
     yield "what holds secrets is its owner's alone", set(modes.values()) == {0o600}
 
 
+def ran(words, text=""):
+    done = subprocess.run([servers.HANDLED, *words], input=text, capture_output=True, text=True, timeout=60 * servers.SLOWER, check=False)
+    return done.returncode, done.stdout, done.stderr
+
+
+def texts(*departments):
+    return "".join("publisher %s 2 %d\nprefix %s %s\n" % (name, port, name, name) for name, port in departments)
+
+
+def departments():
+    """A port that is given twice or taken is told before a start."""
+    first, second, third = servers.free_ports(3)
+    status, printed, fault = ran(["check"], texts(("10", first), ("20", second), ("50", third)))
+    yield "ports that can be had", (status, fault) == (0, "") and "50: port %d" % third in printed
+    twice = texts(("10", first), ("20", second), ("50", first))
+    said = "tenants: 10 and 50 have one port, %d: give one of them another\n" % first
+    status, _, fault = ran(["check"], twice)
+    yield "check tells a port that is given twice", (status, fault) == (3, said)
+    yield "a server doesn't start with one", ran(["serve", "--turns", "1"], twice) == (3, "", said)
+    with servers.serving(lambda *ports: texts(("10", ports[0])).encode(), 1) as ports:
+        status, printed, fault = ran(["check"], texts(("10", ports[0]), ("20", second)))
+        yield "check tells a port that is taken", status == 0 and "20: port" in printed and fault.startswith("check: 127.0.0.1:%d of 10 is taken now" % ports[0]) and fault.count("\n") == 1
+        status, _, fault = ran(["check", "--listen", "127.0.0.2"], texts(("10", ports[0])))
+        yield "another address has the port free", (status, fault) == (0, "")
+        status, printed, fault = ran(["serve", "--turns", "1"], texts(("20", second), ("10", ports[0])))
+        yield "one port that can't be had, and no publisher is served", status == 1 and "127.0.0.1:%d" % ports[0] in fault and not printed
+
+
 def main():
     folder = tempfile.mkdtemp()
     try:
-        return servers.tally(day(folder))
+        return servers.tally(itertools.chain(departments(), day(folder)))
     finally:
         shutil.rmtree(folder)
 

@@ -32,6 +32,14 @@ def tally(cases, words="not as it should be"):
     return 1 if failed else 0
 
 
+def can_be(user):
+    """Whether the program can be run as another user here: only root can do so, and only where that user reaches the program."""
+    try:
+        return os.geteuid() == 0 and subprocess.run([HANDLED, "--version"], user=user, group=user, extra_groups=[], capture_output=True, check=False).returncode == 0
+    except OSError:
+        return False
+
+
 def free_ports(count):
     """Ports that are free, as far as is known."""
     listeners = [socket.create_server(("127.0.0.1", 0)) for _ in range(count)]

@@ -1,7 +1,9 @@
 //! Checking a tenants text before it is served.
 
+use crate::ports::{say_shared, say_taken};
 use hdl_check::{Report, check};
-use hdl_programs::{Fault, put_all};
+use hdl_programs::{Fault, put_all, tenants_of};
+use std::net::IpAddr;
 
 /// The exit status of a text with faults, as where it is served.
 const FAULTY: u8 = 3;
@@ -22,4 +24,14 @@ pub fn check_text(rt: &HostRuntime, text: &str) -> Result<u8, Fault> {
             Ok(FAULTY)
         }
     }
+}
+
+/// Says on standard error which publishers of an accepted text have one port, and which ports can't be had now; answers the exit status.
+pub fn check_ports(rt: &HostRuntime, text: &str, addresses: &[IpAddr]) -> Result<u8, Fault> {
+    let tenants = tenants_of(rt.alloc(), text)?;
+    if say_shared(rt, &tenants) {
+        return Ok(FAULTY);
+    }
+    say_taken(rt, rt.alloc(), &tenants, addresses)?;
+    Ok(0)
 }

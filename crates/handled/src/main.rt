@@ -1,8 +1,9 @@
 //! The program `handled`: replays a script, or serves over TCP and UDP.
 //!
 //! `handled` and `handled replay` are [`hdl_replay::replay`], handed the standard streams and a table in SQL, in memory.
-//! `handled serve` is [`hdl_host::host_tenants`], handed the tenants text on standard input and such a table, whose handles are kept where they
-//! were read last (hdl_cachedrows). `handled check` says what such a text has, or all of its faults (hdl_check), `handled export` writes a table as such a text (hdl_export). With `--table FILE` both go on over the table in that file (hdl_lastingrows). What is printed, the fault lines and the exit statuses are those of docs/PROTOCOL.md, "The tenants
+//! `handled serve` is [`hdl_host::host_tenants`], handed the tenants text on standard input, or in a file, and such a table, whose handles are kept where they
+//! were read last (hdl_cachedrows). `handled check` says what such a text has, or all of its faults (hdl_check), `handled export` writes a table as such a text (hdl_export), `handled copy` and
+//! `handled restore` copy its file while it is served and put a copy back. With `--table FILE` both go on over the table in that file (hdl_lastingrows). What is printed, the fault lines and the exit statuses are those of docs/PROTOCOL.md, "The tenants
 //! text and scripts". The command line is hdl_server_options, and what opens, copies and exports tables hdl_tables.
 #![tactic(auto)]
 
@@ -17,18 +18,21 @@ mod ports;
 mod replaying;
 mod serving;
 mod supervising;
+mod texts;
 
-use checking::check_text;
+use checking::{check_ports, check_text};
 use fault::ProgramFault;
 use hdl_cachedrows::LIMIT_DEFAULT;
 use hdl_core::Tenants;
 use hdl_host::{Health, HostFault, Setting};
 use hdl_lastingrows::TableFault;
-use hdl_programs::{Fault, read_input, status_of_words, tenants_of};
-use hdl_server_options::{Invocation, ServeOptions, TableFile, read_options};
+use hdl_programs::{Fault, status_of_words, tenants_of};
+use hdl_server_options::{
+    BoundWord, ExportOptions, Invocation, ServeOptions, TableFile, read_options,
+};
 use hdl_tables::{
     Export, FileWork, TablePath, TabledFault, copy_table, empty_table, has_named, is_new,
-    open_served, over_file,
+    not_there, open_served, over_file, restore_table,
 };
 use notices::TableNotices;
 use plan::{Plan, Planned, plan_of, setting_of};
@@ -36,22 +40,14 @@ use ports::can_listen;
 use replaying::{ReadScript, replay_input};
 use serving::{serve_memory, serve_table};
 use std::fs::Files;
-use std::net::{Net, TcpListener, TcpStream};
+use std::net::{IpAddr, Net, TcpListener, TcpStream};
 use std::process::ExitCode;
 use std::random::RandomSource;
 use std::rt::Clock;
 use std::sync::Arc;
 use std::thread::Threads;
 use supervising::stop;
-
-/// The whole input as a text.
-fn read_text(rt: &HostRuntime) -> Result<String, Fault> {
-    let octets = read_input(rt.alloc(), &mut rt.stdin())?;
-    match String::from_utf8(octets) {
-        Ok(text) => Ok(text),
-        Err(_) => Err(Fault::InputNotUtf8),
-    }
-}
+use texts::{read_text, text_of};
 
 /// Runs the script on standard input over a table in memory, and answers the exit status.
 fn replay_memory<R: Threads + Drop>(rt: &HostRuntime) -> Result<u8, ProgramFault> {
@@ -135,7 +131,18 @@ fn serve_plan<
     }
 }
 
-/// Serves the tenants of the text on standard input, and answers the exit status.
+/// The plan of the text in the file at a path, if one is given, or on standard input. The text is let go once it was read.
+fn plan_in(
+    rt: &HostRuntime,
+    path: Option<String>,
+    setting: Setting,
+    bounds: Vec<BoundWord>,
+) -> Result<Planned, Fault> {
+    let text = text_of(rt, path)?;
+    plan_of(rt, text.as_str(), setting, bounds)
+}
+
+/// Serves the tenants of a text, and answers the exit status.
 fn serve<
     R: Net<Listener = TcpListener, Stream = TcpStream>
         + Threads
@@ -149,6 +156,7 @@ fn serve<
         + 'static,
 >(machine: &R, rt: &HostRuntime, options: ServeOptions) -> Result<u8, ProgramFault> {
     let ServeOptions {
+        text,
         addresses,
         limits,
         supervision,
@@ -158,8 +166,7 @@ fn serve<
     } = options;
     let setting = setting_of(rt, addresses, limits, supervision)?;
     let row_cache = row_cache.unwrap_or(LIMIT_DEFAULT);
-    let text = read_text(rt)?;
-    match plan_of(rt, text.as_str(), setting, bounds)? {
+    match plan_in(rt, text, setting, bounds)? {
         Planned::Plan(plan) => serve_plan(machine, rt, plan, row_cache, table),
         Planned::Refused(status) => Ok(status),
     }
@@ -184,16 +191,21 @@ fn over_unserved<R: Threads + Drop, W: FileWork>(
     done
 }
 
-/// Prints the table in the file as a tenants text, or the part of the publisher of this name, and answers the exit status. The file is opened as
+/// Writes the table in the file as a tenants text, or the part of the publisher of this name, and answers the exit status. The file is opened as
 /// a server's start opens it, but none is made.
 fn export_file<R: Threads + Drop>(
     machine: R,
     rt: &HostRuntime,
-    file: &TableFile,
-    publisher: Option<String>,
+    options: ExportOptions,
 ) -> Result<u8, ProgramFault> {
-    let text = read_text(rt)?;
-    export_text(machine, rt, file, text.as_str(), publisher)
+    let ExportOptions {
+        table,
+        text,
+        publisher,
+        to,
+    } = options;
+    let text = text_of(rt, text)?;
+    export_text(machine, rt, &table, text.as_str(), &publisher, &to)
 }
 
 /// Does so with the publishers and prefixes of this text.
@@ -202,19 +214,22 @@ fn export_text<R: Threads + Drop>(
     rt: &HostRuntime,
     file: &TableFile,
     text: &str,
-    publisher: Option<String>,
+    publisher: &Option<String>,
+    to: &Option<String>,
 ) -> Result<u8, ProgramFault> {
-    if is_new(rt, file.path.as_str()) {
-        return Err(ProgramFault::from(TableFault::CannotOpen));
+    let path = file.path.as_str();
+    if is_new(rt, path) {
+        return Err(ProgramFault::from(not_there(rt, path)));
     }
     let tenants = tenants_of(rt.alloc(), text)?;
-    if !has_named(rt, &tenants, &publisher) {
+    if !has_named(rt, &tenants, publisher) {
         return Ok(status_of_words(false));
     }
     let export = Export {
         tenants,
         text,
         publisher,
+        to,
     };
     Ok(over_unserved(machine, rt, file, export)?)
 }
@@ -230,15 +245,28 @@ fn replay_file<R: Threads + Drop>(
     Ok(over_unserved(machine, rt, file, script)?)
 }
 
-/// Says what the text on standard input has, or all of its faults, and answers the exit status.
-fn check_input(rt: &HostRuntime) -> Result<u8, ProgramFault> {
-    let text = read_text(rt)?;
-    Ok(check_text(rt, text.as_str())?)
+/// Says what a text has, or all of its faults, and which of its ports are taken. Answers the exit status.
+fn check_input(
+    rt: &HostRuntime,
+    path: Option<String>,
+    addresses: &[IpAddr],
+) -> Result<u8, ProgramFault> {
+    let text = text_of(rt, path)?;
+    match check_text(rt, text.as_str())? {
+        0 => Ok(check_ports(rt, text.as_str(), addresses)?),
+        status => Ok(status),
+    }
 }
 
 /// Copies the table's file, and answers the exit status.
 fn copy_file(rt: &HostRuntime, from: &str, to: &str) -> Result<u8, ProgramFault> {
     copy_table(rt, from, to)?;
+    Ok(0)
+}
+
+/// Puts a copy in the place of the table's file, and answers the exit status.
+fn restore_file(rt: &HostRuntime, from: &str, table: &str) -> Result<u8, ProgramFault> {
+    restore_table(rt, from, table)?;
     Ok(0)
 }
 
@@ -257,11 +285,12 @@ fn run<
 >(machine: &R, rt: &HostRuntime) -> Result<u8, ProgramFault> {
     match read_options(rt)? {
         Invocation::Ended(status) => Ok(status),
-        Invocation::Check => check_input(rt),
-        Invocation::Export { table, publisher } => export_file(*machine, rt, &table, publisher),
+        Invocation::Check { text, addresses } => check_input(rt, text, addresses.as_slice()),
+        Invocation::Export(options) => export_file(*machine, rt, options),
         Invocation::Replay { table: None } => replay_memory::<R>(rt),
         Invocation::Replay { table: Some(file) } => replay_file(*machine, rt, &file),
         Invocation::Copy { from, to } => copy_file(rt, from.as_str(), to.as_str()),
+        Invocation::Restore { from, table } => restore_file(rt, from.as_str(), table.as_str()),
         Invocation::Stop { control } => Ok(stop(rt, control.as_str())),
         Invocation::Serve(options) => serve(machine, rt, options),
     }

@@ -1,6 +1,7 @@
 //! Whom the program serves, and in which setting.
 
 use crate::bounds::bounds_of;
+use crate::ports::say_shared;
 use crate::supervising::log_at;
 use hdl_core::Tenants;
 use hdl_host::{Health, Limits, Setting, Supervision, notices_of};
@@ -8,6 +9,9 @@ use hdl_programs::{Fault, tenants_of};
 use hdl_server_options::{BoundWord, LimitOptions, SupervisionOptions};
 use std::net::IpAddr;
 use std::sync::Arc;
+
+/// The exit status where two publishers have one port, as of a faulty text.
+const SHARED: u8 = 3;
 
 /// Whom is served, and in which setting.
 ///
@@ -101,7 +105,7 @@ pub fn setting_of(
     })
 }
 
-/// The plan that a text, a setting and the words of bounds make. Where a word is no bound of the text, that is said on standard error.
+/// The plan that a text, a setting and the words of bounds make. Where two publishers have one port, or a word is no bound of the text, that is said on standard error.
 pub fn plan_of(
     rt: &HostRuntime,
     text: &str,
@@ -110,6 +114,9 @@ pub fn plan_of(
 ) -> Result<Planned, Fault> {
     let mut setting = setting;
     let tenants = tenants_of(rt.alloc(), text)?;
+    if say_shared(rt, &tenants) {
+        return Ok(Planned::Refused(SHARED));
+    }
     match bounds_of(rt.alloc(), words, text, &tenants) {
         Ok(bounds) => {
             let notices = notices_of(rt.alloc(), bounds.as_slice())?;

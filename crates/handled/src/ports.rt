@@ -1,8 +1,9 @@
-//! Whether the ports of a server can be had, before the file of its table is made.
+//! Whether the ports of a server can be had, before the file of its table is made or the server is started.
 
 use hdl_core::Tenants;
 use hdl_host::HostFault;
-use std::alloc::Global;
+use std::alloc::{AllocError, Global};
+use std::io::{self, ErrorKind};
 use std::net::{IpAddr, Net, SocketAddr, TcpListener, TcpStream, UdpSocket};
 
 /// Opens each publisher's port at each of these addresses, by TCP and UDP, and closes all of them: the fault with which a server would end that
@@ -30,6 +31,68 @@ pub fn can_listen<R: Net<Listener = TcpListener, Stream = TcpStream>>(
                 Ok(socket) => sockets.push(socket)?,
                 Err(e) => return Err(HostFault::Listen(at, e.kind())),
             }
+        }
+    }
+    Ok(())
+}
+
+/// The name of an earlier publisher that has this port.
+fn earlier_at(tenants: &Tenants, place: usize, port: u16) -> Option<&str> {
+    for before in 0..place {
+        if let Some((name, _, taken)) = tenants.publisher(before) {
+            if taken == port {
+                return Some(name);
+            }
+        }
+    }
+    None
+}
+
+/// Says on standard error which publishers have one port; whether some have.
+pub fn say_shared(rt: &HostRuntime, tenants: &Tenants) -> bool {
+    let mut is_shared = false;
+    for place in 0..tenants.publishers() {
+        let Some((name, _, port)) = tenants.publisher(place) else {
+            break;
+        };
+        if let Some(other) = earlier_at(tenants, place, port) {
+            is_shared = true;
+            let _ = eprintln!(rt;
+                "tenants: {other} and {name} have one port, {port}: give one of them another"
+            );
+        }
+    }
+    is_shared
+}
+
+/// Opens a port by TCP and UDP, and closes both.
+fn try_port(rt: &HostRuntime, at: SocketAddr) -> io::Result<()> {
+    let _listener = TcpListener::bind(rt, at)?;
+    let _socket = UdpSocket::bind(rt, at)?;
+    Ok(())
+}
+
+/// Says on standard error which ports of the publishers can't be had at these addresses now.
+pub fn say_taken(
+    rt: &HostRuntime,
+    alloc: Global,
+    tenants: &Tenants,
+    addresses: &[IpAddr],
+) -> Result<(), AllocError> {
+    for place in 0..tenants.publishers() {
+        let Some((name, _, port)) = tenants.publisher(place) else {
+            break;
+        };
+        for address in addresses {
+            let at = SocketAddr::new(*address, port);
+            let line = match try_port(rt, at) {
+                Ok(()) => continue,
+                Err(e) if e.kind() == ErrorKind::AddrInUse => format!(in alloc;
+                    "check: {at} of {name} is taken now, by a server that runs or by another program: a start needs it free"
+                )?,
+                Err(e) => format!(in alloc; "check: {at} of {name} can't be had: {e}")?,
+            };
+            let _ = eprintln!(rt; "{line}");
         }
     }
     Ok(())

@@ -20,9 +20,9 @@
 //!
 //! ```rust
 //! // crates/hdl_tables/src/exporting.rt
-//! let out = export(rt.alloc(), text, rows)?;
-//! put_all(&mut rt.stdout(), out.as_bytes())?;
-//! Ok(say_left_out(rt, left_out(rt.alloc(), text, rows)?))
+//! let left = left_out(rt.alloc(), text, rows)?;
+//! let text = export(rt.alloc(), text, rows)?;
+//! Ok(Exported { text, left })
 //! ```
 //!
 //! # Decisions

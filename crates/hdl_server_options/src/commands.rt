@@ -32,16 +32,29 @@ fn table_args<'a>(alloc: Global, command: Command<'a>) -> Result<Command<'a>, Al
         )
 }
 
+/// The option of a file that the tenants text is in.
+fn text_arg<'a>(alloc: Global) -> Arg<'a> {
+    option(
+        alloc,
+        "text",
+        "FILE",
+        "Reads the tenants text from this file, of any length, in place of standard input",
+    )
+}
+
+/// The option of the addresses at which ports are opened.
+fn listen_arg<'a>(alloc: Global, help: &'a str) -> Arg<'a> {
+    option(alloc, "listen", "ADDRESS", help).action(ArgAction::Append)
+}
+
 fn serve_command<'a>(alloc: Global) -> Result<Command<'a>, AllocError> {
     let command = Command::new(alloc, "serve")
-        .about("Serves the tenants text on standard input over TCP and UDP")
-        .arg(option(
+        .about("Serves the tenants text on standard input, or in a file, over TCP and UDP")
+        .arg(text_arg(alloc))?
+        .arg(listen_arg(
             alloc,
-            "listen",
-            "ADDRESS",
             "Opens each publisher's port at this IPv4 or IPv6 address, repeated for more; without it on 127.0.0.1",
-        )
-        .action(ArgAction::Append))?;
+        ))?;
     let command = bound_args(alloc, limit_args(alloc, command)?)?;
     table_args(alloc, supervision_args(alloc, command)?)
 }
@@ -147,6 +160,27 @@ fn copy_command<'a>(alloc: Global) -> Result<Command<'a>, AllocError> {
         .required(true))
 }
 
+fn restore_command<'a>(alloc: Global) -> Result<Command<'a>, AllocError> {
+    Command::new(alloc, "restore")
+        .about(
+            "Checks a copy of a table's file, and puts it in the place of the file, with the owner and the permissions of what it replaces",
+        )
+        .arg(option(
+            alloc,
+            "from",
+            "COPY",
+            "The copy, as `handled copy` makes it",
+        )
+        .required(true))?
+        .arg(option(
+            alloc,
+            "table",
+            "FILE",
+            "The SQLite file of the table, which no server has open; it and its log are replaced",
+        )
+        .required(true))
+}
+
 fn stop_command<'a>(alloc: Global) -> Result<Command<'a>, AllocError> {
     Command::new(alloc, "stop")
         .about("Ends a server in order, and waits until it has ended")
@@ -167,27 +201,40 @@ fn replay_command<'a>(alloc: Global) -> Result<Command<'a>, AllocError> {
 fn export_command<'a>(alloc: Global) -> Result<Command<'a>, AllocError> {
     Command::new(alloc, "export")
         .about(
-            "Writes the table in a file as a tenants text, with the publishers and prefixes of the one on standard input",
+            "Writes the table in a file as a tenants text, with the publishers and prefixes of the one on standard input, or in a file",
         )
         .arg(option(
             alloc,
             "table",
             "FILE",
-            "The SQLite file of the table, which no server has open",
+            "The SQLite file of the table, or a copy of it, which no server has open",
         )
         .required(true))?
+        .arg(text_arg(alloc))?
         .arg(option(
             alloc,
             "publisher",
             "NAME",
             "Write the values of this publisher's prefixes alone, and those on which its answers rest",
+        ))?
+        .arg(option(
+            alloc,
+            "to",
+            "NEW",
+            "Write to this new file, for its owner alone, in place of standard output",
         ))
 }
 
-fn check_command<'a>(alloc: Global) -> Command<'a> {
-    Command::new(alloc, "check").about(
-        "Says what the tenants text on standard input has, or all of its faults, and serves nothing",
-    )
+fn check_command<'a>(alloc: Global) -> Result<Command<'a>, AllocError> {
+    Command::new(alloc, "check")
+        .about(
+            "Says what the tenants text on standard input, or in a file, has, or all of its faults, and which ports are taken; serves nothing",
+        )
+        .arg(text_arg(alloc))?
+        .arg(listen_arg(
+            alloc,
+            "Looks at the ports at this IPv4 or IPv6 address, repeated for more; without it on 127.0.0.1",
+        ))
 }
 
 /// The command line, before it has commands.
@@ -214,6 +261,7 @@ pub fn command<'a>(alloc: Global) -> Result<Command<'a>, AllocError> {
     let whole = with_command(whole, serve_command(alloc))?;
     let whole = with_command(whole, export_command(alloc))?;
     let whole = with_command(whole, copy_command(alloc))?;
+    let whole = with_command(whole, restore_command(alloc))?;
     let whole = with_command(whole, stop_command(alloc))?;
-    with_command(whole, Ok(check_command(alloc)))
+    with_command(whole, check_command(alloc))
 }

@@ -47,6 +47,8 @@ pub struct SupervisionOptions {
 /// The options of `serve`.
 #[derive(Drop)]
 pub struct ServeOptions {
+    /// The file that the tenants text is in. Without one it is on standard input.
+    pub text: Option<String>,
     /// Where each publisher's port is opened: at least one address.
     pub addresses: Vec<IpAddr>,
     pub limits: LimitOptions,
@@ -59,6 +61,18 @@ pub struct ServeOptions {
     pub table: Option<TableFile>,
 }
 
+/// The options of `export`.
+#[derive(Drop)]
+pub struct ExportOptions {
+    pub table: TableFile,
+    /// The file that the text with publishers and prefixes is in. Without one it is on standard input.
+    pub text: Option<String>,
+    /// Whose part is written. Without one it is the whole table.
+    pub publisher: Option<String>,
+    /// The new file that it is written to. Without one it is printed.
+    pub to: Option<String>,
+}
+
 /// What the command line asks for.
 #[derive(Drop)]
 pub enum Invocation {
@@ -66,24 +80,30 @@ pub enum Invocation {
     Replay {
         table: Option<TableFile>,
     },
-    /// The tenants text is on standard input, served with these options.
+    /// The tenants text is served with these options.
     Serve(ServeOptions),
     /// The table's file is copied, though a server may have it open.
     Copy {
         from: String,
         to: String,
     },
+    /// A copy of the table's file is put in its place.
+    Restore {
+        from: String,
+        table: String,
+    },
     /// The server that listens at this socket is asked to end.
     Stop {
         control: String,
     },
-    /// The tenants text is on standard input; the table in the file is written as such a text, or the part of the publisher of this name.
-    Export {
-        table: TableFile,
-        publisher: Option<String>,
+    /// The table in a file is written as a tenants text.
+    Export(ExportOptions),
+    /// The tenants text is checked, and whether its ports can be had at these addresses.
+    Check {
+        /// The file that it is in. Without one it is on standard input.
+        text: Option<String>,
+        addresses: Vec<IpAddr>,
     },
-    /// The tenants text is on standard input, to be checked.
-    Check,
     /// Nothing: help, the version or a fault was printed, and this is the exit status.
     Ended(u8),
 }

@@ -13,7 +13,7 @@
 //! // crates/handled/src/main.rt
 //! match read_options(rt)? {
 //!     Invocation::Ended(status) => Ok(status),
-//!     Invocation::Check => check_input(rt),
+//!     Invocation::Check { text, addresses } => check_input(rt, text, addresses.as_slice()),
 //! ```
 #![tactic(auto)]
 
@@ -25,6 +25,7 @@ mod unclear;
 mod values;
 
 pub use invocation::{
-    BoundWord, Invocation, LimitOptions, OptionsFault, ServeOptions, SupervisionOptions, TableFile,
+    BoundWord, ExportOptions, Invocation, LimitOptions, OptionsFault, ServeOptions,
+    SupervisionOptions, TableFile,
 };
 pub use reading::read_options;

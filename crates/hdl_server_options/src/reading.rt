@@ -1,8 +1,8 @@
 //! Reading the command line.
 
 use crate::commands::command;
-use crate::invocation::{Invocation, OptionsFault, TableFile};
-use crate::serving::serve_options;
+use crate::invocation::{ExportOptions, Invocation, OptionsFault, TableFile};
+use crate::serving::{addresses, serve_options};
 use crate::unclear::{Unclear, print_unclear};
 use crate::values::{copy_of, required, table_file};
 use clap::ArgMatches;
@@ -16,6 +16,20 @@ fn copy_options(alloc: Global, found: &ArgMatches) -> Result<Invocation, Unclear
     Ok(Invocation::Copy { from, to })
 }
 
+/// What is asked for by the words behind `restore`.
+fn restore_options(alloc: Global, found: &ArgMatches) -> Result<Invocation, Unclear> {
+    let from = required(alloc, found, "from")?;
+    let table = required(alloc, found, "table")?;
+    Ok(Invocation::Restore { from, table })
+}
+
+/// What is asked for by the words behind `check`.
+fn check_options(alloc: Global, found: &ArgMatches) -> Result<Invocation, Unclear> {
+    let text = copy_of(alloc, found.get_str("text"))?;
+    let addresses = addresses(alloc, found.get_strs("listen").unwrap_or(&[]))?;
+    Ok(Invocation::Check { text, addresses })
+}
+
 /// What is asked for by the words behind `stop`.
 fn stop_options(alloc: Global, found: &ArgMatches) -> Result<Invocation, Unclear> {
     let control = required(alloc, found, "control")?;
@@ -25,18 +39,25 @@ fn stop_options(alloc: Global, found: &ArgMatches) -> Result<Invocation, Unclear
 /// What is asked for by the words behind `export`.
 fn export_options(alloc: Global, found: &ArgMatches) -> Result<Invocation, Unclear> {
     let path = required(alloc, found, "table")?;
-    let publisher = copy_of(alloc, found.get_str("publisher"))?;
     let table = TableFile {
         path,
         has_sums: false,
     };
-    Ok(Invocation::Export { table, publisher })
+    let text = copy_of(alloc, found.get_str("text"))?;
+    let publisher = copy_of(alloc, found.get_str("publisher"))?;
+    let to = copy_of(alloc, found.get_str("to"))?;
+    Ok(Invocation::Export(ExportOptions {
+        table,
+        text,
+        publisher,
+        to,
+    }))
 }
 
 /// What is asked for by the words that `clap` took.
 fn invocation_of(alloc: Global, matches: &ArgMatches) -> Result<Invocation, Unclear> {
-    if matches.subcommand_matches("check").is_some() {
-        return Ok(Invocation::Check);
+    if let Some(found) = matches.subcommand_matches("check") {
+        return check_options(alloc, found);
     }
     if let Some(found) = matches.subcommand_matches("export") {
         return export_options(alloc, found);
@@ -46,6 +67,9 @@ fn invocation_of(alloc: Global, matches: &ArgMatches) -> Result<Invocation, Uncl
     }
     if let Some(found) = matches.subcommand_matches("copy") {
         return copy_options(alloc, found);
+    }
+    if let Some(found) = matches.subcommand_matches("restore") {
+        return restore_options(alloc, found);
     }
     if let Some(found) = matches.subcommand_matches("stop") {
         return stop_options(alloc, found);

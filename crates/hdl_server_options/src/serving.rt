@@ -54,7 +54,7 @@ fn addresses_of(alloc: Global, words: &[&str]) -> Result<Vec<IpAddr>, AllocError
 }
 
 /// The addresses behind `--listen`, each of which has to be one.
-fn addresses(alloc: Global, words: &[&str]) -> Result<Vec<IpAddr>, Unclear> {
+pub fn addresses(alloc: Global, words: &[&str]) -> Result<Vec<IpAddr>, Unclear> {
     if let Some(word) = no_address(words) {
         return Err(Unclear::Address(String::from_str(alloc, word)?));
     }
@@ -146,7 +146,9 @@ pub fn serve_options(alloc: Global, found: &ArgMatches) -> Result<ServeOptions, 
     let supervision = supervision(alloc, found)?;
     let bounds = bound_words(alloc, found.get_strs("bound").unwrap_or(&[]))?;
     let table = table_file(alloc, found)?;
+    let text = copy_of(alloc, found.get_str("text"))?;
     Ok(ServeOptions {
+        text,
         addresses,
         limits: limits(found),
         supervision,

@@ -5,9 +5,9 @@
 //! of the changes, with each that was answered before the copy began: a page that was moved into the file meanwhile is in the log too, which goes before it.
 
 use crate::fault::TabledFault;
-use hdl_lastingrows::{TableFault, open_file};
-use hdl_programs::Fault;
-use sqlite::Wary;
+use crate::paths::Paths;
+use crate::reasons::open_known;
+use hdl_lastingrows::TableFault;
 use std::fmt;
 use std::fs::{File, OpenOptions};
 use std::io::{self, ErrorKind, Read, Write};
@@ -36,13 +36,6 @@ pub enum CopyFault {
     Exists,
     /// The log was begun anew at each try.
     Busy,
-}
-
-impl CopyFault {
-    /// The exit status.
-    pub fn status(&self) -> u8 {
-        4
-    }
 }
 
 impl fmt::Display for CopyFault {
@@ -129,35 +122,28 @@ fn copy_file(
     }
 }
 
-/// The paths of a file and of the log beside it.
-#[derive(Clone, Copy)]
-struct Paths<'a> {
-    file: &'a str,
-    log: &'a str,
-}
-
 /// Copies a file and its log once. Whether one log lay beside it all the while.
 fn copy_once(
     rt: &HostRuntime,
-    from: &Paths<'_>,
-    to: &Paths<'_>,
+    from: &Paths,
+    to: &Paths,
     is_first: bool,
 ) -> Result<bool, CopyFault> {
-    let before = match header_of(rt, from.log) {
+    let before = match header_of(rt, &from.log) {
         Ok(header) => header,
         Err(e) => return Err(CopyFault::From(e.kind())),
     };
-    copy_file(rt, from.file, to.file, is_first, false)?;
-    copy_file(rt, from.log, to.log, is_first, true)?;
-    match header_of(rt, from.log) {
+    copy_file(rt, &from.file, &to.file, is_first, false)?;
+    copy_file(rt, &from.log, &to.log, is_first, true)?;
+    match header_of(rt, &from.log) {
         Ok(after) => Ok(before == after),
         Err(e) => Err(CopyFault::From(e.kind())),
     }
 }
 
 /// Copies a file and its log.
-fn copy_both(rt: &HostRuntime, from: &Paths<'_>, to: &Paths<'_>) -> Result<(), CopyFault> {
-    if let Err(e) = File::open(rt, from.file) {
+pub(crate) fn copy_both(rt: &HostRuntime, from: &Paths, to: &Paths) -> Result<(), CopyFault> {
+    if let Err(e) = File::open(rt, &from.file) {
         return Err(CopyFault::From(e.kind()));
     }
     for turn in 0..TRIES {
@@ -170,7 +156,7 @@ fn copy_both(rt: &HostRuntime, from: &Paths<'_>, to: &Paths<'_>) -> Result<(), C
 
 /// Opens a copy of a table's file, which takes in its log, and closes it.
 fn close_copy(rt: &HostRuntime, path: &str) -> Result<(), TabledFault> {
-    match open_file(rt, path, false, Wary)?.close() {
+    match open_known(rt, path, false)?.close() {
         Ok(()) => Ok(()),
         Err(fault) => Err(TabledFault::Table(TableFault::from(fault))),
     }
@@ -178,21 +164,7 @@ fn close_copy(rt: &HostRuntime, path: &str) -> Result<(), TabledFault> {
 
 /// Copies the table's file, and moves the log of the copy into it.
 pub fn copy_table(rt: &HostRuntime, from: &str, to: &str) -> Result<(), TabledFault> {
-    let alloc = rt.alloc();
-    let (Ok(from_log), Ok(to_log)) = (
-        format!(in alloc; "{from}-wal"),
-        format!(in alloc; "{to}-wal"),
-    ) else {
-        return Err(TabledFault::from(Fault::NoMemory));
-    };
-    let from = Paths {
-        file: from,
-        log: from_log.as_str(),
-    };
-    let copy = Paths {
-        file: to,
-        log: to_log.as_str(),
-    };
+    let (from, copy) = (Paths::resolved(rt, from)?, Paths::at(rt, to)?);
     copy_both(rt, &from, &copy)?;
     close_copy(rt, to)
 }

@@ -4,12 +4,19 @@ use crate::closing::Closing;
 use crate::fault::TabledFault;
 use crate::file::FileWork;
 use hdl_export::{ExportFault, LeftOut, export, export_publisher, left_out, left_out_of};
-use hdl_programs::{Fault, put_all};
+use hdl_programs::{Fault, INPUT_LIMIT, put_all};
 use hdl_rows::{Owing, Rows};
 use hdl_tenants::Tenants;
+use std::fmt;
+use std::fs::{self, File, OpenOptions};
+use std::io::{self, ErrorKind, Write};
+use std::os::unix::fs::OpenOptionsExt;
 
 /// The exit status where the table has handles that the text can't say.
 const INCOMPLETE: u8 = 5;
+
+/// Its owner alone reads what is exported: it has the secrets of all publishers.
+const MODE: u32 = 0o600;
 
 /// The exit status of a fault: 3 for the text that was given, 4 for the table, 1 where memory or the table refused.
 pub fn status_of(fault: &ExportFault) -> u8 {
@@ -59,41 +66,136 @@ pub fn has_named(rt: &HostRuntime, tenants: &Tenants, publisher: &Option<String>
     false
 }
 
-/// Prints the table as a tenants text, with the publishers and prefixes of this one. Answers the exit status.
-fn put_export<R: Rows>(rt: &HostRuntime, text: &str, rows: &mut R) -> Result<u8, TabledFault> {
-    let out = export(rt.alloc(), text, rows)?;
-    put_all(&mut rt.stdout(), out.as_bytes())?;
-    Ok(say_left_out(rt, left_out(rt.alloc(), text, rows)?))
+/// Why what is exported isn't in the file that it was to go to.
+#[derive(Clone, Copy)]
+pub enum WriteFault {
+    /// There is something at the path.
+    Exists,
+    Device(ErrorKind),
 }
 
-/// Prints the part of this publisher as a tenants text, with the publishers and prefixes of this one. Answers the exit status.
-fn put_publisher<R: Rows>(
+impl fmt::Display for WriteFault {
+    fn fmt<W: fmt::Write>(&self, f: &mut fmt::Formatter<W>) -> fmt::Result {
+        match self {
+            WriteFault::Exists => f.write_str(
+                "export: there is a file at the path of --to: move it away, or name another path",
+            ),
+            WriteFault::Device(kind) => write!(
+                f,
+                "export: the text can't be written: {kind}: look at its folder, and at the room on the disk"
+            ),
+        }
+    }
+}
+
+/// Makes a new file, for its owner alone.
+fn make_new(rt: &HostRuntime, path: &str) -> io::Result<File> {
+    let mut options = OpenOptions::new();
+    let file = options
+        .write(true)
+        .create_new(true)
+        .mode(MODE)
+        .open(rt, path)?;
+    Ok(file)
+}
+
+/// Writes the whole text.
+fn write_whole(file: &mut File, text: &str) -> io::Result<()> {
+    file.write_all(text.as_bytes())?;
+    file.sync_all()
+}
+
+/// Writes a text into a new file. Where it can't be written whole, none is left: its beginning would be read as a smaller table.
+fn write_new(rt: &HostRuntime, path: &str, text: &str) -> io::Result<()> {
+    let mut file = make_new(rt, path)?;
+    match write_whole(&mut file, text) {
+        Ok(()) => Ok(()),
+        Err(e) => {
+            let _ = fs::remove_file(rt, path);
+            Err(e)
+        }
+    }
+}
+
+/// Puts the text into a new file, if a path is given, or prints it.
+fn put_text(rt: &HostRuntime, text: &str, to: &Option<String>) -> Result<(), TabledFault> {
+    let Some(path) = to else {
+        put_all(&mut rt.stdout(), text.as_bytes())?;
+        return Ok(());
+    };
+    match write_new(rt, path, text) {
+        Ok(()) => Ok(()),
+        Err(e) if e.kind() == ErrorKind::AlreadyExists => Err(TabledFault::from(
+            WriteFault::Exists,
+        )),
+        Err(e) => Err(TabledFault::from(WriteFault::Device(e.kind()))),
+    }
+}
+
+/// Says on standard error where a text is longer than standard input takes.
+fn say_length(rt: &HostRuntime, text: &str) {
+    let length = text.len();
+    if length > INPUT_LIMIT {
+        let _ = eprintln!(rt;
+            "export: the text has {length} octets, and standard input takes {INPUT_LIMIT} at most: hand it to handled by --text FILE"
+        );
+    }
+}
+
+/// What is exported, and how many handles no text says.
+#[derive(Drop)]
+struct Exported {
+    text: String,
+    left: LeftOut,
+}
+
+/// The table as a tenants text, with the publishers and prefixes of this one.
+fn export_all<R: Rows>(
+    rt: &HostRuntime,
+    text: &str,
+    rows: &mut R,
+) -> Result<Exported, TabledFault> {
+    let left = left_out(rt.alloc(), text, rows)?;
+    let text = export(rt.alloc(), text, rows)?;
+    Ok(Exported { text, left })
+}
+
+/// The part of this publisher as a tenants text, with the publishers and prefixes of this one.
+fn export_part<R: Rows>(
     rt: &HostRuntime,
     text: &str,
     publisher: &str,
     rows: &mut R,
-) -> Result<u8, TabledFault> {
-    let out = export_publisher(rt.alloc(), text, publisher, rows)?;
-    put_all(&mut rt.stdout(), out.as_bytes())?;
+) -> Result<Exported, TabledFault> {
     let left = left_out_of(rt.alloc(), text, publisher, rows)?;
-    Ok(say_left_out(rt, left))
+    let text = export_publisher(rt.alloc(), text, publisher, rows)?;
+    Ok(Exported { text, left })
 }
 
-/// What prints the table in a file as a tenants text, or the part of the publisher of this name.
+/// What writes the table in a file as a tenants text, or the part of the publisher of this name, into a new file or to standard output.
 #[derive(Drop)]
 pub struct Export<'a> {
     pub tenants: Tenants,
     pub text: &'a str,
-    pub publisher: Option<String>,
+    pub publisher: &'a Option<String>,
+    pub to: &'a Option<String>,
 }
 
 impl Export<'_> {
-    /// Prints it, and answers the exit status.
-    fn put<R: Rows>(&self, rt: &HostRuntime, rows: &mut R) -> Result<u8, TabledFault> {
-        match &self.publisher {
-            Some(name) => put_publisher(rt, self.text, name.as_str(), rows),
-            None => put_export(rt, self.text, rows),
+    fn exported<R: Rows>(&self, rt: &HostRuntime, rows: &mut R) -> Result<Exported, TabledFault> {
+        match self.publisher {
+            Some(name) => export_part(rt, self.text, name.as_str(), rows),
+            None => export_all(rt, self.text, rows),
         }
+    }
+
+    /// Says what no text says, and then writes the text. Answers the exit status.
+    fn put<R: Rows>(&self, rt: &HostRuntime, rows: &mut R) -> Result<u8, TabledFault> {
+        let Exported { text, left } = self.exported(rt, rows)?;
+        let status = say_left_out(rt, left);
+        say_length(rt, &text);
+        put_text(rt, &text, self.to)?;
+        Ok(status)
     }
 }
 

@@ -1,7 +1,9 @@
 //! Why a run over a table ends with a fault line.
 
 use crate::copying::CopyFault;
-use crate::exporting::status_of;
+use crate::exporting::{WriteFault, status_of};
+use crate::reasons::OpenReason;
+use crate::restoring::RestoreFault;
 use hdl_export::ExportFault;
 use hdl_lastingrows::TableFault;
 use hdl_programs::Fault;
@@ -12,8 +14,13 @@ use std::fmt;
 pub enum TabledFault {
     Run(Fault),
     Table(TableFault),
+    /// The table's file can't be opened, for this reason.
+    Unopened(OpenReason),
     Export(ExportFault),
+    /// What is exported can't be written.
+    Write(WriteFault),
     Copy(CopyFault),
+    Restore(RestoreFault),
 }
 
 impl TabledFault {
@@ -22,9 +29,12 @@ impl TabledFault {
         match self {
             TabledFault::Run(fault) => fault.status(),
             TabledFault::Table(TableFault::Memory) => Fault::NoMemory.status(),
-            TabledFault::Table(_) => 4,
             TabledFault::Export(fault) => status_of(fault),
-            TabledFault::Copy(fault) => fault.status(),
+            TabledFault::Table(_)
+            | TabledFault::Unopened(_)
+            | TabledFault::Write(_)
+            | TabledFault::Copy(_)
+            | TabledFault::Restore(_) => 4,
         }
     }
 }
@@ -34,8 +44,11 @@ impl fmt::Display for TabledFault {
         match self {
             TabledFault::Run(fault) => write!(f, "{fault}"),
             TabledFault::Table(fault) => write!(f, "{fault}"),
+            TabledFault::Unopened(reason) => write!(f, "table: cannot open: {reason}"),
             TabledFault::Export(fault) => write!(f, "{fault}"),
+            TabledFault::Write(fault) => write!(f, "{fault}"),
             TabledFault::Copy(fault) => write!(f, "{fault}"),
+            TabledFault::Restore(fault) => write!(f, "{fault}"),
         }
     }
 }
@@ -55,6 +68,18 @@ impl From<ExportFault> for TabledFault {
 impl From<CopyFault> for TabledFault {
     fn from(fault: CopyFault) -> TabledFault {
         TabledFault::Copy(fault)
+    }
+}
+
+impl From<RestoreFault> for TabledFault {
+    fn from(fault: RestoreFault) -> TabledFault {
+        TabledFault::Restore(fault)
+    }
+}
+
+impl From<WriteFault> for TabledFault {
+    fn from(fault: WriteFault) -> TabledFault {
+        TabledFault::Write(fault)
     }
 }
 

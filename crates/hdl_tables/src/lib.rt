@@ -5,6 +5,7 @@
 //! open_served  -> Table::Second     in memory, with a file beside it, which has each write before it is answered
 //! over_file    -> a FileWork over the table in a file: Export is one, a replayed script another
 //! copy_table   -> a copy of the file, while a server has it open or not
+//! restore_table -> such a copy, checked, in the place of the file
 //! ```
 //!
 //! It is the program's part: what is not said in a clause is safe, and no more is promised. It stands in a crate of its own, which knows no sockets, so that it is proved
@@ -23,10 +24,15 @@ mod exporting;
 mod fault;
 mod file;
 mod opening;
+mod paths;
+mod reasons;
+mod restoring;
 
 pub use closing::Closing;
 pub use copying::{CopyFault, copy_table};
-pub use exporting::{Export, has_named, has_publisher};
+pub use exporting::{Export, WriteFault, has_named, has_publisher};
 pub use fault::TabledFault;
 pub use file::{FileWork, over_file};
 pub use opening::{Table, TablePath, empty_table, is_new, open_served, table_in};
+pub use reasons::{OpenReason, Owner, not_there};
+pub use restoring::{RestoreFault, restore_table};

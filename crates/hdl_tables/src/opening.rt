@@ -9,18 +9,18 @@ ghost use Rattle.hdl_lastingrows.specs.Beside.{IfHere};
 ghost use Rattle.hdl_lastingrows.specs.Opened.{IsOpenedIn};
 ghost use Rattle.hdl_tables.specs.Served.{IsSecond};
 
+use crate::fault::TabledFault;
+use crate::reasons::open_known;
 use hdl_cachedrows::CachedRows;
 use hdl_core::Rows;
 use hdl_eitherrows::EitherRows;
-use hdl_lastingrows::{
-    Alarm, LastingRows, Store, TableFault, ThreadedFile, Writer, open_file, table_beside,
-};
+use hdl_lastingrows::{Alarm, LastingRows, Store, TableFault, ThreadedFile, Writer, table_beside};
 use hdl_programs::Fault;
 use hdl_rows::PlainRows;
 use hdl_sqlrows::SqlRows;
 use hdl_sqlrows::load::Progress;
 use hdl_tenants::Tenants;
-use sqlite::{Connection, Wary};
+use sqlite::Connection;
 use std::alloc::Global;
 use std::fs::File;
 use std::hash::RandomState;
@@ -81,7 +81,7 @@ pub fn table_in<R: Threads + Drop, A: Alarm + Progress + Drop>(
     Ok(EitherRows::Second(rows))
 }
 
-/// The table in the file at a path, as [`table_in`] tells it of what [`open_file`] found there.
+/// The table in the file at a path, as [`table_in`] tells it of what [`hdl_lastingrows::open_file`] found there. An open that is refused says why.
 pub fn open_served<R: Threads + Drop, A: Alarm + Progress + Drop>(
     machine: R,
     rt: &HostRuntime,
@@ -89,9 +89,9 @@ pub fn open_served<R: Threads + Drop, A: Alarm + Progress + Drop>(
     tenants: &Tenants,
     alarm: A,
     beside: bool,
-) -> Result<Table<R, A>, TableFault> {
-    let conn = open_file(rt, file.path, file.has_sums, Wary)?;
-    table_in(machine, rt.alloc(), conn, tenants, alarm, beside)
+) -> Result<Table<R, A>, TabledFault> {
+    let conn = open_known(rt, file.path, file.has_sums)?;
+    Ok(table_in(machine, rt.alloc(), conn, tenants, alarm, beside)?)
 }
 
 /// Whether nothing can be opened at this path of a table's file yet.

@@ -1,0 +1,48 @@
+//! The paths of a table's two files: the file, and the log beside it.
+
+use hdl_programs::Fault;
+use std::fs;
+
+/// The paths of a file and of what lies beside it.
+#[derive(Drop)]
+pub(crate) struct Paths {
+    pub file: String,
+    pub log: String,
+    /// Where the log of a file that is replaced lies until the new one is in its place.
+    pub aside: String,
+    /// What SQLite leaves of a change that was cut off.
+    pub journal: String,
+    /// What is made beside it to see whether files can be made there.
+    pub trial: String,
+}
+
+impl Paths {
+    /// The paths of this file and of its log.
+    pub(crate) fn at(rt: &HostRuntime, file: &str) -> Result<Paths, Fault> {
+        let alloc = rt.alloc();
+        Ok(Paths {
+            file: String::from_str(alloc, file)?,
+            log: format!(in alloc; "{file}-wal")?,
+            aside: format!(in alloc; "{file}-wal.replaced")?,
+            journal: format!(in alloc; "{file}-journal")?,
+            trial: format!(in alloc; "{file}-trial")?,
+        })
+    }
+
+    /// Those where links lead: the log lies beside the file that is found there.
+    pub(crate) fn resolved(rt: &HostRuntime, path: &str) -> Result<Paths, Fault> {
+        match fs::canonicalize(rt, path) {
+            Ok(real) => Paths::at(rt, real.as_str()),
+            Err(_) => Paths::at(rt, path),
+        }
+    }
+}
+
+/// The path of the folder that a file lies in.
+pub(crate) fn folder_of(path: &str) -> &str {
+    match path.rsplit_once('/') {
+        Some(("", _)) => "/",
+        Some((folder, _)) => folder,
+        None => ".",
+    }
+}

@@ -1,0 +1,224 @@
+//! Why the file of a table can't be opened.
+
+ghost use Rattle.std.specs.Prelude.{◌≡◌, false, IfOk};
+ghost use Rattle.sqlite.specs.Files.{file_state};
+ghost use Rattle.hdl_sqlrows.specs.Filed.{WhereOpen};
+
+use crate::fault::TabledFault;
+use crate::paths::{Paths, folder_of};
+use hdl_lastingrows::{Store, TableFault, open_file};
+use sqlite::{Connection, Wary};
+use std::fmt;
+use std::fs::{self, Metadata, OpenOptions};
+use std::io::ErrorKind;
+use std::os::unix::fs::MetadataExt;
+
+/// Whom something belongs to, and who would open it.
+#[derive(Clone, Copy)]
+pub struct Owner {
+    pub owner: u32,
+    /// Its permissions.
+    pub mode: u32,
+    pub user: u32,
+}
+
+impl Owner {
+    fn of(found: &Metadata) -> Owner {
+        Owner {
+            owner: found.uid(),
+            mode: found.mode() % 0o10000,
+            user: libc::geteuid(),
+        }
+    }
+}
+
+impl fmt::Display for Owner {
+    fn fmt<W: fmt::Write>(&self, f: &mut fmt::Formatter<W>) -> fmt::Result {
+        let Owner { owner, mode, user } = self;
+        write!(
+            f,
+            "it belongs to user {owner} with mode {mode:04o}, and this program is user {user}: give it to that user (chown), or let that user read and write it"
+        )
+    }
+}
+
+/// Why a file can't be opened.
+#[derive(Clone, Copy)]
+pub enum OpenReason {
+    /// The path names no file.
+    NoPath,
+    /// The folder isn't there.
+    NoFolder,
+    /// No file may be made in the folder.
+    Folder(Owner),
+    /// It is a folder, a device or the like.
+    NoFile,
+    /// It has so many names.
+    Names(u64),
+    /// It may not be read and written.
+    File(Owner),
+    /// The log beside it is no file of its own.
+    NoLog,
+    /// The log beside it may not be read and written.
+    Log(Owner),
+    /// SQLite left a rollback journal beside it.
+    Journal,
+    /// It isn't there, and none is made.
+    Missing,
+    /// Nothing is in the way now.
+    Again,
+    Other(ErrorKind),
+}
+
+impl fmt::Display for OpenReason {
+    fn fmt<W: fmt::Write>(&self, f: &mut fmt::Formatter<W>) -> fmt::Result {
+        match self {
+            OpenReason::NoPath => f.write_str("the path names no file: name one in a folder"),
+            OpenReason::NoFolder => {
+                f.write_str(
+                    "the file isn't there, nor is its folder: make the folder, or look at the path",
+                )
+            }
+            OpenReason::Folder(owner) => { write!(f, "no file can be made in the folder: {owner}") }
+            OpenReason::NoFile => {
+                f.write_str("at the path is a folder, a device or the like, and no file")
+            }
+            OpenReason::Names(count) => write!(
+                f,
+                "the file has {count} names (hard links), and a table needs one of its own: take the others away, or copy it"
+            ),
+            OpenReason::File(owner) => write!(f, "the file may not be read and written: {owner}"),
+            OpenReason::NoLog => f.write_str(
+                "beside the file, with -wal at the end, is a link, a folder, a device or a file with several names",
+            ),
+            OpenReason::Log(owner) => write!(
+                f,
+                "the log, the file beside it with -wal at the end, may not be read and written: {owner}"
+            ),
+            OpenReason::Journal => f.write_str(
+                "SQLite left a journal beside the file, with -journal at the end: open it with sqlite3 first, which plays that back",
+            ),
+            OpenReason::Missing => f.write_str("the file isn't there: look at the path"),
+            OpenReason::Again => f.write_str("nothing is in the way now: try again"),
+            OpenReason::Other(kind) => write!(f, "{kind}"),
+        }
+    }
+}
+
+/// Why no file can be made in the folder of this path.
+fn reason_of_folder(rt: &HostRuntime, path: &str) -> OpenReason {
+    match fs::metadata(rt, folder_of(path)) {
+        Ok(folder) => OpenReason::Folder(Owner::of(&folder)),
+        Err(e) => OpenReason::Other(e.kind()),
+    }
+}
+
+/// Why the file or its log can't be made, by making one of another name, which no server opens, and taking it away again.
+fn reason_of_making(rt: &HostRuntime, paths: &Paths) -> OpenReason {
+    match OpenOptions::new()
+        .write(true)
+        .create_new(true)
+        .open(rt, &paths.trial)
+    {
+        Ok(_) => match fs::remove_file(rt, &paths.trial) {
+            Ok(()) => OpenReason::Again,
+            Err(e) => OpenReason::Other(e.kind()),
+        },
+        Err(e) if e.kind() == ErrorKind::PermissionDenied => reason_of_folder(rt, &paths.file),
+        Err(e) if e.kind() == ErrorKind::NotFound => OpenReason::NoFolder,
+        Err(e) => OpenReason::Other(e.kind()),
+    }
+}
+
+/// What opening a file that is there for reading and writing gives.
+fn opens(rt: &HostRuntime, path: &str) -> Result<(), ErrorKind> {
+    match OpenOptions::new().read(true).write(true).open(rt, path) {
+        Ok(_) => Ok(()),
+        Err(e) => Err(e.kind()),
+    }
+}
+
+/// Why the log of a file that may be opened can't be.
+fn reason_of_log(rt: &HostRuntime, paths: &Paths) -> OpenReason {
+    let found = match fs::symlink_metadata(rt, &paths.log) {
+        Ok(found) => found,
+        Err(e) if e.kind() == ErrorKind::NotFound => return reason_of_making(rt, paths),
+        Err(e) => return OpenReason::Other(e.kind()),
+    };
+    if !found.is_file() || found.nlink() != 1 {
+        return OpenReason::NoLog;
+    }
+    match opens(rt, &paths.log) {
+        Err(ErrorKind::PermissionDenied) => OpenReason::Log(Owner::of(&found)),
+        Err(kind) => OpenReason::Other(kind),
+        Ok(()) => OpenReason::Again,
+    }
+}
+
+/// Whether SQLite left a journal beside the file.
+fn has_journal(rt: &HostRuntime, paths: &Paths) -> bool {
+    fs::symlink_metadata(rt, &paths.journal).is_ok()
+}
+
+/// Why a file that is there can't be opened.
+fn reason_of_file(rt: &HostRuntime, paths: &Paths, found: &Metadata) -> OpenReason {
+    if !found.is_file() {
+        return OpenReason::NoFile;
+    }
+    if found.nlink() != 1 {
+        return OpenReason::Names(found.nlink());
+    }
+    match opens(rt, &paths.file) {
+        Err(ErrorKind::PermissionDenied) => OpenReason::File(Owner::of(found)),
+        Err(kind) => OpenReason::Other(kind),
+        Ok(()) => match reason_of_log(rt, paths) {
+            OpenReason::Again if has_journal(rt, paths) => OpenReason::Journal,
+            reason => reason,
+        },
+    }
+}
+
+/// Why the file can't be opened.
+fn reason_of(rt: &HostRuntime, paths: &Paths) -> OpenReason {
+    let path = paths.file.as_str();
+    if path == ":memory:" || path.is_empty() || path.starts_with("file:") {
+        return OpenReason::NoPath;
+    }
+    match fs::metadata(rt, path) {
+        Ok(found) => reason_of_file(rt, paths, &found),
+        Err(e) if e.kind() == ErrorKind::NotFound => reason_of_making(rt, paths),
+        Err(e) => OpenReason::Other(e.kind()),
+    }
+}
+
+/// Why the file at a path wasn't opened.
+pub(crate) fn unopened(rt: &HostRuntime, path: &str) -> TabledFault {
+    match Paths::resolved(rt, path) {
+        Ok(paths) => TabledFault::Unopened(reason_of(rt, &paths)),
+        Err(fault) => TabledFault::Run(fault),
+    }
+}
+
+/// Opens the file at a path, as [`open_file`] does. An open that is refused says why.
+pub(crate) fn open_known(
+    rt: &HostRuntime,
+    path: &str,
+    has_sums: bool,
+) -> Result<Connection<Store>, TabledFault>
+    ensures mode { IfOk result (λ c. c.in_transaction ≡ false) }
+    ensures even { IfOk result (λ c. WhereOpen (file_state c) ((file_state c).committed ≡ (file_state c).now)) }
+{
+    match open_file(rt, path, has_sums, Wary) {
+        Ok(conn) => Ok(conn),
+        Err(TableFault::CannotOpen) => Err(unopened(rt, path)),
+        Err(fault) => Err(TabledFault::from(fault)),
+    }
+}
+
+/// Why the file at a path isn't opened where none is to be made.
+pub fn not_there(rt: &HostRuntime, path: &str) -> TabledFault {
+    match fs::metadata(rt, path) {
+        Err(e) if e.kind() == ErrorKind::NotFound => TabledFault::Unopened(OpenReason::Missing),
+        _ => unopened(rt, path),
+    }
+}

@@ -1,0 +1,276 @@
+//! Putting a copy of a table's file in its place.
+
+ghost use Rattle.std.specs.Prelude.{◌≡◌, false};
+
+use crate::copying::{CopyFault, copy_both};
+use crate::fault::TabledFault;
+use crate::paths::{Paths, folder_of};
+use crate::reasons::unopened;
+use hdl_lastingrows::{Store, TableFault, open_file};
+use hdl_programs::Fault;
+use hdl_rows::PlainRows;
+use hdl_sqlrows::known::{FoundDatabase, tables_of};
+use hdl_sqlrows::load::{Progress, load};
+use sqlite::{Connection, FileFrom, Files, Wary};
+use sqlite_std_file::OpenError;
+use std::fmt;
+use std::fs::{self, File, Metadata, Permissions};
+use std::io::{self, ErrorKind};
+use std::os::unix::fs::{MetadataExt, PermissionsExt, chown};
+
+/// Why a copy isn't put in the place of a table's file, which stays as it is.
+#[derive(Clone, Copy)]
+pub enum RestoreFault {
+    /// The copy can't be read.
+    From(ErrorKind),
+    /// It is the file of a server, which changed it at each try.
+    Busy,
+    /// The copy is no table that is sound.
+    Copy(TableFault),
+    /// An earlier restore was ended before it was done.
+    Left,
+    /// The folder of the table isn't there, or can't be looked at.
+    Folder(ErrorKind),
+    /// The file can't be given to who is to have it.
+    Owner { owner: u32, group: u32, user: u32 },
+    /// The file can't be put in its place.
+    Place(ErrorKind),
+}
+
+impl fmt::Display for RestoreFault {
+    fn fmt<W: fmt::Write>(&self, f: &mut fmt::Formatter<W>) -> fmt::Result {
+        f.write_str("restore: ")?;
+        match self {
+            RestoreFault::From(kind) => write!(
+                f,
+                "the copy can't be read: {kind}: look at its path"
+            ),
+            RestoreFault::Busy => f.write_str(
+                "what is to be restored is the file of a server, which changed it at each try: make a copy of it first",
+            ),
+            RestoreFault::Copy(fault) => {
+                write!(
+                    f,
+                    "the copy isn't taken, and the table stays as it is: {fault}"
+                )
+            }
+            RestoreFault::Left => f.write_str(
+                "beside the table is what a restore left that was ended, with .restored, .restored-wal or -wal.replaced at the end: move it away, and restore again",
+            ),
+            RestoreFault::Folder(kind) => write!(
+                f,
+                "the folder of the table can't be looked at: {kind}: make it, or look at the path"
+            ),
+            RestoreFault::Owner { owner, group, user } => write!(
+                f,
+                "the table is to belong to user {owner} and group {group}, and this program, user {user}, can't give it to them: restore as that user, or as root"
+            ),
+            RestoreFault::Place(kind) => write!(
+                f,
+                "the copy can't be put in its place: {kind}: look at the folder, and at the room on the disk"
+            ),
+        }
+    }
+}
+
+impl From<CopyFault> for RestoreFault {
+    fn from(fault: CopyFault) -> RestoreFault {
+        match fault {
+            CopyFault::From(kind) => RestoreFault::From(kind),
+            CopyFault::To(kind) => RestoreFault::Place(kind),
+            CopyFault::Exists => RestoreFault::Left,
+            CopyFault::Busy => RestoreFault::Busy,
+        }
+    }
+}
+
+/// Hears nothing.
+#[derive(Drop)]
+struct Silent;
+
+impl Progress for Silent {
+    fn handles(&mut self, _count: u64) {}
+
+    fn values(&mut self, _count: u64) {}
+}
+
+/// The files of a table, which no other process opens meanwhile.
+type Held = Files<FileFrom<Wary>>;
+
+/// Keeps every server from opening the file of a table, if one is there.
+fn hold(rt: &HostRuntime, path: &str) -> Result<Option<Held>, TabledFault> {
+    match fs::symlink_metadata(rt, path) {
+        Err(e) if e.kind() == ErrorKind::NotFound => return Ok(None),
+        _ => {}
+    }
+    match sqlite_std_file::open(rt, path, Wary) {
+        Ok(files) => Ok(Some(files)),
+        Err(OpenError::Busy) => Err(TabledFault::from(TableFault::InUse)),
+        Err(OpenError::OutOfMemory) => Err(TabledFault::from(Fault::NoMemory)),
+        Err(_) => Err(unopened(rt, path)),
+    }
+}
+
+/// Whom the file of a table is to belong to, and its permissions.
+#[derive(Clone, Copy)]
+struct Access {
+    owner: u32,
+    group: u32,
+    mode: u32,
+}
+
+fn access_of(found: &Metadata, mode: u32) -> Access {
+    Access {
+        owner: found.uid(),
+        group: found.gid(),
+        mode,
+    }
+}
+
+/// That of the file which is replaced. Where there is none, or root has it, it is to belong to who has the folder.
+fn access_at(rt: &HostRuntime, path: &str) -> Result<Access, RestoreFault> {
+    let mut mode = 0o600;
+    if let Ok(found) = fs::metadata(rt, path) {
+        mode = found.mode() % 0o1000;
+        if found.uid() != 0 {
+            return Ok(access_of(&found, mode));
+        }
+    }
+    match fs::metadata(rt, folder_of(path)) {
+        Ok(folder) => Ok(access_of(&folder, mode)),
+        Err(e) => Err(RestoreFault::Folder(e.kind())),
+    }
+}
+
+/// Gives the file this access.
+fn give(rt: &HostRuntime, path: &str, access: Access) -> Result<(), RestoreFault> {
+    let Access { owner, group, mode } = access;
+    match chown(rt, path, Some(owner), Some(group)) {
+        Ok(()) => {}
+        Err(e) if e.kind() == ErrorKind::PermissionDenied => {
+            let user = libc::geteuid();
+            return Err(RestoreFault::Owner { owner, group, user });
+        }
+        Err(e) => return Err(RestoreFault::Place(e.kind())),
+    }
+    match fs::set_permissions(rt, path, Permissions::from_mode(mode)) {
+        Ok(()) => Ok(()),
+        Err(e) => Err(RestoreFault::Place(e.kind())),
+    }
+}
+
+/// Reads all rows of a copy, each of which has to be sound.
+fn read_rows(rt: &HostRuntime, conn: &mut Connection<Store>) -> Result<(), TableFault>
+    requires mode { conn.old.in_transaction ≡ false }
+{
+    match tables_of(conn) {
+        FoundDatabase::Tables => {
+            let mut rows = PlainRows::new(rt.alloc());
+            load(conn, rt.alloc(), &mut rows, &mut Silent)?;
+            Ok(())
+        }
+        _ => Err(TableFault::Layout),
+    }
+}
+
+/// Sees that a copy is a table, each row of it sound, and moves its log into it.
+fn check_copy(rt: &HostRuntime, path: &str) -> Result<(), TableFault> {
+    let mut conn = open_file(rt, path, false, Wary)?;
+    read_rows(rt, &mut conn)?;
+    match conn.close() {
+        Ok(()) => Ok(()),
+        Err(fault) => Err(TableFault::from(fault)),
+    }
+}
+
+/// Takes a file away, if it is there.
+fn remove(rt: &HostRuntime, path: &str) -> Result<(), RestoreFault> {
+    match fs::remove_file(rt, path) {
+        Ok(()) => Ok(()),
+        Err(e) if e.kind() == ErrorKind::NotFound => Ok(()),
+        Err(e) => Err(RestoreFault::Place(e.kind())),
+    }
+}
+
+/// Makes last what was done in the folder of a file.
+fn sync_folder(rt: &HostRuntime, path: &str) -> io::Result<()> {
+    File::open(rt, folder_of(path))?.sync_all()
+}
+
+/// Moves the log of a table's file aside, if there is one.
+fn set_aside(rt: &HostRuntime, to: &Paths) -> io::Result<()> {
+    match fs::rename(rt, &to.log, &to.aside) {
+        Err(e) if e.kind() != ErrorKind::NotFound => Err(e),
+        _ => sync_folder(rt, &to.file),
+    }
+}
+
+/// Moves the new file over the old one. Where that fails the old one has its log back.
+fn move_over(rt: &HostRuntime, from: &Paths, to: &Paths) -> io::Result<()> {
+    match fs::rename(rt, &from.file, &to.file) {
+        Ok(()) => sync_folder(rt, &to.file),
+        Err(e) => {
+            let _ = fs::rename(rt, &to.aside, &to.log);
+            Err(e)
+        }
+    }
+}
+
+/// Puts a file that needs no log in the place of a table's. The old log goes aside first, and for good: what it has would be taken for changes of the
+/// new file.
+fn replace(rt: &HostRuntime, from: &Paths, to: &Paths) -> Result<(), RestoreFault> {
+    remove(rt, &from.log)?;
+    if let Err(e) = set_aside(rt, to) {
+        return Err(RestoreFault::Place(e.kind()));
+    }
+    if let Err(e) = move_over(rt, from, to) {
+        return Err(RestoreFault::Place(e.kind()));
+    }
+    remove(rt, &to.aside)
+}
+
+/// Copies the two files beside the table, checks them, and puts them in its place.
+fn place_copy(rt: &HostRuntime, from: &Paths, new: &Paths, to: &Paths) -> Result<(), TabledFault> {
+    if let Err(fault) = copy_both(rt, from, new) {
+        return Err(TabledFault::from(RestoreFault::from(fault)));
+    }
+    match check_copy(rt, &new.file) {
+        Ok(()) => {}
+        Err(TableFault::Memory) => return Err(TabledFault::from(Fault::NoMemory)),
+        Err(fault) => return Err(TabledFault::from(RestoreFault::Copy(fault))),
+    }
+    give(rt, &new.file, access_at(rt, &to.file)?)?;
+    replace(rt, new, to)?;
+    Ok(())
+}
+
+/// The paths of what lies beside the table until it is whole, where nothing is yet.
+fn paths_beside(rt: &HostRuntime, to: &Paths) -> Result<Paths, TabledFault> {
+    let file = format!(in rt.alloc(); "{}.restored", to.file).map_err(Fault::from)?;
+    let new = Paths::at(rt, &file)?;
+    for left in [&new.file, &new.log, &to.aside] {
+        if fs::symlink_metadata(rt, left).is_ok() {
+            return Err(TabledFault::from(RestoreFault::Left));
+        }
+    }
+    Ok(new)
+}
+
+/// Puts the copy of a table's file in the place of the file, which no server may have open. It is checked first, and gets the owner and the permissions of
+/// what it replaces, or the owner of the folder.
+pub fn restore_table(rt: &HostRuntime, from: &str, to: &str) -> Result<(), TabledFault> {
+    if let Err(e) = File::open(rt, from) {
+        return Err(TabledFault::from(RestoreFault::From(e.kind())));
+    }
+    let _held = hold(rt, to)?;
+    let (from, to) = (Paths::resolved(rt, from)?, Paths::resolved(rt, to)?);
+    let new = paths_beside(rt, &to)?;
+    match place_copy(rt, &from, &new, &to) {
+        Ok(()) => Ok(()),
+        Err(fault) => {
+            let _ = remove(rt, &new.log);
+            let _ = remove(rt, &new.file);
+            Err(fault)
+        }
+    }
+}
