@@ -21,7 +21,7 @@ import wire
 PATIENCE = 5
 # How often a client asks while another one floods, and how many datagrams the flood sends meanwhile.
 OFTEN, FLOOD = 20, 50
-BEGINS = rb"handled [\d.]+ \(Buckramjade; [^)]*\): begins: publishers 2, lanes 5, table in memory, row cache 41943040 octets, idle 60 seconds, crowd 1000, amplify 8 beyond loopback, reserve 8388608 octets, turns (\d+)"
+BEGINS = rb"handled [\d.]+ \(Buckramjade; [^)]*\): begins: publishers 2, lanes 5, table in memory, row cache 41943040 octets, idle 60 seconds, crowd 1000, amplify 8 beyond loopback, reserve 67108864 octets, turns (\d+)"
 ENDS = rb"handled: ends: the turns are spent"
 # The turns of a server that nobody asks, and of one whose clients ask until it ends.
 FEW, SERVED = 50, 2000

@@ -31,7 +31,7 @@ MANY = 2600
 # More octets of memory than any process has.
 TOO_MUCH = 1 << 50
 # How much address space a process has that is to run out of memory, and what a value takes.
-SCARCE, LONG = 400 << 20, 30000
+SCARCE, LONG = 600 << 20, 30000
 
 
 def tenants(*ports):
@@ -224,7 +224,8 @@ def scarce_memory(folder):
     for options in ([], ["--table", os.path.join(folder, "scarce.db")]):
         where = "over a file" if options else "in memory"
         with Server(folder, options, preexec_fn=scarce) as server:
-            made, codes = 0, []
+            yield "well before " + where, server.health() == 200
+            codes = []
             while codes.count(BUSY) < 3 and len(codes) < 20000:
                 codes.append(server.bolt.make(b"%d" % len(codes), bytes(LONG)))
             made = codes.index(BUSY)

@@ -33,13 +33,13 @@ pub struct Limits {
 pub const AMPLIFY: u32 = 8;
 
 impl Limits {
-    /// No end of turns, a minute of silence, a thousand connections, and 8 MiB.
+    /// No end of turns, a minute of silence, a thousand connections, and 64 MiB.
     pub const DEFAULT: Limits = Limits {
         turns: u64::MAX,
         idle: 60,
         crowd: 1000,
         amplify: None,
-        reserve: 8_388_608,
+        reserve: 67_108_864,
     };
 
     /// How many times the octets that asked a reply may have, through a datagram socket at this address.

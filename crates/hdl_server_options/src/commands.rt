@@ -106,7 +106,7 @@ fn bound_args<'a>(alloc: Global, command: Command<'a>) -> Result<Command<'a>, Al
             alloc,
             "reserve",
             "OCTETS",
-            "Keeps so many octets of memory aside: where less is left, what takes more is answered busy, and the rest goes on; 8388608 by default, 0 for none",
+            "Keeps so many octets of memory aside: where less is left, what takes more is answered busy, and the rest goes on; 67108864 by default, 0 for none",
         )
         .value_parser(value_parser!(u64)))?
         .arg(option(
