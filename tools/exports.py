@@ -21,8 +21,8 @@ import servers
 import wire
 
 KEY = b"example-secret"
-# The octets that standard input takes, and a number of handles with values so long that their text has more.
-LIMIT, MANY, LONG = 16_777_216, 9_000, 1_000
+# The octets that standard input takes, and a number of handles whose text has more.
+LIMIT, MANY, LONG = 16_777_216, 100_000, 40
 # The octets of which a file may have more than any log that an export leaves, and less than such a text.
 ROOM = 1_000_000
 ADMIN, KEPT = 0x0E, 0x0C
@@ -298,7 +298,12 @@ def large(folder):
     with open(to, "rb") as made:
         again = made.read()
     yield "a long text of a long text", (done.returncode, done.stdout) == (0, b"") and sorted(value_lines(again)) == sorted(value_lines(given))
-    yield "how long it is is said", done.stderr == b"export: the text has %d octets, and standard input takes %d at most: hand it to handled by --text FILE\n" % (len(again), LIMIT)
+    yield "how long it is is said", done.stderr.splitlines(True)[-1:] == [b"export: the text has %d octets, and standard input takes %d at most: hand it to handled by --text FILE\n" % (len(again), LIMIT)]
+    done = handled("serve", b"", "--text", to, "--table", file + ".again", "--turns", "1")
+    yield "it is served again", done.returncode == 0
+    done = export(b"", "--table", file + ".again", "--text", to, "--to", to + ".again")
+    with open(to + ".again", "rb") as made:
+        yield "and exported as it was", done.returncode == 0 and made.read() == again
     done = handled("check", b"", "--text", to)
     yield "it is read again", done.returncode == 0 and b"%d values\n" % len(rows) in done.stdout
     done = handled("check", b"", "--text", os.path.join(folder, "none"))
