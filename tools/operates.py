@@ -85,7 +85,9 @@ def script(ports):
     first, second, third, fourth = (ports[port] for port in PORTS[:4])
     asks = {
         "Start": "listens %d %d %d" % (first, second, third),
-        "First handles": "asked list 10 --key 300:0.NA/10 --server 127.0.0.1:%d" % first,
+        "First handles": "asked list 10 --key 300:0.NA/10 --server 127.0.0.1:%d\nsleep 0.5" % first,
+        # as a person would: the log's thread writes a line a moment behind its answer, and lines of several lanes that came since it wrote last lane by lane
+        "Change": "sleep 0.5",
         "Restore": "listens %d\nasked resolve 10/report-7 --type URL --server 127.0.0.1:%d\nasked list 10 --key 300:0.NA/10 --server 127.0.0.1:%d" % (third, first, first),
         "A fourth department": "listens %d\nasked resolve 0.NA/40 --type URL --server 127.0.0.1:%d\nasked resolve 10/report-8 --type URL --server 127.0.0.1:%d" % (fourth, fourth, first),
         "A department moves": "listens %d %d\nasked resolve 10/report-7 --type URL --server 127.0.0.1:%d\nasked list 10 --key 300:0.NA/10 --server 127.0.0.1:%d\nasked resolve 20/none --server 127.0.0.1:%d\n%s"
