@@ -10,6 +10,7 @@ import re
 import socket
 import subprocess
 import sys
+import tempfile
 import threading
 import time
 
@@ -97,9 +98,52 @@ ANSWERS = (
     ("control characters in handles", LIST_ANSWER, ["list", "10", "--short"], "10/a\\u{a}10/b\n10/\\u{1b}[2J\\u{9b}\n"),
 )
 
+# The same by the layout of the Handle.Net software: what is asked, and what comes; what is sent, and standard input behind it.
+NET_URL = wire.net_value(1, b"URL", b"http://a/", 0x0E, 86400, 0x65000000)
+NET_SAID = ";; reply to resolve 1, session 0: 1 success\n10/a\n;; written 2023-09-12T06:06:56Z\n1 URL 86400 1110 UTF8 http://a/\n"
+NET_CREATE = wire.message(wire.CREATE, wire.string(b"10/a") + wire.listed([wire.net_value(1, b"URL", b"a", 0x0E, 86400)]))
+NET_WRITES = (
+    (["create", "10/a", "1 URL 86400 1110 UTF8 a", "--handle-net"], ""),
+    (["batch", "--handle-net"], "CREATE 10/a\n1 URL 86400 1110 UTF8 a\n"),
+)
+# The data of an HS_SITE value, laid out by hand: of which words it is made, and what they say.
+SITE = bytes.fromhex(
+    "0001" "0201" "0001" "80" "02" "00000000" "00000000" "00000001"  # form, protocol, serial number, primary, hash by all, no filter, no attributes, one server
+    "00000001" "000000000000000000000000c0000207" "00000000" "00000002"  # its number, 192.0.2.7, no key, two interfaces
+    "03" "01" "00000a51" "02" "00" "00000a51")  # TCP for both, UDP for queries, port 2641
+SITE_6 = bytes.fromhex(
+    "0001" "0201" "0102" "80" "02" "00000000" "00000000" "00000001"
+    "00000001" "20010db8000000000000000000000007" "00000000" "00000001"
+    "03" "01" "00003039")
+SITE_SAID = """\
+site of form 1, protocol 2.1, serial number 1
+the primary site
+hash option 2: a handle's server is found by all of it
+server 1 at 192.0.2.7, public key of 0 octets
+TCP port 2641: queries and administration
+UDP port 2641: queries
+"""
+# One as other software may make it: a mirror with an attribute, and a server with a key, HTTP, and an address ::ffff:192.0.2.7.
+SITE_OTHER = bytes.fromhex("0001" "020a" "0007" "00" "00" "00000000" "00000001" "00000004" "64657363" "00000002" "411b" "00000001"
+                           "00000002" "00000000000000000000ffffc0000207" "00000003" "0a0b0c" "00000001" "02" "02" "00001f40")
+SITE_OTHER_SAID = """\
+site of form 1, protocol 2.10, serial number 7
+a mirror: changes are made elsewhere
+hash option 0: a handle's server is found by its prefix
+attribute desc: A\\u{1b}
+server 2 at 192.0.2.7, public key of 3 octets
+HTTP port 8000: queries
+"""
+SITES = (
+    (["--address", "192.0.2.7", "--udp"], SITE.hex() + "\n"),
+    (["--address", "2001:db8::7", "--port", "12345", "--serial", "258"], SITE_6.hex() + "\n"),
+    (["--read", SITE.hex()], SITE_SAID),
+    (["--read", SITE_OTHER.hex()], SITE_OTHER_SAID),
+)
+
 # Of a reply about something else: its name, its octets, what is asked, and what is said on standard error. Nothing of it is shown.
 PLAIN = wire.value(1, b"URL", b"https://other.example/", 0x0E, 86400)
-OTHER_HANDLE, OTHER_REQUEST = "hdl: a reply about another handle came\n", "hdl: a reply to another request came\n"
+OTHER_HANDLE, OTHER_REQUEST = "hdl: the server replied about another handle\n", "hdl: the server replied to another request\n"
 CREATE = ["create", "10/a", "1 URL 86400 1110 UTF8 a"]
 OTHERS = (
     ("another handle's values", wire.values_reply(b"9/other", PLAIN), ["resolve", "10/a"], OTHER_HANDLE),
@@ -118,11 +162,11 @@ RESOLVE = wire.resolution(b"10/a")
 OTHER_BEHIND = [wire.frame(wire.challenge(RESOLVE), 1, 1), wire.frame(wire.values_reply(b"9/other", PLAIN), 1, 2)]
 
 # Of what one reply doesn't say: what is asked, the operation, and what is said on standard error.
-MANY_HANDLES = ("hdl: 2 error: more handles than one reply of 65,536 octets says; who runs the server has all of them by `handled copy --table FILE --to COPY` and "
-                "`handled export --table COPY < TENANTS`, while it goes on\n")
+MANY_HANDLES = ("hdl: 2 error: more handles than fit into one reply (65,536 octets). The server's operator can list all: `handled copy --table FILE --to COPY`, then "
+                "`handled export --table COPY < TENANTS`\n")
 TOO_LONG = (
     (["list", "10"], wire.LIST, MANY_HANDLES),
-    (["resolve", "10/a"], wire.RESOLVE, "hdl: 2 error: more values than one reply of 65,536 octets says; ask for some of them by --index or --type\n"),
+    (["resolve", "10/a"], wire.RESOLVE, "hdl: 2 error: more values than fit into one reply (65,536 octets): select some with --index or --type\n"),
     (["delete", "10/a"], wire.DELETE, "hdl: 2 error\n"),
 )
 
@@ -141,53 +185,57 @@ SERVERS = (
     ("it closes at once", [], 3, "hdl: the connection was closed"),
     ("it closes in the middle of an envelope", [DONE[:11]], 3, "hdl: the connection was closed"),
     ("it closes in the middle of a message", [DONE[:-1]], 3, "hdl: the connection was closed"),
-    ("no frame", [b"HTTP/1.1 400 Bad Request\r\n\r\n"], 3, "hdl: what came is no frame: unknown protocol version"),
-    ("an answer to another request", [wire.frame(reply(wire.DELETE), 0, 2)], 3, "hdl: a reply to another request came"),
-    ("octets behind a reply", [LONG], 3, "hdl: what came is no reply"),
-    ("a piece", [b"\2\1\x20\0" + DONE[4:]], 3, "hdl: what came is no reply"),
-    ("a challenge of another request", [wire.frame(wire.challenge(DELETE_20), 1, 1)], 3, "hdl: a challenge of another request came"),
+    ("no frame", [b"HTTP/1.1 400 Bad Request\r\n\r\n"], 3, "hdl: the server sent no frame: unknown protocol version"),
+    ("an answer to another request", [wire.frame(reply(wire.DELETE), 0, 2)], 3, "hdl: the server replied to another request"),
+    ("octets behind a reply", [LONG], 3, "hdl: the server sent no reply"),
+    ("a piece", [b"\2\1\x20\0" + DONE[4:]], 3, "hdl: the server sent no reply"),
+    ("a challenge of another request", [wire.frame(wire.challenge(DELETE_20), 1, 1)], 3, "hdl: the server challenged another request"),
     ("a wrong key", [OWN, wire.frame(reply(wire.DELETE, 403, wire.number(0)), 1, 2)], 1, "hdl: 403 authentication failed"),
     ("it closes behind its challenge", [OWN], 3, "hdl: the connection was closed"),
     ("its challenge again", [OWN, wire.frame(OWN[20:], 1, 2)], 1, "hdl: 402 authentication needed"),
 )
 
-KEY_REFUSED = ("hdl: a key can't stand on the command line, where others on this machine can read its secret: "
-               "write it by `hdl batch`, from standard input")
+KEY_REFUSED = "hdl: an HS_SECKEY value is refused on the command line, which others on this machine can read: use `hdl batch`"
 
 # Of a server that can't be reached: its words, and what is said behind them. A broadcast address has no way for a connection.
-NOBODY = "nothing listens there: is a server running? ./handled serve < examples/serve.tenants starts one of the example's"
-NO_PORT = "this is no HOST:PORT: write a host, a colon and a port, as in 127.0.0.1:2641"
+NOBODY = "nothing listens there: is a server running? `handled serve < examples/serve.tenants` starts an example"
+NO_PORT = "not of the form HOST:PORT: write a host, a colon and a port, as in 127.0.0.1:2641"
 UNREACHED = (
     ("127.0.0.1:1", NOBODY),
     ("127.0.0.1", NO_PORT),
     ("127.0.0.1:99999", NO_PORT),
-    ("nowhere.invalid:2641", "no address is known of this name: look at --server"),
-    ("255.255.255.255:2641", "no network leads there: look at --server, and at what stands between"),
+    ("nowhere.invalid:2641", "this name has no address: check --server"),
+    ("255.255.255.255:2641", "the network is unreachable: check --server, and the network between"),
 )
 
 # Words that are no request: arguments, standard input, and what is said.
 WORDS = (
-    (["resolve", "10/a", "--index", "0"], "", "hdl: an index isn't a number from 1 on"),
+    (["resolve", "10/a", "--index", "0"], "", "hdl: an index isn't a number from 1 to 4294967295"),
     (["create", "10/a", "1 URL 86400 111 UTF8 a"], "", "hdl: the permissions aren't four digits 0 or 1"),
     (["create", "10/a", "0 URL 86400 1110 UTF8 a"], "", "hdl: the value's index is 0"),
     (["create", "10/k", KEY_LINE], "", KEY_REFUSED),
     (["add", "10/k", "1 URL 86400 1110 UTF8 a", KEY_LINE], "", KEY_REFUSED),
     (["modify", "10/k", "OCTETS " + KEY.hex()], "", KEY_REFUSED),
-    (["create", "10/k", "300 HS_SECKEY HIDDEN 11 octets"], "", "hdl: its data is hidden"),
-    (["delete", "10/c", "--key", "10/c"], "", "hdl: a key isn't INDEX:HANDLE"),
-    (["batch"], "CREATE\n", "hdl: line 1: no such operation"),
-    (["batch"], "MOVE 10/a\n", "hdl: line 1: no such operation"),
+    (["create", "10/k", "300 HS_SECKEY HIDDEN 11 octets"], "", "hdl: the data is HIDDEN: write the data itself"),
+    (["delete", "10/c", "--key", "10/c"], "", "hdl: a key isn't INDEX:HANDLE, such as 300:0.NA/10"),
+    (["batch"], "CREATE\n", "hdl: line 1: unknown operation: write RESOLVE, CREATE, ADD, MODIFY, REMOVE, DELETE, LIST or AUTHENTICATE"),
+    (["batch"], "MOVE 10/a\n", "hdl: line 1: unknown operation: write RESOLVE, CREATE, ADD, MODIFY, REMOVE, DELETE, LIST or AUTHENTICATE"),
     (["batch"], "DELETE 10\n", "hdl: line 1: the name has no slash"),
-    (["batch"], "DELETE 10/a\n1 URL 86400 1110 UTF8 a\n", "hdl: line 2: a value stands behind no operation that takes one"),
+    (["batch"], "DELETE 10/a\n1 URL 86400 1110 UTF8 a\n", "hdl: line 2: no CREATE, ADD or MODIFY stands before this value"),
     (["batch"], ";; no value\nADD 10/a\n\n", "hdl: line 2: the operation needs values or indexes"),
     (["batch"], "ADD 10/a\n1 URL x 1110 UTF8 a\n", "hdl: line 2: the TTL isn't a number"),
-    (["batch"], "REMOVE 1,x:10/a\n", "hdl: line 1: an index isn't a number from 1 on"),
-    (["batch"], "AUTHENTICATE SECKEY:0.NA/10\n%s\n" % SECRET, "hdl: line 2: a key isn't INDEX:HANDLE"),
-    (["batch"], "AUTHENTICATE SECKEY:300:0.NA/10\n", "hdl: line 1: the secret is missing"),
-    (["tenants"], "value 10/a 1 URL 86400 1110 HIDDEN 3 octets\n", "hdl: line 1: its data is hidden"),
-    (["init", "10", "10"], "", "hdl: prefix 2 is given twice: name each once, in capitals or not"),
-    (["init", "10/a"], "", "hdl: prefix 1 is no naming authority: write one such as 10 or 10.5072, without a slash, other than 0.NA"),
-    (["init", *map(str, range(33))], "", "hdl: more than 32 prefixes: each publisher needs 2 of a process's 64 lanes, so write a text for each process"),
+    (["batch"], "REMOVE 1,x:10/a\n", "hdl: line 1: an index isn't a number from 1 to 4294967295"),
+    (["batch"], "AUTHENTICATE SECKEY:0.NA/10\n%s\n" % SECRET, "hdl: line 2: a key isn't INDEX:HANDLE, such as 300:0.NA/10"),
+    (["batch"], "AUTHENTICATE SECKEY:300:0.NA/10\n", "hdl: line 1: the secret is missing: set HDL_SECRET, or write it on the first line of standard input, or, in a batch, on the line after AUTHENTICATE"),
+    (["tenants"], "value 10/a 1 URL 86400 1110 HIDDEN 3 octets\n", "hdl: line 1: the data is HIDDEN: write the data itself"),
+    (["init", "10", "10"], "", "hdl: prefix 2 is given twice: name each prefix once; capital and small letters are the same"),
+    (["init", "10/a"], "", "hdl: prefix 1 isn't a naming authority: write one such as 10 or 10.5072, without a slash, and not 0.NA"),
+    (["init", *map(str, range(33))], "", "hdl: more than 32 prefixes: a server has 64 lanes, and each publisher needs two; make a text for each of several servers"),
+    (["site", "--address", "192.0.2"], "", "hdl: --address isn't an IPv4 or IPv6 address: write one such as 192.0.2.7 or 2001:db8::7"),
+    (["site", "--address", "192.0.2.7", "--port", "0"], "", "hdl: --port isn't a number from 1 to 65535"),
+    (["site", "--address", "192.0.2.7", "--serial", "65536"], "", "hdl: --serial isn't a number from 0 to 65535"),
+    (["site", "--read", SITE.hex() + "00"], "", "hdl: no data of an HS_SITE value: write its hexadecimal digits, or the path of a file with its octets"),
+    (["site", "--read", SITE.hex()[:-2]], "", "hdl: no data of an HS_SITE value: write its hexadecimal digits, or the path of a file with its octets"),
     (["script"], "publisher acme 2 2641\n", "hdl: the line `run` is missing"),
     (["script"], "publisher acme 1 2641\n\nrun\n", "hdl: tenants: line 1: bad line"),
 )
@@ -315,29 +363,74 @@ value 10a 00
 value 10/a 0
 value 10/a 00
 prefixes 10 acme
+publisher bolt 4 2642 handlenet
 """
 TEXT_SAID = """\
 tenants: line 3: publisher given twice: give each publisher a name of its own
 tenants: line 4: a publisher's name is 1 to 32 of a-z, 0-9 and -
 tenants: line 5: LANES is a number from 2 to 64; the last lane is that of datagrams
 tenants: line 6: PORT is a number from 1 to 65535
-tenants: line 7: more than 64 lanes together: give this publisher fewer, or serve it by a process of its own
-tenants: line 9: prefix given twice: this publisher has it above
+tenants: line 7: more than 64 lanes together: give this publisher fewer lanes, or a server of its own
+tenants: line 9: prefix given twice: this publisher has it already
 tenants: line 10: a prefix is a naming authority in lower case, such as 10 or 10.5072, without a slash, and not 0.na
-tenants: line 11: no line of this publisher stands above: write the line `publisher ..` before its prefixes
-tenants: line 12: the word behind the publisher is 2 for SHA-1 or 3 for SHA-256
+tenants: line 11: this publisher has no line yet: write its line `publisher ..` before its prefixes
+tenants: line 12: the word after the publisher is 2 for SHA-1 or 3 for SHA-256
 tenants: line 13: write: value HANDLE HEX, with single spaces; hdl tenants makes such lines of values in words
-tenants: line 14: no line of the handle's prefix stands above: write the line `prefix ..` before its values
+tenants: line 14: the handle's prefix has no line yet: write its line `prefix ..` before its values
 tenants: line 15: the name has no slash
 tenants: line 16: HEX is an even number of hexadecimal digits; hdl tenants makes them of a value in words
 tenants: line 17: the value is cut short
 tenants: line 18: a line begins with `publisher`, `prefix` or `value` and a space, or with `#`, or is empty
+tenants: line 19: the word after the port is handle-net: the layout of values that the Handle.Net software has
 """
 TEXT_HAS = """\
-acme: port 2641, 7 connections at a time; prefixes 10
-bolt: port 2642, 3 connections at a time; prefixes 20
+acme: port 2641, 7 lanes for connections; prefixes 10
+bolt: port 2642, 3 lanes for connections; prefixes 20
 12 of 64 lanes, 6 values
 """
+
+
+def net():
+    """Values by the layout of the Handle.Net software: what is read and sent, and a service for a text of `hdl init --handle-net`."""
+    came = wire.frame(wire.values_reply(b"10/a", NET_URL), 0, 1)
+    for words, wanted in ((["--handle-net"], (0, NET_SAID, "")), ([], (3, "", "hdl: the server sent no reply\n"))):
+        done = asked(lambda listener: served(listener, [came], []), ["resolve", "10/a", *words])
+        yield " ".join(["a value of Handle.Net", *words]), (done.returncode, done.stdout, done.stderr) == wanted
+    for words, text in NET_WRITES:
+        sent = []
+        done = asked(lambda listener: served(listener, [wire.frame(reply(wire.CREATE), 0, 1)], sent), words, text)
+        yield " ".join(words), done.returncode == 0 and sent == [wire.frame(NET_CREATE, 0, 1)]
+    made = run(["init", "--handle-net", "10"])
+    secret = re.search("HS_SECKEY 86400 1100 UTF8 ([0-9a-f]{64})$", made.stdout, re.MULTILINE)[1]
+    text = run(["tenants"], made.stdout).stdout
+    with servers.serving(lambda *ports: text.replace(" 2641 handle-net\n", " %d handle-net\n" % ports[0]).encode(), 1) as (port,):
+        create = ["create", "10/a", "100 HS_ADMIN 86400 1110 ADMIN 300:111111111111:0.NA/10", "--key", "300:0.NA/10", "--server", "127.0.0.1:%d" % port]
+        done = [run([*create, *more], HDL_SECRET=secret) for more in ([], ["--handle-net"])]
+        shown = run(["resolve", "10/a", "--short", "--handle-net", "--server", "127.0.0.1:%d" % port])
+        yield "hdl init --handle-net", [one.returncode for one in done] == [1, 0] and shown.stdout == "300:111111111111:0.NA/10\n"
+        with tempfile.NamedTemporaryFile("w", suffix=".csv") as rows:
+            rows.write("handle,type,data\n10/b,URL,https://example.org/b\n")
+            rows.flush()
+            import_ = ["import", "--csv", rows.name, "--key", "300:0.NA/10", "--handle-net", "--server", "127.0.0.1:%d" % port]
+            done = [run(import_, HDL_SECRET=secret) for _ in range(2)]
+            yield "hdl import --handle-net", [one.stdout for one in done] == ["1 created, 0 there already, 0 failed\n", "0 created, 1 there already, 0 failed\n"]
+
+
+def sites():
+    """The data of HS_SITE values, made and shown; and the same by files."""
+    for words, said in SITES:
+        done = run(["site", *words])
+        yield " ".join(["hdl site", *words])[:60], (done.returncode, done.stdout) == (0, said)
+    with tempfile.TemporaryDirectory() as folder:
+        key, out = os.path.join(folder, "key"), os.path.join(folder, "siteinfo.bin")
+        with open(key, "wb") as file:
+            file.write(b"\0\1\2")
+        done = run(["site", "--address", "192.0.2.7", "--udp", "--public-key", key, "--out", out])
+        with open(out, "rb") as file:
+            written = file.read()
+        yield "hdl site --out", (done.returncode, done.stdout) == (0, "") and written == SITE[:40] + b"\0\0\0\3\0\1\2" + SITE[44:]
+        done = run(["site", "--read", out])
+        yield "hdl site --read FILE", (done.returncode, done.stdout) == (0, SITE_SAID.replace("key of 0", "key of 3"))
 
 
 def checks():
@@ -347,7 +440,7 @@ def checks():
     for port, free in zip(("2641", "2642"), servers.free_ports(2)):
         good, has = good.replace(" %s\n" % port, " %d\n" % free), has.replace(port, str(free))
     line = next(line for line in good.splitlines() if line.startswith("value 10/report-7"))
-    twice = "tenants: line %d: a value with this index stands above: give each value of a handle an index of its own\n" % (len(good.splitlines()) + 1)
+    twice = "tenants: line %d: the handle has a value with this index already: give each value an index of its own\n" % (len(good.splitlines()) + 1)
     for name, text, wanted in (("faults", TEXT_FAULTS, (3, "", TEXT_SAID)), ("none", good, (0, has, "")), ("twice", good + line + "\n", (3, "", twice))):
         done = subprocess.run([servers.HANDLED, "check"], input=text, capture_output=True, text=True, check=False, timeout=60 * servers.SLOWER)
         yield "handled check: " + name, (done.returncode, done.stdout, done.stderr) == wanted
@@ -403,7 +496,7 @@ def cases():
 
 def main():
     passed = failed = 0
-    for name, good in [*exchanges(), *fresh(), *checks(), *versions()]:
+    for name, good in [*exchanges(), *net(), *sites(), *fresh(), *checks(), *versions()]:
         passed, failed = passed + good, failed + (not good)
         if not good:
             print("%s: other octets than those that should be" % name)

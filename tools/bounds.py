@@ -94,7 +94,7 @@ def served(options, said=None, **how):
 
 
 def told(values, count):
-    return "bound: acme has reached %d values and %d octets: a change that would take more is answered busy; remove values or handles, or start anew with a larger --bound" % (values, count)
+    return "bound: acme has reached %d values and %d octets: changes that add more are answered busy. Remove values or handles, or restart with a larger --bound" % (values, count)
 
 
 def alike(found, wanted):
@@ -169,7 +169,7 @@ def bad_words():
     """Words that are no bound, a publisher twice, and one that the text doesn't have."""
     plain = "write a publisher's name and two numbers, such as acme=10000,5000000"
     cases = [(["acme"], "acme", plain), (["acme=1"], "acme=1", plain), (["acme=1,"], "acme=1,", plain), (["acme=+1,2"], "acme=+1,2", plain), (["acme=1,99999999999999999999"], "acme=1,99999999999999999999", plain)]
-    cases += [(["acme=9,9999", "acme=8,9999"], "acme=8,9999", "its publisher has a bound already"), (["nobody=1,1"], "nobody", "the text has no publisher of this name")]
+    cases += [(["acme=9,9999", "acme=8,9999"], "acme=8,9999", "this publisher has a --bound already; give one per publisher"), (["nobody=1,1"], "nobody", "the tenants text has no publisher of this name")]
     good = True
     for words, value, reason in cases:
         options = [option for word in words for option in ("--bound", word)]
@@ -184,7 +184,7 @@ def too_much_to_open():
         good = True
         for most in ((1, 1 << 40), (1 << 40, OPENED - 1)):
             for file in ([], ["--table", os.path.join(folder, "handles.db")]):
-                said = "tenants: acme opens with 2 values and %d octets, beyond its bound, %d values and %d octets: give it a larger --bound, or fewer values in the text\n" % (OPENED, *most)
+                said = "tenants: acme opens with 2 values and %d octets, and its bound is %d values and %d octets: raise --bound, or remove values from the text\n" % (OPENED, *most)
                 good = alike(refused([*bound("acme", *most), *file]), (3, b"", said)) and good
         return good and os.listdir(folder) == []
 

@@ -14,6 +14,7 @@
   each name in parentheses.
 - The kit of README.md, docs/TOOLCHAIN.md and `--version` is one, and CHANGES.md has the version.
 - docs/PROTOCOL.md, "Limits": each row has the number of its constant, and each number of hdl_limits' `numbers` has a row.
+- What programs print of defaults and limits: each number is that of its constant (`PRINTED`).
 
 Prints what isn't there, and then the exit status is 1."""
 
@@ -37,6 +38,38 @@ OF_CRATE = re.compile(r"\b(hdl_\w+|handled) ((?:`\w+(?:::\w+)*`(?: \([^)]*\))?(?
 BEFORE_CRATE = re.compile(SPAN + r" of (hdl_\w+)")
 LIMIT = re.compile(r"^    ensures \w+ \{ (\w+) ≡ (\d+) \}$", re.MULTILINE)
 INPUT_LIMIT = re.compile(r"^pub const (INPUT_LIMIT): usize = ([\d_]+);$", re.MULTILINE)
+NUMERALS = {"two": "2", "eight": "8", "ten": "10"}
+OPTIONS, LISTENING, LIMITS = "crates/hdl_server_options/src/commands.rt", "crates/hdl_listeners/src/listening.rt", "crates/hdl_limits/src/lib.rt"
+PROXY, GATHERING, ASKING, REASONS = "crates/hdl_web/src/words.rt", "crates/hdl_web/src/gathering.rt", "crates/hdl_commands/src/asking.rt", "crates/hdl_check/src/reasons.rt"
+# Where a default or a limit stands in a text that a program prints, and the constant that it is.
+PRINTED = (
+    (OPTIONS, r"client waits; (\d+) by default", LISTENING, "idle"),
+    (OPTIONS, r"answers a challenge; (\d+) by default", LISTENING, "AMPLIFY"),
+    (OPTIONS, r"overflow lane; (\d+) by default", LISTENING, "crowd"),
+    (OPTIONS, r"reads go on; (\d+) by default", LISTENING, "reserve"),
+    (OPTIONS, r"read last; (\d+) by default", "crates/hdl_cachedrows/src/cached.rt", "LIMIT_DEFAULT"),
+    ("crates/hdl/src/words.rt", r"server to ask; (\S+) by default", "crates/hdl/src/words.rt", "SERVER"),
+    (PROXY, r"listen at; may be repeated; (\S+) by default", PROXY, "LISTEN"),
+    (PROXY, r"each address; (\d+) by default", PROXY, "THREADS"),
+    (PROXY, r"asked at once; (\d+) by default", PROXY, "ASKERS"),
+    (PROXY, r"whole answer; (\d+) by default", PROXY, "TIMEOUT"),
+    (PROXY, r"every page; (\S+) by default", PROXY, "SITE"),
+    (GATHERING, r"larger than (\d+) octets", GATHERING, "BODY_MOST"),
+    (GATHERING, r"within (\d+) seconds", GATHERING, "BODY_SECONDS"),
+    (ASKING, r"one reply \(([\d,]+) octets\)", LIMITS, "MESSAGE_MAX"),
+    (REASONS, r"the handle has ([\d,]+) values", LIMITS, "VALUES_MAX"),
+    (REASONS, r"a publisher's name is 1 to (\d+)", LIMITS, "PUBLISHER_NAME_MAX"),
+    (REASONS, r"LANES is a number from 2 to (\d+)", LIMITS, "LANES"),
+    ("crates/hdl_check/src/report.rt", r"of (\d+) lanes", LIMITS, "LANES"),
+    ("crates/hdl_commands/src/fresh.rt", r"a server has (\d+) lanes", LIMITS, "LANES"),
+    ("crates/hdl_commands/src/fresh.rt", r"const LANES: usize = (\d+);", LIMITS, "LANES"),
+    ("crates/hdl_tables/src/copying.rt", r"each of (\d+) tries", "crates/hdl_tables/src/copying.rt", "TRIES"),
+    ("crates/hdl_writes/src/mint.rt", r"All (\w+) suffixes", "crates/hdl_writes/src/mint.rt", "DRAWN_MOST"),
+    ("crates/hdl_writes/src/stop.rt", r"request of more than (\d+) octets", LIMITS, "MESSAGE_MAX"),
+    ("crates/hdl_writes/src/stop.rt", r"remove more than (\d+) values", LIMITS, "WRITTEN_MAX"),
+    ("crates/hdl_writes/src/change_answers.rt", r"at most (\d+) values", LIMITS, "VALUES_MAX"),
+    ("crates/hdl_proxy/src/step.rt", r"beyond (\w+) handles", "crates/hdl_proxy/src/step.rt", "HOPS_MOST"),
+)
 ROW = re.compile(r"^\| [^|]* \| ([\d,]+) \| `(\w+)` \|$", re.MULTILINE)
 SCRIPTS = ("check", "run", "hdl", "test", "try", ".ci/*")
 
@@ -220,6 +253,21 @@ def wrong_limits():
             yield "docs/PROTOCOL.md: %s is %s there, and %s in the code" % (name, rows.get(name), limits.get(name))
 
 
+def number_of(path, name):
+    """A constant's value, a number without its underscores or a text."""
+    found = re.search(r'\b%s(?:: &?\w+ =|:) ("?)((?<=")[\w.:]+|\d[\w.:]*)\1[;,]$' % name, text_of(path), re.MULTILINE)
+    return found and found[2].replace("_", "")
+
+
+def wrong_numbers():
+    """Numbers that programs print in words of their own: each is that of its constant."""
+    for path, words, where, name in PRINTED:
+        printed = [number.replace(",", "") for number in re.findall(words, text_of(path))]
+        number = number_of(where, name)
+        if not printed or {NUMERALS.get(it, it) for it in printed} != {number}:
+            yield "%s: '%s' prints %s, and %s of %s is %s" % (path, words, " and ".join(printed) or "nothing", name, where, number)
+
+
 def wrong_versions():
     kits = set(re.findall(r"rattle-kit-\w+ logic \w+", text_of("README.md") + text_of("docs/TOOLCHAIN.md") + text_of("crates/hdl_programs/src/lib.rt")))
     if len(kits) != 1:
@@ -231,7 +279,7 @@ def wrong_versions():
 
 def main():
     os.chdir(ROOT)
-    found = [fault for faults in (missing_clauses, missing_names, missing_edits, missing_vectors, missing_places, missing_links, missing_stations, wrong_limits, wrong_versions) for fault in faults()]
+    found = [fault for faults in (missing_clauses, missing_names, missing_edits, missing_vectors, missing_places, missing_links, missing_stations, wrong_limits, wrong_numbers, wrong_versions) for fault in faults()]
     for fault in found:
         print(fault)
     print("citations: %d faults" % len(found))

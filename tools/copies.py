@@ -154,7 +154,7 @@ def single(folder, file, copied, ports):
         before = octets.read()
     done = copy(file, copied)
     with open(copied, "rb") as octets:
-        yield "what is there stays", (done.returncode, done.stderr[:28], octets.read() == before) == (4, b"copy: there is a file at the", True)
+        yield "what is there stays", (done.returncode, done.stderr[:28], octets.read() == before) == (4, b"copy: a file exists at the c", True)
     done = copy(os.path.join(folder, "none.db"), os.path.join(folder, "new.db"))
     yield "no file", (done.returncode, done.stderr[:36], os.path.exists(os.path.join(folder, "new.db"))) == (4, b"copy: the table's file can't be read", False)
     done = copy(file, os.path.join(folder, "none", "new.db"))
@@ -240,7 +240,7 @@ def unrestored(folder, copied, file):
     yield "a folder as the table", refused(restore(copied, folder), b"table: cannot open: at the path is a folder")
     with open(file + ".restored", "wb") as left:
         left.write(b"kept")
-    yield "what another restore left", refused(restore(copied, file), b"restore: beside the table is what a restore left")
+    yield "what another restore left", refused(restore(copied, file), b"restore: a restore that was ended left files")
     with open(file + ".restored", "rb") as left:
         yield "what was left stays", left.read() == b"kept"
 

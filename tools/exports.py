@@ -233,7 +233,7 @@ def moved(folder):
     other = export(given, "--table", file, "--publisher", "bolt")
     yield "a publisher that rests on others", (other.returncode, sorted(stamped(line) for line in other.stdout.decode().splitlines() if line.startswith("value 30"))) == (0, expected(COVER[2:]))
     none = export(given, "--table", file, "--publisher", "none")
-    yield "no such publisher", (none.returncode, none.stdout, none.stderr.split(b"\n")[0]) == (2, b"", b"error: invalid value 'none' for '--publisher <NAME>': the text has no publisher of this name")
+    yield "no such publisher", (none.returncode, none.stdout, none.stderr.split(b"\n")[0]) == (2, b"", b"error: invalid value 'none' for '--publisher <NAME>': the tenants text has no publisher of this name")
     yield from unsaid(given, file, ports)
 
 
@@ -243,7 +243,7 @@ def unsaid(given, file, ports):
         yield "a list at a handle that no text says", write(ports, [(b"20/a list", [listing(b"20/a list", (b"20/k", 300))[1], administrator(b"0.NA/20")])])
         yield "a handle that is left to it", write(ports, [(b"10/d", [wire.value(100, b"HS_ADMIN", wire.administrator(b"20/a list", 1), ADMIN, 86400), wire.value(101, b"HS_ADMIN", wire.administrator(b"0.NA/10", 300), ADMIN, 86400)])])
     done = export(given, "--table", file, "--publisher", "acme")
-    said = b"no text says this publisher: a list or a key that its values refer to stands at a handle with a space or a line feed in its name\n"
+    said = b"no text says this publisher: its values refer to a list or key whose handle has a space or line feed in its name\n"
     yield "a publisher that no text says", (done.returncode, done.stdout, done.stderr) == (4, b"", said)
     done = export(given, "--table", file, "--publisher", "bolt")
     yield "what is left out of a publisher", (done.returncode, done.stderr[:17]) == (5, b"export: left out,")
@@ -260,7 +260,7 @@ def left_out(folder, file, sayable):
             yield "a handle loses its values", client.remove(b"10/empty", (1, 100)) == wire.SUCCESS
     done = export(text(both, ports, OPENING), "--table", file)
     same = [line for line in done.stdout.splitlines() if line.startswith(b"value ")] == [line for line in sayable.splitlines() if line.startswith(b"value ")]
-    said = b"export: left out, since no tenants text says them: 1 handles without a value, 2 with a space or a line feed in the name\n"
+    said = b"export: left out, since a tenants text can't express them: 1 handles without a value, 2 with a space or line feed in the name\n"
     yield "what is left out is told", (done.returncode, same, done.stderr) == (5, True, said)
 
 
@@ -319,7 +319,7 @@ def written(folder):
         yield "a table that is served", export(given, "--table", file).returncode == 4
         yield "a copy while the server runs", handled("copy", b"", "--table", file, "--to", copied).returncode == 0
         printed = export(given, "--table", copied)
-        said = b"export: left out, since no tenants text says them: 0 handles without a value, 1 with a space or a line feed in the name\n"
+        said = b"export: left out, since a tenants text can't express them: 0 handles without a value, 1 with a space or line feed in the name\n"
         yield "what is left out is said", (printed.returncode, printed.stderr) == (5, said) and printed.stdout.startswith(b"#")
         done = handled("export", given, "--table", copied, "--to", to, preexec_fn=lambda: os.umask(0))
         with open(to, "rb") as octets:

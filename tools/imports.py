@@ -129,21 +129,21 @@ def again(port):
 
 HEAD = "handle,index,type,data,ttl,permissions"
 GOOD = "10/good%d,1,URL,https://example.org/,86400,1110"
-QUOTE = "a quote isn't closed: a field with a quote in it stands in quotes, with each of its own written twice"
-FIELDS = "more or fewer fields than the header names: a field with a comma in it stands in quotes"
-RETURN = "a CR stands in the line: lines end with LF, or with CR LF"
+QUOTE = "a quote isn't closed: put a field with a quote into quotes, and double its own quotes"
+FIELDS = "the line has more or fewer fields than the header: put a field with a comma into quotes"
+RETURN = "the line contains a CR: end lines with LF or CR LF"
 TEXT = "the data isn't text on one line"
-SPACE = "a space begins or ends the data: write such a value by `hdl batch`"
-MANY_VALUES = "the handle has more than 256 values: create it with some of them, and add the others by `hdl batch`"
+SPACE = "the data begins or ends with a space: create such a value with `hdl batch`"
+MANY_VALUES = "the handle has more than 256 values: create it with some, and add the others with `hdl batch`"
 # Of a faulty handle: its rows, and which of them is told with which words.
 FAULTS = (
     (["10/f1,1,URL,https://example.org/,x,1110"], 0, "the TTL isn't a number"),
     (["10/f2,0,URL,https://example.org/,1,1110"], 0, "the value's index is 0"),
     (["10/f3,one,URL,https://example.org/,1,1110"], 0, "the index isn't a number"),
-    (["10/f4,1,two words,https://example.org/,1,1110"], 0, "the type isn't a word"),
-    (["10/f5,1,,https://example.org/,1,1110"], 0, "the type isn't a word"),
+    (["10/f4,1,two words,https://example.org/,1,1110"], 0, "the type is empty, or has a space or other than graphic ASCII characters"),
+    (["10/f5,1,,https://example.org/,1,1110"], 0, "the type is empty, or has a space or other than graphic ASCII characters"),
     (["10/f6,1,URL,https://example.org/,1,111"], 0, "the permissions aren't four digits 0 or 1"),
-    (["10/f7,1,URL,,1,1110"], 0, "the data is empty: write such a value by `hdl batch`"),
+    (["10/f7,1,URL,,1,1110"], 0, "the data is empty: create such a value with `hdl batch`"),
     (["10/f8,1,URL, https://example.org/,1,1110"], 0, SPACE),
     (["10/f24,1,URL,https://example.org/ ,1,1110"], 0, SPACE),
     (["10/f9,1,URL,a\x1b[2J,1,1110"], 0, TEXT),
@@ -154,13 +154,13 @@ FAULTS = (
     (["10/f17,1,URL,https://example.org/,1,1110\r10/f18,1,URL,https://example.org/,1,1110"], 0, RETURN),
     (["10/f14,1,HS_ADMIN,300:0.NA/10,1,1110"], 0, "the data isn't INDEX:MASK:HANDLE"),
     (["10/f15,1,HS_VLIST,300,1,1110"], 0, "the data isn't INDEX:HANDLE and more of them"),
-    (["10/f16,1,HS_SECKEY,a secret,1,1100"], 0, "a key can't stand in the file: write it by `hdl batch`"),
+    (["10/f16,1,HS_SECKEY,a secret,1,1100"], 0, "an HS_SECKEY value is refused in a CSV file: create it with `hdl batch`"),
     (["10,1,URL,https://example.org/,1,1110"], 0, "the name has no slash"),
     ([",1,URL,https://example.org/,1,1110"], 0, "the name has no slash"),
     (["10/\x1b[2J,1,URL,https://example.org/,x,1110"], 0, "the TTL isn't a number"),
     # the rows of one handle: none of them is imported
     (["10/f20,1,URL,https://example.org/,1,1110", "10/f20,2,URL,https://example.org/,x,1110"], 1, "the TTL isn't a number"),
-    (["10/f21,1,URL,https://example.org/,1,1110", "10/f21,1,URL,https://example.org/,1,1110"], 0, "an index stands twice among the handle's rows"),
+    (["10/f21,1,URL,https://example.org/,1,1110", "10/f21,1,URL,https://example.org/,1,1110"], 0, "two rows of the handle have the same index"),
     (["10/f22,%d,URL,a,1,1110" % index for index in range(1, 257)], 0, MANY_VALUES),
     (["10/f23,%d,URL,%s,1,1110" % (index, "x" * 30000) for index in (1, 2, 3)], 0, "the request has more than 65536 octets"),
     # what the service says
@@ -194,9 +194,9 @@ def faults(port):
     yield "octets that are no UTF-8", run(port, octets) == (1, "line 2: 31302fff: the name is not UTF-8\nline 3: 10/latin: the data isn't UTF-8: save the file as CSV UTF-8\n0 created, 0 there already, 2 failed\n", "")
 
 
-COLUMN = "hdl: line 1: the header lacks a column: its line is handle,type,data, in any order, with ttl, index and permissions if they are given\n"
-LETTERS = "hdl: line 1: the header has a column's name with capitals, or with spaces around it: the names are handle, type, data, ttl, index and permissions\n"
-BETWEEN = "hdl: line 1: the header has %s between columns: save the file as CSV with commas between them\n"
+COLUMN = "hdl: line 1: the header lacks a column: it needs handle, type and data, and may have ttl, index and permissions\n"
+LETTERS = "hdl: line 1: a column's name has capitals or spaces: write handle, type, data, ttl, index or permissions\n"
+BETWEEN = "hdl: line 1: the columns are separated by %s: save the file as CSV with commas\n"
 
 
 def unsent(port):
@@ -210,8 +210,8 @@ def unsent(port):
         yield "a column's name that is nearly right", run(port, head + b"\n") == (2, "", LETTERS)
     yield "lines that end with CR", run(port, b"handle,type,data,ttl\r10/a,URL,a,1\r") == (2, "", "hdl: line 1: %s\n" % RETURN)
     yield "a column twice", run(port, b"handle,type,data,ttl,data\n") == (2, "", "hdl: line 1: the header names a column twice\n")
-    yield "a key that is none", run(port, WHOLE, key="10/a") == (2, "", "hdl: a key isn't INDEX:HANDLE\n")
-    yield "no secret", run(port, WHOLE, secret="") == (2, "", "hdl: the secret is missing\n")
+    yield "a key that is none", run(port, WHOLE, key="10/a") == (2, "", "hdl: a key isn't INDEX:HANDLE, such as 300:0.NA/10\n")
+    yield "no secret", run(port, WHOLE, secret="") == (2, "", "hdl: the secret is missing: set HDL_SECRET, or write it on the first line of standard input, or, in a batch, on the line after AUTHENTICATE\n")
     done = subprocess.run([PROGRAM, "import", "--csv", "/none/file.csv", "--key", KEY], capture_output=True, check=False, text=True, env={**os.environ, "HDL_SECRET": SECRET})
     yield "no file", (done.returncode, done.stdout, done.stderr) == (2, "", "hdl: the file can't be read: No such file or directory (os error 2)\n")
     status, out, err = run(port, WHOLE)
@@ -222,7 +222,7 @@ def unsent(port):
     yield "a dry run of a faulty header", run(port, b"handle\n", more=["--dry-run"]) == (2, "", COLUMN)
 
 
-REFUSED = "hdl: the service refuses the key: look at --key and its secret; what stands behind wasn't tried\n"
+REFUSED = "hdl: the server refuses the key: check --key and its secret; later rows were not tried\n"
 
 
 def keys(port):
@@ -236,8 +236,8 @@ def keys(port):
         yield name, good and (status, err) == (1, REFUSED if count == 1000 else "")
 
 
-LONG_LIST = ("hdl: 2 error: more handles than one reply of 65,536 octets says; who runs the server has all of them by `handled copy --table FILE --to COPY` and "
-             "`handled export --table COPY < TENANTS`, while it goes on\n")
+LONG_LIST = ("hdl: 2 error: more handles than fit into one reply (65,536 octets). The server's operator can list all: `handled copy --table FILE --to COPY`, then "
+             "`handled export --table COPY < TENANTS`\n")
 
 
 def large_file():
@@ -274,7 +274,7 @@ def closed():
         thread.start()
         status, out, err = run(listener.getsockname()[1], WHOLE)
         thread.join(10)
-    end = "; start again with the same file: a handle that is there with its values counts as done\n"
+    end = "; start again with the same file: handles that exist with these values count as done\n"
     yield "a server that goes away", (status, out) == (3, "0 created, 0 there already, 0 failed\n") and err.startswith("hdl: the connection ") and err.endswith(end)
 
 

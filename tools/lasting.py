@@ -286,7 +286,7 @@ def faults(folder):
         refused(os.path.join(folder, "none", "table.db"), b"cannot open: the file isn't there, nor is its folder"),
         refused(":memory:", b"cannot open: the path names no file"),
         refused(linked(folder), b"cannot open: the file has 2 names"),
-        refused(beside_a_link(folder), b"cannot open: beside the file, with -wal at the end, is a link"),
+        refused(beside_a_link(folder), b"cannot open: the log, at the file's path with -wal at the end, is a link"),
         refused(with_a_journal(folder), b"cannot open: SQLite left a journal"),
         *not_permitted(folder),
     ]

@@ -22,7 +22,7 @@ PATIENCE = 5
 # How often a client asks while another one floods, and how many datagrams the flood sends meanwhile.
 OFTEN, FLOOD = 20, 50
 BEGINS = rb"handled [\d.]+ \(Buckramjade; [^)]*\): begins: publishers 2, lanes 5, table in memory, row cache 41943040 octets, idle 60 seconds, crowd 1000, amplify 8 beyond loopback, reserve 67108864 octets, turns (\d+)"
-ENDS = rb"handled: ends: the turns are spent"
+ENDS = rb"handled: ends: its --turns are spent"
 # The turns of a server that nobody asks, and of one whose clients ask until it ends.
 FEW, SERVED = 50, 2000
 ASKED = wire.frame(wire.resolution(b"10/a"), request=1)
@@ -169,10 +169,10 @@ def used(pid):
 
 
 def fault_of(options, ports, address, port):
-    """Whether a start prints nothing, ends with status 1, and says where it can't listen."""
+    """Whether a start prints nothing, ends with status 1, and says where it can't listen before the fault line."""
     status, printed, said = run(options, ports)
-    where = "device fault: cannot listen on %s:%d: " % (bracketed(address), port)
-    return status == 1 and not printed and said[-1].startswith(where.encode()) and len(said[-1]) > len(where) and said[-1]
+    where = "cannot listen on %s:%d: " % (bracketed(address), port)
+    return status == 1 and not printed and said[-1] == b"device fault" and said[-2].startswith(where.encode()) and len(said[-2]) > len(where) and said[-2]
 
 
 def port_is_taken():

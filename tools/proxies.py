@@ -327,7 +327,7 @@ METRICS = """# HELP hdl_proxy_info The program's version.
 hdl_proxy_info{version="%s"} 1
 # HELP hdl_proxy_answers_total Answers, by kind and status.
 # TYPE hdl_proxy_answers_total counter
-# HELP hdl_proxy_answers_kept_total Answers by what was kept.
+# HELP hdl_proxy_answers_kept_total Answers from the cache.
 # TYPE hdl_proxy_answers_kept_total counter
 hdl_proxy_answers_kept_total 0
 # HELP hdl_proxy_log_lines_lost_total Lines of the log that were lost.
@@ -336,13 +336,13 @@ hdl_proxy_log_lines_lost_total 0
 # HELP hdl_proxy_server_asked_total Questions asked, by server.
 # TYPE hdl_proxy_server_asked_total counter
 hdl_proxy_server_asked_total{server="127.0.0.1:%d"} 0
-# HELP hdl_proxy_server_failed_total Questions that got no good answer, by server.
+# HELP hdl_proxy_server_failed_total Questions that failed, by server.
 # TYPE hdl_proxy_server_failed_total counter
 hdl_proxy_server_failed_total{server="127.0.0.1:%d"} 0
-# HELP hdl_proxy_server_left_out 1 where a server is left out for a while, since it failed.
+# HELP hdl_proxy_server_left_out 1 while a server is left out after a failure.
 # TYPE hdl_proxy_server_left_out gauge
 hdl_proxy_server_left_out{server="127.0.0.1:%d"} 0
-# HELP hdl_proxy_server_waiting Questions that wait, by server.
+# HELP hdl_proxy_server_waiting Waiting questions, by server.
 # TYPE hdl_proxy_server_waiting gauge
 hdl_proxy_server_waiting{server="127.0.0.1:%d"} 0
 """
@@ -369,7 +369,7 @@ def alone(port):
     """A proxy whose servers aren't there."""
     yield "nobody listens", answered(port, "GET /10/a") == answers.page(502, NEVER, *refusal("10/a", UNANSWERED, LATER, "No answer"))
     yield "nobody listens: JSON", answered(port, "GET /api/handles/10/a") == answers.json(502, NEVER, json_refusal("10/a", UNANSWERED, 2))
-    yield "it isn't well", answered(port, "GET /health") == answers.words(503, "no server answers\n")
+    yield "it isn't well", answered(port, "GET /health") == answers.words(503, "every server is left out after a failure\n")
 
 
 def tenants(*ports):

@@ -74,9 +74,9 @@ PLACES = html.escape('<locations chooseby="locatt,weighted"> <!-- two places -->
                      "<location id='2' href=\"https://two.example.org/\" weight=\"0\"></location> <location id=\"3\" href=\"javascript:alert(1)\" weight=\"0\"/> </locations>")
 PLACES_VALUES = (value("URL", 1, link("https://example.org/own", "https://example.org/own")),
                  value("10320/loc", 2, text(PLACES.replace("&#x27;", "&#39;")), "for an hour"))
-UNREAD = ('<p class="note">The locations of this handle (10320/loc) can\'t be read, so its address leads nowhere. Please tell whoever gave it to you. '
+UNREAD = ('<p class="note">The locations of this handle (10320/loc) can\'t be read, so its address leads nowhere. Please tell the person who gave it to you. '
           "These are its values:</p>\n")
-UNFOLLOWED = ('<p class="note">The location that this address asks for, or that was chosen, isn\'t one that is followed here. Please tell whoever gave it to you. '
+UNFOLLOWED = ('<p class="note">The location that this address asks for, or that was chosen, isn\'t followed here. Please tell the person who gave it to you. '
               "These are the handle\'s values:</p>\n")
 
 
@@ -84,7 +84,7 @@ def unread(handle, written, *more):
     return ("GET /" + handle, 200, KEPT % 3600, None, values(handle, value("10320/loc", 1, text(html.escape(written)), "for an hour"), *more, wrong=UNREAD))
 
 
-ADMINISTRATOR = '<p>Whoever has the key <span class="data">300:0.NA/10</span> may</p>\n<ul class="may">%s</ul>\n'
+ADMINISTRATOR = '<p>The holder of the key <span class="data">300:0.NA/10</span> may</p>\n<ul class="may">%s</ul>\n'
 ALL = "".join("<li>%s</li>" % may for may in ("create handles", "delete them", "list them", "read what isn't public", "add values", "change values", "remove values",
                                              "add administrators", "change administrators", "remove administrators"))
 SOME_PAGE = values("10/some", value("HS_ADMIN", 100, ADMINISTRATOR % "<li>list them</li><li>change values</li>"), value("HS_PUBKEY", 101, text("key")))
@@ -220,10 +220,10 @@ JSONS = (
     ("GET /10/a?index=x", 400, NEVER, json_refusal("10/a", INDEX, 102)),
     ("GET /10/a?callback=f", 400, NEVER, json_refusal("10/a", CALLBACK.replace("&#39;", "'"), 102)),
     ("GET /ten", 400, NEVER, json_refusal("ten", "This is no handle: the name has no slash.", 102)),
-    ("GET ?prefix=10", 403, NEVER, json_refusal("/api/handles", "This proxy takes no keys, and so lists no handles.", 5)),
-    ("GET ", 403, NEVER, json_refusal("/api/handles", "This proxy takes no keys, and so lists no handles.", 5)),
+    ("GET ?prefix=10", 403, NEVER, json_refusal("/api/handles", "This proxy lists no handles, since it accepts no keys.", 5)),
+    ("GET ", 403, NEVER, json_refusal("/api/handles", "This proxy lists no handles, since it accepts no keys.", 5)),
     ("GET /", 400, NEVER, json_refusal("", "This is no handle: the name has no slash.", 102)),
-    ("GET /../sites", 404, NEVER, json_refusal("/api/sites", "Nothing is at this address. Handles are at /api/handles/ and the handle.", 5)),
+    ("GET /../sites", 404, NEVER, json_refusal("/api/sites", "There is nothing at this address. A handle is at /api/handles/HANDLE.", 5)),
     ("POST /10/a", 405, NEVER, json_refusal("/api/handles/10/a", READING, 5)),
     ("DELETE ", 405, NEVER, json_refusal("/api/handles", READING, 5)),
 )

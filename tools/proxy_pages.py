@@ -12,22 +12,22 @@ COLUMNS = ('<table>\n<thead><tr><th scope="col">Type, index</th><th scope="col">
            "<tbody>\n%s</tbody>\n</table>\n")
 
 ABSENT = "This handle isn&#39;t there."
-ELSEWHERE = "No server that was asked has handles of this prefix."
+ELSEWHERE = "None of the servers that were asked hosts this prefix."
 UNANSWERED = "No server answered."
 CROWDED = "The server is busy."
-HIDDEN = "This handle is there, and has no such value that anybody may read."
-READING = "A handle is asked for by GET or HEAD."
+HIDDEN = "This handle exists, but it has no such public value."
+READING = "Use GET or HEAD to read a handle."
 INDEX = "An index is a number below 4294967296."
-CALLBACK = "The word callback isn&#39;t taken: pages of any site may read this JSON."
+CALLBACK = "callback is refused: pages of any site may read this JSON without it."
 LOOK = "Please look for a mistake in the name. If there is none, ask who gave it to you."
-ELSEWHERE_PLEASE = "Please tell who gave it to you: one of these handles has to lead elsewhere."
+ELSEWHERE_PLEASE = "Please tell the person who gave it to you: one of these handles must be changed."
 CIRCLE = "Its aliases lead in a circle:"
 BEYOND = "Its aliases lead on beyond ten handles:"
 SLASH = "Please look for a mistake in the name, such as the slash at its end. If there is none, ask who gave it to you."
 FORM = "A handle is a prefix, a slash and a local name, such as 10/a."
 FOLLOW = "Follow a link to a handle, or type its address."
 LATER = "Please come back in a few minutes."
-OTHERS = "Its values aren&#39;t public, or the words behind the question mark of its address ask for others."
+OTHERS = "Its values aren&#39;t public, or the part of its address after the question mark selects others."
 FRONT = "Find a handle - " + SITE_TEXT, HEADER + """<h1>Find a handle</h1>
 <form action="/" method="get">
 <p><label for="handle">A handle, as you found it:</label></p>
@@ -83,7 +83,7 @@ def nowhere(why, *names):
 
 
 def empty(handle):
-    none = "<p>This handle is there, and has no value that anybody may read.</p>\n"
+    none = "<p>This handle exists, but it has no public value.</p>\n"
     return "%s - %s" % (handle, SITE_TEXT), "%s<h1>%s</h1>\n%s%s" % (HEADER, handle, none, ANOTHER)
 
 

@@ -57,7 +57,7 @@ Section: net
 Priority: optional
 Description: local handle service with isolated publishers
  handled answers the values behind handles, for many publishers on one host;
- hdl asks, changes, and leads browsers to a handle's URL.
+ hdl shows and changes handles, hdl proxy redirects browsers to a handle's URL.
 """
 
 

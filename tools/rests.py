@@ -113,16 +113,16 @@ NO_ADMIN = "The key is no administrator of this handle."
 LACKS = "The key lacks a permission for this."
 WRONG = "The secret isn't that of the key."
 NO_VALUES = "The server refuses the values: a record has an HS_ADMIN value, and at most 1024 values."
-SILENT = "No answer of a server came. Whether this was done isn't known."
-UNREACHED = "The server to which changes go wasn't reached. Nothing was done."
-ELSEWHERE = "No server that was asked has handles of this prefix."
-WORDS = "The query has a word that isn't done here. Nothing was done. A PUT takes overwrite, index and mintNewSuffix, a DELETE index."
-ONCE = "The words overwrite, mintNewSuffix and auth are true or false, and stand once."
-MINTS = "With mintNewSuffix a new handle is created, so index and overwrite=true aren't taken."
-NONE_NEW = "Of eight suffixes that were drawn none was new. Nothing was done."
+SILENT = "The server sent no answer. The change may or may not have been made."
+UNREACHED = "The server for changes can't be reached. Nothing was done."
+ELSEWHERE = "None of the servers that were asked hosts this prefix."
+WORDS = "The query has an unknown parameter. Nothing was done. A PUT takes overwrite, index and mintNewSuffix, a DELETE index."
+ONCE = "overwrite, mintNewSuffix and auth are true or false, each given once."
+MINTS = "mintNewSuffix creates a new handle, so index and overwrite=true are refused."
+NONE_NEW = "All eight suffixes that were drawn exist already. Nothing was done."
 STRANGE = "a value has a member other than index, type, data, ttl, permissions and timestamp, or its data has one that its format hasn't"
-LONG_LIST = "The prefix has more handles than one answer of the server says. Whoever runs this proxy gives it a copy of the table: `handled copy`, and then `--lists` with the copy."
-COPIED = "The prefix has more handles than one answer of the server says: these are of a copy of the table."
+LONG_LIST = "The prefix has more handles than fit into one reply. The proxy's operator can give it a copy of the table: `handled copy`, then `--lists COPY`."
+COPIED = "The prefix has more handles than fit into one reply: these are from a copy of the table."
 RECORD = "The record can't be read: %s."
 
 # Requests one after the other: method, path, body, key, and the status and body of the answer.
@@ -140,10 +140,10 @@ CHANGES = (
     ("PUT", "10/a?index=various", {"values": [entry(3, "HEX", {"format": "hex", "value": "00fF"}), entry(2, "EMAIL", "b@example.org")]}, KEY, 200, done("10/a")),
     ("PUT", "10/a?index=2&index=4&overwrite=true", [entry(4, "LIST", {"format": "base64", "value": "AP8="}, permissions="1100")], KEY, 200, done("10/a")),
     ("PUT", "10/a?index=5", entry(6, "NOTE", "x"), KEY, 400, refused("10/a", RECORD % "value 1: its index isn't among those that the address names", 202)),
-    ("PUT", "10/a?index=4&overwrite=false", entry(4, "NOTE", "x"), KEY, 409, refused("10/a", "A value of such an index is there already.", 201)),
+    ("PUT", "10/a?index=4&overwrite=false", entry(4, "NOTE", "x"), KEY, 409, refused("10/a", "A value with this index exists already.", 201)),
     ("PUT", "10/a?index=5&overwrite=false", entry(5, "NOTE", "x"), KEY, 200, done("10/a")),
     ("DELETE", "10/a?index=5&index=3", None, KEY, 200, done("10/a")),
-    ("DELETE", "10/a?index=5", None, KEY, 404, refused("10/a", "A value isn't there, or isn't to be read.", 200)),
+    ("DELETE", "10/a?index=5", None, KEY, 404, refused("10/a", "A value is missing, or the key may not read it.", 200)),
     ("PUT", "10/b", {"values": [URL]}, KEY, 400, refused("10/b", NO_VALUES, 202)),
     ("PUT", "10/none?index=various", {"values": [URL]}, KEY, 404, refused("10/none", ABSENT, 100)),
     ("PUT", "10/kept?index=1", {"values": [URL]}, basic("301:0.NA/10", "weak"), 403, refused("10/kept", LACKS, 401)),
@@ -161,7 +161,7 @@ CHANGES = (
     ("PUT", "10/a?mintNewSuffix=true&overwrite=true", [URL], KEY, 400, refused("10/a", MINTS, 102)),
     ("PUT", "10/a?mintNewSuffix=true&index=various", [URL], KEY, 400, refused("10/a", MINTS, 102)),
     ("DELETE", "10/a?index=x", None, KEY, 400, refused("10/a", "An index is a number below 4294967296.", 102)),
-    ("POST", "10/a", [URL], KEY, 405, refused("/api/handles/10/a", "A handle is asked for by GET or HEAD, and changed by PUT or DELETE.", 5)),
+    ("POST", "10/a", [URL], KEY, 405, refused("/api/handles/10/a", "Use GET or HEAD to read a handle, PUT or DELETE to change it.", 5)),
 )
 # What 10/a has behind them, read with the key and without.
 LEFT = [(2, "EMAIL", text("b@example.org"), 86400, None), (4, "LIST", {"format": "base64", "value": "AP8="}, 86400, "1100"), (100, "HS_ADMIN", SHOWN_ADMIN, 86400, None)]
@@ -194,7 +194,7 @@ BODIES = (
     ([entry(1, "URL", "x" * 32769)], "value 1: the value's data is too long"),
     ([entry(1, "URL", "x", ttl="soon")], "value 1: the TTL isn't a number of seconds below 4294967296"),
     ([entry(1, "URL", "x", permissions="111")], "value 1: the permissions aren't four digits 0 or 1"),
-    ([URL, ADMINISTRATOR, entry(1, "TEXT", "x")], "value 1: its index stands twice"),
+    ([URL, ADMINISTRATOR, entry(1, "TEXT", "x")], "value 1: its index is given twice"),
     ('[{"index": 1, "index": 2, "type": "URL", "data": "x"}]', "an object of it has a key twice"),
     ('{"values": [], "values": [{"index": 1, "type": "URL", "data": "x"}]}', "an object of it has a key twice"),
     ('[{"index": 1, "type": "URL", "data": {"format": "string", "value": "x", "\\u0076alue": "y"}}]', "an object of it has a key twice"),
@@ -271,7 +271,7 @@ def large(port):
     found = ask(port, "PUT", at("10/a"), long)
     yield "more than a request holds", found[::2] == (413, refused("10/a", "The change needs a request of more than 65536 octets. Nothing was done.", 2))
     found = ask(port, "PUT", at("10/a"), " " * 1048577)
-    yield "more than a body holds", found[::2] == (413, refused("10/a", "The body has more than 1048576 octets. Nothing was done.", 2))
+    yield "more than a body holds", found[::2] == (413, refused("10/a", "The body is larger than 1048576 octets. Nothing was done.", 2))
     found = ask(port, "PUT", at("10/a"), json.dumps([ADMINISTRATOR]) + " " * 1000000)
     yield "as much as a body holds", found[::2] == (200, done("10/a"))
     many = {"values": [ADMINISTRATOR] + [entry(number, "NOTE", "x") for number in range(200, 400)]}
@@ -377,7 +377,7 @@ def real(cases):
             for part in (changes, minted, large, at_once, listed, browsers):
                 cases += part(port)
             waiting.join()
-            cases.append(("a body that doesn't come", ended[0].startswith(b"HTTP/1.1 408 ") and b"The body didn't come within 10 seconds. Nothing was done." in ended[0]))
+            cases.append(("a body that doesn't come", ended[0].startswith(b"HTTP/1.1 408 ") and b"The body didn't arrive within 10 seconds. Nothing was done." in ended[0]))
 
 
 def whole(stream, count):

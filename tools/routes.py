@@ -33,9 +33,9 @@ TIMEOUT, LEFT_OUT, SOON = 2, 3, 1.4
 WAITING, ASKERS = 256, 2
 FAULTS = (
     (["=10"], "error: --server =10: HOST:PORT is missing"),
-    (["h:1="], "error: --server h:1=: what stands behind = is no list of prefixes such as 10,20.500"),
-    (["h:1=10,,20"], "error: --server h:1=10,,20: what stands behind = is no list of prefixes such as 10,20.500"),
-    (["h:1", "h:2=0.NA"], "error: --server h:2=0.NA: what stands behind = is no list of prefixes such as 10,20.500"),
+    (["h:1="], "error: --server h:1=: write a list of prefixes after =, such as 10,20.500"),
+    (["h:1=10,,20"], "error: --server h:1=10,,20: write a list of prefixes after =, such as 10,20.500"),
+    (["h:1", "h:2=0.NA"], "error: --server h:2=0.NA: write a list of prefixes after =, such as 10,20.500"),
 )
 
 
@@ -154,7 +154,7 @@ def prefixes():
     with proxy((first, "ABC"), (second, "30")) as port:
         yield "small letters", ask(port, "aBc/x")[0] == 302
         yield "a prefix that no server has", ask(port, "99/a")[0] == 404
-        wanted = '{"handle":"99/a","message":"No server that was asked has handles of this prefix.","responseCode":100}'
+        wanted = '{"handle":"99/a","message":"None of the servers that were asked hosts this prefix.","responseCode":100}'
         yield "a prefix that no server has: JSON", body_of(port, "/api/handles/99/a") == (404, wanted)
 
 
@@ -255,7 +255,7 @@ def close(server):
     server.listener.close()
 
 
-NOWHERE = "The server to which changes go wasn't reached. Nothing was done."
+NOWHERE = "The server for changes can't be reached. Nothing was done."
 DONE = wire.message(wire.DELETE, b"", SUCCESS)
 
 
@@ -265,7 +265,7 @@ def forks():
     with proxy((first, "10"), (second, "10"), options=["--writes"]) as port:
         yield "the first server is changed", change(port, "10/a") == (200, {"handle": "10/a", "responseCode": 1}) and (first.asked, second.asked) == ([b"10/a"], [])
         first.answer = referral
-        yield "no other one where it refers", change(port, "10/a") == (404, {"handle": "10/a", "message": "No server that was asked has handles of this prefix.", "responseCode": 100}) and not second.asked
+        yield "no other one where it refers", change(port, "10/a") == (404, {"handle": "10/a", "message": "None of the servers that were asked hosts this prefix.", "responseCode": 100}) and not second.asked
         close(first)
         second.answer = url
         yield "handles are read at the second", ask(port, "10/b")[0] == 302 and second.asked == [b"10/b"]
@@ -467,7 +467,7 @@ def told():
     gone = Server(lambda _: None)
     with proxy((gone, ""), options=["--log", "-"]) as port:
         ask(port, "10/a")
-        yield "it isn't well", body_of(port, "/health") == (503, "no server answers\n")
+        yield "it isn't well", body_of(port, "/health") == (503, "every server is left out after a failure\n")
 
 
 def full():

@@ -2,10 +2,12 @@
 slower than a frame may come, and one that asks for much and reads nothing. Each must be closed, at its time and not before, and the
 client that waits behind it must get its whole answer. On a lane that many share the slow one and the greedy one are closed too, and the others there
 get their answers meanwhile. And one names keys that nobody has, behind lists that are dear to search: each of its requests may look up some of them alone.
+One more asks for a list of ten thousand handles, without a key: the challenge may cost the server few times what a plain answer does.
 
-The cases run side by side and take some 12 seconds, of which most is waiting. Its last line is 'N passed, M failed', a case counting one."""
+The first four run side by side and take some 12 seconds, of which most is waiting. Its last line is 'N passed, M failed', a case counting one."""
 
 import contextlib
+import os
 import select
 import socket
 import sys
@@ -24,13 +26,17 @@ LARGE = wire.value(1, b"TEXT", b"x" * 32000, wire.PUBLIC_READ)
 # How many lists have the same references, which these lists are the first of, and how many requests looking all of them up takes: 65,536 octets each, and a list has some 12,000.
 LISTS, REFERENCES, REQUESTS = 100, 1_000, range(10, 40)
 BUSY, NOT_AUTHORIZED = 3, 400
+# Of how many handles strangers ask, and how often; how many times a plain question theirs may cost, and in what steps processor seconds are counted. An unproved program takes minutes
+# to open so many handles.
+HANDLES, ASKED = (1_000, 200) if servers.IS_UNPROVED else (10_000, 2_000)
+TIMES, TICK = 5, 2 / os.sysconf("SC_CLK_TCK")
 
 
 def tenants(*ports):
-    """A publisher with two lanes for connections, three with one, and one with an overflow lane beside two, who share a prefix."""
-    names = ("silent", "slow", "greedy", "crowded", "dear")
-    lines = ["publisher %s %d %d" % row for row in zip(names, (3, 2, 2, 4, 2), ports)]
-    rows = [wire.value_line(*row) for row in [(b"10/large", LARGE)] + lists()]
+    """A publisher with two lanes for connections, four with one, and one with an overflow lane beside two, who share a prefix."""
+    names = ("silent", "slow", "greedy", "crowded", "dear", "many")
+    lines = ["publisher %s %d %d" % row for row in zip(names, (3, 2, 2, 4, 2, 2), ports)]
+    rows = [wire.value_line(*row) for row in [(b"10/large", LARGE)] + lists() + many_rows()]
     return wire.text(lines + ["prefix 10 %s" % name for name in names] + rows)
 
 
@@ -40,6 +46,13 @@ def lists():
     data = wire.listed([wire.reference(*place) for place in places])
     rows = [(handle, wire.value(index, b"HS_VLIST", data, wire.PUBLIC_READ)) for handle, index in places[:LISTS]]
     return rows + [(b"10/kept", wire.value(100, b"HS_ADMIN", wire.administrator(*places[0]), wire.PUBLIC_READ))]
+
+
+def many_rows():
+    """The rows of many handles, and of the administrator of their prefix."""
+    note = wire.value(1, b"NOTE", b"x", wire.PUBLIC_READ)
+    rows = [(b"10/%d" % number, note) for number in range(HANDLES)]
+    return rows + [(b"0.NA/10", wire.value(100, b"HS_ADMIN", wire.administrator(b"0.NA/10", 300), wire.PUBLIC_READ))]
 
 
 def asked(request, handle=b"10/a"):
@@ -150,6 +163,27 @@ def dear(port):
     return count in REQUESTS and code == NOT_AUTHORIZED and answered_at_last(port, 2) == (0, NOT_AUTHORIZED)
 
 
+def used(process):
+    """The processor seconds that a process has used."""
+    with open("/proc/%d/stat" % process.pid, encoding="utf-8") as fields:
+        found = fields.read().rsplit(")", 1)[1].split()
+    return (int(found[11]) + int(found[12])) / os.sysconf("SC_CLK_TCK")
+
+
+def cost(port, process, question, code):
+    """The processor seconds that a server uses for so many of a question, each of which is answered by this code; without an end where one isn't."""
+    with servers.Client(port) as one:
+        before = used(process)
+        codes = {one.send(question)[1][4:8] for _ in range(ASKED)}
+        return used(process) - before if codes == {wire.number(code)} else float("inf")
+
+
+def many(port, process):
+    """A list of ten thousand handles, asked for by a stranger: its challenge costs the server few times what the answer about an absent handle does."""
+    plain = cost(port, process, wire.resolution(b"10/a"), wire.ABSENT)
+    return cost(port, process, wire.message(wire.LIST, wire.string(b"0.NA/10")), wire.AUTHENTICATION_NEEDED) < TIMES * plain + TICK
+
+
 def tried(case, port, passed):
     if case(port):
         passed.append(case)
@@ -157,15 +191,19 @@ def tried(case, port, passed):
 
 def main():
     timed, passed = (silent, slow, greedy, crowded), []
-    cases = (*timed, dear)
-    with servers.serving(tenants, len(cases), options=("--idle", str(IDLE))) as ports:
+    cases = (*timed, dear, many)
+    process, ports = servers.serve(tenants, len(cases), options=("--idle", str(IDLE)))
+    try:
         threads = [threading.Thread(target=tried, args=(case, port, passed), daemon=True) for case, port in zip(timed, ports)]
         for thread in threads:
             thread.start()
         for thread in threads:
             thread.join(60)
-        # what it costs the server would be in the others' times
-        tried(dear, ports[-1], passed)
+        # what these cost the server would be in the others' times
+        tried(dear, ports[-2], passed)
+        passed += [many] if many(ports[-1], process) else []
+    finally:
+        servers.end(process)
     return servers.tally([("%s, %s" % (case.__name__, case.__doc__), case in passed) for case in cases], "it isn't so")
 
 

@@ -240,7 +240,7 @@ def ended(process, control, file, clients):
     yield "the end was asked for", (last, done.returncode, done.stdout, done.stderr) == (wire.SUCCESS, 0, b"", b"") and seconds < END
     yield "the server ended", process.wait(END) == 0
     said = process.stderr.read().decode().splitlines()
-    yield "the end is said", said[-1:] == ["handled: ends: it was asked to"]
+    yield "the end is said", said[-1:] == ["handled: ends: asked by `handled stop`"]
     for client in clients:
         with contextlib.suppress(OSError):
             yield "a client is left", client.socket.recv(1) == b""
@@ -256,7 +256,7 @@ def ended(process, control, file, clients):
     yield "a socket that nobody listens at stays", os.path.exists(control)
     process, _ = servers.serve(tenants, 2, options=("--table", file, "--control", control))
     other = subprocess.run([servers.HANDLED, "serve", "--control", control], input=tenants(*servers.free_ports(2)), stdout=subprocess.PIPE, stderr=subprocess.PIPE)
-    yield "a path that another server has", (other.returncode, b"cannot make the socket of --control" in other.stderr) == (1, True)
+    yield "a path that another server has", (other.returncode, b"cannot make the socket of --control" in other.stderr, other.stderr.splitlines()[-1:]) == (1, True, [b"device fault"])
     done, _ = stop(control)
     yield "it ends too", done.returncode == 0 and process.wait(END) == 0
     process.stdout.close()
@@ -295,7 +295,7 @@ def failing(folder):
     done = subprocess.run([servers.HANDLED, "serve", "--log", os.path.join(folder, "none", "log")], input=tenants(*servers.free_ports(2)), stdout=subprocess.PIPE, stderr=subprocess.PIPE)
     yield "no folder of a log", (done.returncode, done.stderr[:16]) == (1, b"log: cannot open")
     done = subprocess.run([servers.HANDLED, "serve", "--status", "127.0.0.1"], input=b"", stdout=subprocess.PIPE, stderr=subprocess.PIPE)
-    yield "no port of a status page", (done.returncode, b"no IPv4 or IPv6 address with a port" in done.stderr) == (2, True)
+    yield "no port of a status page", (done.returncode, b"not an address with a port" in done.stderr) == (2, True)
     process, (acme, _) = servers.serve(tenants, 2, options=("--log", "-"), stderr=subprocess.PIPE)
     Stream(acme).ask(delete(b"10/gone"))
     said = next(line.decode() for line in process.stderr if b"acme" in line)

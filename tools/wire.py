@@ -46,6 +46,11 @@ def value(index, kind, data, permission, ttl=0):
     return number(index) + string(kind) + string(data) + b"\0" + number(ttl) + bytes([permission]) + bytes(8) + number(0)
 
 
+def net_value(index, kind, data, permission, ttl=0, second=0):
+    """The same with a timestamp in seconds, as the Handle.Net software lays it out."""
+    return number(index) + number(second) + b"\0" + number(ttl) + bytes([permission]) + string(kind) + string(data) + number(0)
+
+
 def message(operation, body, code=0, flags=0):
     """A message without a credential. A digest is made of all but its last four octets."""
     return number(operation) + number(code) + number(flags) + bytes(8) + string(body) + number(0)

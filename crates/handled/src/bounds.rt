@@ -29,7 +29,7 @@ impl fmt::Display for BoundFault {
             BoundFault::Unknown(publisher) => {
                 write!(
                     f,
-                    "error: invalid value '{publisher}' for '--bound <NAME=VALUES,OCTETS>': the text has no publisher of this name\n\nFor more information, try '--help'."
+                    "error: invalid value '{publisher}' for '--bound <NAME=VALUES,OCTETS>': the tenants text has no publisher of this name\n\nFor more information, try '--help'."
                 )
             }
             BoundFault::Beyond {
@@ -39,7 +39,7 @@ impl fmt::Display for BoundFault {
             } => {
                 write!(
                     f,
-                    "tenants: {publisher} opens with {opened}, beyond its bound, {most}: give it a larger --bound, or fewer values in the text"
+                    "tenants: {publisher} opens with {opened}, and its bound is {most}: raise --bound, or remove values from the text"
                 )
             }
         }

@@ -1,4 +1,4 @@
-//! What is looked at before a change is written, and told of it.
+//! What is checked before a change is written, and reported of it.
 
 use hdl_guardedrows::{Effect, Fate, Guard};
 use hdl_host::{FileChange, FileWatch, Health};
@@ -9,7 +9,7 @@ use std::sync::Arc;
 pub struct TableGuard {
     rt: HostRuntime,
     health: Arc<Health>,
-    /// The table's file, where it has one, and what somebody else had made of it when it was looked at last.
+    /// The table's file, where it has one, and what another program had made of it when it was looked at last.
     file: Option<FileWatch>,
     change: Option<FileChange>,
 }
@@ -24,7 +24,7 @@ impl TableGuard {
         }
     }
 
-    /// Whether the table's file is as the server left it. What is seen is told.
+    /// Whether the table's file is as the server left it. What is seen is reported.
     pub fn sees_file(&mut self) -> bool {
         if let Some(file) = &self.file {
             self.change = file.change(&self.rt);

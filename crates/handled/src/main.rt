@@ -172,12 +172,12 @@ fn serve<
     }
 }
 
-/// What is told of a table that nobody serves.
+/// What is reported of a table that no server has open.
 fn health_of(rt: &HostRuntime) -> Result<Arc<Health>, Fault> {
     Ok(Arc::new(rt.alloc(), Health::new(rt.alloc(), 0)?)?)
 }
 
-/// Does this over the table in the file, which nobody serves.
+/// Does this over the table in the file, which no server has open.
 fn over_unserved<R: Threads + Drop, W: FileWork>(
     machine: R,
     rt: &HostRuntime,

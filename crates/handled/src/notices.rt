@@ -12,7 +12,7 @@ use std::{fmt, thread};
 /// Where the table is.
 #[derive(Clone, Copy)]
 pub enum Notice<'a> {
-    /// In memory alone; the handles that were read last may take so many octets more.
+    /// In memory alone; the handles that were read last may take `row_cache` octets.
     Memory { row_cache: usize },
     /// In this file.
     File(&'a str),
@@ -63,7 +63,7 @@ impl fmt::Display for Beginning<'_> {
     }
 }
 
-/// Says what begins: which program, over which table, for whom, and within which limits.
+/// Says what begins: which program, over which table, for which, and within which limits.
 pub fn say_begins(rt: &HostRuntime, tenants: &Tenants, kept: Notice<'_>, limits: Limits) {
     let beginning = Beginning {
         publishers: tenants.publishers(),
@@ -79,7 +79,7 @@ const LOOKS: u32 = 100;
 
 const LOOK: u64 = 20;
 
-/// Has it said that the server ends, and why. Where nobody reads standard error, that is waited for two seconds.
+/// Has it said that the server ends, and why. If no one reads standard error, it waits two seconds.
 pub fn say_ends(rt: &HostRuntime, health: &Health, was_asked: bool) {
     health.end(was_asked);
     for _ in 0..LOOKS {
@@ -90,21 +90,21 @@ pub fn say_ends(rt: &HostRuntime, health: &Health, was_asked: bool) {
     }
 }
 
-/// After so many rows that were read it is said.
+/// A line is printed each time this many rows were read.
 const STEP: u64 = 100_000;
 
 /// Says on standard error how far the load of a large table is, and has it said that the table takes no more writes.
 #[derive(Drop)]
 pub struct TableNotices {
     rt: HostRuntime,
-    /// What is told of the table.
+    /// What is reported of the table.
     health: Arc<Health>,
-    /// How many times it was told that the table takes no more writes.
+    /// How many times it was reported that the table takes no more writes.
     rings: u64,
 }
 
 impl TableNotices {
-    /// Nothing was said.
+    /// Notices of which none was printed yet.
     pub fn new(rt: &HostRuntime, health: Arc<Health>) -> TableNotices {
         TableNotices {
             rt: *rt,

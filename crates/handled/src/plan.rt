@@ -1,4 +1,4 @@
-//! Whom the program serves, and in which setting.
+//! Which tenants the program serves, and in which setting.
 
 use crate::bounds::bounds_of;
 use crate::ports::say_shared;
@@ -13,7 +13,7 @@ use std::sync::Arc;
 /// The exit status where two publishers have one port, as of a faulty text.
 const SHARED: u8 = 3;
 
-/// Whom is served, and in which setting.
+/// Which tenants are served, and in which setting.
 ///
 /// What hands it on is generic over it: proving a function that owns its parts costs many times as much.
 pub trait Plan: Drop {

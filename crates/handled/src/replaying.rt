@@ -12,7 +12,7 @@ use hdl_replay::{events_of, lines_of_resumed, parts_of, replay};
 use hdl_tables::{Closing, FileWork, TabledFault};
 use std::sync::Arc;
 
-/// A table behind no bounds, as one that is served is behind its own.
+/// A table without bounds, in the type of a served table, which has its publishers' bounds.
 fn without_bounds<T: Owing + Drop>(
     rt: &HostRuntime,
     rows: T,

@@ -20,12 +20,12 @@ use std::rt::Clock;
 use std::sync::Arc;
 use std::thread::Threads;
 
-/// Whether the server was asked to end, which is looked at behind its end.
+/// Whether the server was asked to end, which is looked at after its end.
 fn ending_of(setting: &Setting) -> Result<Arc<Ending>, Fault> {
     Ok(Arc::try_clone(&setting.supervision.ending)?)
 }
 
-/// What is told of the table, which is looked at behind the end.
+/// What is reported of the table, which is looked at after the end.
 fn health_of(setting: &Setting) -> Result<Arc<Health>, Fault> {
     Ok(Arc::try_clone(&setting.supervision.health)?)
 }
@@ -44,7 +44,7 @@ fn watch(rt: &HostRuntime, path: &str) -> Result<Option<FileWatch>, Fault> {
     Ok(Some(FileWatch::new(rt, rt.alloc(), path)?))
 }
 
-/// Closes the table's file, unless somebody else changed it: then nothing more is written there.
+/// Closes the table's file, unless another program changed it: then nothing more is written there.
 fn close_guarded<T: Owing + Closing + Drop>(
     rows: GuardedRows<T, TableGuard>,
 ) -> Result<(), TabledFault> {

@@ -64,7 +64,7 @@ pub fn stop(rt: &HostRuntime, control: &str) -> u8 {
         Ok(()) => 0,
         Err(e) => {
             let _ = eprintln!(rt;
-                "stop: no server at {control}: {e}: name the socket that a running server was given by --control"
+                "stop: no server at {control}: {e}: name the path of a running server's --control"
             );
             Fault::Device.status()
         }

@@ -7,6 +7,7 @@
 //! hdl explain [--keys] < LINES                        each line of a script, of what handled prints, or of octets alone, in words
 //! hdl script < WORDS, hdl tenants < WORDS             words to the lines that handled takes
 //! hdl init PREFIX.., hdl key                          a tenants text in words for new publishers; a fresh secret
+//! hdl site --address ADDRESS, --read DIGITS           the data of an HS_SITE value; the same in words
 //! ```
 //!
 //! It is the command line of `hdl_commands`, which stands on the codecs that the service stands on: what it sends is in the grammar,
@@ -16,15 +17,16 @@
 mod words;
 
 use hdl_commands::{
-    BatchFault, Printout, explain, fresh_secret, import_file, run_batch_text, run_question,
-    write_fresh_tenants, write_script, write_tenants,
+    BatchFault, Printout, explain, fresh_secret, import_file, make_site, run_batch_text,
+    run_question, show_site, write_fresh_tenants, write_script, write_tenants,
 };
+use hdl_value::Wire;
 use std::io::{self, Read};
 use std::process::ExitCode;
 use words::{Invocation, read_words};
 
 /// Explains the lines of standard input.
-fn explain_all(rt: &HostRuntime, shows_keys: bool) -> io::Result<()> {
+fn explain_all(rt: &HostRuntime, wire: Wire, shows_keys: bool) -> io::Result<()> {
     let mut line = String::new(rt.alloc());
     for _ in 0..u64::MAX {
         line.clear();
@@ -32,7 +34,7 @@ fn explain_all(rt: &HostRuntime, shows_keys: bool) -> io::Result<()> {
             break;
         }
         let mut printout = Printout::new(rt.alloc(), shows_keys);
-        explain(&mut printout, line.trim_end())?;
+        explain(&mut printout, wire, line.trim_end())?;
         print!(rt; "{}", printout.as_str())?;
     }
     Ok(())
@@ -45,9 +47,9 @@ fn text_of(rt: &HostRuntime) -> io::Result<String> {
     Ok(text)
 }
 
-fn batch_all(rt: &HostRuntime, server: &str) -> io::Result<u8> {
+fn batch_all(rt: &HostRuntime, server: &str, wire: Wire) -> io::Result<u8> {
     let text = text_of(rt)?;
-    Ok(run_batch_text(rt, server, &text))
+    Ok(run_batch_text(rt, server, wire, &text))
 }
 
 /// Prints what was made of the words, or what is wrong with them, and answers the exit status.
@@ -79,14 +81,20 @@ fn tenants_all(rt: &HostRuntime) -> io::Result<u8> {
 
 /// What the operator does with the text of `hdl init`.
 const NEXT: &str = "\
-    hdl: keep the text where nobody else reads it (chmod 600): it holds the secrets of its publishers, in the lines HS_SECKEY\n\
+    hdl: keep the text where only you can read it (chmod 600): its HS_SECKEY lines hold the publishers' secrets\n\
     hdl: to start: hdl tenants < TEXT > publishers.tenants, then handled serve --table handles.db < publishers.tenants\n\
     hdl: to create: a secret in HDL_SECRET, then hdl create PREFIX/NAME VALUE.. --key 300:0.NA/PREFIX\n";
 
-fn init(rt: &HostRuntime, prefixes: &[String]) -> io::Result<u8> {
-    let status = print_made(rt, write_fresh_tenants(rt, prefixes))?;
+/// What he does besides where the ports have the layout of values of the Handle.Net software.
+const HANDLE_NET: &str = "hdl: each command that asks this service needs --handle-net\n";
+
+fn init(rt: &HostRuntime, wire: Wire, prefixes: &[String]) -> io::Result<u8> {
+    let status = print_made(rt, write_fresh_tenants(rt, wire, prefixes))?;
     if status == 0 {
         let _ = eprint!(rt; "{NEXT}");
+        if wire == Wire::HandleNet {
+            let _ = eprint!(rt; "{HANDLE_NET}");
+        }
     }
     Ok(status)
 }
@@ -102,17 +110,19 @@ fn key(rt: &HostRuntime) -> io::Result<u8> {
 /// Does what the command line asks for, and answers the exit status.
 fn run(rt: &HostRuntime) -> io::Result<u8> {
     match read_words(rt) {
-        Invocation::Explain { shows_keys } => {
-            explain_all(rt, shows_keys)?;
+        Invocation::Explain { wire, shows_keys } => {
+            explain_all(rt, wire, shows_keys)?;
             Ok(0)
         }
         Invocation::Ask(question) => Ok(run_question(rt, &question)),
-        Invocation::Batch { server } => batch_all(rt, &server),
+        Invocation::Batch { server, wire } => batch_all(rt, &server, wire),
         Invocation::Import(import) => Ok(import_file(rt, &import)),
         Invocation::Script => script_all(rt),
         Invocation::Tenants => tenants_all(rt),
-        Invocation::Init { prefixes } => init(rt, &prefixes),
+        Invocation::Init { wire, prefixes } => init(rt, wire, &prefixes),
         Invocation::Key => key(rt),
+        Invocation::MakeSite(words) => Ok(make_site(rt, &words)),
+        Invocation::ShowSite { word } => Ok(show_site(rt, &word)),
         Invocation::Ended(status) => Ok(status),
     }
 }

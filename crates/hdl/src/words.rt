@@ -1,9 +1,10 @@
 //! The words of the command line.
 
 use clap::{Arg, ArgAction, ArgMatches, Command, Error};
-use hdl_commands::{Import, Inquiry, operation_in};
+use hdl_commands::{Import, Inquiry, SiteWords, operation_in};
 use hdl_msg::OpCode;
 use hdl_programs::{VERSION, status_of_words, words_of};
+use hdl_value::Wire;
 use std::alloc::{AllocError, Global};
 
 /// The server that is asked where none is named.
@@ -13,11 +14,11 @@ const SERVER: &str = "127.0.0.1:2641";
 #[derive(Drop)]
 pub enum Invocation {
     /// The lines on standard input in words, with the data of keys or without.
-    Explain { shows_keys: bool },
+    Explain { wire: Wire, shows_keys: bool },
     /// One request.
     Ask(Inquiry),
     /// The batch on standard input.
-    Batch { server: String },
+    Batch { server: String, wire: Wire },
     /// The handles of a CSV file.
     Import(Import),
     /// The script of the words on standard input.
@@ -25,9 +26,13 @@ pub enum Invocation {
     /// The tenants text of the words on standard input.
     Tenants,
     /// A tenants text in words for new publishers.
-    Init { prefixes: Vec<String> },
+    Init { wire: Wire, prefixes: Vec<String> },
     /// A fresh secret.
     Key,
+    /// The data of an HS_SITE value, to be made.
+    MakeSite(SiteWords),
+    /// The same in words: of digits, or of a file.
+    ShowSite { word: String },
     /// Nothing: help, the version or a fault was printed, and this is the exit status.
     Ended(u8),
 }
@@ -54,7 +59,15 @@ fn server(alloc: Global) -> Arg<'static> {
         alloc,
         "server",
         "HOST:PORT",
-        "Whom to ask; 127.0.0.1:2641 by default",
+        "The server to ask; 127.0.0.1:2641 by default",
+    )
+}
+
+fn handle_net(alloc: Global) -> Arg<'static> {
+    flag(
+        alloc,
+        "handle-net",
+        "Lays values out as the Handle.Net software does: for ports whose line ends with handle-net",
     )
 }
 
@@ -63,7 +76,7 @@ fn key(alloc: Global) -> Arg<'static> {
         alloc,
         "key",
         "INDEX:HANDLE",
-        "Proves this key; its secret is in HDL_SECRET, or the first line of standard input",
+        "Answers a challenge with this key, or as HANDLE:INDEX; its secret is HDL_SECRET, or else the first line of standard input",
     )
 }
 
@@ -78,11 +91,12 @@ fn question<'a>(alloc: Global, name: &'a str, about: &'a str) -> Result<Command<
                 .action(ArgAction::Set),
         )?
         .arg(server(alloc))?
+        .arg(handle_net(alloc))?
         .arg(key(alloc))?
         .arg(flag(
             alloc,
             "short",
-            "Shows the data or the handles alone, one a line",
+            "Prints only the data of values, or the handles of a list, one per line",
         ))
 }
 
@@ -103,63 +117,70 @@ fn values_question<'a>(
 }
 
 fn resolve<'a>(alloc: Global) -> Result<Command<'a>, AllocError> {
-    question(alloc, "resolve", "Asks for the values of a handle")?
+    question(alloc, "resolve", "Shows the values of a handle")?
         .arg(option(
             alloc,
             "index",
             "N",
-            "Only the value with this index, and others with more of these",
+            "Shows only the value with this index; may be repeated",
         )
         .action(ArgAction::Append))?
         .arg(option(
             alloc,
             "type",
             "TYPE",
-            "Only the values of this type; with a dot behind, of each type that begins so",
+            "Shows only values of this type; a type that ends in a dot matches all that begin with it; may be repeated",
         )
         .action(ArgAction::Append))?
-        .arg(flag(alloc, "keys", "Shows the data of keys too"))
+        .arg(flag(
+            alloc,
+            "keys",
+            "Shows the data of HS_SECKEY values, which is hidden otherwise",
+        ))
 }
 
 fn explain<'a>(alloc: Global) -> Result<Command<'a>, AllocError> {
     Command::new(alloc, "explain")
         .about(
-            "Says in words what the lines on standard input say: of a script, of what handled prints, or octets alone",
+            "Explains lines of standard input: those of a script, those that handled prints, or hexadecimal digits",
         )
-        .arg(flag(alloc, "keys", "Shows the data of keys too"))
+        .arg(flag(
+            alloc,
+            "keys",
+            "Shows the data of HS_SECKEY values, which is hidden otherwise",
+        ))?
+        .arg(handle_net(alloc))
 }
 
 fn batch<'a>(alloc: Global) -> Result<Command<'a>, AllocError> {
     Command::new(alloc, "batch")
-        .about("Asks all that stands on standard input, as the batch files of the Handle.Net tools")
-        .arg(server(alloc))
+        .about("Runs the batch file on standard input, written as for the Handle.Net tools")
+        .arg(server(alloc))?
+        .arg(handle_net(alloc))
 }
 
 fn import<'a>(alloc: Global) -> Result<Command<'a>, AllocError> {
     Command::new(alloc, "import")
         .about(
-            "Creates the handles of a CSV file; a handle that is there with its values counts as done",
+            "Creates the handles of a CSV file; a handle that exists with these values counts as done",
         )
         .arg(option(
             alloc,
             "csv",
             "FILE",
-            "Its first line names the columns handle, type and data, and ttl, index and permissions if they are given; a row is a value",
+            "The CSV file: its first line names the columns handle, type, data, and perhaps ttl, index, permissions; each further row is a value",
         )
         .required(true))?
         .arg(key(alloc).required(true))?
-        .arg(flag(
-            alloc,
-            "dry-run",
-            "Only says what is wrong with the file, and sends nothing",
-        ))?
-        .arg(server(alloc))
+        .arg(flag(alloc, "dry-run", "Only checks the file, and sends nothing"))?
+        .arg(server(alloc))?
+        .arg(handle_net(alloc))
 }
 
 fn init<'a>(alloc: Global) -> Result<Command<'a>, AllocError> {
     Command::new(alloc, "init")
         .about(
-            "Makes a tenants text in words: a publisher for each prefix, with an administrator who has a fresh secret",
+            "Makes a tenants text for new publishers, one per prefix, each with an administrator and a fresh secret",
         )
         .arg(
             Arg::new(alloc, "prefixes")
@@ -167,7 +188,62 @@ fn init<'a>(alloc: Global) -> Result<Command<'a>, AllocError> {
                 .required(true)
                 .num_args(1..)
                 .action(ArgAction::Append),
-        )
+        )?
+        .arg(handle_net(alloc))
+}
+
+/// The options by which the data of an HS_SITE value is made.
+fn making_options<'a>(command: Command<'a>, alloc: Global) -> Result<Command<'a>, AllocError> {
+    command
+        .arg(option(
+            alloc,
+            "address",
+            "ADDRESS",
+            "The server's IPv4 or IPv6 address, as the network reaches it",
+        ))?
+        .arg(option(
+            alloc,
+            "port",
+            "PORT",
+            "The port of its publisher; 2641 by default",
+        ))?
+        .arg(flag(
+            alloc,
+            "udp",
+            "Queries may come by UDP too, at the same port",
+        ))?
+        .arg(option(
+            alloc,
+            "serial",
+            "N",
+            "The number of the data, 1 by default; one more at each change",
+        ))?
+        .arg(option(
+            alloc,
+            "public-key",
+            "FILE",
+            "Puts the key record in this file there, as the Handle.Net software makes it; without it none",
+        ))?
+        .arg(option(
+            alloc,
+            "out",
+            "FILE",
+            "Writes the octets to this file, and prints no digits",
+        ))
+}
+
+fn site<'a>(alloc: Global) -> Result<Command<'a>, AllocError> {
+    let command = Command::new(alloc, "site")
+        .about("Makes or shows the data of an HS_SITE value, which says where a prefix's server is")
+        .after_help(
+            "A prefix is registered by its HS_SITE value: send the data to who registers prefixes. docs/HANDLE_NET.md has the steps",
+        );
+    making_options(command, alloc)?.arg(option(
+        alloc,
+        "read",
+        "DIGITS|FILE",
+        "Shows in words what these hexadecimal digits say, or this file",
+    ))
 }
 
 /// Adds a command that asks about a handle.
@@ -198,7 +274,7 @@ fn questions<'a>(command: Command<'a>, alloc: Global) -> Result<Command<'a>, All
         command,
         alloc,
         "list",
-        "Asks for the handles of a naming authority",
+        "Lists the handles of a naming authority",
     )?;
     let command = with_values_question(
         command,
@@ -220,7 +296,7 @@ fn questions<'a>(command: Command<'a>, alloc: Global) -> Result<Command<'a>, All
         command,
         alloc,
         "modify",
-        "Puts these values in the place of those with their indexes",
+        "Replaces the values that have the same indexes",
         "VALUE",
     )
 }
@@ -228,9 +304,9 @@ fn questions<'a>(command: Command<'a>, alloc: Global) -> Result<Command<'a>, All
 fn command<'a>(alloc: Global) -> Result<Command<'a>, AllocError> {
     let command = Command::new(alloc, "hdl")
         .version(VERSION)
-        .about("A handle service in words")
+        .about("Shows and changes the handles of a server")
         .after_help(
-            "./hdl proxy, a program of its own, leads browsers from a handle's address to its URL: see ./hdl proxy --help",
+            "hdl proxy redirects browsers from a handle's address to its URL: see hdl proxy --help",
         )
         .subcommand_required(true);
     questions(command, alloc)?
@@ -238,15 +314,16 @@ fn command<'a>(alloc: Global) -> Result<Command<'a>, AllocError> {
         .subcommand(import(alloc)?)?
         .subcommand(explain(alloc)?)?
         .subcommand(Command::new(alloc, "script").about(
-            "Makes the script for handled of a tenants text with values in words, a line `run`, and a batch, on standard input",
+            "Makes a script for handled from standard input: a tenants text with values in words, a line `run`, and a batch",
         ))?
         .subcommand(Command::new(alloc, "tenants").about(
-            "Makes a tenants text of one with values in words, on standard input",
+            "Turns the values in words of the tenants text on standard input into digits, as handled reads them",
         ))?
         .subcommand(init(alloc)?)?
         .subcommand(Command::new(alloc, "key").about(
             "Makes a fresh secret: 32 random octets in hexadecimal digits",
-        ))
+        ))?
+        .subcommand(site(alloc)?)
 }
 
 /// The words of an option or of the rest, copied.
@@ -268,8 +345,50 @@ fn word(alloc: Global, matches: &ArgMatches<'_>, id: &str) -> Result<String, All
     String::from_str(alloc, matches.get_str(id).unwrap_or(""))
 }
 
+/// The word of an option, if it is there.
+fn given(alloc: Global, matches: &ArgMatches<'_>, id: &str) -> Result<Option<String>, AllocError> {
+    match matches.get_str(id) {
+        Some(word) => Ok(Some(String::from_str(alloc, word)?)),
+        None => Ok(None),
+    }
+}
+
+/// The word of an option, or this one where it isn't there.
+fn word_or(
+    alloc: Global,
+    matches: &ArgMatches<'_>,
+    id: &str,
+    other: &str,
+) -> Result<String, AllocError> {
+    String::from_str(alloc, matches.get_str(id).unwrap_or(other))
+}
+
 fn server_of(alloc: Global, matches: &ArgMatches<'_>) -> Result<String, AllocError> {
-    String::from_str(alloc, matches.get_str("server").unwrap_or(SERVER))
+    word_or(alloc, matches, "server", SERVER)
+}
+
+/// By whose layout values stand.
+fn wire_of(matches: &ArgMatches<'_>) -> Wire {
+    if matches.get_flag("handle-net") {
+        Wire::HandleNet
+    } else {
+        Wire::Profile
+    }
+}
+
+/// A site to be shown, or to be made.
+fn site_of(alloc: Global, matches: &ArgMatches<'_>) -> Result<Invocation, AllocError> {
+    if let Some(word) = given(alloc, matches, "read")? {
+        return Ok(Invocation::ShowSite { word });
+    }
+    Ok(Invocation::MakeSite(SiteWords {
+        address: word(alloc, matches, "address")?,
+        port: word_or(alloc, matches, "port", "2641")?,
+        serial: word_or(alloc, matches, "serial", "1")?,
+        is_udp: matches.get_flag("udp"),
+        key: given(alloc, matches, "public-key")?,
+        out: given(alloc, matches, "out")?,
+    }))
 }
 
 fn question_of(
@@ -288,10 +407,8 @@ fn question_of(
         )?,
         types: words(alloc, matches, "type")?,
         server: server_of(alloc, matches)?,
-        key: match matches.get_str("key") {
-            Some(key) => Some(String::from_str(alloc, key)?),
-            None => None,
-        },
+        wire: wire_of(matches),
+        key: given(alloc, matches, "key")?,
         is_short: matches.get_flag("short"),
         shows_keys: is_resolution && matches.get_flag("keys"),
     })
@@ -300,23 +417,28 @@ fn question_of(
 fn asked_of(alloc: Global, name: &str, matches: &ArgMatches<'_>) -> Result<Invocation, AllocError> {
     match name {
         "explain" => Ok(Invocation::Explain {
+            wire: wire_of(matches),
             shows_keys: matches.get_flag("keys"),
         }),
         "batch" => Ok(Invocation::Batch {
             server: server_of(alloc, matches)?,
+            wire: wire_of(matches),
         }),
         "import" => Ok(Invocation::Import(Import {
             file: word(alloc, matches, "csv")?,
             server: server_of(alloc, matches)?,
+            wire: wire_of(matches),
             key: word(alloc, matches, "key")?,
             is_dry: matches.get_flag("dry-run"),
         })),
         "script" => Ok(Invocation::Script),
         "tenants" => Ok(Invocation::Tenants),
         "init" => Ok(Invocation::Init {
+            wire: wire_of(matches),
             prefixes: words(alloc, matches, "prefixes")?,
         }),
         "key" => Ok(Invocation::Key),
+        "site" => site_of(alloc, matches),
         other => match operation_in(other) {
             Some(operation) => Ok(Invocation::Ask(question_of(alloc, operation, matches)?)),
             None => Ok(Invocation::Ended(2)),
@@ -335,7 +457,9 @@ fn parse(alloc: Global, words: &[String]) -> Result<Invocation, Error> {
 /// Reads the command line, and prints what `clap` has to say of it.
 pub fn read_words(rt: &HostRuntime) -> Invocation {
     let Ok(words) = words_of(rt) else {
-        let _ = eprintln!(rt; "error: the command line cannot be read");
+        let _ = eprintln!(rt;
+            "error: a word of the command line is not UTF-8, or there is no memory for it"
+        );
         return Invocation::Ended(2);
     };
     match parse(rt.alloc(), words.as_slice()) {

@@ -29,7 +29,7 @@ struct Challenged {
 /// A frame of a reply, and what is known of the request that it answers.
 #[derive(Drop)]
 pub struct Followed {
-    /// What the frame says.
+    /// What the reply in the frame says.
     pub answer: ReplySummary,
     /// The number of the operation that it answers: where it names none that of its request, if that is certain, and else 0.
     pub operation: u32,
@@ -49,7 +49,7 @@ pub struct Follower {
 }
 
 impl Follower {
-    /// At the beginning of a connection, or of a lane of datagrams.
+    /// A follower at the beginning of a connection, or of a lane of datagrams.
     pub fn new(alloc: Global, detail: Detail) -> Follower {
         Follower {
             alloc,
@@ -60,7 +60,7 @@ impl Follower {
         }
     }
 
-    /// Where a lane receives one frame at a time: what it received before has its answer, or none.
+    /// Forgets requests without a reply. For a lane that receives one frame at a time: earlier requests have their replies, or get none.
     pub fn forget_unanswered(&mut self) {
         self.unanswered.clear();
     }

@@ -24,7 +24,7 @@
 //! # Decisions
 //!
 //! - **A handle is named only where it is certain.** A whole frame has just one reply, and replies come in the frames' order. A piece has one or none, as the
-//!   service has the others or not; so a change that came in pieces is an entry without handle and key, and behind a reply that may be
+//!   service has the others or not; so a change that came in pieces is an entry without handle and key, and after a reply that may be
 //!   a piece's or that of a whole frame nothing more is named.
 //! - **Nothing is looked up.** That an entry names what was changed follows from the request and its reply alone, so no other publisher's
 //!   rows can show in it.

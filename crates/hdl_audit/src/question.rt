@@ -73,7 +73,7 @@ fn change_of(
     Ok(Matter::Change { operation, handle })
 }
 
-/// The key that a response's body names, behind the type of authentication.
+/// The key that a response's body names, after the type of authentication.
 fn key_at(body: &[u8]) -> Option<(&[u8], u32)> {
     let (_, rest) = string_at(body)?;
     let (handle, rest) = string_at(rest)?;

@@ -50,7 +50,6 @@ impl Digest {
         }
     }
 
-    /// Its octets.
     pub fn as_slice(&self) -> &[u8]
         ensures { result.now ≡ octets_of self.now }
     {

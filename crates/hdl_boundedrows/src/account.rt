@@ -13,13 +13,13 @@ use std::alloc::{AllocError, Global};
 use std::marker::Model;
 use std::slice;
 
-/// The authority of the administrative handles, which nobody hosts.
+/// The authority of the administrative handles, which no publisher hosts.
 const ROOT: &[u8] = b"0.na";
 
 /// How much a publisher may hold.
 #[derive(Drop)]
 pub struct Bound {
-    /// The publisher's name, for who is told of it.
+    /// The publisher's name, for the report.
     pub publisher: String,
     /// The most that the handles of its prefixes may count.
     pub most: Amount,
@@ -28,7 +28,7 @@ pub struct Bound {
 }
 
 impl Bound {
-    /// The bound of a publisher, of which no handle counts yet.
+    /// The bound of a publisher, for which no handle counts yet.
     pub fn new(alloc: Global, publisher: String, most: Amount) -> Bound
         ensures publisher { result.publisher ≡ publisher }
         ensures most { result.most ≡ most }
@@ -41,7 +41,7 @@ impl Bound {
         }
     }
 
-    /// From now on the handles of a prefix count, named by its administrative handle, which counts too. A prefix counts once; another
+    /// Adds a prefix, whose handles count from now on. It is named by its administrative handle, which counts too. A prefix counts once; another
     /// handle than an administrative one changes nothing, and neither does 0.NA/0.NA.
     pub fn add(&mut self, root: Name) -> Result<(), AllocError>
         ensures roots { OnOk result (roots_of self.new ≡ with_root (roots_of self.old) root) }
@@ -184,7 +184,7 @@ impl Model for Accounts {
 }
 
 impl Accounts {
-    /// Nobody has a bound.
+    /// The accounts of no bound.
     pub(crate) fn new(alloc: Global) -> Accounts
         ensures { result ≡ [] }
     {
@@ -203,14 +203,14 @@ impl Accounts {
         }
     }
 
-    /// Whether a handle of this prefix counts for somebody.
+    /// Whether a handle of this prefix counts for some publisher.
     pub(crate) fn count(&self, prefix: &[u8]) -> bool
         ensures { result ≡ is_counted self.now prefix.now }
     {
         self.all.iter().any(|account| account.counts(prefix))
     }
 
-    /// Whether everybody for whom handles of this prefix count may hold what a change makes of it.
+    /// Whether each publisher for which handles of this prefix count may hold what a change makes of it.
     pub(crate) fn permit(&self, prefix: &[u8], change: CountChange) -> bool
         ensures { result ≡ are_permitted self.now prefix.now change }
     {

@@ -10,13 +10,13 @@ use hdl_rows::value_with;
 use hdl_value::{RawRef, Value};
 use std::fmt;
 
-/// Octets that a handle counts beside its name, and a value beside its type, data and references. So small rows have a bound too.
+/// Octets that a handle counts in addition to its name, and a value in addition to its type, data and references. So small rows have a bound too.
 const ROW_OCTETS: u64 = 64;
 
-/// Octets that a reference counts beside its handle.
+/// Octets that a reference counts in addition to its handle.
 const REFERENCE_OCTETS: u64 = 16;
 
-/// So many values, and so many octets.
+/// A number of values and a number of octets.
 #[derive(Clone, Copy, Debug, PartialEq, Eq, Drop)]
 pub struct Amount {
     /// A handle by itself is none.

@@ -8,6 +8,7 @@ ghost use Rattle.hdl_boundedrows.specs.Amount.{in_values, in_octets, with_handle
 ghost use Rattle.hdl_limits.specs.Counts.{at_most_u64};
 ghost use Rattle.hdl_name.specs.Name.{canonical, prefix};
 ghost use Rattle.hdl_value.specs.Refs.{place_of};
+ghost use Rattle.hdl_rows.specs.Heads.{heads_of};
 ghost use Rattle.hdl_rows.specs.Reads.{reads_after, nothing, of_value, values_octets, names_octets};
 ghost use Rattle.hdl_rows.specs.Table.{most, refusals_after, has, at, values_of, values_in, names_of, HaveTheirIndexes, with_new_handle, with_values, without_values, without_handle, AreDistinct, AreAbsent, ArePresent, indexes};
 
@@ -21,7 +22,7 @@ use hdl_value::{Reference, Value};
 use std::alloc::Global;
 use std::marker::Model;
 
-/// Who is told of each write that a bound refused.
+/// Is informed of each write that a bound refused.
 pub trait Alarm {
     /// The publisher at this place among the bounds would have more than its bound.
     fn ring(&mut self, place: usize, bound: &Bound);
@@ -154,7 +155,7 @@ impl<R: Owing + Drop, A: Alarm + Drop> BoundedRows<R, A> {
         })
     }
 
-    /// The table behind the bounds.
+    /// The table, without its bounds.
     pub fn into_rows(self) -> R
         ensures { R.content result ≡ self.table }
     {
@@ -216,6 +217,20 @@ impl<R: Owing + Drop, A: Alarm + Drop> Rows for BoundedRows<R, A> {
         ensures holdings { self.new.holdings ≡ self.old.holdings }
     {
         let seen = self.rows.look(name)?;
+        self.reads = with_call(self.reads, seen_octets(&seen));
+        Ok(seen)
+    }
+
+    fn heads(&mut self, name: &Name) -> Result<Option<Vec<Value>>, Refused>
+        ensures there { IfOk result (λ all. is_some all ≡ has self.old.table (canonical name.now)) }
+        ensures found { IfOk result (λ all. values_in all ≡ heads_of self.old.table (canonical name.now)) }
+        ensures by_index { OnOk result (HaveTheirIndexes self.old.table (canonical name.now) (values_of self.old.table (canonical name.now))) }
+        ensures unchanged { self.new.table ≡ self.old.table }
+        ensures count { self.new.refused ≡ refusals_after result self.old.refused }
+        ensures reads { self.new.reads ≡ reads_after (λ all. values_octets (values_in all)) result self.old.reads }
+        ensures holdings { self.new.holdings ≡ self.old.holdings }
+    {
+        let seen = self.rows.heads(name)?;
         self.reads = with_call(self.reads, seen_octets(&seen));
         Ok(seen)
     }

@@ -1,8 +1,8 @@
 //! A table with a bound of values and octets for each of some publishers: the contract of `hdl_rows::Rows`, word for word, over any other table.
 //!
-//! [`BoundedRows`] has a table of any kind behind it, and a count for each [`Bound`]: of the handles that the table has now under the bound's prefixes,
+//! [`BoundedRows`] wraps a table of any kind, and has a count for each [`Bound`]: of the handles that the table has now under the bound's prefixes,
 //! and of their values. A create, an add or a modify that would take a count beyond its bound is refused, the table is as it was, and an
-//! [`Alarm`] is told. What makes no count larger than it is goes through, and a remove or a delete always does. Every other call goes to the
+//! [`Alarm`] is informed. What makes no count larger than it is goes through, and a remove or a delete always does. Every other call goes to the
 //! table as it came.
 //!
 //! What is counted is defined (`specs/Amount.antt`). At the start the bounds are those that were given, in order, and each count is what the table holds
@@ -23,7 +23,7 @@
 //! # Decisions
 //!
 //! - **The count is kept**, and not made anew at each write: that would read all handles of a publisher. It is made once, at the start.
-//! - **What a write gives back is looked up before it** where it replaces or takes away, which costs a look. Where the prefix counts for nobody there
+//! - **What a write gives back is looked up before it** where it replaces or takes away, which costs a look. Where the prefix counts for no publisher there
 //!   is no look and no sum.
 //! - **The greatest number stands for all that are more**, and a count that reached it stays there and grows no more: no sum can wrap, and no premise
 //!   is needed on how much a table holds.

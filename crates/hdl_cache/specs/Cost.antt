@@ -1,7 +1,7 @@
 -- What a search for a mask reads of a table.
 use Rattle.std.specs.Prelude.{ℕ, ◌+◌}
 use Rattle.hdl_reach.specs.Cost.{Most, value_cost, values_cost}
-use Rattle.hdl_cache.specs.declared.masks.TheConstants.{LOOKED_UP}
+use Rattle.hdl_cache.specs.declared.searches.TheConstants.{LOOKED_UP}
 
 -- one call of a search: so many octets of lists, and the value that passes them
 abbrev pub lists_cost : Most → ℕ

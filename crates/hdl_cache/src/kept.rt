@@ -21,12 +21,12 @@ use std::num::NonZeroUsize;
 
 /// Masks by handle and key. Contracts see them as a list, the most recently used first.
 #[derive(Drop)]
-pub struct KeptMasks {
+pub struct Masks {
     alloc: Global,
     kept: LruCache<Pair, Option<AdminMask>>,
 }
 
-impl Model for KeptMasks {
+impl Model for Masks {
     ghost use Rattle.std.specs.Prelude.{◌≡◌, List};
     ghost use Rattle.hdl_limits.specs.declared.TheConstants.{MASKS_MAX};
     ghost use Rattle.hdl_cache.specs.Masks.{Kept, kept_in};
@@ -38,16 +38,16 @@ impl Model for KeptMasks {
     ghost invariant = { λ m. m.kept.cap ≡ MASKS_MAX };
 }
 
-impl KeptMasks {
+impl Masks {
     /// None are kept. Refused only for want of memory.
-    pub fn new(alloc: Global) -> Result<KeptMasks, AllocError>
+    pub fn new(alloc: Global) -> Result<Masks, AllocError>
         ensures { IfOk result (λ masks. masks ≡ []) }
     {
         let Some(most) = NonZeroUsize::new(MASKS_MAX) else {
             unreachable!()
         };
         let kept = LruCache::new(alloc, most)?;
-        Ok(KeptMasks { alloc, kept })
+        Ok(Masks { alloc, kept })
     }
 
     /// The mask that is kept of this key for this handle; None: it isn't kept. It is then the most recently used.

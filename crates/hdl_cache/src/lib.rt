@@ -1,7 +1,7 @@
 //! What is known of administrators: masks as they were found in the present table, and searches that go on.
 //!
 //! [`MaskedRows`] is any table, which answers as before (`hdl_rows::Rows`, word for word), together with what is kept of it. [`Masked::mask`]
-//! answers what a key may do as an administrator of a handle: by the masks of at most 256 pairs of a handle and a key ([`KeptMasks`]; the least
+//! answers what a key may do as an administrator of a handle: by the masks of at most 256 pairs of a handle and a key ([`Masks`]; the least
 //! recently used go first), else by a search over the table. One call looks up so much and no more, and what lists hold counts; a search that isn't done is
 //! refused, kept by its handle, and gone on by the next call. One that is done serves for every key, those that somebody made up too, by one look in what it
 //! holds: each reference once, with its mask, whatever lists hold it.
@@ -35,8 +35,8 @@
 mod kept;
 mod last;
 mod masked;
-mod masks;
 mod pair;
+mod searches;
 
-pub use kept::KeptMasks;
+pub use kept::Masks;
 pub use masked::{Masked, MaskedRows};

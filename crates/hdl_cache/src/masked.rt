@@ -10,8 +10,8 @@ ghost use Rattle.hdl_reach.specs.Views.{mask_of};
 ghost use Rattle.hdl_cache.specs.Cost.{mask_cost};
 
 use crate::last::LastMask;
-use crate::masks::Masks;
 use crate::pair::Pair;
+use crate::searches::MasksAndSearches;
 use hdl_limits::Octets;
 use hdl_name::Name;
 use hdl_rows::{Owed, Owing, Refused, Rows};
@@ -37,7 +37,7 @@ pub trait Masked: Rows {
 pub struct MaskedRows<R: Rows + Drop> {
     alloc: Global,
     rows: R,
-    masks: Masks,
+    masks: MasksAndSearches,
     last: LastMask,
 }
 
@@ -58,7 +58,7 @@ impl<R: Rows + Drop> MaskedRows<R> {
     pub fn new(alloc: Global, rows: R) -> Result<MaskedRows<R>, AllocError>
         ensures { IfOk result (λ masked. masked ≡ rows) }
     {
-        let masks = Masks::new(alloc)?;
+        let masks = MasksAndSearches::new(alloc)?;
         Ok(MaskedRows {
             alloc,
             rows,
@@ -115,6 +115,10 @@ impl<R: Rows + Drop> Rows for MaskedRows<R> {
 
     fn look(&mut self, name: &Name) -> Result<Option<Vec<Value>>, Refused> {
         self.rows.look(name)
+    }
+
+    fn heads(&mut self, name: &Name) -> Result<Option<Vec<Value>>, Refused> {
+        self.rows.heads(name)
     }
 
     fn names(&mut self, authority: &[u8]) -> Result<Vec<Octets>, Refused> {

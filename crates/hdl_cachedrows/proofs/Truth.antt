@@ -1,10 +1,11 @@
 -- What is kept of a table stays the table's.
-use Rattle.std.proofs.Common.{◌≡◌, ◌≢◌, ℕ, true, false, Vec, List, [], ◌∷◌, ◌-◌, length, take, Option, None, Some, Result, Ok, Err, OnOk, OnErr, IfOk, IfSome, is_some, inl, inr, refl, sym, ap, ◌∙◌, subst, true≢false, Contains}
+use Rattle.std.proofs.Common.{◌≡◌, ◌≢◌, ℕ, true, false, Vec, List, [], ◌∷◌, ◌-◌, length, map, take, Option, None, Some, Result, Ok, Err, OnOk, OnErr, IfOk, IfSome, is_some, inl, inr, refl, sym, ap, ◌∙◌, subst, true≢false, Contains}
 use Rattle.std.specs.declared.alloc.Global.{Global}
 use Rattle.std.specs.List.{AllByRecursion, IsDistinct}
 use Rattle.std.specs.Result.{result_ok}
 use Rattle.std.specs.Map.{keys_of, lookup, remove_entry}
 use Rattle.hdl_value.specs.declared.value.Value.{Value}
+use Rattle.hdl_rows.specs.Heads.{head}
 use Rattle.hdl_rows.specs.Table.{Table, place, has, at, values_of, values_in, value_with, HaveTheirIndexes}
 use Rattle.hdl_rows.specs.Write.{Write, handle_of, after_write}
 use Rattle.hdl_rows.proofs.Writes.{other_handles_stay_lem}
@@ -12,7 +13,7 @@ use Rattle.lru.specs.LruCache.{LruCache, lru_cache, promoted, put_entries}
 use Rattle.lru.proofs.CallerLemmas.{Contains-lookup, Contains-promoted, Contains-put_entries, Contains-take}
 use Rattle.lru.proofs.Splits.{Contains-cons, Contains-head, Contains-nil, Contains-tail}
 use Rattle.hdl_cachedrows.specs.Cost.{Entry}
-use Rattle.hdl_cachedrows.specs.Cache.{IsFound, AreTrue, AgreeBut}
+use Rattle.hdl_cachedrows.specs.Cache.{IsFound, AreHeads, AreTrue, AgreeBut}
 use Rattle.hdl_cachedrows.specs.Cached.{Cached}
 use Rattle.hdl_cachedrows.proofs.Keys.{is_key, same_key, same, alike}
 
@@ -50,6 +51,19 @@ pub copied_true : {E : Type 0} (r : Result (Vec Value Global) E) (o : Option (Ve
     → AreTrue t es → Some v ≡ lookup (is_key h) es → IfOk r (λ all. all.items ≡ v.items) → o ≡ result_ok r → IfSome o (λ all. IsFound t h all.items)
 copied_true (Ok x) o t h es v all is copy o_is = subst (λ (p : Option (Vec Value Global)). IfSome p (λ all. IsFound t h all.items)) (sym o_is) (subst (IsFound t h) (sym copy) (found_true t h es v all (sym is)))
 copied_true (Err e) o t h es v all is copy o_is = subst (λ (p : Option (Vec Value Global)). IfSome p (λ all. IsFound t h all.items)) (sym o_is) tt
+
+-- the heads of what is kept
+heads_are : (t : Table) (h : List ℕ) (vs hs : List Value) → IsFound t h vs → hs ≡ map head vs → AreHeads t h hs
+heads_are t h vs hs of is = record {
+  there = of.there;
+  found = is ∙ ap (map head) of.found;
+  by_index = subst (HaveTheirIndexes t h) of.found of.by_index;
+}
+
+pub heads_true : {E : Type 0} (r : Result (Vec Value Global) E) (o : Option (Vec Value Global)) (t : Table) (h : List ℕ) (es : List Entry) (v : Vec Value Global)
+    → AreTrue t es → Some v ≡ lookup (is_key h) es → IfOk r (λ all. all.items ≡ map head v.items) → o ≡ result_ok r → IfSome o (λ all. AreHeads t h all.items)
+heads_true (Ok x) o t h es v all is heads o_is = subst (λ (p : Option (Vec Value Global)). IfSome p (λ all. AreHeads t h all.items)) (sym o_is) (heads_are t h v.items x.items (found_true t h es v all (sym is)) heads)
+heads_true (Err e) o t h es v all is heads o_is = subst (λ (p : Option (Vec Value Global)). IfSome p (λ all. AreHeads t h all.items)) (sym o_is) tt
 
 some_of : {X : Type 0} (o : Option X) → is_some o ≡ true → (x : X) × (o ≡ Some x)
 some_of None h = absurd (true≢false (sym h))

@@ -1,6 +1,7 @@
 -- When what is kept is a table's.
 use Rattle.std.specs.Prelude.{ℕ, List, true, ◌≡◌, ◌≢◌, Contains}
 use Rattle.hdl_value.specs.declared.value.Value.{Value}
+use Rattle.hdl_rows.specs.Heads.{heads_of}
 use Rattle.hdl_rows.specs.Table.{Table, place, has, at, values_of, HaveTheirIndexes}
 use Rattle.hdl_cachedrows.specs.Cost.{Entry}
 
@@ -9,6 +10,12 @@ pub record IsFound (t : Table) (h : List ℕ) (vs : List Value) : Type 0 where
   pub there : has t h ≡ true
   pub found : vs ≡ values_of t h
   pub by_index : HaveTheirIndexes t h vs
+
+-- The handle is there, and these are the heads of its values.
+pub record AreHeads (t : Table) (h : List ℕ) (vs : List Value) : Type 0 where
+  pub there : has t h ≡ true
+  pub found : vs ≡ heads_of t h
+  pub by_index : HaveTheirIndexes t h (values_of t h)
 
 -- what is kept is the table's
 abbrev pub AreTrue : Table → List Entry → Type 0

@@ -3,22 +3,23 @@
 ghost use Rattle.std.specs.Prelude.{◌≡◌, ◌≤◌, [], true, IfOk, IfSome};
 ghost use Rattle.hdl_rows.specs.Table.{Table, place, has, at, value_with};
 ghost use Rattle.hdl_cachedrows.specs.Cost.{total};
-ghost use Rattle.hdl_cachedrows.specs.Cache.{AgreeBut, AreTrue, IsFound};
+ghost use Rattle.hdl_cachedrows.specs.Cache.{AgreeBut, AreHeads, AreTrue, IsFound};
 
 use crate::cost::entry_cost;
+use hdl_rows::heads::heads_of;
 use hdl_rows::value_with;
 use hdl_value::Value;
 use lru::LruCache;
 use std::alloc::{AllocError, Global};
 use std::hash::RandomState;
 
-/// The share of the bound that the values of one handle may take: one part of so many.
+/// The share of the bound that the values of one handle may take: one part of `SHARES`.
 const SHARES: usize = 64;
 
 /// Values by canonical handle, the most recently used first. What they cost is counted, and never more than the bound.
 #[derive(Drop)]
 pub(crate) struct Cache {
-    alloc: Global,
+    pub(crate) alloc: Global,
     pub(crate) limit: usize,
     pub(crate) octets: usize,
     pub(crate) kept: LruCache<Vec<u8>, Vec<Value>, RandomState>,
@@ -47,7 +48,7 @@ fn copy_with(alloc: Global, values: &[Value], index: u32) -> Result<Option<Value
 }
 
 impl Cache {
-    /// Nothing is kept. Refused only for want of memory.
+    /// An empty cache. Refused only for want of memory.
     pub(crate) fn new(alloc: Global, limit: usize, hasher: RandomState) -> Result<Cache, AllocError>
         ensures empty { IfOk result (λ cache. cache.kept.entries ≡ []) }
         ensures limit { IfOk result (λ cache. cache.limit ≡ limit) }
@@ -80,6 +81,18 @@ impl Cache {
         }
     }
 
+    /// The heads of the values of a handle, which are then the most recently used. None: they aren't kept, or memory for the heads was refused.
+    pub(crate) fn find_heads(&mut self, name: &[u8]) -> Option<Vec<Value>>
+        ensures of_table { (t : Table) → AreTrue t self.old.kept.entries → IfSome result (λ all. AreHeads t name.now all.items) }
+        ensures still_true { (t : Table) → AreTrue t self.old.kept.entries → AreTrue t self.new.kept.entries }
+        ensures same_limit { self.new.limit ≡ self.old.limit }
+    {
+        match self.kept.get(name) {
+            Some(values) => heads_of(self.alloc, values).ok(),
+            None => None,
+        }
+    }
+
     /// A copy of the value at an index of a handle, or that there is none. None: its values aren't kept, or memory was refused.
     pub(crate) fn find_at(&mut self, name: &[u8], index: u32) -> Option<Option<Value>>
         ensures of_table { (t : Table) → AreTrue t self.old.kept.entries → IfSome result (λ value. value ≡ at t (place name.now index)) }
@@ -92,7 +105,7 @@ impl Cache {
         }
     }
 
-    /// Forgets what was used longest ago, until what is kept costs at most so much.
+    /// Forgets what was used longest ago, until what is kept costs at most `most`.
     fn shrink(&mut self, most: usize)
         ensures fits { self.new.octets ≤ most }
         ensures still_true { (t : Table) → AreTrue t self.old.kept.entries → AreTrue t self.new.kept.entries }

@@ -5,6 +5,7 @@ ghost use Rattle.std.specs.Prelude.{◌≡◌, ◌≤◌, IfOk};
 use crate::cache::Cache;
 use hdl_limits::Octets;
 use hdl_name::Name;
+use hdl_rows::heads::into_heads;
 use hdl_rows::reads::{found_octets, names_octets, seen_octets, values_octets, with_call};
 use hdl_rows::{Owed, Owing, Prompt, Refused, Rows};
 use hdl_value::{Reference, Value};
@@ -12,10 +13,10 @@ use std::alloc::{AllocError, Global};
 use std::hash::RandomState;
 use std::marker::Model;
 
-/// How many octets what is kept may cost where nobody says another bound: 40 MiB, some 100,000 handles of one short value.
+/// How many octets what is kept may cost by default: 40 MiB, some 100,000 handles of one short value.
 pub const LIMIT_DEFAULT: usize = 41_943_040;
 
-/// A table that keeps the values of the handles that were read last. Contracts see what the table behind it holds, how many of its calls
+/// A table that keeps the values of the handles that were read last. Contracts see what the cached table holds, how many of its calls
 /// were refused, what was read, of it or of what is kept, and, in octets, what is kept and its bound.
 #[derive(Drop)]
 pub struct CachedRows<R: Rows + Drop> {
@@ -39,7 +40,7 @@ impl<R: Rows + Drop> Model for CachedRows<R> {
 }
 
 impl<R: Rows + Drop> CachedRows<R> {
-    /// The table behind it, of which nothing is kept yet. What is kept will cost at most `limit` octets; with 0 nothing is. Refused only
+    /// A cache over this table, of which nothing is kept yet. What is kept will cost at most `limit` octets; with 0 nothing is. Refused only
     /// for want of memory.
     pub fn new(
         alloc: Global,
@@ -58,7 +59,7 @@ impl<R: Rows + Drop> CachedRows<R> {
     }
 
     /// How many octets what is kept costs: for each handle those of its name and of its values' types, data and references, and fixed
-    /// sums for what the allocator and the map take beside them (`specs/Cost.antt`). That is never more than the bound.
+    /// sums for what the allocator and the map take in addition (`specs/Cost.antt`). That is never more than the bound.
     pub fn octets(&self) -> usize
         ensures octets { result ≡ self.now.octets }
         ensures bounded { result ≤ self.now.limit }
@@ -116,6 +117,22 @@ impl<R: Rows + Drop> Rows for CachedRows<R> {
             self.cache.keep(name.canon(), values);
         }
         Ok(found)
+    }
+
+    fn heads(&mut self, name: &Name) -> Result<Option<Vec<Value>>, Refused> {
+        if let Some(heads) = self.cache.find_heads(name.canon()) {
+            self.reads = with_call(self.reads, values_octets(&heads));
+            return Ok(Some(heads));
+        }
+        let found = self.rows.look(name)?;
+        let Some(values) = found else {
+            self.reads = with_call(self.reads, 0);
+            return Ok(None);
+        };
+        self.cache.keep(name.canon(), &values);
+        let heads = into_heads(self.cache.alloc, values);
+        self.reads = with_call(self.reads, values_octets(&heads));
+        Ok(Some(heads))
     }
 
     fn names(&mut self, authority: &[u8]) -> Result<Vec<Octets>, Refused> {

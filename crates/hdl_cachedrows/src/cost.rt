@@ -1,4 +1,4 @@
-//! What keeping the values of a handle costs: their octets, and fixed sums for what the allocator and the map take beside them.
+//! What keeping the values of a handle costs: their octets, and fixed sums for what the allocator and the map take in addition.
 //! The greatest number stands for those that are more, so no sum can wrap.
 
 ghost use Rattle.std.specs.Prelude.{◌≡◌, sum_by};
@@ -7,14 +7,14 @@ ghost use Rattle.hdl_limits.specs.Counts.{at_most_u64};
 
 use hdl_value::{RawRef, Value};
 
-/// Octets of a handle beside its name and its values: 80 for its node, up to 60 for its slot in the map, which doubles, and what is
+/// Octets of a handle in addition to its name and its values: 80 for its node, up to 60 for its slot in the map, which doubles, and what is
 /// rounded up in the blocks of the name and of the list of values.
 const HANDLE_COST: usize = 192;
 
-/// Octets of a value beside its type, its data and its references: 96 for its fields, and what is rounded up in three blocks.
+/// Octets of a value in addition to its type, its data and its references: 96 for its fields, and what is rounded up in three blocks.
 const VALUE_COST: usize = 176;
 
-/// Octets of a reference beside its handle: 32 for its fields, and what is rounded up in a block.
+/// Octets of a reference in addition to its handle: 32 for its fields, and what is rounded up in a block.
 const REFERENCE_COST: usize = 64;
 
 fn references_cost(refs: &[RawRef]) -> usize

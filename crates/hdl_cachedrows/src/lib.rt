@@ -1,8 +1,8 @@
 //! A table that keeps what was read last: the contract of `hdl_rows::Rows`, word for word, over any other table.
 //!
-//! [`CachedRows`] has a table of any kind behind it. A read of a handle whose values are kept is answered from a hash map, in memory, and
+//! [`CachedRows`] wraps a table of any kind. A read of a handle whose values are kept is answered from a hash map, in memory, and
 //! takes no call of that table; any other goes to it, and what [`look`](hdl_rows::Rows::look) found is kept. A write forgets the handle that
-//! it names, and reaches the table as it came. So the table behind decides all that is said and refused, and its count is the count.
+//! it names, and reaches the table as it came. So that table decides all that is said and refused, and its count is the count.
 //!
 //! What is kept has a bound in octets. Where a handle more would be too much, those that were used longest ago go. That the bound is kept is
 //! proved ([`CachedRows::octets`]), and that what is kept is the table's (`AreTrue` of `specs/Cache.antt`).
@@ -22,7 +22,7 @@
 //!   sums of `specs/Cost.antt` are what glibc takes at most; a handle with one short value costs some 390 and was seen to take 320.
 //! - **One handle takes at most a sixty-fourth of the bound**: a handle with much more is asked of the table each time, and can't push all
 //!   others out.
-//! - **Handles that are absent aren't kept**: whoever asks for names that nobody made would push out those that are asked for.
+//! - **Handles that are absent aren't kept**: a client that asks for names that don't exist would push out those that are asked for.
 //! - **Only `look` keeps**: no other call tells both whether a handle is there and all of its values. `values`, `at` and `exists` are answered
 //!   from what it kept.
 //! - **A copy that memory was refused for is asked of the table**, which answers or refuses as it would have without.

@@ -79,7 +79,7 @@ impl<'a> Accepted<'a> {
         Ok(text)
     }
 
-    /// What the service says of the line behind those that it rests on.
+    /// What the service says of the line after those that it rests on.
     pub(crate) fn judge(
         &self,
         kind: &LineKind<'_>,

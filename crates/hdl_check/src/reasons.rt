@@ -7,10 +7,11 @@ use hdl_tenants::{TenantFault, decimal_u16};
 use hdl_value::read_value;
 use std::alloc::{AllocError, Global};
 
-const PUBLISHER_FORM: &str = "write: publisher NAME LANES PORT, with single spaces";
+const PUBLISHER_FORM: &str =
+    "write: publisher NAME LANES PORT, or with handle-net after it, with single spaces";
 
 const PREFIX_FORM: &str =
-    "write: prefix PREFIX NAME, or with 2 (SHA-1) or 3 (SHA-256) behind it, with single spaces";
+    "write: prefix PREFIX NAME, or prefix PREFIX NAME HASH with HASH 2 (SHA-1) or 3 (SHA-256), with single spaces";
 
 const VALUE_FORM: &str =
     "write: value HANDLE HEX, with single spaces; hdl tenants makes such lines of values in words";
@@ -24,26 +25,29 @@ const LANES_FORM: &str = "LANES is a number from 2 to 64; the last lane is that 
 
 const PORT_FORM: &str = "PORT is a number from 1 to 65535";
 
+const LAYOUT_FORM: &str =
+    "the word after the port is handle-net: the layout of values that the Handle.Net software has";
+
 const AUTHORITY_FORM: &str =
     "a prefix is a naming authority in lower case, such as 10 or 10.5072, without a slash, and not 0.na";
 
 const UNKNOWN_PUBLISHER: &str =
-    "no line of this publisher stands above: write the line `publisher ..` before its prefixes";
+    "this publisher has no line yet: write its line `publisher ..` before its prefixes";
 
-const HASH_FORM: &str = "the word behind the publisher is 2 for SHA-1 or 3 for SHA-256";
+const HASH_FORM: &str = "the word after the publisher is 2 for SHA-1 or 3 for SHA-256";
 
 const UNKNOWN_PREFIX: &str =
-    "no line of the handle's prefix stands above: write the line `prefix ..` before its values";
+    "the handle's prefix has no line yet: write its line `prefix ..` before its values";
 
 const HEX_FORM: &str =
     "HEX is an even number of hexadecimal digits; hdl tenants makes them of a value in words";
 
-const MORE_OCTETS: &str = "octets stand behind the value: a line has one value";
+const MORE_OCTETS: &str = "octets follow the value: a line has one value";
 
-const MANY_VALUES: &str = "the handle has 1,024 values above: that is the most";
+const MANY_VALUES: &str = "the handle has 1,024 values already, which is the limit";
 
 const TWICE_INDEX: &str =
-    "a value with this index stands above: give each value of a handle an index of its own";
+    "the handle has a value with this index already: give each value an index of its own";
 
 fn is_publisher_name(name: &str) -> bool {
     !name.is_empty()
@@ -61,7 +65,7 @@ fn has_upper(text: &str) -> bool {
 
 /// What is wrong with the words of a publisher.
 fn publisher_reason(fields: &[&str]) -> &'static str {
-    let [_, name, lanes, port] = fields else {
+    let [_, name, lanes, port, more @ ..] = fields else {
         return PUBLISHER_FORM;
     };
     if !is_publisher_name(name) {
@@ -74,7 +78,10 @@ fn publisher_reason(fields: &[&str]) -> &'static str {
     if decimal_u16(port).unwrap_or(0) == 0 {
         return PORT_FORM;
     }
-    PUBLISHER_FORM
+    match more {
+        [layout] if *layout != "handle-net" => LAYOUT_FORM,
+        _ => PUBLISHER_FORM,
+    }
 }
 
 /// What is wrong with the words of a prefix.
@@ -150,10 +157,10 @@ fn value_words(
 /// A fault that its line alone doesn't show.
 pub(crate) fn words_of(alloc: Global, fault: TenantFault) -> Result<String, AllocError> {
     let advice = match fault {
-        TenantFault::TwicePrefix => ": this publisher has it above",
+        TenantFault::TwicePrefix => ": this publisher has it already",
         TenantFault::TwicePublisher => ": give each publisher a name of its own",
         TenantFault::TooMany => {
-            " together: give this publisher fewer, or serve it by a process of its own"
+            " together: give this publisher fewer lanes, or a server of its own"
         }
         TenantFault::BadLine => "",
         TenantFault::Memory => "",

@@ -3,6 +3,7 @@
 use crate::judging::{Accepted, LineKind, kind_of};
 use crate::reasons::{reason_of, words_of};
 use hdl_tenants::{TenantFault, Tenants};
+use hdl_value::Wire;
 use std::alloc::{AllocError, AllocFailed, Global};
 
 /// A faulty line of a text, counted from 1, and what is wrong with it.
@@ -117,7 +118,6 @@ impl Found {
     }
 }
 
-/// Checks a tenants text.
 pub fn check(alloc: Global, text: &str) -> Result<Report, AllocError> {
     let mut found = Found::new(alloc);
     match found.read(text)? {
@@ -142,6 +142,14 @@ fn push_prefixes(lines: &mut String, text: &str, publisher: &str) -> Result<(), 
     Ok(())
 }
 
+/// What is said of the layout of values behind a port: nothing of our profile's.
+fn layout_words(wire: Wire) -> &'static str {
+    match wire {
+        Wire::Profile => "",
+        Wire::HandleNet => " (handle-net)",
+    }
+}
+
 /// What an accepted text has: a line for each publisher, and one for all values.
 fn summary(alloc: Global, text: &str, tenants: &Tenants) -> Result<String, AllocError> {
     let mut lines = String::new(alloc);
@@ -150,8 +158,9 @@ fn summary(alloc: Global, text: &str, tenants: &Tenants) -> Result<String, Alloc
             continue;
         };
         let connections = lanes.saturating_sub(1);
+        let layout = layout_words(tenants.wire(place));
         let line = format!(in alloc;
-            "{name}: port {port}, {connections} connections at a time; prefixes"
+            "{name}: port {port}{layout}, {connections} lanes for connections; prefixes"
         )?;
         lines.push_str(&line)?;
         push_prefixes(&mut lines, text, name)?;

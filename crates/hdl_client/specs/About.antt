@@ -1,6 +1,7 @@
 -- What a reply is about: the operation that was asked for, and the handle.
 use Rattle.std.specs.Prelude.{◌≡◌, ⊤, ℕ, List, [], All}
 use Rattle.hdl_name.specs.Name.{IsHandle, prefix, sent_prefix}
+use Rattle.hdl_value.specs.declared.wire.Wire.{Wire}
 use Rattle.hdl_msg.specs.declared.codes.ResponseCode.TheVariants.{Success}
 use Rattle.hdl_msg.specs.declared.replies.ReplyContent.{ReplyContent}
 use Rattle.hdl_msg.specs.declared.replies.ReplyContent.TheVariants.{Values, Handles, Nothing, Referral, Nonce, Empty}
@@ -26,7 +27,7 @@ IsUnder asked handle = IsHandle handle × (prefix handle ≡ asked)
 
 -- what is carried is of this handle: values are its own, the handles of a list have its prefix, and a referral is to the service of its prefix
 abbrev pub IsOf : List ℕ → ReplyContent → Type 0
-IsOf handle (Values named values) = named ≡ handle
+IsOf handle (Values wire named values) = named ≡ handle
 IsOf handle (Handles handles) = IsHandle handle × All (IsUnder (prefix handle)) handles
 IsOf handle Nothing = ⊤
 IsOf handle (Referral to) = IsHandle handle × (to ≡ sent_prefix handle)
@@ -38,10 +39,10 @@ pub record IsAbout (operation : ℕ) (handle : List ℕ) (reply : ReplyParts) : 
   pub done : reply.header.response_code ≡ response_number Success → reply.header.op_code ≡ operation
   pub carried : IsOf handle reply.content
 
--- the reply is about what the request with this message asks
-abbrev pub IsAnswerTo : List ℕ → ReplyParts → Type 0
-IsAnswerTo message reply = (asked : Content) × SpellsRequest message asked × IsAbout asked.header.op_code (named_handle asked.operation) reply
+-- the reply is about what the request with this message asks, whose values stand by this layout
+abbrev pub IsAnswerTo : Wire → List ℕ → ReplyParts → Type 0
+IsAnswerTo wire message reply = (asked : Content) × SpellsRequest wire message asked × IsAbout asked.header.op_code (named_handle asked.operation) reply
 
--- the message is that of such a reply
-abbrev pub AnswersRequest : List ℕ → List ℕ → Type 0
-AnswersRequest message came = (reply : ReplyParts) × SpellsReply came reply × IsAnswerTo message reply
+-- the message is that of such a reply, by the same layout
+abbrev pub AnswersRequest : Wire → List ℕ → List ℕ → Type 0
+AnswersRequest wire message came = (reply : ReplyParts) × SpellsReply wire came reply × IsAnswerTo wire message reply

@@ -33,5 +33,5 @@ AnswersFor keys task reply answer = (key : Key) × (key_of keys task ≡ Some ke
 
 -- a reply to a task is its outcome, about what the task asks, or a challenge, which is answered by the key that the task names
 abbrev pub Lands : List Key → Task → ReplyParts → Landing → Type 0
-Lands keys task reply (Done code) = (code ≡ reply.header.response_code) × IsAnswerTo task.message.items reply
+Lands keys task reply (Done code) = (code ≡ reply.header.response_code) × IsAnswerTo task.wire task.message.items reply
 Lands keys task reply (Challenge answer) = AnswersFor keys task reply answer.items

@@ -3,6 +3,7 @@ use Rattle.std.specs.Prelude.{◌≡◌, ◌≢◌, ℕ, ◌-◌, List, length, 
 use Rattle.hdl_auth.specs.declared.algorithm.Digest.{Digest}
 use Rattle.hdl_auth.specs.Digest.{algorithm_of, digest_of}
 use Rattle.hdl_auth.specs.Mac.{right_response}
+use Rattle.hdl_value.specs.declared.wire.Wire.TheVariants.{Profile}
 use Rattle.hdl_msg.specs.declared.fields.Header.{Header}
 use Rattle.hdl_msg.specs.declared.request_body.RequestBody.{RequestBody}
 use Rattle.hdl_msg.specs.declared.request_body.RequestBody.TheVariants.{Response}
@@ -31,10 +32,10 @@ Challenges reply nonce digest = (reply.content ≡ Nonce nonce) × (reply.digest
 abbrev pub IsOtherChallenge : List ℕ → ReplyParts → Type 0
 IsOtherChallenge asked reply = (nonce : List ℕ) × (digest : Digest) × Challenges reply nonce digest × (digest ≢ digest_of (algorithm_of digest) (signed_part asked))
 
--- The message answers this reply, which challenges just the request that was asked.
+-- The message answers this reply, which challenges just the request that was asked. A response has no values, so it is the same by either layout.
 pub record Answers (key : Key) (asked : List ℕ) (reply : ReplyParts) (answer : List ℕ) : Type 0 where
   pub nonce : List ℕ
   pub digest : Digest
   pub challenge : Challenges reply nonce digest
   pub own : digest ≡ digest_of (algorithm_of digest) (signed_part asked)
-  pub spelt : answer ≡ request_message plain_header (response_of key nonce digest)
+  pub spelt : answer ≡ request_message Profile plain_header (response_of key nonce digest)

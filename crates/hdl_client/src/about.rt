@@ -11,6 +11,7 @@ ghost use Rattle.hdl_client.specs.declared.fault.ClientFault.TheVariants.{OtherH
 use crate::fault::ClientFault;
 use hdl_msg::{Body, ContentView, ReplyView, ResponseCode, Strings, read_request};
 use hdl_name::{Name, NameFault};
+use hdl_value::Wire;
 use std::alloc::{AllocError, Global};
 
 /// The name that these octets are, if they are one.
@@ -112,15 +113,16 @@ fn named_handle<'m>(body: &Body<'m>) -> &'m [u8]
     }
 }
 
-/// Refuses a reply that isn't about what the request with this message asks.
+/// Refuses a reply that isn't about what the request with this message asks. The request's values stand by this layout.
 pub(crate) fn check_answer(
     alloc: Global,
+    wire: Wire,
     message: &[u8],
     reply: &ReplyView<'_>,
 ) -> Result<(), ClientFault>
-    ensures { OnOk result (IsAnswerTo message.now (reply_seen reply.now)) }
+    ensures { OnOk result (IsAnswerTo wire message.now (reply_seen reply.now)) }
 {
-    let Ok(request) = read_request(message) else {
+    let Ok(request) = read_request(wire, message) else {
         return Err(ClientFault::OtherRequest);
     };
     let handle = named_handle(request.body());

@@ -13,6 +13,7 @@ use crate::reply::Reply;
 use crate::session::Session;
 use hdl_limits::CHALLENGES_MAX;
 use hdl_msg::ReplyView;
+use hdl_value::Wire;
 use std::alloc::Global;
 use std::io::{Read, Write};
 
@@ -24,6 +25,8 @@ pub struct Task {
     /// Its operation and handle, as it was written.
     pub title: String,
     pub message: Vec<u8>,
+    /// By whose layout values stand in the message, and in the reply.
+    pub wire: Wire,
     /// Which of the batch's keys answers its challenge.
     pub key: Option<usize>,
     /// The canonical form of its handle.
@@ -39,11 +42,11 @@ pub struct Batch {
     pub tasks: Vec<Task>,
 }
 
-/// Who is told what came of each request, as it comes.
+/// Receives the outcome of each request of a batch, as it comes.
 pub trait Outcomes {
     /// The reply to this task came, with this code. It is about what the task asks.
     fn note_reply(&mut self, task: &Task, code: u32, reply: &ReplyView<'_>)
-        requires answers { IsAnswerTo task.now.message.items (reply_seen reply.now) };
+        requires answers { IsAnswerTo task.now.wire task.now.message.items (reply_seen reply.now) };
 }
 
 /// A request that waits for its reply: its task, the RequestId of what was sent last for it, and whether that answers a challenge.
@@ -117,7 +120,7 @@ fn land_reply(
     if let Some(answer) = answer_by_key(alloc, keys, flight, reply)? {
         return Ok(Landing::Challenge(answer));
     }
-    check_answer(alloc, &flight.task.message, reply)?;
+    check_answer(alloc, flight.task.wire, &flight.task.message, reply)?;
     Ok(Landing::Done(reply.header.response_code))
 }
 
@@ -192,7 +195,7 @@ impl<S: Read + Write> Session<S> {
     {
         let frame = receive(self.alloc, &mut self.stream)?;
         let flight = take_flight(flights, frame.envelope.request)?;
-        let reply = Reply::of_frame(frame, flight.request)?;
+        let reply = Reply::of_frame(flight.task.wire, frame, flight.request)?;
         let view = reply.view();
         match land_reply(self.alloc, &batch.keys, &flight, &view)? {
             Landing::Done(code) => {
@@ -206,9 +209,9 @@ impl<S: Read + Write> Session<S> {
         }
     }
 
-    /// Asks all of a batch, and tells the outcome of each request as it comes. Requests whose order may matter aren't in flight
+    /// Asks all of a batch, and reports the outcome of each request as it comes. Requests whose order may matter aren't in flight
     /// together: those of one handle, and what flies alone. After a fault it isn't known what became of requests whose outcome
-    /// wasn't told.
+    /// wasn't reported.
     pub fn run_batch<O: Outcomes>(
         &mut self,
         batch: &Batch,

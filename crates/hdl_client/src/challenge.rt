@@ -2,6 +2,7 @@
 
 ghost use Rattle.std.specs.Prelude.{◌≡◌, ◌≢◌, ◌≤◌, ◌<◌, ◌⊎◌, ℕ, List, length, true, false, IfOk, IfErr, IfSome, MatchOption};
 ghost use Rattle.hdl_auth.specs.declared.algorithm.Digest.{Digest};
+ghost use Rattle.hdl_value.specs.declared.wire.Wire.TheVariants.{Profile};
 ghost use Rattle.hdl_auth.specs.Digest.{algorithm_of, digest_of};
 ghost use Rattle.hdl_msg.specs.RequestBody as requests;
 ghost use Rattle.hdl_msg.specs.Reply.{reply_seen};
@@ -13,7 +14,7 @@ use crate::fault::ClientFault;
 use hdl_auth::{digest, mac};
 use hdl_limits::{MESSAGE_MAX, Octets};
 use hdl_msg::{ContentView, Digest, Header, ReplyView, RequestBody, request_len, write_request};
-use hdl_value::HS_SECKEY;
+use hdl_value::{HS_SECKEY, Wire};
 use std::alloc::{AllocError, Global};
 
 /// A secret key, and the reference to the HS_SECKEY value that holds it at the service. It can't be printed.
@@ -35,16 +36,20 @@ pub const PLAIN: Header = Header {
     expiration: 0,
 };
 
-/// The message of a request without flags.
-pub fn request_message(alloc: Global, body: &RequestBody) -> Result<Vec<u8>, ClientFault>
-    ensures octets { IfOk result (λ v. v.items ≡ requests.request_message plain_header body.now) }
+/// The message of a request without flags, its values by this layout.
+pub fn request_message(
+    alloc: Global,
+    wire: Wire,
+    body: &RequestBody,
+) -> Result<Vec<u8>, ClientFault>
+    ensures octets { IfOk result (λ v. v.items ≡ requests.request_message wire plain_header body.now) }
     ensures short { IfOk result (λ v. length v.items ≤ MESSAGE_MAX) }
-    ensures refused { IfErr result (λ e. (e ≡ Memory) ⊎ ((e ≡ TooLong) × (MESSAGE_MAX < requests.request_length body.now))) }
+    ensures refused { IfErr result (λ e. (e ≡ Memory) ⊎ ((e ≡ TooLong) × (MESSAGE_MAX < requests.request_length wire body.now))) }
 {
-    if request_len(body) > MESSAGE_MAX as usize {
+    if request_len(wire, body) > MESSAGE_MAX as usize {
         return Err(ClientFault::TooLong);
     }
-    Ok(write_request(alloc, PLAIN, body)?)
+    Ok(write_request(alloc, wire, PLAIN, body)?)
 }
 
 /// The response by a key to the challenge with this nonce, of the request with this digest.
@@ -90,12 +95,12 @@ fn response_message(
     nonce: &[u8; 16],
     request_digest: &Digest,
 ) -> Result<Vec<u8>, ClientFault>
-    ensures octets { IfOk result (λ v. v.items ≡ requests.request_message plain_header (response_of key.now nonce.now request_digest.now)) }
+    ensures octets { IfOk result (λ v. v.items ≡ requests.request_message Profile plain_header (response_of key.now nonce.now request_digest.now)) }
     ensures short { IfOk result (λ v. length v.items ≤ MESSAGE_MAX) }
     ensures refused { IfErr result (λ e. e ≢ OtherChallenge) }
 {
     let body = challenge_response(alloc, key, nonce, request_digest)?;
-    request_message(alloc, &body)
+    request_message(alloc, Wire::Profile, &body)
 }
 
 /// The message that answers a challenge of the request with this message; None where the reply is no challenge. A challenge whose

@@ -127,7 +127,7 @@ pub fn connect(rt: &HostRuntime, server: &str) -> Result<Session<Connection>, Cl
 }
 
 /// Connects to `HOST:PORT` within a time that began then, which is that of the first request too: it has to be answered whole before the time is over. Each
-/// request behind it has so much time, for being sent and for its whole answer together.
+/// later request has the same time, for being sent and for its whole answer together.
 pub fn connect_within(
     rt: &HostRuntime,
     server: &str,

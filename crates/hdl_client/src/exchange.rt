@@ -55,7 +55,7 @@ pub struct OwnedFrame {
     pub payload: Vec<u8>,
 }
 
-/// Takes the next frame from the stream, whole and nothing behind it. Where the envelope is refused only its 20 octets were taken.
+/// Takes the next frame from the stream, whole and nothing after it. Where the envelope is refused only its 20 octets were taken.
 pub fn receive<S: Read>(alloc: Global, stream: &mut S) -> Result<OwnedFrame, ClientFault>
     ensures taken { IfOk result (TakesFrame (S.remaining stream.old) (S.remaining stream.new)) }
 {

@@ -12,14 +12,14 @@ use thiserror::Error;
 /// Why there is no connection to a server.
 #[derive(Clone, Copy, Debug, PartialEq, Eq, Error)]
 pub enum ConnectFault {
-    #[error("this is no HOST:PORT")]
+    #[error("not of the form HOST:PORT")]
     NotHostPort,
-    #[error("no address is known of this name")]
+    #[error("this name has no address")]
     UnknownName,
     /// The host is there.
     #[error("nothing listens there")]
     Refused,
-    #[error("no network leads there")]
+    #[error("the network is unreachable")]
     NoRoute,
     #[error("no answer in time")]
     Silent,
@@ -42,19 +42,19 @@ pub enum ClientFault {
     #[error("the connection failed")]
     Connection,
     /// An envelope that is refused.
-    #[error("what came is no frame: {0}")]
+    #[error("the server sent no frame: {0}")]
     NoFrame(FrameFault),
     /// A piece of a message, or a message that is out of the grammar of replies.
-    #[error("what came is no reply")]
+    #[error("the server sent no reply")]
     NoReply,
     /// Its RequestId is that of no request which waits, or what it says to be done is another operation.
-    #[error("a reply to another request came")]
+    #[error("the server replied to another request")]
     OtherRequest,
     /// It shows the values of another handle, lists a handle of another prefix, or refers to the service of another one.
-    #[error("a reply about another handle came")]
+    #[error("the server replied about another handle")]
     OtherHandle,
     /// Its digest isn't that of the request.
-    #[error("a challenge of another request came")]
+    #[error("the server challenged another request")]
     OtherChallenge,
     #[error("the request has more than {MESSAGE_MAX} octets")]
     TooLong,

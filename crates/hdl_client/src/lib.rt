@@ -13,7 +13,7 @@
 //! ```rust
 //! // crates/hdl_commands/src/asking.rt
 //! let mut session = connect(rt, &question.server)?;
-//! session.ask(body, key)
+//! session.ask(question.wire, body, key)
 //! ```
 #![tactic(auto)]
 

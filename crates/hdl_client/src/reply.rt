@@ -10,12 +10,14 @@ use crate::exchange::OwnedFrame;
 use crate::fault::ClientFault;
 use hdl_frame::Envelope;
 use hdl_msg::{ReplyView, read_reply};
+use hdl_value::Wire;
 use std::alloc::Global;
 use std::marker::Model;
 
-/// A reply: a message that came whole in one frame and that `read_reply` reads. Contracts see its envelope and its message.
+/// A reply: a message that came whole in one frame and that `read_reply` reads. Contracts see the layout of its values, its envelope and its message.
 #[derive(Drop)]
 pub struct Reply {
+    wire: Wire,
     envelope: Envelope,
     message: Vec<u8>,
 }
@@ -25,19 +27,19 @@ impl Model for Reply {
 
     ghost Value = { Delivery };
 
-    ghost view = { λ r. record { envelope = r.envelope; message = r.message.items } };
+    ghost view = { λ r. record { wire = r.wire; envelope = r.envelope; message = r.message.items } };
 
-    ghost invariant = { λ r. IsReply r.envelope r.message.items };
+    ghost invariant = { λ r. IsReply r.wire r.envelope r.message.items };
 }
 
 impl Reply {
     ghost use Rattle.hdl_client.specs.Reply.{IsReplyTo, IsNoReplyTo};
 
-    /// The reply in this frame to the request with this RequestId, if it is one.
-    pub fn of_frame(frame: OwnedFrame, request: u32) -> Result<Reply, ClientFault>
-        ensures delivered { IfOk result (λ reply. reply ≡ record { envelope = frame.envelope; message = frame.payload.items }) }
-        ensures own { IfOk result (IsReplyTo request) }
-        ensures refused { OnErr result (IsNoReplyTo request frame.envelope frame.payload.items) }
+    /// The reply in this frame to the request with this RequestId, if it is one by this layout of values.
+    pub fn of_frame(wire: Wire, frame: OwnedFrame, request: u32) -> Result<Reply, ClientFault>
+        ensures delivered { IfOk result (λ reply. reply ≡ record { wire = wire; envelope = frame.envelope; message = frame.payload.items }) }
+        ensures own { IfOk result (IsReplyTo wire request) }
+        ensures refused { OnErr result (IsNoReplyTo wire request frame.envelope frame.payload.items) }
     {
         let OwnedFrame { envelope, payload } = frame;
         if envelope.is_truncated() {
@@ -46,8 +48,9 @@ impl Reply {
         if envelope.request != request {
             return Err(ClientFault::OtherRequest);
         }
-        match read_reply(&payload) {
+        match read_reply(wire, &payload) {
             Ok(_) => Ok(Reply {
+                wire,
                 envelope,
                 message: payload,
             }),
@@ -58,9 +61,9 @@ impl Reply {
     /// This reply, if it is about what the request with this message asks.
     pub(crate) fn about(self, alloc: Global, message: &[u8]) -> Result<Reply, ClientFault>
         ensures same { IfOk result (λ reply. reply ≡ self) }
-        ensures answers { IfOk result (λ reply. AnswersRequest message.now reply.message) }
+        ensures answers { IfOk result (λ reply. AnswersRequest self.wire message.now reply.message) }
     {
-        check_answer(alloc, message, &self.view())?;
+        check_answer(alloc, self.wire, message, &self.view())?;
         Ok(self)
     }
 
@@ -80,9 +83,9 @@ impl Reply {
 
     /// What it says, where it stands.
     pub fn view(&self) -> ReplyView<'_>
-        ensures seen { SpellsReply self.now.message (reply_seen result) }
+        ensures seen { SpellsReply self.now.wire self.now.message (reply_seen result) }
     {
-        match read_reply(&self.message) {
+        match read_reply(self.wire, &self.message) {
             Ok(reply) => reply,
             Err(_) => unreachable!(),
         }

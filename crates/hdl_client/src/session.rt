@@ -11,6 +11,7 @@ use crate::exchange::{receive, send};
 use crate::fault::ClientFault;
 use crate::reply::Reply;
 use hdl_msg::RequestBody;
+use hdl_value::Wire;
 use std::alloc::Global;
 use std::io::{Read, Write};
 
@@ -41,50 +42,61 @@ impl<S: Read + Write> Session<S> {
     }
 
     /// Sends a message under this SessionId, and takes the reply to it.
-    fn exchange_within(&mut self, session: u32, message: &[u8]) -> Result<Reply, ClientFault>
-        ensures reply { IfOk result (IsReplyTo self.new.request) }
+    fn exchange_within(
+        &mut self,
+        wire: Wire,
+        session: u32,
+        message: &[u8],
+    ) -> Result<Reply, ClientFault>
+        ensures reply { IfOk result (IsReplyTo wire self.new.request) }
     {
         let request = self.send_next(session, message)?;
         let frame = receive(self.alloc, &mut self.stream)?;
-        Reply::of_frame(frame, request)
+        Reply::of_frame(wire, frame, request)
     }
 
-    /// Sends the message of a request, as `write_request` makes it, and takes the reply to it. Behind a fault the stream may still bring
+    /// Sends the message of a request, as `write_request` makes it, and takes the reply to it, whose values have this layout. After a fault the stream may still bring
     /// the reply.
-    pub fn exchange(&mut self, message: &[u8]) -> Result<Reply, ClientFault>
-        ensures reply { IfOk result (IsReplyTo self.new.request) }
+    pub fn exchange(&mut self, wire: Wire, message: &[u8]) -> Result<Reply, ClientFault>
+        ensures reply { IfOk result (IsReplyTo wire self.new.request) }
     {
-        self.exchange_within(0, message)
+        self.exchange_within(wire, 0, message)
     }
 
-    /// The reply to the answer to a challenge by this key, where the reply that came is one; else that one.
+    /// The reply to the answer to a challenge by this key, where there is one and the reply that came is a challenge; else that reply.
     fn behind_challenge(
         &mut self,
-        key: &Key,
+        wire: Wire,
+        key: Option<&Key>,
         message: &[u8],
         reply: Reply,
     ) -> Result<Reply, ClientFault>
-        requires { IsReplyTo self.old.request reply }
-        ensures reply { IfOk result (IsReplyTo self.new.request) }
+        requires { IsReplyTo wire self.old.request reply }
+        ensures reply { IfOk result (IsReplyTo wire self.new.request) }
     {
+        let Some(key) = key else {
+            return Ok(reply);
+        };
         match challenge_answer(self.alloc, key, message, &reply.view())? {
-            Some(answer) => self.exchange_within(reply.envelope().session, &answer),
+            Some(answer) => self.exchange_within(wire, reply.envelope().session, &answer),
             None => Ok(reply),
         }
     }
 
     /// Asks, answers the challenge where one comes and a key is there, and takes the reply. A reply about another operation, or about another handle, is
-    /// refused.
-    pub fn ask(&mut self, body: &RequestBody, key: Option<&Key>) -> Result<Reply, ClientFault>
-        ensures reply { IfOk result (IsReplyTo self.new.request) }
-        ensures answers { IfOk result (λ reply. AnswersRequest (request_message plain_header body.now) reply.message) }
+    /// refused. Values are written and read by this layout.
+    pub fn ask(
+        &mut self,
+        wire: Wire,
+        body: &RequestBody,
+        key: Option<&Key>,
+    ) -> Result<Reply, ClientFault>
+        ensures reply { IfOk result (IsReplyTo wire self.new.request) }
+        ensures answers { IfOk result (λ reply. AnswersRequest wire (request_message wire plain_header body.now) reply.message) }
     {
-        let message = request_message(self.alloc, body)?;
-        let first = self.exchange_within(0, &message)?;
-        let reply = match key {
-            Some(key) => self.behind_challenge(key, &message, first)?,
-            None => first,
-        };
+        let message = request_message(self.alloc, wire, body)?;
+        let first = self.exchange_within(wire, 0, &message)?;
+        let reply = self.behind_challenge(wire, key, &message, first)?;
         let reply = reply.about(self.alloc, &message)?;
         Ok(reply)
     }

@@ -9,6 +9,7 @@ use Rattle.csv.specs.Records.{field_at}
 use Rattle.csv.specs.declared.parser.State.TheVariants.{StartRecord}
 use Rattle.hdl_value.specs.declared.references.RawRef.{RawRef}
 use Rattle.hdl_value.specs.declared.value.Value.{Value}
+use Rattle.hdl_value.specs.declared.wire.Wire.{Wire}
 use Rattle.hdl_value.specs.Data.{admin_kind}
 use Rattle.hdl_value.specs.Refs.{is_admin}
 use Rattle.hdl_value.specs.Spelling.{reference}
@@ -67,8 +68,8 @@ administrator key index = value_of index admin_kind 86400 14 (to_be_bytes w16 40
 abbrev pub AreAdministered : RawRef → List Value → List Value → Type 0
 AreAdministered key rows values = MatchBool (list_any is_admin rows) (values ≡ rows) ((index : ℕ) × All (λ v. v.index ≢ index) rows × (values ≡ rows ++ administrator key index ∷ []))
 
--- The message creates the handle with just such values.
-pub record Creates (key : RawRef) (handle : List ℕ) (rows : List Value) (message : List ℕ) : Type 0 where
+-- The message creates the handle with just such values, which stand by this layout.
+pub record Creates (wire : Wire) (key : RawRef) (handle : List ℕ) (rows : List Value) (message : List ℕ) : Type 0 where
   pub values : List Value
   pub administered : AreAdministered key rows values
-  pub spelt : message ≡ request_message plain_header (Create handle values)
+  pub spelt : message ≡ request_message wire plain_header (Create handle values)

@@ -8,6 +8,7 @@ use crate::words::{Printout, code_name, push_reply, push_short_reply};
 use hdl_client::{ClientFault, Key, Reply, connect};
 use hdl_frame::Envelope;
 use hdl_msg::{OpCode, ReplyView, RequestBody, ResponseCode};
+use hdl_value::Wire;
 use std::alloc::{AllocError, Global};
 use std::io;
 use thiserror::Error;
@@ -23,6 +24,8 @@ pub struct Inquiry {
     pub types: Vec<String>,
     /// `HOST:PORT`.
     pub server: String,
+    /// By whose layout the server speaks of values.
+    pub wire: Wire,
     /// A reference to the key that answers a challenge.
     pub key: Option<String>,
     /// Whether only what is asked for is shown, an item a line.
@@ -38,7 +41,7 @@ pub enum AskFault {
     Words(WordFault),
     #[error("{0}")]
     Client(ClientFault),
-    #[error("the answer can't be written")]
+    #[error("standard output can't be written")]
     Output,
 }
 
@@ -125,10 +128,10 @@ fn way_on(operation: OpCode, code: Option<ResponseCode>) -> &'static str {
     }
     match operation {
         OpCode::ListHandles => {
-            ": more handles than one reply of 65,536 octets says; who runs the server has all of them by `handled copy --table FILE --to COPY` and `handled export --table COPY < TENANTS`, while it goes on"
+            ": more handles than fit into one reply (65,536 octets). The server's operator can list all: `handled copy --table FILE --to COPY`, then `handled export --table COPY < TENANTS`"
         }
         OpCode::Resolution => {
-            ": more values than one reply of 65,536 octets says; ask for some of them by --index or --type"
+            ": more values than fit into one reply (65,536 octets): select some with --index or --type"
         }
         _ => "",
     }
@@ -154,7 +157,7 @@ fn reply_to(
     key: Option<&Key>,
 ) -> Result<Reply, ClientFault> {
     let mut session = connect(rt, &question.server)?;
-    session.ask(body, key)
+    session.ask(question.wire, body, key)
 }
 
 /// Asks this, and shows the reply.

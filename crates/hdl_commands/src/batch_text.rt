@@ -7,11 +7,13 @@ ghost use Rattle.hdl_client.specs.Challenge.{plain_header};
 use crate::fault::WordFault;
 use crate::key::read_key;
 use crate::request::{Details, request_of, takes_values};
+use crate::scripts::find_asker;
 use crate::words::operation_in;
 use hdl_client::{Batch, Task, request_message};
 use hdl_msg::{OpCode, RequestBody};
 use hdl_name::Name;
-use hdl_value::Value;
+use hdl_tenants::Tenants;
+use hdl_value::{Value, Wire};
 use std::alloc::Global;
 use thiserror::Error;
 
@@ -32,10 +34,30 @@ struct Block {
     details: Details,
 }
 
+/// By whose layout values stand in the messages of a batch.
+#[derive(Clone, Copy)]
+pub enum Layouts<'t> {
+    /// By this one in all of them.
+    One(Wire),
+    /// By that of the publisher who is asked.
+    OfPublishers(&'t Tenants),
+}
+
+impl Layouts<'_> {
+    /// That of a request about this handle.
+    fn of(self, name: &Name) -> Wire {
+        match self {
+            Layouts::One(wire) => wire,
+            Layouts::OfPublishers(tenants) => find_asker(tenants, name).wire,
+        }
+    }
+}
+
 /// What was read so far.
 #[derive(Drop)]
-struct Reader {
+struct Reader<'t> {
     alloc: Global,
+    layouts: Layouts<'t>,
     batch: Batch,
     block: Option<Block>,
     /// The reference of a key, where its secret is the next line.
@@ -57,22 +79,27 @@ pub(crate) fn may_disturb(operation: OpCode, name: &Name) -> bool {
 
 fn message_of(
     alloc: Global,
+    wire: Wire,
     operation: OpCode,
     handle: &str,
     details: Details,
 ) -> Result<Vec<u8>, WordFault> {
     let body = request_of(alloc, operation, handle, details)?;
-    message_or_fault(alloc, &body)
+    message_or_fault(alloc, wire, &body)
 }
 
 /// The message of a request, or what is wrong with its words.
-pub(crate) fn message_or_fault(alloc: Global, body: &RequestBody) -> Result<Vec<u8>, WordFault>
-    ensures { IfOk result (λ v. v.items ≡ requests.request_message plain_header body.now) }
+pub(crate) fn message_or_fault(
+    alloc: Global,
+    wire: Wire,
+    body: &RequestBody,
+) -> Result<Vec<u8>, WordFault>
+    ensures { IfOk result (λ v. v.items ≡ requests.request_message wire plain_header body.now) }
 {
-    Ok(request_message(alloc, body)?)
+    Ok(request_message(alloc, wire, body)?)
 }
 
-/// The handle behind an operation, and the indexes before it where the operation is to remove values.
+/// The handle after an operation, and the indexes before it where the operation is to remove values.
 fn handle_of<'a>(
     operation: OpCode,
     words: &'a str,
@@ -90,7 +117,7 @@ fn handle_of<'a>(
     Ok(handle)
 }
 
-impl Reader {
+impl Reader<'_> {
     /// Ends the request that was begun.
     fn finish(&mut self) -> Result<(), WordFault> {
         let Some(block) = self.block.take() else {
@@ -103,7 +130,7 @@ impl Reader {
             details,
         } = block;
         task.is_alone = task.is_alone || details.values.iter().any(is_relied_on);
-        task.message = message_of(self.alloc, operation, &handle, details)?;
+        task.message = message_of(self.alloc, task.wire, operation, &handle, details)?;
         self.batch.tasks.push(task)?;
         Ok(())
     }
@@ -121,6 +148,7 @@ impl Reader {
             line,
             title: String::from_str(self.alloc, title)?,
             message: Vec::new(self.alloc),
+            wire: self.layouts.of(&name),
             key: self.batch.keys.len().checked_sub(1),
             handle: Vec::from_slice(self.alloc, name.canon())?,
             is_alone: may_disturb(operation, &name),
@@ -193,8 +221,8 @@ impl Reader {
     }
 }
 
-impl Reader {
-    /// The line that a fault at this line is told of: the request's own, where the request as a whole is at fault.
+impl Reader<'_> {
+    /// The line that is named for a fault at this line: the request's own, where the request as a whole is at fault.
     fn line_of(&self, line: usize, begun: Option<usize>, fault: WordFault) -> (usize, WordFault) {
         match fault {
             WordFault::Missing | WordFault::TooLong => (begun.unwrap_or(line), fault),
@@ -238,10 +266,11 @@ impl Reader {
 /// ```
 ///
 /// Lines that begin with `;;` are comments. Small letters do too, so that what `hdl explain` prints can be read. The first line that
-/// can't be read is told; a request is told by its own line where it lacks values or is too long.
-pub fn read_batch(alloc: Global, text: &str) -> Result<Batch, BatchFault> {
+/// can't be read is named; a request that lacks values or is too long is named by its own line. Values in the messages have these layouts.
+pub fn read_batch(alloc: Global, layouts: Layouts<'_>, text: &str) -> Result<Batch, BatchFault> {
     let mut reader = Reader {
         alloc,
+        layouts,
         batch: Batch {
             keys: Vec::new(alloc),
             tasks: Vec::new(alloc),

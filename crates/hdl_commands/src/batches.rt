@@ -1,11 +1,12 @@
 //! A batch, asked of a server.
 
-use crate::batch_text::read_batch;
+use crate::batch_text::{Layouts, read_batch};
 use crate::telling::tell_fault;
 use crate::words::code_name;
 use hdl_client::{Batch, ClientFault, Outcomes, Task, connect};
 use hdl_lines::printed_octets;
 use hdl_msg::{ReplyView, ResponseCode};
+use hdl_value::Wire;
 use std::io::IsTerminal;
 
 /// Prints what comes, and counts it.
@@ -72,11 +73,11 @@ fn print_end(tally: &Tally<'_>) {
     }
 }
 
-/// Asks all of a batch of a server over one connection, and prints a line for each outcome as it comes, and at the end how many
+/// Asks all of a batch of a server that speaks of values by this layout over one connection, and prints a line for each outcome as it comes, and at the end how many
 /// succeeded and the lines of those that failed; progress on standard error, where that is a terminal and the outcomes go elsewhere. Answers the exit status: 0 where every code was 1, 1 where another came, 2 for a text
 /// that is no batch, of which nothing was sent, and 3 where the connection failed, with how many requests have no outcome.
-pub fn run_batch_text(rt: &HostRuntime, server: &str, text: &str) -> u8 {
-    let batch = match read_batch(rt.alloc(), text) {
+pub fn run_batch_text(rt: &HostRuntime, server: &str, wire: Wire, text: &str) -> u8 {
+    let batch = match read_batch(rt.alloc(), Layouts::One(wire), text) {
         Ok(batch) => batch,
         Err(fault) => {
             let _ = eprintln!(rt; "hdl: {fault}");

@@ -10,55 +10,55 @@ use thiserror::Error;
 /// What is wrong with the words of a request. None of them carries words.
 #[derive(Clone, Copy, Debug, PartialEq, Eq, Error)]
 pub enum WordFault {
-    #[error("no such operation")]
+    #[error("unknown operation: write RESOLVE, CREATE, ADD, MODIFY, REMOVE, DELETE, LIST or AUTHENTICATE")]
     Operation,
     #[error("{0}")]
     Handle(NameFault),
-    #[error("an index isn't a number from 1 on")]
+    #[error("an index isn't a number from 1 to 4294967295")]
     Index,
-    #[error("a key isn't INDEX:HANDLE")]
+    #[error("a key isn't INDEX:HANDLE, such as 300:0.NA/10")]
     Key,
     #[error("{0}")]
     Value(LineFault),
-    #[error("a key can't stand on the command line, where others on this machine can read its secret: write it by `hdl batch`, from standard input")]
+    #[error("an HS_SECKEY value is refused on the command line, which others on this machine can read: use `hdl batch`")]
     KeyInWords,
-    #[error("a value stands behind no operation that takes one")]
+    #[error("no CREATE, ADD or MODIFY stands before this value")]
     Stray,
     #[error("the operation needs values or indexes")]
     Missing,
-    #[error("the secret is missing")]
+    #[error("the secret is missing: set HDL_SECRET, or write it on the first line of standard input, or, in a batch, on the line after AUTHENTICATE")]
     NoSecret,
     #[error("the request has more than {MESSAGE_MAX} octets")]
     TooLong,
-    #[error("a quote isn't closed: a field with a quote in it stands in quotes, with each of its own written twice")]
+    #[error("a quote isn't closed: put a field with a quote into quotes, and double its own quotes")]
     Quote,
-    #[error("a CR stands in the line: lines end with LF, or with CR LF")]
+    #[error("the line contains a CR: end lines with LF or CR LF")]
     Return,
-    #[error("more or fewer fields than the header names: a field with a comma in it stands in quotes")]
+    #[error("the line has more or fewer fields than the header: put a field with a comma into quotes")]
     Fields,
-    #[error("the header lacks a column: its line is handle,type,data, in any order, with ttl, index and permissions if they are given")]
+    #[error("the header lacks a column: it needs handle, type and data, and may have ttl, index and permissions")]
     Column,
-    #[error("the header has a column's name with capitals, or with spaces around it: the names are handle, type, data, ttl, index and permissions")]
+    #[error("a column's name has capitals or spaces: write handle, type, data, ttl, index or permissions")]
     Letters,
-    #[error("the header has ; between columns: save the file as CSV with commas between them")]
+    #[error("the columns are separated by ;: save the file as CSV with commas")]
     Semicolons,
-    #[error("the header has tabs between columns: save the file as CSV with commas between them")]
+    #[error("the columns are separated by tabs: save the file as CSV with commas")]
     Tabs,
     #[error("the file is UTF-16: save it as CSV UTF-8")]
     Utf16,
-    #[error("the data is empty: write such a value by `hdl batch`")]
+    #[error("the data is empty: create such a value with `hdl batch`")]
     NoData,
-    #[error("a space begins or ends the data: write such a value by `hdl batch`")]
+    #[error("the data begins or ends with a space: create such a value with `hdl batch`")]
     DataSpace,
     #[error("the data isn't UTF-8: save the file as CSV UTF-8")]
     DataNotUtf8,
     #[error("the header names a column twice")]
     ColumnTwice,
-    #[error("a key can't stand in the file: write it by `hdl batch`")]
+    #[error("an HS_SECKEY value is refused in a CSV file: create it with `hdl batch`")]
     KeyInFile,
-    #[error("an index stands twice among the handle's rows")]
+    #[error("two rows of the handle have the same index")]
     IndexTwice,
-    #[error("the handle has more than {WRITTEN_MAX} values: create it with some of them, and add the others by `hdl batch`")]
+    #[error("the handle has more than {WRITTEN_MAX} values: create it with some, and add the others with `hdl batch`")]
     TooMany,
     #[error("no memory")]
     Memory,

@@ -1,6 +1,7 @@
 //! Fresh secrets, and the tenants text of new publishers, with values in words.
 
 use hdl_name::is_authority;
+use hdl_value::Wire;
 use std::alloc::{AllocError, AllocFailed, AllocGlobal, Global};
 use std::io;
 use std::random::RandomSource;
@@ -23,11 +24,11 @@ const NAME_MAX: usize = 32;
 /// Why no text is written. Prefixes are counted from 1.
 #[derive(Clone, Copy, Debug, Error)]
 pub enum FreshFault {
-    #[error("prefix {0} is no naming authority: write one such as 10 or 10.5072, without a slash, other than 0.NA")]
+    #[error("prefix {0} isn't a naming authority: write one such as 10 or 10.5072, without a slash, and not 0.NA")]
     Prefix(usize),
-    #[error("prefix {0} is given twice: name each once, in capitals or not")]
+    #[error("prefix {0} is given twice: name each prefix once; capital and small letters are the same")]
     Twice(usize),
-    #[error("more than 32 prefixes: each publisher needs 2 of a process's 64 lanes, so write a text for each process")]
+    #[error("more than 32 prefixes: a server has 64 lanes, and each publisher needs two; make a text for each of several servers")]
     TooMany,
     #[error("the system gives no random octets")]
     Random,
@@ -99,21 +100,39 @@ fn prefixes_of(alloc: Global, words: &[String]) -> Result<Vec<String>, FreshFaul
     Ok(prefixes)
 }
 
-/// Adds the lines of a publisher with one prefix, its administrator and that one's key, which has this secret.
-fn push_lines(
+/// The word behind a publisher's port, with a space before it: none for our profile's layout of values.
+fn layout_word(wire: Wire) -> &'static str {
+    match wire {
+        Wire::Profile => "",
+        Wire::HandleNet => " handle-net",
+    }
+}
+
+/// The lines of a publisher and of its prefix.
+fn publisher_lines(
     alloc: Global,
-    text: &mut String,
+    wire: Wire,
     prefix: &str,
     number: usize,
     lanes: usize,
-    secret: &str,
-) -> Result<(), AllocError> {
+) -> Result<String, AllocError> {
     let name = publisher_name(alloc, prefix, number)?;
     let port = FIRST_PORT.saturating_add(number).saturating_sub(1);
+    let layout = layout_word(wire);
+    format!(in alloc; "publisher {name} {lanes} {port}{layout}\nprefix {prefix} {name}\n")
+}
+
+/// Adds these lines of a publisher and its prefix, its administrator and that one's key, which has this secret.
+fn push_lines(
+    alloc: Global,
+    text: &mut String,
+    publisher: &str,
+    prefix: &str,
+    secret: &str,
+) -> Result<(), AllocError> {
     let lines = format!(in alloc;
         "\n\
-         publisher {name} {lanes} {port}\n\
-         prefix {prefix} {name}\n\
+         {publisher}\
          value 0.NA/{prefix} 100 HS_ADMIN 86400 1110 ADMIN 300:111111111111:0.NA/{prefix}\n\
          value 0.NA/{prefix} 300 HS_SECKEY 86400 1100 UTF8 {secret}\n"
     )?;
@@ -124,27 +143,35 @@ fn push_lines(
 fn push_publisher<R: RandomSource + AllocGlobal>(
     rt: &R,
     text: &mut String,
+    wire: Wire,
     prefix: &str,
     number: usize,
     lanes: usize,
 ) -> Result<(), FreshFault> {
     let secret = fresh_secret(rt)?;
-    push_lines(rt.alloc(), text, prefix, number, lanes, &secret)?;
+    let publisher = publisher_lines(rt.alloc(), wire, prefix, number, lanes)?;
+    push_lines(rt.alloc(), text, &publisher, prefix, &secret)?;
     Ok(())
 }
 
 /// What stands before the publishers.
 const HEAD: &str = "\
     # A tenants text with its values in words: hdl tenants < THIS > publishers.tenants, then handled serve < publishers.tenants.\n\
-    # It holds secrets, the last word of each line HS_SECKEY: nobody but who starts the service may read it.\n\
+    # It holds secrets (the last word of each line HS_SECKEY): only the user who starts the server may read it.\n\
     #\n\
-    # publisher NAME LANES PORT: one lane less is the number of connections at a time; the last lane is that of datagrams.\n\
+    # publisher NAME LANES PORT: the last lane serves datagrams. With four lanes or more, the one before it serves many connections; each other lane serves one.\n\
     # prefix PREFIX NAME: who answers for the handles of the prefix.\n\
-    # value 0.NA/PREFIX ..: its administrator, who may do everything, and that one's key. Whoever has the secret creates handles.\n";
+    # value 0.NA/PREFIX ..: its administrator, with all permissions, and the administrator's key. The holder of the secret can create handles.\n";
 
-/// The tenants text, with values in words, of a publisher for each of these prefixes, with an administrator who has a fresh secret.
+/// What stands behind that, where ports have the layout of values of the Handle.Net software.
+const HANDLE_NET_HEAD: &str = "\
+    # handle-net after the port: values stand there as the Handle.Net software lays them out. hdl asks such a port with --handle-net.\n";
+
+/// The tenants text, with values in words, of a publisher for each of these prefixes, with an administrator who has a fresh secret. Values stand
+/// on their ports by this layout.
 pub fn write_fresh_tenants<R: RandomSource + AllocGlobal>(
     rt: &R,
+    wire: Wire,
     words: &[String],
 ) -> Result<String, FreshFault> {
     let alloc = rt.alloc();
@@ -154,10 +181,13 @@ pub fn write_fresh_tenants<R: RandomSource + AllocGlobal>(
         return Err(FreshFault::TooMany);
     }
     let mut text = String::from_str(alloc, HEAD)?;
+    if wire == Wire::HandleNet {
+        text.push_str(HANDLE_NET_HEAD)?;
+    }
     let mut number = 0usize;
     for prefix in &prefixes {
         number = number.saturating_add(1);
-        push_publisher(rt, &mut text, prefix, number, lanes.min(LANES_OF_ONE))?;
+        push_publisher(rt, &mut text, wire, prefix, number, lanes.min(LANES_OF_ONE))?;
     }
     Ok(text)
 }

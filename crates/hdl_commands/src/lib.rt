@@ -7,6 +7,7 @@
 //! lines with values in words -> write_tenants -> lines of a tenants text
 //! rows of a CSV file -> import_file -> the requests that create its handles ([`imports`])
 //! prefixes, random octets -> write_fresh_tenants -> a tenants text in words, with fresh secrets
+//! an address and a port -> make_site -> the data of an HS_SITE value -> show_site -> what it says, in words ([`sites`])
 //! ```
 //!
 //! Requests are read from words and written by `hdl_msg`'s `write_request`, so what is sent is in the grammar; a value's words are
@@ -17,7 +18,7 @@
 //! ```rust
 //! // crates/hdl/src/main.rt
 //! let mut printout = Printout::new(rt.alloc(), shows_keys);
-//! explain(&mut printout, line.trim_end())?;
+//! explain(&mut printout, wire, line.trim_end())?;
 //! print!(rt; "{}", printout.as_str())?;
 //! ```
 #![tactic(auto)]
@@ -31,17 +32,19 @@ mod imports;
 mod key;
 mod request;
 mod scripts;
+mod sites;
 mod telling;
 mod tenants;
 mod words;
 
 pub use asking::{Inquiry, run_question};
-pub use batch_text::{BatchFault, read_batch};
+pub use batch_text::{BatchFault, Layouts, read_batch};
 pub use batches::run_batch_text;
 pub use fault::WordFault;
 pub use fresh::{FreshFault, fresh_secret, write_fresh_tenants};
 pub use imports::{Import, import_file};
 pub use key::SECRET_VARIABLE;
 pub use scripts::write_script;
+pub use sites::{SiteFault, SiteWords, make_site, show_site};
 pub use tenants::write_tenants;
 pub use words::{Printout, explain, operation_in};

@@ -15,7 +15,7 @@ pub(crate) fn takes_values(operation: OpCode) -> bool {
     )
 }
 
-/// Which values a request speaks of.
+/// The indexes, types and values of a request.
 #[derive(Drop)]
 pub struct Details {
     pub indexes: Vec<u32>,
@@ -41,7 +41,6 @@ impl Details {
         Ok(())
     }
 
-    /// Adds a type.
     pub fn push_type(&mut self, alloc: Global, kind: &str) -> Result<(), AllocError> {
         let kind = Octets::new(Vec::from_slice(alloc, kind.as_bytes())?);
         match self.types.push(kind) {

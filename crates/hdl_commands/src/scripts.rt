@@ -1,6 +1,6 @@
 //! Scripts for `handled`, from words.
 
-use crate::batch_text::{BatchFault, message_or_fault, read_batch};
+use crate::batch_text::{BatchFault, Layouts, message_or_fault, read_batch};
 use crate::fault::WordFault;
 use crate::tenants::write_tenants;
 use hdl_auth::algorithm::Algorithm;
@@ -11,6 +11,7 @@ use hdl_lines::printed_octets;
 use hdl_msg::{Body, read_request};
 use hdl_name::Name;
 use hdl_tenants::{TenantFault, Tenants};
+use hdl_value::Wire;
 use std::alloc::{AllocError, Global};
 use thiserror::Error;
 
@@ -31,17 +32,32 @@ pub enum ScriptFault {
     NoRun,
 }
 
-/// Who asks: the first lane of a publisher for whom the handle's prefix is hosted, and the prefix's hash function there. Lane 0 asks
-/// for a handle that is hosted for nobody.
-fn asker(tenants: &Tenants, name: &Name) -> (u16, Algorithm) {
+/// What asks: a lane, the hash function of the handle's prefix there, and the layout of values there.
+#[derive(Clone, Copy)]
+pub(crate) struct Asker {
+    pub lane: u16,
+    pub algorithm: Algorithm,
+    pub wire: Wire,
+}
+
+/// The first lane of a publisher for which the handle's prefix is hosted. Lane 0 asks for a handle that is hosted for no publisher.
+pub(crate) fn find_asker(tenants: &Tenants, name: &Name) -> Asker {
     for place in 0..usize::from(tenants.lanes()) {
-        if let Some(algorithm) = tenants.algorithm(place, name) {
-            if let Some((first, _)) = tenants.lanes_of(place) {
-                return (first, algorithm);
+        if let Some(algorithm) = tenants.hosting(place, name) {
+            if let Some((lane, _)) = tenants.lanes_of(place) {
+                return Asker {
+                    lane,
+                    algorithm,
+                    wire: tenants.wire(place),
+                };
             }
         }
     }
-    (0, Algorithm::Sha1)
+    Asker {
+        lane: 0,
+        algorithm: Algorithm::Sha1,
+        wire: tenants.wire(0),
+    }
 }
 
 /// Adds the line of a frame.
@@ -71,19 +87,19 @@ fn response_message(
 ) -> Result<Vec<u8>, WordFault> {
     let digest = digest(algorithm, signed_part(message));
     let answer = challenge_response(alloc, key, &NONCE, &digest)?;
-    message_or_fault(alloc, &answer)
+    message_or_fault(alloc, Wire::Profile, &answer)
 }
 
 /// Adds the response to the challenge of a request, the first on its connection.
 fn push_response(
     script: &mut String,
     alloc: Global,
-    (lane, algorithm): (u16, Algorithm),
+    asker: Asker,
     key: &Key,
     message: &[u8],
 ) -> Result<(), WordFault> {
-    let response = response_message(alloc, algorithm, key, message)?;
-    push_frame(script, alloc, lane, 1, 2, &response)
+    let response = response_message(alloc, asker.algorithm, key, message)?;
+    push_frame(script, alloc, asker.lane, 1, 2, &response)
 }
 
 /// Adds a line of a word and a lane.
@@ -92,15 +108,15 @@ fn push_lane(script: &mut String, alloc: Global, word: &str, lane: u16) -> Resul
     script.push_str(&line)
 }
 
-/// Who asks about a task's handle.
-fn asker_of(alloc: Global, tenants: &Tenants, task: &Task) -> Result<(u16, Algorithm), WordFault> {
+/// What asks about a task's handle.
+fn asker_of(alloc: Global, tenants: &Tenants, task: &Task) -> Result<Asker, WordFault> {
     let name = Name::read(alloc, &task.handle)?;
-    Ok(asker(tenants, &name))
+    Ok(find_asker(tenants, &name))
 }
 
-/// Whether a task is challenged where a key is there: all but resolutions, which ask as anybody.
+/// Whether a task is challenged where a key is there: all but resolutions, which ask as anyone.
 fn is_challenged(task: &Task) -> bool {
-    match read_request(&task.message) {
+    match read_request(task.wire, &task.message) {
         Ok(request) => !matches!(request.body(), Body::Resolution { .. }),
         Err(_) => false,
     }
@@ -131,12 +147,12 @@ fn push_task(
 ) -> Result<(), WordFault> {
     let asker = asker_of(alloc, tenants, task)?;
     push_title(script, alloc, &task.title)?;
-    push_lane(script, alloc, "open", asker.0)?;
-    push_frame(script, alloc, asker.0, 0, 1, &task.message)?;
+    push_lane(script, alloc, "open", asker.lane)?;
+    push_frame(script, alloc, asker.lane, 0, 1, &task.message)?;
     if let Some(key) = task_key(batch, task) {
         push_response(script, alloc, asker, key, &task.message)?;
     }
-    push_lane(script, alloc, "close", asker.0)?;
+    push_lane(script, alloc, "close", asker.lane)?;
     Ok(())
 }
 
@@ -158,7 +174,7 @@ fn push_batch(
     Ok(())
 }
 
-/// The text before the line `run`, how many lines that are, and the text behind.
+/// The text before the line `run`, how many lines that are, and the text after it.
 fn parts_of(text: &str) -> Option<(&str, usize, &str)> {
     if let Some(rest) = text.strip_prefix("run\n") {
         return Some(("", 1, rest));
@@ -168,7 +184,7 @@ fn parts_of(text: &str) -> Option<(&str, usize, &str)> {
     Some((tenants, lines, batch))
 }
 
-/// A batch's fault, where the batch begins behind so many lines.
+/// A batch's fault, where the batch begins after this many lines.
 fn fault_in_script(fault: BatchFault, lines: usize) -> ScriptFault {
     ScriptFault::Words(BatchFault {
         line: fault.line.saturating_add(lines),
@@ -188,7 +204,7 @@ fn push_events(
     tenants: &Tenants,
     text: &str,
 ) -> Result<(), BatchFault> {
-    let batch = read_batch(alloc, text)?;
+    let batch = read_batch(alloc, Layouts::OfPublishers(tenants), text)?;
     if script.push_str("run\n").is_err() {
         return Err(BatchFault {
             line: 0,
@@ -199,7 +215,7 @@ fn push_events(
 }
 
 /// The script that `handled` takes, from a tenants text with values in words, a line `run`, and a batch. Each request asks on a
-/// connection of its own, of the publisher for whom its prefix is hosted; behind an AUTHENTICATE each but a resolution is followed by the response to
+/// connection of its own, of the publisher for which its prefix is hosted, by the layout of values there; after an AUTHENTICATE each but a resolution is followed by the response to
 /// its challenge, whose nonce the script gives. Where no challenge comes, that response is answered with code 4.
 pub fn write_script(alloc: Global, text: &str) -> Result<String, ScriptFault> {
     let Some((tenants_text, lines, batch_text)) = parts_of(text) else {

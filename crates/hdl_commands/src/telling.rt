@@ -7,11 +7,11 @@ fn way_on(fault: ConnectFault) -> &'static str {
     match fault {
         ConnectFault::NotHostPort => ": write a host, a colon and a port, as in 127.0.0.1:2641",
         ConnectFault::Refused => {
-            ": is a server running? ./handled serve < examples/serve.tenants starts one of the example's"
+            ": is a server running? `handled serve < examples/serve.tenants` starts an example"
         }
-        ConnectFault::UnknownName => ": look at --server",
+        ConnectFault::UnknownName => ": check --server",
         ConnectFault::NoRoute | ConnectFault::Silent => {
-            ": look at --server, and at what stands between"
+            ": check --server, and the network between"
         }
         ConnectFault::Failed => "",
     }

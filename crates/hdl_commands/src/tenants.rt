@@ -27,7 +27,7 @@ fn line_of(alloc: Global, line: &str) -> Result<String, WordFault> {
 }
 
 /// The tenants text whose values stand in words: a line `value HANDLE WORDS` with the words of a value (`hdl_lines`) gets the value's
-/// octets in hexadecimal digits, with timestamp 0; every other line stays. The first value that can't be read is told.
+/// octets in hexadecimal digits, with timestamp 0; every other line stays. The fault names the first value that can't be read.
 pub fn write_tenants(alloc: Global, text: &str) -> Result<String, BatchFault> {
     let mut out = String::new(alloc);
     let mut number = 0usize;

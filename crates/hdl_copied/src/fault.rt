@@ -7,13 +7,13 @@ use thiserror::Error;
 /// Why a copy can't be read. It is as it was.
 #[derive(Clone, Copy, Debug, PartialEq, Eq, Error)]
 pub enum CopyFault {
-    #[error("the file isn't there, or isn't one that may be read and written: name a copy that `handled copy` made for this proxy's user")]
+    #[error("the file is missing, or this proxy's user may not read and write it: name a copy that `handled copy` made")]
     CannotOpen,
-    #[error("another process has the file open: name a copy, and not the table that a server has")]
+    #[error("another process has the file open: name a copy, not the server's own file")]
     InUse,
     #[error("the file is no SQLite database, or is damaged: make another copy by `handled copy`")]
     Damaged,
-    #[error("the file is a database, but no copy of a table")]
+    #[error("the file is a database, but not a copy of a table: make one with `handled copy`")]
     Layout,
     #[error("a read of the file failed")]
     Device,

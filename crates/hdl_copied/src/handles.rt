@@ -36,7 +36,7 @@ impl CopiedHandles {
         }
     }
 
-    /// Adds a handle that comes behind all others, by its prefix and then by its own octets.
+    /// Adds a handle that comes after all others, by its prefix and then by its own octets.
     pub(crate) fn push(&mut self, prefix: &[u8], handle: Octets) -> Result<(), AllocError> {
         if let Some(last) = self.prefixes.last_mut() {
             if is_of(last, prefix) {

@@ -16,7 +16,7 @@ fn octets_at(row: &Row, at: usize) -> Result<&[u8], CopyFault> {
     }
 }
 
-/// Puts the handle of a row behind the others.
+/// Puts the handle of a row after the others.
 fn take_row(alloc: Global, row: &Row, copied: &mut CopiedHandles) -> Result<(), CopyFault> {
     let prefix = octets_at(row, 0)?;
     let handle = Octets::new(Vec::from_slice(alloc, octets_at(row, 1)?)?);
@@ -40,11 +40,11 @@ fn handles_in<S: Alter>(
         };
         take_row(alloc, row, &mut copied)?;
     }
-    // No memory holds so many handles.
+    // No memory holds as many handles as that.
     Err(CopyFault::Memory)
 }
 
-/// The handles of the copy at this path, which stays as it is. An empty log is made beside it, as by whoever opens it.
+/// The handles of the copy at this path, which stays as it is. An empty log is made next to it, as by any program that opens it.
 pub fn read_copy(rt: &HostRuntime, path: &str) -> Result<CopiedHandles, CopyFault> {
     // A file that isn't there would be made.
     if File::open(rt, path).is_err() {

@@ -3,9 +3,9 @@ use Rattle.std.proofs.Common.{◌≡◌, ◌≤◌, ◌<◌, ◌+◌, ◌*◌, �
 use Rattle.std.proofs.Math.Nat.{suc-mul}
 use Rattle.std.proofs.lemmas.List.{map-append, length-append}
 use Rattle.hdl_rows.specs.Table.{Table}
-use Rattle.hdl_reach.specs.Cost.{Most, HasAtMost, ReadsWithin, values_cost}
+use Rattle.hdl_reach.specs.Cost.{Most, HasAtMost, ReadsWithin}
 use Rattle.hdl_reach.proofs.Costs.{less_read}
-use Rattle.hdl_ops.specs.Cost.{proof_cost}
+use Rattle.hdl_ops.specs.Cost.{anyone_cost, proof_cost}
 use Rattle.hdl_tenants.specs.Register.{Register}
 use Rattle.hdl_slots.specs.declared.pending.Pending.{Pending}
 use Rattle.hdl_slots.specs.Lanes.{challenge_of}
@@ -29,8 +29,8 @@ pub then_nothing : (t : Table) (cost : Most → ℕ) (x y z : ℕ) → ReadsWith
 then_nothing t cost x y z read same = subst (λ (n : ℕ). ReadsWithin t cost x n) (sym same) read
 
 -- a decision for anyone reads less than one with a proof
-pub anyone_less : (t : Table) (x y : ℕ) → ReadsWithin t values_cost x y → ReadsWithin t proof_cost x y
-anyone_less t x y read = less_read t values_cost proof_cost x y (λ (m : Most). omega arith) read
+pub anyone_less : (t : Table) (x y : ℕ) → ReadsWithin t anyone_cost x y → ReadsWithin t proof_cost x y
+anyone_less t x y read = less_read t anyone_cost proof_cost x y (λ (m : Most). omega arith) read
 
 -- no challenge is pending that was found
 pub none_found : (lanes : List Held) (lane peer number : ℕ) (p : Pending) → Some p ≡ challenge_of (state_at lanes lane).challenges.challenges peer number → IsUnchallenged (state_at lanes lane) peer → ⊥

@@ -9,6 +9,7 @@ use Rattle.hdl_auth.specs.declared.algorithm.Digest.{Digest}
 use Rattle.hdl_msg.specs.Message.{Content, SpellsRequest}
 use Rattle.hdl_msg.specs.Reply.{short_reply}
 use Rattle.hdl_msg.specs.declared.replies.ReplyContent.TheVariants.{Empty}
+use Rattle.hdl_value.specs.declared.wire.Wire.{Wire}
 use Rattle.hdl_rows.specs.Table.{Table}
 use Rattle.hdl_slots.specs.declared.pending.Pending.{Pending}
 use Rattle.hdl_slots.specs.Lanes.{challenge_of, add_challenge}
@@ -51,11 +52,11 @@ named_decides {o} {owner} {x} {asked} t level d same is decided =
     (subst (λ (p : Bor Owner). Decides (hosted_by p.now) x.algorithm t x.request.now level d) same decided)
 
 abbrev IsTold : Algorithm → Origin → Content → ℕ → List ℕ → Type 0
-IsTold a m r code octets = octets ≡ answer_octets a m.envelope r code Empty
+IsTold a m r code octets = octets ≡ answer_octets a m.moment m.envelope r code Empty
 
-module _ (hosts : List ℕ → Bool) (algorithms : List ℕ → Algorithm) (t : Table) (m : Origin) where
+module _ (wire : Wire) (hosts : List ℕ → Bool) (algorithms : List ℕ → Algorithm) (t : Table) (m : Origin) where
   abbrev context : Context
-  context = record { hosts = hosts; algorithms = algorithms; table = t }
+  context = record { wire = wire; hosts = hosts; algorithms = algorithms; table = t }
 
   told : (k : Task) (a : Algorithm) (r : Content) (code : ℕ) (s : LaneState) (message octets : List ℕ) → Does hosts algorithms t k (answer_effect a s (message_as m message) r (failure code Empty)) → IsTold a m r code octets
       → Replies context m.moment k octets s t
@@ -66,10 +67,10 @@ module _ (hosts : List ℕ → Bool) (algorithms : List ℕ → Algorithm) (t : 
 
   -- ---- a challenge response
 
-  pub unreadable : (a : Response) (p : Pending) (octets : List ℕ) → ((r : Content) → SpellsRequest p.message r → ⊥) → octets ≡ short_reply 4 m.envelope → IsRedeemed context m a p octets t
+  pub unreadable : (a : Response) (p : Pending) (octets : List ℕ) → ((r : Content) → SpellsRequest wire p.message r → ⊥) → octets ≡ short_reply 4 m.envelope → IsRedeemed context m a p octets t
   unreadable a p octets none is = λ s message. (None, none, garbled (without_challenge s (message_as m message)) message octets is)
 
-  pub late : (a : Response) (p : Pending) (r : Content) (g : Algorithm) (octets : List ℕ) → g ≡ algorithm_of p.digest → SpellsRequest p.message r → ((message : List ℕ) → true ≡ is_late (message_as m message) p) → IsTold g m r 405 octets → IsRedeemed context m a p octets t
+  pub late : (a : Response) (p : Pending) (r : Content) (g : Algorithm) (octets : List ℕ) → g ≡ algorithm_of p.digest → SpellsRequest wire p.message r → ((message : List ℕ) → true ≡ is_late (message_as m message) p) → IsTold g m r 405 octets → IsRedeemed context m a p octets t
   late a p r g octets hash spells after is = λ s message.
       let s' = without_challenge s (message_as m message) in
       let proof : Proof = record { response = a; nonce = p.nonce; digest = p.digest } in (
@@ -78,8 +79,8 @@ module _ (hosts : List ℕ → Bool) (algorithms : List ℕ → Algorithm) (t : 
         subst (λ b. Replies context m.moment (cond b (Late (message_as m message) r (algorithm_of p.digest) s') (Redeem (message_as m message) r proof s')) octets s' t) (after message) (told (Late (message_as m message) r (algorithm_of p.digest) s') (algorithm_of p.digest) r 405 s' message octets refl (subst (λ h. IsTold h m r 405 octets) hash is)),
       )
 
-  pub proven : (a : Response) (p : Pending) (r : Content) (g : Algorithm) (d : Decision) (octets : List ℕ) (t' : Table) → g ≡ algorithm_of p.digest → SpellsRequest p.message r → ((message : List ℕ) → false ≡ is_late (message_as m message) p)
-      → Decides hosts g t r (Proven (record { response = a; nonce = p.nonce; digest = p.digest })) d → octets ≡ answer_octets g m.envelope r d.code d.content → t' ≡ apply_if t m.moment d.change
+  pub proven : (a : Response) (p : Pending) (r : Content) (g : Algorithm) (d : Decision) (octets : List ℕ) (t' : Table) → g ≡ algorithm_of p.digest → SpellsRequest wire p.message r → ((message : List ℕ) → false ≡ is_late (message_as m message) p)
+      → Decides hosts g t r (Proven (record { response = a; nonce = p.nonce; digest = p.digest })) d → octets ≡ answer_octets g m.moment m.envelope r d.code d.content → t' ≡ apply_if t m.moment d.change
       → IsRedeemed context m a p octets t'
   proven a p r g d octets t' hash spells in_time decided is table = λ s message.
       let s' = without_challenge s (message_as m message) in
@@ -87,7 +88,7 @@ module _ (hosts : List ℕ → Bool) (algorithms : List ℕ → Algorithm) (t : 
         Some r,
         spells,
         subst (λ b. Replies context m.moment (cond b (Late (message_as m message) r (algorithm_of p.digest) s') (Redeem (message_as m message) r proof s')) octets s' t') (in_time message)
-            (answer_effect (algorithm_of p.digest) s' (message_as m message) r d, (d, subst (λ h. Decides hosts h t r (Proven proof) d) hash decided, refl), ap Reply (sym (subst (λ h. octets ≡ answer_octets h m.envelope r d.code d.content) hash is)), refl, table),
+            (answer_effect (algorithm_of p.digest) s' (message_as m message) r d, (d, subst (λ h. Decides hosts h t r (Proven proof) d) hash decided, refl), ap Reply (sym (subst (λ h. octets ≡ answer_octets h m.moment m.envelope r d.code d.content) hash is)), refl, table),
       )
 
   module _ (lanes : List Held) (number : ℕ) where
@@ -102,7 +103,7 @@ module _ (hosts : List ℕ → Bool) (algorithms : List ℕ → Algorithm) (t : 
       state_at lanes number,
       kept lanes number,
       Unknown (message_as m message) r (state_at lanes number),
-      subst (λ o. IsResponseTask (state_at lanes number) (message_as m message) r a o (Unknown (message_as m message) r (state_at lanes number))) none refl,
+      subst (λ o. IsResponseTask wire (state_at lanes number) (message_as m message) r a o (Unknown (message_as m message) r (state_at lanes number))) none refl,
       told (Unknown (message_as m message) r (state_at lanes number)) Sha1 r 4 (state_at lanes number) message octets refl is,
     )
 
@@ -114,26 +115,26 @@ module _ (hosts : List ℕ → Bool) (algorithms : List ℕ → Algorithm) (t : 
           without_challenge (state_at lanes number) (message_as m message),
           spent,
           k,
-          subst (λ o. IsResponseTask (state_at lanes number) (message_as m message) r a o k) found (done.0, done.1, refl),
+          subst (λ o. IsResponseTask wire (state_at lanes number) (message_as m message) r a o k) found (done.0, done.1, refl),
           done.2,
         )
 
     -- ---- a message
 
-    pub no_request : (message octets : List ℕ) → ((r : Content) → SpellsRequest message r → ⊥) → octets ≡ short_reply 4 m.envelope → HearsAt scene number (message_as m message) octets lanes t
+    pub no_request : (message octets : List ℕ) → ((r : Content) → SpellsRequest wire message r → ⊥) → octets ≡ short_reply 4 m.envelope → HearsAt scene number (message_as m message) octets lanes t
     no_request message octets none is =
         (state_at lanes number, kept lanes number, (Malformed (message_as m message) (state_at lanes number), (None, none, refl), garbled (state_at lanes number) message octets is))
 
-    pub responded : (message : List ℕ) (r : Content) (a : Response) (octets : List ℕ) (lanes' : List Held) (t' : Table) → SpellsRequest message r → Some a ≡ response_of r.operation
+    pub responded : (message : List ℕ) (r : Content) (a : Response) (octets : List ℕ) (lanes' : List Held) (t' : Table) → SpellsRequest wire message r → Some a ≡ response_of r.operation
         → RespondsAt scene number (record { origin = m; request = r; response = a }) octets lanes' t' → HearsAt scene number (message_as m message) octets lanes' t'
     responded message r a octets lanes' t' spells is responds =
         let done = responds message in
-        (done.0, done.1, (done.2, (Some r, spells, subst (λ o. IsRequestTask (state_at lanes number) (message_as m message) r o done.2) is done.3), done.4))
+        (done.0, done.1, (done.2, (Some r, spells, subst (λ o. IsRequestTask wire (state_at lanes number) (message_as m message) r o done.2) is done.3), done.4))
 
-    asking : (message : List ℕ) (r : Content) → SpellsRequest message r → None ≡ response_of r.operation → IsMessageTask (state_at lanes number) (message_as m message) (Ask (message_as m message) r (state_at lanes number))
-    asking message r spells is = (Some r, spells, subst (λ o. IsRequestTask (state_at lanes number) (message_as m message) r o (Ask (message_as m message) r (state_at lanes number))) is refl)
+    asking : (message : List ℕ) (r : Content) → SpellsRequest wire message r → None ≡ response_of r.operation → IsMessageTask wire (state_at lanes number) (message_as m message) (Ask (message_as m message) r (state_at lanes number))
+    asking message r spells is = (Some r, spells, subst (λ o. IsRequestTask wire (state_at lanes number) (message_as m message) r o (Ask (message_as m message) r (state_at lanes number))) is refl)
 
-    pub answered : (message : List ℕ) (r : Content) (octets : List ℕ) (t' : Table) (asked : Heard) (next : ℕ) → SpellsRequest message r → None ≡ response_of r.operation → asked ≡ Answered octets
+    pub answered : (message : List ℕ) (r : Content) (octets : List ℕ) (t' : Table) (asked : Heard) (next : ℕ) → SpellsRequest wire message r → None ≡ response_of r.operation → asked ≡ Answered octets
         → IsHeardForAnyone context m next r asked t' → HearsAt scene number (message_as m message) octets lanes t'
     answered message r octets t' asked next spells is same done =
         let d = subst (λ (x : Heard). IsHeardForAnyone context m next r x t') same done in
@@ -148,7 +149,7 @@ module _ (hosts : List ℕ → Bool) (algorithms : List ℕ → Algorithm) (t : 
           ),
         )
 
-    pub challenges : (message : List ℕ) (r : Content) (octets : List ℕ) (digest : Digest) (t' : Table) (lanes' : List Held) (asked : Heard) (next : ℕ) → SpellsRequest message r → None ≡ response_of r.operation → asked ≡ Challenged octets digest
+    pub challenges : (message : List ℕ) (r : Content) (octets : List ℕ) (digest : Digest) (t' : Table) (lanes' : List Held) (asked : Heard) (next : ℕ) → SpellsRequest wire message r → None ≡ response_of r.operation → asked ≡ Challenged octets digest
         → next ≡ (state_at lanes number).challenges.next → IsHeardForAnyone context m next r asked t'
         → lanes' ≡ with_state lanes number (record { is_open = (state_at lanes number).is_open; partials = (state_at lanes number).partials; challenges = add_challenge (state_at lanes number).challenges (record { peer = m.peer; moment = m.moment; nonce = m.nonce; digest = digest; message = message }) })
         → HearsAt scene number (message_as m message) octets lanes' t'
@@ -165,7 +166,7 @@ module _ (hosts : List ℕ → Bool) (algorithms : List ℕ → Algorithm) (t : 
             (
               challenge_effect (request_algorithm algorithms r) here m' r,
               (d.0, d.1, ap (λ b. cond {A = Effect} b (challenge_effect (request_algorithm algorithms r) here m' r) (answer_effect (request_algorithm algorithms r) here m' r d.0)) (sym d.2)),
-              ap Reply (ap (λ n. challenge_octets (request_algorithm algorithms r) n m.envelope r m.nonce) (sym numbered) ∙ sym d.3),
+              ap Reply (ap (λ n. challenge_octets (request_algorithm algorithms r) m.moment n m.envelope r m.nonce) (sym numbered) ∙ sym d.3),
               refl,
               d.5,
             ),

@@ -23,7 +23,7 @@ use Rattle.hdl_core.specs.Held.{Held, held_lane}
 use Rattle.hdl_core.specs.Worlds.{world_of}
 use Rattle.hdl_slots.specs.Lanes as slots
 use Rattle.hdl_core.specs.Opening.{entry_of, opening_table, with_row, first_lanes, closed_lanes, IsOpening, IsResumed}
-use Rattle.hdl_core.proofs.Places.{owner_of, lane_of_world}
+use Rattle.hdl_core.proofs.Places.{owner_of, lane_of_world, layout_of}
 
 -- ---- one row
 
@@ -172,6 +172,7 @@ module _ (r : Register) (t : Table) where
   opens all same rows = subst (λ (ls : List Held). IsOpening r (world_of r ls t)) (sym same) (record {
     owners = owners;
     hostings = hosted;
+    layouts = λ publisher. sym (layout_of r lanes t publisher);
     closed = all_closed;
     table = held_table ∙ rows;
   })
@@ -180,6 +181,7 @@ module _ (r : Register) (t : Table) where
   resumes all same = subst (λ (ls : List Held). IsResumed r t (world_of r ls t)) (sym same) (record {
     owners = owners;
     hostings = hosted;
+    layouts = λ publisher. sym (layout_of r lanes t publisher);
     closed = all_closed;
     table = held_table;
   })

@@ -1,5 +1,5 @@
 -- Maps of the elements of a list by their places, and the world of a service.
-use Rattle.std.proofs.Common.{◌≡◌, ℕ, zero, suc, ◌+◌, ◌<◌, List, [], ◌∷◌, true, false, cond, ◌==◌, Some, map, length, set, refl, sym, ap, ◌∙◌, subst, option_map, arith, nat_cmp, unwrap_or, get_or}
+use Rattle.std.proofs.Common.{◌≡◌, ℕ, zero, suc, ◌+◌, ◌<◌, List, [], ◌∷◌, true, false, cond, ◌==◌, Some, map, length, set, refl, sym, ap, ◌∙◌, subst, option_map, arith, nat_cmp, unwrap_or, get_or, Option, None}
 use Rattle.std.specs.Prelude.{slice_get}
 use Rattle.std.specs.Cmp.{nat_cmp_total, unsigned_tied}
 use Rattle.std.specs.FinMap as map
@@ -8,11 +8,14 @@ use Rattle.std.proofs.lemmas.Bool.Decides.{nat_tests}
 use Rattle.std.proofs.lemmas.Option.{slice_get-map, slice_get-get_or}
 use Rattle.std.proofs.lemmas.List.{length-map}
 use Rattle.hdl_rows.specs.Table.{Table}
-use Rattle.hdl_tenants.specs.Register.{Register}
+use Rattle.hdl_tenants.specs.Register.{Publisher, Register, wire}
+use Rattle.hdl_value.specs.declared.wire.Wire.{Wire}
+use Rattle.hdl_value.specs.declared.wire.Wire.TheVariants.{Profile}
+use Rattle.std.specs.Option.{option_map_or}
 use Rattle.hdl_ops.specs.Tables.{apply_if}
 use Rattle.hdl_laws.specs.Lanes.{fresh}
 use Rattle.hdl_events.specs.declared.Event.{Event}
-use Rattle.hdl_laws.specs.Worlds.{owner, lane_of}
+use Rattle.hdl_laws.specs.Worlds.{owner, lane_of, layout}
 use Rattle.hdl_laws.specs.Effects.{Effect}
 use Rattle.hdl_laws.specs.Steps.{after_effect, moment_of}
 use Rattle.hdl_core.specs.Held.{Held}
@@ -65,6 +68,16 @@ pub owner_of : (r : Register) (lanes : List Held) (t : Table) (l : ℕ) → owne
 unfolding world_of
 owner_of r lanes t l = get-by_place (map (λ (x : Held). x.publisher) lanes) l ∙ slice_get-map _ lanes l
 
+mapped_or : {X Y : Type 0} (f : X → Y) (o : Option X) (d : Y) → unwrap_or (option_map f o) d ≡ option_map_or f o d
+mapped_or f None d = refl
+mapped_or f (Some x) d = refl
+
+pub layout_of : (r : Register) (lanes : List Held) (t : Table) (u : ℕ) → wire r u ≡ layout (world_of r lanes t).site u
+unfolding world_of
+layout_of r lanes t u =
+    sym (mapped_or (λ (p : Publisher). p.wire) (slice_get r.publishers u) Profile)
+    ∙ sym (ap (λ (o : Option Wire). unwrap_or o Profile) (get-by_place (map (λ (p : Publisher). p.wire) r.publishers) u ∙ slice_get-map (λ (p : Publisher). p.wire) r.publishers u))
+
 pub lane_of_world : (r : Register) (lanes : List Held) (t : Table) (l : ℕ) → lane_of (world_of r lanes t) l ≡ unwrap_or (option_map (λ (y : Held). y.state) (slice_get lanes l)) (fresh false)
 unfolding world_of
 lane_of_world r lanes t l = ap (λ o. unwrap_or o (fresh false)) (get-by_place (map (λ (y : Held). y.state) lanes) l ∙ slice_get-map (λ (y : Held). y.state) lanes l)
@@ -86,4 +99,4 @@ world_after r lanes t t' e x d eff h same state table =
     ap by_place (map-set (λ (y : Held). y.state) lanes e.lane x)
     ∙ by_place-set (map (λ (y : Held). y.state) lanes) e.lane x.state (subst (λ n. e.lane < n) (sym (length-map lanes (λ (y : Held). y.state))) h)
     ∙ ap (map.insert (by_place (map (λ (y : Held). y.state) lanes)) e.lane) state in
-    λ i. record { site = record { owners = owners i; hostings = r.hostings }; table = table i; lanes = states i }
+    λ i. record { site = record { owners = owners i; hostings = r.hostings; layouts = by_place (map (λ (p : Publisher). p.wire) r.publishers) }; table = table i; lanes = states i }

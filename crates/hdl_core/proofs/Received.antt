@@ -8,16 +8,17 @@ use Rattle.hdl_frame.specs.Frames.{IsFrame}
 use Rattle.hdl_frame.specs.Splitting.{IsFrameOf}
 use Rattle.hdl_msg.specs.Reply.{short_reply, IsReplyFrame}
 use Rattle.hdl_msg.proofs.ReplyReadings.{short_reply_read}
+use Rattle.hdl_value.specs.declared.wire.Wire.{Wire}
 use Rattle.hdl_rows.specs.Table.{Table}
-use Rattle.hdl_events.specs.declared.Happening.{Happening}
-use Rattle.hdl_events.specs.declared.Happening.TheVariants.{Open, Bad, Close}
+use Rattle.hdl_events.specs.declared.What.{What}
+use Rattle.hdl_events.specs.declared.What.TheVariants.{Open, Bad, Close}
 use Rattle.hdl_events.specs.declared.Outcome.{Outcome}
 use Rattle.hdl_events.specs.declared.Outcome.TheVariants.{Reply, Busy, Silent, CloseAfter}
 use Rattle.hdl_laws.specs.Lanes.{LaneState, fresh}
 use Rattle.hdl_laws.specs.Reveals.{IsReadable}
 use Rattle.hdl_laws.specs.Tasks as tasks
 use Rattle.hdl_laws.specs.Tasks.{Received, Task, Ignore, Break, IsFrameTask, IsOctetsTask}
-use Rattle.hdl_laws.specs.Steps.{happening_of}
+use Rattle.hdl_laws.specs.Steps.{what_of}
 use Rattle.hdl_core.specs.declared.origin.Origin.{Origin}
 use Rattle.hdl_core.specs.Held.{Held, state_at, with_state}
 use Rattle.std.specs.Prelude.{IfOk, IfSome, OnErr}
@@ -40,9 +41,9 @@ read_of e (Ok (Some octets)) o is h = subst IsReadable (sym is) h
 read_of e (Ok None) o is h = subst IsReadable (sym is) tt
 read_of e (Err refusal) o is h = subst IsReadable (sym is) (short_reply_read e).0
 
-module _ (hosts : List ℕ → Bool) (algorithms : List ℕ → Algorithm) (t : Table) (lanes : List Held) (number : ℕ) where
+module _ (wire : Wire) (hosts : List ℕ → Bool) (algorithms : List ℕ → Algorithm) (t : Table) (lanes : List Held) (number : ℕ) where
   abbrev context : Context
-  context = record { hosts = hosts; algorithms = algorithms; table = t }
+  context = record { wire = wire; hosts = hosts; algorithms = algorithms; table = t }
 
   abbrev scene : Scene
   scene = record { context = context; lanes = lanes }
@@ -50,7 +51,7 @@ module _ (hosts : List ℕ → Bool) (algorithms : List ℕ → Algorithm) (t : 
   -- ---- octets that came on an open lane
 
   module _ (x : Received) where
-    ignored : IsOctetsTask (state_at lanes number) x (Ignore (state_at lanes number)) → ReceivesAt scene number x Silent lanes t
+    ignored : IsOctetsTask wire (state_at lanes number) x (Ignore (state_at lanes number)) → ReceivesAt scene number x Silent lanes t
     ignored task = (state_at lanes number, kept lanes number, inl (record { outcome = Silent; state = state_at lanes number; change = None }, Ignore (state_at lanes number), task, refl, refl, refl, refl))
 
     pub no_frame : ¬ IsFrame x.bytes → ReceivesAt scene number x Silent lanes t
@@ -84,20 +85,20 @@ module _ (hosts : List ℕ → Bool) (algorithms : List ℕ → Algorithm) (t : 
 
   -- ---- an event of a lane
 
-  module _ (what : Happening) where
-    silent : (s' : LaneState) (lanes' : List Held) → tasks.IsTask (state_at lanes number) what (Ignore s') → lanes' ≡ with_state lanes number s' → ServesAt scene number what Silent lanes' t
+  module _ (what : What) where
+    silent : (s' : LaneState) (lanes' : List Held) → tasks.IsTask wire (state_at lanes number) what (Ignore s') → lanes' ≡ with_state lanes number s' → ServesAt scene number what Silent lanes' t
     silent s' lanes' task after = (s', after, inl (record { outcome = Silent; state = s'; change = None }, Ignore s', task, refl, refl, refl, refl))
 
     pub opened : (lanes' : List Held) → what ≡ Open → lanes' ≡ with_state lanes number (fresh true) → ServesAt scene number what Silent lanes' t
-    opened lanes' e after = silent (fresh true) lanes' (subst (λ w. tasks.IsTask (state_at lanes number) w (Ignore (fresh true))) (sym e) refl) after
+    opened lanes' e after = silent (fresh true) lanes' (subst (λ w. tasks.IsTask wire (state_at lanes number) w (Ignore (fresh true))) (sym e) refl) after
 
     pub closed : (lanes' : List Held) → what ≡ Close → lanes' ≡ with_state lanes number (fresh false) → ServesAt scene number what Silent lanes' t
-    closed lanes' e after = silent (fresh false) lanes' (subst (λ w. tasks.IsTask (state_at lanes number) w (Ignore (fresh false))) (sym e) refl) after
+    closed lanes' e after = silent (fresh false) lanes' (subst (λ w. tasks.IsTask wire (state_at lanes number) w (Ignore (fresh false))) (sym e) refl) after
 
     pub unbroken : (session request : ℕ) → what ≡ Bad session request → (state_at lanes number).is_open ≡ false → ServesAt scene number what Silent lanes t
     unbroken session request e up =
         let s = state_at lanes number in
-        silent s lanes (subst (λ w. tasks.IsTask s w (Ignore s)) (sym e) (ap (λ b. cond b (Break session request s) (Ignore s)) (sym up))) (kept lanes number)
+        silent s lanes (subst (λ w. tasks.IsTask wire s w (Ignore s)) (sym e) (ap (λ b. cond b (Break session request s) (Ignore s)) (sym up))) (kept lanes number)
 
     pub broken : (session request : ℕ) (reply : List ℕ) → what ≡ Bad session request → (state_at lanes number).is_open ≡ true → reply ≡ short_reply 4 (message_envelope session request 0) → ServesAt scene number what (CloseAfter reply) lanes t
     broken session request reply e up is =
@@ -107,7 +108,7 @@ module _ (hosts : List ℕ → Bool) (algorithms : List ℕ → Algorithm) (t : 
           inl (
             record { outcome = CloseAfter (short_reply 4 (message_envelope session request 0)); state = s; change = None },
             Break session request s,
-            subst (λ w. tasks.IsTask s w (Break session request s)) (sym e) (ap (λ b. cond b (Break session request s) (Ignore s)) (sym up)),
+            subst (λ w. tasks.IsTask wire s w (Break session request s)) (sym e) (ap (λ b. cond b (Break session request s) (Ignore s)) (sym up)),
             refl,
             ap CloseAfter is,
             refl,
@@ -115,12 +116,12 @@ module _ (hosts : List ℕ → Bool) (algorithms : List ℕ → Algorithm) (t : 
           ),
         )
 
-    pub unheard : (x : Received) → what ≡ happening_of x → (state_at lanes number).is_open ≡ false → ServesAt scene number what Silent lanes t
+    pub unheard : (x : Received) → what ≡ what_of x → (state_at lanes number).is_open ≡ false → ServesAt scene number what Silent lanes t
     unheard x e up =
         let s = state_at lanes number in
-        silent s lanes (subst (λ w. tasks.IsTask s w (Ignore s)) (sym e) (when_false s.is_open _ _ up refl)) (kept lanes number)
+        silent s lanes (subst (λ w. tasks.IsTask wire s w (Ignore s)) (sym e) (when_false s.is_open _ _ up refl)) (kept lanes number)
 
-    pub received : (x : Received) (o : Outcome) (lanes' : List Held) (t' : Table) → what ≡ happening_of x → (state_at lanes number).is_open ≡ true → ReceivesAt scene number x o lanes' t' → ServesAt scene number what o lanes' t'
+    pub received : (x : Received) (o : Outcome) (lanes' : List Held) (t' : Table) → what ≡ what_of x → (state_at lanes number).is_open ≡ true → ReceivesAt scene number x o lanes' t' → ServesAt scene number what o lanes' t'
     received x o lanes' t' e up (s', after, inl a) =
         let s = state_at lanes number in
         subst (λ w. ServesAt scene number w o lanes' t') (sym e) (s', after, inl (a.0, a.1, when_true s.is_open _ _ up a.2, a.3, a.4, a.5, a.6))

@@ -10,7 +10,7 @@ use Rattle.hdl_rows.specs.Table.{Table}
 use Rattle.hdl_tenants.specs.Register as register
 use Rattle.hdl_tenants.specs.Register.{Register, Row, place}
 use Rattle.hdl_laws.specs.Lanes.{fresh}
-use Rattle.hdl_laws.specs.Worlds.{World, owner, lane_of}
+use Rattle.hdl_laws.specs.Worlds.{World, owner, layout, lane_of}
 use Rattle.hdl_slots.specs.Lanes as slots
 use Rattle.hdl_core.specs.declared.lane.Lane.{Lane}
 use Rattle.hdl_core.specs.Held.{Held, held_lane}
@@ -30,17 +30,19 @@ row_at r = r.now
 abbrev pub with_row : Table → Row → Table
 with_row t row = record { handles = set.insert t.handles (canonical row.0); values = map.insert t.values (place row) row.1 }
 
--- The lanes are the publishers' and closed, the hosted prefixes those of the tenants text, and the table holds its opening rows.
+-- The lanes are the publishers', closed, and speak their layouts, the hosted prefixes those of the tenants text, and the table holds its opening rows.
 pub record IsOpening (r : Register) (w : World) : Type 0 where
   pub owners : (lane : ℕ) → owner w.site lane ≡ register.owner r lane
   pub hostings : w.site.hostings ≡ r.hostings
+  pub layouts : (publisher : ℕ) → layout w.site publisher ≡ register.wire r publisher
   pub closed : (lane : ℕ) → lane_of w lane ≡ fresh false
   pub table : w.table ≡ opening_table r.opening
 
--- The lanes are the publishers' and closed, the hosted prefixes those of the tenants text, and the table is this one.
+-- The lanes are the publishers', closed, and speak their layouts, the hosted prefixes those of the tenants text, and the table is this one.
 pub record IsResumed (r : Register) (t : Table) (w : World) : Type 0 where
   pub owners : (lane : ℕ) → owner w.site lane ≡ register.owner r lane
   pub hostings : w.site.hostings ≡ r.hostings
+  pub layouts : (publisher : ℕ) → layout w.site publisher ≡ register.wire r publisher
   pub closed : (lane : ℕ) → lane_of w lane ≡ fresh false
   pub table : w.table ≡ t
 

@@ -16,20 +16,21 @@ use Rattle.hdl_rows.specs.Table.{Table}
 use Rattle.hdl_rows.specs.declared.rows.Refused.{Refused}
 use Rattle.hdl_ops.specs.Decisions.{Anyone, Decision, Decides}
 use Rattle.hdl_ops.specs.Requests.{Response}
-use Rattle.hdl_ops.specs.Views.{algorithms_by, hosted_by}
+use Rattle.hdl_ops.specs.Views.{algorithms_by, hosted_by, wire_by}
+use Rattle.hdl_value.specs.declared.wire.Wire.{Wire}
 use Rattle.hdl_ops.specs.declared.owner.Owner.{Owner}
 use Rattle.hdl_ops.specs.Admission.{request_algorithm}
 use Rattle.hdl_slots.specs.declared.pending.Pending.{Pending}
 use Rattle.hdl_slots.specs.Lanes.{challenge_of}
 use Rattle.hdl_ops.specs.Replies.{digest_of, reply_to}
 use Rattle.hdl_ops.specs.Tables.{apply_if}
-use Rattle.hdl_events.specs.declared.Happening.{Happening}
+use Rattle.hdl_events.specs.declared.What.{What}
 use Rattle.hdl_events.specs.declared.Outcome.{Outcome}
 use Rattle.hdl_events.specs.declared.Outcome.TheVariants.{Reply, Busy, Silent}
 use Rattle.hdl_laws.specs.Tasks as tasks
 use Rattle.hdl_laws.specs.Tasks.{Task, IsReading, without_challenge, redeem_task, IsResponseTask, IsTask, IsMessageTask, IsPieceTask, IsOctetsTask, Received}
 use Rattle.hdl_laws.specs.Effects.{answer_octets, challenge_octets, Effect, Does}
-use Rattle.hdl_laws.specs.Steps.{happening_of, moment_of}
+use Rattle.hdl_laws.specs.Steps.{what_of, moment_of}
 use Rattle.hdl_laws.specs.Lanes.{LaneState}
 use Rattle.hdl_core.specs.declared.origin.Origin.{Origin}
 use Rattle.hdl_core.specs.declared.origin.Received as code
@@ -49,15 +50,16 @@ received_as origin bytes = record { peer = origin.peer; moment = origin.moment; 
 abbrev pub message_as : Origin → List ℕ → tasks.Message
 message_as origin message = record { peer = origin.peer; moment = origin.moment; nonce = origin.nonce; envelope = origin.envelope; message = message }
 
--- What an event of a lane is decided by: the prefixes that are hosted for the lane's publisher, their hash functions, and the table.
+-- What an event of a lane is decided by: the layout that is spoken on it, the prefixes that are hosted for the lane's publisher, their hash functions, and the table.
 pub record Context : Type 0 where
+  pub wire : Wire
   pub hosts : List ℕ → Bool
   pub algorithms : List ℕ → Algorithm
   pub table : Table
 
 -- the context of the owner's lanes
 abbrev pub context : Owner → Table → Context
-context owner table = record { hosts = hosted_by owner; algorithms = algorithms_by owner; table = table }
+context owner table = record { wire = wire_by owner; hosts = hosted_by owner; algorithms = algorithms_by owner; table = table }
 
 -- The context of a lane, and all lanes.
 pub record Scene : Type 0 where
@@ -74,8 +76,8 @@ pub record Returned : Type 0 where
   pub response : Response
 
 -- the header of the reply to this request, with this code and content, announces what it carries
-abbrev pub Announces : Algorithm → Envelope → Content → ℕ → ReplyContent → Type 0
-Announces algorithm envelope request code content = IsAnnounced (reply_parts (reply_to algorithm envelope.session envelope.request request code content))
+abbrev pub Announces : Algorithm → Origin → Content → ℕ → ReplyContent → Type 0
+Announces algorithm origin request code content = IsAnnounced (reply_parts (reply_to algorithm origin.moment origin.envelope.session origin.envelope.request request code content))
 
 -- the request's header has the code of its operation
 abbrev pub HasItsCode : Content → Type 0
@@ -88,7 +90,7 @@ sent_of (Challenged octets digest) = octets
 
 -- the challenge of a request of this algorithm under this number
 abbrev pub challenge_of_request : Algorithm → Origin → ℕ → Content → Heard
-challenge_of_request algorithm origin next request = Challenged (challenge_octets algorithm next origin.envelope request origin.nonce) (digest_of algorithm request)
+challenge_of_request algorithm origin next request = Challenged (challenge_octets algorithm origin.moment next origin.envelope request origin.nonce) (digest_of algorithm request)
 
 -- the decision about a request for anyone
 abbrev pub DecidesForAnyone : Context → Content → Decision → Type 0
@@ -98,10 +100,10 @@ DecidesForAnyone given request decision = Decides given.hosts (request_algorithm
 abbrev pub IsHeardForAnyone : Context → Origin → ℕ → Content → Heard → Table → Type 0
 IsHeardForAnyone given origin next request (Answered octets) table' =
     (decision : Decision) × DecidesForAnyone given request decision × ((decision.code == response_number AuthenticationNeeded) ≡ false)
-    × (octets ≡ answer_octets (request_algorithm given.algorithms request) origin.envelope request decision.code decision.content) × (table' ≡ apply_if given.table origin.moment decision.change)
+    × (octets ≡ answer_octets (request_algorithm given.algorithms request) origin.moment origin.envelope request decision.code decision.content) × (table' ≡ apply_if given.table origin.moment decision.change)
 IsHeardForAnyone given origin next request (Challenged octets digest) table' =
     (decision : Decision) × DecidesForAnyone given request decision × ((decision.code == response_number AuthenticationNeeded) ≡ true)
-    × (octets ≡ challenge_octets (request_algorithm given.algorithms request) next origin.envelope request origin.nonce) × (digest ≡ digest_of (request_algorithm given.algorithms request) request) × (table' ≡ given.table)
+    × (octets ≡ challenge_octets (request_algorithm given.algorithms request) origin.moment next origin.envelope request origin.nonce) × (digest ≡ digest_of (request_algorithm given.algorithms request) request) × (table' ≡ given.table)
 
 -- the task has this effect
 abbrev pub HasEffect : Context → Task → Effect → Type 0
@@ -115,22 +117,22 @@ Replies given moment task octets state' table' =
 -- a challenge response that names this challenge has this reply, whatever else the lane holds
 abbrev pub IsRedeemed : Context → Origin → Response → Pending → List ℕ → Table → Type 0
 IsRedeemed given origin response pending octets table' =
-    (state : LaneState) (message : List ℕ) → (reading : Option Content) × IsReading (SpellsRequest pending.message) reading
+    (state : LaneState) (message : List ℕ) → (reading : Option Content) × IsReading (SpellsRequest given.wire pending.message) reading
     × Replies given origin.moment (redeem_task state (message_as origin message) response pending reading) octets (without_challenge state (message_as origin message)) table'
 
 -- what was returned, as a task of a lane in this state
-abbrev pub IsReturnedTask : LaneState → Returned → List ℕ → Task → Type 0
-IsReturnedTask state returned message task = IsResponseTask state (message_as returned.origin message) returned.request returned.response (challenge_of state.challenges.challenges returned.origin.peer returned.origin.envelope.session) task
+abbrev pub IsReturnedTask : Wire → LaneState → Returned → List ℕ → Task → Type 0
+IsReturnedTask wire state returned message task = IsResponseTask wire state (message_as returned.origin message) returned.request returned.response (challenge_of state.challenges.challenges returned.origin.peer returned.origin.envelope.session) task
 
 -- a challenge response on a lane has this reply
 abbrev pub RespondsAt : Scene → ℕ → Returned → List ℕ → List Held → Table → Type 0
 RespondsAt given number returned octets lanes' table' =
     (message : List ℕ) → (state' : LaneState) × (lanes' ≡ with_state given.lanes number state') × (task : Task)
-    × IsReturnedTask (state_at given.lanes number) returned message task × Replies given.context returned.origin.moment task octets state' table'
+    × IsReturnedTask given.context.wire (state_at given.lanes number) returned message task × Replies given.context returned.origin.moment task octets state' table'
 
 -- a message on a lane has this reply
 abbrev pub IsHeard : Context → LaneState → tasks.Message → List ℕ → LaneState → Table → Type 0
-IsHeard given state message octets state' table' = (task : Task) × IsMessageTask state message task × Replies given message.moment task octets state' table'
+IsHeard given state message octets state' table' = (task : Task) × IsMessageTask given.wire state message task × Replies given message.moment task octets state' table'
 
 -- the lanes after that
 abbrev pub HearsAt : Scene → ℕ → tasks.Message → List ℕ → List Held → Table → Type 0
@@ -146,7 +148,7 @@ outcome_of envelope (Err refused) = Busy (short_reply (response_number ServerBus
 -- a piece that came on an open lane has this reply, or none yet
 abbrev pub IsAssembled : Context → LaneState → Received → Option (List ℕ) → LaneState → Table → Type 0
 IsAssembled given state piece reply state' table' =
-    (effect : Effect) × (task : Task) × IsPieceTask state piece (take_piece state.partials (piece_of piece.peer piece.bytes)) task × HasEffect given task effect
+    (effect : Effect) × (task : Task) × IsPieceTask given.wire state piece (take_piece state.partials (piece_of piece.peer piece.bytes)) task × HasEffect given task effect
     × (effect.outcome ≡ option_map_or Reply reply Silent) × (effect.state ≡ state') × (table' ≡ apply_if given.table piece.moment effect.change)
 
 abbrev pub AssemblesAt : Scene → ℕ → Received → Option (List ℕ) → List Held → Table → Type 0
@@ -156,7 +158,7 @@ AssemblesAt given number piece reply lanes' table' =
 -- octets that came on an open lane have this outcome, or are refused and nothing changed
 abbrev pub IsReceived : Context → LaneState → Received → Outcome → LaneState → Table → Type 0
 IsReceived given state came outcome state' table' =
-    ((effect : Effect) × (task : Task) × IsOctetsTask state came task × HasEffect given task effect × (outcome ≡ effect.outcome) × (state' ≡ effect.state) × (table' ≡ apply_if given.table came.moment effect.change))
+    ((effect : Effect) × (task : Task) × IsOctetsTask given.wire state came task × HasEffect given task effect × (outcome ≡ effect.outcome) × (state' ≡ effect.state) × (table' ≡ apply_if given.table came.moment effect.change))
     ⊎ (IsFrame came.bytes × (outcome ≡ Busy (short_reply (response_number ServerBusy) (envelope_at came.bytes))) × (state' ≡ state) × (table' ≡ given.table))
 
 abbrev pub ReceivesAt : Scene → ℕ → Received → Outcome → List Held → Table → Type 0
@@ -164,23 +166,23 @@ ReceivesAt given number came outcome lanes' table' =
     (state' : LaneState) × (lanes' ≡ with_state given.lanes number state') × IsReceived given.context (state_at given.lanes number) came outcome state' table'
 
 -- an event of the lane has this outcome, and leaves the lane and the table so
-abbrev pub IsAnswered : Context → LaneState → Happening → Outcome → LaneState → Table → Type 0
+abbrev pub IsAnswered : Context → LaneState → What → Outcome → LaneState → Table → Type 0
 IsAnswered given state what outcome state' table' =
-    (effect : Effect) × (task : Task) × IsTask state what task × HasEffect given task effect × (outcome ≡ effect.outcome) × (state' ≡ effect.state) × (table' ≡ apply_if given.table (moment_of what) effect.change)
+    (effect : Effect) × (task : Task) × IsTask given.wire state what task × HasEffect given task effect × (outcome ≡ effect.outcome) × (state' ≡ effect.state) × (table' ≡ apply_if given.table (moment_of what) effect.change)
 
 -- a frame on the open lane is refused, and the lane stays
-pub record IsTurnedDown (table : Table) (state : LaneState) (what : Happening) (answer : Outcome) (state' : LaneState) (table' : Table) : Type 0 where
+pub record IsTurnedDown (table : Table) (state : LaneState) (what : What) (answer : Outcome) (state' : LaneState) (table' : Table) : Type 0 where
   pub received : Received
-  pub frame_event : what ≡ happening_of received
+  pub frame_event : what ≡ what_of received
   pub frame : IsFrame received.bytes
   pub is_open : state.is_open ≡ true
   pub outcome : answer ≡ Busy (short_reply (response_number ServerBusy) (envelope_at received.bytes))
   pub lane_stays : state' ≡ state
   pub table_stays : table' ≡ table
 
-abbrev pub IsServed : Context → LaneState → Happening → Outcome → LaneState → Table → Type 0
+abbrev pub IsServed : Context → LaneState → What → Outcome → LaneState → Table → Type 0
 IsServed given state what outcome state' table' = IsAnswered given state what outcome state' table' ⊎ IsTurnedDown given.table state what outcome state' table'
 
-abbrev pub ServesAt : Scene → ℕ → Happening → Outcome → List Held → Table → Type 0
+abbrev pub ServesAt : Scene → ℕ → What → Outcome → List Held → Table → Type 0
 ServesAt given number what outcome lanes' table' =
     (state' : LaneState) × (lanes' ≡ with_state given.lanes number state') × IsServed given.context (state_at given.lanes number) what outcome state' table'

@@ -40,8 +40,8 @@ pub(crate) fn answer<R: Rows>(
 ) -> Result<Octets, Refused>
     requires fits { IsTrue (fits asked.now.algorithm asked.now.request.now decision.content) }
     requires can_apply { IfSome decision.change (λ change. CanApply (R.content rows.old) change) }
-    ensures reply { IfOk result (λ octets. octets ≡ answer_octets asked.now.algorithm origin.now.envelope asked.now.request.now (response_number decision.code) decision.content) }
-    ensures read { IfOk result (λ octets. Announces asked.now.algorithm origin.now.envelope asked.now.request.now (response_number decision.code) decision.content → IsReplyFrame octets) }
+    ensures reply { IfOk result (λ octets. octets ≡ answer_octets asked.now.algorithm origin.now.moment origin.now.envelope asked.now.request.now (response_number decision.code) decision.content) }
+    ensures read { IfOk result (λ octets. Announces asked.now.algorithm origin.now asked.now.request.now (response_number decision.code) decision.content → IsReplyFrame octets) }
     ensures done { OnOk result (R.content rows.new ≡ apply_if (R.content rows.old) origin.now.moment decision.change) }
     ensures undone { OnErr result (R.content rows.new ≡ R.content rows.old) }
     ensures reads { R.reads rows.new ≡ R.reads rows.old }
@@ -51,7 +51,7 @@ pub(crate) fn answer<R: Rows>(
         content,
         change,
     } = decision;
-    let octets = render(alloc, asked, &origin.envelope, code, content)?;
+    let octets = render(alloc, asked, &origin.envelope, origin.moment, code, content)?;
     make(rows, change, origin.moment)?;
     Ok(Octets::new(octets))
 }
@@ -63,12 +63,12 @@ pub(crate) fn code_reply(
     origin: &Origin,
     code: ResponseCode,
 ) -> Result<Octets, Refused>
-    ensures reply { IfOk result (λ octets. octets ≡ answer_octets asked.now.algorithm origin.now.envelope asked.now.request.now (response_number code) content.Empty) }
-    ensures read { IfOk result (λ octets. Announces asked.now.algorithm origin.now.envelope asked.now.request.now (response_number code) content.Empty → IsReplyFrame octets) }
+    ensures reply { IfOk result (λ octets. octets ≡ answer_octets asked.now.algorithm origin.now.moment origin.now.envelope asked.now.request.now (response_number code) content.Empty) }
+    ensures read { IfOk result (λ octets. Announces asked.now.algorithm origin.now asked.now.request.now (response_number code) content.Empty → IsReplyFrame octets) }
 {
     let empty = ReplyContent::Empty;
     empty_fits();
-    let octets = render(alloc, asked, &origin.envelope, code, empty)?;
+    let octets = render(alloc, asked, &origin.envelope, origin.moment, code, empty)?;
     Ok(Octets::new(octets))
 }
 

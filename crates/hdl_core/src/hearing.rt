@@ -4,8 +4,8 @@ ghost use Rattle.std.specs.Prelude.{◌≡◌, ◌==◌, ◌<◌, ℕ, List, len
 ghost use Rattle.hdl_msg.specs.Codes.{response_number};
 ghost use Rattle.hdl_msg.specs.Reply.{IsReplyFrame};
 ghost use Rattle.hdl_ops.specs.Views.{response_view};
-ghost use Rattle.hdl_reach.specs.Cost.{ReadsWithin, values_cost};
-ghost use Rattle.hdl_ops.specs.Cost.{proof_cost};
+ghost use Rattle.hdl_reach.specs.Cost.{ReadsWithin};
+ghost use Rattle.hdl_ops.specs.Cost.{anyone_cost, proof_cost};
 ghost use Rattle.hdl_laws.specs.Cost.{IsUnchallenged};
 ghost use Rattle.hdl_core.specs.Held.{state_at};
 ghost use Rattle.hdl_laws.specs.Tasks.{is_late};
@@ -46,7 +46,7 @@ fn challenge(
         session: next,
         ..origin.envelope
     };
-    let (octets, digest) = render_challenge(alloc, asked, &envelope, &origin.nonce)?;
+    let (octets, digest) = render_challenge(alloc, asked, &envelope, origin.moment, &origin.nonce)?;
     Ok(Heard::Challenged(Octets::new(octets), digest))
 }
 
@@ -68,7 +68,7 @@ fn hear_for_anyone<R: Masked>(
     ensures asked { IfOk result (λ heard. IsHeardForAnyone (context owner.now (R.content rows.old)) origin.now next request.now heard (R.content rows.new)) }
     ensures read { IfOk result (λ heard. HasItsCode request.now → IsReplyFrame (sent_of heard)) }
     ensures undone { OnErr result (R.content rows.new ≡ R.content rows.old) }
-    ensures cost { ReadsWithin (R.content rows.old) values_cost (R.reads rows.old) (R.reads rows.new) }
+    ensures cost { ReadsWithin (R.content rows.old) anyone_cost (R.reads rows.old) (R.reads rows.new) }
 {
     let named = NamedRequest::of_owner(owner, request)?;
     let asked = named.asked;
@@ -101,7 +101,7 @@ fn redeem<'a, R: Masked>(
     ensures undone { OnErr result (R.content rows.new ≡ R.content rows.old) }
     ensures cost { ReadsWithin (R.content rows.old) proof_cost (R.reads rows.old) (R.reads rows.new) }
 {
-    let Ok(request) = read_request(pending.message.as_slice()) else {
+    let Ok(request) = read_request(owner.wire(), pending.message.as_slice()) else {
         return malformed_reply(owner.alloc, &origin.envelope);
     };
     let asked = HashedRequest {
@@ -170,9 +170,9 @@ pub(crate) fn hear<R: Masked>(
     ensures undone { OnErr result (R.content rows.new ≡ R.content rows.old) }
     ensures unchanged { OnErr result (lanes.new ≡ lanes.old) }
     ensures cost { ReadsWithin (R.content rows.old) proof_cost (R.reads rows.old) (R.reads rows.new) }
-    ensures stranger { IsUnchallenged (state_at lanes.old origin.now.lane) origin.now.peer → ReadsWithin (R.content rows.old) values_cost (R.reads rows.old) (R.reads rows.new) }
+    ensures stranger { IsUnchallenged (state_at lanes.old origin.now.lane) origin.now.peer → ReadsWithin (R.content rows.old) anyone_cost (R.reads rows.old) (R.reads rows.new) }
 {
-    let Ok(request) = read_request(&message) else {
+    let Ok(request) = read_request(owner.wire(), &message) else {
         return malformed_reply(owner.alloc, &origin.envelope);
     };
     if let Some(response) = response_of(request.body()) {

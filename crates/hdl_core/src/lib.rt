@@ -10,12 +10,23 @@
 //!
 //! It knows no threads, sockets or clocks.
 //!
+//! What its calls take and give is passed on here, so a service is opened and asked by the names of this crate alone:
+//!
 //! ```rust
 //! // crates/hdl_program_tests/src/two_workers.rt
 //! let Ok(tenants) = Tenants::read(alloc, TENANTS) else {
 //!     return Err(Fail::from(AllocError));
 //! };
 //! Ok(Service::open(alloc, tenants, PlainRows::new(alloc))?)
+//! ```
+//!
+//! ```rust
+//! // crates/hdl_program_tests/src/one_event.rt
+//! match service.step(Event { lane: 0, what }) {
+//!     Outcome::Reply(octets) => digits(alloc, octets.as_slice()),
+//!     Outcome::Busy(octets) | Outcome::CloseAfter(octets) => digits(alloc, octets.as_slice()),
+//!     Outcome::Silent => Ok(String::new(alloc)),
+//! }
 //! ```
 #![tactic(auto)]
 
@@ -29,8 +40,11 @@ mod origin;
 mod service;
 mod serving;
 
+pub use hdl_events::{Event, Outcome, What};
+pub use hdl_limits::Octets;
 pub use hdl_ops::{Refused, Rows, Tenants};
-pub use hdl_rows::{Owed, Owing};
+pub use hdl_rows::{Owed, Owing, PlainRows};
+pub use hdl_tenants::TenantFault;
 pub use machine::{Machine, Stepped};
 pub use opening::OpenFault;
 pub use service::{Early, Service};

@@ -7,8 +7,8 @@ ghost use Rattle.hdl_laws.specs.Runs.{Steps};
 ghost use Rattle.hdl_laws.specs.Reveals.{IsReadable, Reveals};
 ghost use Rattle.hdl_laws.specs.Worlds.{lane_of, owner};
 ghost use Rattle.hdl_laws.specs.Cost.{IsStranger};
-ghost use Rattle.hdl_ops.specs.Cost.{proof_cost};
-ghost use Rattle.hdl_reach.specs.Cost.{ReadsWithin, values_cost};
+ghost use Rattle.hdl_ops.specs.Cost.{anyone_cost, proof_cost};
+ghost use Rattle.hdl_reach.specs.Cost.{ReadsWithin};
 
 use crate::lanes::Lanes;
 use crate::service::Service;
@@ -60,7 +60,7 @@ impl<R: Owing + Drop> Machine<R> {
         ensures told { Reveals self.old.world event result.outcome }
         ensures read { IsReadable result.outcome }
         ensures cost { ReadsWithin self.old.world.table proof_cost (R.reads self.old.rows) (R.reads self.new.rows) }
-        ensures stranger { IsStranger (lane_of self.old.world event.lane) event.what → ReadsWithin self.old.world.table values_cost (R.reads self.old.rows) (R.reads self.new.rows) }
+        ensures stranger { IsStranger (lane_of self.old.world event.lane) event.what → ReadsWithin self.old.world.table anyone_cost (R.reads self.old.rows) (R.reads self.new.rows) }
         ensures owed { is_owed result.owed ≡ (R.debt self.new.rows).owes }
     {
         self.rows.let_write(may_write);
@@ -77,7 +77,7 @@ impl<R: Owing + Drop> Machine<R> {
         ensures told { Reveals self.old.world event result }
         ensures read { IsReadable result }
         ensures cost { ReadsWithin self.old.world.table proof_cost (R.reads self.old.rows) (R.reads self.new.rows) }
-        ensures stranger { IsStranger (lane_of self.old.world event.lane) event.what → ReadsWithin self.old.world.table values_cost (R.reads self.old.rows) (R.reads self.new.rows) }
+        ensures stranger { IsStranger (lane_of self.old.world event.lane) event.what → ReadsWithin self.old.world.table anyone_cost (R.reads self.old.rows) (R.reads self.new.rows) }
     {
         reply_told();
         if event.lane as usize >= self.lanes.len() {

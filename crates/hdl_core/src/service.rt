@@ -1,8 +1,8 @@
 //! The service over any table.
 
 ghost use Rattle.std.specs.Prelude.{◌≡◌, All, IfOk, IfErr, OnErr};
-ghost use Rattle.hdl_reach.specs.Cost.{ReadsWithin, values_cost};
-ghost use Rattle.hdl_ops.specs.Cost.{proof_cost};
+ghost use Rattle.hdl_reach.specs.Cost.{ReadsWithin};
+ghost use Rattle.hdl_ops.specs.Cost.{anyone_cost, proof_cost};
 ghost use Rattle.hdl_laws.specs.Cost.{IsStranger, RunReads};
 ghost use Rattle.hdl_laws.specs.Laws.{Hidden, HostsNoRoot, Isolated};
 ghost use Rattle.hdl_laws.specs.Runs.{Run, Steps};
@@ -51,14 +51,15 @@ impl<R: Owing + Drop> Service<R> {
     /// the handles of the prefix that is listed (`told`). What is sent is one frame, and `hdl_msg::read_reply` reads its message
     /// (`read`).
     ///
-    /// What it reads of the table is bounded by what the table's values, handles and lists count: at most two handles, two values, one list and what one call
-    /// of a search looks up (`cost`), and one handle for a peer to whom no challenge is pending (`stranger`).
+    /// What it reads of the table is bounded by what the table's values, heads, handles and lists count. For a peer to whom no challenge is pending
+    /// (`stranger`) these are the heads of one handle's values, a constant (`READ_MAX` of hdl_ops) and one value, whatever the handle holds. For any event
+    /// (`cost`) a search for a mask is added, and the key's value; a list is read in place of values.
     pub fn step(&mut self, event: Event) -> Outcome
         ensures step { Steps self.old.world event result self.new.world }
         ensures told { Reveals self.old.world event result }
         ensures read { IsReadable result }
         ensures cost { ReadsWithin self.old.world.table proof_cost (R.reads self.old.rows) (R.reads self.new.rows) }
-        ensures stranger { IsStranger (lane_of self.old.world event.lane) event.what → ReadsWithin self.old.world.table values_cost (R.reads self.old.rows) (R.reads self.new.rows) }
+        ensures stranger { IsStranger (lane_of self.old.world event.lane) event.what → ReadsWithin self.old.world.table anyone_cost (R.reads self.old.rows) (R.reads self.new.rows) }
     {
         self.machine.step(event, true).outcome
     }

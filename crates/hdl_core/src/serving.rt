@@ -4,8 +4,8 @@ ghost use Rattle.std.specs.Prelude.{◌≡◌, ◌<◌, true, drop, length, IfOk
 ghost use Rattle.hdl_frame.specs.Envelope.{envelope_at, is_truncated};
 ghost use Rattle.hdl_frame.specs.Splitting.{IsFrameOf};
 ghost use Rattle.hdl_msg.specs.Reply.{IsReplyFrame};
-ghost use Rattle.hdl_reach.specs.Cost.{ReadsWithin, values_cost};
-ghost use Rattle.hdl_ops.specs.Cost.{proof_cost};
+ghost use Rattle.hdl_reach.specs.Cost.{ReadsWithin};
+ghost use Rattle.hdl_ops.specs.Cost.{anyone_cost, proof_cost};
 ghost use Rattle.hdl_laws.specs.Cost.{IsStranger, IsUnchallenged};
 ghost use Rattle.hdl_laws.specs.Reveals.{IsReadable};
 ghost use Rattle.hdl_core.specs.Held.{state_at};
@@ -14,7 +14,7 @@ ghost use Rattle.hdl_core.specs.Serving.{AssemblesAt, outcome_of, received_as, r
 use crate::hearing::hear;
 use crate::lanes::Lanes;
 use crate::origin::{Origin, Received};
-use hdl_events::{Event, Happening, Outcome};
+use hdl_events::{Event, Outcome, What};
 use hdl_frame::{ENVELOPE_LEN, Envelope, Frame, one_datagram};
 use hdl_limits::Octets;
 use hdl_msg::{busy, refuse};
@@ -50,7 +50,7 @@ fn assemble<R: Masked>(
     ensures undone { OnErr result (R.content rows.new ≡ R.content rows.old) }
     ensures unchanged { OnErr result (lanes.new ≡ lanes.old) }
     ensures cost { ReadsWithin (R.content rows.old) proof_cost (R.reads rows.old) (R.reads rows.new) }
-    ensures stranger { IsUnchallenged (state_at lanes.old origin.now.lane) origin.now.peer → ReadsWithin (R.content rows.old) values_cost (R.reads rows.old) (R.reads rows.new) }
+    ensures stranger { IsUnchallenged (state_at lanes.old origin.now.lane) origin.now.peer → ReadsWithin (R.content rows.old) anyone_cost (R.reads rows.old) (R.reads rows.new) }
 {
     let Ok(taken) = lanes.take_piece(origin.lane, origin.peer, frame) else {
         return Err(Refused);
@@ -89,7 +89,7 @@ fn receive<R: Masked>(
     ensures received { ReceivesAt (scene owner.now (R.content rows.old) lanes.old) received.lane (received_of received) result lanes.new (R.content rows.new) }
     ensures read { IsReadable result }
     ensures cost { ReadsWithin (R.content rows.old) proof_cost (R.reads rows.old) (R.reads rows.new) }
-    ensures stranger { IsUnchallenged (state_at lanes.old received.lane) received.peer → ReadsWithin (R.content rows.old) values_cost (R.reads rows.old) (R.reads rows.new) }
+    ensures stranger { IsUnchallenged (state_at lanes.old received.lane) received.peer → ReadsWithin (R.content rows.old) anyone_cost (R.reads rows.old) (R.reads rows.new) }
 {
     let Received {
         lane,
@@ -131,25 +131,25 @@ pub(crate) fn serve<R: Masked>(
     ensures served { ServesAt (scene owner.now (R.content rows.old) lanes.old) event.lane event.what result lanes.new (R.content rows.new) }
     ensures read { IsReadable result }
     ensures cost { ReadsWithin (R.content rows.old) proof_cost (R.reads rows.old) (R.reads rows.new) }
-    ensures stranger { IsStranger (state_at lanes.old event.lane) event.what → ReadsWithin (R.content rows.old) values_cost (R.reads rows.old) (R.reads rows.new) }
+    ensures stranger { IsStranger (state_at lanes.old event.lane) event.what → ReadsWithin (R.content rows.old) anyone_cost (R.reads rows.old) (R.reads rows.new) }
 {
     let Event { lane, what } = event;
     match what {
-        Happening::Open => {
+        What::Open => {
             lanes.renew(lane, true);
             Outcome::Silent
         }
-        Happening::Close => {
+        What::Close => {
             lanes.renew(lane, false);
             Outcome::Silent
         }
-        Happening::Bad { session, request } => {
+        What::Bad { session, request } => {
             if !lanes.is_open(lane) {
                 return Outcome::Silent;
             }
             Outcome::CloseAfter(refuse(&Envelope::of_message(session, request, 0)))
         }
-        Happening::Frame {
+        What::Frame {
             peer,
             moment,
             nonce,

@@ -34,7 +34,7 @@ pub struct Book {
 }
 
 impl Book {
-    /// Nobody came.
+    /// A book without connections.
     pub fn new(alloc: Global) -> Book {
         Book {
             alloc,
@@ -44,7 +44,7 @@ impl Book {
         }
     }
 
-    /// A connection comes: its place, which nobody has. Its serial is one more than that of the connection before, so no two ever have the same. None where
+    /// A connection comes: its place, which no other connection has. Its serial is one more than that of the connection before, so no two ever have the same. None where
     /// memory is refused, or no serial is left.
     pub fn enter(&mut self, now: u64) -> Option<usize>
         ensures serial { IfSome result (λ _. self.new.last ≡ self.old.last + 1) }
@@ -71,7 +71,7 @@ impl Book {
         }
     }
 
-    /// The connection at this place is left. Its serial is given to no other, so nobody gets what is kept under its number.
+    /// The connection at this place is left. Its serial is given to no other, so no other connection gets what is kept under its number.
     pub fn leave(&mut self, place: usize)
         ensures left { Updates self.old.entries self.new.entries place None }
         ensures last { self.new.last ≡ self.old.last }
@@ -80,7 +80,7 @@ impl Book {
         drop(self.entries.try_remove(place));
     }
 
-    /// Octets were read on the connection at this place. An `Err` changes nothing.
+    /// Notes octets that were read on the connection at this place. An `Err` changes nothing.
     pub fn note_octets(&mut self, place: usize, octets: &[u8], now: u64) -> Result<(), Left>
         ensures ok { OnOk result (Goes self.old.entries self.new.entries place (reads octets.now ∷ [])) }
         ensures pace { OnOk result (pace_at self.new.entries place ≡ option_map (λ e. after_octets now e.pace) (get self.old.entries place)) }
@@ -138,7 +138,7 @@ impl Book {
 
     /// The frame that stands next on the connection at this place, copied to the front of the buffer: its number among the lane's peers, and its length. The
     /// number is this connection's until the reply is whole ([`end_reply`](Book::end_reply)), and longer while something is followed under it. None where no whole frame stands there; a faulty
-    /// envelope is refused when it is met, and nothing is handed out behind it. What is an `Err` is for the caller to leave.
+    /// envelope is refused when it is met, and nothing is handed out after it. What is an `Err` is for the caller to leave.
     pub fn next_frame(
         &mut self,
         place: usize,
@@ -215,7 +215,7 @@ impl Book {
         }
     }
 
-    /// So many of the octets that are owed to the connection at this place were written.
+    /// Notes that `count` of the octets owed to the connection at this place were written.
     pub fn wrote(&mut self, place: usize, count: usize, now: u64)
         ensures written { MatchOption (get self.old.entries place) (SameValues self.old.entries self.new.entries) (λ e. Goes self.old.entries self.new.entries place (writes (take count e.talk.owed) ∷ [])) }
         ensures pace { pace_at self.new.entries place ≡ option_map (λ e. after_writing (length e.talk.owed) count now e.pace) (get self.old.entries place) }
@@ -227,7 +227,7 @@ impl Book {
         }
     }
 
-    /// Nothing more is there to be read at this place for now, and what isn't needed meanwhile is given back.
+    /// Notes that nothing more can be read at this place for now, and gives back what isn't needed meanwhile.
     pub fn waits(&mut self, place: usize, now: u64)
         ensures talks { MatchOption (get self.old.entries place) (SameValues self.old.entries self.new.entries) (λ _. Goes self.old.entries self.new.entries place []) }
         ensures pace { pace_at self.new.entries place ≡ option_map (λ e. after_reading (is_begun e.talk) now e.pace) (get self.old.entries place) }
@@ -239,7 +239,7 @@ impl Book {
         }
     }
 
-    /// Nothing more of what is owed at this place is taken for now.
+    /// Notes that the connection at this place takes no more of what is owed for now.
     pub fn refuses(&mut self, place: usize, now: u64)
         ensures talks { MatchOption (get self.old.entries place) (SameValues self.old.entries self.new.entries) (λ _. Goes self.old.entries self.new.entries place []) }
         ensures pace { pace_at self.new.entries place ≡ option_map (λ e. after_refusal now e.pace) (get self.old.entries place) }

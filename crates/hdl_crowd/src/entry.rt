@@ -27,7 +27,7 @@ pub(crate) struct ConnectionEntry {
 }
 
 impl ConnectionEntry {
-    /// Octets were read. An `Err` changes nothing.
+    /// Notes octets that were read. An `Err` changes nothing.
     pub(crate) fn note_octets(&mut self, octets: &[u8], now: u64) -> Result<(), FrameFault>
         ensures ok { OnOk result (Takes self.old.talk (reads octets.now) self.new.talk) }
         ensures pace { OnOk result (self.new.pace ≡ after_octets now self.old.pace) }
@@ -39,7 +39,7 @@ impl ConnectionEntry {
         Ok(())
     }
 
-    /// Hands out the frame that stands next, at the front of the buffer; its length. None where no whole frame stands there, or behind a fault, which is
+    /// Hands out the frame that stands next, at the front of the buffer; its length. None where no whole frame stands there, or after a fault, which is
     /// refused when it is met. An `Err`: that memory for this was refused.
     pub(crate) fn next_frame(&mut self, buffer: &mut [u8]) -> Result<Option<usize>, AllocError>
         requires room { ENVELOPE_LEN + MESSAGE_MAX ≤ length buffer.old }
@@ -74,7 +74,7 @@ impl ConnectionEntry {
         self.talk.say(datagram)
     }
 
-    /// So much of what is owed was written, as far as it is owed.
+    /// Notes that `count` of the owed octets were written, or all of them if they are fewer.
     pub(crate) fn wrote(&mut self, count: usize, now: u64)
         ensures written { Takes self.old.talk (writes (take count self.old.talk.owed)) self.new.talk }
         ensures pace { self.new.pace ≡ after_writing (length self.old.talk.owed) count now self.old.pace }
@@ -89,7 +89,7 @@ impl ConnectionEntry {
         };
     }
 
-    /// Nothing more is there to be read for now.
+    /// Notes that nothing more can be read for now.
     pub(crate) fn waits(&mut self, now: u64)
         ensures talk { self.new.talk ≡ self.old.talk }
         ensures pace { self.new.pace ≡ after_reading (is_begun self.old.talk) now self.old.pace }
@@ -101,7 +101,7 @@ impl ConnectionEntry {
         }
     }
 
-    /// Nothing more of what is owed is taken for now.
+    /// Notes that no more of what is owed is taken for now.
     pub(crate) fn refuses(&mut self, now: u64)
         ensures talk { self.new.talk ≡ self.old.talk }
         ensures pace { self.new.pace ≡ after_refusal now self.old.pace }
@@ -110,7 +110,7 @@ impl ConnectionEntry {
         self.pace = self.pace.refuses(now);
     }
 
-    /// Whether a fault was told, and everything said is written.
+    /// Whether a fault was reported, and all replies are written.
     pub(crate) fn is_over(&self) -> bool
         ensures { result ≡ is_over self.now.talk }
     {

@@ -6,7 +6,7 @@ ghost use Rattle.hdl_crowd.specs.Joining.{said_of, part_of};
 use hdl_frame::{ENVELOPE_LEN, Envelope};
 use std::alloc::AllocError;
 
-/// Puts a piece's part of its message behind the others. Refused memory changes nothing.
+/// Puts a piece's part of its message after the others. Refused memory changes nothing.
 fn push_part(out: &mut Vec<u8>, envelope: Envelope, payload: &[u8]) -> Result<(), AllocError>
     ensures ok { OnOk result (out.new.items ≡ out.old.items ++ part_of envelope payload.now) }
     ensures unchanged { OnErr result (out.new.items ≡ out.old.items) }
@@ -22,7 +22,7 @@ fn push_part(out: &mut Vec<u8>, envelope: Envelope, payload: &[u8]) -> Result<()
     push_both(out, &whole.to_octets(), payload)
 }
 
-/// Puts octets behind the others, and then more. Refused memory changes nothing.
+/// Puts octets after the others, and then more. Refused memory changes nothing.
 fn push_both(out: &mut Vec<u8>, first: &[u8], second: &[u8]) -> Result<(), AllocError>
     ensures ok { OnOk result (out.new.items ≡ out.old.items ++ (first.now ++ second.now)) }
     ensures unchanged { OnErr result (out.new.items ≡ out.old.items) }
@@ -38,7 +38,7 @@ fn push_both(out: &mut Vec<u8>, first: &[u8], second: &[u8]) -> Result<(), Alloc
     }
 }
 
-/// Puts what a datagram says of its reply behind the others. Refused memory changes nothing.
+/// Puts what a datagram says of its reply after the others. Refused memory changes nothing.
 pub(crate) fn push_said(out: &mut Vec<u8>, datagram: &[u8]) -> Result<(), AllocError>
     ensures ok { OnOk result (out.new.items ≡ out.old.items ++ said_of datagram.now) }
     ensures unchanged { OnErr result (out.new.items ≡ out.old.items) }

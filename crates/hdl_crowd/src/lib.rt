@@ -14,10 +14,10 @@
 //!
 //! Promised of a connection, from its coming to its end: what is handed out under its numbers is a beginning of the frames of what was read on it; what is written is
 //! a beginning of what was said to it; and what is said by the datagrams of a reply is that reply (`laws`). Each call of the book is one such step on one connection,
-//! and none on another. A faulty envelope is refused with code 4 as on a lane of one connection, once, and nothing behind it is handed out. Each call says what becomes of the
+//! and none on another. A faulty envelope is refused with code 4 as on a lane of one connection, once, and nothing after it is handed out. Each call says what becomes of the
 //! connection's [`Pace`] (`pace`), so who is idle, slow or greedy is what happened.
 //!
-//! It stands on the limits, on frames, on `hdl_msg` for that refusal and on `hdl_trail`, and knows no sockets: it is told what was read and written. That it is told the
+//! It stands on the limits, on frames, on `hdl_msg` for that refusal and on `hdl_trail`, and knows no sockets: its caller notes what was read and written. That it notes the
 //! truth, hdl_sockets has to see to.
 //!
 //! ```rust
@@ -32,7 +32,7 @@
 //!
 //! - **A number is of a frame, not of a connection's life.** A connection that waits has none, so a crowd may have any number of connections, and there are 1,024 numbers.
 //! - **A connection is known by its place and its serial**: its place is given again once it is left, its serial isn't. So what the service keeps under a number of one that was left
-//!   is nobody's.
+//!   is no connection's.
 //! - **Memory is given back when a connection waits**: of one that is idle nothing is kept but the few words of its entry.
 #![tactic(auto)]
 

@@ -36,7 +36,7 @@ fn has_lasted(began: Option<u64>, now: u64) -> bool
 }
 
 impl Pace {
-    /// Of a connection that came at this moment.
+    /// The pace of a connection that came at this moment.
     pub fn new(now: u64) -> Pace
         ensures { result ≡ at_first now }
     {
@@ -47,7 +47,7 @@ impl Pace {
         }
     }
 
-    /// Octets came.
+    /// The pace after octets came at this moment.
     pub fn after_octets(self, now: u64) -> Pace
         ensures { result ≡ record self { silent = now } }
     {
@@ -57,7 +57,7 @@ impl Pace {
         }
     }
 
-    /// A frame became whole.
+    /// The pace after a frame became whole.
     pub fn after_frame(self) -> Pace
         ensures { result ≡ record self { begun = None } }
     {
@@ -67,7 +67,7 @@ impl Pace {
         }
     }
 
-    /// No more octets are there, and a frame is begun.
+    /// The pace after no more octets are there, while a frame is begun.
     pub fn waits(self, now: u64) -> Pace
         ensures { result ≡ record self { begun = since_first self.begun now } }
     {
@@ -98,7 +98,7 @@ impl Pace {
         }
     }
 
-    /// Nothing more of an answer is taken for now.
+    /// The pace after no more of an answer is taken for now.
     pub fn refuses(self, now: u64) -> Pace
         ensures { result ≡ record self { untaken = since_first self.untaken now } }
     {

@@ -19,7 +19,7 @@ pub struct Talk {
     cutter: Cutter,
     /// How many octets the cutter holds.
     held: usize,
-    /// What was said, of which so much was written.
+    /// The octets of replies, of which the first `written` are written.
     said: Vec<u8>,
     written: usize,
     is_faulty: bool,
@@ -37,7 +37,7 @@ impl Model for Talk {
 }
 
 impl Talk {
-    /// Of a new connection. It takes no memory.
+    /// The talk of a new connection. Takes no memory.
     pub fn new(alloc: Global) -> Talk
         ensures { result ≡ fresh }
     {
@@ -51,7 +51,7 @@ impl Talk {
         }
     }
 
-    /// Octets were read. An `Err` is the fault that was told before or, where a growth was refused, Memory; either changes nothing.
+    /// Notes octets that were read. An `Err` is the fault that was reported before or, where a growth was refused, Memory; either changes nothing.
     pub fn note_octets(&mut self, octets: &[u8]) -> Result<(), FrameFault>
         ensures ok { OnOk result (Takes self.old (reads octets.now) self.new) }
         ensures unchanged { OnErr result (self.new ≡ self.old) }
@@ -88,7 +88,7 @@ impl Talk {
         }
     }
 
-    /// Whether a part of a frame stands next, or the fault that was told.
+    /// Whether a part of a frame stands next, or the fault that was reported.
     pub fn is_begun(&self) -> bool
         ensures { result ≡ is_begun self.now }
     {
@@ -116,21 +116,21 @@ impl Talk {
         }
     }
 
-    /// Whether a fault was told, behind which nothing is read.
+    /// Whether a fault was reported, after which nothing is read.
     pub fn is_faulty(&self) -> bool
         ensures { result ≡ is_some self.now.fault }
     {
         self.is_faulty
     }
 
-    /// What is owed.
+    /// The octets of replies that are still to be written.
     pub fn owed(&self) -> &[u8]
         ensures { result.now ≡ self.now.owed }
     {
         &self.said[self.written..]
     }
 
-    /// So much of what is owed was written.
+    /// Notes that `count` of the owed octets were written.
     pub fn wrote(&mut self, count: usize)
         requires owed { count ≤ length self.old.owed }
         ensures { Takes self.old (writes (take count self.old.owed)) self.new }

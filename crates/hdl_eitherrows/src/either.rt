@@ -50,6 +50,13 @@ impl<A: Rows, B: Rows> Rows for EitherRows<A, B> {
         }
     }
 
+    fn heads(&mut self, name: &Name) -> Result<Option<Vec<Value>>, Refused> {
+        match self {
+            EitherRows::First(rows) => rows.heads(name),
+            EitherRows::Second(rows) => rows.heads(name),
+        }
+    }
+
     fn names(&mut self, authority: &[u8]) -> Result<Vec<Octets>, Refused> {
         match self {
             EitherRows::First(rows) => rows.names(authority),

@@ -1,7 +1,7 @@
 //! One of two tables: the contract of `hdl_rows::Rows`, word for word, whichever it is.
 //!
 //! [`EitherRows`] is a table of one kind or of another, and each call goes to the one that is there. A program that serves a table in memory or
-//! one with a file beside it, as its command line says, has one type of table so, and one machine over it.
+//! one that is also in a file, as its command line says, has one type of table so, and one machine over it.
 //!
 //! It stands on `hdl_rows` and what that speaks of.
 //!

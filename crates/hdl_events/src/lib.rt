@@ -1,6 +1,6 @@
 //! What happens on a lane, and what comes of it.
 //!
-//! An [`Event`] is what the service is told, an [`Outcome`] what it answers. Workers between a socket and a lane speak of both and of
+//! An [`Event`] is what the service takes, an [`Outcome`] what it answers. Workers between a socket and a lane speak of both and of
 //! nothing else of the service, so these types stand in a crate of their own: `hdl_workers` needs no layer between this one and the
 //! machine. What an event brings about is said in `hdl_laws`, and done in `hdl_core`.
 //!
@@ -8,7 +8,7 @@
 //!
 //! ```rust
 //! // crates/hdl_replay/src/script.rt
-//! Ok(bytes) => Ok(Some(Happening::Frame {
+//! Ok(bytes) => Ok(Some(What::Frame {
 //!     peer,
 //!     moment,
 //!     nonce,
@@ -21,7 +21,7 @@ use hdl_limits::Octets;
 
 /// What happens on a lane.
 #[derive(Drop)]
-pub enum Happening {
+pub enum What {
     /// A connection begins; a datagram lane has one for good.
     Open,
     /// Octets that should be one frame.
@@ -47,7 +47,7 @@ pub enum Happening {
 #[derive(Drop)]
 pub struct Event {
     pub lane: u16,
-    pub what: Happening,
+    pub what: What,
 }
 
 /// What comes of an event.

@@ -17,7 +17,7 @@ pub enum ExportFault {
     #[error("unsound row")]
     Row,
     /// A value on which a publisher's answers rest stands at a handle that no line can name.
-    #[error("no text says this publisher: a list or a key that its values refer to stands at a handle with a space or a line feed in its name")]
+    #[error("no text says this publisher: its values refer to a list or key whose handle has a space or line feed in its name")]
     Unsayable,
     /// The text that was given has this first faulty line, counted from 1.
     #[error("tenants: line {line}: {fault}")]

@@ -12,12 +12,12 @@ pub fn value_line_is_read()
     ensures { ValueLineIsRead }
 {}
 
-/// Behind lines that say publishers and prefixes, the lines of rows that a text can say are accepted, and say these rows in this order.
+/// After lines that say publishers and prefixes, the lines of rows that a text can say are accepted, and say these rows in this order.
 pub fn register_is_read()
     ensures { RegisterIsRead }
 {}
 
-/// A text that has the lines of an accepted text that say no value, and behind them lines of rows, says these rows and nothing else, if it is
+/// A text that has the lines of an accepted text that say no value, and after them lines of rows, says these rows and nothing else, if it is
 /// accepted.
 pub fn rows_are_only()
     ensures { RowsAreOnly }
@@ -29,7 +29,7 @@ pub fn publisher_moves()
     ensures { PublisherMoves }
 {}
 
-/// A publisher that moved is answered as it was, as long as nobody else changes what its answers rest on.
+/// A publisher that moved is answered as it was, as long as no other publisher changes what its answers rest on.
 pub fn moved_is_answered_alike()
     ensures { MovedIsAnsweredAlike }
 {}

@@ -11,7 +11,7 @@ use std::alloc::Global;
 /// How many handles of a table aren't in the text that [`export`](crate::export) writes, though it hosts their prefixes.
 #[derive(Clone, Copy, PartialEq, Eq)]
 pub struct LeftOut {
-    /// Those that are there and have no value.
+    /// How many handles have no value.
     pub empty: u64,
     /// Those with a value, whose name has a space or a line feed.
     pub unsayable: u64,

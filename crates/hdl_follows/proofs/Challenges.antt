@@ -11,6 +11,7 @@ use Rattle.hdl_slots.proofs.LawLemmas.{at_most_eight_lem}
 use Rattle.hdl_trail.specs.declared.kept.MessageKey.{MessageKey}
 use Rattle.hdl_trail.specs.declared.kept.SentChallenge.{SentChallenge}
 use Rattle.hdl_trail.specs.Followed.{put_behind, is_from, is_response, redeem, add_challenge}
+use Rattle.hdl_value.specs.declared.wire.Wire.{Wire}
 use Rattle.hdl_follows.specs.Follows.{sent_of, CanBeRead}
 use Rattle.hdl_follows.proofs.Lists.{filter_seen, map_push, map_drop, each_filter, each_drop, each_push, length_filter}
 
@@ -56,11 +57,11 @@ next_fits n fits = by_test (eqb n 4294967295) refl
 pub put_few : (s : slots.LaneState) (p : Pending) → length (slots.add_challenge s p).challenges ≤ 8
 put_few s p = at_most_eight_lem s p
 
-pub put_read : (s : slots.LaneState) (p : Pending) → AllByRecursion CanBeRead s.challenges → CanBeRead (record { number = s.next; pending = p }) → AllByRecursion CanBeRead (slots.add_challenge s p).challenges
-put_read s p each here =
+pub put_read : (wire : Wire) (s : slots.LaneState) (p : Pending) → AllByRecursion (CanBeRead wire) s.challenges → CanBeRead wire (record { number = s.next; pending = p }) → AllByRecursion (CanBeRead wire) (slots.add_challenge s p).challenges
+put_read wire s p each here =
     let kept = without s.next s.challenges in
     let newest : Challenge = record { number = s.next; pending = p } in
-    each_drop CanBeRead (length (kept ++ newest ∷ []) - 8) (kept ++ newest ∷ []) (each_push CanBeRead kept newest (each_filter CanBeRead (λ (c : Challenge). not (eqb c.number s.next)) s.challenges each) here)
+    each_drop (CanBeRead wire) (length (kept ++ newest ∷ []) - 8) (kept ++ newest ∷ []) (each_push (CanBeRead wire) kept newest (each_filter (CanBeRead wire) (λ (c : Challenge). not (eqb c.number s.next)) s.challenges each) here)
 
 -- ---- what the trail does
 

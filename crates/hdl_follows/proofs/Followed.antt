@@ -7,17 +7,18 @@ use Rattle.std.specs.Cmp.{nat_cmp_total, tied_itself}
 use Rattle.hdl_auth.specs.declared.algorithm.Algorithm.{Algorithm}
 use Rattle.hdl_frame.specs.Envelope.{envelope_at, is_truncated}
 use Rattle.hdl_frame.specs.Frames.{IsFrame}
+use Rattle.hdl_value.specs.declared.wire.Wire.{Wire}
 use Rattle.hdl_rows.specs.Table.{Table}
 use Rattle.hdl_msg.specs.Reply.{short_reply}
 use Rattle.hdl_pool.specs.Partial as pool
 use Rattle.hdl_pool.specs.Partial.{Partial, piece_of}
 use Rattle.hdl_pool.specs.Taking.{take_piece, whole_message, free_partial}
-use Rattle.hdl_events.specs.declared.Happening.{Happening}
+use Rattle.hdl_events.specs.declared.What.{What}
 use Rattle.hdl_events.specs.declared.Event.{Event}
 use Rattle.hdl_events.specs.declared.Outcome.{Outcome}
 use Rattle.hdl_events.specs.declared.Outcome.TheVariants.{Reply, Busy}
 use Rattle.hdl_laws.specs.Lanes.{LaneState, fresh, with_partials}
-use Rattle.hdl_laws.specs.Worlds.{World, owner, hosts, algorithms, lane_of}
+use Rattle.hdl_laws.specs.Worlds.{World, owner, hosts, algorithms, lane_of, layout, layout_for}
 use Rattle.hdl_laws.specs.Tasks.{Received, message_from, Task, Ignore, IsTask, IsMessageTask, IsWholeTask, IsPieceTask, IsFrameTask, IsOctetsTask}
 use Rattle.hdl_laws.specs.Effects.{Effect, Does}
 use Rattle.hdl_laws.specs.Steps.{Turn, IsAnswerFor, IsBusy, IsStep}
@@ -39,7 +40,7 @@ use Rattle.hdl_follows.proofs.Messages.{Answered, message_answered, short_seen}
 pub begins : BeginsFollowed
 begins = record {
   follows = record { partials = refl; challenges = refl };
-  in_use = record { is_open = refl; partials = tt; next = omega arith; few = omega arith; challenges = tt };
+  in_use = λ wire. record { is_open = refl; partials = tt; next = omega arith; few = omega arith; challenges = tt };
 }
 
 -- what the trail has that follows the lane
@@ -56,8 +57,8 @@ holds f s number follows =
     ∙ ap (λ (b : Bool). list_any (λ (p : Partial). eqb p.key.peer number) s.partials || b) (list_any_seen sent_of (λ t. eqb t.number number) s.challenges.challenges)
 
 -- the trail follows the lane after the effect
-abbrev FollowsOn : Followed → Exchange → Effect → Type 0
-FollowsOn f e eff = Follows (finish_exchange f (Some (answered_by (outcome_datagrams eff.outcome) e))) eff.state × IsInUse eff.state
+abbrev FollowsOn : Wire → Followed → Exchange → Effect → Type 0
+FollowsOn wire f e eff = Follows (finish_exchange f (Some (answered_by (outcome_datagrams eff.outcome) e))) eff.state × IsInUse wire eff.state
 
 -- ---- a frame that is answered
 
@@ -69,7 +70,7 @@ answered_with f e octets o code session none is seen calm =
     ∙ ap (λ (z : Exchange). finish_exchange f (Some z)) (answered_is octets e (code, session) none seen)
     ∙ ap (λ (b : Bool). cond b f (leave_answered f e code session)) calm
 
-module _ (hosted : List ℕ → Bool) (algorithms : List ℕ → Algorithm) (t : Table) (s : LaneState) (u : IsInUse s) (x : Received) (frame : IsFrame x.bytes) where
+module _ (wire : Wire) (hosted : List ℕ → Bool) (algorithms : List ℕ → Algorithm) (t : Table) (s : LaneState) (u : IsInUse wire s) (x : Received) (frame : IsFrame x.bytes) where
   abbrev e : Exchange
   e = arrival x.bytes x.peer
 
@@ -77,10 +78,10 @@ module _ (hosted : List ℕ → Bool) (algorithms : List ℕ → Algorithm) (t :
   marks = map mark_of s.partials
 
   -- a message that is answered on a lane: the trail has its partial messages as the lane has, and knows the message's operation
-  message_followed : (gone : LaneState) (message : List ℕ) (k : Task) (eff : Effect) → IsInUse gone → gone.challenges ≡ s.challenges → end_message e marks ≡ map mark_of gone.partials → operation_of e marks ≡ number_at message 0
-      → IsMessageTask gone (message_from x message) k → Does hosted algorithms t k eff → FollowsOn (view s) e eff
+  message_followed : (gone : LaneState) (message : List ℕ) (k : Task) (eff : Effect) → IsInUse wire gone → gone.challenges ≡ s.challenges → end_message e marks ≡ map mark_of gone.partials → operation_of e marks ≡ number_at message 0
+      → IsMessageTask wire gone (message_from x message) k → Does hosted algorithms t k eff → FollowsOn wire (view s) e eff
   message_followed gone message k eff used same ends knows task does =
-      let ans : Answered gone (message_from x message) eff = message_answered hosted algorithms t gone used (message_from x message) k eff task does in
+      let ans : Answered wire gone (message_from x message) eff = message_answered wire hosted algorithms t gone used (message_from x message) k eff task does in
       let settles : finish_exchange (view s) (Some (answered_by (outcome_datagrams eff.outcome) e)) ≡ leave_answered (view s) e ans.code ans.session =
       answered_with (view s) e ans.octets eff.outcome ans.code ans.session refl ans.outcome ans.seen ans.calm in (
         record {
@@ -95,7 +96,7 @@ module _ (hosted : List ℕ → Bool) (algorithms : List ℕ → Algorithm) (t :
       )
 
   -- without TC
-  single_followed : is_truncated (envelope_at x.bytes) ≡ false → (k : Task) (eff : Effect) → IsMessageTask s (message_from x (drop 20 x.bytes)) k → Does hosted algorithms t k eff → FollowsOn (view s) e eff
+  single_followed : is_truncated (envelope_at x.bytes) ≡ false → (k : Task) (eff : Effect) → IsMessageTask wire s (message_from x (drop 20 x.bytes)) k → Does hosted algorithms t k eff → FollowsOn wire (view s) e eff
   single_followed plain k eff task does =
       message_followed s (drop 20 x.bytes) k eff u refl
       (ap (λ (b : Bool). cond b (filter (λ m. not (trail.is_of e.key m)) marks) marks) plain)
@@ -104,11 +105,11 @@ module _ (hosted : List ℕ → Bool) (algorithms : List ℕ → Algorithm) (t :
       task does
 
   -- a piece that isn't answered
-  piece_followed : is_truncated (envelope_at x.bytes) ≡ true → whole_message (take_piece s.partials (piece_of x.peer x.bytes)).0 ≡ None → (k : Task) (eff : Effect) → k ≡ Ignore (with_partials s (take_piece s.partials (piece_of x.peer x.bytes)).1) → Does hosted algorithms t k eff → FollowsOn (view s) e eff
+  piece_followed : is_truncated (envelope_at x.bytes) ≡ true → whole_message (take_piece s.partials (piece_of x.peer x.bytes)).0 ≡ None → (k : Task) (eff : Effect) → k ≡ Ignore (with_partials s (take_piece s.partials (piece_of x.peer x.bytes)).1) → Does hosted algorithms t k eff → FollowsOn wire (view s) e eff
   piece_followed truncated none k eff task does =
       let left = piece_left x.peer x.bytes frame truncated s.partials u.partials none in
       let done : Does hosted algorithms t (Ignore (with_partials s (take_piece s.partials (piece_of x.peer x.bytes)).1)) eff = subst (λ (j : Task). Does hosted algorithms t j eff) task does in
-      subst (FollowsOn (view s) e) (sym done) ((
+      subst (FollowsOn wire (view s) e) (sym done) ((
         record {
           partials = ap (λ (b : Bool). (cond {A = Followed} b (record (view s) { partials = with_piece e marks }) (view s)).partials) truncated ∙ left.0;
           challenges = ap (λ (b : Bool). (cond {A = Followed} b (record (view s) { partials = with_piece e marks }) (view s)).challenges) truncated;
@@ -118,7 +119,7 @@ module _ (hosted : List ℕ → Bool) (algorithms : List ℕ → Algorithm) (t :
 
   -- a piece that makes its message whole
   whole_followed : is_truncated (envelope_at x.bytes) ≡ true → (message : List ℕ) → whole_message (take_piece s.partials (piece_of x.peer x.bytes)).0 ≡ Some message → (k : Task) (eff : Effect)
-      → IsMessageTask (with_partials s (free_partial s.partials (pool.key_of x.peer (envelope_at x.bytes)))) (message_from x message) k → Does hosted algorithms t k eff → FollowsOn (view s) e eff
+      → IsMessageTask wire (with_partials s (free_partial s.partials (pool.key_of x.peer (envelope_at x.bytes)))) (message_from x message) k → Does hosted algorithms t k eff → FollowsOn wire (view s) e eff
   whole_followed truncated message made k eff task does =
       let key = pool.key_of x.peer (envelope_at x.bytes) in
       message_followed (with_partials s (free_partial s.partials key)) message k eff
@@ -128,25 +129,25 @@ module _ (hosted : List ℕ → Bool) (algorithms : List ℕ → Algorithm) (t :
       (whole_left x.peer x.bytes frame truncated s.partials u.partials message made)
       task does
 
-  frame_followed : (k : Task) (eff : Effect) → IsFrameTask s x k → Does hosted algorithms t k eff → FollowsOn (view s) e eff
+  frame_followed : (k : Task) (eff : Effect) → IsFrameTask wire s x k → Does hosted algorithms t k eff → FollowsOn wire (view s) e eff
   frame_followed k eff task does = by_flag (is_truncated (envelope_at x.bytes)) refl task
     where
       by_whole : is_truncated (envelope_at x.bytes) ≡ true → (o : Option (List ℕ)) → whole_message (take_piece s.partials (piece_of x.peer x.bytes)).0 ≡ o
-          → IsWholeTask (with_partials s (take_piece s.partials (piece_of x.peer x.bytes)).1) (with_partials s (free_partial s.partials (pool.key_of x.peer (envelope_at x.bytes)))) x o k → FollowsOn (view s) e eff
+          → IsWholeTask wire (with_partials s (take_piece s.partials (piece_of x.peer x.bytes)).1) (with_partials s (free_partial s.partials (pool.key_of x.peer (envelope_at x.bytes)))) x o k → FollowsOn wire (view s) e eff
       by_whole truncated None none task = piece_followed truncated none k eff task does
       by_whole truncated (Some message) made task = whole_followed truncated message made k eff task does
 
       by_flag : (b : Bool) → is_truncated (envelope_at x.bytes) ≡ b
-          → MatchBool b (IsPieceTask s x (take_piece s.partials (piece_of x.peer x.bytes)) k) (IsMessageTask s (message_from x (drop 20 x.bytes)) k) → FollowsOn (view s) e eff
+          → MatchBool b (IsPieceTask wire s x (take_piece s.partials (piece_of x.peer x.bytes)) k) (IsMessageTask wire s (message_from x (drop 20 x.bytes)) k) → FollowsOn wire (view s) e eff
       by_flag true truncated task = by_whole truncated (whole_message (take_piece s.partials (piece_of x.peer x.bytes)).0) refl task
       by_flag false plain task = single_followed plain k eff task does
 
-  pub event_followed : (k : Task) (eff : Effect) → IsTask s (Happening.Frame x.peer x.moment x.nonce x.bytes) k → Does hosted algorithms t k eff → FollowsOn (view s) e eff
+  pub event_followed : (k : Task) (eff : Effect) → IsTask wire s (What.Frame x.peer x.moment x.nonce x.bytes) k → Does hosted algorithms t k eff → FollowsOn wire (view s) e eff
   event_followed k eff task does =
-      let here : IsOctetsTask s x k = subst (λ (b : Bool). MatchBool b (IsOctetsTask s x k) (k ≡ Ignore s)) u.is_open task in
+      let here : IsOctetsTask wire s x k = subst (λ (b : Bool). MatchBool b (IsOctetsTask wire s x k) (k ≡ Ignore s)) u.is_open task in
       by_frame here
     where
-      by_frame : IsOctetsTask s x k → FollowsOn (view s) e eff
+      by_frame : IsOctetsTask wire s x k → FollowsOn wire (view s) e eff
       by_frame (inl a) = frame_followed k eff a.1 does
       by_frame (inr b) = absurd (b.0 frame)
 
@@ -157,27 +158,29 @@ after_is w lane s =
     ap (λ (o : Option LaneState). unwrap_or o (fresh false))
     (map.get-insert nat_cmp_total w.lanes lane s lane ∙ ap (λ (r : Ordering). cond (is_eq r) (Some s) (map.get w.lanes lane)) (tied_itself nat_cmp_total lane))
 
-module _ (w : World) (lane peer moment : ℕ) (nonce octets : List ℕ) (f : Followed) (frame : IsFrame octets) (owned : owner w.site lane ≢ None) (used : IsInUse (lane_of w lane)) (follows : Follows f (lane_of w lane)) where
+module _ (w : World) (lane peer moment : ℕ) (nonce octets : List ℕ) (f : Followed) (frame : IsFrame octets) (owned : owner w.site lane ≢ None) (used : IsInUse (layout_for w.site (owner w.site lane)) (lane_of w lane)) (follows : Follows f (lane_of w lane)) where
   abbrev event : Event
-  event = record { lane = lane; what = Happening.Frame peer moment nonce octets }
+  event = record { lane = lane; what = What.Frame peer moment nonce octets }
 
   -- the trail follows the lane of this world once the outcome is seen
   abbrev FollowsAfter : Outcome → World → Type 0
-  FollowsAfter o new = Follows (finish_exchange f (Some (answered_by (outcome_datagrams o) (arrival octets peer)))) (lane_of new lane) × IsInUse (lane_of new lane)
+  FollowsAfter o new = Follows (finish_exchange f (Some (answered_by (outcome_datagrams o) (arrival octets peer)))) (lane_of new lane) × IsInUse (layout_for w.site (owner w.site lane)) (lane_of new lane)
 
   answer_followed : (t : Turn) → t.event ≡ event → (o : Option ℕ) → owner w.site lane ≡ o → IsAnswerFor w o t → FollowsAfter t.outcome t.after
   answer_followed t same None none is = absurd (owned none)
   answer_followed t same (Some publisher) of is =
       let x : Received = record { peer = peer; moment = moment; nonce = nonce; bytes = octets } in
       let eff : Effect = is.0 in
-      let task : IsTask (lane_of w lane) (Happening.Frame peer moment nonce octets) is.1 = subst (λ (z : Event). IsTask (lane_of w z.lane) z.what is.1) same is.2 in
-      let on : FollowsOn (view (lane_of w lane)) (arrival octets peer) eff = event_followed (hosts w.site publisher) (algorithms w.site publisher) w.table (lane_of w lane) used x frame is.1 eff task is.3 in
-      let here : FollowsOn f (arrival octets peer) eff = subst (λ (g : Followed). FollowsOn g (arrival octets peer) eff) (view_is f (lane_of w lane) follows) on in
+      let wire : Wire = layout_for w.site (owner w.site lane) in
+      let there : IsTask (layout w.site publisher) (lane_of w lane) (What.Frame peer moment nonce octets) is.1 = subst (λ (z : Event). IsTask (layout w.site publisher) (lane_of w z.lane) z.what is.1) same is.2 in
+      let task : IsTask wire (lane_of w lane) (What.Frame peer moment nonce octets) is.1 = subst (λ (l : Wire). IsTask l (lane_of w lane) (What.Frame peer moment nonce octets) is.1) (sym (ap (layout_for w.site) of)) there in
+      let on : FollowsOn wire (view (lane_of w lane)) (arrival octets peer) eff = event_followed wire (hosts w.site publisher) (algorithms w.site publisher) w.table (lane_of w lane) used x frame is.1 eff task is.3 in
+      let here : FollowsOn wire f (arrival octets peer) eff = subst (λ (g : Followed). FollowsOn wire g (arrival octets peer) eff) (view_is f (lane_of w lane) follows) on in
       let state : lane_of t.after lane ≡ eff.state =
       ap (λ (z : Turn). lane_of z.after lane) is.4 ∙ ap (λ (z : Event). unwrap_or (map.get (map.insert w.lanes z.lane eff.state) lane) (fresh false)) same ∙ after_is w lane eff.state in
       let outcome : t.outcome ≡ eff.outcome = ap (λ (z : Turn). z.outcome) is.4 in
-      subst (λ (o : Outcome). Follows (finish_exchange f (Some (answered_by (outcome_datagrams o) (arrival octets peer)))) (lane_of t.after lane) × IsInUse (lane_of t.after lane)) (sym outcome)
-      (subst (λ (z : LaneState). Follows (finish_exchange f (Some (answered_by (outcome_datagrams eff.outcome) (arrival octets peer)))) z × IsInUse z) (sym state) here)
+      subst (λ (o : Outcome). Follows (finish_exchange f (Some (answered_by (outcome_datagrams o) (arrival octets peer)))) (lane_of t.after lane) × IsInUse wire (lane_of t.after lane)) (sym outcome)
+      (subst (λ (z : LaneState). Follows (finish_exchange f (Some (answered_by (outcome_datagrams eff.outcome) (arrival octets peer)))) z × IsInUse wire z) (sym state) here)
 
   busy_followed : (t : Turn) → IsBusy w t → FollowsAfter t.outcome t.after
   busy_followed t is =

@@ -6,6 +6,7 @@ use Rattle.hdl_auth.specs.Digest.{algorithm_of}
 use Rattle.hdl_frame.specs.declared.envelope.Envelope.{Envelope}
 use Rattle.hdl_frame.specs.Envelope.{envelope_at, message_envelope}
 use Rattle.hdl_rows.specs.Table.{Table}
+use Rattle.hdl_value.specs.declared.wire.Wire.{Wire}
 use Rattle.hdl_msg.specs.Message.{Content, SpellsRequest, header_octets, IsNumber}
 use Rattle.hdl_msg.specs.Laws.{response_code_at}
 use Rattle.hdl_msg.specs.Reply.{reply_message, reply_octets, short_reply, short_header}
@@ -56,9 +57,9 @@ session_is : (y : message.Reply) → y.session < 2 ^ 32 → session_in (reply_oc
 unfolding reply_octets
 session_is y fits = session_seen (message_envelope y.session y.request (length (reply_message y))) (reply_message y) fits
 
-challenge_session : (a : Algorithm) (number : ℕ) (e : Envelope) (r : Content) (nonce : List ℕ) → number < 2 ^ 32 → session_in (challenge_octets a number e r nonce) ≡ number
+challenge_session : (a : Algorithm) (moment number : ℕ) (e : Envelope) (r : Content) (nonce : List ℕ) → number < 2 ^ 32 → session_in (challenge_octets a moment number e r nonce) ≡ number
 unfolding challenge_to
-challenge_session a number e r nonce fits = session_is (challenge_to a number e.request r nonce) fits
+challenge_session a moment number e r nonce fits = session_is (challenge_to a moment number e.request r nonce) fits
 
 pub short_seen : (code : ℕ) (e : Envelope) → IsNumber code → reply_of (front (short_reply code e)) ≡ Some (code, session_in (short_reply code e))
 unfolding short_reply header_octets
@@ -70,7 +71,7 @@ short_seen code e fits =
 -- ---- what the reply leaves
 
 -- The effect on the lane: a reply whose code and session the trail sees, with which its challenges become the lane's.
-pub record Answered (s : LaneState) (m : Message) (eff : Effect) : Type 0 where
+pub record Answered (wire : Wire) (s : LaneState) (m : Message) (eff : Effect) : Type 0 where
   pub octets : List ℕ
   pub outcome : eff.outcome ≡ Reply octets
   pub code : ℕ
@@ -79,7 +80,7 @@ pub record Answered (s : LaneState) (m : Message) (eff : Effect) : Type 0 where
   pub calm : eqb code 3 ≡ false
   pub partials : eff.state.partials ≡ s.partials
   pub challenges : add_challenge m.peer code session (redeem (key_of m.peer m.envelope) (number_at m.message 0) code (map sent_of s.challenges.challenges)) ≡ map sent_of eff.state.challenges.challenges
-  pub in_use : IsInUse eff.state
+  pub in_use : IsInUse wire eff.state
 
 no_change : (b : Bool) → b && false ≡ false
 no_change true = refl
@@ -88,16 +89,16 @@ no_change false = refl
 abbrev spent_lane : LaneState → Message → LaneState
 spent_lane s m = laws.without_challenge s m
 
-spent_in_use : (s : LaneState) (m : Message) → IsInUse s → IsInUse (spent_lane s m)
-spent_in_use s m u = record {
+spent_in_use : (wire : Wire) (s : LaneState) (m : Message) → IsInUse wire s → IsInUse wire (spent_lane s m)
+spent_in_use wire s m u = record {
   is_open = u.is_open;
   partials = u.partials;
   next = u.next;
   few = let fewer = length_filter (λ (c : Challenge). not (slots.is_of m.peer m.envelope.session c)) s.challenges.challenges in omega (arith, u.few);
-  challenges = each_filter CanBeRead (λ (c : Challenge). not (slots.is_of m.peer m.envelope.session c)) s.challenges.challenges u.challenges;
+  challenges = each_filter (CanBeRead wire) (λ (c : Challenge). not (slots.is_of m.peer m.envelope.session c)) s.challenges.challenges u.challenges;
 }
 
-module _ (hosted : List ℕ → Bool) (algorithms : List ℕ → Algorithm) (t : Table) (s : LaneState) (u : IsInUse s) (m : Message) where
+module _ (wire : Wire) (hosted : List ℕ → Bool) (algorithms : List ℕ → Algorithm) (t : Table) (s : LaneState) (u : IsInUse wire s) (m : Message) where
   abbrev key : MessageKey
   key = key_of m.peer m.envelope
 
@@ -105,15 +106,15 @@ module _ (hosted : List ℕ → Bool) (algorithms : List ℕ → Algorithm) (t :
   sent = map sent_of s.challenges.challenges
 
   -- a reply that leaves the challenges
-  plain : (a : Algorithm) (r : Content) (d : Decision) → IsTrue (is_answer_code d.code) → eqb d.code 402 ≡ false → is_response (number_at m.message 0) && not (eqb d.code 4) ≡ false → Answered s m (answer_effect a s m r d)
+  plain : (a : Algorithm) (r : Content) (d : Decision) → IsTrue (is_answer_code d.code) → eqb d.code 402 ≡ false → is_response (number_at m.message 0) && not (eqb d.code 4) ≡ false → Answered wire s m (answer_effect a s m r d)
   plain a r d fits none other =
-      let octets = answer_octets a m.envelope r d.code d.content in
+      let octets = answer_octets a m.moment m.envelope r d.code d.content in
       record {
         octets = octets;
         outcome = refl;
         code = d.code;
         session = session_in octets;
-        seen = reply_seen (reply_to a m.envelope.session m.envelope.request r d.code d.content) ∙ ap (λ (c : ℕ). Some (c, session_in octets)) (reply_code a m.envelope.session m.envelope.request r d.code d.content fits);
+        seen = reply_seen (reply_to a m.moment m.envelope.session m.envelope.request r d.code d.content) ∙ ap (λ (c : ℕ). Some (c, session_in octets)) (reply_code a m.moment m.envelope.session m.envelope.request r d.code d.content fits);
         calm = not_busy d.code fits;
         partials = refl;
         challenges = unchanged key (number_at m.message 0) d.code (session_in octets) sent none other;
@@ -122,33 +123,33 @@ module _ (hosted : List ℕ → Bool) (algorithms : List ℕ → Algorithm) (t :
 
   -- a reply to a response that spends its challenge
   spending : (a : Algorithm) (r : Content) (d : Decision) → IsTrue (is_answer_code d.code) → eqb d.code 402 ≡ false → is_response (number_at m.message 0) && not (eqb d.code 4) ≡ true
-      → Answered s m (answer_effect a (spent_lane s m) m r d)
+      → Answered wire s m (answer_effect a (spent_lane s m) m r d)
   spending a r d fits none answers =
-      let octets = answer_octets a m.envelope r d.code d.content in
+      let octets = answer_octets a m.moment m.envelope r d.code d.content in
       record {
         octets = octets;
         outcome = refl;
         code = d.code;
         session = session_in octets;
-        seen = reply_seen (reply_to a m.envelope.session m.envelope.request r d.code d.content) ∙ ap (λ (c : ℕ). Some (c, session_in octets)) (reply_code a m.envelope.session m.envelope.request r d.code d.content fits);
+        seen = reply_seen (reply_to a m.moment m.envelope.session m.envelope.request r d.code d.content) ∙ ap (λ (c : ℕ). Some (c, session_in octets)) (reply_code a m.moment m.envelope.session m.envelope.request r d.code d.content fits);
         calm = not_busy d.code fits;
         partials = refl;
         challenges = spends key (number_at m.message 0) d.code (session_in octets) sent none answers ∙ spent_seen m.peer m.envelope.session s.challenges.challenges;
-        in_use = spent_in_use s m u;
+        in_use = spent_in_use wire s m u;
       }
 
   -- a challenge
-  challenging : (a : Algorithm) (r : Content) → SpellsRequest m.message r → is_response (number_at m.message 0) ≡ false → Answered s m (challenge_effect a s m r)
+  challenging : (a : Algorithm) (r : Content) → SpellsRequest wire m.message r → is_response (number_at m.message 0) ≡ false → Answered wire s m (challenge_effect a s m r)
   challenging a r spelt other =
-      let y = challenge_to a s.challenges.next m.envelope.request r m.nonce in
-      let octets = challenge_octets a s.challenges.next m.envelope r m.nonce in
+      let y = challenge_to a m.moment s.challenges.next m.envelope.request r m.nonce in
+      let octets = challenge_octets a m.moment s.challenges.next m.envelope r m.nonce in
       let p = pending a m r in
       record {
         octets = octets;
         outcome = refl;
         code = 402;
         session = s.challenges.next;
-        seen = reply_seen y ∙ ap (λ (c : ℕ). Some (c, session_in octets)) (challenge_code a s.challenges.next m.envelope.request r m.nonce) ∙ ap (λ (n : ℕ). Some (402, n)) (challenge_session a s.challenges.next m.envelope r m.nonce u.next);
+        seen = reply_seen y ∙ ap (λ (c : ℕ). Some (c, session_in octets)) (challenge_code a m.moment s.challenges.next m.envelope.request r m.nonce) ∙ ap (λ (n : ℕ). Some (402, n)) (challenge_session a m.moment s.challenges.next m.envelope r m.nonce u.next);
         calm = refl;
         partials = refl;
         challenges = puts key (number_at m.message 0) s.challenges.next sent other ∙ put_seen s.challenges p u.few;
@@ -157,12 +158,12 @@ module _ (hosted : List ℕ → Bool) (algorithms : List ℕ → Algorithm) (t :
           partials = u.partials;
           next = next_fits s.challenges.next u.next;
           few = put_few s.challenges p;
-          challenges = put_read s.challenges p u.challenges (r, spelt);
+          challenges = put_read wire s.challenges p u.challenges (r, spelt);
         };
       }
 
-  malformed : (eff : Effect) → Does hosted algorithms t (Malformed m s) eff → Answered s m eff
-  malformed eff does = subst (Answered s m) (sym does) (record {
+  malformed : (eff : Effect) → Does hosted algorithms t (Malformed m s) eff → Answered wire s m eff
+  malformed eff does = subst (Answered wire s m) (sym does) (record {
     octets = short_reply 4 m.envelope;
     outcome = refl;
     code = 4;
@@ -174,60 +175,60 @@ module _ (hosted : List ℕ → Bool) (algorithms : List ℕ → Algorithm) (t :
     in_use = u;
   })
 
-  asked : (r : Content) → SpellsRequest m.message r → is_response (number_at m.message 0) ≡ false → (eff : Effect) → Does hosted algorithms t (Ask m r s) eff → Answered s m eff
+  asked : (r : Content) → SpellsRequest wire m.message r → is_response (number_at m.message 0) ≡ false → (eff : Effect) → Does hosted algorithms t (Ask m r s) eff → Answered wire s m eff
   asked r spelt other eff does =
       let a = request_algorithm algorithms r in
-      subst (Answered s m) (sym does.2) (pick a does.0 (decides_code hosted a t r Anyone does.0 does.1) (eqb does.0.code 402) refl)
+      subst (Answered wire s m) (sym does.2) (pick a does.0 (decides_code hosted a t r Anyone does.0 does.1) (eqb does.0.code 402) refl)
     where
-      pick : (a : Algorithm) (d : Decision) → IsTrue (is_answer_code d.code) → (b : Bool) → eqb d.code 402 ≡ b → Answered s m (cond {A = Effect} b (challenge_effect a s m r) (answer_effect a s m r d))
+      pick : (a : Algorithm) (d : Decision) → IsTrue (is_answer_code d.code) → (b : Bool) → eqb d.code 402 ≡ b → Answered wire s m (cond {A = Effect} b (challenge_effect a s m r) (answer_effect a s m r d))
       pick a d fits true is = challenging a r spelt other
       pick a d fits false is = plain a r d fits is (ap (λ (b : Bool). b && not (eqb d.code 4)) other)
 
   responded : (r : Content) (answer : Response) → is_response (number_at m.message 0) ≡ true → (p : Option Pending) → slots.challenge_of s.challenges.challenges m.peer m.envelope.session ≡ p
-      → (k : Task) (eff : Effect) → IsResponseTask s m r answer p k → Does hosted algorithms t k eff → Answered s m eff
+      → (k : Task) (eff : Effect) → IsResponseTask wire s m r answer p k → Does hosted algorithms t k eff → Answered wire s m eff
   responded r answer is None missed k eff task does =
       let done : Does hosted algorithms t (Unknown m r s) eff = subst (λ (j : Task). Does hosted algorithms t j eff) task does in
-      subst (Answered s m) (sym done) (plain Sha1 r (failure 4 Empty) refl refl (no_change (is_response (number_at m.message 0))))
+      subst (Answered wire s m) (sym done) (plain Sha1 r (failure 4 Empty) refl refl (no_change (is_response (number_at m.message 0))))
   responded r answer is (Some p) found k eff task does =
       let done = subst (λ (j : Task). Does hosted algorithms t j eff) task.2 does in
       by_reading task.0 task.1 done
     where
-      readable : (request : Content) × SpellsRequest p.message request
+      readable : (request : Content) × SpellsRequest wire p.message request
       readable = of_challenge (find (slots.is_of m.peer m.envelope.session) s.challenges.challenges) refl found
         where
-          of_challenge : (o : Option Challenge) → find (slots.is_of m.peer m.envelope.session) s.challenges.challenges ≡ o → option_map (λ (c : Challenge). c.pending) o ≡ Some p → (request : Content) × SpellsRequest p.message request
+          of_challenge : (o : Option Challenge) → find (slots.is_of m.peer m.envelope.session) s.challenges.challenges ≡ o → option_map (λ (c : Challenge). c.pending) o ≡ Some p → (request : Content) × SpellsRequest wire p.message request
           of_challenge None at is = absurd (cc)
           of_challenge (Some c) at is =
-              let can : CanBeRead c = each_found CanBeRead (slots.is_of m.peer m.envelope.session) s.challenges.challenges c u.challenges at in
+              let can : CanBeRead wire c = each_found (CanBeRead wire) (slots.is_of m.peer m.envelope.session) s.challenges.challenges c u.challenges at in
               let same : c.pending ≡ p = cc in
-              subst (λ (q : Pending). (request : Content) × SpellsRequest q.message request) same can
+              subst (λ (q : Pending). (request : Content) × SpellsRequest wire q.message request) same can
 
-      by_reading : (o : Option Content) → IsReading (SpellsRequest p.message) o → Does hosted algorithms t (redeem_task s m answer p o) eff → Answered s m eff
+      by_reading : (o : Option Content) → IsReading (SpellsRequest wire p.message) o → Does hosted algorithms t (redeem_task s m answer p o) eff → Answered wire s m eff
       by_reading None none done = absurd (none readable.0 readable.1)
       by_reading (Some request) spelt done = by_late (is_late m p) done
         where
           by_late : (b : Bool)
               → Does hosted algorithms t (cond {A = Task} b (Late m request (algorithm_of p.digest) (laws.without_challenge s m)) (Redeem m request (record { response = answer; nonce = p.nonce; digest = p.digest }) (laws.without_challenge s m))) eff
-              → Answered s m eff
-          by_late true done = subst (Answered s m) (sym done) (spending (algorithm_of p.digest) request (failure 405 Empty) refl refl (ap (λ (b : Bool). b && true) is))
+              → Answered wire s m eff
+          by_late true done = subst (Answered wire s m) (sym done) (spending (algorithm_of p.digest) request (failure 405 Empty) refl refl (ap (λ (b : Bool). b && true) is))
           by_late false done =
               let proof : Proof = record { response = answer; nonce = p.nonce; digest = p.digest } in
               let a = algorithm_of p.digest in
               let d = done.0 in
-              subst (Answered s m) (sym done.2)
+              subst (Answered wire s m) (sym done.2)
               (spending a request d (decides_code hosted a t request (Proven proof) d done.1) (proven_code hosted a t request proof d done.1)
               (ap (λ (b : Bool). b && not (eqb d.code 4)) is ∙ ap not (proven_no_fault hosted a t request proof d done.1)))
 
   -- the trail sees what the reply to a message does
-  pub message_answered : (k : Task) (eff : Effect) → IsMessageTask s m k → Does hosted algorithms t k eff → Answered s m eff
+  pub message_answered : (k : Task) (eff : Effect) → IsMessageTask wire s m k → Does hosted algorithms t k eff → Answered wire s m eff
   message_answered k eff task does = by_reading task.0 task.1 task.2
     where
-      by_response : (r : Content) → SpellsRequest m.message r → (o : Option Response) → response_of r.operation ≡ o → IsRequestTask s m r o k → Answered s m eff
+      by_response : (r : Content) → SpellsRequest wire m.message r → (o : Option Response) → response_of r.operation ≡ o → IsRequestTask wire s m r o k → Answered wire s m eff
       by_response r spelt None is task =
-          asked r spelt (response_seen m.message r spelt ∙ ap is_some is) eff (subst (λ (j : Task). Does hosted algorithms t j eff) task does)
+          asked r spelt (response_seen wire m.message r spelt ∙ ap is_some is) eff (subst (λ (j : Task). Does hosted algorithms t j eff) task does)
       by_response r spelt (Some answer) is task =
-          responded r answer (response_seen m.message r spelt ∙ ap is_some is) (slots.challenge_of s.challenges.challenges m.peer m.envelope.session) refl k eff task does
+          responded r answer (response_seen wire m.message r spelt ∙ ap is_some is) (slots.challenge_of s.challenges.challenges m.peer m.envelope.session) refl k eff task does
 
-      by_reading : (o : Option Content) → IsReading (SpellsRequest m.message) o → IsContentTask s m o k → Answered s m eff
+      by_reading : (o : Option Content) → IsReading (SpellsRequest wire m.message) o → IsContentTask wire s m o k → Answered wire s m eff
       by_reading None none task = malformed eff (subst (λ (j : Task). Does hosted algorithms t j eff) task does)
       by_reading (Some r) spelt task = by_response r spelt (response_of r.operation) refl task

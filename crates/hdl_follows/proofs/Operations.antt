@@ -8,6 +8,7 @@ use Rattle.hdl_rows.specs.Table.{Table}
 use Rattle.hdl_auth.specs.declared.algorithm.Algorithm.{Algorithm}
 use Rattle.hdl_msg.specs.Codes.{IsNumberOf}
 use Rattle.hdl_msg.specs.declared.codes.OpCode.TheVariants.{ChallengeResponse}
+use Rattle.hdl_value.specs.declared.wire.Wire.{Wire}
 use Rattle.hdl_msg.specs.Message.{Content, SpellsRequest, Operation, code_of, resolution, create, delete, add, remove, modify, list, response, other, header_octets, signed_octets}
 use Rattle.hdl_ops.specs.First.{or_code}
 use Rattle.hdl_ops.specs.Admission.{refusal}
@@ -24,9 +25,9 @@ use Rattle.hdl_trail.specs.Followed.{is_response}
 
 -- ---- the operation
 
-number_read : (m : List ℕ) (c : Content) → SpellsRequest m c → number_at m 0 ≡ Some c.header.op_code
+number_read : (wire : Wire) (m : List ℕ) (c : Content) → SpellsRequest wire m c → number_at m 0 ≡ Some c.header.op_code
 unfolding header_octets
-number_read m c s =
+number_read wire m c s =
     let octets : List ℕ = signed_octets c ++ string s.credential in
     ap (λ (t : List ℕ). number_at t 0) s.spelt
     ∙ ap (λ (b : Bool). cond b (Some (u32_at octets 0)) None) (le-leb 4 (length octets) (omega arith))
@@ -44,8 +45,8 @@ response_number (response kind handle index answer) n is = ap (λ (k : ℕ). eqb
 response_number (other octets) n is = ne_eqb n 200 (is ChallengeResponse)
 
 -- the message of a request brings a challenge response just where the request is one
-pub response_seen : (m : List ℕ) (c : Content) → SpellsRequest m c → is_response (number_at m 0) ≡ is_some (response_of c.operation)
-response_seen m c s = ap is_response (number_read m c s) ∙ response_number c.operation c.header.op_code s.has_code
+pub response_seen : (wire : Wire) (m : List ℕ) (c : Content) → SpellsRequest wire m c → is_response (number_at m 0) ≡ is_some (response_of c.operation)
+response_seen wire m c s = ap is_response (number_read wire m c s) ∙ response_number c.operation c.header.op_code s.has_code
 
 -- ---- codes
 

@@ -5,6 +5,7 @@ use Rattle.std.specs.Option.{option_and_then, option_map_or}
 use Rattle.hdl_limits.specs.declared.TheConstants.{CHALLENGES_MAX, PIECE_LEN}
 use Rattle.hdl_frame.specs.Envelope.{envelope_at}
 use Rattle.hdl_frame.specs.Pieces.{datagrams, piece_count}
+use Rattle.hdl_value.specs.declared.wire.Wire.{Wire}
 use Rattle.hdl_msg.specs.Message.{Content, SpellsRequest}
 use Rattle.hdl_pool.specs.Partial.{Partial, payload_at}
 use Rattle.hdl_slots.specs.declared.pending.Challenge.{Challenge}
@@ -42,22 +43,22 @@ keeps s number = list_any (λ p. p.key.peer == number) s.partials || list_any (�
 
 -- ---- what is true of a lane that was opened and got frames since
 
--- the challenged message can be read
-abbrev pub CanBeRead : Challenge → Type 0
-CanBeRead c = (r : Content) × SpellsRequest c.pending.message r
+-- the challenged message can be read by this layout
+abbrev pub CanBeRead : Wire → Challenge → Type 0
+CanBeRead wire c = (r : Content) × SpellsRequest wire c.pending.message r
 
 -- it has a place for each of its pieces, and its front, where that came, is a whole piece's
 pub record IsPartial (p : Partial) : Type 0 where
   pub places : length p.pieces ≡ piece_count p.length
   pub front : IfSome (payload_at p 0) (λ payload. length payload ≡ min PIECE_LEN p.length)
 
--- it is open, its next number fits four octets, and it keeps the limit of challenges, each of which can be read
-pub record IsInUse (s : LaneState) : Type 0 where
+-- it is open, its next number fits four octets, and it keeps the limit of challenges, each of which can be read by its layout
+pub record IsInUse (wire : Wire) (s : LaneState) : Type 0 where
   pub is_open : IsTrue s.is_open
   pub partials : AllByRecursion IsPartial s.partials
   pub next : s.challenges.next < 2 ^ 32
   pub few : length s.challenges.challenges ≤ CHALLENGES_MAX
-  pub challenges : AllByRecursion CanBeRead s.challenges.challenges
+  pub challenges : AllByRecursion (CanBeRead wire) s.challenges.challenges
 
 -- ---- what is sent
 

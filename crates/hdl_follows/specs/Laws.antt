@@ -1,10 +1,11 @@
 -- The laws of `src/laws.rt`.
 use Rattle.std.specs.Prelude.{◌≡◌, ◌≢◌, ℕ, ◌||◌, List, [], Some, None, true, IsTrue}
 use Rattle.hdl_frame.specs.Frames.{IsFrame}
-use Rattle.hdl_events.specs.declared.Happening.{Happening}
+use Rattle.hdl_value.specs.declared.wire.Wire.{Wire}
+use Rattle.hdl_events.specs.declared.What.{What}
 use Rattle.hdl_events.specs.declared.Outcome.{Outcome}
 use Rattle.hdl_laws.specs.Lanes.{LaneState, fresh}
-use Rattle.hdl_laws.specs.Worlds.{World, owner, lane_of}
+use Rattle.hdl_laws.specs.Worlds.{World, owner, lane_of, layout_for}
 use Rattle.hdl_laws.specs.Runs.{Steps}
 use Rattle.hdl_trail.specs.Followed.{Followed, is_held, finish_exchange}
 use Rattle.hdl_trail.specs.declared.exchange.Exchange.{Exchange}
@@ -14,16 +15,16 @@ use Rattle.hdl_follows.specs.Follows.{Follows, IsInUse, answered_by, keeps, outc
 -- a new trail follows a lane that was opened
 pub record BeginsFollowed : Type 0 where
   pub follows : Follows (record { partials = []; challenges = [] }) (fresh true)
-  pub in_use : IsInUse (fresh true)
+  pub in_use : (wire : Wire) → IsInUse wire (fresh true)
 
 -- A frame comes on a lane in use, from the peer with this number, and the trail follows the lane. Once the outcome's datagrams
 -- are seen and it is settled, the trail follows the lane as the step leaves it, which is in use again.
 abbrev pub StepsFollowed : Type 0
 StepsFollowed =
     (w new : World) (lane peer moment : ℕ) (nonce octets : List ℕ) (o : Outcome) (f : Followed)
-    → IsFrame octets → owner w.site lane ≢ None → IsInUse (lane_of w lane) → Follows f (lane_of w lane)
-    → Steps w (record { lane = lane; what = Happening.Frame peer moment nonce octets }) o new
-    → Follows (finish_exchange f (Some (answered_by (outcome_datagrams o) (arrival octets peer)))) (lane_of new lane) × IsInUse (lane_of new lane)
+    → IsFrame octets → owner w.site lane ≢ None → IsInUse (layout_for w.site (owner w.site lane)) (lane_of w lane) → Follows f (lane_of w lane)
+    → Steps w (record { lane = lane; what = What.Frame peer moment nonce octets }) o new
+    → Follows (finish_exchange f (Some (answered_by (outcome_datagrams o) (arrival octets peer)))) (lane_of new lane) × IsInUse (layout_for w.site (owner w.site lane)) (lane_of new lane)
 
 -- a trail that follows a lane holds the numbers under which the lane keeps something, and no others
 abbrev pub HoldsWhatIsKept : Type 0

@@ -2,7 +2,7 @@
 
 ghost use Rattle.hdl_follows.specs.Laws.{BeginsFollowed, HoldsWhatComes, HoldsWhatIsKept, StepsFollowed};
 
-/// Of a lane that was opened nothing is kept, and so says a new trail.
+/// Nothing is kept of a lane that was just opened, which is what a new trail says.
 pub fn begins_followed()
     ensures { BeginsFollowed }
 {}

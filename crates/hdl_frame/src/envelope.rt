@@ -58,7 +58,7 @@ pub enum FrameFault {
     /// The major version isn't 2.
     #[error("unknown protocol version")]
     Version(Envelope),
-    /// CP or EC is set; or TC is, and the piece would begin at or behind the message's end.
+    /// CP or EC is set; or TC is, and the piece would begin at or after the message's end.
     #[error("compressed, encrypted, or a piece past the message's end")]
     Flags(Envelope),
     /// MessageLength is over 65,536.

@@ -29,7 +29,7 @@ pub fn spelled_is_frame()
     ensures { SpelledIsFrame }
 {}
 
-/// A frame of octets is spelt by its envelope and payload.
+/// The octets of a frame are those of its envelope and then its payload.
 pub fn frame_is_spelled()
     ensures { FrameIsSpelled }
 {}
@@ -54,7 +54,7 @@ pub fn joined_is_message()
     ensures { JoinedIsMessage }
 {}
 
-/// No message is made only where a number of it didn't come.
+/// A message isn't made only if one of its numbers didn't come.
 pub fn none_is_missing()
     ensures { NoneIsMissing }
 {}

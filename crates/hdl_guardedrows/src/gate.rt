@@ -1,4 +1,4 @@
-//! A guard, and what it is asked and told.
+//! A guard, and what it is asked and informed of.
 
 use crate::guard::{Effect, Fate, Guard};
 use hdl_rows::{Owed, Owing};
@@ -17,7 +17,7 @@ fn owes_nothing<R: Owing>(rows: &R) -> bool {
 }
 
 impl<G: Guard> Gate<G> {
-    /// Of a table that owes nothing. Nobody is asked before a call has its turn: what opens a table is no change.
+    /// The gate of a table that owes nothing. The guard isn't asked before a call has its turn: what opens a table is no change.
     pub(crate) fn new(guard: G) -> Gate<G> {
         Gate {
             guard,

@@ -24,7 +24,7 @@ pub enum Fate {
 
 /// Who is asked before each write, and hears what became of it.
 pub trait Guard {
-    /// Whether a write with this effect may be made. While one is owed nobody is asked: it goes on.
+    /// Whether a write with this effect may be made. While a write is owed the guard isn't asked: the write goes on.
     fn permits(&mut self, effect: Effect) -> bool;
 
     /// This became of a write.

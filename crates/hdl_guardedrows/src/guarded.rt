@@ -70,7 +70,7 @@ fn effect_of(held: &[Value], values: &[Value]) -> Effect {
 }
 
 impl<R: Owing + Drop, G: Guard + Drop> GuardedRows<R, G> {
-    /// A table behind this guard.
+    /// The table, guarded by this guard.
     pub fn new(rows: R, guard: G) -> GuardedRows<R, G>
         ensures { result.table ≡ R.content rows }
     {
@@ -82,7 +82,7 @@ impl<R: Owing + Drop, G: Guard + Drop> GuardedRows<R, G> {
         }
     }
 
-    /// The table behind the guard, and the guard.
+    /// The guarded table, and the guard.
     pub fn into_parts(self) -> (R, G)
         ensures { R.content result.0 ≡ self.table }
     {
@@ -122,6 +122,12 @@ impl<R: Owing + Drop, G: Guard + Drop> Rows for GuardedRows<R, G> {
         Ok(seen)
     }
 
+    fn heads(&mut self, name: &Name) -> Result<Option<Vec<Value>>, Refused> {
+        let heads = self.rows.heads(name)?;
+        self.reads = with_call(self.reads, seen_octets(&heads));
+        Ok(heads)
+    }
+
     fn names(&mut self, authority: &[u8]) -> Result<Vec<Octets>, Refused> {
         let names = self.rows.names(authority)?;
         self.reads = with_call(self.reads, names_octets(&names));
@@ -156,7 +162,7 @@ impl<R: Owing + Drop, G: Guard + Drop> Rows for GuardedRows<R, G> {
         done
     }
 
-    /// Where it may not take more, it is looked whether the values that it replaces have as many octets.
+    /// If the table may not take more, it is checked whether the replaced values have as many octets.
     fn modify(&mut self, name: &Name, values: &[Value]) -> Result<(), Refused> {
         let mark = mark_of_values(Kind::Modify, name, values);
         if !self.gate.lets(&self.rows, Effect::Takes, mark) {

@@ -5,11 +5,11 @@
 //!                  └─ yes ─► the table behind ─► Guard::note: its Fate
 //! ```
 //!
-//! [`GuardedRows`] has a table of any kind behind it, and a [`Guard`], which is asked before each write whether it may be made, by its [`Effect`], and told what became of it ([`Fate`]). So a program refuses what
-//! takes more while memory is short, and everything once somebody else has written the table's file; and it hears of a write that failed, as on a full disk. Every look goes to the table as it came.
+//! [`GuardedRows`] wraps a table of any kind, and has a [`Guard`], which is asked before each write whether it may be made, by its [`Effect`], and informed of what became of it ([`Fate`]). So a program refuses what
+//! takes more while memory is short, and everything once another program has written the table's file; and it hears of a write that failed, as on a full disk. Every look goes to the table as it came.
 //!
 //! A write that the table owes goes on, whatever the guard thinks: its call is made again until it is claimed. Which of the calls that come it is is known by a mark, on which no clause rests:
-//! so a call that found another's write to be settled first isn't told as one that failed.
+//! so a call that found another's write to be settled first isn't reported as one that failed.
 //!
 //! It stands on `hdl_rows` and what that speaks of.
 //!

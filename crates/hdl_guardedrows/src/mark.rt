@@ -1,4 +1,4 @@
-//! What one write is told from another by: its kind and handle, and of its values the indexes, moments and lengths.
+//! What distinguishes one write from another: its kind and handle, and of its values the indexes, moments and lengths.
 
 use hdl_name::Name;
 use hdl_value::Value;

@@ -12,7 +12,7 @@ pub struct Notices {
 }
 
 impl Notices {
-    /// Of bounds whose notices are these, in their order.
+    /// The notices of bounds, in the bounds' order.
     pub fn new(all: Arc<Vec<Notice>>) -> Notices {
         Notices { all }
     }
@@ -23,7 +23,7 @@ fn notice_of(alloc: Global, bound: &Bound) -> Result<Notice, AllocError> {
     let publisher = bound.publisher.as_str();
     let most = bound.most;
     let words = format!(in alloc;
-        "bound: {publisher} has reached {most}: a change that would take more is answered busy; remove values or handles, or start anew with a larger --bound"
+        "bound: {publisher} has reached {most}: changes that add more are answered busy. Remove values or handles, or restart with a larger --bound"
     )?;
     Notice::new(alloc, words.as_str())
 }

@@ -1,4 +1,4 @@
-//! The service on the calling thread, behind the sockets.
+//! The service on the calling thread, which the sockets' workers reach by rings.
 
 ghost use Rattle.std.specs.Prelude.{◌≡◌};
 ghost use Rattle.hdl_rows.specs.Table.{no_rows};
@@ -14,6 +14,7 @@ use hdl_listeners::{
 };
 use hdl_programs::{Fault, put_all, tenants_of};
 use hdl_queue::WriteQueue;
+use hdl_rows::PlainRows;
 use hdl_serve::{Clock as Pauses, LaneEnds, WorkerEnd, WorkerSide, lanes_of, serve};
 use hdl_sockets::{Crowd, MachineClock, Part, Patience, Sleep};
 use std::alloc::Global;
@@ -57,7 +58,7 @@ struct Limited {
     notices: Notices,
 }
 
-/// Listens for each publisher, and for whoever watches the server.
+/// Listens for each publisher, and for those who watch the server.
 fn open_sockets<R: Net<Listener = TcpListener, Stream = TcpStream> + Clock + Files>(
     rt: &R,
     alloc: Global,
@@ -396,8 +397,8 @@ fn host_text<
     host_tenants(rt, alloc, rows, tenants, setting, output)
 }
 
-/// Serves the tenants of the text over TCP and UDP on 127.0.0.1, over an empty table, until each worker ended or the turns are
-/// spent. Writes `NAME 127.0.0.1:PORT` for each publisher to the output once all of them listen, and a fault line to the faults.
+/// Serves the tenants of the text over TCP and UDP on 127.0.0.1, over an empty table in memory and within the limits of [`Limits::DEFAULT`], until each worker
+/// ended or the turns are spent. Writes `NAME 127.0.0.1:PORT` for each publisher to the output once all of them listen, and a fault line to the faults.
 /// Answers the exit status (docs/PROTOCOL.md, "The tenants text and scripts"); a fault line that can't be written changes none.
 pub fn host<
     R: Net<Listener = TcpListener, Stream = TcpStream>
@@ -411,13 +412,13 @@ pub fn host<
         + Send
         + Drop
         + 'static,
-    T: Owing + Drop,
     W: Write,
     F: Write,
->(rt: &R, rows: T, text: &str, limits: Limits, output: &mut W, faults: &mut F) -> u8
-    requires empty { T.content rows ≡ no_rows }
-{
-    match host_text(rt, rt.alloc(), rows, text, limits, output) {
+>(rt: &R, tenants: &str, turns: u64, output: &mut W, faults: &mut F) -> u8 {
+    let alloc = rt.alloc();
+    let mut limits = Limits::DEFAULT;
+    limits.turns = turns;
+    match host_text(rt, alloc, PlainRows::new(alloc), tenants, limits, output) {
         Ok(()) => 0,
         Err(fault) => {
             let _ = writeln!(faults, "{fault}");

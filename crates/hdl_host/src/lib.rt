@@ -1,4 +1,4 @@
-//! The server: the proved service behind the machine's sockets.
+//! The server: the proved service, reached over the machine's sockets.
 //!
 //! ```text
 //! a TCP connection  -> SocketDoor    -> stream_worker ─┐ ring ┌─ serve (Service over any table), on the calling thread

@@ -10,17 +10,17 @@ use std::rt::Clock;
 use std::sync::Arc;
 use std::time::{Duration, Instant};
 
-/// Each so many seconds the file is looked at.
+/// Seconds between two looks at the file.
 const PAUSE: u64 = 2;
 
-/// The table's file, and who is told where it was taken away.
+/// The table's file, and what is informed if the file was moved or changed.
 #[derive(Drop)]
 pub struct Watchman {
     file: FileWatch,
     health: Arc<Health>,
 }
 
-/// Who looks at the table's file, where it has one.
+/// The watchman of the table's file, if it has one.
 pub fn watchman_of(supervision: &mut Supervision) -> Result<Option<Watchman>, AllocError> {
     match supervision.file.take() {
         Some(file) => Ok(Some(Watchman {

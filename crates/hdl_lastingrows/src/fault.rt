@@ -11,19 +11,19 @@ use thiserror::Error;
 pub enum TableFault {
     #[error("table: in use: another process has the file open; end that one first")]
     InUse,
-    #[error("table: cannot open: the file isn't there and can't be made, or is no regular file that may be read and written")]
+    #[error("table: cannot open: the file can't be made, or isn't a regular file that this user may read and write; check the path, its folder and their permissions")]
     CannotOpen,
-    #[error("table: damaged: the file is no SQLite database, or its pages or its log are unsound; restore a copy")]
+    #[error("table: damaged: the file is not a SQLite database, or its pages or log are damaged; restore a copy")]
     Damaged,
-    #[error("table: another layout: the file is a database, but not of this program's tables")]
+    #[error("table: another layout: the file is a SQLite database, but not one of this program; name another file")]
     Layout,
     /// A row that no write of this program makes.
-    #[error("table: unsound row: {0}; put the row right, or restore a copy")]
+    #[error("table: unsound row: {0}; correct the row, or restore a copy")]
     Row(LoadFault),
-    #[error("table: disk full")]
+    #[error("table: disk full: make room, then start again")]
     Full,
     /// A read, a write or a sync failed.
-    #[error("table: device fault: a read, a write or a sync of the file failed")]
+    #[error("table: device fault: a read, a write or a sync of the file failed: check the disk")]
     Device,
     #[error("no memory")]
     Memory,

@@ -213,6 +213,12 @@ impl<R: Rows + Drop, F: Filing + Drop, A: Alarm + Drop> Rows for LastingRows<R, 
         Ok(seen)
     }
 
+    fn heads(&mut self, name: &Name) -> Result<Option<Vec<Value>>, Refused> {
+        let seen = self.rows.heads(name)?;
+        self.reads = with_call(self.reads, seen_octets(&seen));
+        Ok(seen)
+    }
+
     fn names(&mut self, authority: &[u8]) -> Result<Vec<Octets>, Refused> {
         let names = self.rows.names(authority)?;
         self.reads = with_call(self.reads, names_octets(&names));

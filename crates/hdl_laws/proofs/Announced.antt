@@ -1,9 +1,10 @@
 -- What each step sends is a reply whose header announces what it carries.
-use Rattle.std.proofs.Common.{◌≡◌, inl, inr, ℕ, List, Bool, true, false, cond, ◌==◌, Option, Some, None, refl, sym, ap, ◌∙◌, subst}
+use Rattle.std.proofs.Common.{◌≡◌, inl, inr, ℕ, List, Bool, true, false, cond, ◌==◌, [], ◌++◌, Option, Some, None, refl, sym, ap, ◌∙◌, subst}
 use Rattle.std.specs.Prelude.{⊤, MatchBool, drop}
 use Rattle.hdl_auth.specs.declared.algorithm.Algorithm.{Algorithm}
 use Rattle.hdl_auth.specs.declared.algorithm.Algorithm.TheVariants.{Sha1}
 use Rattle.hdl_auth.specs.Digest.{algorithm_of}
+use Rattle.hdl_value.specs.declared.wire.Wire.{Wire}
 use Rattle.hdl_frame.specs.declared.envelope.Envelope.{Envelope}
 use Rattle.hdl_frame.specs.Envelope.{envelope_at, envelope_octets, is_truncated, message_envelope}
 use Rattle.hdl_rows.specs.Table.{Table}
@@ -11,9 +12,12 @@ use Rattle.hdl_msg.specs.declared.replies.Reply as message
 use Rattle.hdl_msg.specs.declared.replies.ReplyContent.TheVariants.{Empty}
 use Rattle.hdl_msg.specs.Codes.{IsNumberOf}
 use Rattle.hdl_msg.specs.Laws.{short_parts}
-use Rattle.hdl_msg.specs.Message.{Content, code_of, SpellsRequest}
-use Rattle.hdl_msg.specs.Reply.{reply_body, reply_message, reply_octets, short_reply, ReplyParts, reply_parts, IsAnnounced, parts_message}
+use Rattle.hdl_msg.specs.Reading.{reply_at}
+use Rattle.hdl_value.specs.Spelling.{string}
+use Rattle.hdl_msg.specs.Message.{Content, code_of, SpellsRequest, IsShort, header_octets}
+use Rattle.hdl_msg.specs.Reply.{reply_body, reply_message, reply_octets, short_reply, ReplyParts, reply_parts, parts_body, IsAnnounced, parts_message, parts_read, PartsFit, SpellsReply, content_read, digest_octets, wire_of_content}
 use Rattle.hdl_msg.proofs.ReplyReadings.{reply_again, short_reply_spelt_lem}
+use Rattle.hdl_msg.proofs.Seen.{own_wire, same_content, same_form, same_wire}
 use Rattle.hdl_pool.specs.Taking.{take_piece, free_partial, whole_message}
 use Rattle.hdl_pool.specs.Partial.{key_of, piece_of}
 use Rattle.hdl_slots.specs.declared.pending.Pending.{Pending}
@@ -23,10 +27,10 @@ use Rattle.hdl_ops.specs.Decisions.{Anyone, Proven, Decision, Decides}
 use Rattle.hdl_ops.specs.Requests.{Response, response_of}
 use Rattle.hdl_ops.specs.Replies.{reply_to, challenge_to}
 use Rattle.hdl_ops.proofs.Announced.{answer_announced_lem, protocol_error_announced, timeout_announced, challenge_announced_lem, proven_code}
-use Rattle.hdl_events.specs.declared.Happening.{Happening}
-use Rattle.hdl_events.specs.declared.Happening.TheVariants.{Open, Bad, Close}
+use Rattle.hdl_events.specs.declared.What.{What}
+use Rattle.hdl_events.specs.declared.What.TheVariants.{Open, Bad, Close}
 use Rattle.hdl_laws.specs.Lanes.{LaneState, with_partials}
-use Rattle.hdl_laws.specs.Worlds.{World, hosts, algorithms, owner, lane_of}
+use Rattle.hdl_laws.specs.Worlds.{World, hosts, algorithms, owner, lane_of, layout}
 use Rattle.hdl_laws.specs.Tasks.{Received, Message, message_from, Task, Ignore, Break, Malformed, Unknown, Late, Ask, Redeem, is_late, without_challenge, redeem_task, IsReading, IsResponseTask, IsRequestTask, IsContentTask, IsMessageTask, IsWholeTask, IsFrameTask, IsOctetsTask, IsTask}
 use Rattle.hdl_laws.specs.Effects.{Effect, Does, answer_effect, challenge_effect}
 use Rattle.hdl_laws.specs.Steps.{Turn, IsAnswerFor, IsStep}
@@ -34,8 +38,24 @@ use Rattle.hdl_laws.specs.Reveals.{IsSelfTold, sent_by, StepsAnnounce}
 
 -- ---- octets
 
+spelt_as_read : (octets : List ℕ) (p : ReplyParts) → IsAnnounced p → octets ≡ parts_message p → PartsFit (parts_read p) → IsShort (parts_body p) → SpellsReply (wire_of_content (content_read p.content)) octets (parts_read p)
+spelt_as_read octets p announced e fits short = record {
+  by_wire = own_wire (content_read p.content);
+  fits = fits;
+  announced = record { digest = announced.digest; form = same_form p.content ∙ announced.form };
+  body_fits = subst (λ (x : List ℕ). IsShort (digest_octets p.digest ++ x)) (sym (same_content p.content)) short;
+  spelt = e ∙ ap (λ (x : List ℕ). header_octets p.header ++ (string (digest_octets p.digest ++ x) ++ string [])) (sym (same_content p.content));
+}
+
 self_told : (octets : List ℕ) (p : ReplyParts) → IsAnnounced p → drop 20 octets ≡ parts_message p → IsSelfTold octets
-self_told octets p announced e = (p, announced, e, λ fits short. reply_again (drop 20 octets) p (record { fits = fits; announced = announced; body_fits = short; spelt = e }))
+self_told octets p announced e = (
+  p,
+  announced,
+  e,
+  λ fits short.
+      ap (λ (w : Wire). reply_at w (drop 20 octets)) (sym (same_wire p.content))
+      ∙ reply_again (wire_of_content (content_read p.content)) (drop 20 octets) (parts_read p) (spelt_as_read (drop 20 octets) p announced e fits short),
+)
 
 made_self : (y : message.Reply) → IsAnnounced (reply_parts y) → IsSelfTold (reply_octets y)
 unfolding reply_octets envelope_octets reply_message reply_body
@@ -67,61 +87,61 @@ either : {A B P : Type 0} (b : Bool) → (A → P) → (B → P) → MatchBool b
 either true f g x = f x
 either false f g x = g x
 
-redeem_coded : (s : LaneState) (m : Message) (a : Response) (p : Pending) (o : Option Content) → IsReading (SpellsRequest p.message) o → CodedTask (redeem_task s m a p o)
-redeem_coded s m a p None h = tt
-redeem_coded s m a p (Some r) h = by (is_late m p)
+redeem_coded : (w : Wire) (s : LaneState) (m : Message) (a : Response) (p : Pending) (o : Option Content) → IsReading (SpellsRequest w p.message) o → CodedTask (redeem_task s m a p o)
+redeem_coded w s m a p None h = tt
+redeem_coded w s m a p (Some r) h = by (is_late m p)
   where
     by : (b : Bool) → CodedTask (cond {A = Task} b (Late m r (algorithm_of p.digest) (without_challenge s m)) (Redeem m r (record { response = a; nonce = p.nonce; digest = p.digest }) (without_challenge s m)))
     by true = tt
     by false = h.has_code
 
-response_coded : (s : LaneState) (m : Message) (r : Content) (a : Response) (o : Option Pending) (k : Task) → IsResponseTask s m r a o k → CodedTask k
-response_coded s m r a None k is = subst CodedTask (sym is) tt
-response_coded s m r a (Some p) k is = subst CodedTask (sym is.2) (redeem_coded s m a p is.0 is.1)
+response_coded : (w : Wire) (s : LaneState) (m : Message) (r : Content) (a : Response) (o : Option Pending) (k : Task) → IsResponseTask w s m r a o k → CodedTask k
+response_coded w s m r a None k is = subst CodedTask (sym is) tt
+response_coded w s m r a (Some p) k is = subst CodedTask (sym is.2) (redeem_coded w s m a p is.0 is.1)
 
-request_coded : (s : LaneState) (m : Message) (r : Content) (o : Option Response) (k : Task) → Coded r → IsRequestTask s m r o k → CodedTask k
-request_coded s m r None k has is = subst CodedTask (sym is) has
-request_coded s m r (Some a) k has is = response_coded s m r a (challenge_of s.challenges.challenges m.peer m.envelope.session) k is
+request_coded : (w : Wire) (s : LaneState) (m : Message) (r : Content) (o : Option Response) (k : Task) → Coded r → IsRequestTask w s m r o k → CodedTask k
+request_coded w s m r None k has is = subst CodedTask (sym is) has
+request_coded w s m r (Some a) k has is = response_coded w s m r a (challenge_of s.challenges.challenges m.peer m.envelope.session) k is
 
-content_coded : (s : LaneState) (m : Message) (o : Option Content) (k : Task) → IsReading (SpellsRequest m.message) o → IsContentTask s m o k → CodedTask k
-content_coded s m None k h is = subst CodedTask (sym is) tt
-content_coded s m (Some r) k h is = request_coded s m r (response_of r.operation) k h.has_code is
+content_coded : (w : Wire) (s : LaneState) (m : Message) (o : Option Content) (k : Task) → IsReading (SpellsRequest w m.message) o → IsContentTask w s m o k → CodedTask k
+content_coded w s m None k h is = subst CodedTask (sym is) tt
+content_coded w s m (Some r) k h is = request_coded w s m r (response_of r.operation) k h.has_code is
 
-message_coded : (s : LaneState) (m : Message) (k : Task) → IsMessageTask s m k → CodedTask k
-message_coded s m k is = content_coded s m is.0 k is.1 is.2
+message_coded : (w : Wire) (s : LaneState) (m : Message) (k : Task) → IsMessageTask w s m k → CodedTask k
+message_coded w s m k is = content_coded w s m is.0 k is.1 is.2
 
-whole_coded : (kept gone : LaneState) (x : Received) (o : Option (List ℕ)) (k : Task) → IsWholeTask kept gone x o k → CodedTask k
-whole_coded kept gone x None k is = subst CodedTask (sym is) tt
-whole_coded kept gone x (Some bytes) k is = message_coded gone (message_from x bytes) k is
+whole_coded : (w : Wire) (kept gone : LaneState) (x : Received) (o : Option (List ℕ)) (k : Task) → IsWholeTask w kept gone x o k → CodedTask k
+whole_coded w kept gone x None k is = subst CodedTask (sym is) tt
+whole_coded w kept gone x (Some bytes) k is = message_coded w gone (message_from x bytes) k is
 
-frame_coded : (s : LaneState) (x : Received) (k : Task) → IsFrameTask s x k → CodedTask k
-frame_coded s x k is =
+frame_coded : (w : Wire) (s : LaneState) (x : Received) (k : Task) → IsFrameTask w s x k → CodedTask k
+frame_coded w s x k is =
     either (is_truncated (envelope_at x.bytes))
-    (λ piece. whole_coded _ (with_partials s (free_partial s.partials (key_of x.peer (envelope_at x.bytes)))) x (whole_message (take_piece s.partials (piece_of x.peer x.bytes)).0) k piece)
-    (λ whole. message_coded s _ k whole) is
+    (λ piece. whole_coded w _ (with_partials s (free_partial s.partials (key_of x.peer (envelope_at x.bytes)))) x (whole_message (take_piece s.partials (piece_of x.peer x.bytes)).0) k piece)
+    (λ whole. message_coded w s _ k whole) is
 
-octets_coded : (s : LaneState) (x : Received) (k : Task) → IsOctetsTask s x k → CodedTask k
-octets_coded s x k (inl frame) = frame_coded s x k frame.1
-octets_coded s x k (inr none) = subst CodedTask (sym none.1) tt
+octets_coded : (w : Wire) (s : LaneState) (x : Received) (k : Task) → IsOctetsTask w s x k → CodedTask k
+octets_coded w s x k (inl frame) = frame_coded w s x k frame.1
+octets_coded w s x k (inr none) = subst CodedTask (sym none.1) tt
 
-task_coded : (s : LaneState) (what : Happening) (k : Task) → IsTask s what k → CodedTask k
-task_coded s Open k is = subst CodedTask (sym is) tt
-task_coded s Close k is = subst CodedTask (sym is) tt
-task_coded s (Bad session request) k is = subst CodedTask (sym is) (by s.is_open)
+task_coded : (w : Wire) (s : LaneState) (what : What) (k : Task) → IsTask w s what k → CodedTask k
+task_coded w s Open k is = subst CodedTask (sym is) tt
+task_coded w s Close k is = subst CodedTask (sym is) tt
+task_coded w s (Bad session request) k is = subst CodedTask (sym is) (by s.is_open)
   where
     by : (b : Bool) → CodedTask (cond {A = Task} b (Break session request s) (Ignore s))
     by true = tt
     by false = tt
-task_coded s (Happening.Frame peer moment nonce bytes) k is = either s.is_open (λ x. octets_coded s _ k x) (λ e. subst CodedTask (sym e) tt) is
+task_coded w s (What.Frame peer moment nonce bytes) k is = either s.is_open (λ x. octets_coded w s _ k x) (λ e. subst CodedTask (sym e) tt) is
 
 -- ---- steps
 
 asked_self : (hosted : List ℕ → Bool) (a : Algorithm) (t : Table) (s : LaneState) (m : Message) (r : Content) (d : Decision) (octets : List ℕ) (b : Bool) → Coded r → d.code == 402 ≡ b → Decides hosted a t r Anyone d
     → sent_by (cond {A = Effect} b (challenge_effect a s m r) (answer_effect a s m r d)).outcome ≡ Some octets → IsSelfTold octets
 asked_self hosted a t s m r d octets true has e decided is =
-    same_octets octets _ is (made_self (challenge_to a s.challenges.next m.envelope.request r m.nonce) (challenge_announced_lem a s.challenges.next m.envelope.request r m.nonce))
+    same_octets octets _ is (made_self (challenge_to a m.moment s.challenges.next m.envelope.request r m.nonce) (challenge_announced_lem a m.moment s.challenges.next m.envelope.request r m.nonce))
 asked_self hosted a t s m r d octets false has e decided is =
-    same_octets octets _ is (made_self (reply_to a m.envelope.session m.envelope.request r d.code d.content) (answer_announced_lem hosted a t r Anyone d m.envelope.session m.envelope.request has decided e))
+    same_octets octets _ is (made_self (reply_to a m.moment m.envelope.session m.envelope.request r d.code d.content) (answer_announced_lem hosted a t r Anyone d m.moment m.envelope.session m.envelope.request has decided e))
 
 abbrev sends : Effect → Option (List ℕ)
 sends eff = sent_by eff.outcome
@@ -131,15 +151,15 @@ does_announce hosted algorithms t (Ignore s) eff octets has is e = nothing_sent 
 does_announce hosted algorithms t (Break session request s) eff octets has is e = same_octets octets _ (sym (ap sends is) ∙ e) (refused_self (message_envelope session request 0))
 does_announce hosted algorithms t (Malformed m s) eff octets has is e = same_octets octets _ (sym (ap sends is) ∙ e) (refused_self m.envelope)
 does_announce hosted algorithms t (Unknown m r s) eff octets has is e =
-    same_octets octets _ (sym (ap sends is) ∙ e) (made_self (reply_to Sha1 m.envelope.session m.envelope.request r 4 Empty) (protocol_error_announced Sha1 m.envelope.session m.envelope.request r))
+    same_octets octets _ (sym (ap sends is) ∙ e) (made_self (reply_to Sha1 m.moment m.envelope.session m.envelope.request r 4 Empty) (protocol_error_announced Sha1 m.moment m.envelope.session m.envelope.request r))
 does_announce hosted algorithms t (Late m r a s) eff octets has is e =
-    same_octets octets _ (sym (ap sends is) ∙ e) (made_self (reply_to a m.envelope.session m.envelope.request r 405 Empty) (timeout_announced a m.envelope.session m.envelope.request r))
+    same_octets octets _ (sym (ap sends is) ∙ e) (made_self (reply_to a m.moment m.envelope.session m.envelope.request r 405 Empty) (timeout_announced a m.moment m.envelope.session m.envelope.request r))
 does_announce hosted algorithms t (Ask m r s) eff octets has is e =
     asked_self hosted (request_algorithm algorithms r) t s m r is.0 octets (is.0.code == 402) has refl is.1 (sym (ap sends is.2) ∙ e)
 does_announce hosted algorithms t (Redeem m r p s) eff octets has is e =
     same_octets octets _ (sym (ap sends is.2) ∙ e)
-    (made_self (reply_to (algorithm_of p.digest) m.envelope.session m.envelope.request r is.0.code is.0.content)
-    (answer_announced_lem hosted (algorithm_of p.digest) t r (Proven p) is.0 m.envelope.session m.envelope.request has is.1 (proven_code hosted (algorithm_of p.digest) t r p is.0 is.1)))
+    (made_self (reply_to (algorithm_of p.digest) m.moment m.envelope.session m.envelope.request r is.0.code is.0.content)
+    (answer_announced_lem hosted (algorithm_of p.digest) t r (Proven p) is.0 m.moment m.envelope.session m.envelope.request has is.1 (proven_code hosted (algorithm_of p.digest) t r p is.0 is.1)))
 
 step_announces : (w : World) (t : Turn) (octets : List ℕ) → IsStep w t → sent_by t.outcome ≡ Some octets → IsSelfTold octets
 step_announces w t octets (inl a) e = by (owner w.site t.event.lane) a
@@ -147,7 +167,7 @@ step_announces w t octets (inl a) e = by (owner w.site t.event.lane) a
     by : (o : Option ℕ) → IsAnswerFor w o t → IsSelfTold octets
     by None is = nothing_sent octets (sym (ap (λ (z : Turn). sent_by z.outcome) is) ∙ e)
     by (Some u) is =
-        does_announce (hosts w.site u) (algorithms w.site u) w.table is.1 is.0 octets (task_coded (lane_of w t.event.lane) t.event.what is.1 is.2) is.3 (sym (ap (λ (z : Turn). sent_by z.outcome) is.4) ∙ e)
+        does_announce (hosts w.site u) (algorithms w.site u) w.table is.1 is.0 octets (task_coded (layout w.site u) (lane_of w t.event.lane) t.event.what is.1 is.2) is.3 (sym (ap (λ (z : Turn). sent_by z.outcome) is.4) ∙ e)
 step_announces w t octets (inr b) e = same_octets octets _ (sym (ap (λ (z : Turn). sent_by z.outcome) b.busy) ∙ e) (busy_self (envelope_at b.received.bytes))
 
 pub steps_announce : StepsAnnounce

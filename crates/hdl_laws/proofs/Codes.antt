@@ -20,23 +20,23 @@ use Rattle.hdl_laws.specs.Tasks.{Message, Task, Ignore, Break, Malformed, Unknow
 use Rattle.hdl_laws.specs.Effects.{Effect, Does, ask_effect, answer_effect, challenge_effect}
 use Rattle.hdl_laws.specs.Isolation.{code_of}
 
-pub reply_code : (a : Algorithm) (session number : ℕ) (r : Content) (code : ℕ) (content : ReplyContent) → IsTrue (is_answer_code code) → response_code_at (reply_octets (reply_to a session number r code content)) ≡ code
+pub reply_code : (a : Algorithm) (moment session number : ℕ) (r : Content) (code : ℕ) (content : ReplyContent) → IsTrue (is_answer_code code) → response_code_at (reply_octets (reply_to a moment session number r code content)) ≡ code
 unfolding reply_to
-reply_code a session number r code content e = code_at_its_place_lem (reply_to a session number r code content) (code_fits code e)
+reply_code a moment session number r code content e = code_at_its_place_lem (reply_to a moment session number r code content) (code_fits code e)
 
-pub challenge_code : (a : Algorithm) (session number : ℕ) (r : Content) (nonce : List ℕ) → response_code_at (reply_octets (challenge_to a session number r nonce)) ≡ 402
+pub challenge_code : (a : Algorithm) (moment session number : ℕ) (r : Content) (nonce : List ℕ) → response_code_at (reply_octets (challenge_to a moment session number r nonce)) ≡ 402
 unfolding challenge_to
-challenge_code a session number r nonce = code_at_its_place_lem (challenge_to a session number r nonce) (code_fits 402 refl)
+challenge_code a moment session number r nonce = code_at_its_place_lem (challenge_to a moment session number r nonce) (code_fits 402 refl)
 
 -- the outcome has the decision's code
 pub answer_code : (a : Algorithm) (s : LaneState) (m : Message) (r : Content) (d : Decision) → IsTrue (is_answer_code d.code) → code_of (answer_effect a s m r d).outcome ≡ d.code
-answer_code a s m r d e = reply_code a m.envelope.session m.envelope.request r d.code d.content e
+answer_code a s m r d e = reply_code a m.moment m.envelope.session m.envelope.request r d.code d.content e
 
 pub ask_code : (a : Algorithm) (s : LaneState) (m : Message) (r : Content) (d : Decision) → IsTrue (is_answer_code d.code) → code_of (ask_effect a s m r d).outcome ≡ d.code
 ask_code a s m r d e = pick (d.code == 402) refl
   where
     pick : (b : Bool) → d.code == 402 ≡ b → code_of (cond {A = Effect} b (challenge_effect a s m r) (answer_effect a s m r d)).outcome ≡ d.code
-    pick true is = challenge_code a _ m.envelope.request r m.nonce ∙ sym (eqb-true d.code 402 is)
+    pick true is = challenge_code a m.moment _ m.envelope.request r m.nonce ∙ sym (eqb-true d.code 402 is)
     pick false is = answer_code a s m r d e
 
 abbrev has_answer_code : Effect → Bool

@@ -13,3 +13,4 @@ pub mod Twins
 pub mod TwinRuns
 mod Covers
 mod Calm
+mod Limits

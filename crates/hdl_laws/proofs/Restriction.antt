@@ -12,12 +12,14 @@ use Rattle.hdl_auth.specs.declared.algorithm.Algorithm.{Algorithm}
 use Rattle.hdl_auth.specs.declared.algorithm.Algorithm.TheVariants.{Sha1}
 use Rattle.hdl_value.specs.Place.{Place}
 use Rattle.hdl_value.specs.declared.value.Value.{Value}
+use Rattle.hdl_value.specs.declared.wire.Wire.TheVariants.{Profile}
+use Rattle.std.proofs.lemmas.Bool.{eq-eqb}
 use Rattle.hdl_value.proofs.Places.{tied}
 use Rattle.hdl_rows.specs.Table.{Table}
 use Rattle.hdl_tenants.specs.Register.{Hosting, root, hosts_among, algorithm_among}
 use Rattle.hdl_ops.specs.Tables.{apply_if}
 use Rattle.hdl_laws.specs.Lanes.{LaneState, fresh}
-use Rattle.hdl_laws.specs.Worlds.{World, Site, owner, hosts, algorithms, lane_of}
+use Rattle.hdl_laws.specs.Worlds.{World, Site, owner, hosts, algorithms, lane_of, layout}
 use Rattle.hdl_laws.specs.Tasks.{IsTask}
 use Rattle.hdl_laws.specs.Effects.{Does}
 use Rattle.hdl_laws.specs.Steps.{Turn, moment_of, after_effect, IsAnswerFor, IsAnswer, IsBusy, IsStep}
@@ -70,6 +72,10 @@ algorithms_filtered (h ∷ hs) u p = pick (h.publisher == u) refl (algorithms_fi
 
 algorithms_restricted : (s : Site) (u : ℕ) → algorithms (restrict_site s u) u ≡ algorithms s u
 algorithms_restricted s u = λ i p. algorithms_filtered s.hostings u p i
+
+layout_restricted : (s : Site) (u : ℕ) → layout (restrict_site s u) u ≡ layout s u
+layout_restricted s u =
+    ap (λ o. unwrap_or o Profile) (get-retained nat_cmp-IsAntisymmetric s.layouts (λ other. other == u) u ∙ ap (λ b. cond b (map.get s.layouts u) None) (eq-eqb u u refl))
 
 -- ---- lanes
 
@@ -135,7 +141,9 @@ module _ (u : ℕ) (C : List Place) where
   answer_for w t rootless closed mine a =
       let eff = a.0 in
       let hosted = hosts w.site u in
-      let task : IsTask (lane_of (restrict w u C) t.event.lane) t.event.what a.1 = subst (λ s. IsTask s t.event.what a.1) (sym (lane_restricted w u C t.event.lane mine)) a.2 in
+      let task : IsTask (layout (restrict_site w.site u) u) (lane_of (restrict w u C) t.event.lane) t.event.what a.1 =
+      subst (λ l. IsTask l (lane_of (restrict w u C) t.event.lane) t.event.what a.1) (sym (layout_restricted w.site u))
+      (subst (λ s. IsTask (layout w.site u) s t.event.what a.1) (sym (lane_restricted w u C t.event.lane mine)) a.2) in
       let does : Does (hosts (restrict_site w.site u) u) (algorithms (restrict_site w.site u) u) (restrict_table hosted C w.table) a.1 eff =
       subst (λ g. Does (hosts (restrict_site w.site u) u) g (restrict_table hosted C w.table) a.1 eff) (sym (algorithms_restricted w.site u))
       (subst (λ f. Does f (algorithms w.site u) (restrict_table hosted C w.table) a.1 eff) (sym (hosts_restricted w.site u))

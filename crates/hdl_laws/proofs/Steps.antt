@@ -4,6 +4,7 @@ use Rattle.std.proofs.Common.{◌≡◌, inl, inr, ℕ, List, Bool, true, false,
 use Rattle.std.specs.Prelude.{drop}
 use Rattle.hdl_name.specs.Name.{prefix, canonical}
 use Rattle.hdl_value.specs.Place.{Place}
+use Rattle.hdl_value.specs.declared.wire.Wire.{Wire}
 use Rattle.hdl_rows.specs.Table.{Table}
 use Rattle.hdl_rows.proofs.Writes.{some_none}
 use Rattle.hdl_tenants.specs.Register.{root}
@@ -17,13 +18,14 @@ use Rattle.hdl_slots.specs.declared.pending.Pending.{Pending}
 use Rattle.hdl_ops.specs.declared.change.Change.{Change}
 use Rattle.hdl_ops.specs.declared.change.Change.TheVariants.{Create, Delete, Add, Remove, Modify}
 use Rattle.hdl_ops.specs.Admission.{refusal, request_algorithm}
-use Rattle.hdl_ops.specs.Requests.{Response, sent_handle, response_of}
+use Rattle.hdl_ops.specs.Requests.{Response, sent_handle, response_of, stored_operation}
+use Rattle.hdl_ops.proofs.Stored.{stored_handle}
 use Rattle.hdl_ops.specs.Sights.{Sight, sight}
 use Rattle.hdl_ops.specs.Replies.{fits}
 use Rattle.hdl_ops.specs.Decisions.{Level, Anyone, Proven, Decision, DecidesBy, decision, refusal_decision, success, failure, carried_content, change_of}
 use Rattle.hdl_ops.proofs.Passed.{Passes, passes_unless_refused, canonical_is_hosted}
 use Rattle.hdl_ops.proofs.Decided.{one_decision_lem}
-use Rattle.hdl_events.specs.declared.Happening.{Happening}
+use Rattle.hdl_events.specs.declared.What.{What}
 use Rattle.hdl_pool.specs.Partial as partial
 use Rattle.hdl_pool.specs.Partial.{piece_of}
 use Rattle.hdl_pool.specs.Taking.{take_piece, whole_message, free_partial}
@@ -43,23 +45,23 @@ same_reading P one None (Some y) a b = absurd (a y b)
 same_reading P one (Some x) None a b = absurd (b x a)
 same_reading P one (Some x) (Some y) a b = ap Some (one x y a b)
 
-one_reading : (octets : List ℕ) (o o' : Option Content) → IsReading (SpellsRequest octets) o → IsReading (SpellsRequest octets) o' → o ≡ o'
-one_reading octets o o' a b = same_reading (SpellsRequest octets) (λ c d p q. one_request_lem octets c d p q) o o' a b
+one_reading : (w : Wire) (octets : List ℕ) (o o' : Option Content) → IsReading (SpellsRequest w octets) o → IsReading (SpellsRequest w octets) o' → o ≡ o'
+one_reading w octets o o' a b = same_reading (SpellsRequest w octets) (λ c d p q. one_request_lem w octets c d p q) o o' a b
 
-response_task_one : (s : LaneState) (m : Message) (r : Content) (a : Response) (p : Option Pending) (k k' : Task) → IsResponseTask s m r a p k → IsResponseTask s m r a p k' → k ≡ k'
-response_task_one s m r a None k k' x y = x ∙ sym y
-response_task_one s m r a (Some p) k k' x y = x.2 ∙ ap (redeem_task s m a p) (one_reading p.message x.0 y.0 x.1 y.1) ∙ sym y.2
+response_task_one : (w : Wire) (s : LaneState) (m : Message) (r : Content) (a : Response) (p : Option Pending) (k k' : Task) → IsResponseTask w s m r a p k → IsResponseTask w s m r a p k' → k ≡ k'
+response_task_one w s m r a None k k' x y = x ∙ sym y
+response_task_one w s m r a (Some p) k k' x y = x.2 ∙ ap (redeem_task s m a p) (one_reading w p.message x.0 y.0 x.1 y.1) ∙ sym y.2
 
-request_task_one : (s : LaneState) (m : Message) (r : Content) (a : Option Response) (k k' : Task) → IsRequestTask s m r a k → IsRequestTask s m r a k' → k ≡ k'
-request_task_one s m r None k k' x y = x ∙ sym y
-request_task_one s m r (Some a) k k' x y = response_task_one s m r a _ k k' x y
+request_task_one : (w : Wire) (s : LaneState) (m : Message) (r : Content) (a : Option Response) (k k' : Task) → IsRequestTask w s m r a k → IsRequestTask w s m r a k' → k ≡ k'
+request_task_one w s m r None k k' x y = x ∙ sym y
+request_task_one w s m r (Some a) k k' x y = response_task_one w s m r a _ k k' x y
 
-content_task_one : (s : LaneState) (m : Message) (o : Option Content) (k k' : Task) → IsContentTask s m o k → IsContentTask s m o k' → k ≡ k'
-content_task_one s m None k k' x y = x ∙ sym y
-content_task_one s m (Some r) k k' x y = request_task_one s m r (response_of r.operation) k k' x y
+content_task_one : (w : Wire) (s : LaneState) (m : Message) (o : Option Content) (k k' : Task) → IsContentTask w s m o k → IsContentTask w s m o k' → k ≡ k'
+content_task_one w s m None k k' x y = x ∙ sym y
+content_task_one w s m (Some r) k k' x y = request_task_one w s m r (response_of r.operation) k k' x y
 
-message_task_one : (s : LaneState) (m : Message) (k k' : Task) → IsMessageTask s m k → IsMessageTask s m k' → k ≡ k'
-message_task_one s m k k' a b = content_task_one s m b.0 k k' (subst (λ o. IsContentTask s m o k) (one_reading m.message a.0 b.0 a.1 b.1) a.2) b.2
+message_task_one : (w : Wire) (s : LaneState) (m : Message) (k k' : Task) → IsMessageTask w s m k → IsMessageTask w s m k' → k ≡ k'
+message_task_one w s m k k' a b = content_task_one w s m b.0 k k' (subst (λ o. IsContentTask w s m o k) (one_reading w m.message a.0 b.0 a.1 b.1) a.2) b.2
 
 either_one : (c : Bool) (P Q : Task → Type 0) → ((k k' : Task) → P k → P k' → k ≡ k') → ((k k' : Task) → Q k → Q k' → k ≡ k') → (k k' : Task) → MatchBool c (P k) (Q k) → MatchBool c (P k') (Q k') → k ≡ k'
 either_one true P Q p q k k' a b = p k k' a b
@@ -68,30 +70,30 @@ either_one false P Q p q k k' a b = q k k' a b
 same_task : (x k k' : Task) → k ≡ x → k' ≡ x → k ≡ k'
 same_task x k k' a b = a ∙ sym b
 
-whole_task_one : (kept gone : LaneState) (x : Received) (o : Option (List ℕ)) (k k' : Task) → IsWholeTask kept gone x o k → IsWholeTask kept gone x o k' → k ≡ k'
-whole_task_one kept gone x None k k' a b = same_task (Ignore kept) k k' a b
-whole_task_one kept gone x (Some message) k k' a b = message_task_one gone (message_from x message) k k' a b
+whole_task_one : (w : Wire) (kept gone : LaneState) (x : Received) (o : Option (List ℕ)) (k k' : Task) → IsWholeTask w kept gone x o k → IsWholeTask w kept gone x o k' → k ≡ k'
+whole_task_one w kept gone x None k k' a b = same_task (Ignore kept) k k' a b
+whole_task_one w kept gone x (Some message) k k' a b = message_task_one w gone (message_from x message) k k' a b
 
-frame_task_one : (s : LaneState) (x : Received) (k k' : Task) → IsFrameTask s x k → IsFrameTask s x k' → k ≡ k'
-frame_task_one s x k k' a b =
+frame_task_one : (w : Wire) (s : LaneState) (x : Received) (k k' : Task) → IsFrameTask w s x k → IsFrameTask w s x k' → k ≡ k'
+frame_task_one w s x k k' a b =
     let after = take_piece s.partials (piece_of x.peer x.bytes) in
     let gone = with_partials s (free_partial s.partials (partial.key_of x.peer (envelope_at x.bytes))) in
-    either_one (is_truncated (envelope_at x.bytes)) (λ j. IsPieceTask s x after j) (λ j. IsMessageTask s (message_from x (drop 20 x.bytes)) j)
-    (whole_task_one (with_partials s after.1) gone x (whole_message after.0)) (message_task_one s (message_from x (drop 20 x.bytes))) k k' a b
+    either_one (is_truncated (envelope_at x.bytes)) (λ j. IsPieceTask w s x after j) (λ j. IsMessageTask w s (message_from x (drop 20 x.bytes)) j)
+    (whole_task_one w (with_partials s after.1) gone x (whole_message after.0)) (message_task_one w s (message_from x (drop 20 x.bytes))) k k' a b
 
-octets_task_one : (s : LaneState) (x : Received) (k k' : Task) → IsOctetsTask s x k → IsOctetsTask s x k' → k ≡ k'
-octets_task_one s x k k' (inl a) (inl b) = frame_task_one s x k k' a.1 b.1
-octets_task_one s x k k' (inl a) (inr b) = absurd (b.0 a.0)
-octets_task_one s x k k' (inr a) (inl b) = absurd (a.0 b.0)
-octets_task_one s x k k' (inr a) (inr b) = a.1 ∙ sym b.1
+octets_task_one : (w : Wire) (s : LaneState) (x : Received) (k k' : Task) → IsOctetsTask w s x k → IsOctetsTask w s x k' → k ≡ k'
+octets_task_one w s x k k' (inl a) (inl b) = frame_task_one w s x k k' a.1 b.1
+octets_task_one w s x k k' (inl a) (inr b) = absurd (b.0 a.0)
+octets_task_one w s x k k' (inr a) (inl b) = absurd (a.0 b.0)
+octets_task_one w s x k k' (inr a) (inr b) = a.1 ∙ sym b.1
 
-pub task_one : (s : LaneState) (what : Happening) (k k' : Task) → IsTask s what k → IsTask s what k' → k ≡ k'
-task_one s Happening.Open k k' a b = a ∙ sym b
-task_one s Happening.Close k k' a b = a ∙ sym b
-task_one s (Happening.Bad session request) k k' a b = a ∙ sym b
-task_one s (Happening.Frame peer moment nonce bytes) k k' a b =
+pub task_one : (w : Wire) (s : LaneState) (what : What) (k k' : Task) → IsTask w s what k → IsTask w s what k' → k ≡ k'
+task_one w s What.Open k k' a b = a ∙ sym b
+task_one w s What.Close k k' a b = a ∙ sym b
+task_one w s (What.Bad session request) k k' a b = a ∙ sym b
+task_one w s (What.Frame peer moment nonce bytes) k k' a b =
     let x : Received = record { peer = peer; moment = moment; nonce = nonce; bytes = bytes } in
-    either_one s.is_open (λ j. IsOctetsTask s x j) (λ j. j ≡ Ignore s) (octets_task_one s x) (same_task (Ignore s)) k k' a b
+    either_one s.is_open (λ j. IsOctetsTask w s x j) (λ j. j ≡ Ignore s) (octets_task_one w s x) (same_task (Ignore s)) k k' a b
 
 -- ---- on tables that agree a task does the same
 
@@ -150,7 +152,8 @@ module _ (hosted : List ℕ → Bool) (t : Table) where
   decision_change a s r level code passes = pick (code == 1) (fits a r (carried_content s r level))
     where
       pick : (b c : Bool) → ChangesHosted hosted (cond {A = Decision} b (cond {A = Decision} c (success s r level) (failure 2 Empty)) (failure code Empty)).change
-      pick true true = asked_change hosted r.operation (canonical_is_hosted hosted r passes)
+      pick true true =
+          asked_change hosted (stored_operation r) (subst (λ (h : List ℕ). IsTrue (hosted (prefix (canonical h)))) (sym (stored_handle r.wire r.operation)) (canonical_is_hosted hosted r passes))
       pick true false = changes_none hosted
       pick false c = changes_none hosted
 

@@ -6,10 +6,10 @@ use Rattle.hdl_msg.specs.Reply.{short_reply}
 use Rattle.hdl_ops.proofs.Codes.{not_busy}
 use Rattle.hdl_events.specs.declared.Event.{Event}
 use Rattle.hdl_events.specs.declared.Outcome.TheVariants.{Busy}
-use Rattle.hdl_laws.specs.Worlds.{World, hosts, algorithms, owner, lane_of}
-use Rattle.hdl_laws.specs.Tasks.{Received}
+use Rattle.hdl_laws.specs.Worlds.{World, hosts, algorithms, owner, lane_of, layout_for, layout}
+use Rattle.hdl_laws.specs.Tasks.{Received, IsTask}
 use Rattle.hdl_laws.specs.Effects.{Effect, Does}
-use Rattle.hdl_laws.specs.Steps.{happening_of, Turn, IsBusy, IsStep, moment_of, after_effect}
+use Rattle.hdl_laws.specs.Steps.{what_of, Turn, IsBusy, IsStep, moment_of, after_effect}
 use Rattle.hdl_laws.specs.Runs.{IsRun, last, events, outcomes}
 use Rattle.hdl_laws.specs.Isolation.{AreTwins, AreTwinWorlds, code_of, AllowsTurn, Allows}
 use Rattle.hdl_laws.specs.Laws.{TwinsReplyAlike}
@@ -26,7 +26,7 @@ not_busy_code : (w v : World) (t t' : Turn) (e : Event) → code_of t.outcome �
 not_busy_code w v t t' e codes a b =
     true≢false (sym (ap (λ (z : Turn). code_of z.outcome == 3) b.busy) ∙ ap (λ c. c == 3) (sym codes) ∙ answers_code w e (owner w.site e.lane) t a)
 
-same_received : (x y : Received) → happening_of x ≡ happening_of y → x ≡ y
+same_received : (x y : Received) → what_of x ≡ what_of y → x ≡ y
 same_received x y e =
     let peers : x.peer ≡ y.peer = cc in
     let moments : x.moment ≡ y.moment = cc in
@@ -47,15 +47,15 @@ module _ (H : List (List ℕ)) where
 
   -- from worlds with one site and the same lanes
   answers_twin : (w : World) (u2 : Table) → AreTwins H w.table u2 → (t t' : Turn) → t.event ≡ t'.event → code_of t.outcome ≡ code_of t'.outcome → AllowsTurn H w t
-      → (o : Option ℕ) → AnswersFor w t.event o t → AnswersFor (with_table w u2) t.event o t' → Alike t t'
-  answers_twin w u2 twins t t' is codes allows None a b =
+      → (o : Option ℕ) → owner w.site t.event.lane ≡ o → AnswersFor w t.event o t → AnswersFor (with_table w u2) t.event o t' → Alike t t'
+  answers_twin w u2 twins t t' is codes allows None mine a b =
       alike_by t t' w (with_table w u2) (ap (λ (z : Turn). z.outcome) a ∙ sym (ap (λ (z : Turn). z.outcome) b)) (ap (λ (z : Turn). z.after) a) (ap (λ (z : Turn). z.after) b) (record { site = refl; lanes = refl; tables = twins })
-  answers_twin w u2 twins t t' is codes allows (Some u) a b =
+  answers_twin w u2 twins t t' is codes allows (Some u) mine a b =
       let out : t.outcome ≡ a.0.outcome = ap (λ (z : Turn). z.outcome) a.4 in
       let out' : t'.outcome ≡ b.0.outcome = ap (λ (z : Turn). z.outcome) b.4 in
-      let task : a.1 ≡ b.1 = task_one (lane_of w t.event.lane) t.event.what a.1 b.1 a.2 b.2 in
+      let task : a.1 ≡ b.1 = task_one (layout w.site u) (lane_of w t.event.lane) t.event.what a.1 b.1 a.2 b.2 in
       let does : Does (hosts w.site u) (algorithms w.site u) u2 a.1 b.0 = subst (λ k. Does (hosts w.site u) (algorithms w.site u) u2 k b.0) (sym task) b.3 in
-      let same : a.0 ≡ b.0 = does_twin H w.table u2 twins (hosts w.site u) (algorithms w.site u) a.1 a.0 b.0 a.3 does (sym (ap code_of out) ∙ codes ∙ ap code_of out') (λ r k res one. allows a.1 r a.2 k res (ap code_of out ∙ one)) in
+      let same : a.0 ≡ b.0 = does_twin H w.table u2 twins (hosts w.site u) (algorithms w.site u) a.1 a.0 b.0 a.3 does (sym (ap code_of out) ∙ codes ∙ ap code_of out') (λ r k res one. allows a.1 r (subst (λ l. IsTask l (lane_of w t.event.lane) t.event.what a.1) (sym (ap (layout_for w.site) mine)) a.2) k res (ap code_of out ∙ one)) in
       alike_by t t' (after_effect w t.event a.0) (after_effect (with_table w u2) t.event a.0)
       (out ∙ ap (λ (z : Effect). z.outcome) same ∙ sym out')
       (ap (λ (z : Turn). z.after) a.4)
@@ -65,7 +65,7 @@ module _ (H : List (List ℕ)) where
   step_twin_on : (w : World) (u2 : Table) → AreTwins H w.table u2 → (t t' : Turn) → t.event ≡ t'.event → code_of t.outcome ≡ code_of t'.outcome → AllowsTurn H w t
       → IsStep w t → IsStep (with_table w u2) t' → Alike t t'
   step_twin_on w u2 twins t t' is codes allows (inl a) (inl b) =
-      answers_twin w u2 twins t t' is codes allows (owner w.site t.event.lane) (at_event w t.event t refl a) (at_event (with_table w u2) t.event t' (sym is) b)
+      answers_twin w u2 twins t t' is codes allows (owner w.site t.event.lane) refl (at_event w t.event t refl a) (at_event (with_table w u2) t.event t' (sym is) b)
   step_twin_on w u2 twins t t' is codes allows (inl a) (inr b) = absurd (not_busy_code w (with_table w u2) t t' t.event codes (at_event w t.event t refl a) b)
   step_twin_on w u2 twins t t' is codes allows (inr a) (inl b) = absurd (not_busy_code (with_table w u2) w t' t t'.event (sym codes) (at_event (with_table w u2) t'.event t' refl b) a)
   step_twin_on w u2 twins t t' is codes allows (inr a) (inr b) =

@@ -19,7 +19,7 @@ use Rattle.hdl_msg.specs.declared.replies.ReplyContent.TheVariants.{Values, Hand
 use Rattle.hdl_ops.specs.declared.change.Change.{Change}
 use Rattle.hdl_ops.specs.Admission.{refusal, request_algorithm}
 use Rattle.hdl_ops.specs.Requests as requests
-use Rattle.hdl_ops.specs.Requests.{sent_handle, resolves, is_list}
+use Rattle.hdl_ops.specs.Requests.{sent_handle, resolves, is_list, stored_operation}
 use Rattle.hdl_ops.specs.Sights.{Sight, sight, asks}
 use Rattle.hdl_ops.specs.Proven.{Proof}
 use Rattle.hdl_ops.specs.Replies.{fits}
@@ -121,7 +121,7 @@ module _ (H : List (List ℕ)) (t t' : Table) (twins : AreTwins H t t') where
   sight_names_twin r = ap (λ names. if is_list r.operation then names else []) (names_twin (prefix (sent_handle r.operation)))
 
   carried_twin : (o : Operation) (r : Content) (level : Level) → (IsTrue (resolves o) → Reads (is_held H (requests.handle_of r)) level) → carried_by o (sight t r) r level ≡ carried_by o (sight t' r) r level
-  carried_twin (resolution handle indexes types) r level f = ap (Values handle) (show_twin r level (f refl))
+  carried_twin (resolution handle indexes types) r level f = ap (Values r.wire handle) (show_twin r level (f refl))
   carried_twin (list handle) r level f = ap Handles (sight_names_twin r)
   carried_twin (create handle values) r level f = refl
   carried_twin (delete handle) r level f = refl
@@ -132,7 +132,7 @@ module _ (H : List (List ℕ)) (t t' : Table) (twins : AreTwins H t t') where
   carried_twin (other octets) r level f = refl
 
   success_twin : (r : Content) (level : Level) → (IsTrue (resolves r.operation) → Reads (is_held H (requests.handle_of r)) level) → success (sight t r) r level ≡ success (sight t' r) r level
-  success_twin r level f = λ i. record { code = 1; content = carried_twin r.operation r level f i; change = change_of r.operation }
+  success_twin r level f = λ i. record { code = 1; content = carried_twin r.operation r level f i; change = change_of (stored_operation r) }
 
   -- decisions of one code are one
   decides_twin : (g : Algorithm) (r : Content) (level : Level) (d d' : Decision) (c : Option ℕ) → DecidesBy g t r level c d → DecidesBy g t' r level c d' → d.code ≡ d'.code → (d.code ≡ 1 → IsTrue (resolves r.operation) → Reads (is_held H (requests.handle_of r)) level) → d ≡ d'

@@ -4,7 +4,7 @@ use Rattle.hdl_slots.specs.Lanes.{challenge_of}
 use Rattle.hdl_reach.specs.Cost.{Most, HasAtMost}
 use Rattle.hdl_ops.specs.Cost.{proof_cost}
 use Rattle.hdl_events.specs.declared.Event.{Event}
-use Rattle.hdl_events.specs.declared.Happening.{Happening}
+use Rattle.hdl_events.specs.declared.What.{What}
 use Rattle.hdl_events.specs.declared.Outcome.{Outcome}
 use Rattle.hdl_laws.specs.Lanes.{LaneState}
 use Rattle.hdl_laws.specs.Worlds.{World}
@@ -16,8 +16,8 @@ abbrev pub IsUnchallenged : LaneState → ℕ → Type 0
 IsUnchallenged lane peer = (number : ℕ) → challenge_of lane.challenges.challenges peer number ≡ None
 
 -- the event isn't a frame, or it comes from a peer to whom no challenge is pending
-abbrev pub IsStranger : LaneState → Happening → Type 0
-IsStranger lane (Happening.Frame peer moment nonce bytes) = IsUnchallenged lane peer
+abbrev pub IsStranger : LaneState → What → Type 0
+IsStranger lane (What.Frame peer moment nonce bytes) = IsUnchallenged lane peer
 IsStranger lane _ = ⊤
 
 -- the table has no more than this before each of the turns

@@ -30,13 +30,13 @@ pub record Effect : Type 0 where
   pub state : LaneState
   pub change : Option Change
 
--- a reply to the request of this algorithm, with the envelope's session and request number
-abbrev pub answer_octets : Algorithm → Envelope → Content → ℕ → ReplyContent → List ℕ
-answer_octets algorithm envelope request code content = reply_octets (reply_to algorithm envelope.session envelope.request request code content)
+-- a reply of this moment to the request of this algorithm, with the envelope's session and request number
+abbrev pub answer_octets : Algorithm → ℕ → Envelope → Content → ℕ → ReplyContent → List ℕ
+answer_octets algorithm moment envelope request code content = reply_octets (reply_to algorithm moment envelope.session envelope.request request code content)
 
--- a challenge under this number, with the envelope's request number
-abbrev pub challenge_octets : Algorithm → ℕ → Envelope → Content → List ℕ → List ℕ
-challenge_octets algorithm number envelope request nonce = reply_octets (challenge_to algorithm number envelope.request request nonce)
+-- a challenge of this moment under this number, with the envelope's request number
+abbrev pub challenge_octets : Algorithm → ℕ → ℕ → Envelope → Content → List ℕ → List ℕ
+challenge_octets algorithm moment number envelope request nonce = reply_octets (challenge_to algorithm moment number envelope.request request nonce)
 
 -- the request that waits for its response
 abbrev pub pending : Algorithm → Message → Content → Pending
@@ -45,7 +45,7 @@ pending algorithm arrival request = record { peer = arrival.peer; moment = arriv
 -- the lane's next number, and the challenge put under it
 abbrev pub challenge_effect : Algorithm → LaneState → Message → Content → Effect
 challenge_effect algorithm state arrival request = record {
-  outcome = Reply (challenge_octets algorithm state.challenges.next arrival.envelope request arrival.nonce);
+  outcome = Reply (challenge_octets algorithm arrival.moment state.challenges.next arrival.envelope request arrival.nonce);
   state = record state { challenges = add_challenge state.challenges (pending algorithm arrival request) };
   change = None;
 }
@@ -53,7 +53,7 @@ challenge_effect algorithm state arrival request = record {
 -- the reply to the request, and the change
 abbrev pub answer_effect : Algorithm → LaneState → Message → Content → Decision → Effect
 answer_effect algorithm state arrival request decision = record {
-  outcome = Reply (answer_octets algorithm arrival.envelope request decision.code decision.content);
+  outcome = Reply (answer_octets algorithm arrival.moment arrival.envelope request decision.code decision.content);
   state = state;
   change = decision.change;
 }

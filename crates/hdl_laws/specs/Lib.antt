@@ -8,3 +8,4 @@ pub mod Cost
 pub mod Reveals
 pub mod Isolation
 pub mod Laws
+pub mod Limits

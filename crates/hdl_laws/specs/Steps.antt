@@ -8,25 +8,25 @@ use Rattle.hdl_msg.specs.declared.codes.ResponseCode.TheVariants.{ServerBusy}
 use Rattle.hdl_msg.specs.Reply.{short_reply}
 use Rattle.hdl_ops.specs.declared.change.Change.{Change}
 use Rattle.hdl_ops.specs.Tables.{apply_if}
-use Rattle.hdl_events.specs.declared.Happening.{Happening}
-use Rattle.hdl_events.specs.declared.Happening.TheVariants.{Open, Bad, Close}
+use Rattle.hdl_events.specs.declared.What.{What}
+use Rattle.hdl_events.specs.declared.What.TheVariants.{Open, Bad, Close}
 use Rattle.hdl_events.specs.declared.Event.{Event}
 use Rattle.hdl_events.specs.declared.Outcome.{Outcome}
 use Rattle.hdl_events.specs.declared.Outcome.TheVariants.{Busy, Silent}
-use Rattle.hdl_laws.specs.Worlds.{World, owner, hosts, algorithms, lane_of}
+use Rattle.hdl_laws.specs.Worlds.{World, owner, hosts, algorithms, lane_of, layout}
 use Rattle.hdl_laws.specs.Tasks.{Received, Task, IsTask}
 use Rattle.hdl_laws.specs.Effects.{Effect, Does}
 
 -- the moment of an event, which a change of the table is stamped with
-abbrev pub moment_of : Happening → ℕ
+abbrev pub moment_of : What → ℕ
 moment_of Open = 0
-moment_of (Happening.Frame peer moment nonce bytes) = moment
+moment_of (What.Frame peer moment nonce bytes) = moment
 moment_of (Bad session request) = 0
 moment_of Close = 0
 
 -- the frame event of what was received
-abbrev pub happening_of : Received → Happening
-happening_of received = Happening.Frame received.peer received.moment received.nonce received.bytes
+abbrev pub what_of : Received → What
+what_of received = What.Frame received.peer received.moment received.nonce received.bytes
 
 -- one step: the event, its outcome, the change that it made, the world after it
 pub record Turn : Type 0 where
@@ -49,7 +49,7 @@ turn world event effect = record { event = event; outcome = effect.outcome; chan
 abbrev pub IsAnswerFor : World → Option ℕ → Turn → Type 0
 IsAnswerFor world None step = step ≡ record { event = step.event; outcome = Silent; change = None; after = world }
 IsAnswerFor world (Some publisher) step =
-    (effect : Effect) × (task : Task) × IsTask (lane_of world step.event.lane) step.event.what task
+    (effect : Effect) × (task : Task) × IsTask (layout world.site publisher) (lane_of world step.event.lane) step.event.what task
     × Does (hosts world.site publisher) (algorithms world.site publisher) world.table task effect × (step ≡ turn world step.event effect)
 
 abbrev pub IsAnswer : World → Turn → Type 0
@@ -58,7 +58,7 @@ IsAnswer world step = IsAnswerFor world (owner world.site step.event.lane) step
 -- want of memory, or a refusal of the store: a frame on an open lane of somebody is answered busy, and the world stays
 pub record IsBusy (world : World) (step : Turn) : Type 0 where
   pub received : Received
-  pub frame_event : step.event.what ≡ happening_of received
+  pub frame_event : step.event.what ≡ what_of received
   pub frame : IsFrame received.bytes
   pub owned : owner world.site step.event.lane ≢ None
   pub is_open : IsTrue (lane_of world step.event.lane).is_open

@@ -7,14 +7,15 @@ use Rattle.hdl_frame.specs.declared.envelope.Envelope.{Envelope}
 use Rattle.hdl_frame.specs.Envelope.{envelope_at, is_truncated}
 use Rattle.hdl_frame.specs.Frames.{IsFrame}
 use Rattle.hdl_msg.specs.Message.{Content, SpellsRequest}
+use Rattle.hdl_value.specs.declared.wire.Wire.{Wire}
 use Rattle.hdl_pool.specs.Partial.{Partial, key_of, piece_of}
 use Rattle.hdl_pool.specs.Taking.{Fate, take_piece, whole_message, free_partial}
 use Rattle.hdl_slots.specs.declared.pending.Pending.{Pending}
 use Rattle.hdl_slots.specs.Lanes.{challenge_of, spend_challenge}
 use Rattle.hdl_ops.specs.Proven.{Proof}
 use Rattle.hdl_ops.specs.Requests.{Response, response_of}
-use Rattle.hdl_events.specs.declared.Happening.{Happening}
-use Rattle.hdl_events.specs.declared.Happening.TheVariants.{Open, Bad, Close}
+use Rattle.hdl_events.specs.declared.What.{What}
+use Rattle.hdl_events.specs.declared.What.TheVariants.{Open, Bad, Close}
 use Rattle.hdl_laws.specs.Lanes.{LaneState, fresh, with_partials}
 
 -- what a frame event brings
@@ -67,53 +68,53 @@ redeem_task state arrival response challenge (Some request) =
     else Redeem arrival request (record { response = response; nonce = challenge.nonce; digest = challenge.digest }) (without_challenge state arrival)
 
 -- a challenge response, by the challenge that it names
-abbrev pub IsResponseTask : LaneState → Message → Content → Response → Option Pending → Task → Type 0
-IsResponseTask state arrival request response None task = task ≡ Unknown arrival request state
-IsResponseTask state arrival request response (Some challenge) task =
-    (reading : Option Content) × IsReading (SpellsRequest challenge.message) reading × (task ≡ redeem_task state arrival response challenge reading)
+abbrev pub IsResponseTask : Wire → LaneState → Message → Content → Response → Option Pending → Task → Type 0
+IsResponseTask wire state arrival request response None task = task ≡ Unknown arrival request state
+IsResponseTask wire state arrival request response (Some challenge) task =
+    (reading : Option Content) × IsReading (SpellsRequest wire challenge.message) reading × (task ≡ redeem_task state arrival response challenge reading)
 
 -- a request, by whether it is a challenge response
-abbrev pub IsRequestTask : LaneState → Message → Content → Option Response → Task → Type 0
-IsRequestTask state arrival request None task = task ≡ Ask arrival request state
-IsRequestTask state arrival request (Some response) task =
-    IsResponseTask state arrival request response (challenge_of state.challenges.challenges arrival.peer arrival.envelope.session) task
+abbrev pub IsRequestTask : Wire → LaneState → Message → Content → Option Response → Task → Type 0
+IsRequestTask wire state arrival request None task = task ≡ Ask arrival request state
+IsRequestTask wire state arrival request (Some response) task =
+    IsResponseTask wire state arrival request response (challenge_of state.challenges.challenges arrival.peer arrival.envelope.session) task
 
 -- a message, by its reading
-abbrev pub IsContentTask : LaneState → Message → Option Content → Task → Type 0
-IsContentTask state arrival None task = task ≡ Malformed arrival state
-IsContentTask state arrival (Some request) task = IsRequestTask state arrival request (response_of request.operation) task
+abbrev pub IsContentTask : Wire → LaneState → Message → Option Content → Task → Type 0
+IsContentTask wire state arrival None task = task ≡ Malformed arrival state
+IsContentTask wire state arrival (Some request) task = IsRequestTask wire state arrival request (response_of request.operation) task
 
 -- a message, by what it spells
-abbrev pub IsMessageTask : LaneState → Message → Task → Type 0
-IsMessageTask state arrival task = (reading : Option Content) × IsReading (SpellsRequest arrival.message) reading × IsContentTask state arrival reading task
+abbrev pub IsMessageTask : Wire → LaneState → Message → Task → Type 0
+IsMessageTask wire state arrival task = (reading : Option Content) × IsReading (SpellsRequest wire arrival.message) reading × IsContentTask wire state arrival reading task
 
 -- a piece, by the message that it makes whole; the lane's partial message of its key is then gone
-abbrev pub IsWholeTask : LaneState → LaneState → Received → Option (List ℕ) → Task → Type 0
-IsWholeTask kept gone received None task = task ≡ Ignore kept
-IsWholeTask kept gone received (Some message) task = IsMessageTask gone (message_from received message) task
+abbrev pub IsWholeTask : Wire → LaneState → LaneState → Received → Option (List ℕ) → Task → Type 0
+IsWholeTask wire kept gone received None task = task ≡ Ignore kept
+IsWholeTask wire kept gone received (Some message) task = IsMessageTask wire gone (message_from received message) task
 
 -- a piece, by what becomes of it
-abbrev pub IsPieceTask : LaneState → Received → Fate × List Partial → Task → Type 0
-IsPieceTask state received after task =
-    IsWholeTask (with_partials state after.1) (with_partials state (free_partial state.partials (key_of received.peer (envelope_at received.bytes)))) received
+abbrev pub IsPieceTask : Wire → LaneState → Received → Fate × List Partial → Task → Type 0
+IsPieceTask wire state received after task =
+    IsWholeTask wire (with_partials state after.1) (with_partials state (free_partial state.partials (key_of received.peer (envelope_at received.bytes)))) received
     (whole_message after.0) task
 
 -- a frame, by its message or by the piece of one that it is
-abbrev pub IsFrameTask : LaneState → Received → Task → Type 0
-IsFrameTask state received task =
+abbrev pub IsFrameTask : Wire → LaneState → Received → Task → Type 0
+IsFrameTask wire state received task =
     MatchBool (is_truncated (envelope_at received.bytes))
-    (IsPieceTask state received (take_piece state.partials (piece_of received.peer received.bytes)) task)
-    (IsMessageTask state (message_from received (drop 20 received.bytes)) task)
+    (IsPieceTask wire state received (take_piece state.partials (piece_of received.peer received.bytes)) task)
+    (IsMessageTask wire state (message_from received (drop 20 received.bytes)) task)
 
 -- octets, by the frame that they are or are not
-abbrev pub IsOctetsTask : LaneState → Received → Task → Type 0
-IsOctetsTask state received task = (IsFrame received.bytes × IsFrameTask state received task) ⊎ ((¬ IsFrame received.bytes) × (task ≡ Ignore state))
+abbrev pub IsOctetsTask : Wire → LaneState → Received → Task → Type 0
+IsOctetsTask wire state received task = (IsFrame received.bytes × IsFrameTask wire state received task) ⊎ ((¬ IsFrame received.bytes) × (task ≡ Ignore state))
 
-abbrev pub IsTask : LaneState → Happening → Task → Type 0
-IsTask state Open task = task ≡ Ignore (fresh true)
-IsTask state Close task = task ≡ Ignore (fresh false)
-IsTask state (Bad session request) task = task ≡ (if state.is_open then Break session request state else Ignore state)
-IsTask state (Happening.Frame peer moment nonce bytes) task =
+abbrev pub IsTask : Wire → LaneState → What → Task → Type 0
+IsTask wire state Open task = task ≡ Ignore (fresh true)
+IsTask wire state Close task = task ≡ Ignore (fresh false)
+IsTask wire state (Bad session request) task = task ≡ (if state.is_open then Break session request state else Ignore state)
+IsTask wire state (What.Frame peer moment nonce bytes) task =
     MatchBool state.is_open
-    (IsOctetsTask state (record { peer = peer; moment = moment; nonce = nonce; bytes = bytes }) task)
+    (IsOctetsTask wire state (record { peer = peer; moment = moment; nonce = nonce; bytes = bytes }) task)
     (task ≡ Ignore state)

@@ -4,14 +4,18 @@ use Rattle.std.specs.Ordering.{nat_cmp}
 use Rattle.std.specs.FinMap as map
 use Rattle.hdl_auth.specs.declared.algorithm.Algorithm.{Algorithm}
 use Rattle.hdl_auth.specs.declared.algorithm.Algorithm.TheVariants.{Sha1}
+use Rattle.hdl_value.specs.declared.wire.Wire.{Wire}
+use Rattle.hdl_value.specs.declared.wire.Wire.TheVariants.{Profile}
 use Rattle.hdl_rows.specs.Table.{Table}
 use Rattle.hdl_tenants.specs.Register.{Hosting, hosts_among, algorithm_among}
 use Rattle.hdl_laws.specs.Lanes.{LaneState, fresh}
 
--- which publisher owns a lane, and which prefixes are hosted for whom, each with its hash function
+-- which publisher owns a lane, which prefixes are hosted for whom, each with its hash function, and by whose layout a publisher's lanes
+-- speak of values
 pub record Site : Type 0 where
   pub owners : map.FinMap nat_cmp ℕ
   pub hostings : List Hosting
+  pub layouts : map.FinMap nat_cmp Wire
 
 pub record World : Type 0 where
   pub site : Site
@@ -32,6 +36,15 @@ algorithms site publisher prefix = algorithm_among site.hostings publisher prefi
 abbrev pub algorithms_for : Site → Option ℕ → List ℕ → Algorithm
 algorithms_for site None prefix = Sha1
 algorithms_for site (Some publisher) prefix = algorithms site publisher prefix
+
+-- the layout that is spoken on the publisher's lanes
+abbrev pub layout : Site → ℕ → Wire
+layout site publisher = unwrap_or (map.get site.layouts publisher) Profile
+
+-- the same by a lane's owner
+abbrev pub layout_for : Site → Option ℕ → Wire
+layout_for site None = Profile
+layout_for site (Some publisher) = layout site publisher
 
 -- a lane of which nothing is kept is closed
 abbrev pub lane_of : World → ℕ → LaneState

@@ -1,6 +1,7 @@
 //! Laws over whole runs, each the contract of a function without a body.
 
 ghost use Rattle.hdl_laws.specs.Laws.{CalmIsQuiet, HasCover, JoinsRuns, KeepsCovers, RunWithoutBusyIsOne, RestrictsRuns, TwinsReplyAlike, TwoRunsAgree};
+ghost use Rattle.hdl_laws.specs.Limits.{LimitsBound};
 ghost use Rattle.hdl_laws.specs.Reveals.{StepsTell, StepsAnnounce};
 
 /// Two runs in a row are one run of the joined events.
@@ -49,4 +50,10 @@ pub fn has_cover()
 /// met.
 pub fn calm_is_quiet()
     ensures { CalmIsQuiet }
+{}
+
+/// A table whose values are within the limits of a value, and whose handles have 1,024 values at most, has these numbers for bounds: a value counts
+/// 164,637 octets at most, and the heads of a handle's values 291,840.
+pub fn limits_bound()
+    ensures { LimitsBound }
 {}

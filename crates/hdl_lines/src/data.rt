@@ -175,7 +175,7 @@ pub(crate) fn data_by(alloc: Global, format: Format, text: &[u8]) -> Result<Vec<
     }
 }
 
-/// The data that a format and what stands behind it say.
+/// The data that a format and what follows it say.
 #[tactic(auto, unfolding(crate::specs::Lines::data_in))]
 pub(crate) fn data_in(alloc: Global, text: &[u8]) -> Result<Vec<u8>, LineFault>
     ensures value { IfOk result (λ v. data_in text.now ≡ Ok v.items) }

@@ -12,7 +12,7 @@ use thiserror::Error;
 pub enum LineFault {
     #[error("the index isn't a number")]
     Index,
-    #[error("the type isn't a word")]
+    #[error("the type is empty, or has a space or other than graphic ASCII characters")]
     Type,
     #[error("the TTL isn't a number")]
     Ttl,
@@ -20,7 +20,7 @@ pub enum LineFault {
     Permissions,
     #[error("the format isn't UTF8, ADMIN, LIST or HEX")]
     Format,
-    #[error("its data is hidden")]
+    #[error("the data is HIDDEN: write the data itself")]
     Hidden,
     #[error("the data isn't text on one line")]
     Text,

@@ -70,7 +70,7 @@ pub(crate) fn is_text(octets: &[u8]) -> bool
     !has_end(octets, b' ') && is_line(octets)
 }
 
-/// The octets before the first that is `stop`, and those behind it.
+/// The octets before the first that is `stop`, and those after it.
 pub fn cut_at(octets: &[u8], stop: u8) -> Option<(&[u8], &[u8])>
     ensures { Reads (λ x. (x.0.now, x.1.now)) result (cut_at stop octets.now) }
 {
@@ -100,7 +100,7 @@ pub fn number_in(word: &[u8]) -> Option<u32>
     }
 }
 
-/// A number and the space behind it, and what follows.
+/// A number and the space after it, and what follows.
 #[tactic(auto, unfolding(crate::specs::Fields::number_at))]
 pub(crate) fn number_at(octets: &[u8]) -> Option<(u32, &[u8])>
     ensures { Reads (λ x. (x.0, x.1.now)) result (number_at octets.now) }
@@ -109,7 +109,7 @@ pub(crate) fn number_at(octets: &[u8]) -> Option<(u32, &[u8])>
     Some((number_in(word)?, rest))
 }
 
-/// A word and the space behind it, and what follows.
+/// A word and the space after it, and what follows.
 #[tactic(auto, unfolding(crate::specs::Fields::word_at))]
 pub(crate) fn word_at(octets: &[u8]) -> Option<(&[u8], &[u8])>
     ensures { Reads (λ x. (x.0.now, x.1.now)) result (word_at octets.now) }
@@ -166,7 +166,7 @@ pub fn permissions_in(digits: &[u8]) -> Option<u8>
     Some(number as u8)
 }
 
-/// The four digits of permissions and the space behind them, and what follows.
+/// The four digits of permissions and the space after them, and what follows.
 #[tactic(auto, unfolding(crate::specs::Fields::permissions_at))]
 pub(crate) fn permissions_at(octets: &[u8]) -> Option<(u8, &[u8])>
     ensures { Reads (λ x. (x.0, x.1.now)) result (permissions_at octets.now) }
@@ -183,7 +183,7 @@ pub(crate) fn put_number(out: &mut Vec<u8>, number: u32) -> Result<(), AllocErro
     out.extend_from_slice(buffer.format(number).as_bytes())
 }
 
-/// Puts so many binary digits of a number at the end, the lowest first.
+/// Puts `count` binary digits of a number at the end, the lowest first.
 pub(crate) fn put_bits(out: &mut Vec<u8>, count: u32, number: u16) -> Result<(), AllocError>
     ensures { OnOk result (out.new.items ≡ out.old.items ++ bits count number) }
 {
@@ -201,7 +201,7 @@ fn digit(bits: u8) -> u8
     b'0' + bits % 2
 }
 
-/// The four digits of a value's permissions: administrator reads, administrator writes, anybody reads, anybody writes.
+/// The four digits of a value's permissions: administrator reads, administrator writes, everyone reads, everyone writes.
 pub fn permission_digits(bits: u8) -> [u8; 4]
     ensures { result ≡ permission_digits bits }
 {

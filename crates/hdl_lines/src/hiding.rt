@@ -5,6 +5,7 @@
 ghost use Rattle.std.specs.Prelude.{◌≡◌, true, false, IfOk};
 ghost use Rattle.hdl_lines.specs.Hiding.{is_hidden, hidden_data, hidden_text, hidden_count, value_of_fields, whole_line, whole_data};
 ghost use Rattle.hdl_lines.specs.Data.{format_and_data, data_text};
+ghost use Rattle.hdl_lines.specs.Lines.{octets_text};
 
 use crate::fields::{cut_at, put_number};
 use crate::write::{data_text, fields_line, has_fields, octets_line, put_field, put_number_field};
@@ -77,16 +78,25 @@ fn value_of_fields(alloc: Global, value: &CutValue<'_>) -> Result<Option<Value>,
     Ok(Some(value))
 }
 
+/// The line of a value's octets, by our profile's layout.
+fn spelling_line(alloc: Global, value: &CutValue<'_>) -> Result<Vec<u8>, AllocError>
+    ensures { IfOk result (λ v. v.items ≡ octets_text value.now) }
+{
+    let mut octets = Vec::new(alloc);
+    value.put_spelling(&mut octets)?;
+    octets_line(alloc, &octets)
+}
+
 fn whole_line(alloc: Global, value: &CutValue<'_>) -> Result<Vec<u8>, AllocError>
     ensures { IfOk result (λ v. v.items ≡ whole_line value.now) }
 {
     match value_of_fields(alloc, value)? {
         Some(value) => fields_line(alloc, &value),
-        None => octets_line(alloc, value.octets()),
+        None => spelling_line(alloc, value),
     }
 }
 
-/// What stands behind FORMAT and a space.
+/// What follows FORMAT and a space.
 fn behind_format(alloc: Global, value: &Value) -> Result<Vec<u8>, AllocError>
     ensures { IfOk result (λ v. v.items ≡ (format_and_data (data_text value.now)).1) }
 {
@@ -102,7 +112,7 @@ fn whole_data(alloc: Global, value: &CutValue<'_>) -> Result<Vec<u8>, AllocError
 {
     match value_of_fields(alloc, value)? {
         Some(value) => behind_format(alloc, &value),
-        None => octets_line(alloc, value.octets()),
+        None => spelling_line(alloc, value),
     }
 }
 
@@ -124,7 +134,7 @@ pub fn shown_line(
     hidden_text(alloc, value.index(), value.kind(), count)
 }
 
-/// The data of a value alone, as it stands in its line behind the format, and all of a line that has no fields; of a hidden key just
+/// The data of a value alone, as it stands in its line after the format, and all of a line that has no fields; of a hidden key just
 /// `HIDDEN` and how many octets.
 pub fn shown_data(
     alloc: Global,

@@ -9,7 +9,7 @@
 //!
 //! This is the form of a value in the batch files of the Handle.Net tools (docs/HDL.md, "A value"). One space stands between two
 //! fields; the line has no line end. INDEX and TTL are decimal numbers below 2^32 without a leading zero, TYPE is one or more graphic
-//! ASCII octets, PERMISSIONS are four digits: administrator reads, administrator writes, anybody reads, anybody writes. A value that
+//! ASCII octets, PERMISSIONS are four digits: administrator reads, administrator writes, everyone reads, everyone writes. A value that
 //! such a line can't say is `OCTETS` and its digits.
 //!
 //! [`value_line`] writes the line of a value, [`read_value_line`] reads a line. The timestamp isn't part of a line, so a value that

@@ -105,7 +105,7 @@ fn sound_value(
 }
 
 /// The value of these parts, with timestamp 0. Its data stands in words: as in the formats `ADMIN` and `LIST` of HS_ADMIN and of
-/// HS_VLIST, and any other as text on one line. Refuses a type that is no word, then data that isn't so told, then what is wrong with
+/// HS_VLIST, and any other as text on one line. Refuses a type that is no word, then data that isn't so written, then what is wrong with
 /// the value itself.
 #[tactic(auto, unfolding(crate::specs::Lines::value_by_type))]
 pub fn value_by_type(
@@ -140,7 +140,7 @@ fn ttl_fault(text: &[u8]) -> LineFault
     }
 }
 
-/// The value of the fields behind its index.
+/// The value of the fields after its index.
 #[tactic(auto, unfolding(crate::specs::Lines::value_in_fields))]
 fn value_in_fields(alloc: Global, index: u32, fields: &[u8]) -> Result<Value, LineFault>
     ensures value { IfOk result (λ v. value_in_fields index fields.now ≡ Ok v) }
@@ -164,7 +164,7 @@ fn value_in_fields(alloc: Global, index: u32, fields: &[u8]) -> Result<Value, Li
 /// Reads the line of a value, which has no line end.
 ///
 /// Refuses with the first field that is wrong, from the left; then what is wrong with the value itself, as `hdl_value` says it: index
-/// 0, a limit that is broken, data of HS_ADMIN or HS_VLIST that is none. `HIDDEN` can't be read, behind the type or as a format. The format says how the data is
+/// 0, a limit that is broken, data of HS_ADMIN or HS_VLIST that is none. `HIDDEN` can't be read, after the type or as a format. The format says how the data is
 /// written, whatever the type is. Hexadecimal digits may be in either case. The value has timestamp 0.
 #[tactic(auto, unfolding(crate::specs::Lines::value_in))]
 pub fn read_value_line(alloc: Global, line: &[u8]) -> Result<Value, LineFault>

@@ -43,7 +43,7 @@ pub(crate) fn put_number_field(out: &mut Vec<u8>, number: u32) -> Result<(), All
     Ok(())
 }
 
-/// Puts index, type, TTL and permissions at the end, and a space behind each. They say all but the data of a value that
+/// Puts index, type, TTL and permissions at the end, and a space after each. They say all but the data of a value that
 /// [`has_fields`].
 #[tactic(auto, unfolding(crate::specs::Lines::fields_text))]
 fn put_fields(out: &mut Vec<u8>, value: &Value) -> Result<(), AllocError>

@@ -17,7 +17,7 @@ pub const STOP: &[u8] = b"stop\n";
 /// Only the program's own user may connect.
 const MODE: u32 = 0o600;
 
-/// Listens at a path. What a server left there that was killed is taken away first: a socket at which nobody listens.
+/// Listens at a path. First removes what a killed server left there: a socket at which no process listens.
 pub fn listen<R: Files + Net>(rt: &R, path: &str) -> io::Result<UnixListener> {
     match UnixStream::connect(rt, path) {
         Ok(_) => return Err(io::Error::from(ErrorKind::AddrInUse)),
@@ -36,7 +36,7 @@ pub struct Control {
 }
 
 impl Desk for Control {
-    /// Who said the word stays connected, and so sees when the program has ended.
+    /// A client that asked for the end stays connected, and so sees when the program has ended.
     fn answer(&self, _alloc: Global, question: &[u8]) -> Answer {
         if question == STOP {
             self.ending.ask_to_end();

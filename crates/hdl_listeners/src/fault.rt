@@ -31,16 +31,16 @@ impl HostFault {
 fn advice(kind: ErrorKind) -> &'static str {
     match kind {
         ErrorKind::AddrInUse => {
-            "a program has this port there, or the address is given twice: end that program, or take another port"
+            "another program uses this port, or the address is given twice: end that program, or choose another port"
         }
         ErrorKind::AddrNotAvailable => {
             "this machine doesn't have the address: name one that `ip address` shows"
         }
         ErrorKind::PermissionDenied => {
-            "it isn't permitted: take a port from 1024 on, or give the program the right"
+            "not permitted: choose a port from 1024 on, or give the program CAP_NET_BIND_SERVICE"
         }
         ErrorKind::Unsupported => "the system has no addresses of this kind: leave it out",
-        _ => "the system refused: look at the address and at how many files the program may open",
+        _ => "the system refused: check the address, and the limit on open files",
     }
 }
 
@@ -50,26 +50,27 @@ fn advice_on_path(kind: ErrorKind) -> &'static str {
         ErrorKind::AddrInUse => {
             "another program listens there, or the path is that of a file: end that program, or name another path"
         }
-        ErrorKind::NotFound => "its folder isn't there: make it",
+        ErrorKind::NotFound => "its folder is missing: create it",
         ErrorKind::PermissionDenied => "the program may not write there: name a folder of its own",
         ErrorKind::InvalidInput => "a socket's path has at most 107 octets: name a shorter one",
-        _ => "the system refused: look at the path and its folder",
+        _ => "the system refused: check the path and its folder",
     }
 }
 
+/// The fault line is the last one. What helps stands before it.
 impl fmt::Display for HostFault {
     fn fmt<W: fmt::Write>(&self, f: &mut fmt::Formatter<W>) -> fmt::Result {
         match self {
             HostFault::Run(fault) => write!(f, "{fault}"),
             HostFault::Listen(address, kind) => {
                 let advice = advice(*kind);
-                write!(f, "{}: cannot listen on {address}: {advice}", Fault::Device)
+                write!(f, "cannot listen on {address}: {advice}\n{}", Fault::Device)
             }
             HostFault::Control(kind) => {
                 let advice = advice_on_path(*kind);
                 write!(
                     f,
-                    "{}: cannot make the socket of --control: {advice}",
+                    "cannot make the socket of --control: {advice}\n{}",
                     Fault::Device
                 )
             }

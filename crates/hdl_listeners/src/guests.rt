@@ -21,7 +21,7 @@ const QUESTION: usize = 4096;
 
 const CHUNK: usize = 1024;
 
-/// For how many milliseconds the thread sleeps that waits for slow clients, and behind a client that the machine had no room for.
+/// For how many milliseconds the thread sleeps that waits for slow clients, and after a client that the machine had no room for.
 const PAUSE: u64 = 5;
 
 const WITHOUT_ROOM: u64 = 500;
@@ -211,7 +211,7 @@ impl<S: Read + Write + Drop> Guests<S> {
     }
 }
 
-/// Answers whoever comes, as long as the program runs. It waits for the next client while nobody asks, and else looks for one between its looks at the others.
+/// Answers each client that comes, as long as the program runs. It waits for the next client while no one asks, and else looks for one between its looks at the others.
 pub fn serve_guests<R: Clock, G: Gate, D: Desk>(rt: &R, alloc: Global, gate: &G, desk: &D) {
     let mut guests = Guests {
         asking: VecDeque::new(alloc),

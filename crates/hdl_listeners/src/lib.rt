@@ -5,7 +5,7 @@
 //!           └ supervise ─► the status page, the socket at which the word to end is taken, the log, and what is said on standard error: a thread for each
 //! ```
 //!
-//! A [`Setting`] says at which addresses a server listens, for how long it waits and serves, and what is told of it ([`Supervision`]). [`places_of`] opens each publisher's port at each address by TCP
+//! A [`Setting`] says at which addresses a server listens, for how long it waits and serves, and what is reported of it ([`Supervision`]). [`places_of`] opens each publisher's port at each address by TCP
 //! and UDP, and answers the lines that tell where; [`start`] starts a worker of `hdl_workers` for each lane, over the doors of `hdl_sockets`; [`join_all`] joins them. [`supervise`] opens the sockets
 //! at which a server is watched and ended, and `Supervised::start` has threads answer there, write the log and say what is due. Why a server doesn't serve is a [`HostFault`], which says what to do.
 //!
@@ -20,7 +20,7 @@
 //! # Decisions
 //!
 //! - **Shared listeners**: a publisher's stream workers have clones of its listeners, one at each address, so whichever is free takes the next connection.
-//! - **Who asks slowly holds nobody up** (`guests`): the status page and the socket of `--control` have a thread each, whose calls don't wait while somebody asks. It serves 32 clients at a time; one more
+//! - **A slow client holds no other one up** (`guests`): the status page and the socket of `--control` have a thread each, whose calls don't wait while a client asks. It serves 32 clients at a time; one more
 //!   ends the one that came first, and each has five seconds.
 //! - **Every worker's nonces are seeded before the first one starts**: where the machine's random source fails, nothing serves.
 #![tactic(auto)]

@@ -52,7 +52,7 @@ impl Limits {
     }
 }
 
-/// Where a server listens, its limits, the bounds of its publishers, and what is told of it.
+/// Where a server listens, its limits, the bounds of its publishers, and what is reported of it.
 #[derive(Drop)]
 pub struct Setting {
     /// The addresses at which each publisher's port is opened, by TCP and UDP.
@@ -64,7 +64,7 @@ pub struct Setting {
 }
 
 impl Setting {
-    /// 127.0.0.1 alone, with these limits, no bounds, and nothing told.
+    /// A setting on 127.0.0.1 alone, with these limits, without bounds, log or status page.
     pub fn on_loopback(alloc: Global, limits: Limits) -> Result<Setting, AllocError> {
         let mut addresses = Vec::new(alloc);
         addresses.push(IpAddr::V4(Ipv4Addr::LOCALHOST))?;
@@ -77,10 +77,10 @@ impl Setting {
     }
 }
 
-/// So many lanes a publisher has at least that has an overflow lane: two for a connection each, this one, and that of its datagrams.
+/// The least number of lanes of a publisher that has an overflow lane: two for a connection each, this one, and that of its datagrams.
 const LANES_WITH_CROWD: u16 = 4;
 
-/// How many descriptors each lane wants beside its crowd, and the program beside its lanes.
+/// How many descriptors each lane wants in addition to its crowd, and the program in addition to its lanes.
 const OF_LANE: u64 = 4;
 
 const OF_PROGRAM: u64 = 10;
@@ -181,7 +181,7 @@ fn crowd_at<R: Net>(
     Ok(Some(Crowd::new(rt, alloc, seat, most, patience)?))
 }
 
-/// The seats of a publisher with so many lanes, and its overflow lane, where there is to be one.
+/// The seats of a publisher with `lanes` lanes, and its overflow lane, where there is to be one.
 fn seats_and_crowd<R: Net + Clock>(
     rt: &R,
     alloc: Global,
@@ -196,7 +196,7 @@ fn seats_and_crowd<R: Net + Clock>(
     Ok((seats, crowd))
 }
 
-/// The place of a publisher with so many lanes, of which the last is that of its datagrams.
+/// The place of a publisher, whose last lane is that of its datagrams.
 fn place_of<R: Net + Clock>(
     rt: &R,
     alloc: Global,

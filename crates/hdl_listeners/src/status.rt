@@ -22,7 +22,7 @@ pub struct StatusPage {
     pub log: Option<Arc<Flow>>,
 }
 
-/// What is answered: the line behind the version, the kind of the body, and the body.
+/// What is answered: the line after the version, the kind of the body, and the body.
 #[derive(Drop)]
 struct Page {
     status: &'static str,
@@ -63,7 +63,7 @@ impl StatusPage {
             counts.put_connections(out)?;
         }
         out.write_str(
-            "# HELP handled_last_change_timestamp_seconds When a change was accepted last, by publisher.\n# TYPE handled_last_change_timestamp_seconds gauge\n",
+            "# HELP handled_last_change_timestamp_seconds When the last change was accepted, by publisher.\n# TYPE handled_last_change_timestamp_seconds gauge\n",
         )?;
         for counts in &self.counts {
             counts.put_changed(out)?;
@@ -76,12 +76,12 @@ impl StatusPage {
         let shut = u8::from(self.health.is_shut());
         writeln!(
             out,
-            "# HELP handled_table_shut 1 where the table takes no changes until the next start, since its file failed or was taken away.\n# TYPE handled_table_shut gauge\nhandled_table_shut {shut}"
+            "# HELP handled_table_shut 1 while the table takes no changes, after its file failed or was moved or changed.\n# TYPE handled_table_shut gauge\nhandled_table_shut {shut}"
         )?;
         let failing = u8::from(self.health.is_failing());
         writeln!(
             out,
-            "# HELP handled_table_failing 1 where the last change couldn't be written.\n# TYPE handled_table_failing gauge\nhandled_table_failing {failing}"
+            "# HELP handled_table_failing 1 if the last change couldn't be written.\n# TYPE handled_table_failing gauge\nhandled_table_failing {failing}"
         )?;
         let failures = self.health.failures();
         writeln!(
@@ -95,12 +95,12 @@ impl StatusPage {
         let short = u8::from(self.health.is_short());
         writeln!(
             out,
-            "# HELP handled_memory_short 1 where less memory is left than is kept aside.\n# TYPE handled_memory_short gauge\nhandled_memory_short {short}"
+            "# HELP handled_memory_short 1 while less memory is left than is kept aside.\n# TYPE handled_memory_short gauge\nhandled_memory_short {short}"
         )?;
         let refusals = self.health.refusals();
         writeln!(
             out,
-            "# HELP handled_memory_refusals_total Changes that were refused since less memory was left.\n# TYPE handled_memory_refusals_total counter\nhandled_memory_refusals_total {refusals}"
+            "# HELP handled_memory_refusals_total Changes that were refused for want of memory.\n# TYPE handled_memory_refusals_total counter\nhandled_memory_refusals_total {refusals}"
         )
     }
 

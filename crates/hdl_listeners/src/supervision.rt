@@ -1,4 +1,4 @@
-//! What a server tells of itself beside its answers, and how it takes the word to end.
+//! What a server tells of itself in addition to its answers, and how it takes the word to end.
 
 use crate::control::{Control, listen};
 use crate::fault::HostFault;
@@ -19,7 +19,7 @@ use std::thread::Threads;
 use std::time::Duration;
 use std::{io, thread};
 
-/// How often it is looked at the end whether everything is told, and for how many milliseconds each time.
+/// How many times a server that ends looks whether all lines are written, and for how many milliseconds it waits each time.
 const LOOKS: u32 = 100;
 
 const LOOK: u64 = 20;
@@ -46,7 +46,7 @@ pub struct Supervision {
 }
 
 impl Supervision {
-    /// Nothing is told, and nobody asks.
+    /// No log, no status page, no control socket.
     pub fn none(alloc: Global) -> Result<Supervision, AllocError> {
         Ok(Supervision {
             log: None,
@@ -60,7 +60,7 @@ impl Supervision {
         })
     }
 
-    /// Voices for so many lanes; none where there is no log.
+    /// Voices for `lanes` lanes; none where there is no log.
     fn voices(&mut self, alloc: Global, lanes: u16) -> Result<Vec<Voice>, AllocError> {
         let mut voices = Vec::new(alloc);
         if let Some(log) = &mut self.log {
@@ -71,7 +71,7 @@ impl Supervision {
         Ok(voices)
     }
 
-    /// What is recorded of a publisher with so many lanes, if anything is.
+    /// The recorders of a publisher with `lanes` lanes, if a log or a status page is asked for.
     pub fn record_of(
         &mut self,
         alloc: Global,
@@ -110,7 +110,7 @@ impl Watched {
         self.telling.is_log_written() && !self.telling.has_due()
     }
 
-    /// At the end, once all lanes have ended: waits until everything is told, two seconds at most.
+    /// Once all lanes have ended: waits until all lines are written, two seconds at most.
     pub fn leave<R: Clock>(&self, rt: &R) {
         self.telling.end_log();
         for _ in 0..LOOKS {

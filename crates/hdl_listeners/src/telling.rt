@@ -7,7 +7,7 @@ use std::sync::Arc;
 use std::thread;
 use std::time::Duration;
 
-/// Each so many milliseconds it is looked what is due.
+/// Milliseconds between two looks for what is due.
 const PAUSE: u64 = 50;
 
 /// What may have to be said: of the table, of the bounds of publishers, and of the log, where there is one.
@@ -18,7 +18,7 @@ pub struct Telling {
     pub log: Option<Arc<Flow>>,
 }
 
-/// Another owner of how the lines of the log go, where there is one.
+/// A second handle of the log's flow, if there is a log.
 fn flow_clone(flow: &Option<Arc<Flow>>) -> Result<Option<Arc<Flow>>, AllocError> {
     match flow {
         Some(flow) => Ok(Some(Arc::try_clone(flow)?)),
@@ -27,7 +27,7 @@ fn flow_clone(flow: &Option<Arc<Flow>>) -> Result<Option<Arc<Flow>>, AllocError>
 }
 
 impl Telling {
-    /// Another owner of the same.
+    /// A second handle of the same.
     pub fn try_clone(&self) -> Result<Telling, AllocError> {
         Ok(Telling {
             health: Arc::try_clone(&self.health)?,
@@ -36,7 +36,7 @@ impl Telling {
         })
     }
 
-    /// Whether something is due.
+    /// Whether a line is still to be printed.
     pub fn has_due(&self) -> bool {
         let is_due = self.health.has_due() || self.bounds.iter().any(|notice| notice.is_due());
         match &self.log {
@@ -45,7 +45,7 @@ impl Telling {
         }
     }
 
-    /// No more lines of the log come.
+    /// Notes that no more lines of the log come.
     pub fn end_log(&self) {
         if let Some(flow) = &self.log {
             flow.end();

@@ -17,7 +17,7 @@ use std::thread;
 use std::thread::{JoinHandle, Threads};
 use std::vec::IntoIter;
 
-/// What a worker has beside its sockets: its side of the lane, the bell of the thread that serves, its nonces and its turns.
+/// What a worker has in addition to its sockets: its side of the lane, the bell of the thread that serves, its nonces and its turns.
 #[derive(Drop)]
 pub struct Side {
     ends: WorkerSide,
@@ -281,7 +281,7 @@ pub fn join_all<R: Threads>(
 ) -> Result<(), Fault> {
     let mut ended = Ok(());
     for worker in workers {
-        if worker.join(rt).reason == EndReason::Device && !ending.is_asked() {
+        if worker.join(rt).why == EndReason::Device && !ending.is_asked() {
             ended = Err(Fault::Device);
         }
     }

@@ -11,6 +11,8 @@ use Rattle.hdl_auth.specs.declared.algorithm.Digest.TheVariants.{Sha1, Sha256}
 use Rattle.hdl_auth.specs.Digest.{digest_spelling}
 use Rattle.hdl_limits.specs.Octets.{AreOctets}
 use Rattle.hdl_value.specs.Spelling.{string, IsString}
+use Rattle.hdl_value.specs.declared.wire.Wire.{Wire}
+use Rattle.hdl_value.specs.declared.wire.Wire.TheVariants.{Profile}
 use Rattle.hdl_value.specs.Reading.{◌>>=◌, pair_at, whole_of, number_at, octets_at, octet_at, string_at, Takes, IsCodec}
 use Rattle.hdl_value.proofs.FieldLaws.{bind_some, some_is, octets_take, octets_again, octet_takes, Takes-then, IsLong}
 use Rattle.hdl_value.proofs.Codecs.{pair_codec, string_codec, octets_codec}
@@ -27,10 +29,11 @@ use Rattle.hdl_msg.specs.declared.reply_view.ReplyForm.TheVariants as form
 use Rattle.hdl_msg.specs.Message.{number, count_prefixed, header_octets, IsNumber, AreFew, strings_at, values_at, message_at, message_layout}
 use Rattle.hdl_msg.specs.Reading.{sized_digest_at, digest_behind, digest_at, announced_digest_at, prefix_in, shown_values_in, handles_in, nothing_in, referral_in, nonce_in, empty_in, content_in, reply_body_in, reply_at}
 use Rattle.hdl_limits.specs.declared.TheConstants.{MESSAGE_MAX}
-use Rattle.hdl_msg.specs.Reply.{content_octets, digest_octets, reply_body, reply_message, reply_octets, short_header, short_reply, ReplyParts, reply_parts, announces_digest, announced_form, form_of, IsWholeDigest, DigestFits, ContentFits, IsAnnounced, PartsFit, parts_body, SpellsReply, FramesReply, IsReplyFrame}
+use Rattle.hdl_msg.specs.Reply.{IsByWire, wire_of_content, parts_read, content_octets, digest_octets, reply_body, reply_message, reply_octets, short_header, short_reply, ReplyParts, reply_parts, announces_digest, announced_form, form_of, IsWholeDigest, DigestFits, ContentFits, IsAnnounced, PartsFit, parts_body, SpellsReply, FramesReply, IsReplyFrame}
 use Rattle.hdl_msg.specs.Laws.{IsReadable, reply_of, short_parts}
 use Rattle.hdl_msg.proofs.Codecs.{Message, MessageFits, message_codec, write_codec, strings_codec, u32_codec, AreOctets-front, AreOctets-back}
 use Rattle.hdl_msg.proofs.Written.{length-reply_message}
+use Rattle.hdl_msg.proofs.Seen.{own_wire, same_wire, same_form, same_message, same_octets, reply_seen_by}
 
 -- a test that was passed
 passed : {A : Type 0} (b : Bool) (o : Option A) (y : A) → cond b o None ≡ Some y → (b ≡ true) × (o ≡ Some y)
@@ -94,8 +97,9 @@ announced_again (Some d) rest fits = rw (digest_again d rest fits) refl
 
 -- ---- contents
 
--- the octets are a content of this form
-pub record SpellsContent (f : ReplyForm) (octets : List ℕ) (content : ReplyContent) : Type 0 where
+-- by this layout the octets are a content of this form
+pub record SpellsContent (wire : Wire) (f : ReplyForm) (octets : List ℕ) (content : ReplyContent) : Type 0 where
+  pub by_wire : IsByWire wire content
   pub fits : ContentFits content
   pub has_form : form_of content ≡ f
   pub spelt : octets ≡ content_octets content
@@ -116,29 +120,29 @@ prefix_again prefix = rw (octets_again 5 (codes "0.NA/") prefix refl) refl
 referral_codec : IsCodec (pair_at string_at (number_at w32)) (λ x. string x.0 ++ number x.1) (λ x. IsString x.0 × IsNumber x.1)
 referral_codec = pair_codec string_at string IsString (number_at w32) number IsNumber string_codec u32_codec
 
-values_takes : (octets : List ℕ) (content : ReplyContent) → AreOctets octets → shown_values_in octets ≡ Some content → SpellsContent form.Values octets content
+values_takes : (wire : Wire) (octets : List ℕ) (content : ReplyContent) → AreOctets octets → shown_values_in wire octets ≡ Some content → SpellsContent wire form.Values octets content
 unfolding shown_values_in
-values_takes octets content fits e =
-    let a = bind_some (whole_of (pair_at string_at values_at) octets) (λ x. Some (Values x.0 x.1)) content e in
-    let t = whole_takes _ _ _ write_codec octets a.0 fits a.1 in
-    subst (λ (c : ReplyContent). SpellsContent form.Values octets c) (some_is (Values a.0.0 a.0.1) content a.2) (record { fits = t.1; has_form = refl; spelt = t.0 })
+values_takes wire octets content fits e =
+    let a = bind_some (whole_of (pair_at string_at (values_at wire)) octets) (λ x. Some (Values wire x.0 x.1)) content e in
+    let t = whole_takes _ _ _ (write_codec wire) octets a.0 fits a.1 in
+    subst (λ (c : ReplyContent). SpellsContent wire form.Values octets c) (some_is (Values wire a.0.0 a.0.1) content a.2) (record { by_wire = refl; fits = t.1; has_form = refl; spelt = t.0 })
 
-handles_takes : (octets : List ℕ) (content : ReplyContent) → AreOctets octets → handles_in octets ≡ Some content → SpellsContent form.Handles octets content
+handles_takes : (wire : Wire) (octets : List ℕ) (content : ReplyContent) → AreOctets octets → handles_in octets ≡ Some content → SpellsContent wire form.Handles octets content
 unfolding handles_in
-handles_takes octets content fits e =
+handles_takes wire octets content fits e =
     let a = bind_some (whole_of strings_at octets) (λ x. Some (Handles x)) content e in
     let t = whole_takes strings_at (count_prefixed string) (AreFew IsString) strings_codec octets a.0 fits a.1 in
-    subst (λ (c : ReplyContent). SpellsContent form.Handles octets c) (some_is (Handles a.0) content a.2) (record { fits = t.1; has_form = refl; spelt = t.0 })
+    subst (λ (c : ReplyContent). SpellsContent wire form.Handles octets c) (some_is (Handles a.0) content a.2) (record { by_wire = tt; fits = t.1; has_form = refl; spelt = t.0 })
 
-nothing_takes : (octets : List ℕ) (content : ReplyContent) → nothing_in octets ≡ Some content → SpellsContent form.Nothing octets content
+nothing_takes : (wire : Wire) (octets : List ℕ) (content : ReplyContent) → nothing_in octets ≡ Some content → SpellsContent wire form.Nothing octets content
 unfolding nothing_in
-nothing_takes octets content e =
+nothing_takes wire octets content e =
     let g = cond_some (eqb (length octets) 0) Nothing content e in
-    subst (λ (c : ReplyContent). SpellsContent form.Nothing octets c) g.1 (record { fits = tt; has_form = refl; spelt = nil_from_length octets (eqb-true _ _ g.0) })
+    subst (λ (c : ReplyContent). SpellsContent wire form.Nothing octets c) g.1 (record { by_wire = tt; fits = tt; has_form = refl; spelt = nil_from_length octets (eqb-true _ _ g.0) })
 
-referral_takes : (octets : List ℕ) (content : ReplyContent) → AreOctets octets → referral_in octets ≡ Some content → SpellsContent form.Referral octets content
+referral_takes : (wire : Wire) (octets : List ℕ) (content : ReplyContent) → AreOctets octets → referral_in octets ≡ Some content → SpellsContent wire form.Referral octets content
 unfolding referral_in
-referral_takes octets content fits e =
+referral_takes wire octets content fits e =
     let a = bind_some (whole_of (pair_at string_at (number_at w32)) octets) (λ x. cond (eqb x.1 0) (prefix_in x.0 >>= λ p. Some (Referral p)) None) content e in
     let p = passed (eqb a.0.1 0) (prefix_in a.0.0 >>= λ p. Some (Referral p)) content a.2 in
     let b = bind_some (prefix_in a.0.0) (λ p. Some (Referral p)) content p.1 in
@@ -146,33 +150,33 @@ referral_takes octets content fits e =
     let named = prefix_takes a.0.0 b.0 t.1.0.each b.1 in
     let zero : a.0.1 ≡ 0 = eqb-true _ _ p.0 in
     let spelt : octets ≡ string (codes "0.NA/" ++ b.0) ++ number 0 = t.0 ∙ ap (λ (n : ℕ). string a.0.0 ++ number n) zero ∙ ap (λ (s : List ℕ). string s ++ number 0) named in
-    subst (λ (c : ReplyContent). SpellsContent form.Referral octets c) (some_is (Referral b.0) content b.2) (record { fits = subst IsString named t.1.0; has_form = refl; spelt = spelt })
+    subst (λ (c : ReplyContent). SpellsContent wire form.Referral octets c) (some_is (Referral b.0) content b.2) (record { by_wire = tt; fits = subst IsString named t.1.0; has_form = refl; spelt = spelt })
 
-nonce_takes : (octets : List ℕ) (content : ReplyContent) → AreOctets octets → nonce_in octets ≡ Some content → SpellsContent form.Nonce octets content
+nonce_takes : (wire : Wire) (octets : List ℕ) (content : ReplyContent) → AreOctets octets → nonce_in octets ≡ Some content → SpellsContent wire form.Nonce octets content
 unfolding nonce_in
-nonce_takes octets content fits e =
+nonce_takes wire octets content fits e =
     let a = bind_some (whole_of string_at octets) (λ x. whole_of (octets_at 16) x >>= λ n. Some (Nonce n)) content e in
     let b = bind_some (whole_of (octets_at 16) a.0) (λ n. Some (Nonce n)) content a.2 in
     let t = whole_takes string_at string IsString string_codec octets a.0 fits a.1 in
     let u = whole_takes (octets_at 16) (λ text. text) (IsLong 16) (octets_codec 16) a.0 b.0 t.1.each b.1 in
-    subst (λ (c : ReplyContent). SpellsContent form.Nonce octets c) (some_is (Nonce b.0) content b.2) (record { fits = u.1; has_form = refl; spelt = t.0 ∙ ap string u.0 })
+    subst (λ (c : ReplyContent). SpellsContent wire form.Nonce octets c) (some_is (Nonce b.0) content b.2) (record { by_wire = tt; fits = u.1; has_form = refl; spelt = t.0 ∙ ap string u.0 })
 
-empty_takes : (octets : List ℕ) (content : ReplyContent) → AreOctets octets → empty_in octets ≡ Some content → SpellsContent form.Empty octets content
+empty_takes : (wire : Wire) (octets : List ℕ) (content : ReplyContent) → AreOctets octets → empty_in octets ≡ Some content → SpellsContent wire form.Empty octets content
 unfolding empty_in
-empty_takes octets content fits e =
+empty_takes wire octets content fits e =
     let a = bind_some (whole_of string_at octets) (λ x. cond (eqb (length x) 0) (Some Empty) None) content e in
     let g = cond_some (eqb (length a.0) 0) Empty content a.2 in
     let t = whole_takes string_at string IsString string_codec octets a.0 fits a.1 in
-    subst (λ (c : ReplyContent). SpellsContent form.Empty octets c) g.1 (record { fits = tt; has_form = refl; spelt = t.0 ∙ ap string (nil_from_length a.0 (eqb-true _ _ g.0)) })
+    subst (λ (c : ReplyContent). SpellsContent wire form.Empty octets c) g.1 (record { by_wire = tt; fits = tt; has_form = refl; spelt = t.0 ∙ ap string (nil_from_length a.0 (eqb-true _ _ g.0)) })
 
-content_takes : (f : ReplyForm) (octets : List ℕ) (content : ReplyContent) → AreOctets octets → content_in f octets ≡ Some content → SpellsContent f octets content
+content_takes : (wire : Wire) (f : ReplyForm) (octets : List ℕ) (content : ReplyContent) → AreOctets octets → content_in wire f octets ≡ Some content → SpellsContent wire f octets content
 unfolding content_in
-content_takes form.Values octets content fits e = values_takes octets content fits e
-content_takes form.Handles octets content fits e = handles_takes octets content fits e
-content_takes form.Nothing octets content fits e = nothing_takes octets content e
-content_takes form.Referral octets content fits e = referral_takes octets content fits e
-content_takes form.Nonce octets content fits e = nonce_takes octets content fits e
-content_takes form.Empty octets content fits e = empty_takes octets content fits e
+content_takes wire form.Values octets content fits e = values_takes wire octets content fits e
+content_takes wire form.Handles octets content fits e = handles_takes wire octets content fits e
+content_takes wire form.Nothing octets content fits e = nothing_takes wire octets content e
+content_takes wire form.Referral octets content fits e = referral_takes wire octets content fits e
+content_takes wire form.Nonce octets content fits e = nonce_takes wire octets content fits e
+content_takes wire form.Empty octets content fits e = empty_takes wire octets content fits e
 
 short16 : (n : List ℕ) → (length n ≡ 16) × AreOctets n → IsString n
 short16 n fits = record { short = omega (arith, fits.0); each = fits.1 }
@@ -180,19 +184,22 @@ short16 n fits = record { short = omega (arith, fits.0); each = fits.1 }
 none_fit : IsString []
 none_fit = record { short = omega arith; each = λ i. omega arith }
 
-content_again : (content : ReplyContent) → ContentFits content → content_in (form_of content) (content_octets content) ≡ Some content
+content_again : (wire : Wire) (content : ReplyContent) → IsByWire wire content → ContentFits content → content_in wire (form_of content) (content_octets content) ≡ Some content
 unfolding content_in shown_values_in handles_in nothing_in referral_in nonce_in empty_in
-content_again (Values handle values) fits = rw (whole_again _ _ _ write_codec (handle, values) fits) refl
-content_again (Handles handles) fits = rw (whole_again strings_at (count_prefixed string) (AreFew IsString) strings_codec handles fits) refl
-content_again Nothing fits = refl
-content_again (Referral prefix) fits = rw (whole_again _ _ _ referral_codec (codes "0.NA/" ++ prefix, 0) (fits, omega arith), prefix_again prefix) refl
-content_again (Nonce nonce) fits = rw (whole_again string_at string IsString string_codec nonce (short16 nonce fits), whole_again (octets_at 16) (λ text. text) (IsLong 16) (octets_codec 16) nonce fits) refl
-content_again Empty fits = rw (whole_again string_at string IsString string_codec [] none_fit) refl
+content_again wire (Values own handle values) by fits =
+    let read : content_in own form.Values (content_octets (Values own handle values)) ≡ Some (Values own handle values) = rw (whole_again _ _ _ (write_codec own) (handle, values) fits) refl in
+    subst (λ (w : Wire). content_in w form.Values (content_octets (Values own handle values)) ≡ Some (Values own handle values)) by read
+content_again wire (Handles handles) by fits = rw (whole_again strings_at (count_prefixed string) (AreFew IsString) strings_codec handles fits) refl
+content_again wire Nothing by fits = refl
+content_again wire (Referral prefix) by fits = rw (whole_again _ _ _ referral_codec (codes "0.NA/" ++ prefix, 0) (fits, omega arith), prefix_again prefix) refl
+content_again wire (Nonce nonce) by fits = rw (whole_again string_at string IsString string_codec nonce (short16 nonce fits), whole_again (octets_at 16) (λ text. text) (IsLong 16) (octets_codec 16) nonce fits) refl
+content_again wire Empty by fits = rw (whole_again string_at string IsString string_codec [] none_fit) refl
 
 -- ---- replies
 
--- the octets are the body behind this header
-pub record SpellsBody (h : Header) (octets : List ℕ) (p : ReplyParts) : Type 0 where
+-- by this layout the octets are the body behind this header
+pub record SpellsBody (wire : Wire) (h : Header) (octets : List ℕ) (p : ReplyParts) : Type 0 where
+  pub by_wire : IsByWire wire p.content
   pub header : p.header ≡ h
   pub digest : DigestFits p.digest
   pub content : ContentFits p.content
@@ -200,16 +207,17 @@ pub record SpellsBody (h : Header) (octets : List ℕ) (p : ReplyParts) : Type 0
   pub form_announced : form_of p.content ≡ announced_form h
   pub spelt : octets ≡ parts_body p
 
-body_takes : (h : Header) (octets : List ℕ) (p : ReplyParts) → AreOctets octets → reply_body_in h octets ≡ Some p → SpellsBody h octets p
+body_takes : (wire : Wire) (h : Header) (octets : List ℕ) (p : ReplyParts) → AreOctets octets → reply_body_in wire h octets ≡ Some p → SpellsBody wire h octets p
 unfolding reply_body_in
-body_takes h octets p fits e =
-    let d = bind_some (announced_digest_at (announces_digest h) octets) (λ d. content_in (announced_form h) d.1 >>= λ c. Some (record { header = h; digest = d.0; content = c })) p e in
-    let c = bind_some (content_in (announced_form h) d.0.1) (λ c. Some (record { header = h; digest = d.0.0; content = c })) p d.2 in
+body_takes wire h octets p fits e =
+    let d = bind_some (announced_digest_at (announces_digest h) octets) (λ d. content_in wire (announced_form h) d.1 >>= λ c. Some (record { header = h; digest = d.0; content = c })) p e in
+    let c = bind_some (content_in wire (announced_form h) d.0.1) (λ c. Some (record { header = h; digest = d.0.0; content = c })) p d.2 in
     let s = announced_takes (announces_digest h) octets d.0 fits d.1 in
-    let t = content_takes (announced_form h) d.0.1 c.0 s.rest_fits c.1 in
+    let t = content_takes wire (announced_form h) d.0.1 c.0 s.rest_fits c.1 in
     let made : ReplyParts = record { header = h; digest = d.0.0; content = c.0 } in
-    subst (λ (q : ReplyParts). SpellsBody h octets q) (some_is made p c.2)
+    subst (λ (q : ReplyParts). SpellsBody wire h octets q) (some_is made p c.2)
     (record {
+      by_wire = t.by_wire;
       header = refl;
       digest = s.fits;
       content = t.fits;
@@ -218,21 +226,22 @@ body_takes h octets p fits e =
       spelt = s.parts ∙ ap (λ (text : List ℕ). digest_octets d.0.0 ++ text) t.spelt;
     })
 
-pub reply_takes : (octets : List ℕ) (p : ReplyParts) → AreOctets octets → reply_at octets ≡ Some p → SpellsReply octets p
+pub reply_takes : (wire : Wire) (octets : List ℕ) (p : ReplyParts) → AreOctets octets → reply_at wire octets ≡ Some p → SpellsReply wire octets p
 unfolding reply_at
-reply_takes octets p fits e =
-    let m = bind_some (whole_of message_at octets) (λ m. cond (eqb (length m.1) 0) (reply_body_in m.0.0 m.0.1) None) p e in
-    let g = passed (eqb (length m.0.1) 0) (reply_body_in m.0.0.0 m.0.0.1) p m.2 in
+reply_takes wire octets p fits e =
+    let m = bind_some (whole_of message_at octets) (λ m. cond (eqb (length m.1) 0) (reply_body_in wire m.0.0 m.0.1) None) p e in
+    let g = passed (eqb (length m.0.1) 0) (reply_body_in wire m.0.0.0 m.0.0.1) p m.2 in
     let w = whole_takes message_at message_layout.write MessageFits message_codec octets m.0 fits m.1 in
     let h = m.0.0.0 in
     let text = m.0.0.1 in
     let signed = AreOctets-front octets (header_octets h ++ string text) (string m.0.1) fits w.0 in
     let inner = AreOctets-back _ (header_octets h) (string text) signed refl in
     let inside = AreOctets-back _ (number (length text)) text inner refl in
-    let b = body_takes h text p inside g.1 in
+    let b = body_takes wire h text p inside g.1 in
     let none : m.0.1 ≡ [] = nil_from_length m.0.1 (eqb-true _ _ g.0) in
     let at : octets ≡ header_octets h ++ (string text ++ string []) = w.0 ∙ append_assoc (header_octets h) (string text) (string m.0.1) ∙ ap (λ (s : List ℕ). header_octets h ++ (string text ++ string s)) none in
     record {
+      by_wire = b.by_wire;
       fits = record {
         header = rw b.header w.1.0.0;
         digest = b.digest;
@@ -246,21 +255,21 @@ reply_takes octets p fits e =
       spelt = at ∙ ap (λ (s : List ℕ). header_octets h ++ (string s ++ string [])) b.spelt ∙ ap (λ (g : Header). header_octets g ++ (string (parts_body p) ++ string [])) (sym b.header);
     }
 
-body_again : (p : ReplyParts) → PartsFit p → IsAnnounced p → reply_body_in p.header (parts_body p) ≡ Some p
+body_again : (wire : Wire) (p : ReplyParts) → IsByWire wire p.content → PartsFit p → IsAnnounced p → reply_body_in wire p.header (parts_body p) ≡ Some p
 unfolding reply_body_in
-body_again p f announced =
+body_again wire p by f announced =
     let first : announced_digest_at (announces_digest p.header) (digest_octets p.digest ++ content_octets p.content) ≡ Some (p.digest, content_octets p.content) =
     ap (λ (b : Bool). announced_digest_at b (digest_octets p.digest ++ content_octets p.content)) (sym announced.digest) ∙ announced_again p.digest (content_octets p.content) f.digest in
-    let second : content_in (announced_form p.header) (content_octets p.content) ≡ Some p.content = ap (λ (k : ReplyForm). content_in k (content_octets p.content)) (sym announced.form) ∙ content_again p.content f.content in
+    let second : content_in wire (announced_form p.header) (content_octets p.content) ≡ Some p.content = ap (λ (k : ReplyForm). content_in wire k (content_octets p.content)) (sym announced.form) ∙ content_again wire p.content by f.content in
     rw (first, second) refl
 
-pub reply_again : (octets : List ℕ) (p : ReplyParts) → SpellsReply octets p → reply_at octets ≡ Some p
+pub reply_again : (wire : Wire) (octets : List ℕ) (p : ReplyParts) → SpellsReply wire octets p → reply_at wire octets ≡ Some p
 unfolding reply_at
-reply_again octets p s =
+reply_again wire octets p s =
     let m : Message = ((p.header, parts_body p), []) in
     let whole = whole_again message_at message_layout.write MessageFits message_codec m ((s.fits.header, s.body_fits), omega arith) in
     let read : whole_of message_at octets ≡ Some m = ap (whole_of message_at) (s.spelt ∙ sym (append_assoc (header_octets p.header) (string (parts_body p)) (string []))) ∙ whole in
-    rw (read, body_again p s.fits s.announced) refl
+    rw (read, body_again wire p s.by_wire s.fits s.announced) refl
 
 -- ---- what is written
 
@@ -278,26 +287,28 @@ short_reply_framed : (code : ℕ) (e : Envelope) → IsFrame (short_reply code e
 unfolding short_reply header_octets
 short_reply_framed code e = framed e.session e.request (header_octets (short_header code) ++ (string (string []) ++ string [])) (omega arith)
 
-pub reply_spelt_lem : (y : Reply) → IsReadable y → SpellsReply (drop 20 (reply_octets y)) (reply_parts y)
+pub reply_spelt_lem : (y : Reply) → IsReadable y → SpellsReply (wire_of_content y.content) (drop 20 (reply_octets y)) (reply_parts y)
 unfolding reply_octets envelope_octets reply_message reply_body
 reply_spelt_lem y readable = record {
+  by_wire = own_wire y.content;
   fits = readable.fits;
   announced = readable.announced;
   body_fits = omega (arith, readable.short, length-reply_message y, length-append (digest_octets y.digest) (content_octets y.content));
   spelt = refl;
 }
 
-pub reply_written_lem : (octets : List ℕ) (p : ReplyParts) (session request : ℕ) → SpellsReply octets p → length octets ≤ MESSAGE_MAX → IsReadable (reply_of session request p) × (drop 20 (reply_octets (reply_of session request p)) ≡ octets)
+pub reply_written_lem : (wire : Wire) (octets : List ℕ) (p : ReplyParts) (session request : ℕ) → SpellsReply wire octets p → length octets ≤ MESSAGE_MAX → IsReadable (reply_of session request p) × (drop 20 (reply_octets (reply_of session request p)) ≡ octets)
 unfolding reply_octets envelope_octets reply_message reply_body
-reply_written_lem octets p session request s le = (
+reply_written_lem wire octets p session request s le = (
   record { fits = s.fits; announced = s.announced; short = rw (sym s.spelt) le },
   sym s.spelt,
 )
 
-pub short_reply_spelt_lem : (e : Envelope) → SpellsReply (drop 20 (short_reply 3 e)) (short_parts 3) × SpellsReply (drop 20 (short_reply 4 e)) (short_parts 4)
+pub short_reply_spelt_lem : (e : Envelope) → SpellsReply Profile (drop 20 (short_reply 3 e)) (short_parts 3) × SpellsReply Profile (drop 20 (short_reply 4 e)) (short_parts 4)
 unfolding short_reply envelope_octets announced_form
 short_reply_spelt_lem e = (
   record {
+    by_wire = tt;
     fits = record {
       header = record { op_code = omega arith; response_code = omega arith; op_flag = omega arith; serial = omega arith; recursion = omega arith; reserved = omega arith; expiration = omega arith };
       digest = tt;
@@ -308,6 +319,7 @@ short_reply_spelt_lem e = (
     spelt = refl;
   },
   record {
+    by_wire = tt;
     fits = record {
       header = record { op_code = omega arith; response_code = omega arith; op_flag = omega arith; serial = omega arith; recursion = omega arith; reserved = omega arith; expiration = omega arith };
       digest = tt;
@@ -321,11 +333,23 @@ short_reply_spelt_lem e = (
 
 -- ---- frames
 
-pub reply_framed : (y : Reply) → IsReadable y → FramesReply (reply_octets y) (reply_parts y)
+reply_framed : (y : Reply) → IsReadable y → FramesReply (wire_of_content y.content) (reply_octets y) (reply_parts y)
 unfolding reply_octets
 reply_framed y readable = record { frame = framed y.session y.request (reply_message y) readable.short; spelt = reply_spelt_lem y readable }
+
+-- what was written of a reply is read as its reader sees it
+pub reply_read_back : (y : Reply) → PartsFit (parts_read (reply_parts y)) → IsAnnounced (reply_parts y) → length (reply_message y) ≤ MESSAGE_MAX → FramesReply (wire_of_content y.content) (reply_octets y) (parts_read (reply_parts y))
+reply_read_back y fits announced short =
+    let readable : IsReadable (reply_seen_by y) = record {
+      fits = fits;
+      announced = record { digest = announced.digest; form = same_form y.content ∙ announced.form };
+      short = rw (same_message y) short;
+    } in
+    let framed = reply_framed (reply_seen_by y) readable in
+    subst (λ (w : Wire). FramesReply w (reply_octets y) (parts_read (reply_parts y))) (same_wire y.content)
+    (subst (λ (x : List ℕ). FramesReply (wire_of_content (reply_seen_by y).content) x (parts_read (reply_parts y))) (same_octets y) framed)
 
 pub short_reply_read : (e : Envelope) → IsReplyFrame (short_reply 3 e) × IsReplyFrame (short_reply 4 e)
 short_reply_read e =
     let s = short_reply_spelt_lem e in
-    ((short_parts 3, record { frame = short_reply_framed 3 e; spelt = s.0 }), (short_parts 4, record { frame = short_reply_framed 4 e; spelt = s.1 }))
+    ((Profile, short_parts 3, record { frame = short_reply_framed 3 e; spelt = s.0 }), (Profile, short_parts 4, record { frame = short_reply_framed 4 e; spelt = s.1 }))

@@ -1,10 +1,12 @@
 -- A request that is short can be written, and what is written of it spells it.
-use Rattle.std.proofs.Common.{◌≡◌, ℕ, ◌+◌, ◌*◌, ◌^◌, ◌<◌, ◌≤◌, List, [], ◌∷◌, ◌++◌, length, refl, ap, ◌∙◌, arith}
+use Rattle.std.proofs.Common.{◌≡◌, ℕ, ◌+◌, ◌*◌, ◌^◌, ◌<◌, ◌≤◌, List, [], ◌∷◌, ◌++◌, length, refl, sym, ap, ◌∙◌, arith}
 use Rattle.std.specs.List.{flat_map, AllByRecursion}
 use Rattle.std.proofs.lemmas.List.{length-append}
 use Rattle.std.proofs.lemmas.List.Concat.{flat_map-cons}
 use Rattle.hdl_value.specs.declared.value.Value.{Value}
-use Rattle.hdl_value.specs.Spelling.{string, spelling, CanBeSpelt}
+use Rattle.hdl_value.specs.Spelling.{string, CanBeSpelt}
+use Rattle.hdl_value.specs.declared.wire.Wire.{Wire}
+use Rattle.hdl_value.specs.Wires.{wire_spelling}
 use Rattle.hdl_msg.specs.declared.fields.Header.{Header}
 use Rattle.hdl_msg.specs.declared.codes.OpCode.{OpCode}
 use Rattle.hdl_msg.specs.declared.codes.OpCode.TheVariants.{Resolution as ResolutionCode, CreateHandle, DeleteHandle, AddValue, RemoveValue, ModifyValue, ListHandles, ChallengeResponse}
@@ -13,7 +15,8 @@ use Rattle.hdl_msg.specs.declared.request_body.RequestBody.TheVariants.{Resoluti
 use Rattle.hdl_msg.specs.Codes.{op_number, IsNumberOf}
 use Rattle.hdl_msg.specs.Message.{number, count_prefixed, body, header_octets, IsShort, IsNumber, HeaderFits, OperationFits, code_of, SpellsRequest}
 use Rattle.hdl_limits.specs.declared.TheConstants.{MESSAGE_MAX}
-use Rattle.hdl_msg.specs.RequestBody.{requested_operation, requested_code, request_content, request_message, request_length, CanBeRequested}
+use Rattle.hdl_msg.specs.RequestBody.{request_header, operation_read, request_read, requested_operation, requested_code, request_message, request_length, CanBeRequested}
+use Rattle.hdl_msg.proofs.Seen.{same_body}
 use Rattle.hdl_msg.proofs.Written.{few_from, each_from, some_spelling, short_value}
 
 pub length-numbers : (ns : List ℕ) → length (flat_map number ns) ≡ length ns * 4
@@ -27,47 +30,47 @@ length-numbers (n ∷ ns) =
 short_string : (t more : List ℕ) (n : ℕ) → length (string t ++ more) ≤ n → (length t ≤ n) × (length more ≤ n)
 short_string t more n le = let e = length-append t more in (omega (arith, e, le), omega (arith, e, le))
 
-can_list : (handle : List ℕ) (values : List Value) → length (string handle ++ count_prefixed spelling values) ≤ MESSAGE_MAX → IsShort handle × ((length values < 2 ^ 32) × AllByRecursion CanBeSpelt values)
-can_list handle values le =
-    let s = short_string handle (count_prefixed spelling values) MESSAGE_MAX le in
-    (omega (arith, s.0), (omega (arith, s.1, few_from spelling some_spelling values), each_from spelling CanBeSpelt (2 ^ 32) short_value values (omega (arith, s.1))))
+can_list : (wire : Wire) (handle : List ℕ) (values : List Value) → length (string handle ++ count_prefixed (wire_spelling wire) values) ≤ MESSAGE_MAX → IsShort handle × ((length values < 2 ^ 32) × AllByRecursion CanBeSpelt values)
+can_list wire handle values le =
+    let s = short_string handle (count_prefixed (wire_spelling wire) values) MESSAGE_MAX le in
+    (omega (arith, s.0), (omega (arith, s.1, few_from (wire_spelling wire) (some_spelling wire) values), each_from (wire_spelling wire) CanBeSpelt (2 ^ 32) (short_value wire) values (omega (arith, s.1))))
 
-can : (b : RequestBody) → length (body (requested_operation b)) ≤ MESSAGE_MAX → CanBeRequested b
-can (Resolution handle indexes types) le =
+can : (wire : Wire) (b : RequestBody) → length (body wire (requested_operation b)) ≤ MESSAGE_MAX → CanBeRequested b
+can wire (Resolution handle indexes types) le =
     let s = short_string handle (count_prefixed number indexes ++ count_prefixed string types) MESSAGE_MAX le in
     let e = length-append (flat_map number indexes) (count_prefixed string types) in
     (omega (arith, s.0), (omega (arith, s.1, e, length-numbers indexes), (omega (arith, s.1, e, few_from string (λ t. omega arith) types), each_from string IsShort (2 ^ 32) (λ t l. omega (arith, l)) types (omega (arith, s.1, e)))))
-can (Create handle values) le = can_list handle values le
-can (Delete handle) le = omega (arith, le)
-can (Add handle values) le = can_list handle values le
-can (Remove handle indexes) le =
+can wire (Create handle values) le = can_list wire handle values le
+can wire (Delete handle) le = omega (arith, le)
+can wire (Add handle values) le = can_list wire handle values le
+can wire (Remove handle indexes) le =
     let s = short_string handle (count_prefixed number indexes) MESSAGE_MAX le in
     (omega (arith, s.0), omega (arith, s.1, length-numbers indexes))
-can (Modify handle values) le = can_list handle values le
-can (ListAll handle) le = omega (arith, le)
-can (Response kind handle index answer) le =
+can wire (Modify handle values) le = can_list wire handle values le
+can wire (ListAll handle) le = omega (arith, le)
+can wire (Response kind handle index answer) le =
     let s = short_string kind (string handle ++ (number index ++ string answer)) MESSAGE_MAX le in
     let t = short_string handle (number index ++ string answer) MESSAGE_MAX s.1 in
     (omega (arith, s.0), (omega (arith, t.0), omega (arith, t.1)))
 
-pub can_request : (b : RequestBody) → request_length b ≤ MESSAGE_MAX → CanBeRequested b
-can_request b le = can b (omega (arith, le))
+pub can_request : (wire : Wire) (b : RequestBody) → request_length wire b ≤ MESSAGE_MAX → CanBeRequested b
+can_request wire b le = can wire b (omega (arith, le))
 
 -- ---- the whole request
 
-pub length-request_message : (h : Header) (b : RequestBody) → length (request_message h b) ≡ request_length b
+pub length-request_message : (wire : Wire) (h : Header) (b : RequestBody) → length (request_message wire h b) ≡ request_length wire b
 unfolding header_octets
-length-request_message h b = omega (arith, length-append (body (requested_operation b)) (string []))
+length-request_message wire h b = omega (arith, length-append (body wire (requested_operation b)) (string []))
 
-has_number : (b : RequestBody) → IsNumberOf (code_of (requested_operation b)) (op_number (requested_code b))
-has_number (Resolution handle indexes types) = refl
-has_number (Create handle values) = refl
-has_number (Delete handle) = refl
-has_number (Add handle values) = refl
-has_number (Remove handle indexes) = refl
-has_number (Modify handle values) = refl
-has_number (ListAll handle) = refl
-has_number (Response kind handle index answer) = refl
+has_number : (wire : Wire) (b : RequestBody) → IsNumberOf (code_of (operation_read wire (requested_operation b))) (op_number (requested_code b))
+has_number wire (Resolution handle indexes types) = refl
+has_number wire (Create handle values) = refl
+has_number wire (Delete handle) = refl
+has_number wire (Add handle values) = refl
+has_number wire (Remove handle indexes) = refl
+has_number wire (Modify handle values) = refl
+has_number wire (ListAll handle) = refl
+has_number wire (Response kind handle index answer) = refl
 
 small_code : (code : OpCode) → IsNumber (op_number code)
 small_code ResolutionCode = omega arith
@@ -79,14 +82,15 @@ small_code ModifyValue = omega arith
 small_code ListHandles = omega arith
 small_code ChallengeResponse = omega arith
 
-pub request_is_spelt : (h : Header) (n : ℕ) (b : RequestBody) → HeaderFits (record { op_code = n; response_code = h.response_code; op_flag = h.op_flag; serial = h.serial; recursion = h.recursion; reserved = h.reserved; expiration = h.expiration })
-    → OperationFits (requested_operation b) → request_length b ≤ MESSAGE_MAX → SpellsRequest (request_message h b) (request_content h b)
-request_is_spelt h n b fits parts le = record {
+pub request_is_spelt : (wire : Wire) (h : Header) (n : ℕ) (b : RequestBody) → HeaderFits (record { op_code = n; response_code = h.response_code; op_flag = h.op_flag; serial = h.serial; recursion = h.recursion; reserved = h.reserved; expiration = h.expiration })
+    → OperationFits wire (operation_read wire (requested_operation b)) → request_length wire b ≤ MESSAGE_MAX → SpellsRequest wire (request_message wire h b) (request_read wire h b)
+request_is_spelt wire h n b fits parts le = record {
+  by_wire = refl;
   header_fits = record { op_code = small_code (requested_code b); response_code = fits.response_code; op_flag = fits.op_flag; serial = fits.serial; recursion = fits.recursion; reserved = fits.reserved; expiration = fits.expiration };
   operation_fits = parts;
-  has_code = has_number b;
-  body_fits = omega (arith, le);
+  has_code = has_number wire b;
+  body_fits = let same = ap length (same_body wire (requested_operation b)) in omega (arith, le, same);
   credential = [];
   credential_fits = omega arith;
-  spelt = refl;
+  spelt = ap (λ (x : List ℕ). (header_octets (request_header h b) ++ string x) ++ string []) (sym (same_body wire (requested_operation b)));
 }

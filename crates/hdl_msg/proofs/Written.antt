@@ -7,6 +7,10 @@ use Rattle.std.proofs.lemmas.List.Concat.{flat_map-cons}
 use Rattle.hdl_value.specs.declared.value.Value.{Value}
 use Rattle.hdl_value.specs.declared.references.RawRef.{RawRef}
 use Rattle.hdl_value.specs.Spelling.{string, reference, references, spelling, CanBeSpelt}
+use Rattle.hdl_value.specs.declared.wire.Wire.{Wire}
+use Rattle.hdl_value.specs.declared.wire.Wire.TheVariants.{Profile, HandleNet}
+use Rattle.hdl_value.specs.HandleNet.{second_of, net_spelling}
+use Rattle.hdl_value.specs.Wires.{wire_spelling}
 use Rattle.hdl_msg.specs.declared.fields.Header.{Header}
 use Rattle.hdl_msg.specs.Message.{number, count_prefixed, header_octets}
 use Rattle.hdl_frame.specs.Envelope.{envelope_octets, message_envelope}
@@ -14,7 +18,7 @@ use Rattle.hdl_msg.specs.declared.replies.Reply.{Reply}
 use Rattle.hdl_msg.specs.declared.replies.ReplyContent.{ReplyContent}
 use Rattle.hdl_msg.specs.declared.replies.ReplyContent.TheVariants.{Values, Handles, Nothing, Referral, Nonce, Empty}
 use Rattle.hdl_limits.specs.declared.TheConstants.{MESSAGE_MAX}
-use Rattle.hdl_msg.specs.Reply.{CanBeWritten, content_octets, digest_octets, reply_body, reply_message, reply_octets}
+use Rattle.hdl_msg.specs.Reply.{fixed_length, CanBeWritten, content_octets, digest_octets, reply_body, reply_message, reply_octets}
 use Rattle.hdl_limits.specs.Counts.{at_most_u64}
 
 regroup_header : (o a b c d : List ℕ) (p q : ℕ) (g : List ℕ) → o ++ a ++ b ++ c ++ d ++ (p ∷ []) ++ (q ∷ []) ++ g ≡ o ++ (a ++ (b ++ (c ++ (d ++ (p ∷ (q ∷ g))))))
@@ -38,15 +42,29 @@ pub length-header_octets : (h : Header) → length (header_octets h) ≡ 20
 unfolding header_octets
 length-header_octets h = refl
 
-pub length-spelling : (v : Value) → length (spelling v) ≡ length (string v.kind) + length (string v.bytes) + length (references v.references) + length v.ttl + 13
+profile_length : (v : Value) → length (spelling v) ≡ length (string v.kind) + length (string v.bytes) + length (references v.references) + length v.ttl + 13
 unfolding spelling
-length-spelling v =
+profile_length v =
     omega (
       arith,
       length-append v.kind (string v.bytes ++ (v.ttl ++ (v.permissions ∷ (to_be_bytes w64 v.timestamp ++ references v.references)))),
       length-append v.bytes (v.ttl ++ (v.permissions ∷ (to_be_bytes w64 v.timestamp ++ references v.references))),
       length-append v.ttl (v.permissions ∷ (to_be_bytes w64 v.timestamp ++ references v.references)),
     )
+
+net_length : (v : Value) → length (net_spelling v) ≡ length (string v.kind) + length (string v.bytes) + length (references v.references) + length v.ttl + 9
+unfolding net_spelling
+net_length v =
+    omega (
+      arith,
+      length-append v.ttl (v.permissions ∷ (string v.kind ++ (string v.bytes ++ references v.references))),
+      length-append v.kind (string v.bytes ++ references v.references),
+      length-append v.bytes (references v.references),
+    )
+
+pub length-spelling : (wire : Wire) (v : Value) → length (wire_spelling wire v) ≡ length (string v.kind) + length (string v.bytes) + length (references v.references) + length v.ttl + fixed_length wire
+length-spelling Profile v = profile_length v
+length-spelling HandleNet v = net_length v
 
 pub at_most_u64-sum : (a b : ℕ) → at_most_u64 (at_most_u64 a + b) ≡ at_most_u64 (a + b)
 at_most_u64-sum a b = omega arith
@@ -79,15 +97,15 @@ each_from w P limit each (x ∷ xs) lt =
 some_reference : (r : RawRef) → 1 ≤ length (reference r)
 some_reference r = omega arith
 
-pub some_spelling : (v : Value) → 1 ≤ length (spelling v)
-some_spelling v = omega (arith, length-spelling v)
+pub some_spelling : (wire : Wire) (v : Value) → 1 ≤ length (wire_spelling wire v)
+some_spelling wire v = omega (arith, length-spelling wire v)
 
 short_handle : (r : RawRef) → length (reference r) < 2 ^ 32 → length r.handle < 2 ^ 32
 short_handle r lt = omega (arith, lt, length-append r.handle (to_be_bytes w32 r.index))
 
-pub short_value : (v : Value) → length (spelling v) < 2 ^ 32 → CanBeSpelt v
-short_value v lt =
-    let all = length-spelling v in
+pub short_value : (wire : Wire) (v : Value) → length (wire_spelling wire v) < 2 ^ 32 → CanBeSpelt v
+short_value wire v lt =
+    let all = length-spelling wire v in
     record {
       kind = omega (arith, all, lt);
       bytes = omega (arith, all, lt);
@@ -96,9 +114,9 @@ short_value v lt =
     }
 
 pub can_write : (content : ReplyContent) → length (content_octets content) < 2 ^ 32 → CanBeWritten content
-can_write (Values handle values) lt =
-    let all = length-append handle (count_prefixed spelling values) in
-    (omega (arith, all, lt), (omega (arith, all, lt, few_from spelling some_spelling values), each_from spelling CanBeSpelt (2 ^ 32) short_value values (omega (arith, all, lt))))
+can_write (Values wire handle values) lt =
+    let all = length-append handle (count_prefixed (wire_spelling wire) values) in
+    (omega (arith, all, lt), (omega (arith, all, lt, few_from (wire_spelling wire) (some_spelling wire) values), each_from (wire_spelling wire) CanBeSpelt (2 ^ 32) (short_value wire) values (omega (arith, all, lt))))
 can_write (Handles handles) lt =
     (omega (arith, lt, few_from string (λ t. omega arith) handles), each_from string (λ t. length t < 2 ^ 32) (2 ^ 32) (λ t l. omega (arith, l)) handles (omega (arith, lt)))
 can_write Nothing lt = tt

@@ -2,6 +2,7 @@
 use Rattle.std.specs.Prelude.{ℕ, List, Option, Some, None, length, codes, bytes_eq, Bool, true, false, ◌==◌, if◌then◌else◌}
 use Rattle.hdl_value.specs.declared.value.Value.{Value}
 use Rattle.hdl_value.specs.Reading.{◌>>=◌, whole_of, octet_at, string_at, octets_at}
+use Rattle.hdl_value.specs.declared.wire.Wire.{Wire}
 use Rattle.hdl_msg.specs.declared.fields.Header.{Header}
 use Rattle.hdl_msg.specs.declared.codes.OpCode.{OpCode}
 use Rattle.hdl_msg.specs.declared.codes.OpCode.TheVariants.{Resolution, CreateHandle, DeleteHandle, AddValue, RemoveValue, ModifyValue, ListHandles, ChallengeResponse}
@@ -26,8 +27,8 @@ resolution_in octets = do
   Some (resolution x.0 x.1.0 x.1.1)
 
 -- the body of a write of values: a handle and the values
-unfoldable pub with_values_in : List ℕ → Option (List ℕ × List Value)
-with_values_in octets = whole_of values_layout.read octets
+unfoldable pub with_values_in : Wire → List ℕ → Option (List ℕ × List Value)
+with_values_in wire octets = whole_of (values_layout wire).read octets
 
 unfoldable pub remove_in : List ℕ → Option Operation
 remove_in octets = do
@@ -40,25 +41,25 @@ response_in octets = do
   Some (response x.0 x.1.0 x.1.1.0 x.1.1.1)
 
 -- the body of the operation with this code, all of the octets; of one that isn't used any octets
-unfoldable pub operation_in : Option OpCode → List ℕ → Option Operation
-operation_in (Some Resolution) octets = resolution_in octets
-operation_in (Some CreateHandle) octets = with_values_in octets >>= λ x. Some (create x.0 x.1)
-operation_in (Some DeleteHandle) octets = whole_of string_at octets >>= λ x. Some (delete x)
-operation_in (Some AddValue) octets = with_values_in octets >>= λ x. Some (add x.0 x.1)
-operation_in (Some RemoveValue) octets = remove_in octets
-operation_in (Some ModifyValue) octets = with_values_in octets >>= λ x. Some (modify x.0 x.1)
-operation_in (Some ListHandles) octets = whole_of string_at octets >>= λ x. Some (list x)
-operation_in (Some ChallengeResponse) octets = response_in octets
-operation_in None octets = Some (other octets)
+unfoldable pub operation_in : Wire → Option OpCode → List ℕ → Option Operation
+operation_in wire (Some Resolution) octets = resolution_in octets
+operation_in wire (Some CreateHandle) octets = with_values_in wire octets >>= λ x. Some (create x.0 x.1)
+operation_in wire (Some DeleteHandle) octets = whole_of string_at octets >>= λ x. Some (delete x)
+operation_in wire (Some AddValue) octets = with_values_in wire octets >>= λ x. Some (add x.0 x.1)
+operation_in wire (Some RemoveValue) octets = remove_in octets
+operation_in wire (Some ModifyValue) octets = with_values_in wire octets >>= λ x. Some (modify x.0 x.1)
+operation_in wire (Some ListHandles) octets = whole_of string_at octets >>= λ x. Some (list x)
+operation_in wire (Some ChallengeResponse) octets = response_in octets
+operation_in wire None octets = Some (other octets)
 
 -- ---- messages
 
 -- the request that the octets are
-unfoldable pub request_at : List ℕ → Option Content
-request_at octets = do
+unfoldable pub request_at : Wire → List ℕ → Option Content
+request_at wire octets = do
   m ← whole_of message_at octets
-  operation ← operation_in (op_code_of m.0.0.op_code) m.0.1
-  Some (record { header = m.0.0; operation = operation })
+  operation ← operation_in wire (op_code_of m.0.0.op_code) m.0.1
+  Some (record { wire = wire; header = m.0.0; operation = operation })
 
 -- ---- replies
 
@@ -96,10 +97,10 @@ prefix_in octets = do
   x ← octets_at 5 octets
   if bytes_eq x.0 (codes "0.NA/") then Some x.1 else None
 
-unfoldable pub shown_values_in : List ℕ → Option ReplyContent
-shown_values_in octets = do
-  x ← whole_of values_layout.read octets
-  Some (Values x.0 x.1)
+unfoldable pub shown_values_in : Wire → List ℕ → Option ReplyContent
+shown_values_in wire octets = do
+  x ← whole_of (values_layout wire).read octets
+  Some (Values wire x.0 x.1)
 
 unfoldable pub handles_in : List ℕ → Option ReplyContent
 handles_in octets = do
@@ -126,25 +127,25 @@ empty_in octets = do
   if length x == 0 then Some Empty else None
 
 -- the content of this form, all of the octets
-unfoldable pub content_in : ReplyForm → List ℕ → Option ReplyContent
-content_in form.Values octets = shown_values_in octets
-content_in form.Handles octets = handles_in octets
-content_in form.Nothing octets = nothing_in octets
-content_in form.Referral octets = referral_in octets
-content_in form.Nonce octets = nonce_in octets
-content_in form.Empty octets = empty_in octets
+unfoldable pub content_in : Wire → ReplyForm → List ℕ → Option ReplyContent
+content_in wire form.Values octets = shown_values_in wire octets
+content_in wire form.Handles octets = handles_in octets
+content_in wire form.Nothing octets = nothing_in octets
+content_in wire form.Referral octets = referral_in octets
+content_in wire form.Nonce octets = nonce_in octets
+content_in wire form.Empty octets = empty_in octets
 
 -- ---- messages
 
 -- the body behind this header, all of the octets
-unfoldable pub reply_body_in : Header → List ℕ → Option ReplyParts
-reply_body_in h octets = do
+unfoldable pub reply_body_in : Wire → Header → List ℕ → Option ReplyParts
+reply_body_in wire h octets = do
   x ← announced_digest_at (announces_digest h) octets
-  content ← content_in (announced_form h) x.1
+  content ← content_in wire (announced_form h) x.1
   Some (record { header = h; digest = x.0; content = content })
 
 -- the reply whose message the octets are; its credential is empty
-unfoldable pub reply_at : List ℕ → Option ReplyParts
-reply_at octets = do
+unfoldable pub reply_at : Wire → List ℕ → Option ReplyParts
+reply_at wire octets = do
   m ← whole_of message_at octets
-  if length m.1 == 0 then reply_body_in m.0.0 m.0.1 else None
+  if length m.1 == 0 then reply_body_in wire m.0.0 m.0.1 else None

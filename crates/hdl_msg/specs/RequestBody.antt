@@ -1,15 +1,17 @@
 -- Requests to be written: what each asks for, and its one message (docs/PROTOCOL.md, "Message").
-use Rattle.std.specs.Prelude.{ℕ, ◌+◌, ◌<◌, ◌^◌, List, [], ◌++◌, length}
+use Rattle.std.specs.Prelude.{ℕ, ◌+◌, ◌<◌, ◌^◌, List, [], ◌++◌, length, map}
 use Rattle.std.specs.List.{AllByRecursion}
 use Rattle.hdl_value.specs.declared.value.Value.{Value}
 use Rattle.hdl_value.specs.Spelling.{string, CanBeSpelt}
+use Rattle.hdl_value.specs.declared.wire.Wire.{Wire}
+use Rattle.hdl_value.specs.Wires.{wire_seen}
 use Rattle.hdl_msg.specs.declared.fields.Header.{Header}
 use Rattle.hdl_msg.specs.declared.codes.OpCode.{OpCode}
 use Rattle.hdl_msg.specs.declared.codes.OpCode.TheVariants.{Resolution as ResolutionCode, CreateHandle, DeleteHandle, AddValue, RemoveValue, ModifyValue, ListHandles, ChallengeResponse}
 use Rattle.hdl_msg.specs.declared.request_body.RequestBody.{RequestBody}
 use Rattle.hdl_msg.specs.declared.request_body.RequestBody.TheVariants.{Resolution, Create, Delete, Add, Remove, Modify, List as ListAll, Response}
 use Rattle.hdl_msg.specs.Codes.{op_number}
-use Rattle.hdl_msg.specs.Message.{Operation, resolution, create, delete, add, remove, modify, list, response, body, IsShort, Content, signed_octets}
+use Rattle.hdl_msg.specs.Message.{Operation, resolution, create, delete, add, remove, modify, list, response, other, body, IsShort, Content, signed_octets}
 
 -- the operation that is asked for
 abbrev pub requested_operation : RequestBody → Operation
@@ -38,16 +40,31 @@ abbrev pub request_header : Header → RequestBody → Header
 request_header h b = record { op_code = op_number (requested_code b); response_code = h.response_code; op_flag = h.op_flag; serial = h.serial; recursion = h.recursion; reserved = h.reserved; expiration = h.expiration }
 
 -- what the request says
-abbrev pub request_content : Header → RequestBody → Content
-request_content h b = record { header = request_header h b; operation = requested_operation b }
+abbrev pub request_content : Wire → Header → RequestBody → Content
+request_content wire h b = record { wire = wire; header = request_header h b; operation = requested_operation b }
+
+-- what is read of it: its values as their layout says them
+abbrev pub operation_read : Wire → Operation → Operation
+operation_read wire (resolution handle indexes types) = resolution handle indexes types
+operation_read wire (create handle values) = create handle (map (wire_seen wire) values)
+operation_read wire (delete handle) = delete handle
+operation_read wire (add handle values) = add handle (map (wire_seen wire) values)
+operation_read wire (remove handle indexes) = remove handle indexes
+operation_read wire (modify handle values) = modify handle (map (wire_seen wire) values)
+operation_read wire (list handle) = list handle
+operation_read wire (response kind handle index answer) = response kind handle index answer
+operation_read wire (other octets) = other octets
+
+abbrev pub request_read : Wire → Header → RequestBody → Content
+request_read wire h b = record { wire = wire; header = request_header h b; operation = operation_read wire (requested_operation b) }
 
 -- its message: header and body, and an empty credential
-abbrev pub request_message : Header → RequestBody → List ℕ
-request_message h b = signed_octets (request_content h b) ++ string []
+abbrev pub request_message : Wire → Header → RequestBody → List ℕ
+request_message wire h b = signed_octets (request_content wire h b) ++ string []
 
 -- how many octets its message has
-abbrev pub request_length : RequestBody → ℕ
-request_length b = length (body (requested_operation b)) + 28
+abbrev pub request_length : Wire → RequestBody → ℕ
+request_length wire b = length (body wire (requested_operation b)) + 28
 
 -- ---- what can be written
 

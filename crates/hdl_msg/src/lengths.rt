@@ -1,15 +1,16 @@
 //! How long a reply is, without writing it. The greatest number stands for those that are more, so no sum can wrap.
 
 ghost use Rattle.std.specs.Prelude.{◌≡◌, length};
-ghost use Rattle.hdl_value.specs.Spelling.{string, spelling, references};
+ghost use Rattle.hdl_value.specs.Spelling.{string, references};
+ghost use Rattle.hdl_value.specs.Wires.{wire_spelling};
 ghost use Rattle.hdl_msg.specs.Message.{count_prefixed};
-ghost use Rattle.hdl_msg.specs.Reply.{content_octets, digest_octets, reply_message};
+ghost use Rattle.hdl_msg.specs.Reply.{content_octets, digest_octets, reply_message, fixed_length};
 ghost use Rattle.hdl_limits.specs.Counts.{at_most_u64};
 
 use crate::replies::{Reply, ReplyContent};
 use hdl_auth::algorithm::Digest;
 use hdl_limits::Octets;
-use hdl_value::{RawRef, Value};
+use hdl_value::{RawRef, Value, Wire};
 
 /// Octets of a message beside its body: the header's 24, and the credential's length.
 pub(crate) const OVERHEAD: usize = 28;
@@ -31,8 +32,18 @@ fn references_len(refs: &[RawRef]) -> usize
     total
 }
 
-fn value_len(value: &Value) -> usize
-    ensures { result ≡ at_most_u64 (length (spelling value.now)) }
+/// How many octets stand in a value's layout beside strings, references and TTL.
+fn fixed_len(wire: Wire) -> usize
+    ensures { result ≡ fixed_length wire }
+{
+    match wire {
+        Wire::Profile => 13,
+        Wire::HandleNet => 9,
+    }
+}
+
+fn value_len(wire: Wire, value: &Value) -> usize
+    ensures { result ≡ at_most_u64 (length (wire_spelling wire value.now)) }
 {
     let kind = string_len(value.kind.as_slice());
     let bytes = string_len(value.bytes.as_slice());
@@ -41,15 +52,15 @@ fn value_len(value: &Value) -> usize
     kind.saturating_add(bytes)
         .saturating_add(refs)
         .saturating_add(ttl.len())
-        .saturating_add(13)
+        .saturating_add(fixed_len(wire))
 }
 
-pub(crate) fn values_len(values: &[Value]) -> usize
-    ensures { result ≡ at_most_u64 (length (count_prefixed spelling values.now)) }
+pub(crate) fn values_len(wire: Wire, values: &[Value]) -> usize
+    ensures { result ≡ at_most_u64 (length (count_prefixed (wire_spelling wire) values.now)) }
 {
     let mut total: usize = 4;
     for value in values {
-        total = total.saturating_add(value_len(value));
+        total = total.saturating_add(value_len(wire, value));
     }
     total
 }
@@ -77,9 +88,11 @@ fn content_len(content: &ReplyContent) -> usize
     ensures { result ≡ at_most_u64 (length (content_octets content.now)) }
 {
     match content {
-        ReplyContent::Values { handle, values } => {
-            string_len(handle.as_slice()).saturating_add(values_len(values.as_slice()))
-        }
+        ReplyContent::Values {
+            wire,
+            handle,
+            values,
+        } => string_len(handle.as_slice()).saturating_add(values_len(*wire, values.as_slice())),
         ReplyContent::Handles { handles } => handles_len(handles.as_slice()),
         ReplyContent::Nothing => 0,
         ReplyContent::Referral { prefix } => prefix.as_slice().len().saturating_add(13),

@@ -2,7 +2,7 @@
 
 ghost use Rattle.std.specs.Prelude.{◌≡◌, length};
 ghost use Rattle.hdl_limits.specs.Octets.{AreOctets};
-ghost use Rattle.hdl_msg.specs.Reply.{CanBeWritten, ContentFits, DigestFits, PartsFit, reply_parts};
+ghost use Rattle.hdl_msg.specs.Reply.{CanBeWritten, ContentFits, DigestFits, PartsFit, content_read, parts_read, reply_parts};
 
 use crate::replies::{Reply, ReplyContent};
 use crate::request_fits::{header_fits, strings_fit, values_fit};
@@ -42,12 +42,16 @@ fn digest_fits(digest: Option<Digest>)
 
 fn content_fits(content: &ReplyContent)
     requires { CanBeWritten content.now }
-    ensures { ContentFits content.now }
+    ensures { ContentFits (content_read content.now) }
 {
     match content {
-        ReplyContent::Values { handle, values } => {
+        ReplyContent::Values {
+            wire,
+            handle,
+            values,
+        } => {
             string_fits(handle.as_slice());
-            values_fit(values.as_slice());
+            values_fit(*wire, values.as_slice());
         }
         ReplyContent::Handles { handles } => strings_fit(handles.as_slice()),
         ReplyContent::Nothing => {}
@@ -60,7 +64,7 @@ fn content_fits(content: &ReplyContent)
 /// The parts of a reply fit their fields, where its lengths and counts do.
 pub(crate) fn reply_fits(reply: &Reply)
     requires { CanBeWritten reply.now.content }
-    ensures { PartsFit (reply_parts reply.now) }
+    ensures { PartsFit (parts_read (reply_parts reply.now)) }
 {
     header_fits(reply.header);
     digest_fits(reply.digest);

@@ -11,7 +11,7 @@ use crate::message::{MsgFault, header_and_body};
 use crate::replies::{ADMIN_PREFIX, NO_VALUES};
 use crate::reply_view::{ContentView, ReplyForm, ReplyView, announces_digest};
 use hdl_auth::algorithm::{Algorithm, Digest};
-use hdl_value::{octet_at, string_at, u32_at};
+use hdl_value::{Wire, octet_at, string_at, u32_at};
 
 /// The octet of a hash function and as many octets as its digests have, and what follows.
 #[tactic(auto, unfolding(crate::specs::Reading::digest_at))]
@@ -43,11 +43,11 @@ fn announced_digest_at(announced: bool, octets: &[u8]) -> Option<(Option<Digest>
 }
 
 #[tactic(auto, unfolding(crate::specs::Reading::shown_values_in))]
-fn shown_values(octets: &[u8]) -> Option<ContentView<'_>>
-    ensures { Reads content_seen result (shown_values_in octets.now) }
+fn shown_values(wire: Wire, octets: &[u8]) -> Option<ContentView<'_>>
+    ensures { Reads content_seen result (shown_values_in wire octets.now) }
 {
     let (handle, rest) = string_at(octets)?;
-    let (values, rest) = Values::read(rest)?;
+    let (values, rest) = Values::read(wire, rest)?;
     if !rest.is_empty() {
         return None;
     }
@@ -134,11 +134,11 @@ fn empty(octets: &[u8]) -> Option<ContentView<'_>>
 
 /// The content of this form, all of the octets.
 #[tactic(auto, unfolding(crate::specs::Reading::content_in))]
-fn content_in(form: ReplyForm, octets: &[u8]) -> Option<ContentView<'_>>
-    ensures { Reads content_seen result (content_in form octets.now) }
+fn content_in(wire: Wire, form: ReplyForm, octets: &[u8]) -> Option<ContentView<'_>>
+    ensures { Reads content_seen result (content_in wire form octets.now) }
 {
     match form {
-        ReplyForm::Values => shown_values(octets),
+        ReplyForm::Values => shown_values(wire, octets),
         ReplyForm::Handles => handles(octets),
         ReplyForm::Nothing => nothing(octets),
         ReplyForm::Referral => referral(octets),
@@ -149,11 +149,11 @@ fn content_in(form: ReplyForm, octets: &[u8]) -> Option<ContentView<'_>>
 
 /// The body behind this header, all of the octets.
 #[tactic(auto, unfolding(crate::specs::Reading::reply_body_in))]
-fn reply_body(header: Header, octets: &[u8]) -> Option<ReplyView<'_>>
-    ensures { Reads reply_seen result (reply_body_in header octets.now) }
+fn reply_body(wire: Wire, header: Header, octets: &[u8]) -> Option<ReplyView<'_>>
+    ensures { Reads reply_seen result (reply_body_in wire header octets.now) }
 {
     let (digest, rest) = announced_digest_at(announces_digest(header), octets)?;
-    let content = content_in(ReplyForm::of(header), rest)?;
+    let content = content_in(wire, ReplyForm::of(header), rest)?;
     Some(ReplyView {
         header,
         digest,
@@ -162,8 +162,8 @@ fn reply_body(header: Header, octets: &[u8]) -> Option<ReplyView<'_>>
 }
 
 #[tactic(auto, unfolding(crate::specs::Reading::reply_at, crate::specs::Message::message_at))]
-fn whole_reply(octets: &[u8]) -> Option<ReplyView<'_>>
-    ensures { Reads reply_seen result (reply_at octets.now) }
+fn whole_reply(wire: Wire, octets: &[u8]) -> Option<ReplyView<'_>>
+    ensures { Reads reply_seen result (reply_at wire octets.now) }
 {
     let (header, body, rest) = header_and_body(octets)?;
     let (credential, behind_credential) = string_at(rest)?;
@@ -173,7 +173,7 @@ fn whole_reply(octets: &[u8]) -> Option<ReplyView<'_>>
     if !credential.is_empty() {
         return None;
     }
-    reply_body(header, body)
+    reply_body(wire, header, body)
 }
 
 /// The reply that the octets of a message are, all of them (RFC 3652, section 2.2, in our profile): header, BodyLength octets
@@ -183,13 +183,13 @@ fn whole_reply(octets: &[u8]) -> Option<ReplyView<'_>>
 /// content by the code, with code 1 by the operation. So nothing need be known of the request. The octet before a digest tells
 /// its hash function, and so how many octets it has; every other octet there is Malformed. A short reply is one of code 3 or 4.
 ///
-/// It takes no memory, and time linear in the octets. Values are cut by layout alone, as in a request: `CutValue::read` copies
+/// It takes no memory, and time linear in the octets. Values are cut by the layout that is said alone, as in a request: `CutValue::read` copies
 /// one, or tells its fault. The envelope, and whether its RequestId is that of the request, are the caller's.
-pub fn read_reply(octets: &[u8]) -> Result<ReplyView<'_>, MsgFault>
-    ensures read { IfOk result (λ reply. SpellsReply octets.now (reply_seen reply)) }
-    ensures malformed { OnErr result ((parts : ReplyParts) → SpellsReply octets.now parts → ⊥) }
+pub fn read_reply(wire: Wire, octets: &[u8]) -> Result<ReplyView<'_>, MsgFault>
+    ensures read { IfOk result (λ reply. SpellsReply wire octets.now (reply_seen reply)) }
+    ensures malformed { OnErr result ((parts : ReplyParts) → SpellsReply wire octets.now parts → ⊥) }
 {
-    match whole_reply(octets) {
+    match whole_reply(wire, octets) {
         Some(reply) => Ok(reply),
         None => Err(MsgFault::Malformed),
     }

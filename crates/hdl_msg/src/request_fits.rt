@@ -2,14 +2,16 @@
 
 ghost use Rattle.std.specs.Prelude.{◌≡◌, ◌<◌, ◌^◌, length};
 ghost use Rattle.std.specs.List.{AllByRecursion};
+ghost use Rattle.std.specs.Prelude.{map};
 ghost use Rattle.hdl_value.specs.Spelling.{Fits, IsString, CanBeSpelt};
+ghost use Rattle.hdl_value.specs.Wires.{WireFits, wire_seen};
 ghost use Rattle.hdl_msg.specs.Message.{IsNumber, HeaderFits, OperationFits};
-ghost use Rattle.hdl_msg.specs.RequestBody.{requested_operation, CanBeRequested};
+ghost use Rattle.hdl_msg.specs.RequestBody.{requested_operation, operation_read, CanBeRequested};
 
 use crate::fields::Header;
 use crate::request_body::RequestBody;
 use hdl_limits::Octets;
-use hdl_value::{Value, number_fits, string_fits, value_fits};
+use hdl_value::{Value, Wire, number_fits, string_fits, value_fits};
 
 fn octet_fits(octet: u8)
     ensures { octet < 2 ^ 8 }
@@ -53,7 +55,7 @@ pub(crate) fn strings_fit(strings: &[Octets])
     }
 }
 
-pub(crate) fn values_fit(values: &[Value])
+fn all_fit(values: &[Value])
     requires { AllByRecursion CanBeSpelt values.now }
     ensures { AllByRecursion Fits values.now }
 {
@@ -62,10 +64,19 @@ pub(crate) fn values_fit(values: &[Value])
     }
 }
 
+/// Values as their layout says them fit their fields, where lengths and counts do.
+pub(crate) fn values_fit(wire: Wire, values: &[Value])
+    requires { AllByRecursion CanBeSpelt values.now }
+    ensures { AllByRecursion (WireFits wire) (map (wire_seen wire) values.now) }
+{
+    let _ = wire;
+    all_fit(values);
+}
+
 /// The parts of a body fit their fields, where its lengths and counts do.
-pub(crate) fn body_fits(body: &RequestBody)
+pub(crate) fn body_fits(wire: Wire, body: &RequestBody)
     requires { CanBeRequested body.now }
-    ensures { OperationFits (requested_operation body.now) }
+    ensures { OperationFits wire (operation_read wire (requested_operation body.now)) }
 {
     match body {
         RequestBody::Resolution {
@@ -81,7 +92,7 @@ pub(crate) fn body_fits(body: &RequestBody)
         | RequestBody::Add { handle, values }
         | RequestBody::Modify { handle, values } => {
             string_fits(handle.as_slice());
-            values_fit(values.as_slice());
+            values_fit(wire, values.as_slice());
         }
         RequestBody::Delete { handle } | RequestBody::List { handle } => {
             string_fits(handle.as_slice());

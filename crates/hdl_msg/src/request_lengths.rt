@@ -7,6 +7,7 @@ ghost use Rattle.hdl_msg.specs.RequestBody.{requested_operation, request_length}
 
 use crate::lengths::{OVERHEAD, handles_len, string_len, values_len};
 use crate::request_body::RequestBody;
+use hdl_value::Wire;
 
 fn numbers_len(numbers: &[u32]) -> usize
     ensures { result ≡ at_most_u64 (length (count_prefixed number numbers.now)) }
@@ -14,8 +15,8 @@ fn numbers_len(numbers: &[u32]) -> usize
     numbers.len().saturating_mul(4).saturating_add(4)
 }
 
-fn body_len(asked: &RequestBody) -> usize
-    ensures { result ≡ at_most_u64 (length (body (requested_operation asked.now))) }
+fn body_len(wire: Wire, asked: &RequestBody) -> usize
+    ensures { result ≡ at_most_u64 (length (body wire (requested_operation asked.now))) }
 {
     match asked {
         RequestBody::Resolution {
@@ -28,7 +29,7 @@ fn body_len(asked: &RequestBody) -> usize
         RequestBody::Create { handle, values }
         | RequestBody::Add { handle, values }
         | RequestBody::Modify { handle, values } => {
-            string_len(handle.as_slice()).saturating_add(values_len(values.as_slice()))
+            string_len(handle.as_slice()).saturating_add(values_len(wire, values.as_slice()))
         }
         RequestBody::Delete { handle } | RequestBody::List { handle } => {
             string_len(handle.as_slice())
@@ -50,8 +51,8 @@ fn body_len(asked: &RequestBody) -> usize
 
 /// How many octets the message of a request with this body has, or the greatest `usize` where it has more. It writes nothing, so
 /// a caller tests by it whether the request may be written.
-pub fn request_len(body: &RequestBody) -> usize
-    ensures length { result ≡ at_most_u64 (request_length body.now) }
+pub fn request_len(wire: Wire, body: &RequestBody) -> usize
+    ensures length { result ≡ at_most_u64 (request_length wire body.now) }
 {
-    body_len(body).saturating_add(OVERHEAD)
+    body_len(wire, body).saturating_add(OVERHEAD)
 }

@@ -2,9 +2,10 @@
 
 ghost use Rattle.std.specs.Prelude.{◌≡◌, ◌≤◌, ◌<◌, ◌^◌, ◌++◌, length, IfOk, OnOk};
 ghost use Rattle.std.specs.List.{AllByRecursion};
-ghost use Rattle.hdl_value.specs.Spelling.{string, spelling, CanBeSpelt};
+ghost use Rattle.hdl_value.specs.Spelling.{string, CanBeSpelt};
+ghost use Rattle.hdl_value.specs.Wires.{wire_spelling};
 ghost use Rattle.hdl_msg.specs.Message.{SpellsRequest, body, count_prefixed, number};
-ghost use Rattle.hdl_msg.specs.RequestBody.{requested_operation, request_content, request_message, request_length, CanBeRequested};
+ghost use Rattle.hdl_msg.specs.RequestBody.{requested_operation, request_read, request_message, request_length, CanBeRequested};
 
 use crate::fields::{Header, put_header};
 use crate::lengths::OVERHEAD;
@@ -13,7 +14,7 @@ use crate::request_body::RequestBody;
 use crate::request_fits::{body_fits, header_fits};
 use crate::request_lengths::request_len;
 use hdl_limits::{MESSAGE_MAX, Octets};
-use hdl_value::{Value, put_string, put_u32};
+use hdl_value::{Value, Wire, put_string, put_u32};
 use std::alloc::{AllocError, Global};
 
 fn put_numbers(out: &mut Vec<u8>, numbers: &[u32]) -> Result<(), AllocError>
@@ -27,14 +28,19 @@ fn put_numbers(out: &mut Vec<u8>, numbers: &[u32]) -> Result<(), AllocError>
     Ok(())
 }
 
-fn put_write(out: &mut Vec<u8>, handle: &[u8], values: &[Value]) -> Result<(), AllocError>
+fn put_write(
+    out: &mut Vec<u8>,
+    wire: Wire,
+    handle: &[u8],
+    values: &[Value],
+) -> Result<(), AllocError>
     requires handle { length handle.now < 2 ^ 32 }
     requires count { length values.now < 2 ^ 32 }
     requires each { AllByRecursion CanBeSpelt values.now }
-    ensures { OnOk result (out.new.items ≡ out.old.items ++ (string handle.now ++ count_prefixed spelling values.now)) }
+    ensures { OnOk result (out.new.items ≡ out.old.items ++ (string handle.now ++ count_prefixed (wire_spelling wire) values.now)) }
 {
     put_string(out, handle)?;
-    put_values(out, values)
+    put_values(out, wire, values)
 }
 
 fn put_resolution(
@@ -72,9 +78,9 @@ fn put_response(
     put_string(out, answer)
 }
 
-fn put_body(out: &mut Vec<u8>, asked: &RequestBody) -> Result<(), AllocError>
+fn put_body(out: &mut Vec<u8>, wire: Wire, asked: &RequestBody) -> Result<(), AllocError>
     requires { CanBeRequested asked.now }
-    ensures { OnOk result (out.new.items ≡ out.old.items ++ body (requested_operation asked.now)) }
+    ensures { OnOk result (out.new.items ≡ out.old.items ++ body wire (requested_operation asked.now)) }
 {
     match asked {
         RequestBody::Resolution {
@@ -85,7 +91,7 @@ fn put_body(out: &mut Vec<u8>, asked: &RequestBody) -> Result<(), AllocError>
         RequestBody::Create { handle, values }
         | RequestBody::Add { handle, values }
         | RequestBody::Modify { handle, values } => {
-            put_write(out, handle.as_slice(), values.as_slice())
+            put_write(out, wire, handle.as_slice(), values.as_slice())
         }
         RequestBody::Delete { handle } | RequestBody::List { handle } => {
             put_string(out, handle.as_slice())
@@ -110,22 +116,23 @@ fn put_body(out: &mut Vec<u8>, asked: &RequestBody) -> Result<(), AllocError>
 }
 
 /// The one spelling of a request, as `read_request` reads it (RFC 3652, section 2.2, in our profile): the header with the
-/// operation's code, BodyLength, the body, and an empty credential. Of `header` all but the OpCode is taken as it is. The octets
+/// operation's code, BodyLength, the body with its values by the layout, and an empty credential. Of `header` all but the OpCode is taken as it is. The octets
 /// before the last four are those of which a digest is made.
 ///
 /// The caller knows, by `request_len`, that the message has at most 65,536 octets. All memory is asked for at once, before
 /// anything is written. The envelope that makes a frame of the message is `hdl_frame`'s.
 pub fn write_request(
     alloc: Global,
+    wire: Wire,
     header: Header,
     body: &RequestBody,
 ) -> Result<Vec<u8>, AllocError>
-    requires short { request_length body.now ≤ MESSAGE_MAX }
-    ensures spelt { IfOk result (λ v. SpellsRequest v.items (request_content header body.now)) }
-    ensures octets { IfOk result (λ v. v.items ≡ request_message header body.now) }
-    ensures length { IfOk result (λ v. length v.items ≡ request_length body.now) }
+    requires short { request_length wire body.now ≤ MESSAGE_MAX }
+    ensures spelt { IfOk result (λ v. SpellsRequest wire v.items (request_read wire header body.now)) }
+    ensures octets { IfOk result (λ v. v.items ≡ request_message wire header body.now) }
+    ensures length { IfOk result (λ v. length v.items ≡ request_length wire body.now) }
 {
-    let len = request_len(body);
+    let len = request_len(wire, body);
     let mut out = Vec::with_capacity(alloc, len)?;
     let header = Header {
         op_code: body.op_code().number(),
@@ -134,8 +141,8 @@ pub fn write_request(
     header_fits(header);
     put_header(&mut out, header)?;
     put_u32(&mut out, (len - OVERHEAD) as u32)?;
-    body_fits(body);
-    put_body(&mut out, body)?;
+    body_fits(wire, body);
+    put_body(&mut out, wire, body)?;
     put_u32(&mut out, 0)?;
     Ok(out)
 }

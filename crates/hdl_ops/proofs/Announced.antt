@@ -93,26 +93,26 @@ module _ (hosts : List ℕ → Bool) (a : Algorithm) (t : Table) (r : Content) (
       pick false is false true e = absurd cc
       pick false is false false e = refl
 
-  pub answer_announced_lem : (d : Decision) (session number : ℕ) → IsNumberOf (code_of r.operation) r.header.op_code → Decides hosts a t r level d → d.code == 402 ≡ false → IsAnnounced (reply_parts (reply_to a session number r d.code d.content))
-  unfolding reply_to
-  answer_announced_lem d session number has decided e = record {
+  pub answer_announced_lem : (d : Decision) (moment session number : ℕ) → IsNumberOf (code_of r.operation) r.header.op_code → Decides hosts a t r level d → d.code == 402 ≡ false → IsAnnounced (reply_parts (reply_to a moment session number r d.code d.content))
+  unfolding reply_to announced_form
+  answer_announced_lem d moment session number has decided e = record {
     digest = digest_announced a r d.code e;
     form = ap form_of (tells_by_code_lem hosts a t r level d decided) ∙ told_form d.code has (used d decided) e;
   }
 
 -- ---- replies that no table decides
 
-pub protocol_error_announced : (a : Algorithm) (session number : ℕ) (r : Content) → IsAnnounced (reply_parts (reply_to a session number r 4 Empty))
+pub protocol_error_announced : (a : Algorithm) (moment session number : ℕ) (r : Content) → IsAnnounced (reply_parts (reply_to a moment session number r 4 Empty))
 unfolding reply_to announced_form
-protocol_error_announced a session number r = record { digest = digest_announced a r 4 refl; form = refl }
+protocol_error_announced a moment session number r = record { digest = digest_announced a r 4 refl; form = refl }
 
-pub timeout_announced : (a : Algorithm) (session number : ℕ) (r : Content) → IsAnnounced (reply_parts (reply_to a session number r 405 Empty))
+pub timeout_announced : (a : Algorithm) (moment session number : ℕ) (r : Content) → IsAnnounced (reply_parts (reply_to a moment session number r 405 Empty))
 unfolding reply_to announced_form
-timeout_announced a session number r = record { digest = digest_announced a r 405 refl; form = refl }
+timeout_announced a moment session number r = record { digest = digest_announced a r 405 refl; form = refl }
 
-pub challenge_announced_lem : (a : Algorithm) (session number : ℕ) (r : Content) (nonce : List ℕ) → IsAnnounced (reply_parts (challenge_to a session number r nonce))
+pub challenge_announced_lem : (a : Algorithm) (moment session number : ℕ) (r : Content) (nonce : List ℕ) → IsAnnounced (reply_parts (challenge_to a moment session number r nonce))
 unfolding challenge_to announced_form
-challenge_announced_lem a session number r nonce = record { digest = sym (or_true (has_flag (bit_and r.header.op_flag (flag_bit ReturnDigest)) ReturnDigest)); form = refl }
+challenge_announced_lem a moment session number r nonce = record { digest = sym (or_true (has_flag (bit_and r.header.op_flag (flag_bit ReturnDigest)) ReturnDigest)); form = refl }
 
 -- ---- who comes with a proof isn't challenged again
 

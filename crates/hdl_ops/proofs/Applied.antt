@@ -4,14 +4,17 @@ use Rattle.std.specs.Prelude.{IfOk, IfSome, OnOk, is_some, is_none, nat_lt, leng
 use Rattle.std.specs.List.{AllByRecursion, list_any, list_all}
 use Rattle.std.proofs.lemmas.Bool.{eq-eqb, eqb-true}
 use Rattle.hdl_name.specs.Name.{canonical}
+use Rattle.hdl_value.specs.declared.wire.Wire.{Wire}
 use Rattle.hdl_value.specs.declared.value.Value.{Value}
 use Rattle.hdl_value.specs.Refs.{is_admin}
 use Rattle.hdl_value.specs.Tests.{is_sound}
+use Rattle.hdl_value.specs.Padding.{stored_by}
 use Rattle.hdl_rows.specs.Table.{Table, place, at, value_with, HaveTheirIndexes, AreDistinct, indexes}
 use Rattle.hdl_msg.specs.Message.{Content, Operation, resolution, create, delete, add, remove, modify, list, response, other}
 use Rattle.hdl_msg.specs.declared.fields.Header.{Header}
 use Rattle.hdl_ops.specs.First.{first, or_code}
-use Rattle.hdl_ops.specs.Requests.{handle_of, creates, resolves}
+use Rattle.hdl_ops.specs.Requests.{handle_of, creates, resolves, with_stored, stored_operation}
+use Rattle.hdl_ops.proofs.Stored.{any_stored}
 use Rattle.hdl_ops.specs.Tables.{CanApply}
 use Rattle.hdl_ops.specs.Admission.{refusal, has_twins, is_bad_list, are_bad, is_bad_write}
 use Rattle.hdl_ops.specs.Sights.{Sight, sight, passes, passes_at}
@@ -119,33 +122,35 @@ not_false true h = refl
 not_false false h = absurd (true≢false h)
 
 -- such a change can be applied
-changes : (t : Table) (header : Header) (o : Operation) (s : Sight) → s ≡ sight t (record { header = header; operation = o }) → HaveTheirIndexes t (handle_of (record { header = header; operation = o })) s.values
-    → is_bad_write o ≡ false → Stands s o → IfSome (change_of o) (CanApply t)
+changes : (t : Table) (wire : Wire) (header : Header) (o : Operation) (s : Sight) → s ≡ sight t (record { wire = wire; header = header; operation = o }) → HaveTheirIndexes t (handle_of (record { wire = wire; header = header; operation = o })) s.values
+    → is_bad_write (with_stored wire o) ≡ false → Stands s o → IfSome (change_of (with_stored wire o)) (CanApply t)
 unfolding sight handle_of
-changes t header (resolution handle is ts) s see by good stands = tt
-changes t header (create handle vs) s see by good stands =
-    (sym (ap (λ (x : Sight). x.there) see) ∙ stands.0, good_values vs (or_false (are_bad vs) (not (list_any is_admin vs)) good).0)
-changes t header (delete handle) s see by good stands = sym (ap (λ (x : Sight). x.there) see) ∙ not_false s.there stands.1
-changes t header (add handle vs) s see by good stands = (
+changes t wire header (resolution handle is ts) s see by good stands = tt
+changes t wire header (create handle vs) s see by good stands =
+    (sym (ap (λ (x : Sight). x.there) see) ∙ stands.0, good_values (map (stored_by wire) vs) (or_false (are_bad (map (stored_by wire) vs)) (not (list_any is_admin (map (stored_by wire) vs))) good).0)
+changes t wire header (delete handle) s see by good stands = sym (ap (λ (x : Sight). x.there) see) ∙ not_false s.there stands.1
+changes t wire header (add handle vs) s see by good stands = (
   sym (ap (λ (x : Sight). x.there) see) ∙ not_false s.there stands.1,
-  good_values vs good,
-  of_keys (λ v. v.index) (λ i. at t (place (canonical handle) i) ≡ None) vs
-      (none_passes (λ n. takes_at s.values n.index) (λ n. at t (place (canonical handle) n.index) ≡ None) (λ n e. absent_by s.values t (canonical handle) n.index by e) vs stands.3),
+  good_values (map (stored_by wire) vs) good,
+  of_keys (λ v. v.index) (λ i. at t (place (canonical handle) i) ≡ None) (map (stored_by wire) vs)
+      (none_passes (λ n. takes_at s.values n.index) (λ n. at t (place (canonical handle) n.index) ≡ None) (λ n e. absent_by s.values t (canonical handle) n.index by e) (map (stored_by wire) vs)
+      (any_stored wire (λ n. takes_at s.values n.index) (λ v. refl) vs ∙ stands.3)),
 )
-changes t header (remove handle is) s see by good stands = (
+changes t wire header (remove handle is) s see by good stands = (
   sym (ap (λ (x : Sight). x.there) see) ∙ not_false s.there stands.1,
   good_indexes is good,
   none_passes (misses_at s.values) (λ i. at t (place (canonical handle) i) ≢ None) (λ i e. there_by s.values t (canonical handle) i by e) is stands.2,
 )
-changes t header (modify handle vs) s see by good stands = (
+changes t wire header (modify handle vs) s see by good stands = (
   sym (ap (λ (x : Sight). x.there) see) ∙ not_false s.there stands.1,
-  good_values vs good,
-  of_keys (λ v. v.index) (λ i. at t (place (canonical handle) i) ≢ None) vs
-      (none_passes (λ n. misses_at s.values n.index) (λ n. at t (place (canonical handle) n.index) ≢ None) (λ n e. there_by s.values t (canonical handle) n.index by e) vs stands.2),
+  good_values (map (stored_by wire) vs) good,
+  of_keys (λ v. v.index) (λ i. at t (place (canonical handle) i) ≢ None) (map (stored_by wire) vs)
+      (none_passes (λ n. misses_at s.values n.index) (λ n. at t (place (canonical handle) n.index) ≢ None) (λ n e. there_by s.values t (canonical handle) n.index by e) (map (stored_by wire) vs)
+      (any_stored wire (λ n. misses_at s.values n.index) (λ v. refl) vs ∙ stands.2)),
 )
-changes t header (list handle) s see by good stands = tt
-changes t header (response kind handle index answer) s see by good stands = tt
-changes t header (other octets) s see by good stands = tt
+changes t wire header (list handle) s see by good stands = tt
+changes t wire header (response kind handle index answer) s see by good stands = tt
+changes t wire header (other octets) s see by good stands = tt
 
 -- ---- for anyone
 
@@ -170,17 +175,17 @@ open_stands (response kind handle index answer) vs h = (refl, refl)
 open_stands (other octets) vs h = (refl, refl)
 
 -- a resolution changes nothing
-anyone_stands : (t : Table) (header : Header) (o : Operation) (s : Sight) → s ≡ sight t (record { header = header; operation = o }) → HaveTheirIndexes t (handle_of (record { header = header; operation = o })) s.values
-    → is_bad_write o ≡ false → code_for_anyone s (record { header = header; operation = o }) ≡ 1 → IfSome (change_of o) (CanApply t)
+anyone_stands : (t : Table) (wire : Wire) (header : Header) (o : Operation) (s : Sight) → s ≡ sight t (record { wire = wire; header = header; operation = o }) → HaveTheirIndexes t (handle_of (record { wire = wire; header = header; operation = o })) s.values
+    → is_bad_write (with_stored wire o) ≡ false → code_for_anyone s (record { wire = wire; header = header; operation = o }) ≡ 1 → IfSome (change_of (with_stored wire o)) (CanApply t)
 unfolding code_for_anyone
-anyone_stands t header o s see by good one =
+anyone_stands t wire header o s see by good one =
     let there = past_row (creates o && s.there) 101 _ 402 (λ e. omega (arith, e)) one in
     let absent = past_row (not (creates o) && not s.there) 100 _ 402 (λ e. omega (arith, e)) there.1 in
     let left = past_row _ 200 _ 402 (λ e. omega (arith, e)) absent.1 in
     let kept = past_row _ 402 _ 402 (λ e. omega (arith, e)) left.1 in
     by_resolving (resolves o) refl kept.1 there.0 absent.0
   where
-    none_of : (o : Operation) → resolves o ≡ true → IfSome (change_of o) (CanApply t)
+    none_of : (o : Operation) → resolves o ≡ true → IfSome (change_of (with_stored wire o)) (CanApply t)
     none_of (resolution handle is ts) h = tt
     none_of (create handle news) h = absurd (true≢false (sym h))
     none_of (delete handle) h = absurd (true≢false (sym h))
@@ -191,11 +196,11 @@ anyone_stands t header o s see by good one =
     none_of (response kind handle index answer) h = absurd (true≢false (sym h))
     none_of (other octets) h = absurd (true≢false (sym h))
 
-    by_resolving : (b : Bool) → resolves o ≡ b → or_code (first ((b, 1) ∷ (is_open_write o s.values, 1) ∷ [])) 402 ≡ 1 → (creates o && s.there) ≡ false → (not (creates o) && not s.there) ≡ false → IfSome (change_of o) (CanApply t)
+    by_resolving : (b : Bool) → resolves o ≡ b → or_code (first ((b, 1) ∷ (is_open_write o s.values, 1) ∷ [])) 402 ≡ 1 → (creates o && s.there) ≡ false → (not (creates o) && not s.there) ≡ false → IfSome (change_of (with_stored wire o)) (CanApply t)
     by_resolving true is h there absent = none_of o is
     by_resolving false is h there absent =
         let free = open_stands o s.values (last_row (is_open_write o s.values) 402 (λ e. omega (arith, e)) (skip (is_open_write o s.values) h)) in
-        changes t header o s see by good (there, absent, free.0, free.1)
+        changes t wire header o s see by good (there, absent, free.0, free.1)
 
 -- ---- with a proof
 
@@ -240,7 +245,7 @@ key_stands t s r p None code e see is one = by_mask is.0 (sym is.2 ∙ one)
 
 -- ---- the decision
 
-by_code : (a : Algorithm) (t : Table) (s : Sight) (r : Content) (level : Level) (code : ℕ) → (code ≡ 1 → IfSome (change_of r.operation) (CanApply t)) → IfSome (decision a s r level code).change (CanApply t)
+by_code : (a : Algorithm) (t : Table) (s : Sight) (r : Content) (level : Level) (code : ℕ) → (code ≡ 1 → IfSome (change_of (stored_operation r)) (CanApply t)) → IfSome (decision a s r level code).change (CanApply t)
 unfolding decision
 by_code a t s r level code f = by_test (code == 1) refl (fits a r (carried_content s r level))
   where
@@ -249,7 +254,7 @@ by_code a t s r level code f = by_test (code == 1) refl (fits a r (carried_conte
     by_test true is false = tt
     by_test false is fit = tt
 
-admitted : (hosts : List ℕ → Bool) (r : Content) → refusal hosts r ≡ None → is_bad_write r.operation ≡ false
+admitted : (hosts : List ℕ → Bool) (r : Content) → refusal hosts r ≡ None → is_bad_write (stored_operation r) ≡ false
 unfolding refusal
 admitted hosts r none =
     let unused = no_row _ 5 _ none in
@@ -257,15 +262,15 @@ admitted hosts r none =
     let listed = no_row _ 102 _ named.1 in
     let made = no_row _ 5 _ listed.1 in
     let hosted = no_row _ 302 _ made.1 in
-    (no_row (is_bad_write r.operation) 202 _ hosted.1).0
+    (no_row (is_bad_write (stored_operation r)) 202 _ hosted.1).0
 
 decided : (hosts : List ℕ → Bool) (a : Algorithm) (t : Table) (r : Content) (level : Level) (d : Decision) → refusal hosts r ≡ None → HaveTheirIndexes t (handle_of r) (sight t r).values → DecidesBy a t r level None d → IfSome d.change (CanApply t)
 decided hosts a t r Anyone d none by is =
     subst (λ (x : Decision). IfSome x.change (CanApply t)) (sym is)
-    (by_code a t (sight t r) r Anyone (code_for_anyone (sight t r) r) (λ one. anyone_stands t r.header r.operation (sight t r) refl by (admitted hosts r none) one))
+    (by_code a t (sight t r) r Anyone (code_for_anyone (sight t r) r) (λ one. anyone_stands t r.wire r.header r.operation (sight t r) refl by (admitted hosts r none) one))
 decided hosts a t r (Proven p) d none by is =
     subst (λ (x : Decision). IfSome x.change (CanApply t)) (sym is.2)
-    (by_code a t (sight t r) r (Proven p) is.0 (λ one. changes t r.header r.operation (sight t r) refl by (admitted hosts r none) (key_stands t (sight t r) r p (code_before_key (sight t r) r p) is.0 refl refl is.1 one)))
+    (by_code a t (sight t r) r (Proven p) is.0 (λ one. changes t r.wire r.header r.operation (sight t r) refl by (admitted hosts r none) (key_stands t (sight t r) r p (code_before_key (sight t r) r p) is.0 refl refl is.1 one)))
 
 pub passed : (hosts : List ℕ → Bool) (r : Content) (a : Admitted) (name : List ℕ) → a ≡ Passed name → IsAdmitted hosts r a → refusal hosts r ≡ None
 passed hosts r a name is admitted = (subst (IsAdmitted hosts r) is admitted).0

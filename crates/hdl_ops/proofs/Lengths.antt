@@ -21,17 +21,17 @@ use Rattle.hdl_msg.proofs.Written.{length-reply_message}
 use Rattle.hdl_ops.specs.Requests.{wants_digest}
 use Rattle.hdl_ops.specs.Replies.{asked_digest, reply_to, fits}
 
-same_length : (a : Algorithm) (session number : ℕ) (r : Content) (code : ℕ) (content : ReplyContent)
-    → length (reply_message (reply_to a session number r code content)) ≡ length (reply_message (reply_to a 0 0 r 0 content))
+same_length : (a : Algorithm) (moment session number : ℕ) (r : Content) (code : ℕ) (content : ReplyContent)
+    → length (reply_message (reply_to a moment session number r code content)) ≡ length (reply_message (reply_to a 0 0 0 r 0 content))
 unfolding reply_to reply_body
-same_length a session number r code content = length-reply_message (reply_to a session number r code content) ∙ sym (length-reply_message (reply_to a 0 0 r 0 content))
+same_length a moment session number r code content = length-reply_message (reply_to a moment session number r code content) ∙ sym (length-reply_message (reply_to a 0 0 0 r 0 content))
 
-pub fits_anywhere : (a : Algorithm) (session number : ℕ) (r : Content) (code : ℕ) (content : ReplyContent) → IsTrue (fits a r content)
-    → length (reply_message (reply_to a session number r code content)) ≤ MESSAGE_MAX
+pub fits_anywhere : (a : Algorithm) (moment session number : ℕ) (r : Content) (code : ℕ) (content : ReplyContent) → IsTrue (fits a r content)
+    → length (reply_message (reply_to a moment session number r code content)) ≤ MESSAGE_MAX
 unfolding fits
-fits_anywhere a session number r code content h =
-    let le = leb-true (length (reply_message (reply_to a 0 0 r 0 content))) MESSAGE_MAX h in
-    let same = same_length a session number r code content in
+fits_anywhere a moment session number r code content h =
+    let le = leb-true (length (reply_message (reply_to a 0 0 0 r 0 content))) MESSAGE_MAX h in
+    let same = same_length a moment session number r code content in
     omega (arith, le, same)
 
 -- ---- a reply that was measured without its digest
@@ -42,26 +42,26 @@ asked_room a r e =
     omega (arith, is, length-digest a (signed_octets r))
 
 with_room : (a : Algorithm) (r : Content) (plain : Reply) → plain.digest ≡ None
-    → length (reply_message (reply_to a 0 0 r 0 plain.content)) ≡ length (digest_octets (asked_digest a r)) + length (reply_message plain)
+    → length (reply_message (reply_to a 0 0 0 r 0 plain.content)) ≡ length (digest_octets (asked_digest a r)) + length (reply_message plain)
 unfolding reply_to
 with_room a r plain none =
     let bare : length (digest_octets plain.digest) ≡ 0 = ap (λ d. length (digest_octets d)) none in
-    omega (arith, bare, length-reply_message plain, length-reply_message (reply_to a 0 0 r 0 plain.content))
+    omega (arith, bare, length-reply_message plain, length-reply_message (reply_to a 0 0 0 r 0 plain.content))
 
 -- one that leaves room for the digest
 pub room_left : (a : Algorithm) (r : Content) (plain : Reply) (n room : ℕ) → plain.digest ≡ None → n ≡ at_most_u64 (length (reply_message plain)) → room ≡ length (digest_octets (asked_digest a r))
     → room ≤ 33 → n ≤ MESSAGE_MAX - room → fits a r plain.content ≡ true
 unfolding fits
 room_left a r plain n room none len is few le =
-    le-leb (length (reply_message (reply_to a 0 0 r 0 plain.content))) MESSAGE_MAX (omega (arith, with_room a r plain none, len, is, few, le))
+    le-leb (length (reply_message (reply_to a 0 0 0 r 0 plain.content))) MESSAGE_MAX (omega (arith, with_room a r plain none, len, is, few, le))
 
 -- one that leaves none
 pub no_room_left : (a : Algorithm) (r : Content) (plain : Reply) (n room : ℕ) → plain.digest ≡ None → n ≡ at_most_u64 (length (reply_message plain)) → room ≡ length (digest_octets (asked_digest a r))
     → room ≤ 33 → MESSAGE_MAX - room < n → fits a r plain.content ≡ false
 unfolding fits
 no_room_left a r plain n room none len is few more =
-    false_from_ne_true (nat_le (length (reply_message (reply_to a 0 0 r 0 plain.content))) MESSAGE_MAX) (λ e.
-    let le = leb-true (length (reply_message (reply_to a 0 0 r 0 plain.content))) MESSAGE_MAX e in
+    false_from_ne_true (nat_le (length (reply_message (reply_to a 0 0 0 r 0 plain.content))) MESSAGE_MAX) (λ e.
+    let le = leb-true (length (reply_message (reply_to a 0 0 0 r 0 plain.content))) MESSAGE_MAX e in
     omega (arith, with_room a r plain none, len, is, few, more, le))
 
 -- ---- what always fits
@@ -73,7 +73,7 @@ asked_short a false m = omega arith
 short_fits : (a : Algorithm) (r : Content) (content : ReplyContent) → length (content_octets content) ≤ 60000 → IsTrue (fits a r content)
 unfolding fits reply_to
 short_fits a r content h =
-    let y = reply_to a 0 0 r 0 content in
+    let y = reply_to a 0 0 0 r 0 content in
     let len = length-reply_message y in
     let digest = asked_short a (wants_digest r) (signed_octets r) in
     le-leb (length (reply_message y)) MESSAGE_MAX (omega (arith, len, digest, h))

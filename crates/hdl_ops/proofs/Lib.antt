@@ -1,9 +1,12 @@
 pub mod Stamps
+pub mod Stored
 pub mod Applied
 pub mod Lengths
 pub mod Passed
 pub mod Decided
 pub mod Codes
 pub mod Announced
-pub mod Unlisted
+pub mod Bare
+pub mod Shown
 pub mod Costs
+pub mod Rendered

@@ -17,7 +17,7 @@ use Rattle.hdl_ops.specs.Admission.{refusal}
 use Rattle.hdl_ops.specs.Anyone.{code_for_anyone}
 use Rattle.hdl_ops.specs.Proven.{Proof, IsCodeForProof}
 use Rattle.hdl_ops.specs.Replies.{fits}
-use Rattle.hdl_ops.specs.Requests.{sent_handle}
+use Rattle.hdl_ops.specs.Requests.{sent_handle, stored_operation}
 use Rattle.hdl_ops.specs.Sights.{Sight, sight, asks}
 
 -- at what level a request is decided
@@ -42,7 +42,7 @@ abbrev pub show : Sight → Content → Level → List Value
 show s r level = filter (λ v. asks r.operation v && may_read level v) s.values
 
 abbrev pub carried_by : Operation → Sight → Content → Level → ReplyContent
-carried_by (resolution handle indexes types) s r level = Values handle (show s r level)
+carried_by (resolution handle indexes types) s r level = Values r.wire handle (show s r level)
 carried_by (list handle) s r level = Handles s.names
 carried_by _ s r level = Nothing
 
@@ -59,7 +59,7 @@ change_of (modify handle values) = Some (Modify handle values)
 change_of _ = None
 
 abbrev pub success : Sight → Content → Level → Decision
-success s r level = record { code = response_number Success; content = carried_content s r level; change = change_of r.operation }
+success s r level = record { code = response_number Success; content = carried_content s r level; change = change_of (stored_operation r) }
 
 -- ---- the decision
 

@@ -9,4 +9,5 @@ pub mod Decisions
 pub mod Replies
 pub mod Views
 pub mod Laws
+pub mod Seeing
 pub mod Cost

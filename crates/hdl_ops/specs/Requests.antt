@@ -1,6 +1,9 @@
 -- A request, in the words of the tables of decision.
-use Rattle.std.specs.Prelude.{ℕ, List, [], Bool, true, false, Option, Some, None}
+use Rattle.std.specs.Prelude.{ℕ, List, [], Bool, true, false, Option, Some, None, map}
 use Rattle.hdl_name.specs.Name.{canonical}
+use Rattle.hdl_value.specs.declared.value.Value.{Value}
+use Rattle.hdl_value.specs.declared.wire.Wire.{Wire}
+use Rattle.hdl_value.specs.Padding.{stored_by}
 use Rattle.hdl_msg.specs.Codes.{has_flag}
 use Rattle.hdl_msg.specs.declared.codes.OpFlag.TheVariants.{PublicOnly, ReturnDigest}
 use Rattle.hdl_msg.specs.Message.{Content, Operation, resolution, create, delete, add, remove, modify, list, response, other}
@@ -53,6 +56,24 @@ is_public_only r = has_flag r.header.op_flag PublicOnly
 -- return the request's digest (RD)
 abbrev pub wants_digest : Content → Bool
 wants_digest r = has_flag r.header.op_flag ReturnDigest
+
+-- ---- what a write stores
+
+-- the operation with the values that are stored where they came by this layout
+abbrev pub with_stored : Wire → Operation → Operation
+with_stored wire (resolution handle indexes types) = resolution handle indexes types
+with_stored wire (create handle values) = create handle (map (stored_by wire) values)
+with_stored wire (delete handle) = delete handle
+with_stored wire (add handle values) = add handle (map (stored_by wire) values)
+with_stored wire (remove handle indexes) = remove handle indexes
+with_stored wire (modify handle values) = modify handle (map (stored_by wire) values)
+with_stored wire (list handle) = list handle
+with_stored wire (response kind handle index answer) = response kind handle index answer
+with_stored wire (other octets) = other octets
+
+-- the same of a request
+abbrev pub stored_operation : Content → Operation
+stored_operation r = with_stored r.wire r.operation
 
 -- ---- challenge responses
 

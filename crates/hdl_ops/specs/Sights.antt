@@ -1,8 +1,9 @@
 -- What a decision sees of the table, and what a resolution asks for.
-use Rattle.std.specs.Prelude.{ℕ, List, [], Bool, false, ◌==◌, ◌&&◌, ◌||◌, Option, Some, None, if◌then◌else◌, length, bytes_eq, codes}
+use Rattle.std.specs.Prelude.{ℕ, List, [], Bool, false, ◌==◌, ◌&&◌, ◌||◌, Option, Some, None, if◌then◌else◌, length, map, bytes_eq, codes}
 use Rattle.std.specs.List.{list_any, starts_with, ends_with}
 use Rattle.hdl_name.specs.Name.{prefix}
 use Rattle.hdl_value.specs.declared.value.Value.{Value}
+use Rattle.hdl_rows.specs.Heads.{head}
 use Rattle.hdl_rows.specs.Table.{Table, has, values_of, names_of, value_with}
 use Rattle.hdl_msg.specs.Message.{Content, Operation, resolution}
 use Rattle.hdl_ops.specs.Requests.{sent_handle, handle_of, is_list}
@@ -19,9 +20,9 @@ sight t r = record {
   names = if is_list r.operation then names_of t (prefix (sent_handle r.operation)) else [];
 }
 
--- what is seen of the handle alone, without those of a naming authority
-abbrev pub unlisted : Sight → Sight
-unlisted s = record s { names = [] }
+-- what is seen before a code is known: the heads of the handle's values, and none of a naming authority's handles
+abbrev pub bare : Sight → Sight
+bare s = record s { values = map head s.values; names = [] }
 
 -- the value is there and passes the test
 abbrev pub passes : (Value → Bool) → Option Value → Bool

@@ -3,7 +3,8 @@ use Rattle.std.specs.Prelude.{◌≡◌, ℕ, Bool, List, Some, None, IsTrue}
 use Rattle.hdl_auth.specs.declared.algorithm.Algorithm.{Algorithm}
 use Rattle.hdl_msg.specs.Codes.{response_number}
 use Rattle.hdl_msg.specs.Message.{Content}
-use Rattle.hdl_tenants.specs.Register.{algorithm, hosts}
+use Rattle.hdl_value.specs.declared.wire.Wire.{Wire}
+use Rattle.hdl_tenants.specs.Register.{algorithm, hosts, wire}
 use Rattle.hdl_ops.specs.declared.admit.Admitted.{Admitted}
 use Rattle.hdl_ops.specs.declared.admit.Admitted.TheVariants as admitted
 use Rattle.hdl_ops.specs.declared.decision.Decision.{Decision}
@@ -24,6 +25,10 @@ use Rattle.hdl_ops.specs.Sights as sights
 -- the prefixes that are hosted for the owner
 abbrev pub hosted_by : Owner → List ℕ → Bool
 hosted_by o = hosts o.tenants.now o.publisher
+
+-- the layout that is spoken on the owner's lanes
+abbrev pub wire_by : Owner → Wire
+wire_by o = wire o.tenants.now o.publisher
 
 -- the hash functions of prefixes on the owner's lanes
 abbrev pub algorithms_by : Owner → List ℕ → Algorithm

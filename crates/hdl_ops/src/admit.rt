@@ -47,7 +47,7 @@ fn hosted_algorithm(owner: &Owner<'_>, name: &Option<Name>) -> Option<Algorithm>
     ensures algorithm { unwrap_or result Algorithm.Sha1 ≡ option_map_or (λ name. algorithms_by owner.now (prefix name)) name.now Algorithm.Sha1 }
 {
     match name {
-        Some(name) => owner.tenants.algorithm(owner.publisher, name),
+        Some(name) => owner.tenants.hosting(owner.publisher, name),
         None => None,
     }
 }
@@ -151,7 +151,7 @@ pub(crate) fn admit(request: NamedRequest<'_>) -> Result<Admitted, Refused>
         let referral = ReplyContent::Referral { prefix };
         return Ok(refusal_with(ResponseCode::ServiceReferral, referral));
     }
-    if is_bad_write(body) {
+    if is_bad_write(asked.request) {
         return Ok(refusal_with(ResponseCode::ValueInvalid, ReplyContent::Empty));
     }
     Ok(Admitted::Passed(name))

@@ -116,7 +116,7 @@ pub(crate) fn code_for_proof<R: Masked>(
     proof: &Proof<'_>,
 ) -> Result<ResponseCode, Refused>
     requires named { name.now ≡ sent_handle request.now.operation }
-    requires sight { sight_of sight.now ≡ sights.unlisted (sights.sight (R.content rows.old) request.now) }
+    requires sight { sight_of sight.now ≡ sights.bare (sights.sight (R.content rows.old) request.now) }
     ensures unchanged { R.content rows.new ≡ R.content rows.old }
     ensures code { IfOk result (λ code. IsCodeForProof (R.content rows.old) request.now (proof_of proof.now) (response_number code)) }
     ensures count { AreRefusalsAfter result (R.refused rows.old) (R.refused rows.new) }

@@ -34,6 +34,7 @@ mod permitted;
 mod proven;
 mod rendering;
 mod requests;
+mod seeing;
 mod sights;
 mod whole_decision;
 mod written;

@@ -1,6 +1,10 @@
 //! The publisher on whose lane a request came.
 
+ghost use Rattle.std.specs.Prelude.{◌≡◌};
+ghost use Rattle.hdl_ops.specs.Views.{wire_by};
+
 use hdl_tenants::Tenants;
+use hdl_value::Wire;
 use std::alloc::Global;
 
 /// A publisher of the tenants text, by its place there. Requests on its lanes are decided by the prefixes that are hosted for
@@ -10,4 +14,13 @@ pub struct Owner<'a> {
     pub alloc: Global,
     pub tenants: &'a Tenants,
     pub publisher: usize,
+}
+
+impl Owner<'_> {
+    /// By whose layout its lanes speak of values.
+    pub fn wire(&self) -> Wire
+        ensures { result ≡ wire_by self.now }
+    {
+        self.tenants.wire(self.publisher)
+    }
 }

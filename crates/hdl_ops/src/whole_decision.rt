@@ -1,12 +1,13 @@
 //! From the code of a table of decision to the whole decision.
 
-ghost use Rattle.std.specs.Prelude.{◌≡◌, ◌&&◌, filter, if◌then◌else◌, Some, None, IfOk, IsTrue};
+ghost use Rattle.std.specs.Prelude.{◌≡◌, ◌&&◌, filter, map, if◌then◌else◌, Some, None, IfOk, IsTrue};
 ghost use Rattle.hdl_msg.specs.Views.{operation_of, values_of};
+ghost use Rattle.hdl_value.specs.Padding.{stored_by};
 ghost use Rattle.hdl_msg.specs.Codes.{response_number};
 ghost use Rattle.hdl_ops.specs.Decisions as decisions;
 ghost use Rattle.hdl_ops.specs.Decisions.{may_read, carried_content, change_of};
 ghost use Rattle.hdl_ops.specs.Replies.{fits};
-ghost use Rattle.hdl_ops.specs.Requests.{sent_handle, resolves};
+ghost use Rattle.hdl_ops.specs.Requests.{sent_handle, resolves, stored_operation};
 ghost use Rattle.hdl_ops.specs.Sights.{asks};
 ghost use Rattle.hdl_ops.specs.Views.{decision_of, level_of, sight_of};
 
@@ -14,12 +15,12 @@ use crate::change::Change;
 use crate::decision::{Decision, HashedRequest, Level, Sight};
 use crate::rendering::fitting;
 use crate::sights::{asks, is_kept, is_public};
-use crate::written::{copied_indexes, copied_values};
+use crate::written::{copied_indexes, stored_values};
 use hdl_limits::{Items, Octets};
 use hdl_msg::{Body, ReplyContent, Request, ResponseCode, Values};
 use hdl_name::Name;
 use hdl_rows::Refused;
-use hdl_value::Value;
+use hdl_value::{Value, Wire};
 use std::alloc::{AllocError, Global};
 
 fn may_read(level: &Level<'_>, value: &Value) -> bool
@@ -31,7 +32,11 @@ fn may_read(level: &Level<'_>, value: &Value) -> bool
     }
 }
 
-fn readable_values(body: &Body<'_>, level: &Level<'_>, mut values: Vec<Value>) -> Vec<Value>
+pub(crate) fn readable_values(
+    body: &Body<'_>,
+    level: &Level<'_>,
+    mut values: Vec<Value>,
+) -> Vec<Value>
     ensures { result.items ≡ filter (λ v. asks (operation_of body.now) v && may_read (level_of level.now) v) values.items }
 {
     values.retain(|value| asks(body, value) && may_read(level, value));
@@ -53,7 +58,15 @@ fn carried_content(
         Body::Resolution { .. } => {
             let values = Items::new(readable_values(request.body(), level, sight.values));
             let handle = Octets::new(name.into_sent());
-            (ReplyContent::Values { handle, values }, None)
+            let wire = request.wire();
+            (
+                ReplyContent::Values {
+                    wire,
+                    handle,
+                    values,
+                },
+                None,
+            )
         }
         Body::List { .. } => {
             let handles = Items::new(sight.names);
@@ -69,32 +82,33 @@ fn carried_content(
     }
 }
 
-fn value_list(alloc: Global, values: Values<'_>) -> Result<Items<Value>, AllocError>
-    ensures { IfOk result (λ list. list ≡ values_of values.entry) }
+fn value_list(alloc: Global, wire: Wire, values: Values<'_>) -> Result<Items<Value>, AllocError>
+    ensures { IfOk result (λ list. list ≡ map (stored_by wire) (values_of values.entry)) }
 {
-    Ok(Items::new(copied_values(alloc, values)?))
+    Ok(Items::new(stored_values(alloc, wire, values)?))
 }
 
 /// The write that the operation asks for. A resolution, which asks for none, has no name left.
 fn change_of(
     alloc: Global,
-    body: &Body<'_>,
+    request: &Request<'_>,
     name: Option<Name>,
 ) -> Result<Option<Change>, AllocError>
-    requires named { name ≡ (if resolves (operation_of body.now) then None else Some (sent_handle (operation_of body.now))) }
-    ensures { IfOk result (λ change. change ≡ change_of (operation_of body.now)) }
+    requires named { name ≡ (if resolves request.now.operation then None else Some (sent_handle request.now.operation)) }
+    ensures { IfOk result (λ change. change ≡ change_of (stored_operation request.now)) }
 {
     let Some(name) = name else {
         return Ok(None);
     };
-    match body {
+    let wire = request.wire();
+    match request.body() {
         Body::Create { values, .. } => {
-            let values = value_list(alloc, *values)?;
+            let values = value_list(alloc, wire, *values)?;
             Ok(Some(Change::Create { name, values }))
         }
         Body::Delete { .. } => Ok(Some(Change::Delete { name })),
         Body::Add { values, .. } => {
-            let values = value_list(alloc, *values)?;
+            let values = value_list(alloc, wire, *values)?;
             Ok(Some(Change::Add { name, values }))
         }
         Body::Remove { indexes, .. } => {
@@ -102,7 +116,7 @@ fn change_of(
             Ok(Some(Change::Remove { name, indexes }))
         }
         Body::Modify { values, .. } => {
-            let values = value_list(alloc, *values)?;
+            let values = value_list(alloc, wire, *values)?;
             Ok(Some(Change::Modify { name, values }))
         }
         Body::Resolution { .. } => Ok(None),
@@ -143,7 +157,7 @@ pub(crate) fn whole_decision(
     let Some(content) = fitting(asked, content) else {
         return Ok(failure(ResponseCode::Error));
     };
-    let change = change_of(alloc, asked.request.body(), name)?;
+    let change = change_of(alloc, asked.request, name)?;
     Ok(Decision {
         code,
         content,

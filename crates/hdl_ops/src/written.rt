@@ -1,16 +1,18 @@
 //! What a write names: its indexes and its values, tested without memory, and copied once it stands.
 
-ghost use Rattle.std.specs.Prelude.{◌≡◌, ◌==◌, length, IfOk};
+ghost use Rattle.std.specs.Prelude.{◌≡◌, ◌==◌, length, map, IfOk};
 ghost use Rattle.std.specs.List.{list_any, list_all};
 ghost use Rattle.hdl_value.specs.Refs.{is_admin};
 ghost use Rattle.hdl_value.specs.Tests.{is_sound};
+ghost use Rattle.hdl_value.specs.Padding.{stored_by};
 ghost use Rattle.hdl_msg.specs.Views.{operation_of, numbers_of, values_of};
 ghost use Rattle.hdl_ops.specs.Admission.{has_twins, is_bad_list, are_bad, is_bad_write};
+ghost use Rattle.hdl_ops.specs.Requests.{stored_operation};
 
 use crate::sights::lists_index;
 use hdl_limits::WRITTEN_MAX;
-use hdl_msg::{Body, Numbers, Values};
-use hdl_value::Value;
+use hdl_msg::{Body, Numbers, Request, Values};
+use hdl_value::{Value, Wire};
 use std::alloc::{AllocError, Global};
 
 fn count_of_indexes(indexes: Numbers<'_>) -> usize
@@ -67,17 +69,17 @@ fn is_bad_value_list(values: Values<'_>) -> bool
     count == 0 || count > WRITTEN_MAX || has_twin_values(values)
 }
 
-fn are_sound(mut values: Values<'_>) -> bool
-    ensures { result ≡ list_all is_sound (values_of values.entry) }
+fn are_sound(wire: Wire, mut values: Values<'_>) -> bool
+    ensures { result ≡ list_all is_sound (map (stored_by wire) (values_of values.entry)) }
 {
-    values.all(|value| value.check().is_ok())
+    values.all(|value| value.stored_by(wire).check().is_ok())
 }
 
-#[tactic(auto, unfolding(crate::specs::Admission::are_bad))]
-fn are_bad(values: Values<'_>) -> bool
-    ensures { result ≡ are_bad (values_of values.entry) }
+#[tactic(auto, unfolding(crate::specs::Admission::are_bad), using(crate::proofs::Stored::bad_stored))]
+fn are_bad(wire: Wire, values: Values<'_>) -> bool
+    ensures { result ≡ are_bad (map (stored_by wire) (values_of values.entry)) }
 {
-    is_bad_value_list(values) || !are_sound(values)
+    is_bad_value_list(values) || !are_sound(wire, values)
 }
 
 fn has_admin(mut values: Values<'_>) -> bool
@@ -87,25 +89,31 @@ fn has_admin(mut values: Values<'_>) -> bool
 }
 
 /// What the write names can't be written, whatever the table holds.
-pub(crate) fn is_bad_write(body: &Body<'_>) -> bool
-    ensures { result ≡ is_bad_write (operation_of body.now) }
+#[tactic(auto, using(crate::proofs::Stored::admins_stored))]
+pub(crate) fn is_bad_write(request: &Request<'_>) -> bool
+    ensures { result ≡ is_bad_write (stored_operation request.now) }
 {
-    match body {
-        Body::Create { values, .. } => are_bad(*values) || !has_admin(*values),
-        Body::Add { values, .. } => are_bad(*values),
-        Body::Modify { values, .. } => are_bad(*values),
+    let wire = request.wire();
+    match request.body() {
+        Body::Create { values, .. } => are_bad(wire, *values) || !has_admin(*values),
+        Body::Add { values, .. } => are_bad(wire, *values),
+        Body::Modify { values, .. } => are_bad(wire, *values),
         Body::Remove { indexes, .. } => are_bad_indexes(*indexes),
         _ => false,
     }
 }
 
-/// The values, in memory of their own.
-pub(crate) fn copied_values(alloc: Global, mut values: Values<'_>) -> Result<Vec<Value>, AllocError>
-    ensures { IfOk result (λ all. all.items ≡ values_of values.entry) }
+/// The values that are stored where these came by the layout, in memory of their own.
+pub(crate) fn stored_values(
+    alloc: Global,
+    wire: Wire,
+    mut values: Values<'_>,
+) -> Result<Vec<Value>, AllocError>
+    ensures { IfOk result (λ all. all.items ≡ map (stored_by wire) (values_of values.entry)) }
 {
     let mut all = Vec::new(alloc);
     while let Some(value) = values.next() {
-        let Ok(value) = value.read(alloc) else {
+        let Ok(value) = value.stored_by(wire).read(alloc) else {
             return Err(AllocError);
         };
         all.push(value)?;

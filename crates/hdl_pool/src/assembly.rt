@@ -38,7 +38,7 @@ impl Model for Assembly {
 }
 
 impl Assembly {
-    /// A message of which nothing came yet, of so many octets in all.
+    /// A message of which nothing came yet, of `message_len` octets in all.
     pub(crate) fn new(
         alloc: Global,
         key: MessageKey,

@@ -74,7 +74,7 @@ impl Cells {
         }
     }
 
-    /// Puts a partial message behind the others: each of them moves down, until an empty cell takes one or the oldest falls out.
+    /// Puts a partial message after the others: each of them moves down, until an empty cell takes one or the oldest falls out.
     fn store(&mut self, lane: usize, first: Assembly) -> Taken
         requires lane { lane < LANES }
         requires fours { AreFours self.old }

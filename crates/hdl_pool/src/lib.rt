@@ -36,7 +36,7 @@
 //!   once. Each payload is a copy of its own, and the table of a message's pieces (at most 134 places) comes with its first piece.
 //! - **256 slots of one slab.** All are filled by `Pool::new`, and no key is given back: a table holds the four keys of each lane, and the
 //!   invariant says that each key has a slot and no two are the same. A lane's list is what its four cells have in their order, gaps
-//!   allowed; a new message is put behind the others, each moves down until a gap takes one, and where there is none the oldest falls out.
+//!   allowed; a new message is put after the others, each moves down until a gap takes one, and where there is none the oldest falls out.
 //! - **A message of one piece is copied, and nothing else**: no table of pieces is taken for it.
 //! - **`free` takes the envelope** of the frame that `take` took, from which it reads the same key.
 //! - **`take` has no allocator parameter**: the pool keeps the handle that `new` was given, as vectors do.

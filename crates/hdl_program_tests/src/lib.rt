@@ -20,6 +20,8 @@ mod loaded_rows;
 #[cfg(test)]
 mod neighbours;
 #[cfg(test)]
+mod one_event;
+#[cfg(test)]
 mod rows;
 #[cfg(test)]
 mod scripts;

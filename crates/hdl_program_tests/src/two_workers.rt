@@ -23,10 +23,10 @@ use std::time::Duration;
 const TENANTS: &str = "publisher acme 2 2641\nprefix 10 acme\nprefix 10.abc acme\n";
 
 /// A resolution of `10/a`, which is absent, and its reply: those of examples/absent.script.
-const FRAME: &str =
+pub(crate) const FRAME: &str =
     "020100000000000000000001000000000000002c0000000100000000000000000000000000000000000000100000000431302f61000000000000000000000000";
 
-const REPLY: &str =
+pub(crate) const REPLY: &str =
     "02010000000000000000000100000000000000200000000100000064000000000000000000000000000000040000000000000000";
 
 /// The turns of each worker, and of `serve`.
@@ -118,12 +118,6 @@ impl<R: std::rt::Clock> Clock for Sleeping<R> {
             thread::sleep(&self.rt, Duration::from_micros(100));
         }
     }
-
-    fn waited(&self) -> Duration {
-        Duration::ZERO
-    }
-
-    fn note_work(&mut self) {}
 }
 
 /// A door at which two peers ask, one after the other.
@@ -190,7 +184,7 @@ fn start_both<R: Threads + std::rt::Clock + Copy + Send + Drop + 'static>(
 }
 
 /// Opens the service of the tenants text, over an empty table.
-fn open(alloc: Global) -> Result<Service<PlainRows>, Fail> {
+pub(crate) fn open(alloc: Global) -> Result<Service<PlainRows>, Fail> {
     let Ok(tenants) = Tenants::read(alloc, TENANTS) else {
         return Err(Fail::from(AllocError));
     };

@@ -1,4 +1,4 @@
-//! What `handled`, `hdl` and `hdl proxy` share as programs: the words of a command line, the exit status behind faulty ones, the version, the
+//! What `handled`, `hdl` and `hdl proxy` share as programs: the words of a command line, the exit status after faulty ones, the version, the
 //! octets of standard input and output, and the fault with which a run ends.
 //!
 //! A program that has words on its command line reads them with `clap`. Where these leave nothing to do, [`status_of_words`] says

@@ -6,7 +6,7 @@ use std::alloc::AllocGlobal;
 use std::env::Env;
 use std::{env, io};
 
-/// The exit status where the words leave nothing to do: 0 behind help or a version that was asked for, 2 behind a fault in them.
+/// The exit status if the command line leaves nothing to do: 0 after help or version, 2 after a fault.
 pub fn status_of_words(is_help: bool) -> u8
     ensures status { result ≡ (if is_help then 0 else 2) }
 {

@@ -49,9 +49,9 @@ pub enum HeaderFault {
 /// What the octets that came so far are.
 #[derive(Clone, Copy, PartialEq, Eq)]
 pub enum HeaderStep {
-    /// A beginning: so many octets more belong to the header, and maybe more behind them.
+    /// A beginning: at least this many octets more belong to the header.
     More(usize),
-    /// A whole header, and the client for whom it speaks. None: the proxy speaks for itself, or doesn't say for whom over TCP.
+    /// A whole header, and the client for which it speaks. None: the proxy speaks for itself, or doesn't say for which over TCP.
     Whole(Option<SocketAddr>),
 }
 
@@ -130,7 +130,7 @@ fn fault_of(octets: &[u8]) -> Option<HeaderFault>
     }
 }
 
-/// The client for whom a whole header speaks.
+/// The client for which a whole header speaks.
 fn client_of(octets: &[u8]) -> Option<SocketAddr>
     requires whole { header_len octets.now ≤ length octets.now }
     requires addresses { spec.addresses_len octets.now ≤ spec.rest_len octets.now }
@@ -145,7 +145,7 @@ fn client_of(octets: &[u8]) -> Option<SocketAddr>
     }
 }
 
-/// Reads the octets with which a connection begins (PROXY protocol, version 2, section 2.2). Octets behind a whole header don't matter. A fault is told once the first 16 octets are there.
+/// Reads the octets with which a connection begins (PROXY protocol, version 2, section 2.2). Octets after a whole header don't matter. A fault is returned once the first 16 octets are there.
 ///
 /// ```text
 ///  0                        12       13       14               16

@@ -1,12 +1,12 @@
-//! Whom a proxy speaks for: the header of the PROXY protocol, version 2.
+//! The client that a proxy speaks for: the header of the PROXY protocol, version 2.
 //!
 //! ```text
 //! the first octets of a connection -> read_header -> how many more belong to the header, or the client, or a fault
 //! ```
 //!
 //! A proxy before the server (HAProxy's `send-proxy-v2`) writes this header before the octets of its client, so that the server knows the client's address.
-//! The crate has no sockets: who reads decides from whom a header is accepted. It promises which octets are a header, the first fault of others, and that
-//! no octet behind the header is asked for.
+//! The crate has no sockets: its caller decides from which addresses a header is accepted. It promises which octets are a header, the first fault of others, and that
+//! no octet after the header is asked for.
 //!
 //! ```rust
 //! // crates/hdl_sockets/src/introduction.rt

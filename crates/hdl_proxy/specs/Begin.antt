@@ -149,12 +149,12 @@ IsOfFile path answer =
 -- no list is given, and nothing else is there, in JSON
 abbrev pub IsNoHandle : List ℕ → Reply → Type 0
 IsNoHandle path answer =
-    ((path ≡ list_path) × Refuses status.Forbidden Json path OPERATION_DENIED (codes "This proxy takes no keys, and so lists no handles.") answer)
-    ⊎ ((path ≢ list_path) × Refuses status.NotFound Json path OPERATION_DENIED (codes "Nothing is at this address. Handles are at /api/handles/ and the handle.") answer)
+    ((path ≡ list_path) × Refuses status.Forbidden Json path OPERATION_DENIED (codes "This proxy lists no handles, since it accepts no keys.") answer)
+    ⊎ ((path ≢ list_path) × Refuses status.NotFound Json path OPERATION_DENIED (codes "There is nothing at this address. A handle is at /api/handles/HANDLE.") answer)
 
 -- that method is refused in this form
 abbrev pub RefusesMethodIn : Form → List ℕ → Reply → Type 0
-RefusesMethodIn form path answer = Refuses status.MethodNotAllowed form path OPERATION_DENIED (codes "A handle is asked for by GET or HEAD.") answer
+RefusesMethodIn form path answer = Refuses status.MethodNotAllowed form path OPERATION_DENIED (codes "Use GET or HEAD to read a handle.") answer
 
 -- another method is refused, by a page or under `/api/` in JSON; OPTIONS is answered there
 abbrev pub RefusesMethod : List ℕ → List ℕ → Reply → Type 0
@@ -230,7 +230,7 @@ pub record IsAsked (asked : List ℕ) (wanted : Form) (pairs : List (List ℕ ×
 -- why a request for this name is refused: a call is asked for, an index is none, or the name is none
 abbrev pub IsReason : List ℕ → Form → List (List ℕ × List ℕ) → List ℕ → Type 0
 IsReason name form pairs why =
-    ((is_called_back form pairs ≡ true) × (why ≡ codes "The word callback isn't taken: pages of any site may read this JSON."))
+    ((is_called_back form pairs ≡ true) × (why ≡ codes "callback is refused: pages of any site may read this JSON without it."))
     ⊎ (¬ (All IsIndex (values_named (codes "index") pairs)) × (why ≡ codes "An index is a number below 4294967296."))
     ⊎ (¬ (IsHandle name) × IsFaultSentence name why)
 

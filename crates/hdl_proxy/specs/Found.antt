@@ -4,6 +4,8 @@ use Rattle.std.specs.Global.{Vec}
 use Rattle.std.specs.Borrow.{Bor}
 use Rattle.hdl_value.specs.declared.value.Value.{Value}
 use Rattle.hdl_value.specs.Fault.{IsSound}
+use Rattle.hdl_value.specs.declared.wire.Wire.{Wire}
+use Rattle.hdl_value.specs.declared.wire.Wire.TheVariants.{Profile}
 use Rattle.hdl_msg.specs.Reply.{ReplyParts, SpellsReply}
 use Rattle.hdl_msg.specs.declared.replies.ReplyContent.{ReplyContent}
 use Rattle.hdl_msg.specs.declared.replies.ReplyContent.TheVariants as content
@@ -15,9 +17,9 @@ use Rattle.hdl_proxy.specs.declared.found.Found.TheVariants.{Values, Refused, No
 use Rattle.hdl_proxy.specs.declared.resolver.NoAnswer.{NoAnswer}
 use Rattle.hdl_proxy.specs.declared.resolver.NoAnswer.TheVariants.{Unreachable, Elsewhere, Crowded, Memory}
 
--- sound values of this handle
+-- sound values of this handle, by whichever layout they stand
 abbrev pub AreValuesOf : List ℕ → ReplyContent → List Value → Type 0
-AreValuesOf handle said values = (said ≡ content.Values handle values) × All IsSound values
+AreValuesOf handle said values = ((wire : Wire) × (said ≡ content.Values wire handle values)) × All IsSound values
 
 -- of sound values just those that are shown, and none where one of them is unsound
 abbrev pub AreShown : List Value → Option (Vec Value) → Type 0
@@ -26,7 +28,7 @@ AreShown values (Some shown) = All IsSound values × (shown.items ≡ filter is_
 
 -- no values: the prefix is hosted elsewhere, or the code says it all
 abbrev pub IsRefusal : ReplyContent → Type 0
-IsRefusal (content.Values handle values) = ⊥
+IsRefusal (content.Values wire handle values) = ⊥
 IsRefusal (content.Handles handles) = ⊥
 IsRefusal content.Nothing = ⊥
 IsRefusal (content.Referral prefix) = ⊤
@@ -41,11 +43,11 @@ IsSaidBy handle code said (Values shown) =
 IsSaidBy handle code said (Refused refused) = IsRefusal said × (refused ≡ code)
 IsSaidBy handle code said Nothing = ((values : List Value) → ¬ (AreValuesOf handle said values)) × ¬ (IsRefusal said)
 
--- what is found in a message: what the reply says that it spells, and where it spells none nothing
+-- what is found in a message: what the reply says that it spells by our profile's layout, and where it spells none nothing
 abbrev pub IsFoundIn : List ℕ → List ℕ → Found → Type 0
 IsFoundIn handle message found =
-    ((reply : ReplyParts) × (SpellsReply message reply × IsSaidBy handle reply.header.response_code reply.content found))
-    ⊎ (((reply : ReplyParts) → ¬ (SpellsReply message reply)) × (found ≡ Nothing))
+    ((reply : ReplyParts) × (SpellsReply Profile message reply × IsSaidBy handle reply.header.response_code reply.content found))
+    ⊎ (((reply : ReplyParts) → ¬ (SpellsReply Profile message reply)) × (found ≡ Nothing))
 
 -- what is found in what a resolver gave: nothing where nobody answered, and the codes of a referral and of a busy server where that is all
 abbrev pub IsFoundOf : List ℕ → Result (Bor (List ℕ)) NoAnswer → Found → Type 0

@@ -66,7 +66,7 @@ permissions_part mask =
 -- an administrator: its key, and what it may do
 unfoldable pub admin_part : ℕ × RawRef → List ℕ
 admin_part x =
-    codes "<p>Whoever has the key <span class=\"data\">" ++ (escaped (decimal x.1.index) ++ (codes ":" ++ (escaped x.1.handle
+    codes "<p>The holder of the key <span class=\"data\">" ++ (escaped (decimal x.1.index) ++ (codes ":" ++ (escaped x.1.handle
     ++ (codes "</span> may</p>\n" ++ permissions_part x.0))))
 
 -- a reference of a list

@@ -40,8 +40,8 @@ abbrev pub refused_words : ℕ → List ℕ
 refused_words code =
     if code == HANDLE_NOT_FOUND then codes "This handle isn't there."
     else if code == INVALID_HANDLE then codes "The server says that this is no handle."
-    else if code == VALUE_NOT_FOUND then codes "This handle is there, and has no such value that anybody may read."
-    else if code == SERVICE_REFERRAL then codes "No server that was asked has handles of this prefix."
+    else if code == VALUE_NOT_FOUND then codes "This handle exists, but it has no such public value."
+    else if code == SERVICE_REFERRAL then codes "None of the servers that were asked hosts this prefix."
     else if code == SERVER_BUSY then codes "The server is busy."
     else codes "The server couldn't answer."
 
@@ -58,7 +58,7 @@ abbrev pub advice : ℕ → List ℕ → List ℕ
 advice code asked =
     if (code == HANDLE_NOT_FOUND) || (code == SERVICE_REFERRAL) then look_again asked
     else if code == INVALID_HANDLE then codes "A handle is a prefix, a slash and a local name, such as 10/a."
-    else if code == VALUE_NOT_FOUND then codes "Its values aren't public, or the words behind the question mark of its address ask for others."
+    else if code == VALUE_NOT_FOUND then codes "Its values aren't public, or the part of its address after the question mark selects others."
     else if code == OPERATION_DENIED then codes "Follow a link to a handle, or type its address."
-    else if code == TOO_FAR then codes "Please tell who gave it to you: one of these handles has to lead elsewhere."
+    else if code == TOO_FAR then codes "Please tell the person who gave it to you: one of these handles must be changed."
     else codes "Please come back in a few minutes."

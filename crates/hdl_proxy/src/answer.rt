@@ -30,14 +30,13 @@ pub enum Status {
 }
 
 impl Status {
-    /// Its number.
     pub fn number(self) -> u16
         ensures { result ≡ status_number self }
     {
         self as u16
     }
 
-    /// That of a reply with this code, where nothing is followed: a handle or a prefix that isn't there isn't found, a name that is
+    /// The status for a reply with this code, if nothing is followed: a handle or a prefix that isn't there isn't found, a name that is
     /// none is the client's fault, a busy server may be asked again, and whatever else a server answers isn't the client's fault.
     pub fn of_code(code: u32) -> Status
         ensures { result ≡ status_of_code code }
@@ -52,7 +51,7 @@ impl Status {
     }
 }
 
-/// The code that is told of a reply with this one: where no server has the prefix, that the handle isn't there.
+/// The code that the proxy gives for a server's code: "handle not found" for a referral, else the same.
 pub fn told_code(code: u32) -> u32
     ensures { result ≡ told_code code }
 {
@@ -62,7 +61,7 @@ pub fn told_code(code: u32) -> u32
     }
 }
 
-/// What a body is.
+/// The media type of a body.
 #[derive(Clone, Copy, PartialEq, Eq)]
 pub enum Media {
     /// `text/html; charset=utf-8`

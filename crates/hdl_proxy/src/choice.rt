@@ -14,7 +14,7 @@ const LOCATIONS: &[u8] = b"10320/loc";
 /// The type of a value that names another handle, which is asked for in this one's place.
 const ALIAS: &[u8] = b"HS_ALIAS";
 
-/// Whether a value is shown: anybody may read it, and it is no key.
+/// Whether a value is shown: everyone may read it, and it is no key.
 pub fn is_shown(value: &Value) -> bool
     ensures { result ≡ is_shown value.now }
 {

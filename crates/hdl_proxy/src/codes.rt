@@ -1,4 +1,4 @@
-//! The response codes that browsers are told of, as numbers (docs/PROTOCOL.md, "Message").
+//! The response codes that browsers are given, as numbers (docs/PROTOCOL.md, "Message").
 
 use hdl_msg::ResponseCode;
 
@@ -16,5 +16,5 @@ pub(crate) const VALUE_NOT_FOUND: u32 = ResponseCode::ValueNotFound as u32;
 
 pub(crate) const SERVICE_REFERRAL: u32 = ResponseCode::ServiceReferral as u32;
 
-/// That aliases lead on too far (RFC 3652, section 2.2.2.3), which no server of ours says.
+/// That aliases lead on too far (a name of RFC 3652, section 2.2.2.2); our servers never send it.
 pub(crate) const TOO_FAR: u32 = 6;

@@ -9,7 +9,7 @@ ghost use Rattle.hdl_proxy.specs.Found.{IsFoundIn, IsFoundOf, IsSaidBy, AreShown
 use crate::choice::is_shown;
 use crate::resolver::NoAnswer;
 use hdl_msg::{ContentView, ResponseCode, Values, read_reply};
-use hdl_value::{Value, ValueFault};
+use hdl_value::{Value, ValueFault, Wire};
 use std::alloc::{AllocError, Global};
 
 /// What a reply says of a handle.
@@ -67,7 +67,7 @@ fn said_by(
 fn found_in(alloc: Global, handle: &[u8], message: &[u8]) -> Result<Found, AllocError>
     ensures { IfOk result (IsFoundIn handle.now message.now) }
 {
-    match read_reply(message) {
+    match read_reply(Wire::Profile, message) {
         Ok(reply) => said_by(alloc, handle, reply.header.response_code, reply.content),
         Err(_) => Ok(Found::Nothing),
     }

@@ -12,7 +12,7 @@ use crate::pages::{page_answer, put_advice, refusal_title};
 use hdl_name::Name;
 use std::alloc::{AllocError, Global};
 
-/// Which handle was asked for, whose alias led to what stands below.
+/// Adds which handle was asked for, whose alias led to the handle below.
 #[tactic(auto, unfolding(crate::specs::Hops::alias_part))]
 pub(crate) fn put_alias(page: &mut Page, asked: &Name) -> Result<(), AllocError>
     ensures { OnOk result (page.new.octets.items ≡ page.old.octets.items ++ alias_part asked.now) }

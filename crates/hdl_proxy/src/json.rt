@@ -41,7 +41,7 @@ fn kept_answer(
     Ok(Answer::new(alloc, status, Media::Json, keeping, text.into_bytes()))
 }
 
-/// An answer in JSON, which nobody may keep.
+/// An answer in JSON, which may not be cached.
 pub fn json_answer(alloc: Global, status: Status, json: &Json) -> Result<Answer, AllocError>
     ensures told { IfOk result (Tells status Media.Json) }
     ensures kept { IfOk result (λ a. a.keeping ≡ Keeping.Never) }
@@ -112,7 +112,7 @@ fn reference_json(alloc: Global, reference: &Reference) -> Result<Json, AllocErr
     Ok(Json::from(object))
 }
 
-/// Data, and how it is told.
+/// The data with its format.
 #[tactic(auto, unfolding(crate::specs::Json::with_format))]
 fn with_format(alloc: Global, format: &str, told: Json) -> Result<Json, AllocError>
     ensures { IfOk result (λ json. view json ≡ with_format format.now (view told)) }

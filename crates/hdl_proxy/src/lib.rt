@@ -8,7 +8,7 @@
 //! This crate has no sockets and no clock. It stands on the codecs of `hdl_msg`, `hdl_value` and `hdl_name`: what is asked is in
 //! their grammar, and what is shown was read by it. Who asks a server is the caller's, and [`NoAnswer`] what came where no reply did.
 //!
-//! What it promises: a question asks for what anybody may read, and for nothing else; a reply shows values that are public, and
+//! What it promises: a question asks for what everyone may read, and for nothing else; a reply shows values that are public, and
 //! never a key; a handle's address leads to its URL value of the lowest index, where that is one to be followed
 //! ([`is_followed`]); a Location holds graphic ASCII alone; and text in a page is escaped.
 //!

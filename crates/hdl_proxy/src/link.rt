@@ -58,7 +58,7 @@ impl Link {
         Ok(Link { text })
     }
 
-    /// Its octets, as they stand in a Location and in a page.
+    /// The link's octets, as they are in a Location and in a page.
     pub(crate) fn octets(&self) -> &[u8]
         ensures octets { result.now ≡ self.now }
         ensures link { IsLink self.now }
@@ -66,7 +66,7 @@ impl Link {
         self.text.as_bytes()
     }
 
-    /// Its text, for a Location.
+    /// The link's text, for a Location.
     pub(crate) fn into_text(self) -> String
         ensures octets { string_bytes result ≡ self }
         ensures graphic { All IsGraphic (string_bytes result) }

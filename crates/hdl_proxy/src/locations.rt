@@ -15,7 +15,7 @@ const LOCATIONS_MOST: usize = 256;
 #[derive(Drop)]
 pub(crate) struct Location {
     pub(crate) href: Vec<u8>,
-    /// How often it is chosen, beside the others' weights.
+    /// How often it is chosen, compared with the others' weights.
     pub(crate) weight: u32,
     /// Whether it has the attribute that the address asks for.
     pub(crate) is_wanted: bool,
@@ -88,7 +88,7 @@ fn location_of(
     }))
 }
 
-/// What stands behind the end of a location, in which nothing stands.
+/// What follows the end of a location, in which nothing stands.
 fn cut_end(text: &[u8]) -> Option<&[u8]>
     ensures { IfSome result (λ rest. (end : List ℕ) × (IsEnd end × (text.now ≡ end ++ rest.now))) }
 {
@@ -101,7 +101,7 @@ fn cut_end(text: &[u8]) -> Option<&[u8]>
     Some(rest)
 }
 
-/// The location that is next, and what stands behind it. None where there is none that can be read.
+/// The location that is next, and what follows it. None where there is none that can be read.
 fn read_location<'a>(
     alloc: Global,
     text: &'a [u8],
@@ -121,7 +121,7 @@ fn read_location<'a>(
     }
 }
 
-/// The locations up to the tag that ends them, and what stands behind that. None where they can't be read.
+/// The locations up to the tag that ends them, and what follows that. None where they can't be read.
 fn read_each<'a>(
     alloc: Global,
     text: &'a [u8],
@@ -144,7 +144,7 @@ fn read_each<'a>(
     Ok(None)
 }
 
-/// The locations behind the attributes of the front tag, and what stands behind them.
+/// The locations after the attributes of the front tag, and what follows them.
 fn read_inside<'a>(
     alloc: Global,
     text: &'a [u8],

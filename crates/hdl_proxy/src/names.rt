@@ -38,7 +38,7 @@ pub fn unescape(alloc: Global, text: &str) -> Result<Vec<u8>, AllocError>
     decode(alloc, text.as_bytes())
 }
 
-/// Octets as text: as they are where they are text, and else their hexadecimal digits.
+/// Octets as text: as they are if they are text, or else their hexadecimal digits.
 pub(crate) fn text_of(alloc: Global, octets: &[u8]) -> Result<String, AllocError>
     ensures { IfOk result (λ text. string_bytes text ≡ text_of octets.now) }
 {

@@ -4,10 +4,10 @@ ghost use Rattle.std.specs.Prelude.{◌≡◌};
 ghost use Rattle.hdl_proxy.specs.Note.{note_part};
 
 const UNREAD: &str =
-    "<p class=\"note\">The locations of this handle (10320/loc) can't be read, so its address leads nowhere. Please tell whoever gave it to you. These are its values:</p>\n";
+    "<p class=\"note\">The locations of this handle (10320/loc) can't be read, so its address leads nowhere. Please tell the person who gave it to you. These are its values:</p>\n";
 
 const UNFOLLOWED: &str =
-    "<p class=\"note\">The location that this address asks for, or that was chosen, isn't one that is followed here. Please tell whoever gave it to you. These are the handle's values:</p>\n";
+    "<p class=\"note\">The location that this address asks for, or that was chosen, isn't followed here. Please tell the person who gave it to you. These are the handle's values:</p>\n";
 
 /// What is wrong with a handle's locations, where its values are shown.
 #[derive(Clone, Copy, PartialEq, Eq)]
@@ -21,7 +21,7 @@ pub(crate) enum Note {
 }
 
 impl Note {
-    /// It in words.
+    /// The note's markup.
     pub(crate) fn markup(self) -> &'static str
         ensures { result.now ≡ note_part self }
     {

@@ -19,7 +19,7 @@ use crate::words::{KeptFor, kept_for, span_words, written_words};
 use hdl_value::Value;
 use std::alloc::{AllocError, Global};
 
-const NO_VALUES: &str = "<p>This handle is there, and has no value that anybody may read.</p>\n";
+const NO_VALUES: &str = "<p>This handle exists, but it has no public value.</p>\n";
 
 const ANOTHER: &str = "<p><a href=\"/\">Find another handle</a></p>\n";
 
@@ -76,9 +76,10 @@ fn advice(code: u32, asked: &[u8]) -> &'static str
         HANDLE_NOT_FOUND | SERVICE_REFERRAL => look_again(asked),
         INVALID_HANDLE => "A handle is a prefix, a slash and a local name, such as 10/a.",
         VALUE_NOT_FOUND =>
-            "Its values aren't public, or the words behind the question mark of its address ask for others.",
+            "Its values aren't public, or the part of its address after the question mark selects others.",
         OPERATION_DENIED => "Follow a link to a handle, or type its address.",
-        TOO_FAR => "Please tell who gave it to you: one of these handles has to lead elsewhere.",
+        TOO_FAR =>
+            "Please tell the person who gave it to you: one of these handles must be changed.",
         _ => "Please come back in a few minutes.",
     }
 }

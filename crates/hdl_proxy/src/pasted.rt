@@ -16,7 +16,7 @@ pub(crate) fn between_spaces(octets: &[u8]) -> &[u8]
     }
 }
 
-/// What stands behind this front, in any case of letters.
+/// What follows this front, in any case of letters.
 fn behind<'a>(text: &'a [u8], front: &[u8]) -> Option<&'a [u8]>
     ensures { MatchOption result (Lacks (IsBehind front.now text.now)) (λ rest. IsBehind front.now text.now rest.now) }
 {
@@ -37,14 +37,14 @@ fn behind_either<'a>(text: &'a [u8], first: &[u8], second: &[u8]) -> Option<&'a 
     }
 }
 
-/// What stands behind the scheme of a handle.
+/// What follows the scheme of a handle.
 fn behind_scheme(text: &[u8]) -> Option<&[u8]>
     ensures { MatchOption result (Lacks (IsBehindScheme text.now)) (λ rest. IsBehindScheme text.now rest.now) }
 {
     behind_either(text, b"hdl:", b"doi:")
 }
 
-/// What stands behind the address of a DOI.
+/// What follows the address of a DOI.
 fn behind_doi(text: &[u8]) -> Option<&[u8]>
     ensures { MatchOption result (Lacks (IsBehindDoi text.now)) (λ rest. IsBehindDoi text.now rest.now) }
 {
@@ -54,7 +54,7 @@ fn behind_doi(text: &[u8]) -> Option<&[u8]>
     }
 }
 
-/// What stands behind the address of a proxy that the world knows.
+/// What follows the address of a proxy that the world knows.
 fn behind_address(text: &[u8]) -> Option<&[u8]>
     ensures { MatchOption result (Lacks (IsBehindAddress text.now)) (λ rest. IsBehindAddress text.now rest.now) }
 {
@@ -64,7 +64,7 @@ fn behind_address(text: &[u8]) -> Option<&[u8]>
     }
 }
 
-/// The name in a part of a path, with its escapes: what stands behind a scheme or a proxy's address, or where it has none all of it. A name
+/// The name in a part of a path, with its escapes: what follows a scheme or a proxy's address, or where it has none all of it. A name
 /// that itself begins so has its colon escaped, as every path that this crate writes has.
 pub(crate) fn name_within(text: &[u8]) -> &[u8]
     ensures { IsWritten text.now result.now }
@@ -78,7 +78,7 @@ pub(crate) fn name_within(text: &[u8]) -> &[u8]
     }
 }
 
-/// The name in a text that was pasted: what stands behind a scheme; of a proxy's address the rest, its escapes read once; or where it has
+/// The name in a text that was pasted: what follows a scheme; of a proxy's address the rest, its escapes read once; or where it has
 /// neither all of it.
 pub(crate) fn pasted_name(alloc: Global, text: &[u8]) -> Result<Vec<u8>, AllocError>
     ensures { IfOk result (λ name. IsPasted text.now name.items) }

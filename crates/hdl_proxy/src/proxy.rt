@@ -29,7 +29,7 @@ use hdl_name::NameFault;
 use hdl_value::Value;
 use std::alloc::{AllocError, Global};
 
-/// Under which all is told in JSON.
+/// The path under which all answers are JSON.
 const API_PATH: &str = "/api/";
 
 /// Where handles are listed.
@@ -84,7 +84,7 @@ fn lead(alloc: Global, sent: &[u8]) -> Result<Answer, AllocError>
     }
 }
 
-/// That a name is none, and why.
+/// The sentence that says why a name is no handle.
 fn fault_sentence(fault: NameFault) -> &'static str
     ensures { result.now ≡ fault_sentence fault }
 {
@@ -168,7 +168,7 @@ fn begin_handle(
     ensures located { IfOk result IsLocatedIfAnswered }
 {
     if is_called_back(form, pairs) {
-        let why = "The word callback isn't taken: pages of any site may read this JSON.";
+        let why = "callback is refused: pages of any site may read this JSON without it.";
         return refuse(alloc, form, octets, sent, why);
     }
     let Some(indexes) = indexes_of(alloc, pairs)? else {
@@ -228,7 +228,7 @@ fn without_slash(path: &str) -> &str
     }
 }
 
-/// That what is asked at this path isn't done.
+/// The answer that refuses what is asked at this path.
 fn refuse_path(
     alloc: Global,
     form: Form,
@@ -242,16 +242,16 @@ fn refuse_path(
     refusal_of(alloc, form, path.as_bytes(), status, code, why)
 }
 
-/// What is told at an address under `/api/` that is none of a handle.
+/// The answer at an address under `/api/` that isn't a handle's.
 fn no_handle(alloc: Global, path: &str) -> Result<Answer, AllocError>
     ensures none { IfOk result (IsNoHandle path.now) }
     ensures located { IfOk result IsLocated }
 {
     if path == LIST_PATH {
-        let why = "This proxy takes no keys, and so lists no handles.";
+        let why = "This proxy lists no handles, since it accepts no keys.";
         return refuse_path(alloc, Form::Json, path, Status::Forbidden, why);
     }
-    let why = "Nothing is at this address. Handles are at /api/handles/ and the handle.";
+    let why = "There is nothing at this address. A handle is at /api/handles/HANDLE.";
     refuse_path(alloc, Form::Json, path, Status::NotFound, why)
 }
 
@@ -275,12 +275,12 @@ fn begin_address(alloc: Global, path: &str, query: &str) -> Result<Next, AllocEr
     begin_handle(alloc, sent, name, page_form(&pairs), &pairs)
 }
 
-/// That a handle is asked for by another method.
+/// The answer to a handle that is asked for by another method.
 fn refuse_method(alloc: Global, form: Form, path: &str) -> Result<Answer, AllocError>
     ensures refuses { IfOk result (RefusesMethodIn form path.now) }
     ensures located { IfOk result IsLocated }
 {
-    let why = "A handle is asked for by GET or HEAD.";
+    let why = "Use GET or HEAD to read a handle.";
     refuse_path(alloc, form, path, Status::MethodNotAllowed, why)
 }
 
@@ -298,7 +298,7 @@ fn begin_other(alloc: Global, method: &str, path: &str) -> Result<Answer, AllocE
     refuse_method(alloc, Form::Json, path)
 }
 
-/// What browsers are told that ask whether another page may send such a request: nothing but the fields of the answer.
+/// The answer to a browser that asks whether another page may send such a request: nothing but the fields of the answer.
 pub fn options(alloc: Global) -> Answer
     ensures { IsBare result }
 {
@@ -340,8 +340,8 @@ fn refused_words(code: u32) -> &'static str
     match code {
         HANDLE_NOT_FOUND => "This handle isn't there.",
         INVALID_HANDLE => "The server says that this is no handle.",
-        VALUE_NOT_FOUND => "This handle is there, and has no such value that anybody may read.",
-        SERVICE_REFERRAL => "No server that was asked has handles of this prefix.",
+        VALUE_NOT_FOUND => "This handle exists, but it has no such public value.",
+        SERVICE_REFERRAL => "None of the servers that were asked hosts this prefix.",
         SERVER_BUSY => "The server is busy.",
         _ => "The server couldn't answer.",
     }
@@ -378,7 +378,7 @@ fn answer_values(
     }
 }
 
-/// That there are no values of this handle, by code and reason.
+/// The answer without values of this handle, by code and reason.
 fn refusal_of(
     alloc: Global,
     form: Form,

@@ -61,7 +61,7 @@ pub fn last_named<'a>(
     Ok(values.pop())
 }
 
-/// What is to be put behind the URL that is followed: nothing where the query doesn't say.
+/// What is to be appended to the URL that is followed; empty if the query doesn't say.
 pub(crate) fn text_to_append(alloc: Global, pairs: &[Pair]) -> Result<Vec<u8>, AllocError>
     ensures { IfOk result (λ append. IsAppended (texts_of pairs.now) append.items) }
 {
@@ -71,7 +71,7 @@ pub(crate) fn text_to_append(alloc: Global, pairs: &[Pair]) -> Result<Vec<u8>, A
     }
 }
 
-/// Which of several locations is asked for: nothing where the query doesn't say.
+/// Which of several locations is asked for; empty if the query doesn't say.
 pub(crate) fn location_asked(alloc: Global, pairs: &[Pair]) -> Result<String, AllocError>
     ensures { IfOk result (λ locatt. IsLocatt (texts_of pairs.now) (string_bytes locatt)) }
 {

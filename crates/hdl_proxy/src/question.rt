@@ -4,7 +4,8 @@ ghost use Rattle.std.specs.Prelude.{◌≡◌, ◌<◌, true, IfOk, IfNone, IfSo
 ghost use Rattle.hdl_limits.specs.declared.TheConstants.{MESSAGE_MAX};
 ghost use Rattle.hdl_msg.specs.Codes.{has_flag};
 ghost use Rattle.hdl_msg.specs.Message.{resolution};
-ghost use Rattle.hdl_msg.specs.RequestBody.{request_length, requested_operation};
+ghost use Rattle.hdl_msg.specs.RequestBody.{request_length, requested_operation, operation_read};
+ghost use Rattle.hdl_value.specs.declared.wire.Wire.TheVariants.{Profile};
 ghost use Rattle.hdl_msg.specs.declared.codes.OpFlag.TheVariants.{PublicOnly};
 ghost use Rattle.hdl_proxy.specs.Question.{AsksInPublic, IsPublicRequest, IsTooLong};
 
@@ -12,6 +13,7 @@ use crate::answer::Keeping;
 use hdl_limits::{Items, MESSAGE_MAX, Octets};
 use hdl_msg::{Header, OpCode, OpFlag, RequestBody, request_len, write_request};
 use hdl_name::Name;
+use hdl_value::Wire;
 use std::alloc::{AllocError, Global};
 
 /// In which form a handle is answered.
@@ -35,7 +37,7 @@ pub struct Question {
     pub form: Form,
     pub indexes: Vec<u32>,
     pub types: Vec<Octets>,
-    /// What is put behind the URL that is followed.
+    /// What is appended to the URL that is followed.
     pub append: Vec<u8>,
     /// Which of several locations is asked for, as `NAME:VALUE` of an attribute; nothing where none is.
     pub locatt: String,
@@ -43,7 +45,7 @@ pub struct Question {
     pub aliases: bool,
     /// The handles whose aliases led here, the one that was asked for first.
     pub passed: Vec<Name>,
-    /// How long others may keep what those were told with.
+    /// How long the answers on the way here may be cached.
     pub keeping: Keeping,
     /// Whether a server is asked even where a reply is kept.
     pub anew: bool,
@@ -59,7 +61,7 @@ fn copies(alloc: Global, types: &[Octets]) -> Result<Vec<Octets>, AllocError>
     Ok(all)
 }
 
-/// The header of a request that shows what anybody may read, and asks for no key.
+/// The header of a request that shows what everyone may read, and asks for no key.
 fn public_header() -> Header
     ensures { has_flag result.op_flag PublicOnly ≡ true }
 {
@@ -76,13 +78,13 @@ fn public_header() -> Header
 
 /// The message of a request without a key. None where it would have more octets than a message may.
 fn public_message(alloc: Global, body: &RequestBody) -> Result<Option<Vec<u8>>, AllocError>
-    ensures asks { IfOk result (λ o. IfSome o (λ v. IsPublicRequest v.items (requested_operation body.now))) }
-    ensures too_long { IfOk result (λ o. IfNone o (MESSAGE_MAX < request_length body.now)) }
+    ensures asks { IfOk result (λ o. IfSome o (λ v. IsPublicRequest v.items (operation_read Profile (requested_operation body.now)))) }
+    ensures too_long { IfOk result (λ o. IfNone o (MESSAGE_MAX < request_length Profile body.now)) }
 {
-    if request_len(body) > MESSAGE_MAX as usize {
+    if request_len(Wire::Profile, body) > MESSAGE_MAX as usize {
         return Ok(None);
     }
-    let message = write_request(alloc, public_header(), body)?;
+    let message = write_request(alloc, Wire::Profile, public_header(), body)?;
     Ok(Some(message))
 }
 
@@ -100,7 +102,7 @@ impl Question {
         })
     }
 
-    /// The message that asks it, of anybody and without a key. None where it would have more octets than a message may.
+    /// The message that asks it, as anyone and without a key. None where it would have more octets than a message may.
     pub fn message(&self, alloc: Global) -> Result<Option<Vec<u8>>, AllocError>
         ensures asks { IfOk result (λ o. IfSome o (λ v. AsksInPublic v.items self.now)) }
         ensures too_long { IfOk result (λ o. IfNone o (IsTooLong self.now)) }

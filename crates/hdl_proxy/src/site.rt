@@ -1,4 +1,4 @@
-//! What all pages of a site have: its name, its style, and whom to ask.
+//! What all pages of a site have: its name, its style, and the contact.
 
 ghost use Rattle.std.specs.Prelude.{◌≡◌, ◌++◌, IfOk, OnOk, option_copied};
 ghost use Rattle.hdl_proxy.specs.Site.{Dresses, IsContactIn, IsContactOf, IsContactWay, IsDressed, IsSiteOf, contact_part, foot, front_part, page_of};
@@ -67,14 +67,14 @@ const MAIN: &str = "</a></header>
 <main>
 ";
 
-/// A way to ask somebody, and how it is told.
+/// The address of a contact, and its text.
 #[derive(Drop)]
 struct Contact {
     to: Link,
     text: String,
 }
 
-/// A site of pages: its name, and whom to ask.
+/// A site: its name, and the contact for readers' questions.
 #[derive(Drop)]
 pub struct Site {
     name: String,

@@ -87,7 +87,7 @@ fn first_of(names: &[Name]) -> &[u8]
     }
 }
 
-/// That the aliases of these handles lead nowhere, the last of them to this one.
+/// The answer if the aliases of these handles lead nowhere, the last of them to this one.
 fn nowhere(
     alloc: Global,
     form: Form,

@@ -43,7 +43,7 @@ fn is_named_by(known: Option<&str>, tag: &str) -> bool
     }
 }
 
-/// That a client has it already.
+/// The answer to a client that has this one already.
 fn not_modified(alloc: Global, answer: Answer, tag: String) -> Answer
     ensures { IsUnchanged answer (string_bytes tag) result }
 {

@@ -57,10 +57,10 @@ pub fn is_followed(url: &[u8]) -> bool
     has_followed_scheme(url) && url.iter().all(|octet| *octet >= 32 && *octet != 127)
 }
 
-/// How many octets a scheme that is followed takes at most, with the colon and the slashes behind it.
+/// How many octets a scheme that is followed takes at most, with the colon and the slashes after it.
 const SCHEME_MOST: usize = 8;
 
-/// Whether a path has begun in the URL, so that the host stays what it is whatever is put behind: a slash stands behind all that a scheme
+/// Whether a path has begun in the URL, so that the host stays what it is whatever is appended: a slash follows all that a scheme
 /// takes.
 fn has_path(url: &[u8]) -> bool
     ensures { result ≡ has_path url.now }
@@ -71,7 +71,7 @@ fn has_path(url: &[u8]) -> bool
     }
 }
 
-/// The URL with this behind it. None where that could change its host.
+/// The URL with this appended. None where that could change its host.
 pub(crate) fn extend(
     alloc: Global,
     url: &[u8],

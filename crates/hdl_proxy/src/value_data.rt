@@ -140,7 +140,7 @@ fn put_permissions(page: &mut Page, mask: AdminMask) -> Result<(), AllocError>
 fn put_admin(page: &mut Page, mask: AdminMask, key: &Reference) -> Result<(), AllocError>
     ensures { OnOk result (page.new.octets.items ≡ page.old.octets.items ++ admin_part (mask.0, raw key.now)) }
 {
-    page.markup("<p>Whoever has the key <span class=\"data\">")?;
+    page.markup("<p>The holder of the key <span class=\"data\">")?;
     page.number(key.index)?;
     page.markup(":")?;
     page.text(key.name.sent())?;

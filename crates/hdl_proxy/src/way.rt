@@ -12,7 +12,7 @@ use crate::url::extend;
 use hdl_value::Value;
 use std::alloc::{AllocError, Global};
 
-/// The way to a URL with this behind it.
+/// The way to a URL with this appended.
 fn way_beyond(alloc: Global, url: &[u8], append: &[u8]) -> Result<Option<Link>, AllocError>
     ensures { IfOk result (IsWayToMeant (extend url.now append.now)) }
 {
@@ -22,7 +22,7 @@ fn way_beyond(alloc: Global, url: &[u8], append: &[u8]) -> Result<Option<Link>, 
     }
 }
 
-/// What a way is chosen by: what is put behind a URL, which location is asked for, and any number, by which one of several is chosen.
+/// What a way is chosen by: what is put after a URL, which location is asked for, and any number, by which one of several is chosen.
 #[derive(Clone, Copy)]
 pub(crate) struct Wish<'a> {
     pub(crate) append: &'a [u8],
@@ -30,7 +30,7 @@ pub(crate) struct Wish<'a> {
     pub(crate) chance: u64,
 }
 
-/// The way to the first URL of these values with this behind it, where that is one to be followed.
+/// The way to the first URL of these values with this appended, where that is one to be followed.
 fn way_of(alloc: Global, values: &[Value], append: &[u8]) -> Result<Option<Link>, AllocError>
     ensures { IfOk result (IsWayOf values.now append.now) }
 {
@@ -47,7 +47,7 @@ pub(crate) struct Way {
     pub(crate) wrong: Note,
 }
 
-/// The way to a location with this behind it.
+/// The way to a location with this appended.
 fn way_to(alloc: Global, location: &Location, append: &[u8]) -> Result<Way, AllocError>
     ensures { IfOk result (λ way. IsWayToMeant (extend location.now.href.items append.now) way.to × (way.wrong ≡ note_of way.to)) }
 {

@@ -9,10 +9,10 @@ use jiff_core::Timestamp;
 use jiff_fmt::temporal::DateTimePrinter;
 use std::alloc::{AllocError, Global};
 
-/// An administrator reads and writes a value, and nobody else.
+/// Only an administrator reads and writes a value.
 const ADMIN_ALONE: u8 = 0b1100;
 
-/// An administrator reads and writes it, and anybody reads it.
+/// An administrator reads and writes it, and everyone reads it.
 const ANYBODY_READS: u8 = 0b1110;
 
 fn digit(bit: u16) -> char
@@ -22,7 +22,7 @@ fn digit(bit: u16) -> char
     if bit == 0 { '0' } else { '1' }
 }
 
-/// Puts so many binary digits of a number at the end, the lowest first.
+/// Puts `count` binary digits of a number at the end, the lowest first.
 fn put_bits(out: &mut String, count: u32, number: u16) -> Result<(), AllocError>
     ensures { OnOk result (string_bytes out.new ≡ string_bytes out.old ++ bits count number) }
 {
@@ -43,7 +43,7 @@ pub(crate) fn permission_digits(alloc: Global, mask: AdminMask) -> Result<String
     Ok(digits)
 }
 
-/// The permissions of a value as four digits: administrator reads, administrator writes, anybody reads, anybody writes.
+/// The permissions of a value as four digits: administrator reads, administrator writes, everyone reads, everyone writes.
 pub(crate) fn value_digits(alloc: Global, permissions: u8) -> Result<String, AllocError>
     ensures { IfOk result (λ digits. string_bytes digits ≡ value_digits permissions) }
 {
@@ -55,7 +55,7 @@ pub(crate) fn value_digits(alloc: Global, permissions: u8) -> Result<String, All
     Ok(digits)
 }
 
-/// The permissions of a value of this type where none are said: an administrator reads and writes it, and anybody reads it unless it
+/// The permissions of a value of this type where none are said: an administrator reads and writes it, and everyone reads it unless it
 /// is a key.
 pub fn usual_permissions(kind: &[u8]) -> u8
     ensures { result ≡ usual_permissions kind.now }
@@ -86,7 +86,7 @@ pub(crate) fn written_words(alloc: Global, value: &Value) -> Result<Option<Strin
     }
 }
 
-/// How long a value may be kept (RFC 3651, section 3.1): so many seconds, or until then.
+/// How long a value may be kept (RFC 3651, section 3.1): for a number of seconds, or until a moment.
 #[derive(Drop)]
 pub enum KeptFor {
     Seconds(u32),
@@ -108,7 +108,7 @@ pub(crate) fn kept_for(alloc: Global, value: &Value) -> Result<KeptFor, AllocErr
     Ok(KeptFor::Until(moment_words(alloc, moment)?))
 }
 
-/// So many of a unit.
+/// The number and the unit, in words.
 fn count_phrase(alloc: Global, number: u32, one: &str, many: &str) -> Result<String, AllocError>
     ensures { IfOk result (λ words. string_bytes words ≡ count_phrase number one.now many.now) }
 {
@@ -120,7 +120,7 @@ fn count_phrase(alloc: Global, number: u32, one: &str, many: &str) -> Result<Str
     Ok(words)
 }
 
-/// So many seconds, by the largest unit of which they are some.
+/// The number of seconds in words, by the largest unit of which it is a multiple.
 pub(crate) fn span_words(alloc: Global, seconds: u32) -> Result<String, AllocError>
     ensures { IfOk result (λ words. string_bytes words ≡ span_words seconds) }
 {

@@ -37,7 +37,7 @@ fn is_in_name(byte: u8) -> bool
         || byte == b'_'
 }
 
-/// What stands behind this front, if a text begins with it.
+/// What follows this front, if a text begins with it.
 pub(crate) fn after<'a>(text: &'a [u8], front: &[u8]) -> Option<&'a [u8]>
     ensures found { IfSome result (λ rest. text.now ≡ front.now ++ rest.now) }
     ensures none { IfNone result ((rest : List ℕ) → text.now ≢ front.now ++ rest) }
@@ -90,7 +90,7 @@ fn cut_name(text: &[u8]) -> Option<(&[u8], &[u8])>
     Some(text.split_at(count))
 }
 
-/// What stands before the first of these bytes, and what behind it.
+/// What stands before the first of these bytes, and what follows it.
 fn cut_at(text: &[u8], end: u8) -> Option<(&[u8], &[u8])>
     ensures { IfSome result (λ cut. All (λ byte. byte ≢ end) cut.0.now × (text.now ≡ cut.0.now ++ (end ∷ cut.1.now))) }
 {
@@ -102,7 +102,7 @@ fn cut_at(text: &[u8], end: u8) -> Option<(&[u8], &[u8])>
     None
 }
 
-/// What stands behind one of five entities, and the byte that it stands for.
+/// What follows one of five entities, and the byte that it stands for.
 fn read_entity(text: &[u8]) -> Option<(u8, &[u8])>
     ensures { IfSome result (λ read. (piece : List ℕ) × (StandsFor piece read.0 × (text.now ≡ piece ++ read.1.now))) }
 {
@@ -124,7 +124,7 @@ fn read_entity(text: &[u8]) -> Option<(u8, &[u8])>
     }
 }
 
-/// The byte that the front of a text stands for, and what stands behind that.
+/// The byte that the front of a text stands for, and what follows that.
 fn read_byte(text: &[u8]) -> Option<(u8, &[u8])>
     ensures { IfSome result (λ read. (piece : List ℕ) × (StandsFor piece read.0 × (text.now ≡ piece ++ read.1.now))) }
 {
@@ -158,7 +158,7 @@ fn read_text(alloc: Global, written: &[u8]) -> Result<Option<Vec<u8>>, AllocErro
     }
 }
 
-/// What the text in quotes says that stands at the front, and what stands behind it. None where there is none that can be read.
+/// What the text in quotes says that stands at the front, and what follows it. None where there is none that can be read.
 fn read_quoted(alloc: Global, written: &[u8]) -> Result<Option<(Vec<u8>, &[u8])>, AllocError>
     ensures { IfOk result (λ read. IfSome read (λ found. (piece : List ℕ) × (IsQuoted piece found.0.items × (written.now ≡ piece ++ found.1.now)))) }
 {
@@ -177,7 +177,7 @@ fn read_quoted(alloc: Global, written: &[u8]) -> Result<Option<(Vec<u8>, &[u8])>
     }
 }
 
-/// The name of the attribute at the front, and what stands behind its equals sign. None where there is none.
+/// The name of the attribute at the front, and what follows its equals sign. None where there is none.
 fn cut_named(text: &[u8]) -> Option<(&[u8], &[u8])>
     ensures { IfSome result (λ cut. (piece : List ℕ) × (IsNamed piece cut.0.now × (text.now ≡ piece ++ cut.1.now))) }
 {
@@ -192,7 +192,7 @@ fn cut_named(text: &[u8]) -> Option<(&[u8], &[u8])>
     Some((name, rest))
 }
 
-/// The attribute at the front, and what stands behind it. None where there is none that can be read.
+/// The attribute at the front, and what follows it. None where there is none that can be read.
 fn read_attribute(alloc: Global, text: &[u8]) -> Result<Option<(Attribute, &[u8])>, AllocError>
     ensures { IfOk result (λ read. IfSome read (λ found. (piece : List ℕ) × (IsAttribute piece found.0 × (text.now ≡ piece ++ found.1.now)))) }
 {
@@ -208,7 +208,7 @@ fn read_attribute(alloc: Global, text: &[u8]) -> Result<Option<(Attribute, &[u8]
     }
 }
 
-/// The attributes at the front, each of a name of its own, and what stands behind them.
+/// The attributes at the front, each of a name of its own, and what follows them.
 fn read_attributes(alloc: Global, text: &[u8]) -> Result<(Vec<Attribute>, &[u8]), AllocError>
     ensures { IfOk result (λ read. (pieces : List (List ℕ)) × (AllZip IsAttribute pieces read.0.items × (text.now ≡ concat pieces ++ read.1.now))) }
 {
@@ -252,7 +252,7 @@ pub(crate) fn read_tag<'a>(
     Ok(Some((attributes, rest)))
 }
 
-/// What stands behind one piece of a comment.
+/// What follows one piece of a comment.
 fn cut_in_comment(text: &[u8]) -> Option<&[u8]>
     ensures { IfSome result (λ rest. (piece : List ℕ) × (IsInComment piece × (text.now ≡ piece ++ rest.now))) }
 {
@@ -264,7 +264,7 @@ fn cut_in_comment(text: &[u8]) -> Option<&[u8]>
     if *second == b'-' { None } else { Some(rest) }
 }
 
-/// What stands behind the comment at the front. None where there is none.
+/// What follows the comment at the front. None where there is none.
 fn cut_comment(text: &[u8]) -> Option<&[u8]>
     ensures { IfSome result (λ rest. (comment : List ℕ) × (IsComment comment × (text.now ≡ comment ++ rest.now))) }
 {
@@ -278,7 +278,7 @@ fn cut_comment(text: &[u8]) -> Option<&[u8]>
     None
 }
 
-/// What stands behind blanks and comments.
+/// What follows blanks and comments.
 pub(crate) fn cut_between(text: &[u8]) -> &[u8]
     ensures { (between : List ℕ) × (IsBetween between × (text.now ≡ between ++ result.now)) }
 {

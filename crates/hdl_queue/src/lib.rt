@@ -1,6 +1,6 @@
 //! Who writes next, where the writes of a table are made beside the thread that serves, one at a time.
 //!
-//! That thread refuses a write that is made beside it, so the write's event stays in its lane and is served again: [`WriteQueue`] keeps the
+//! That thread refuses a write that another thread makes, so the write's event stays in its lane and is served again: [`WriteQueue`] keeps the
 //! lanes of such events in order, and the lane to which the table owes a write, and says which one may come now.
 //!
 //! ```rust
@@ -11,7 +11,7 @@
 //!
 //! # Decisions
 //!
-//! - **A lane that was answered goes behind those that wait**, so that nobody who sends many changes at once holds up another's.
+//! - **A lane that was answered goes after those that wait**, so that a client with many changes at once doesn't hold up another's.
 //! - **What the table owes is an argument**, and what a lane may do is a result. So clauses say all that the queue does: an event that was answered busy stays while
 //!   the table owes a write, whatever it was busy for.
 //! - **What a queue says decides when an event is served, and never how**: `serve` (hdl_serve) keeps its clauses whatever it says, as does the table.

@@ -26,7 +26,7 @@ impl Model for WriteQueue {
 impl WriteQueue {
     ghost use Rattle.std.specs.Prelude.{[]};
 
-    /// No lane waits.
+    /// A queue in which no lane waits.
     pub fn new(alloc: Global) -> WriteQueue
         ensures { result ≡ record { lanes = []; owner = None } }
     {
@@ -36,7 +36,7 @@ impl WriteQueue {
         }
     }
 
-    /// No lane waits. There is room for so many. Refused only for want of memory.
+    /// A queue in which no lane waits, with room for `lanes`. Refused only for want of memory.
     pub fn with_capacity(alloc: Global, lanes: usize) -> Result<WriteQueue, AllocError>
         ensures empty { IfOk result (λ queue. queue ≡ record { lanes = []; owner = None }) }
     {
@@ -46,7 +46,7 @@ impl WriteQueue {
         })
     }
 
-    /// Whose turn it is to write: the lane's to which a write is owed, else that of the first one that waits. It is nobody's where none does.
+    /// The lane whose turn it is to write: the one to which a write is owed, else the first that waits. None if no lane waits.
     pub fn turn(&self) -> Option<u16>
         ensures { result ≡ turn_of self.now }
     {
@@ -56,7 +56,7 @@ impl WriteQueue {
         }
     }
 
-    /// Whether the lane may write now: it is its turn, or nobody's.
+    /// Whether the lane may write now: it is its turn, or no lane's.
     pub fn is_turn(&self, lane: u16) -> bool
         ensures { result ≡ is_turn self.now lane }
     {
@@ -77,7 +77,7 @@ impl WriteQueue {
     }
 
     /// Whether the lane's event, whose step was answered busy, waits: while the table owes a write, whatever the step was busy for, and where it wasn't its turn.
-    /// The lane then stands behind those that wait already, or where it did, if there is room.
+    /// The lane then stands after those that wait already, or where it did, if there is room.
     pub fn stays(&mut self, lane: u16, owes: bool) -> bool
         ensures stays { result ≡ (owes || not (is_turn self.old lane)) }
         ensures waits { (self.new.lanes ≡ with_lane self.old.lanes lane) ⊎ (self.new.lanes ≡ self.old.lanes) }
@@ -92,7 +92,7 @@ impl WriteQueue {
         stays
     }
 
-    /// Notes whether the table owes a write behind a step of this lane.
+    /// Notes whether the table owes a write after a step of this lane.
     fn note_owed(&mut self, lane: u16, owes: bool)
         ensures { self.new ≡ record self.old { owner = owner_after self.old.owner lane owes } }
     {
@@ -110,7 +110,7 @@ impl WriteQueue {
         self.waiting.retain(|waits| *waits != lane);
     }
 
-    /// Nothing is owed to the lane.
+    /// Notes that nothing is owed to the lane.
     fn release(&mut self, lane: u16)
         ensures { self.new ≡ record self.old { owner = owner_without self.old.owner lane } }
     {

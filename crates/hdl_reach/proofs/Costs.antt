@@ -2,9 +2,10 @@
 use Rattle.std.proofs.Common.{◌≡◌, ◌≤◌, ◌+◌, ℕ, List, arith, subst, sym}
 use Rattle.hdl_value.specs.Place.{Place}
 use Rattle.hdl_rows.specs.declared.reads.TheConstants.{CALL_OCTETS}
+use Rattle.hdl_rows.specs.Heads.{heads_of}
 use Rattle.hdl_rows.specs.Reads.{of_value, values_octets, names_octets}
 use Rattle.hdl_rows.specs.Table.{Table, at, values_of, names_of}
-use Rattle.hdl_reach.specs.Cost.{Most, HasAtMost, ReadsWithin, value_cost, values_cost, names_cost}
+use Rattle.hdl_reach.specs.Cost.{Most, HasAtMost, ReadsWithin, value_cost, heads_cost, values_cost, names_cost}
 
 pub unread : (t : Table) (cost : Most → ℕ) (n m : ℕ) → m ≡ n → ReadsWithin t cost n m
 unread t cost n m same most has = omega (arith, same)
@@ -12,8 +13,15 @@ unread t cost n m same most has = omega (arith, same)
 pub value_read : (t : Table) (p : Place) (old new : ℕ) → new ≤ old + (CALL_OCTETS + of_value (at t p)) → ReadsWithin t value_cost old new
 value_read t p old new read most has = omega (arith, read, has.value p)
 
+pub heads_read : (t : Table) (h : List ℕ) (old new : ℕ) → new ≤ old + (CALL_OCTETS + values_octets (heads_of t h)) → ReadsWithin t heads_cost old new
+heads_read t h old new read most has = omega (arith, read, has.heads h)
+
 pub values_read : (t : Table) (h : List ℕ) (old new : ℕ) → new ≤ old + (CALL_OCTETS + values_octets (values_of t h)) → ReadsWithin t values_cost old new
 values_read t h old new read most has = omega (arith, read, has.values h)
+
+-- a list that was given, or a call that was refused
+pub names_given : (t : Table) (a : List ℕ) (given : ℕ) (old new : ℕ) → given ≡ names_octets (names_of t a) → new ≤ old + (CALL_OCTETS + given) → ReadsWithin t names_cost old new
+names_given t a given old new is read most has = omega (arith, read, is, has.names a)
 
 -- what was read in two calls, of which the first left the table as it was
 pub both_read : (t u : Table) (a b : Most → ℕ) (x y z : ℕ) → u ≡ t → ReadsWithin t a x y → ReadsWithin u b y z → ReadsWithin t (λ (m : Most). a m + b m) x z

@@ -11,4 +11,6 @@ pub mod Ends
 pub mod Stays
 pub mod Ranges
 pub mod Agreement
+pub mod Looks
 pub mod Costs
+pub mod Most

@@ -23,7 +23,7 @@ pub same_by_handle : (p q : Place) → p.index ≡ q.index → bytes_eq p.handle
 same_by_handle p q is =
     sym (is_eq-slice_cmp p.handle q.handle) ∙ sym (tied (handle_cmp p.handle q.handle)) ∙ ap (λ o. is_eq (ordering_then (handle_cmp p.handle q.handle) o)) (sym (subst (λ n. nat_cmp p.index n ≡ Equal) is (tied_itself nat_cmp_total p.index)))
 
-either_true : (a b : Bool) → (a || b) ≡ true → (a ≡ true) ⊎ (b ≡ true)
+pub either_true : (a b : Bool) → (a || b) ≡ true → (a ≡ true) ⊎ (b ≡ true)
 either_true true b h = inl refl
 either_true false b h = inr h
 

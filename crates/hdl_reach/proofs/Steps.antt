@@ -17,11 +17,11 @@ use Rattle.hdl_reach.proofs.Members.{all_weaker, all_push, among_first}
 use Rattle.hdl_reach.proofs.Orders.{within_itself, within_trans, within_both}
 use Rattle.hdl_reach.proofs.Raises.{grows, gives, bounded, waits_or_same, stays_known, settled_mask, settled_known, settled_other, settled_waits, settle_none, take_waits, known_same, unmasked}
 
-all_front : {X : Type 0} (P : X → Type 0) (xs ys : List X) → AllByRecursion P (xs ++ ys) → AllByRecursion P xs
+pub all_front : {X : Type 0} (P : X → Type 0) (xs ys : List X) → AllByRecursion P (xs ++ ys) → AllByRecursion P xs
 all_front P [] ys all = tt
 all_front P (x ∷ xs) ys all = (all.0, all_front P xs ys all.1)
 
-all_last : {X : Type 0} (P : X → Type 0) (xs : List X) (x : X) → AllByRecursion P (xs ++ x ∷ []) → P x
+pub all_last : {X : Type 0} (P : X → Type 0) (xs : List X) (x : X) → AllByRecursion P (xs ++ x ∷ []) → P x
 all_last P [] x all = all.0
 all_last P (y ∷ xs) x all = all_last P xs x all.1
 

@@ -7,6 +7,7 @@ ghost use Rattle.hdl_value.specs.Place.{Place, same_place};
 ghost use Rattle.hdl_value.specs.Refs.{place_of};
 ghost use Rattle.hdl_reach.specs.Seen.{places};
 ghost use Rattle.hdl_reach.specs.Found.{mark, known_at, mask_at, waits, raised, raised_at, settled_at, AreWaiting, HasGained};
+ghost use Rattle.hdl_reach.specs.Looks.{AddsNone};
 ghost use Rattle.hdl_reach.specs.Views.{mask_of};
 
 use crate::keys::{PlaceKey, copy_of, key_of};
@@ -121,6 +122,7 @@ impl Found {
         ensures known { OnOk result ((p : Place) → known_at self.new p ≡ raised_at (known_at self.old) (place_of one.now ∷ []) mask.0 p) }
         ensures waiting { OnOk result (AreWaiting self.old → AreWaiting self.new) }
         ensures gained { OnOk result (HasGained self.old self.new) }
+        ensures left { OnOk result (AddsNone self.old self.new (place_of one.now ∷ [])) }
     {
         let key = key_of(alloc, one)?;
         let before = self.known.get(&key).copied();
@@ -142,6 +144,7 @@ impl Found {
         ensures known { OnOk result ((p : Place) → known_at self.new p ≡ raised_at (known_at self.old) (places more.now) mask.0 p) }
         ensures waiting { OnOk result (AreWaiting self.old → AreWaiting self.new) }
         ensures gained { OnOk result (HasGained self.old self.new) }
+        ensures left { OnOk result (AddsNone self.old self.new (places more.now)) }
     {
         for one in more {
             self.raise(alloc, one, mask)?;

@@ -1,6 +1,7 @@
-//! Laws over chains and masks, each the contract of a function without a body.
+//! Laws over chains, masks and what a table counts, each the contract of a function without a body.
 
 ghost use Rattle.hdl_reach.specs.Laws.{OneMask, NoneAtZero, SameChains, SameMasks, AdministratorsAmong};
+ghost use Rattle.hdl_reach.specs.Cost.{HaveMost};
 
 /// A reference has one mask for a handle, or none.
 pub fn one_mask()
@@ -25,4 +26,9 @@ pub fn same_masks()
 /// The administrators of a handle are among places that list no others, if its HS_ADMIN values refer to these.
 pub fn administrators_among()
     ensures { AdministratorsAmong }
+{}
+
+/// Each table has bounds of what its values, handles and lists count. So what `cost` supposes of a table can be met.
+pub fn have_most()
+    ensures { HaveMost }
 {}

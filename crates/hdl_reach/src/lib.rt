@@ -7,7 +7,9 @@
 //! [`Search`] finds the union of the masks that lead to a reference, over any [`hdl_rows::Rows`]. It goes from list to list,
 //! from all HS_ADMIN values at once, so many octets a call, and passes masks on: each reference has the masks of those that lead to it. So it ends on lists
 //! that refer to each other, and what it knows serves for every reference, by one look in what it keeps. It leaves the table as it was.
-//! Five laws say that a reference has one mask, that index 0 has none, and when two tables have the same chains and masks.
+//! [`mask`] goes on to the end and gives the mask of one reference, where nothing else waits meanwhile.
+//! Five laws say that a reference has one mask, that index 0 has none, and when two tables have the same chains and masks; a sixth that each table
+//! has bounds of what it counts.
 //!
 //! It stands on `hdl_name`, `hdl_value` and the contract of `hdl_rows`.
 //!
@@ -33,9 +35,11 @@
 //! - **A search stands on what it looked up alone** (`is_apart_from`): it is one of every table that has the same there, and the handle's values. The
 //!   references of one handle lie side by side in the order of keys, so that none is of a handle is one look.
 //! - **What a call adds is said** (`IsFurther`): masks only gain bits, and where none did, fewer references wait. There are only so many of both, so calls
-//!   that follow each other come to an end.
+//!   that follow each other come to an end. How many looks are left at most is a number of the table and of what is known (`looks_left`), which each call
+//!   that isn't the last lessens: a place waits anew only if its mask rose, and a mask has only the bits of all HS_ADMIN values.
 #![tactic(auto)]
 
+mod administrators;
 mod found;
 mod grants;
 mod keys;
@@ -43,5 +47,6 @@ mod laws;
 mod lists;
 mod search;
 
-pub use laws::{administrators_among, none_at_zero, one_mask, same_chains, same_masks};
+pub use administrators::mask;
+pub use laws::{administrators_among, have_most, none_at_zero, one_mask, same_chains, same_masks};
 pub use search::Search;

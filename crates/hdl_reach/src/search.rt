@@ -10,6 +10,7 @@ ghost use Rattle.hdl_rows.specs.Table.{Table, values_of, AreRefusalsAfter};
 ghost use Rattle.hdl_reach.specs.Cost.{ReadsWithin, value_cost};
 ghost use Rattle.hdl_reach.specs.Reach.{IsMask};
 ghost use Rattle.hdl_reach.specs.Search.{handle_of, IsFound, IsSearch, IsDone, IsFurther, AgreeBeside};
+ghost use Rattle.hdl_reach.specs.Looks.{looks_left};
 ghost use Rattle.hdl_reach.specs.Views.{mask_of, grants_in};
 
 use crate::found::Found;
@@ -114,6 +115,7 @@ impl Search {
         ensures unchanged { R.content rows.new ≡ R.content rows.old }
         ensures search { OnOk result (IsSearch (R.content rows.old) self.new × (handle_of self.new ≡ handle_of self.old)) }
         ensures further { OnOk result (IsFurther self.old self.new) }
+        ensures left { OnOk result (looks_left (R.content rows.old) self.new < looks_left (R.content rows.old) self.old) }
         ensures counted { IfOk result (λ octets. 0 < octets) }
         ensures count { AreRefusalsAfter result (R.refused rows.old) (R.refused rows.new) }
         ensures read { IfOk result (λ octets. R.reads rows.new ≤ R.reads rows.old + octets) }
@@ -148,6 +150,7 @@ impl Search {
         ensures unchanged { R.content rows.new ≡ R.content rows.old }
         ensures search { IfOk result (λ search. IsSearch (R.content rows.old) search × (handle_of search ≡ handle_of self)) }
         ensures further { IfOk result (λ search. IsDone self ⊎ IsFurther self search) }
+        ensures left { IfOk result (λ search. IsDone self ⊎ (looks_left (R.content rows.old) search < looks_left (R.content rows.old) self)) }
         ensures count { AreRefusalsAfter result (R.refused rows.old) (R.refused rows.new) }
         ensures cost { ReadsWithin (R.content rows.old) (λ m. most + value_cost m) (R.reads rows.old) (R.reads rows.new) }
     {

@@ -9,8 +9,8 @@ pub enum RouteFault {
     /// Nothing stands before the `=`.
     #[error("HOST:PORT is missing")]
     NoAddress,
-    /// A part behind the `=` is no naming authority, or `0.NA`.
-    #[error("what stands behind = is no list of prefixes such as 10,20.500")]
+    /// A part after the `=` is no naming authority, or `0.NA`.
+    #[error("write a list of prefixes after =, such as 10,20.500")]
     NoPrefix,
     #[error("no memory")]
     Memory,

@@ -52,7 +52,7 @@ pub struct KeptReplies {
 }
 
 impl KeptReplies {
-    /// Nothing is kept. Refused only for want of memory.
+    /// No replies are kept yet. Refused only for want of memory.
     pub fn new(alloc: Global, hasher: RandomState) -> Result<KeptReplies, AllocError>
         ensures { IfOk result (λ kept. kept.replies.entries ≡ []) }
     {
@@ -104,7 +104,7 @@ impl KeptReplies {
         self.counts[place] = self.counts[place].wrapping_add(1);
     }
 
-    /// Keeps the reply to a request for so many milliseconds from this moment on, unless it is too long; `mark` was there before it was asked for. Want of
+    /// Keeps the reply to a request for `time` milliseconds from `now` on, unless it is too long; `mark` was taken before the server was asked. Want of
     /// memory keeps nothing.
     pub fn keep(&mut self, request: &[u8], reply: &[u8], mark: Mark, now: u64, time: u64)
         ensures kept { Keeps self.old.replies self.new.replies request.now reply.now mark now time }

@@ -14,7 +14,7 @@ pub enum Miss {
     Crowded,
 }
 
-/// What the misses of two servers come to: that nobody has the prefix is said only where no server failed, and that servers failed only where none
+/// What the misses of two servers come to: no server has the prefix only if none failed, and servers failed only if none
 /// may be asked soon.
 pub fn worst(one: Miss, other: Miss) -> Miss
     ensures { result ≡ worst one other }

@@ -1,4 +1,4 @@
-//! Whom to ask for a handle.
+//! Which servers to ask for a handle.
 
 ghost use Rattle.std.specs.Prelude.{◌≡◌, IfOk, filter, not};
 ghost use Rattle.hdl_routes.specs.Order.{has, is_open, is_named, is_asked, is_known, places_for, known_first, places_to_change};

@@ -54,7 +54,7 @@ fn read_prefixes(alloc: Global, list: &str) -> Result<Vec<Octets>, RouteFault>
     Ok(prefixes)
 }
 
-/// What stands before the first `=` of a word, and what behind it, if it has one.
+/// What stands before the first `=` of a word, and what follows it, if it has one.
 fn parts_of(word: &str) -> (&str, Option<&str>)
     ensures { result.0.now ≡ before_first is_equals word.now }
 {

@@ -18,7 +18,7 @@ pub enum Standing {
 }
 
 impl Standing {
-    /// Whether nobody asks it at this moment.
+    /// Whether the server is left out at this moment.
     pub fn is_left_out(&self, now: u64) -> bool
         ensures { IsTrue result ↔ IsLeftOut self.now now }
     {
@@ -43,14 +43,14 @@ impl Standing {
         true
     }
 
-    /// It answered.
+    /// Notes that the server answered.
     pub fn note_answer(&mut self)
         ensures { self.new ≡ Standing.Fit }
     {
         *self = Standing::Fit;
     }
 
-    /// It failed at this moment.
+    /// Notes that the server failed at this moment, so it is left out for `LEFT_OUT` milliseconds.
     pub fn note_failure(&mut self, now: u64)
         ensures { self.new ≡ Standing.Out (later now LEFT_OUT) }
     {

@@ -4,3 +4,4 @@ pub mod ShelfLemmas
 pub mod RowsLemmas
 pub mod Changes
 pub mod Prefixes
+pub mod Indexed

@@ -5,3 +5,4 @@ pub mod Fuse
 pub mod Laws
 pub mod Shelf
 pub mod Reads
+pub mod Heads

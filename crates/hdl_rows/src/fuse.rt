@@ -3,6 +3,7 @@
 ghost use Rattle.std.specs.Prelude.{◌≡◌, ◌+◌, min, map, true, false, is_some, IfOk, OnOk, OnErr};
 ghost use Rattle.hdl_name.specs.Name.{canonical};
 ghost use Rattle.hdl_value.specs.Refs.{place_of};
+ghost use Rattle.hdl_rows.specs.Heads.{heads_of};
 ghost use Rattle.hdl_rows.specs.Reads.{reads_after, nothing, of_value, values_octets, names_octets};
 ghost use Rattle.hdl_rows.specs.Table.{most, refusals_after, has, at, values_of, values_in, names_of, HaveTheirIndexes, with_new_handle, with_values, without_values, without_handle, AreDistinct, AreAbsent, ArePresent, indexes};
 
@@ -137,6 +138,23 @@ impl<R: Rows> Rows for Fuse<R> {
             return Err(Refused);
         }
         self.inner.look(name)
+    }
+
+    fn heads(&mut self, name: &Name) -> Result<Option<Vec<Value>>, Refused>
+        ensures there { IfOk result (λ all. is_some all ≡ has (R.content (inner_of self.old)) (canonical name.now)) }
+        ensures found { IfOk result (λ all. values_in all ≡ heads_of (R.content (inner_of self.old)) (canonical name.now)) }
+        ensures by_index { OnOk result (HaveTheirIndexes (R.content (inner_of self.old)) (canonical name.now) (values_of (R.content (inner_of self.old)) (canonical name.now))) }
+        ensures unchanged { R.content (inner_of self.new) ≡ R.content (inner_of self.old) }
+        ensures count { refusals_of R.refused self.new ≡ refusals_after result (refusals_of R.refused self.old) }
+        ensures reads { reads_of R.reads self.new ≡ reads_after (λ all. values_octets (values_in all)) result (reads_of R.reads self.old) }
+        ensures wire { wire_of self.new ≡ after_call (wire_of self.old) }
+        ensures blown { Blows self.old self.new result }
+        ensures passed { Passes R.refused self.old self.new result }
+    {
+        if self.wire.blows() {
+            return Err(Refused);
+        }
+        self.inner.heads(name)
     }
 
     fn names(&mut self, authority: &[u8]) -> Result<Vec<Octets>, Refused>

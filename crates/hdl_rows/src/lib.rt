@@ -34,6 +34,7 @@
 #![tactic(auto)]
 
 mod fuse;
+pub mod heads;
 pub mod laws;
 mod owing;
 mod plain;

@@ -107,6 +107,13 @@ impl Rows for PlainRows {
         Ok(seen)
     }
 
+    fn heads(&mut self, name: &Name) -> Result<Option<Vec<Value>>, Refused> {
+        let found = self.shelf.heads(self.alloc, name.canon());
+        let seen = tally(&mut self.refusals, found)?;
+        self.reads = with_call(self.reads, seen_octets(&seen));
+        Ok(seen)
+    }
+
     fn names(&mut self, authority: &[u8]) -> Result<Vec<Octets>, Refused> {
         let found = self.shelf.names(self.alloc, authority);
         let names = tally(&mut self.refusals, found)?;

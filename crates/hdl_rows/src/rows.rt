@@ -3,6 +3,7 @@
 ghost use Rattle.std.specs.Prelude.{◌≡◌, ℕ, map, true, false, is_some, IfOk, OnOk, OnErr};
 ghost use Rattle.hdl_name.specs.Name.{canonical};
 ghost use Rattle.hdl_value.specs.Refs.{place_of};
+ghost use Rattle.hdl_rows.specs.Heads.{heads_of};
 ghost use Rattle.hdl_rows.specs.Reads.{reads_after, nothing, of_value, values_octets, names_octets};
 ghost use Rattle.hdl_rows.specs.Table.{Table, has, at, values_of, values_in, names_of, HaveTheirIndexes, with_new_handle, with_values, without_values, without_handle, AreDistinct, AreAbsent, ArePresent, indexes, refusals_after};
 
@@ -64,6 +65,15 @@ pub trait Rows {
         ensures there { IfOk result (λ all. is_some all ≡ has (content self.old) (canonical name.now)) }
         ensures found { IfOk result (λ all. values_in all ≡ values_of (content self.old) (canonical name.now)) }
         ensures by_index { IfOk result (λ all. HaveTheirIndexes (content self.old) (canonical name.now) (values_in all)) }
+        ensures unchanged { content self.new ≡ content self.old }
+        ensures count { refused self.new ≡ refusals_after result (refused self.old) }
+        ensures reads { reads self.new ≡ reads_after (λ all. values_octets (values_in all)) result (reads self.old) };
+
+    /// The heads of the values of a handle, by rising index: all but their data and their references. `None` if the handle is absent.
+    fn heads(&mut self, name: &Name) -> Result<Option<Vec<Value>>, Refused>
+        ensures there { IfOk result (λ all. is_some all ≡ has (content self.old) (canonical name.now)) }
+        ensures found { IfOk result (λ all. values_in all ≡ heads_of (content self.old) (canonical name.now)) }
+        ensures by_index { OnOk result (HaveTheirIndexes (content self.old) (canonical name.now) (values_of (content self.old) (canonical name.now))) }
         ensures unchanged { content self.new ≡ content self.old }
         ensures count { refused self.new ≡ refusals_after result (refused self.old) }
         ensures reads { reads self.new ≡ reads_after (λ all. values_octets (values_in all)) result (reads self.old) };

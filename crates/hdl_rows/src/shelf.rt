@@ -5,9 +5,11 @@ ghost use Rattle.std.specs.List.{position_or_len};
 ghost use Rattle.std.specs.Char.{to_ascii_lowercase};
 ghost use Rattle.hdl_name.specs.Name.{authority, sent_authority, is_slash};
 ghost use Rattle.hdl_value.specs.Place.{same_handle};
+ghost use Rattle.hdl_rows.specs.Heads.{heads_of};
 ghost use Rattle.hdl_rows.specs.Shelf.{by_index, put_all};
 ghost use Rattle.hdl_rows.specs.Table.{no_rows, place, has, at, values_of, values_in, names_of, HaveTheirIndexes, with_new_handle, with_values, without_values, without_handle};
 
+use crate::heads::heads_of;
 use crate::row::{copies, put_copies, take_away, value_of};
 use hdl_limits::Octets;
 use hdl_value::Value;
@@ -134,6 +136,18 @@ impl Shelf {
     {
         match self.rows.get(name) {
             Some(values) => Ok(Some(copies(alloc, values)?)),
+            None => Ok(None),
+        }
+    }
+
+    /// The heads of a handle's values, or that it is absent.
+    pub(crate) fn heads(&self, alloc: Global, name: &[u8]) -> Result<Option<Vec<Value>>, AllocError>
+        ensures there { IfOk result (λ all. is_some all ≡ has self.now name.now) }
+        ensures found { IfOk result (λ all. values_in all ≡ heads_of self.now name.now) }
+        ensures by_index { OnOk result (HaveTheirIndexes self.now name.now (values_of self.now name.now)) }
+    {
+        match self.rows.get(name) {
+            Some(values) => Ok(Some(heads_of(alloc, values)?)),
             None => Ok(None),
         }
     }

@@ -5,7 +5,7 @@ use Rattle.std.proofs.lemmas.Bool.{cases_eq, cases_order}
 use Rattle.std.proofs.lemmas.List.{append-nil, length-map, length-set, get_or-set_same, get_or-set_other, get_or_default, get_or_past, drop_all, take_all}
 use Rattle.std.proofs.lemmas.List.Elements.{All-nil, All-cons, All-append}
 use Rattle.hdl_lanes.specs.Lane.{put_into, taken_from}
-use Rattle.hdl_events.specs.declared.Happening.{Happening}
+use Rattle.hdl_events.specs.declared.What.{What}
 use Rattle.hdl_events.specs.declared.Event.{Event}
 use Rattle.hdl_events.specs.declared.Outcome.{Outcome}
 use Rattle.hdl_laws.specs.Worlds.{World}
@@ -35,7 +35,7 @@ on_one (a ∷ lanes) (suc p) e there is =
     let rest = on_one lanes p e (omega (arith, there)) is in
     (suc rest.0, omega (arith, rest.1), rest.2)
 
-all_on_one : (lanes : List LaneEnds) (p n : ℕ) (whats : List Happening) → p < length lanes → ((d : LaneEnds) → (get_or lanes p d).lane ≡ n) → All (IsOnOne lanes) (on_lane n whats)
+all_on_one : (lanes : List LaneEnds) (p n : ℕ) (whats : List What) → p < length lanes → ((d : LaneEnds) → (get_or lanes p d).lane ≡ n) → All (IsOnOne lanes) (on_lane n whats)
 all_on_one lanes p n [] there is = All-nil (IsOnOne lanes)
 all_on_one lanes p n (w ∷ ws) there is =
     All-cons (IsOnOne lanes) (record { lane = n; what = w }) (on_lane n ws) (on_one lanes p (record { lane = n; what = w }) there is) (all_on_one lanes p n ws there is)
@@ -68,7 +68,7 @@ serving_on joins w mid new before lanes now i e f d b there flagged s h =
     let more : List Event = on_lane n s.whats in
     let here : i < length before = subst (λ m. i < m) h.lanes.long there in
     let long : length h.events ≡ length h.outcomes = length_run w mid h.events h.outcomes h.run in
-    let few : length s.whats ≡ length s.outcomes = sym (length-map s.whats (λ (what : Happening). record { lane = n; what = what })) ∙ length_run mid new more s.outcomes s.run in
+    let few : length s.whats ≡ length s.outcomes = sym (length-map s.whats (λ (what : What). record { lane = n; what = what })) ∙ length_run mid new more s.outcomes s.run in
     let number : (x : LaneEnds) → (get_or before i x).lane ≡ n
     = λ x. sym (h.lanes.each i x here).lane ∙ ap (λ (z : LaneEnds). z.lane) (get_or_default lanes i x d there) in
     let R : ℕ → LaneEnds → LaneEnds → Type 0 = λ k a c. Passes false (get_or (set now i f) k false) (events_on a.lane (h.events ++ more)) (outcomes_on a.lane (h.events ++ more) (h.outcomes ++ s.outcomes)) a c in

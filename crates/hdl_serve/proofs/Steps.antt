@@ -4,7 +4,7 @@ use Rattle.std.proofs.lemmas.List.{append-nil, append_assoc, map-append}
 use Rattle.std.proofs.lemmas.List.Elements.{filter_map-append}
 use Rattle.hdl_lanes.specs.Lane.{put_into, taken_from, IsFrontOf, SameInlet, SameOutlet}
 use Rattle.hdl_lanes.specs.declared.outlet.Outlet.{Outlet}
-use Rattle.hdl_events.specs.declared.Happening.{Happening}
+use Rattle.hdl_events.specs.declared.What.{What}
 use Rattle.hdl_events.specs.declared.Event.{Event}
 use Rattle.hdl_events.specs.declared.Outcome.{Outcome}
 use Rattle.hdl_laws.specs.Worlds.{World}
@@ -22,7 +22,7 @@ abbrev IsSameLane : LaneEnds → LaneEnds → Type 0
 IsSameLane a b = (b.lane ≡ a.lane) × SameOutlet a.items b.items × SameInlet a.outcomes b.outcomes
 
 -- an item was taken from a lane that hadn't ended
-took : (now : Bool) (a b : LaneEnds) (item : Item) (whats : List Happening) → IsSameLane a b → put_into b.outcomes ≡ put_into a.outcomes → taken_from b.items ≡ taken_from a.items ++ item ∷ []
+took : (now : Bool) (a b : LaneEnds) (item : Item) (whats : List What) → IsSameLane a b → put_into b.outcomes ≡ put_into a.outcomes → taken_from b.items ≡ taken_from a.items ++ item ∷ []
     → events_in (item ∷ []) ≡ whats → ((events : List Item) → AreWithEnd now (events ++ items_of whats) (events ++ item ∷ [])) → Passes false now whats [] a b
 took now a b item whats same put taken is with_end = record {
   lane = same.0;
@@ -34,7 +34,7 @@ took now a b item whats same put taken is with_end = record {
 }
 
 -- it was an event
-pub took_event : (was : Bool) (a b : LaneEnds) (item : Item) (what : Happening) → was ≡ false → IsSameLane a b → put_into b.outcomes ≡ put_into a.outcomes
+pub took_event : (was : Bool) (a b : LaneEnds) (item : Item) (what : What) → was ≡ false → IsSameLane a b → put_into b.outcomes ≡ put_into a.outcomes
     → taken_from b.items ≡ taken_from a.items ++ item ∷ [] → item ≡ Item.Event what → Passes was was (what ∷ []) [] a b
 took_event was a b item what going same put taken is =
     subst (λ f. Passes f f (what ∷ []) [] a b) (sym going) (took false a b item (what ∷ []) same put taken (ap (λ i. events_in (i ∷ [])) is) (λ events. ap (λ i. events ++ i ∷ []) is))
@@ -46,7 +46,7 @@ took_end was a b item going same put taken is =
     subst (λ f. Passes f true [] [] a b) (sym going)
     (took true a b item [] same put taken (ap (λ i. events_in (i ∷ [])) is) (λ events. (λ i. sym (append-nil events) i ++ is i ∷ [])))
 
-pub passes_then : (f g h : Bool) (xs ys : List Happening) (os qs : List Outcome) (a b c : LaneEnds) → Passes f g xs os a b → Passes g h ys qs b c → Passes f h (xs ++ ys) (os ++ qs) a c
+pub passes_then : (f g h : Bool) (xs ys : List What) (os qs : List Outcome) (a b c : LaneEnds) → Passes f g xs os a b → Passes g h ys qs b c → Passes f h (xs ++ ys) (os ++ qs) a c
 passes_then f g h xs ys os qs a b c p q = record {
   lane = q.lane ∙ p.lane;
   outlet = same_outlet a.items b.items c.items p.outlet q.outlet;
@@ -90,7 +90,7 @@ pub serves_none : (f g : Bool) (w : World) (a b : LaneEnds) → Passes f g [] []
 serves_none f g w a b p = record { whats = []; outcomes = []; run = ([], tt, refl, refl, refl); passes = p }
 
 -- one event was
-pub serves_one : (f g : Bool) (w new : World) (what : Happening) (o : Outcome) (a b c : LaneEnds) → Passes f g (what ∷ []) [] a b → Answers o b c → Steps w (record { lane = a.lane; what = what }) o new
+pub serves_one : (f g : Bool) (w new : World) (what : What) (o : Outcome) (a b c : LaneEnds) → Passes f g (what ∷ []) [] a b → Answers o b c → Steps w (record { lane = a.lane; what = what }) o new
     → Serves f g w new a c
 serves_one f g w new what o a b c p t step = record {
   whats = what ∷ [];
@@ -102,7 +102,7 @@ serves_one f g w new what o a b c p t step = record {
 pub serves_then : JoinsRuns → (f g h : Bool) (w mid new : World) (a b c : LaneEnds) → Serves f g w mid a b → Serves g h mid new b c → Serves f h w new a c
 serves_then joins f g h w mid new a b c p q =
     let lanes : on_lane a.lane p.whats ++ on_lane b.lane q.whats ≡ on_lane a.lane (p.whats ++ q.whats)
-    = ap (λ n. on_lane a.lane p.whats ++ on_lane n q.whats) p.passes.lane ∙ sym (map-append (λ (what : Happening). record { lane = a.lane; what = what }) p.whats q.whats) in
+    = ap (λ n. on_lane a.lane p.whats ++ on_lane n q.whats) p.passes.lane ∙ sym (map-append (λ (what : What). record { lane = a.lane; what = what }) p.whats q.whats) in
     record {
       whats = p.whats ++ q.whats;
       outcomes = p.outcomes ++ q.outcomes;
@@ -129,7 +129,7 @@ pub front_is_one : (x y : Item) (items : Outlet Item) → IsFrontOf x items → 
 front_is_one x y items a b = let both : x ∷ a.0 ≡ y ∷ b.0 = sym a.1 ∙ b.1 in cc
 
 -- nothing passed, and then what did
-pub passes_first : (f g : Bool) (whats : List Happening) (outcomes : List Outcome) (a b c : LaneEnds) → Passes f f [] [] a b → Passes f g whats outcomes b c → Passes f g whats outcomes a c
+pub passes_first : (f g : Bool) (whats : List What) (outcomes : List Outcome) (a b c : LaneEnds) → Passes f f [] [] a b → Passes f g whats outcomes b c → Passes f g whats outcomes a c
 passes_first f g whats outcomes a b c p q = passes_then f f g [] whats [] outcomes a b c p q
 
 serves_later : (f g : Bool) (w new : World) (a b c : LaneEnds) → Passes f f [] [] a b → Serves f g w new b c → Serves f g w new a c
@@ -151,7 +151,7 @@ took_front a b x item first front lane same put taken =
     ((lane, same, subst (SameInlet a.outcomes) (sym put) (itself_inlet a.outcomes)), ap put_into put, front_is_one item x a.items front first)
 
 -- it was an event
-pub took_first : (a b : LaneEnds) (what : Happening) (item : Item) → IsFrontOf (Item.Event what) a.items → IsFrontOf item a.items → b.lane ≡ a.lane → SameOutlet a.items b.items → b.outcomes ≡ a.outcomes
+pub took_first : (a b : LaneEnds) (what : What) (item : Item) → IsFrontOf (Item.Event what) a.items → IsFrontOf item a.items → b.lane ≡ a.lane → SameOutlet a.items b.items → b.outcomes ≡ a.outcomes
     → taken_from b.items ≡ taken_from a.items ++ item ∷ [] → Passes false false (what ∷ []) [] a b
 took_first a b what item first front lane same put taken =
     let it = took_front a b (Item.Event what) item first front lane same put taken in

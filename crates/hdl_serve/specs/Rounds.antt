@@ -3,7 +3,7 @@ use Rattle.std.specs.Prelude.{◌≡◌, ◌<◌, ⊤, ℕ, Bool, true, false, L
 use Rattle.std.specs.List.{AllByRecursion}
 use Rattle.hdl_lanes.specs.Lane.{put_into, taken_from, IsFrontOf, SameInlet, SameOutlet}
 use Rattle.hdl_lanes.specs.declared.outlet.Outlet.{Outlet}
-use Rattle.hdl_events.specs.declared.Happening.{Happening}
+use Rattle.hdl_events.specs.declared.What.{What}
 use Rattle.hdl_events.specs.declared.Event.{Event}
 use Rattle.hdl_events.specs.declared.Outcome.{Outcome}
 use Rattle.hdl_laws.specs.Worlds.{World}
@@ -20,7 +20,7 @@ AreWithEnd false events items = items ≡ events
 AreWithEnd true events items = items ≡ events ++ Item.End ∷ []
 
 -- the lane gave these events and was given these outcomes; whether it had ended before, and has now
-pub record Passes (was now : Bool) (whats : List Happening) (outcomes : List Outcome) (a b : LaneEnds) : Type 0 where
+pub record Passes (was now : Bool) (whats : List What) (outcomes : List Outcome) (a b : LaneEnds) : Type 0 where
   pub lane : b.lane ≡ a.lane
   pub outlet : SameOutlet a.items b.items
   pub inlet : SameInlet a.outcomes b.outcomes
@@ -47,19 +47,19 @@ IsCopyOf (Front.Event what) items = IsFrontOf (Item.Event what) items
 IsCopyOf Front.NoMemory items = ⊤
 
 -- events of one lane
-abbrev pub on_lane : ℕ → List Happening → List Event
+abbrev pub on_lane : ℕ → List What → List Event
 on_lane n whats = map (λ what. record { lane = n; what = what }) whats
 
 -- events of the lane are a run from one world to the other, and it was given their outcomes
 pub record Serves (was now : Bool) (w new : World) (a b : LaneEnds) : Type 0 where
-  pub whats : List Happening
+  pub whats : List What
   pub outcomes : List Outcome
   pub run : Run w (on_lane a.lane whats) outcomes new
   pub passes : Passes was now whats outcomes a b
 
 -- the lane gave events and then End
 abbrev pub GaveEnd : LaneEnds → LaneEnds → Type 0
-GaveEnd a b = (whats : List Happening) × AreWithEnd true (taken_from a.items ++ items_of whats) (taken_from b.items)
+GaveEnd a b = (whats : List What) × AreWithEnd true (taken_from a.items ++ items_of whats) (taken_from b.items)
 
 -- a relation of each lane's ends before and after, by its place
 pub record EachLane (R : ℕ → LaneEnds → LaneEnds → Type 0) (before after : List LaneEnds) : Type 0 where

@@ -2,7 +2,7 @@
 use Rattle.std.specs.Prelude.{◌≡◌, ℕ, List, [], ◌∷◌, ◌++◌, ◌==◌, if◌then◌else◌, Option, Some, None, All, Contains, map, filter_map}
 use Rattle.std.specs.List.{AllZip}
 use Rattle.hdl_lanes.specs.Lane.{put_into, taken_from, SameInlet, SameOutlet}
-use Rattle.hdl_events.specs.declared.Happening.{Happening}
+use Rattle.hdl_events.specs.declared.What.{What}
 use Rattle.hdl_events.specs.declared.Event.{Event}
 use Rattle.hdl_events.specs.declared.Outcome.{Outcome}
 use Rattle.hdl_laws.specs.Worlds.{World}
@@ -13,16 +13,16 @@ use Rattle.hdl_workers.specs.declared.item.Item.{Item}
 use Rattle.hdl_workers.specs.declared.ends.LaneEnds.{LaneEnds}
 
 -- what happened, if the item isn't End
-abbrev pub event_of : Item → Option Happening
+abbrev pub event_of : Item → Option What
 event_of (Item.Event what) = Some what
 event_of Item.End = None
 
 -- the events among items, in order
-abbrev pub events_in : List Item → List Happening
+abbrev pub events_in : List Item → List What
 events_in items = filter_map event_of items
 
 -- events as items
-abbrev pub items_of : List Happening → List Item
+abbrev pub items_of : List What → List Item
 items_of whats = map (λ what. Item.Event what) whats
 
 -- the entries beside the number n, in order
@@ -34,11 +34,11 @@ beside n (m ∷ ms) (x ∷ xs) = if m == n then x ∷ beside n ms xs else beside
 abbrev pub lanes_of : List Event → List ℕ
 lanes_of es = map (λ e. e.lane) es
 
-abbrev pub whats_of : List Event → List Happening
+abbrev pub whats_of : List Event → List What
 whats_of es = map (λ e. e.what) es
 
 -- what happened on the lane n, in order
-abbrev pub events_on : ℕ → List Event → List Happening
+abbrev pub events_on : ℕ → List Event → List What
 events_on n es = beside n (lanes_of es) (whats_of es)
 
 -- what came of the events of the lane n, in order

@@ -12,7 +12,7 @@
 //! tells of a value that may not be read, and each lane was given its events' outcomes. [`laws`] joins this with what the workers promise: after the joins
 //! what was put is what was served and what is left.
 //!
-//! Nothing here takes a lock or waits for anybody: what finds nothing pauses by the caller's [`Clock`], and all is bounded by a
+//! Nothing here takes a lock or waits for anyone: what finds nothing pauses by the caller's [`Clock`], and all is bounded by a
 //! number of turns.
 //!
 //! ```rust
@@ -26,23 +26,23 @@
 //!   was taken and isn't answered, and no batch to be kept. Served in a row, the events of a lane find what they need in the processor's
 //!   caches, and their outcomes reach the worker together, which then writes them by one call (docs/BENCHMARKS.md, "Serving").
 //! - **An event whose step was answered busy may stay in its lane**: such a step leaves the world as it was, so the event is taken up again later,
-//!   without an outcome till then. A table can so hand a write over to be made beside it: it refuses the call that hands the write over, and makes the write in memory at the call
+//!   without an outcome till then. A table can so hand a write over to be made by another thread: it refuses the call that hands the write over, and makes the write in memory at the call
 //!   that comes again with it. What is stepped then is a copy of the lane's first event, and the event is taken once its outcome is put: so what was taken is what was
 //!   answered, as ever. If memory for the copy is refused the event stays too.
 //! - **No Busy is put while the table owes a write**, whatever it is for (`owed` of `serve_next`, over what the table itself shows): so the event to which a write is owed stays until
-//!   its step claims the write or finds it undone, and who was answered Busy knows that nothing was changed. Other events that are busy meanwhile are told so a sync later.
+//!   its step claims the write or finds it undone, and a client that was answered Busy knows that nothing was changed. Other events that are busy meanwhile are answered so a sync later.
 //! - **Of a table whose calls make their writes no event is copied**, and none stays.
-//! - **A lane's events in a row cost as many turns**, so of so many turns each lane has at most so many events, in whatever order lanes are asked.
+//! - **A lane's events in a row cost as many turns**, so of a number of turns each lane has at most as many events, in whatever order lanes are asked.
 //! - **A client with many requests in flight has up to 16 answered before the next lane is asked.** One of each in turn would cost the workers half as much again.
 //! - **A publisher's turn ends with the event at which the clock has gone on by a millisecond**, whatever lanes it has and whatever they ask: so a publisher's dear
-//!   requests cost each other publisher one of them a round. An event is never broken off. The next turn begins at the lane behind, so each lane is asked again after as many rounds at
-//!   most as its publisher has lanes. Lanes are a publisher's where they stand beside each other and the machine says so (`Machine::owner`).
+//!   requests cost each other publisher one of them a round. An event is never broken off. The next turn begins at the lane after it, so each lane is asked again after as many rounds at
+//!   most as its publisher has lanes. Lanes are a publisher's where they stand next to each other and the machine says so (`Machine::owner`).
 //! - **The lane whose turn it is to write is asked before all others**, for one event, since all other writes wait for it. Where it gives that, the round is over; its next
-//!   write goes behind those that wait, so between two such rounds others have theirs.
+//!   write goes after those that wait, so between two such rounds others have theirs.
 //! - **Serving ends one round after the last End**, so that a turn that served nothing is one with a pause, whatever round an End came in.
 //! - **`serve` has two clauses: one record (`served`) and that the lanes' numbers still differ (`distinct`)**, so that it can be called again.
 //!   One record and not a clause for each sentence, since four clauses would each speak of a list of events of its own.
-//! - **Nothing is taken behind an End (`end_last`)**: what was taken in a call is events and then at most one End, as an equation of lists; it
+//! - **Nothing is taken after an End (`end_last`)**: what was taken in a call is events and then at most one End, as an equation of lists; it
 //!   says nothing of an End that was taken in an earlier call, which the caller knows of.
 #![tactic(auto)]
 
@@ -51,6 +51,10 @@ mod rounds;
 mod serving;
 mod shares;
 
+pub use hdl_core::{Owing, Service};
+pub use hdl_events::{Outcome, What};
+pub use hdl_lanes::{Ended, Full, Outlet};
+pub use hdl_limits::Octets;
 pub use hdl_queue::WriteQueue;
 pub use hdl_workers::{
     Clock, Datagram, Door, DoorFault, EndReason, Item, LaneEnds, MemoryClock, MemoryConnection,

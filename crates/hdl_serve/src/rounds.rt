@@ -12,7 +12,7 @@ ghost use Rattle.hdl_serve.specs.Rounds.{Answers, IsCopyOf, IsServing, Passes, P
 
 use crate::shares::{Rota, Share};
 use hdl_core::{Machine, Owed, Owing, Stepped};
-use hdl_events::{Event, Happening, Outcome};
+use hdl_events::{Event, Outcome, What};
 use hdl_laws::laws::runs_joined;
 use hdl_limits::Octets;
 use hdl_queue::WriteQueue;
@@ -20,7 +20,7 @@ use hdl_workers::{Clock, Item, LaneEnds};
 use std::alloc::{AllocError, Global};
 
 /// The lane's next event, if one is seen and its outcome finds room. A lane that gave End isn't asked again.
-fn take_event(ends: &mut LaneEnds, ended: &mut bool) -> Option<Happening>
+fn take_event(ends: &mut LaneEnds, ended: &mut bool) -> Option<What>
     ensures { MatchOption result (Passes ended.old ended.new [] [] ends.old ends.new) (λ what. Passes ended.old ended.new (what ∷ []) [] ends.old ends.new × (0 < known_room ends.new.outcomes)) }
 {
     if *ended {
@@ -62,27 +62,27 @@ fn serve_taken<R: Owing + Drop>(
 }
 
 /// The same happening, in memory of its own.
-fn copy_of(alloc: Global, what: &Happening) -> Result<Happening, AllocError>
+fn copy_of(alloc: Global, what: &What) -> Result<What, AllocError>
     ensures { IfOk result (λ copy. copy ≡ what.now) }
 {
     Ok(match what {
-        Happening::Open => Happening::Open,
-        Happening::Frame {
+        What::Open => What::Open,
+        What::Frame {
             peer,
             moment,
             nonce,
             bytes,
-        } => Happening::Frame {
+        } => What::Frame {
             peer: *peer,
             moment: *moment,
             nonce: *nonce,
             bytes: Octets::new(Vec::from_slice(alloc, bytes.as_slice())?),
         },
-        Happening::Bad { session, request } => Happening::Bad {
+        What::Bad { session, request } => What::Bad {
             session: *session,
             request: *request,
         },
-        Happening::Close => Happening::Close,
+        What::Close => What::Close,
     })
 }
 
@@ -91,7 +91,7 @@ fn copy_of(alloc: Global, what: &Happening) -> Result<Happening, AllocError>
 enum Front {
     End,
     /// A copy of the event.
-    Event(Happening),
+    Event(What),
     /// Memory for a copy was refused.
     NoMemory,
 }
@@ -130,7 +130,7 @@ fn is_owed(owed: Owed) -> bool
     !matches!(owed, Owed::Nothing)
 }
 
-/// Whether the event of a step with this outcome stays, behind which the table owes a write or doesn't.
+/// Whether the event of a step with this outcome stays, after which the table owes a write or doesn't.
 fn stays(queue: &mut WriteQueue, lane: u16, outcome: &Outcome, owes: bool) -> bool
     ensures busy { IsTrue result → is_busy outcome.now ≡ true }
     ensures owed { IsTrue owes → IsFalse result → is_busy outcome.now ≡ false }
@@ -144,7 +144,7 @@ fn stays(queue: &mut WriteQueue, lane: u16, outcome: &Outcome, owes: bool) -> bo
 fn serve_copy<R: Owing + Drop>(
     machine: &mut Machine<R>,
     ends: &mut LaneEnds,
-    copy: Happening,
+    copy: What,
     queue: &mut WriteQueue,
 ) -> bool
     requires room { 0 < known_room ends.old.outcomes }

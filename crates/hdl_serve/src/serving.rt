@@ -29,7 +29,7 @@ pub struct Served<R: Rows + Drop> {
     pub turns: u64,
 }
 
-/// Whether each of so many lanes has given End.
+/// Whether each of the first `lanes` lanes has given End.
 fn have_ended(ended: &[bool], lanes: usize) -> bool
     ensures { IsTrue result → (length ended.now ≡ lanes) × AllByRecursion (λ e. e ≡ true) ended.now }
 {
@@ -61,8 +61,8 @@ fn round<R: Owing + Drop, C: Clock>(
 /// Goes round the lanes until each has given End or the turns are spent. A turn serves at most one event of
 /// each lane whose inlet for outcomes has room, and of none that gave End. A round is up to 16 turns, publisher by publisher and lane by lane: it serves a
 /// lane's events one after another, and puts each outcome before the next event is taken, so nothing that was taken is without
-/// an outcome. A publisher's turn ends once the clock has gone on by a millisecond, and its next one begins at the lane behind. Lanes are one publisher's where they
-/// stand beside each other and the service says so.
+/// an outcome. A publisher's turn ends once the clock has gone on by a millisecond, and its next one begins at the lane after it. Lanes are one publisher's where they
+/// stand next to each other and the service says so.
 /// If the table hands its writes over, an event whose step was answered busy can stay in its lane, and so does one of which no copy can be had: the queue says which
 /// lane may write, and no Busy is put while the table owes a write. The lane whose turn it is to write is asked before all others, for one event; where it gives that, this was the round.
 /// Where the memory for a round is refused nothing is taken. After a round that served nothing it calls `pause`, after any other `note_work`.

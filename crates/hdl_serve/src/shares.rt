@@ -6,7 +6,7 @@ use hdl_core::{Machine, Owing};
 use hdl_workers::LaneEnds;
 use std::alloc::{AllocError, Global};
 
-/// A publisher's share of each round. Its lanes stand beside each other, and are asked one after another, from behind the one at which its last turn ended.
+/// A publisher's share of each round. Its lanes stand next to each other, and are asked one after another, from the one after that at which its last turn ended.
 #[derive(Drop)]
 pub(crate) struct Share {
     /// Where copies of events are made.
@@ -34,7 +34,7 @@ impl Share {
         }
     }
 
-    /// The place behind this one. Behind the last one comes the first.
+    /// The place after this one. After the last one comes the first.
     pub(crate) fn behind(&self, place: usize) -> usize {
         if place < self.last {
             place + 1
@@ -43,7 +43,7 @@ impl Share {
         }
     }
 
-    /// A turn begins at this moment, in which each lane gives so many events at most.
+    /// A turn begins at this moment, in which each lane gives `most` events at most.
     pub(crate) fn begin(&mut self, most: u64, moment: u64)
         ensures most { self.new.most ≡ most }
     {
@@ -67,7 +67,7 @@ pub(crate) struct Rota {
 }
 
 impl Rota {
-    /// No shares yet.
+    /// A rota without shares.
     pub(crate) fn new(alloc: Global) -> Rota {
         Rota {
             alloc,
@@ -76,7 +76,7 @@ impl Rota {
         }
     }
 
-    /// Shares the lanes out, once: those that stand beside each other and have one owner make one share.
+    /// Shares the lanes out, once: those that stand next to each other and have one owner make one share.
     pub(crate) fn share_out<R: Owing + Drop>(
         &mut self,
         machine: &Machine<R>,

@@ -19,13 +19,13 @@ fn table_args<'a>(alloc: Global, command: Command<'a>) -> Result<Command<'a>, Al
             alloc,
             "table",
             "FILE",
-            "Keeps the table in this SQLite file, where every change lasts; makes the file where there is none",
+            "Keeps the table in this SQLite file, so changes outlive the server; makes the file if it is missing",
         ))?
         .arg(
             Arg::new(alloc, "sums")
                 .long("sums")
                 .help(
-                    "Gives a new FILE a sum on each page, which tells changed bits; a plain sqlite3 that writes it spoils them",
+                    "Gives each page of a new FILE a checksum, which shows changed bits; a plain sqlite3 that writes the file destroys the checksums",
                 )
                 .action(ArgAction::SetTrue)
                 .requires_arg("table")?,
@@ -38,7 +38,7 @@ fn text_arg<'a>(alloc: Global) -> Arg<'a> {
         alloc,
         "text",
         "FILE",
-        "Reads the tenants text from this file, of any length, in place of standard input",
+        "Reads the tenants text from this file, of any length, instead of standard input",
     )
 }
 
@@ -53,7 +53,7 @@ fn serve_command<'a>(alloc: Global) -> Result<Command<'a>, AllocError> {
         .arg(text_arg(alloc))?
         .arg(listen_arg(
             alloc,
-            "Opens each publisher's port at this IPv4 or IPv6 address, repeated for more; without it on 127.0.0.1",
+            "Opens each publisher's port at this IPv4 or IPv6 address; may be repeated; 127.0.0.1 by default",
         ))?;
     let command = bound_args(alloc, limit_args(alloc, command)?)?;
     table_args(alloc, supervision_args(alloc, command)?)
@@ -66,28 +66,28 @@ fn limit_args<'a>(alloc: Global, command: Command<'a>) -> Result<Command<'a>, Al
             alloc,
             "turns",
             "N",
-            "Ends after N turns of each worker and of the service",
+            "Ends after N turns of each worker and of the service; for tests",
         )
         .value_parser(value_parser!(u64).range(1..)))?
         .arg(option(
             alloc,
             "idle",
             "SECONDS",
-            "Closes a connection that says nothing for so long while another client waits; 60 by default",
+            "Closes a connection that is silent for this long while another client waits; 60 by default",
         )
         .value_parser(value_parser!(u32).range(1..)))?
         .arg(option(
             alloc,
             "amplify",
             "N",
-            "Answers by UDP with at most N times the octets that asked, or one datagram, until the client answers a challenge; 8 by default, on loopback no limit unless N is given",
+            "Limits a UDP reply to N times its request, or to one datagram, until the client answers a challenge; 8 by default, no limit on loopback",
         )
         .value_parser(value_parser!(u32).range(1..)))?
         .arg(option(
             alloc,
             "crowd",
             "CONNECTIONS",
-            "Serves at most so many connections of a publisher on its overflow lane, once its other lanes are taken; 1000 by default, 0 for no such lane",
+            "Serves at most this many clients of a publisher on its overflow lane; 1000 by default, 0 for no overflow lane",
         )
         .value_parser(value_parser!(u32)))
 }
@@ -99,21 +99,21 @@ fn bound_args<'a>(alloc: Global, command: Command<'a>) -> Result<Command<'a>, Al
             alloc,
             "bound",
             "NAME=VALUES,OCTETS",
-            "Lets this publisher hold at most so many values and octets, repeated for others; a change that would take more is answered busy",
+            "Limits the values and octets that this publisher holds; a change beyond it is answered busy; once per publisher",
         )
         .action(ArgAction::Append))?
         .arg(option(
             alloc,
             "reserve",
             "OCTETS",
-            "Keeps so many octets of memory aside: where less is left, what takes more is answered busy, and the rest goes on; 67108864 by default, 0 for none",
+            "Memory kept aside: while less is left, changes that need memory are answered busy, and reads go on; 67108864 by default, 0 for none",
         )
         .value_parser(value_parser!(u64)))?
         .arg(option(
             alloc,
             "row-cache",
             "OCTETS",
-            "Keeps the handles read last, in at most so many octets; 41943040 by default, 0 for none",
+            "Memory for the handles read last; 41943040 by default, 0 for none; without --table only",
         )
         .value_parser(value_parser!(u64)))
 }
@@ -125,7 +125,7 @@ fn supervision_args<'a>(alloc: Global, command: Command<'a>) -> Result<Command<'
             alloc,
             "log",
             "FILE",
-            "Writes a line for each change that was accepted or refused to the end of FILE, - for standard error",
+            "Appends a line to FILE for each change that was accepted or refused; - is standard error",
         ))?
         .arg(option(
             alloc,
@@ -137,7 +137,7 @@ fn supervision_args<'a>(alloc: Global, command: Command<'a>) -> Result<Command<'
             alloc,
             "control",
             "PATH",
-            "Takes the word of `handled stop` at this Unix socket",
+            "The Unix socket at which `handled stop` ends the server",
         ))?
         .arg(option(
             alloc,
@@ -149,21 +149,15 @@ fn supervision_args<'a>(alloc: Global, command: Command<'a>) -> Result<Command<'
 
 fn copy_command<'a>(alloc: Global) -> Result<Command<'a>, AllocError> {
     Command::new(alloc, "copy")
-        .about("Copies the file of a table, while a server has it open or not")
+        .about("Copies the file of a table, also while a server has it open")
         .arg(option(alloc, "table", "FILE", "The SQLite file of the table").required(true))?
-        .arg(option(
-            alloc,
-            "to",
-            "COPY",
-            "The file to be made, where there is none",
-        )
-        .required(true))
+        .arg(option(alloc, "to", "COPY", "The copy: a path where no file is yet").required(true))
 }
 
 fn restore_command<'a>(alloc: Global) -> Result<Command<'a>, AllocError> {
     Command::new(alloc, "restore")
         .about(
-            "Checks a copy of a table's file, and puts it in the place of the file, with the owner and the permissions of what it replaces",
+            "Checks a copy of a table's file, and replaces the file by it; the owner and the permissions stay those of the file",
         )
         .arg(option(
             alloc,
@@ -176,7 +170,7 @@ fn restore_command<'a>(alloc: Global) -> Result<Command<'a>, AllocError> {
             alloc,
             "table",
             "FILE",
-            "The SQLite file of the table, which no server has open; it and its log are replaced",
+            "The SQLite file of the table; no server may have it open; it and its log are replaced",
         )
         .required(true))
 }
@@ -188,7 +182,7 @@ fn stop_command<'a>(alloc: Global) -> Result<Command<'a>, AllocError> {
             alloc,
             "control",
             "PATH",
-            "The Unix socket that the server was given by its --control",
+            "The Unix socket that the server's --control names",
         )
         .required(true))
 }
@@ -201,13 +195,13 @@ fn replay_command<'a>(alloc: Global) -> Result<Command<'a>, AllocError> {
 fn export_command<'a>(alloc: Global) -> Result<Command<'a>, AllocError> {
     Command::new(alloc, "export")
         .about(
-            "Writes the table in a file as a tenants text, with the publishers and prefixes of the one on standard input, or in a file",
+            "Writes the table of a file as a tenants text; publishers and prefixes come from the text on standard input, or in --text",
         )
         .arg(option(
             alloc,
             "table",
             "FILE",
-            "The SQLite file of the table, or a copy of it, which no server has open",
+            "The SQLite file of the table, or a copy of it; no server may have it open",
         )
         .required(true))?
         .arg(text_arg(alloc))?
@@ -215,32 +209,32 @@ fn export_command<'a>(alloc: Global) -> Result<Command<'a>, AllocError> {
             alloc,
             "publisher",
             "NAME",
-            "Write the values of this publisher's prefixes alone, and those on which its answers rest",
+            "Writes only this publisher's values, and those on which its answers rest",
         ))?
         .arg(option(
             alloc,
             "to",
             "NEW",
-            "Write to this new file, for its owner alone, in place of standard output",
+            "Writes to this new file, which only its owner may read, instead of standard output",
         ))
 }
 
 fn check_command<'a>(alloc: Global) -> Result<Command<'a>, AllocError> {
     Command::new(alloc, "check")
         .about(
-            "Says what the tenants text on standard input, or in a file, has, or all of its faults, and which ports are taken; serves nothing",
+            "Checks the tenants text on standard input, or in --text: prints what it has, or all of its faults, and which ports are taken",
         )
         .arg(text_arg(alloc))?
         .arg(listen_arg(
             alloc,
-            "Looks at the ports at this IPv4 or IPv6 address, repeated for more; without it on 127.0.0.1",
+            "Checks the ports at this IPv4 or IPv6 address; may be repeated; 127.0.0.1 by default",
         ))
 }
 
 /// The command line, before it has commands.
 fn empty_command<'a>(alloc: Global) -> Command<'a> {
     Command::new(alloc, "handled").version(VERSION).about(
-        "A local handle service; with no word, as with replay, it runs the script on standard input",
+        "A handle server; without a command it runs the script on standard input, as replay does",
     )
 }
 

@@ -11,7 +11,7 @@ pub struct TableFile {
     pub has_sums: bool,
 }
 
-/// A word behind `--bound`: a publisher's name, and how many values and octets it may hold at most.
+/// A word after `--bound`: a publisher's name, and how many values and octets it may hold at most.
 #[derive(Drop)]
 pub struct BoundWord {
     pub publisher: String,
@@ -23,12 +23,12 @@ pub struct BoundWord {
 #[derive(Clone, Copy)]
 pub struct LimitOptions {
     pub turns: Option<u64>,
-    /// In seconds.
+    /// For how many seconds a connection may be silent while another client waits.
     pub idle: Option<u32>,
     pub amplify: Option<u32>,
-    /// In connections.
+    /// How many connections an overflow lane serves at most.
     pub crowd: Option<u32>,
-    /// In octets.
+    /// How many octets of memory are kept aside.
     pub reserve: Option<usize>,
 }
 
@@ -53,11 +53,11 @@ pub struct ServeOptions {
     pub addresses: Vec<IpAddr>,
     pub limits: LimitOptions,
     pub supervision: SupervisionOptions,
-    /// Each of another publisher.
+    /// The bounds, at most one per publisher.
     pub bounds: Vec<BoundWord>,
     /// How many octets the handles that were read last may take.
     pub row_cache: Option<usize>,
-    /// Without one the table is in memory alone.
+    /// The file of the table; None: the table is in memory alone.
     pub table: Option<TableFile>,
 }
 

@@ -7,7 +7,7 @@
 //!
 //! [`read_options`] reads the words that the program was started with. What they ask for is an [`Invocation`], in plain values: which default stands for an option that
 //! was left out, and what is done, the program says. It is the program's part, and promises nothing but safety: what the words mean is tried over the built
-//! program. It stands in a crate of its own, below which no machine is, since nothing else of the server needs `clap`: so it is proved beside the machine.
+//! program. It stands in a crate of its own, below which no machine is, since nothing else of the server needs `clap`: so it is proved at the same time as the machine.
 //!
 //! ```rust
 //! // crates/handled/src/main.rt

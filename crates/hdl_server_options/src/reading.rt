@@ -9,34 +9,34 @@ use clap::ArgMatches;
 use hdl_programs::{status_of_words, words_of};
 use std::alloc::Global;
 
-/// What is asked for by the words behind `copy`.
+/// What is asked for by the words after `copy`.
 fn copy_options(alloc: Global, found: &ArgMatches) -> Result<Invocation, Unclear> {
     let from = required(alloc, found, "table")?;
     let to = required(alloc, found, "to")?;
     Ok(Invocation::Copy { from, to })
 }
 
-/// What is asked for by the words behind `restore`.
+/// What is asked for by the words after `restore`.
 fn restore_options(alloc: Global, found: &ArgMatches) -> Result<Invocation, Unclear> {
     let from = required(alloc, found, "from")?;
     let table = required(alloc, found, "table")?;
     Ok(Invocation::Restore { from, table })
 }
 
-/// What is asked for by the words behind `check`.
+/// What is asked for by the words after `check`.
 fn check_options(alloc: Global, found: &ArgMatches) -> Result<Invocation, Unclear> {
     let text = copy_of(alloc, found.get_str("text"))?;
     let addresses = addresses(alloc, found.get_strs("listen").unwrap_or(&[]))?;
     Ok(Invocation::Check { text, addresses })
 }
 
-/// What is asked for by the words behind `stop`.
+/// What is asked for by the words after `stop`.
 fn stop_options(alloc: Global, found: &ArgMatches) -> Result<Invocation, Unclear> {
     let control = required(alloc, found, "control")?;
     Ok(Invocation::Stop { control })
 }
 
-/// What is asked for by the words behind `export`.
+/// What is asked for by the words after `export`.
 fn export_options(alloc: Global, found: &ArgMatches) -> Result<Invocation, Unclear> {
     let path = required(alloc, found, "table")?;
     let table = TableFile {
@@ -91,7 +91,9 @@ fn parse(alloc: Global, words: &[String]) -> Result<Invocation, Unclear> {
 pub fn read_options(rt: &HostRuntime) -> Result<Invocation, OptionsFault> {
     let Ok(words) = words_of(rt) else {
         // words that are no text, or no memory for them
-        let _ = eprintln!(rt; "error: the command line cannot be read");
+        let _ = eprintln!(rt;
+            "error: a word of the command line is not UTF-8, or there is no memory for it"
+        );
         return Ok(Invocation::Ended(status_of_words(false)));
     };
     match parse(rt.alloc(), words.as_slice()) {

@@ -1,4 +1,4 @@
-//! The options behind `serve`.
+//! The options of `serve`.
 
 use crate::invocation::{BoundWord, LimitOptions, ServeOptions, SupervisionOptions};
 use crate::unclear::Unclear;
@@ -7,7 +7,7 @@ use clap::ArgMatches;
 use std::alloc::{AllocError, Global};
 use std::net::{IpAddr, Ipv4Addr, SocketAddr};
 
-/// The number of octets behind an option.
+/// The number of octets after an option.
 fn octets_behind(found: &ArgMatches, option: &str) -> Option<usize> {
     let octets = found.get_one::<u64>(option)?;
     Some(usize::try_from(octets).unwrap_or(usize::MAX))
@@ -53,7 +53,7 @@ fn addresses_of(alloc: Global, words: &[&str]) -> Result<Vec<IpAddr>, AllocError
     Ok(addresses)
 }
 
-/// The addresses behind `--listen`, each of which has to be one.
+/// The addresses after `--listen`, each of which has to be one.
 pub fn addresses(alloc: Global, words: &[&str]) -> Result<Vec<IpAddr>, Unclear> {
     if let Some(word) = no_address(words) {
         return Err(Unclear::Address(String::from_str(alloc, word)?));
@@ -69,7 +69,7 @@ fn number_of(word: &str) -> Option<u64> {
     word.parse::<u64>().ok()
 }
 
-/// The parts of a word behind `--bound`: a publisher's name, and how many values and octets it may hold at most.
+/// The parts of a word after `--bound`: a publisher's name, and how many values and octets it may hold at most.
 fn bound_parts(word: &str) -> Option<(&str, u64, u64)> {
     let (publisher, most) = word.split_once('=')?;
     let (values, octets) = most.split_once(',')?;
@@ -104,7 +104,7 @@ fn bound_words(alloc: Global, words: &[&str]) -> Result<Vec<BoundWord>, Unclear>
     Ok(bounds)
 }
 
-/// Where the status page is had.
+/// The address of the status page, if one is named.
 fn status_at(alloc: Global, found: &ArgMatches) -> Result<Option<SocketAddr>, Unclear> {
     let Some(word) = found.get_str("status") else {
         return Ok(None);
@@ -140,7 +140,7 @@ fn supervision(alloc: Global, found: &ArgMatches) -> Result<SupervisionOptions, 
     })
 }
 
-/// What is asked for by the words behind `serve`.
+/// What is asked for by the words after `serve`.
 pub fn serve_options(alloc: Global, found: &ArgMatches) -> Result<ServeOptions, Unclear> {
     let addresses = addresses(alloc, found.get_strs("listen").unwrap_or(&[]))?;
     let supervision = supervision(alloc, found)?;

@@ -51,7 +51,7 @@ fn print_help(rt: &HostRuntime, error: Error) -> Result<u8, OptionsFault> {
 const BOUND: &str = "--bound <NAME=VALUES,OCTETS>";
 
 /// What a word for an address has to be.
-const ADDRESS: &str = "no IPv4 or IPv6 address, such as 192.0.2.1 or 2001:db8::1";
+const ADDRESS: &str = "not an IPv4 or IPv6 address; write one such as 192.0.2.1 or 2001:db8::1";
 
 /// Says what is wrong with the value of an option, and answers the exit status.
 fn refuse_value(rt: &HostRuntime, word: &str, option: &str, reason: &str) -> u8 {
@@ -87,13 +87,13 @@ pub fn print_unclear(rt: &HostRuntime, unclear: Unclear) -> Result<u8, OptionsFa
             rt,
             word.as_str(),
             "--status <ADDRESS:PORT>",
-            "no IPv4 or IPv6 address with a port, such as 127.0.0.1:9100 or [::1]:9100",
+            "not an address with a port; write one such as 127.0.0.1:9100 or [::1]:9100",
         )),
         Unclear::BoundTwice(word) => Ok(refuse_value(
             rt,
             word.as_str(),
             BOUND,
-            "its publisher has a bound already",
+            "this publisher has a --bound already; give one per publisher",
         )),
     }
 }

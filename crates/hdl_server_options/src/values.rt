@@ -12,7 +12,7 @@ pub fn copy_of(alloc: Global, word: Option<&str>) -> Result<Option<String>, Allo
     }
 }
 
-/// What stands behind a required option.
+/// What follows a required option.
 pub fn required(alloc: Global, found: &ArgMatches, option: &str) -> Result<String, AllocError> {
     String::from_str(alloc, found.get_str(option).unwrap_or(""))
 }

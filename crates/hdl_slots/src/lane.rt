@@ -42,7 +42,7 @@ pub(crate) fn forget(cells: &mut Cells, lane: usize, number: u32)
     }
 }
 
-/// Puts a challenge behind the newest one. From the end on each moves one place to the front, until an empty place takes it in;
+/// Puts a challenge after the newest one. From the end on each moves one place to the front, until an empty place takes it in;
 /// where none is empty, the oldest is dropped.
 pub(crate) fn push(cells: &mut Cells, lane: usize, challenge: Challenge)
     requires lane { lane < LANES }

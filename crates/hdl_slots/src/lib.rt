@@ -1,4 +1,4 @@
-//! Pending challenges: what was sent to whom and under which number, until the response comes.
+//! Pending challenges: what was sent to which peer and under which number, until the response comes.
 //!
 //! Each of the 64 lanes has a list of at most eight challenges, the oldest first, and counts its own numbers: from 1 on, and
 //! after 4,294,967,295 again 1. A ninth challenge displaces the lane's oldest; where the numbers have gone round, a pending
@@ -19,7 +19,7 @@
 //!
 //! # Decisions
 //!
-//! - **A challenge's number stands beside it** (`Challenge { number, pending }`), since the lane gives it.
+//! - **A challenge's number is stored with it** (`Challenge { number, pending }`), since the lane gives it.
 //! - **A taken challenge goes by peer and number.** That no two challenges of a lane have one number is kept by each lane, so this is the
 //!   same as going by the number where the peer is the challenge's, and leaves the lane as it was where it isn't.
 //! - **The 512 slots stand in one slab**, which `Slots::new` fills with empty cells; no cell is made or removed after it, and each call

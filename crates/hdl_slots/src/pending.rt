@@ -14,7 +14,7 @@ pub struct Pending {
     pub nonce: [u8; 16],
     /// The digest of the request's header and body.
     pub digest: Digest,
-    /// The request's message.
+    /// The challenged request's message.
     pub message: Octets,
 }
 

@@ -12,10 +12,10 @@ const SLEEP: u64 = 100;
 /// For how many microseconds a wait has short pauses.
 const SHORT: u64 = 30;
 
-/// A long pause that begins so many milliseconds after its wait says nothing of the next one: nobody asked.
+/// If a long pause begins this many milliseconds after its wait, it says nothing of the next wait: no client asked.
 const IDLE: u64 = 10;
 
-/// Of the waits behind one that needed a long pause, each so-manieth begins with short pauses again.
+/// Of the waits after one that needed a long pause, each so-manieth begins with short pauses again.
 const TRIED_AGAIN: u32 = 8;
 
 /// What a pause is to a thread.
@@ -29,13 +29,13 @@ pub enum Part {
 
 /// The machine's clock in milliseconds, and pauses.
 ///
-/// A short pause only lets other threads run. While somebody asks, what is waited for is often a few microseconds away, and the
+/// A short pause only lets other threads run. While clients ask, what is waited for is often a few microseconds away, and the
 /// shortest sleep takes more than a hundred; so a wait begins with short pauses if the one before ended within them.
 #[derive(Drop)]
 pub struct MachineClock<R> {
     rt: R,
     part: Part,
-    /// The last moment that was told.
+    /// The last moment that was returned.
     told: u64,
     /// When the wait began, if one is under way.
     began: Option<Instant>,
@@ -94,7 +94,7 @@ impl<R: std::rt::Clock> MachineClock<R> {
         }
     }
 
-    /// Pauses so long after the wait began. A wait's first pause is short in any case: a worker may have outcomes in hand.
+    /// Pauses, by how long ago the wait began. A wait's first pause is short in any case: a worker may have outcomes in hand.
     fn rest(&mut self, waited: Duration) {
         let short = if self.is_short { SHORT } else { 0 };
         if waited <= Duration::from_micros(short) {

@@ -34,12 +34,12 @@ const READ_AT_ONCE: usize = 8192;
 /// How many writes one answer is tried by before others have their turn.
 const WRITES: u32 = 64;
 
-/// Each so many milliseconds the limits of time are looked at.
+/// Milliseconds between two looks at the limits of time.
 const TICK: u64 = 1000;
 
 /// What stands next at a place.
 enum NextAtPlace {
-    /// A frame of so many octets, from the peer with this number.
+    /// A frame: the number of its peer, and its length in octets.
     Frame(u16, usize),
     /// Something more may stand there.
     More,
@@ -71,7 +71,7 @@ pub struct Crowd {
 }
 
 impl Crowd {
-    /// Nobody, at the listeners of this seat; at most so many. A look for events takes so long at most.
+    /// A crowd without connections, at the seat's listeners, of at most `most` connections. A look for events waits at most `patience`.
     pub fn new<R: Net>(
         rt: &R,
         alloc: Global,
@@ -199,7 +199,7 @@ impl Crowd {
         }
     }
 
-    /// Nothing more is there to be read at this place for now.
+    /// Notes that nothing more can be read at this place for now.
     fn waits(&mut self, place: usize) -> NextAtPlace {
         self.book.waits(place, self.now);
         self.is_watched = self.is_watched || self.keeps_waiting(place);
@@ -374,7 +374,7 @@ impl Crowd {
     }
 }
 
-/// Of two that are silent the one that is so longer.
+/// The one of two silent connections that is silent longer.
 fn longer(first: Option<(usize, u64)>, place: usize, since: u64) -> Option<(usize, u64)> {
     match first {
         Some((_, moment)) if moment <= since => first,
@@ -420,7 +420,7 @@ impl<R: std::rt::Clock + Drop> Packets for SocketCrowd<R> {
 
     ghost fault_count = { λ p. p.faults };
 
-    /// It may wait: one frame is under way at a time.
+    /// Receives a frame. It may wait, since one frame is under way at a time.
     fn receive(
         &mut self,
         buffer: &mut [u8],

@@ -10,7 +10,7 @@ pub struct Ending {
 }
 
 impl Ending {
-    /// Nobody asked.
+    /// The server isn't asked to end yet.
     pub fn new() -> Ending {
         Ending {
             is_asked: AtomicBool::new(false),
@@ -22,7 +22,7 @@ impl Ending {
         self.is_asked.store(true, SeqCst);
     }
 
-    /// Whether somebody asked.
+    /// Whether the server is asked to end.
     pub fn is_asked(&self) -> bool {
         self.is_asked.load(SeqCst)
     }

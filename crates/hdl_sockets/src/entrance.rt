@@ -1,11 +1,11 @@
-//! Where the connections of a crowd come in: those for whom no other lane of their publisher is free.
+//! Where the connections of a crowd come in: those for which no other lane of their publisher is free.
 
 use crate::silence::Seat;
 use crate::sockets::nothing_came;
 use std::net::TcpStream;
 use std::time::Duration;
 
-/// For how many milliseconds nobody is accepted once the machine had no room for a connection.
+/// For how many milliseconds no client is accepted once the machine had no room for a connection.
 const SHORT: u64 = 1000;
 
 /// In how many milliseconds is looked again whether a client waits that a free lane should take.
@@ -17,9 +17,9 @@ pub struct Entrance {
     pub seat: Seat,
     /// The most connections.
     most: usize,
-    /// Whether somebody may wait at them.
+    /// Whether a client may wait at them.
     has_knocked: bool,
-    /// Nobody is accepted before this moment.
+    /// No client is accepted before this moment.
     shut_until: u64,
 }
 
@@ -33,17 +33,17 @@ impl Entrance {
         }
     }
 
-    /// Somebody may wait.
+    /// Notes that a client may be waiting at the listeners.
     pub fn knocks(&mut self) {
         self.has_knocked = true;
     }
 
-    /// Whether no more than so many connections have room.
+    /// Whether a crowd of `count` connections accepts no more at this moment.
     pub fn is_full(&self, count: usize, now: u64) -> bool {
         count >= self.most || now < self.shut_until
     }
 
-    /// How long a look for events may take, which is else so much: none where a client is to be accepted, and little where one waits for another lane, that is free.
+    /// How long a look for events may take: `most`, but no time if a client is to be accepted, and little if one waits for another lane, which is free.
     pub fn patience(&self, count: usize, now: u64, most: Duration) -> Duration {
         if !self.has_knocked || self.is_full(count, now) {
             most
@@ -54,7 +54,7 @@ impl Entrance {
         }
     }
 
-    /// Whether a client is to be accepted into a crowd of so many: one waits, there is room, and no other lane is free.
+    /// Whether a client is to be accepted into a crowd of `count` connections: one waits, there is room, and no other lane is free.
     fn is_wanted(&mut self, count: usize, now: u64) -> bool {
         if !self.has_knocked || self.is_full(count, now) {
             return false;
@@ -66,7 +66,7 @@ impl Entrance {
         true
     }
 
-    /// Has the listeners wait for nobody, if a client is to be accepted into a crowd of so many. A worker that comes to them meanwhile finds nobody, and comes
+    /// Makes the listeners non-blocking, if a client is to be accepted into a crowd of `count` connections. A worker that comes to them meanwhile finds no client, and comes
     /// again.
     pub fn opens(&mut self, count: usize, now: u64) -> bool {
         self.is_wanted(count, now) && self.seat.set_waiting(false).is_ok()
@@ -77,7 +77,7 @@ impl Entrance {
         let _ = self.seat.set_waiting(true);
     }
 
-    /// Accepts a client into a crowd of so many, if one is to be accepted.
+    /// Accepts a client into a crowd of `count` connections, if there is room and one waits.
     pub fn accept(&mut self, count: usize, now: u64) -> Option<TcpStream> {
         if !self.is_wanted(count, now) {
             return None;
@@ -101,7 +101,7 @@ impl Entrance {
         self.seat.set_free();
     }
 
-    /// Writes down how the crowd stands beside the other lanes: free, or silent since this moment, or at work. Whether the connection that is
+    /// Writes down how the crowd is, for the other lanes: free, or silent since this moment, or at work. Whether the connection that is
     /// silent longest has to make room.
     pub fn is_crowded(&mut self, count: usize, longest: Option<u64>, now: u64) -> bool {
         if !self.is_full(count, now) {

@@ -52,7 +52,10 @@ pub fn too_long(alloc: Global, first: &[u8]) -> Option<Vec<u8>> {
     let reply = Reply {
         session: envelope.session,
         request: envelope.request,
-        header: answer_header(header, ResponseCode::Error.number()),
+        header: Header {
+            expiration: header.expiration,
+            ..answer_header(header, ResponseCode::Error.number())
+        },
         digest: if header.has(OpFlag::ReturnDigest) {
             Some(digest_at(body)?)
         } else {

@@ -1,4 +1,4 @@
-//! The header in which a proxy says for whom a connection speaks, before the first octet of its client.
+//! The header in which a proxy says for which a connection speaks, before the first octet of its client.
 
 use hdl_proxied::{HeaderStep, read_header};
 use std::alloc::Global;
@@ -17,7 +17,7 @@ pub struct Introduction {
 }
 
 impl Introduction {
-    /// Nothing came.
+    /// An introduction of which no octet came yet.
     pub fn new(alloc: Global) -> Introduction {
         Introduction {
             octets: Vec::new(alloc),
@@ -32,7 +32,7 @@ impl Introduction {
         }
     }
 
-    /// Reads so many octets at most.
+    /// Reads at most `most` octets.
     fn read_some<S: Read>(&mut self, stream: &mut S, most: usize) -> io::Result<HeaderStep> {
         let mut room = [0; READ_AT_ONCE];
         let most = most.min(READ_AT_ONCE);
@@ -44,7 +44,7 @@ impl Introduction {
         self.step()
     }
 
-    /// Reads on by one call, and nothing of what stands behind the header. A connection that ends before it, or has none, is an error.
+    /// Reads on by one call, and nothing of what follows the header. A connection that ends before it, or has none, is an error.
     pub fn read_on<S: Read>(&mut self, stream: &mut S) -> io::Result<HeaderStep> {
         match self.step()? {
             HeaderStep::More(count) => self.read_some(stream, count),

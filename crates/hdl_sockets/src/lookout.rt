@@ -11,7 +11,7 @@ use std::time::Duration;
 /// The token of every socket: it isn't asked which one is ready.
 const READY: Token = Token(0);
 
-/// A look at sockets.
+/// Tells whether one of several sockets is ready.
 #[derive(Drop)]
 pub struct Lookout {
     poll: Poll,
@@ -39,14 +39,14 @@ impl Lookout {
         Ok(())
     }
 
-    /// Whether something came for one of the sockets that are watched since all was taken, for which it waits so long at most.
+    /// Whether something came for one of the sockets that are watched since all was taken; waits at most `most`.
     pub fn waits(&mut self, most: Duration) -> bool {
         let looked = self.poll.poll(&mut self.events, Some(most));
         looked.is_ok() && !self.events.is_empty()
     }
 
-    /// Whether one of the sockets is ready, for which it waits so long at most. They are registered for this one look: one that was
-    /// ready before is told of then, and what comes between two looks wakes nobody.
+    /// Whether one of the sockets is ready; waits at most `most`. They are registered for this one look: one that was
+    /// ready before is reported then, and what comes between two looks wakes no thread.
     pub fn sees<S: AsRawFd>(&mut self, sockets: &[S], most: Duration) -> bool {
         for socket in sockets {
             let descriptor = socket.as_raw_fd();

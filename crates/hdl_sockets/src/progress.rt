@@ -13,7 +13,7 @@ pub struct Progress {
 }
 
 impl Progress {
-    /// At a stream's beginning.
+    /// The progress at the beginning of a stream.
     pub fn new() -> Progress {
         Progress {
             envelope: [0; ENVELOPE_LEN],
@@ -27,7 +27,7 @@ impl Progress {
         self.came > 0 || self.owed > 0
     }
 
-    /// The envelope is whole. Behind a faulty one no frame stands.
+    /// The envelope is whole. After a faulty one no frame stands.
     fn begin_payload(&mut self) {
         let envelope = Envelope::read(&self.envelope);
         self.came = 0;
@@ -37,7 +37,7 @@ impl Progress {
         };
     }
 
-    /// Takes what is the envelope's, and answers what stands behind it.
+    /// Takes what is the envelope's, and answers what follows it.
     fn follow_envelope<'a>(&mut self, octets: &'a [u8]) -> &'a [u8] {
         let Some((octet, rest)) = octets.split_first() else {
             return octets;
@@ -52,7 +52,7 @@ impl Progress {
         rest
     }
 
-    /// Takes what is the payload's, and answers what stands behind it.
+    /// Takes what is the payload's, and answers what follows it.
     fn follow_payload<'a>(&mut self, octets: &'a [u8]) -> &'a [u8] {
         let (taken, rest) = octets.split_at(self.owed.min(octets.len()));
         self.owed = self.owed.saturating_sub(taken.len());

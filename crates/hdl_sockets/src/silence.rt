@@ -14,7 +14,7 @@ use std::sync::atomic::AtomicU64;
 use std::sync::atomic::Ordering::SeqCst;
 use std::time::{Duration, Instant};
 
-/// The moment of a lane without a connection, which is free for whoever comes: it counts as silent longer than any other.
+/// The moment of a lane without a connection, which is free for each client that comes: it counts as silent longer than any other.
 const FREE: u64 = 0;
 
 /// The moment of a lane that is at work.
@@ -27,7 +27,7 @@ struct Silences {
 }
 
 impl Silences {
-    /// So many lanes that are free.
+    /// `lanes` lanes, all free.
     fn new(alloc: Global, lanes: usize) -> io::Result<Silences> {
         let mut since = Vec::with_capacity(alloc, lanes)?;
         for _ in 0..lanes {
@@ -72,7 +72,7 @@ pub struct Seat {
     /// Since when the connection is silent.
     since: u64,
     ending: Arc<Ending>,
-    /// The proxy that says for whom its connections speak.
+    /// The proxy that says for which its connections speak.
     proxied: Option<IpAddr>,
     alloc: Global,
 }
@@ -89,7 +89,7 @@ impl Seat {
         }
     }
 
-    /// The lane has no connection.
+    /// Notes that the lane has no connection.
     pub fn set_free(&mut self) {
         self.silences.put(self.place, FREE);
     }
@@ -131,7 +131,7 @@ impl Seat {
         self.listeners.has_more()
     }
 
-    /// Whether the silent connection has to make room: it is silent for too long, longest among all of its publisher, and somebody waits.
+    /// Whether the silent connection has to make room: it is silent for too long, longest among all of its publisher, and a client waits.
     pub fn makes_room(&mut self, now: u64) -> bool {
         now.saturating_sub(self.since) >= self.idle
             && self.silences.is_longest(self.place, self.since)
@@ -214,7 +214,7 @@ fn seat_at<R: Net>(
     })
 }
 
-/// A seat for each of so many lanes at these listeners.
+/// A seat at these listeners for each of `lanes` lanes.
 pub fn seats_at<R: Net + std::rt::Clock>(
     rt: &R,
     alloc: Global,

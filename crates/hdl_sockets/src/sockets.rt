@@ -38,7 +38,7 @@ pub trait Source: AsRawFd {
     /// Takes what came first; octets stand at the front of the buffer.
     fn take(&self, buffer: &mut [u8]) -> io::Result<Self::Taken>;
 
-    /// Has `take` wait so long at most, or not at all.
+    /// Has `take` wait at most `most`, or not at all.
     fn limit(&self, most: Option<Duration>) -> io::Result<()>;
 }
 
@@ -63,7 +63,7 @@ impl Source for TcpListener {
 #[derive(Drop)]
 pub struct PacketSocket {
     pub socket: UdpSocket,
-    /// None: as many as it has.
+    /// How many times its request a reply may be long; None: no limit.
     pub times: Option<u32>,
 }
 
@@ -121,7 +121,7 @@ pub struct Sockets<S> {
 }
 
 impl<S: Source + Drop> Sockets<S> {
-    /// Sockets at which a call waits so long at most. Where there is one its own call waits; the calls of several don't, and a look at them all does.
+    /// Sockets at which a call waits at most `most`. Where there is one its own call waits; the calls of several don't, and a look at them all does.
     pub fn new<R: Net>(
         rt: &R,
         alloc: Global,
@@ -141,7 +141,7 @@ impl<S: Source + Drop> Sockets<S> {
         })
     }
 
-    /// Sockets from which one thread alone takes. Their calls don't wait; a look at them all does, for so long at most.
+    /// Sockets from which one thread alone takes. Their calls don't wait; a look at them all does, for at most `most`.
     pub fn with_watch<R: Net>(
         rt: &R,
         alloc: Global,
@@ -162,7 +162,7 @@ impl<S: Source + Drop> Sockets<S> {
         })
     }
 
-    /// Looks for something that came, for so long at most. Whether there is something.
+    /// Looks for something that came, for at most `most`. Whether there is something.
     fn looks(&mut self, most: Duration) -> bool {
         if self.is_watched {
             self.lookout.waits(most)
@@ -171,7 +171,6 @@ impl<S: Source + Drop> Sockets<S> {
         }
     }
 
-    /// All of them.
     pub fn all(&self) -> &[S] {
         self.sockets.as_slice()
     }

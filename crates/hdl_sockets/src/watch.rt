@@ -11,7 +11,7 @@ use std::net::{SocketAddr, TcpStream};
 use std::thread;
 use std::time::Duration;
 
-/// For how many seconds one call waits for octets, or for room, behind which the limits are looked at.
+/// For how many seconds one call waits for octets, or for room, after which the limits are looked at.
 const TICK: u64 = 1;
 
 /// For how many milliseconds the rest of a frame is waited for.
@@ -37,7 +37,7 @@ pub struct Watch<R> {
 }
 
 impl<R: std::rt::Clock + Drop> Watch<R> {
-    /// Of a lane without a connection.
+    /// The watch of a lane without a connection.
     pub fn new(rt: R, seat: Seat, recorder: Option<StreamRecorder<R>>) -> Watch<R> {
         Watch {
             rt,
@@ -57,7 +57,7 @@ impl<R: std::rt::Clock + Drop> Watch<R> {
         self.seat.accept()
     }
 
-    /// A connection begins.
+    /// Begins to watch this connection.
     pub fn begin(&mut self, stream: &TcpStream) {
         // a connection has its listener's time to receive
         let _ = stream.set_read_timeout(Some(Duration::from_secs(TICK)));
@@ -72,7 +72,7 @@ impl<R: std::rt::Clock + Drop> Watch<R> {
         }
     }
 
-    /// The connection has ended.
+    /// Ends watching: the lane is free, and nothing more is recorded.
     pub fn end(&mut self) {
         self.seat.set_free();
         if let Some(recorder) = &mut self.recorder {
@@ -90,7 +90,7 @@ impl<R: std::rt::Clock + Drop> Watch<R> {
         self.seat.set_busy();
     }
 
-    /// Octets came after so many milliseconds. Whether the frame that goes on with them isn't late.
+    /// Notes octets that came after `waited` milliseconds. Whether the frame that goes on with them isn't late.
     fn hears(&mut self, octets: &[u8], waited: u64) -> bool {
         if let Some(recorder) = &mut self.recorder {
             recorder.note_octets(octets);
@@ -105,7 +105,7 @@ impl<R: std::rt::Clock + Drop> Watch<R> {
         self.waited <= FRAME
     }
 
-    /// Nothing came since this moment. Whether the connection is to be closed.
+    /// Whether a connection from which nothing came since this moment is to be closed.
     fn gives_up(&mut self, since: u64) -> bool {
         let now = self.seat.moment(&self.rt);
         let waited = self.waited.saturating_add(now.saturating_sub(since));

@@ -15,7 +15,7 @@ use hdl_rows::Rows;
 use sqlite::{Alter, Connection};
 use std::alloc::Global;
 
-/// Who is told how far a load is: after each row, how many of its kind were read.
+/// Is informed of a load's progress: after each row, how many of its kind were read.
 pub trait Progress {
     fn handles(&mut self, count: u64);
 
@@ -47,11 +47,11 @@ fn load_handles<S: Alter, R: Rows, P: Progress>(
         last = Some(take_handle(alloc, row, last, rows)?);
         progress.handles(before + 1);
     }
-    // No memory holds so many handles.
+    // No memory holds as many handles as that.
     Err(LoadFault::Memory)
 }
 
-/// Puts the rows of `entries` behind those of `handles`.
+/// Reads the rows of `entries`, after those of `handles`.
 fn load_entries<S: Alter, R: Rows, P: Progress>(
     conn: &mut Connection<S>,
     alloc: Global,
@@ -80,7 +80,7 @@ fn load_entries<S: Alter, R: Rows, P: Progress>(
         last = Some(take_entry(alloc, row, last, rows)?);
         progress.values(before + 1);
     }
-    // No memory holds so many values.
+    // No memory holds as many values as that.
     Err(LoadFault::Memory)
 }
 

@@ -4,7 +4,7 @@ ghost use Rattle.std.specs.Prelude.{◌≡◌, IfOk, MatchResult, IsErr, Ok};
 ghost use Rattle.hdl_rows.specs.Table.{no_rows, refusals_after};
 
 use crate::fault::StoreFault;
-use crate::{memory, queries};
+use crate::{heads, memory, queries};
 use hdl_limits::Octets;
 use hdl_name::Name;
 use hdl_rows::reads::{found_octets, names_octets, seen_octets, values_octets, with_call};
@@ -102,6 +102,13 @@ impl Rows for SqlRows {
 
     fn look(&mut self, name: &Name) -> Result<Option<Vec<Value>>, Refused> {
         let found = queries::look(&mut self.conn, self.alloc, name.canon());
+        let seen = tally(&mut self.refusals, found)?;
+        self.reads = with_call(self.reads, seen_octets(&seen));
+        Ok(seen)
+    }
+
+    fn heads(&mut self, name: &Name) -> Result<Option<Vec<Value>>, Refused> {
+        let found = heads::heads(&mut self.conn, self.alloc, name.canon());
         let seen = tally(&mut self.refusals, found)?;
         self.reads = with_call(self.reads, seen_octets(&seen));
         Ok(seen)

@@ -1,6 +1,6 @@
 //! Copying the file of a table, while a server has it open or not.
 //!
-//! The file's log is beside it. A server writes changes to the end of the log, and now and then moves the log's pages into the file and begins the log anew,
+//! The file's log is next to it. A server writes changes to the end of the log, and now and then moves the log's pages into the file and begins the log anew,
 //! with another header. So a copy of the file and then of the log, between two looks that find one header, opens as the table after a beginning
 //! of the changes, with each that was answered before the copy began: a page that was moved into the file meanwhile is in the log too, which goes before it.
 
@@ -44,19 +44,19 @@ impl fmt::Display for CopyFault {
             CopyFault::From(kind) => write!(f, "copy: the table's file can't be read: {kind}"),
             CopyFault::To(kind) => write!(
                 f,
-                "copy: the copy can't be written: {kind}: look at its folder, and at the room on the disk"
+                "copy: the copy can't be written: {kind}: check its folder, and the room on the disk"
             ),
             CopyFault::Exists => f.write_str(
-                "copy: there is a file at the copy's path, or beside it with -wal at the end: move it away, or name another path",
+                "copy: a file exists at the copy's path, or at that path with -wal at the end: move it away, or name another path",
             ),
             CopyFault::Busy => f.write_str(
-                "copy: the server moved its log into the file at each try: copy when fewer changes come",
+                "copy: the server moved its log into the file during each of 10 tries: try again when fewer changes come",
             ),
         }
     }
 }
 
-/// The front of a file's log, of which nothing is there before the first change and behind the end of a server.
+/// The front of a file's log, of which nothing is there before the first change and after the end of a server.
 fn header_of(rt: &HostRuntime, log: &str) -> io::Result<Option<[u8; HEADER]>> {
     let mut header = [0; HEADER];
     match File::open(rt, log) {
@@ -122,7 +122,7 @@ fn copy_file(
     }
 }
 
-/// Copies a file and its log once. Whether one log lay beside it all the while.
+/// Copies a file and its log once. Whether one log was next to it all the while.
 fn copy_once(
     rt: &HostRuntime,
     from: &Paths,

@@ -35,7 +35,7 @@ fn say_left_out(rt: &HostRuntime, left: LeftOut) -> u8 {
     }
     let (empty, unsayable) = (left.empty, left.unsayable);
     let _ = eprintln!(rt;
-        "export: left out, since no tenants text says them: {empty} handles without a value, {unsayable} with a space or a line feed in the name"
+        "export: left out, since a tenants text can't express them: {empty} handles without a value, {unsayable} with a space or line feed in the name"
     );
     INCOMPLETE
 }
@@ -61,7 +61,7 @@ pub fn has_named(rt: &HostRuntime, tenants: &Tenants, publisher: &Option<String>
         return true;
     }
     let _ = eprintln!(rt;
-        "error: invalid value '{name}' for '--publisher <NAME>': the text has no publisher of this name\n\nFor more information, try '--help'."
+        "error: invalid value '{name}' for '--publisher <NAME>': the tenants text has no publisher of this name\n\nFor more information, try '--help'."
     );
     false
 }
@@ -82,7 +82,7 @@ impl fmt::Display for WriteFault {
             ),
             WriteFault::Device(kind) => write!(
                 f,
-                "export: the text can't be written: {kind}: look at its folder, and at the room on the disk"
+                "export: the text can't be written: {kind}: check its folder, and the room on the disk"
             ),
         }
     }

@@ -1,4 +1,4 @@
-//! What is done over the table in a file that nobody serves.
+//! What is done over the table in a file that no server has open.
 
 use crate::closing::Closing;
 use crate::fault::TabledFault;
@@ -9,7 +9,7 @@ use hdl_sqlrows::load::Progress;
 use hdl_tenants::Tenants;
 use std::thread::Threads;
 
-/// What is done over the table in a file that nobody serves.
+/// What is done over the table in a file that no server has open.
 ///
 /// Who opens a table is handed what is done over it, which is generic over tables: proving a function that owns all parts of one costs many times as much.
 pub trait FileWork: Drop {

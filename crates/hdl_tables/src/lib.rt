@@ -1,8 +1,8 @@
-//! The tables of `handled`: in memory, or with a file beside it; and what is done with a table's file that nobody serves.
+//! The tables of `handled`, in memory alone or also in a file; and what is done with a table's file that no server has open.
 //!
 //! ```text
 //! empty_table  -> Table::First      in SQL, in memory, the handles that were read last kept
-//! open_served  -> Table::Second     in memory, with a file beside it, which has each write before it is answered
+//! open_served  -> Table::Second     in memory and in a file, which has each write before it is answered
 //! over_file    -> a FileWork over the table in a file: Export is one, a replayed script another
 //! copy_table   -> a copy of the file, while a server has it open or not
 //! restore_table -> such a copy, checked, in the place of the file

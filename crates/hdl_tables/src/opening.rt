@@ -1,4 +1,4 @@
-//! Opening a table, in memory or with a file beside it.
+//! Opening a table, in memory alone or also in a file.
 
 ghost use Rattle.std.specs.Prelude.{◌≡◌, false, IfOk};
 ghost use Rattle.sqlite.specs.State.{HasCleanDisk};
@@ -33,13 +33,13 @@ pub struct TablePath<'a> {
     pub has_sums: bool,
 }
 
-/// The table in memory, with the file beside it.
+/// The table in memory whose rows are also in a file.
 pub type ServedFile<R, A> = LastingRows<PlainRows, ThreadedFile<R>, A>;
 
 /// The table of a run, whose threads `R` starts, and of whose file `A` hears. It is one type, so that the program has one machine.
 pub type Table<R, A> = EitherRows<CachedRows<SqlRows>, ServedFile<R, A>>;
 
-/// An empty table in SQL, in memory, of which at most so many octets are kept where they were read last.
+/// An empty table in SQL, in memory, with a cache of at most `row_cache` octets.
 pub fn empty_table<R: Threads + Drop, A: Alarm + Drop>(
     rt: &HostRuntime,
     row_cache: usize,
@@ -56,8 +56,8 @@ pub fn empty_table<R: Threads + Drop, A: Alarm + Drop>(
     Ok(EitherRows::First(rows))
 }
 
-/// The table in the database of a file: what that has, with each handle of the text that was never opened there. A thread makes its writes where they are made
-/// beside the calls.
+/// The table in the database of a file: what that has, with each handle of the text that was never opened there. If writes are made beside
+/// the calls, a thread makes them.
 pub fn table_in<R: Threads + Drop, A: Alarm + Progress + Drop>(
     machine: R,
     alloc: Global,

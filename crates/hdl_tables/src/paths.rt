@@ -1,9 +1,9 @@
-//! The paths of a table's two files: the file, and the log beside it.
+//! The paths of a table's two files: the file, and the log next to it.
 
 use hdl_programs::Fault;
 use std::fs;
 
-/// The paths of a file and of what lies beside it.
+/// The paths of a file and of what is next to it.
 #[derive(Drop)]
 pub(crate) struct Paths {
     pub file: String,
@@ -12,7 +12,7 @@ pub(crate) struct Paths {
     pub aside: String,
     /// What SQLite leaves of a change that was cut off.
     pub journal: String,
-    /// What is made beside it to see whether files can be made there.
+    /// What is made next to it to see whether files can be made there.
     pub trial: String,
 }
 
@@ -29,7 +29,7 @@ impl Paths {
         })
     }
 
-    /// Those where links lead: the log lies beside the file that is found there.
+    /// Those where links lead: the log is next to the file that is found there.
     pub(crate) fn resolved(rt: &HostRuntime, path: &str) -> Result<Paths, Fault> {
         match fs::canonicalize(rt, path) {
             Ok(real) => Paths::at(rt, real.as_str()),

@@ -13,7 +13,7 @@ use std::fs::{self, Metadata, OpenOptions};
 use std::io::ErrorKind;
 use std::os::unix::fs::MetadataExt;
 
-/// Whom something belongs to, and who would open it.
+/// The user that something belongs to, and the user that would open it.
 #[derive(Clone, Copy)]
 pub struct Owner {
     pub owner: u32,
@@ -53,15 +53,15 @@ pub enum OpenReason {
     Folder(Owner),
     /// It is a folder, a device or the like.
     NoFile,
-    /// It has so many names.
+    /// It has several names: how many.
     Names(u64),
     /// It may not be read and written.
     File(Owner),
-    /// The log beside it is no file of its own.
+    /// The file's log is no file of its own.
     NoLog,
-    /// The log beside it may not be read and written.
+    /// The file's log may not be read and written.
     Log(Owner),
-    /// SQLite left a rollback journal beside it.
+    /// SQLite left a rollback journal of the file.
     Journal,
     /// It isn't there, and none is made.
     Missing,
@@ -76,7 +76,7 @@ impl fmt::Display for OpenReason {
             OpenReason::NoPath => f.write_str("the path names no file: name one in a folder"),
             OpenReason::NoFolder => {
                 f.write_str(
-                    "the file isn't there, nor is its folder: make the folder, or look at the path",
+                    "the file isn't there, nor is its folder: make the folder, or check the path",
                 )
             }
             OpenReason::Folder(owner) => { write!(f, "no file can be made in the folder: {owner}") }
@@ -85,20 +85,20 @@ impl fmt::Display for OpenReason {
             }
             OpenReason::Names(count) => write!(
                 f,
-                "the file has {count} names (hard links), and a table needs one of its own: take the others away, or copy it"
+                "the file has {count} names (hard links), and a table needs one of its own: remove the others, or copy it"
             ),
             OpenReason::File(owner) => write!(f, "the file may not be read and written: {owner}"),
             OpenReason::NoLog => f.write_str(
-                "beside the file, with -wal at the end, is a link, a folder, a device or a file with several names",
+                "the log, at the file's path with -wal at the end, is a link, a folder, a device or a file with several names",
             ),
             OpenReason::Log(owner) => write!(
                 f,
-                "the log, the file beside it with -wal at the end, may not be read and written: {owner}"
+                "the log, at the file's path with -wal at the end, may not be read and written: {owner}"
             ),
             OpenReason::Journal => f.write_str(
-                "SQLite left a journal beside the file, with -journal at the end: open it with sqlite3 first, which plays that back",
+                "SQLite left a journal at the file's path with -journal at the end: open the file with sqlite3 first, which applies it",
             ),
-            OpenReason::Missing => f.write_str("the file isn't there: look at the path"),
+            OpenReason::Missing => f.write_str("the file isn't there: check the path"),
             OpenReason::Again => f.write_str("nothing is in the way now: try again"),
             OpenReason::Other(kind) => write!(f, "{kind}"),
         }
@@ -155,7 +155,7 @@ fn reason_of_log(rt: &HostRuntime, paths: &Paths) -> OpenReason {
     }
 }
 
-/// Whether SQLite left a journal beside the file.
+/// Whether SQLite left a rollback journal of the file.
 fn has_journal(rt: &HostRuntime, paths: &Paths) -> bool {
     fs::symlink_metadata(rt, &paths.journal).is_ok()
 }

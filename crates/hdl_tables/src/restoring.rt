@@ -41,12 +41,9 @@ impl fmt::Display for RestoreFault {
     fn fmt<W: fmt::Write>(&self, f: &mut fmt::Formatter<W>) -> fmt::Result {
         f.write_str("restore: ")?;
         match self {
-            RestoreFault::From(kind) => write!(
-                f,
-                "the copy can't be read: {kind}: look at its path"
-            ),
+            RestoreFault::From(kind) => write!(f, "the copy can't be read: {kind}: check its path"),
             RestoreFault::Busy => f.write_str(
-                "what is to be restored is the file of a server, which changed it at each try: make a copy of it first",
+                "--from is a server's own file, which changed during each try: make a copy of it first",
             ),
             RestoreFault::Copy(fault) => {
                 write!(
@@ -55,11 +52,11 @@ impl fmt::Display for RestoreFault {
                 )
             }
             RestoreFault::Left => f.write_str(
-                "beside the table is what a restore left that was ended, with .restored, .restored-wal or -wal.replaced at the end: move it away, and restore again",
+                "a restore that was ended left files at the table's path, with .restored, .restored-wal or -wal.replaced at the end: move them away, and restore again",
             ),
             RestoreFault::Folder(kind) => write!(
                 f,
-                "the folder of the table can't be looked at: {kind}: make it, or look at the path"
+                "the folder of the table can't be read: {kind}: make it, or check the path"
             ),
             RestoreFault::Owner { owner, group, user } => write!(
                 f,
@@ -67,7 +64,7 @@ impl fmt::Display for RestoreFault {
             ),
             RestoreFault::Place(kind) => write!(
                 f,
-                "the copy can't be put in its place: {kind}: look at the folder, and at the room on the disk"
+                "the copy can't be put in its place: {kind}: check the folder, and the room on the disk"
             ),
         }
     }
@@ -111,7 +108,7 @@ fn hold(rt: &HostRuntime, path: &str) -> Result<Option<Held>, TabledFault> {
     }
 }
 
-/// Whom the file of a table is to belong to, and its permissions.
+/// The user and group that the file of a table is to belong to, and its permissions.
 #[derive(Clone, Copy)]
 struct Access {
     owner: u32,
@@ -127,7 +124,7 @@ fn access_of(found: &Metadata, mode: u32) -> Access {
     }
 }
 
-/// That of the file which is replaced. Where there is none, or root has it, it is to belong to who has the folder.
+/// The access of the file that is replaced. If there is none, or root has it, the table is to belong to the folder's owner.
 fn access_at(rt: &HostRuntime, path: &str) -> Result<Access, RestoreFault> {
     let mut mode = 0o600;
     if let Ok(found) = fs::metadata(rt, path) {
@@ -229,7 +226,7 @@ fn replace(rt: &HostRuntime, from: &Paths, to: &Paths) -> Result<(), RestoreFaul
     remove(rt, &to.aside)
 }
 
-/// Copies the two files beside the table, checks them, and puts them in its place.
+/// Copies the two files next to the table, checks them, and puts them in its place.
 fn place_copy(rt: &HostRuntime, from: &Paths, new: &Paths, to: &Paths) -> Result<(), TabledFault> {
     if let Err(fault) = copy_both(rt, from, new) {
         return Err(TabledFault::from(RestoreFault::from(fault)));
@@ -244,7 +241,7 @@ fn place_copy(rt: &HostRuntime, from: &Paths, new: &Paths, to: &Paths) -> Result
     Ok(())
 }
 
-/// The paths of what lies beside the table until it is whole, where nothing is yet.
+/// The paths of what is next to the table until it is whole, where nothing is yet.
 fn paths_beside(rt: &HostRuntime, to: &Paths) -> Result<Paths, TabledFault> {
     let file = format!(in rt.alloc(); "{}.restored", to.file).map_err(Fault::from)?;
     let new = Paths::at(rt, &file)?;

@@ -70,7 +70,7 @@ pub struct Counts {
     changed: AtomicU64,
 }
 
-/// So many counts of nothing.
+/// Counts that are all zero.
 fn zeros(alloc: Global, count: usize) -> Result<Vec<AtomicU64>, AllocError> {
     let mut zeros = Vec::with_capacity(alloc, count)?;
     for _ in 0..count {
@@ -80,7 +80,7 @@ fn zeros(alloc: Global, count: usize) -> Result<Vec<AtomicU64>, AllocError> {
 }
 
 impl Counts {
-    /// Of a publisher with so many lanes.
+    /// Counts of a publisher with `lanes` lanes, all zero.
     pub fn new(alloc: Global, publisher: &str, lanes: u16) -> Result<Counts, AllocError> {
         Ok(Counts {
             publisher: String::from_str(alloc, publisher)?,
@@ -108,7 +108,7 @@ impl Counts {
         }
     }
 
-    /// The lane at this place has so many connections.
+    /// Notes that the lane at this place has `count` connections.
     pub fn set_connections(&self, lane: usize, count: usize) {
         if let Some(connections) = self.connections.get(lane) {
             connections.store(u64::try_from(count).unwrap_or(u64::MAX), SeqCst);

@@ -6,7 +6,7 @@ use std::fs::Files;
 use std::io::{self, ErrorKind};
 use std::os::unix::fs::MetadataExt;
 
-/// What became of a file that somebody else changed.
+/// What became of a file that another program changed.
 #[derive(Clone, Copy, Debug, PartialEq, Eq)]
 pub enum FileChange {
     /// Nothing is at its path.
@@ -62,7 +62,7 @@ fn change_of(seen: Option<Look>, now: io::Result<Look>) -> Option<FileChange> {
     }
 }
 
-/// A table's file and the log beside it, as they were seen last.
+/// A table's file and the log next to it, as they were seen last.
 #[derive(Drop)]
 pub struct FileWatch {
     path: String,
@@ -72,7 +72,7 @@ pub struct FileWatch {
 }
 
 impl FileWatch {
-    /// Of the file at this path, as it is now.
+    /// A watch of the file at this path, as it is now.
     pub fn new<R: Files>(rt: &R, alloc: Global, path: &str) -> Result<FileWatch, AllocError> {
         let mut watch = FileWatch {
             path: String::from_str(alloc, path)?,
@@ -90,7 +90,7 @@ impl FileWatch {
         self.log_seen = noted(self.log_seen, seen_at(rt, self.log.as_str()));
     }
 
-    /// What somebody else made of one of them since.
+    /// What another program made of one of them since.
     pub fn change<R: Files>(&self, rt: &R) -> Option<FileChange> {
         let file = change_of(self.file_seen, seen_at(rt, self.path.as_str()));
         file.or(change_of(self.log_seen, seen_at(rt, self.log.as_str())))

@@ -10,7 +10,7 @@ const OCTETS_MOST: u64 = 131_072;
 
 /// What is said on standard error.
 const FAILING: &str =
-    "log: a line can't be written: the disk may be full; changes are answered as before, and their lines are lost until there is room";
+    "log: a line can't be written: the disk may be full. Changes are answered as before; their lines are lost until there is room";
 
 /// How many octets of a lane's lines wait to be written. The lane's voice and the thread that writes share it.
 #[derive(Drop)]
@@ -19,14 +19,14 @@ pub(crate) struct Backlog {
 }
 
 impl Backlog {
-    /// Nothing waits.
+    /// A backlog of no octets.
     pub(crate) fn new() -> Backlog {
         Backlog {
             octets: AtomicU64::new(0),
         }
     }
 
-    /// So many octets are to wait too. False: there is no room for them.
+    /// Takes room for octets that are to wait too. False: there is no room for them.
     pub(crate) fn enters(&self, octets: u64) -> bool {
         let before = self.octets.fetch_add(octets, SeqCst);
         let has_room = before.saturating_add(octets) <= OCTETS_MOST;
@@ -36,7 +36,7 @@ impl Backlog {
         has_room
     }
 
-    /// So many octets wait no more.
+    /// Gives the room back of octets that wait no more.
     pub(crate) fn leaves(&self, octets: u64) {
         self.octets.fetch_sub(octets, SeqCst);
     }
@@ -46,7 +46,7 @@ impl Backlog {
 #[derive(Drop)]
 pub struct Flow {
     lost: AtomicU64,
-    /// How many lost lines may be told, and how many were.
+    /// How many lost lines may be reported, and how many were.
     shown: AtomicU64,
     told: AtomicU64,
     failing: Notice,
@@ -55,7 +55,7 @@ pub struct Flow {
 }
 
 impl Flow {
-    /// Nothing was said.
+    /// A flow of which no line was lost.
     pub(crate) fn new(alloc: Global) -> Result<Flow, AllocError> {
         Ok(Flow {
             lost: AtomicU64::new(0),
@@ -83,17 +83,17 @@ impl Flow {
         self.failing.raise();
     }
 
-    /// Lines are written again: from now on it shall be told how many were lost.
+    /// Lines are written again: from now on the number of lost lines is to be reported.
     pub(crate) fn show_lost(&self) {
         self.shown.store(self.lost(), SeqCst);
     }
 
-    /// How many lines were lost since that was told last.
+    /// How many lines were lost since the last report.
     fn untold(&self) -> u64 {
         self.shown.load(SeqCst).wrapping_sub(self.told.load(SeqCst))
     }
 
-    /// Whether something is to be said that nobody said.
+    /// Whether a line is still to be printed.
     pub fn has_due(&self) -> bool {
         self.failing.is_due() || self.untold() > 0
     }
@@ -104,13 +104,13 @@ impl Flow {
         let more = self.untold();
         if more > 0 {
             let _ = eprint!(rt;
-                "log: {more} lines were lost: whoever reads the log was too slow, or the disk was full; their changes were answered as before\n"
+                "log: {more} lines were lost: the log's reader was too slow, or the disk was full. Their changes were answered as before\n"
             );
             self.told.fetch_add(more, SeqCst);
         }
     }
 
-    /// No more lines come.
+    /// Notes that no more lines come.
     pub fn end(&self) {
         self.is_over.store(true, SeqCst);
     }
@@ -123,7 +123,7 @@ impl Flow {
         self.is_written.store(true, SeqCst);
     }
 
-    /// Whether all lines were written, or lost, behind the last one.
+    /// Whether all lines up to the last one were written, or lost.
     pub fn is_written(&self) -> bool {
         self.is_written.load(SeqCst)
     }

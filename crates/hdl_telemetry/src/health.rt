@@ -9,26 +9,26 @@ use std::sync::atomic::{AtomicBool, AtomicU64};
 
 /// What is said on standard error.
 const SHUT: &str =
-    "table: shut for writes: a sync of the file failed, so nobody can tell whether it has the last change; reads go on, changes are answered busy; restart once the cause is gone";
+    "table: shut for writes: a sync failed, so the file may have the last change or not. Reads go on; changes are answered busy. Repair the disk, then restart";
 
 const GONE: &str =
-    "table: shut for writes: the file or its log is gone from its path, so that the next start would find none; reads go on, changes are answered busy; move both back, or copy them from /proc/PID/fd of this process, and restart";
+    "table: shut for writes: the file or its log is gone from its path. Reads go on; changes are answered busy. Move both back, or copy them from /proc/PID/fd of this process, then restart";
 
 const REPLACED: &str =
-    "table: shut for writes: another file is at the path of the file or its log; reads go on, changes are answered busy; move both back, or copy them from /proc/PID/fd of this process, and restart over the one or the other";
+    "table: shut for writes: another file is at the path of the file or its log. Reads go on; changes are answered busy. Move both back, or copy them from /proc/PID/fd of this process; then restart with one of the two";
 
 const OVERWRITTEN: &str =
-    "table: shut for writes: another program wrote the file or its log; reads go on, changes are answered busy; put a whole copy of both in their place, and restart";
+    "table: shut for writes: another program wrote the file or its log. Reads go on; changes are answered busy. Put a whole copy of both in their place, then restart";
 
 const FAILING: &str =
-    "table: a change can't be written: the disk may be full, or memory short; reads go on, and changes that can't be written are answered busy, of which nothing is done; make room";
+    "table: a change can't be written: the disk may be full, or memory short. Reads go on; such a change is answered busy, and nothing of it is done. Make room";
 
 const SHORT: &str =
-    "memory: less is left than is kept aside (--reserve), so what takes more is answered busy; reads, deletes and removes go on; delete handles, bound publishers (--bound), or let the process have more";
+    "memory: less is left than is kept aside (--reserve): changes that need memory are answered busy. Reads, deletes and removes go on. Delete handles, bound publishers (--bound), or give the process more memory";
 
-const ASKED: &str = "handled: ends: it was asked to";
+const ASKED: &str = "handled: ends: asked by `handled stop`";
 
-const SPENT: &str = "handled: ends: the turns are spent";
+const SPENT: &str = "handled: ends: its --turns are spent";
 
 /// Whether the table takes changes, and why not; and why the server ends. What keeps it says so; the status page and the thread that says the lines read it.
 #[derive(Drop)]
@@ -53,7 +53,7 @@ pub struct Health {
 }
 
 impl Health {
-    /// It does. So many octets of memory are kept aside.
+    /// The table takes changes. `reserve` octets of memory are kept aside.
     pub fn new(alloc: Global, reserve: usize) -> Result<Health, AllocError> {
         Ok(Health {
             shut: Notice::new(alloc, SHUT)?,
@@ -73,12 +73,12 @@ impl Health {
         })
     }
 
-    /// From now on it takes none, since a sync of its file failed.
+    /// Notes that the table takes no more changes, since a sync of its file failed.
     pub fn shut(&self) {
         self.shut.raise();
     }
 
-    /// What somebody else made of its file, as it was seen just now. While the file is away it takes none, and once it was overwritten never again.
+    /// Notes what another program made of the table's file, as it was seen just now. While the file is away the table takes no changes, and once it was overwritten never again.
     pub fn see_file(&self, change: Option<FileChange>) {
         let is_away = matches!(change, Some(FileChange::Gone | FileChange::Replaced));
         self.is_away.store(is_away, SeqCst);
@@ -95,12 +95,12 @@ impl Health {
         self.is_away.load(SeqCst) || self.overwritten.is_raised()
     }
 
-    /// Whether it takes none.
+    /// Whether the table takes no more changes.
     pub fn is_shut(&self) -> bool {
         self.shut.is_raised() || self.has_lost_file()
     }
 
-    /// A change was written, or couldn't be.
+    /// Notes whether a change could be written.
     pub fn note_write(&self, is_made: bool) {
         self.is_failing.store(!is_made, SeqCst);
         if !is_made {
@@ -146,11 +146,11 @@ impl Health {
     pub fn trouble(&self) -> Option<&'static str> {
         if self.shut.is_raised() {
             Some(
-                "the table is shut for writes: a sync of its file failed; reads go on; restart the server once the cause is gone\n",
+                "the table is shut for writes: a sync of its file failed; reads go on. Repair the disk, then restart\n",
             )
         } else if self.has_lost_file() {
             Some(
-                "the table is shut for writes: its file or log was taken away, replaced or written by another program; reads go on; standard error says what to do\n",
+                "the table is shut for writes: its file or log was moved, replaced or written by another program; reads go on. Standard error says what to do\n",
             )
         } else if self.is_failing() {
             Some(
@@ -158,14 +158,14 @@ impl Health {
             )
         } else if self.is_short() {
             Some(
-                "memory is short: what takes more is answered busy; reads, deletes and removes go on\n",
+                "memory is short: changes that need memory are answered busy; reads, deletes and removes go on\n",
             )
         } else {
             None
         }
     }
 
-    /// The server ends, since it was asked to, or since its turns are spent.
+    /// The server ends, since asked by `handled stop`, or since its turns are spent.
     pub fn end(&self, was_asked: bool) {
         if was_asked {
             self.asked.raise();
@@ -188,7 +188,7 @@ impl Health {
         ]
     }
 
-    /// Whether something is to be said that nobody said.
+    /// Whether a line is still to be printed.
     pub fn has_due(&self) -> bool {
         self.notices().iter().any(|notice| notice.is_due())
     }

@@ -9,7 +9,7 @@
 //!
 //! A [`Recorder`] reads along with one lane of a publisher: it counts each reply, and where there is a [`Log`] it says a line of each change by the lane's [`Voice`], of which `hdl_audit` says
 //! what it tells. A [`StreamRecorder`] cuts the octets of a connection into frames by `hdl_frame`; a [`PacketRecorder`] follows frames that come while others are under way. The
-//! [`Counts`] of a publisher belong to all its lanes, and whoever shows them. [`Health`] is shared by what keeps the table and what shows it. A [`FileWatch`] tells whether a table's file is still the one that was opened. How the lines of a log go, and how many were lost, is its [`Flow`].
+//! [`Counts`] of a publisher belong to all its lanes, and to what shows them. [`Health`] is shared by what keeps the table and what shows it. A [`FileWatch`] tells whether a table's file is still the one that was opened. How the lines of a log go, and how many were lost, is its [`Flow`].
 //!
 //! It stands on `hdl_frame`, `hdl_msg`, `hdl_audit` and `hdl_lanes`, and on nothing that serves. Nothing here has a clause: a lane is answered as it would be without a recorder, and a
 //! line that can't be written is lost, which is counted and said.
@@ -33,7 +33,7 @@
 //!   glibc gives each thread memory of its own, and threads that find no more of theirs take from that one's.
 //! - **A file is known by device and inode, and between the server's own writes by its size and the moment of its last change too.** It is looked at before each write, so that none is answered over a file that is gone;
 //!   and every two seconds at the pauses of the thread that serves, so that an idle server tells it: a thread of its own that may read files isn't taken by the prover. A file that is moved back is written again.
-//! - **A notice is a flag**, raised by whoever serves and said within a tenth of a second; its line is made at the start, so that it needs no memory once that is refused.
+//! - **A notice is a flag**, raised by the thread that serves, and printed within a tenth of a second; its line is made at the start, so that it needs no memory once that is refused.
 #![tactic(auto)]
 
 mod counts;

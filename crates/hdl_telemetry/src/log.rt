@@ -27,7 +27,7 @@ enum Sink {
     File(File),
 }
 
-/// Where the recorder of a lane says its lines. Who says one waits for nobody.
+/// Where the recorder of a lane says its lines. Saying one waits for nothing.
 #[derive(Drop)]
 pub struct Voice {
     lines: Inlet<String>,
@@ -48,7 +48,7 @@ impl Voice {
         }
     }
 
-    /// A line couldn't be made.
+    /// Notes that a line couldn't be made.
     pub fn lose(&self) {
         self.flow.lose();
     }
@@ -92,7 +92,7 @@ impl Pen {
         }
     }
 
-    /// No line waits.
+    /// For when no line waits: reports how many lines were lost, if lines can be written.
     fn rest(&self) {
         if !self.is_failing {
             self.flow.show_lost();
@@ -120,17 +120,17 @@ impl Log {
         })
     }
 
-    /// To standard error.
+    /// A log that goes to standard error.
     pub fn to_errors(alloc: Global) -> io::Result<Log> {
         Log::new(alloc, Sink::Errors)
     }
 
-    /// To the end of a file, which was opened to be appended to.
+    /// A log that appends to this file, which was opened for that.
     pub fn to_file(alloc: Global, file: File) -> io::Result<Log> {
         Log::new(alloc, Sink::File(file))
     }
 
-    /// How its lines go.
+    /// The flow of the log's lines.
     pub fn flow(&self) -> Result<Arc<Flow>, AllocError> {
         Ok(Arc::try_clone(&self.pen.flow)?)
     }

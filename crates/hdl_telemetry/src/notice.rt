@@ -4,7 +4,7 @@ use std::alloc::{AllocError, Global};
 use std::sync::atomic::AtomicBool;
 use std::sync::atomic::Ordering::SeqCst;
 
-/// A line that is said once. Who raises it waits for nobody: a thread of its own says it.
+/// A line that is printed once. Raising it waits for nothing: a thread of its own prints it.
 #[derive(Drop)]
 pub struct Notice {
     line: String,
@@ -13,7 +13,7 @@ pub struct Notice {
 }
 
 impl Notice {
-    /// Of these words, without an LF.
+    /// A notice of these words, which have no LF.
     pub fn new(alloc: Global, words: &str) -> Result<Notice, AllocError> {
         Ok(Notice {
             line: format!(in alloc; "{words}\n")?,
@@ -22,7 +22,7 @@ impl Notice {
         })
     }
 
-    /// From now on it shall be said.
+    /// Raises the notice: its line is to be printed once.
     pub fn raise(&self) {
         self.is_raised.store(true, SeqCst);
     }
@@ -32,7 +32,7 @@ impl Notice {
         self.is_raised.load(SeqCst)
     }
 
-    /// Whether it was raised, and nobody said it.
+    /// Whether it was raised, and not printed yet.
     pub fn is_due(&self) -> bool {
         self.is_raised() && !self.is_said.load(SeqCst)
     }

@@ -42,7 +42,7 @@ pub struct Recorder<R> {
 }
 
 impl<R: Clock + Drop> Recorder<R> {
-    /// Of the lane at this place, with the next voice.
+    /// The recorder of the lane at this place, with the next voice.
     pub fn new(rt: R, alloc: Global, record: &mut Record, lane: usize) -> io::Result<Recorder<R>> {
         let voice = record.voices.next();
         Ok(Recorder {
@@ -55,7 +55,7 @@ impl<R: Clock + Drop> Recorder<R> {
         })
     }
 
-    /// The lane has so many connections.
+    /// Notes that the lane has `count` connections.
     pub fn set_connections(&self, count: usize) {
         self.counts.set_connections(self.lane, count);
     }
@@ -123,14 +123,14 @@ impl<R: Clock + Drop> Recorder<R> {
 #[derive(Drop)]
 pub struct PacketRecorder<R> {
     recorder: Recorder<R>,
-    /// What the frames behind the oldest ask; nothing of one for which memory was refused.
+    /// What the frames after the oldest ask; nothing of one for which memory was refused.
     waiting: VecDeque<Result<Option<UnansweredFrame>, AllocError>>,
     /// Whether the oldest is followed.
     is_busy: bool,
 }
 
 impl<R: Clock + Drop> PacketRecorder<R> {
-    /// Of a lane that got no frame yet.
+    /// The recorder of a lane that got no frame yet.
     pub fn new(recorder: Recorder<R>) -> PacketRecorder<R> {
         let alloc = recorder.alloc;
         PacketRecorder {
@@ -140,7 +140,7 @@ impl<R: Clock + Drop> PacketRecorder<R> {
         }
     }
 
-    /// A frame came.
+    /// Notes the request in a frame that came from this peer.
     pub fn note_request(&mut self, peer: u16, frame: &[u8]) {
         if !self.is_busy {
             self.is_busy = true;
@@ -187,7 +187,7 @@ pub struct StreamRecorder<R> {
 }
 
 impl<R: Clock + Drop> StreamRecorder<R> {
-    /// Of a lane without a connection.
+    /// A recorder of a lane that has no connection yet.
     pub fn new(recorder: Recorder<R>) -> StreamRecorder<R> {
         StreamRecorder {
             recorder,
@@ -212,12 +212,12 @@ impl<R: Clock + Drop> StreamRecorder<R> {
         self.from = Some(client);
     }
 
-    /// The connection has ended.
+    /// Notes that the connection has ended.
     pub fn end(&mut self) {
         self.recorder.set_connections(0);
     }
 
-    /// Octets came. Where they can't be cut nothing is known of what comes behind them.
+    /// Notes octets that came. If they can't be cut into frames, nothing after them is recorded.
     pub fn note_octets(&mut self, octets: &[u8]) {
         let Some(cutter) = &mut self.heard else {
             return;
@@ -226,7 +226,7 @@ impl<R: Clock + Drop> StreamRecorder<R> {
             self.heard = None;
             return;
         }
-        // each frame ends with one of these octets or behind it
+        // each frame ends with one of these octets or after it
         for _ in 0..octets.len() {
             match cutter.next_frame() {
                 Ok(Some(frame)) => self.recorder.follower.note_request(0, frame.bytes),
@@ -235,7 +235,7 @@ impl<R: Clock + Drop> StreamRecorder<R> {
         }
     }
 
-    /// Octets went.
+    /// Notes octets that were written, and logs the replies in them.
     pub fn note_written(&mut self, octets: &[u8]) {
         let Some(cutter) = &mut self.said else {
             return;

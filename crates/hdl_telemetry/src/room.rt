@@ -5,12 +5,12 @@ use std::alloc::{AllocError, Global};
 /// In how many pieces memory is asked for that isn't to be had in one.
 const PIECES: usize = 128;
 
-/// Room for so many octets, which nothing is written to.
+/// An allocation that nothing is written to.
 fn room_for(alloc: Global, octets: usize) -> Result<Vec<u8>, AllocError> {
     Vec::with_capacity(alloc, octets)
 }
 
-/// Whether so many octets can be had often enough.
+/// Whether this many octets can be had often enough.
 fn has_pieces(alloc: Global, octets: usize) -> bool {
     let mut pieces = Vec::new(alloc);
     for _ in 0..PIECES {
@@ -24,7 +24,7 @@ fn has_pieces(alloc: Global, octets: usize) -> bool {
     true
 }
 
-/// Whether so many octets can be had, in one piece or in a hundred. They are given back at once.
+/// Whether this many octets can be had, in one piece or in a hundred. They are given back at once.
 pub fn has_room(alloc: Global, octets: usize) -> bool {
     room_for(alloc, octets).is_ok() || has_pieces(alloc, octets / PIECES)
 }

@@ -23,6 +23,20 @@ three_texts xs d w n e = ap (map (λ x. x.now)) (three xs d n) ∙ ap (λ t. t �
 pub four_texts : (xs : List (Bor (List ℕ))) (d : Bor (List ℕ)) (w : List ℕ) → length xs ≡ 4 → (get_or xs 0 d).now ≡ w → map (λ x. x.now) xs ≡ w ∷ (get_or xs 1 d).now ∷ (get_or xs 2 d).now ∷ (get_or xs 3 d).now ∷ []
 four_texts xs d w n e = ap (map (λ x. x.now)) (four xs d n) ∙ ap (λ t. t ∷ (get_or xs 1 d).now ∷ (get_or xs 2 d).now ∷ (get_or xs 3 d).now ∷ []) e
 
+at_least_four : {X : Type 0} (xs : List X) (d : X) → 4 ≤ length xs → xs ≡ get_or xs 0 d ∷ get_or xs 1 d ∷ get_or xs 2 d ∷ get_or xs 3 d ∷ drop 4 xs
+at_least_four [] d h = absurd (omega arith)
+at_least_four (a ∷ []) d h = absurd (omega arith)
+at_least_four (a ∷ b ∷ []) d h = absurd (omega arith)
+at_least_four (a ∷ b ∷ e ∷ []) d h = absurd (omega arith)
+at_least_four (a ∷ b ∷ e ∷ f ∷ more) d h = refl
+
+pub four_texts_and : (xs : List (Bor (List ℕ))) (d : Bor (List ℕ)) (w : List ℕ) → 4 ≤ length xs → (get_or xs 0 d).now ≡ w
+    → map (λ x. x.now) xs ≡ w ∷ (get_or xs 1 d).now ∷ (get_or xs 2 d).now ∷ (get_or xs 3 d).now ∷ map (λ x. x.now) (take (length xs - 4) (drop 4 xs))
+four_texts_and xs d w n e =
+    ap (map (λ x. x.now)) (at_least_four xs d n)
+    ∙ ap (λ t. t ∷ (get_or xs 1 d).now ∷ (get_or xs 2 d).now ∷ (get_or xs 3 d).now ∷ map (λ x. x.now) (drop 4 xs)) e
+    ∙ ap (λ more. w ∷ (get_or xs 1 d).now ∷ (get_or xs 2 d).now ∷ (get_or xs 3 d).now ∷ map (λ (x : Bor (List ℕ)). x.now) more) (sym (take_all (length xs - 4) (drop 4 xs) (omega (arith, length-drop 4 xs))))
+
 at_least_three : {X : Type 0} (xs : List X) (d : X) → 3 ≤ length xs → xs ≡ get_or xs 0 d ∷ get_or xs 1 d ∷ get_or xs 2 d ∷ drop 3 xs
 at_least_three [] d h = absurd (omega arith)
 at_least_three (a ∷ []) d h = absurd (omega arith)

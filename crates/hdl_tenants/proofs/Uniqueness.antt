@@ -8,7 +8,8 @@ use Rattle.hdl_value.specs.declared.value.Value.{Value}
 use Rattle.hdl_tenants.specs.declared.fault.TenantFault.{TenantFault}
 use Rattle.hdl_tenants.specs.declared.fault.TenantFault.TheVariants.{BadLine, TwicePrefix, TwicePublisher, TooMany, Memory}
 use Rattle.hdl_tenants.specs.Register.{Publisher, Register, names_of}
-use Rattle.hdl_tenants.specs.Lines.{fields_of, algorithm_in, IsPublisherLine, IsPrefixLine, IsValueLine, IsValueText}
+use Rattle.hdl_tenants.specs.Lines.{fields_of, algorithm_in, IsPublisherLine, IsPrefixLine, IsValueLine, IsValueText, wire_in}
+use Rattle.hdl_value.specs.declared.wire.Wire.{Wire}
 use Rattle.hdl_tenants.specs.Text.{Line, skipped, publisher, hosted, opened, IsLine, IsSkipped, IsKnown, IsAllowed, HasFault, Adds, AddsAll, register_after}
 use Rattle.hdl_tenants.proofs.Texts.{one_text}
 use Rattle.hdl_tenants.proofs.Sayings.{prefix_or_value}
@@ -26,15 +27,20 @@ skipped_first (x ∷ xs) y field more (inr s) e =
     let no : (x == 32) ≡ false = rw same refl in
     sym (first_of x y (fields_of xs) field more (sym (slice_split-cons_no (λ b. b == 32) x xs no) ∙ e)) ∙ same
 
+one_wire : (a b : Wire) → Some a ≡ Some b → a ≡ b
+one_wire a b e = cc
+
 one_publisher : (fields : List (List ℕ)) (p q : Publisher) → IsPublisherLine fields p → IsPublisherLine fields q → p ≡ q
 one_publisher fields p q a b =
-    let same : codes "publisher" ∷ p.name ∷ a.lanes_text ∷ a.port_text ∷ [] ≡ codes "publisher" ∷ q.name ∷ b.lanes_text ∷ b.port_text ∷ [] = sym a.split ∙ b.split in
+    let same : codes "publisher" ∷ p.name ∷ a.lanes_text ∷ a.port_text ∷ a.more ≡ codes "publisher" ∷ q.name ∷ b.lanes_text ∷ b.port_text ∷ b.more = sym a.split ∙ b.split in
     let names : p.name ≡ q.name = cc in
     let lanes_texts : a.lanes_text ≡ b.lanes_text = cc in
     let port_texts : a.port_text ≡ b.port_text = cc in
     let lanes : p.lanes ≡ q.lanes = a.lanes_read.value ∙ ap (digits_value 10) lanes_texts ∙ sym b.lanes_read.value in
     let ports : p.port ≡ q.port = a.port_read.value ∙ ap (digits_value 10) port_texts ∙ sym b.port_read.value in
-    λ i. record { name = names i; lanes = lanes i; port = ports i }
+    let others : a.more ≡ b.more = cc in
+    let wires : p.wire ≡ q.wire = one_wire p.wire q.wire (sym a.layout ∙ ap wire_in others ∙ b.layout) in
+    λ i. record { name = names i; lanes = lanes i; port = ports i; wire = wires i }
 
 one_hash : (a b : Algorithm) → Some a ≡ Some b → a ≡ b
 one_hash a b e = cc
@@ -59,16 +65,15 @@ one_value_said fields h g v w a b =
 -- the first words differ
 publisher_or_prefix : (fields : List (List ℕ)) (p : Publisher) (q n : List ℕ) (c : Algorithm) → IsPublisherLine fields p → IsPrefixLine fields q n c → ⊥
 publisher_or_prefix fields p q n c a b =
-    let same : codes "publisher" ∷ p.name ∷ a.lanes_text ∷ a.port_text ∷ [] ≡ codes "prefix" ∷ q ∷ n ∷ b.more = sym a.split ∙ b.split in
+    let same : codes "publisher" ∷ p.name ∷ a.lanes_text ∷ a.port_text ∷ a.more ≡ codes "prefix" ∷ q ∷ n ∷ b.more = sym a.split ∙ b.split in
     let words : codes "publisher" ≡ codes "prefix" = cc in
     absurd (omega (arith, ap length words))
 
--- four fields are not three
+-- four fields and more are not three
 publisher_or_value : (fields : List (List ℕ)) (p : Publisher) (h : List ℕ) (v : Value) → IsPublisherLine fields p → IsValueLine fields h v → ⊥
 publisher_or_value fields p h v a b =
-    let four : length fields ≡ 4 = ap length a.split in
     let three : length fields ≡ 3 = ap length b.split in
-    absurd (omega arith)
+    absurd (omega (arith, ap length a.split, three))
 
 -- what is skipped is no line of another kind
 skipped_or : (text : List ℕ) (line : Line) → IsSkipped text → IsLine text line → line ≡ skipped

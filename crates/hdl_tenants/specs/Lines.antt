@@ -8,6 +8,8 @@ use Rattle.hdl_auth.specs.declared.algorithm.Algorithm.{Algorithm}
 use Rattle.hdl_auth.specs.declared.algorithm.Algorithm.TheVariants.{Sha1, Sha256}
 use Rattle.hdl_name.specs.Name.{IsHandle}
 use Rattle.hdl_value.specs.declared.value.Value.{Value}
+use Rattle.hdl_value.specs.declared.wire.Wire.{Wire}
+use Rattle.hdl_value.specs.declared.wire.Wire.TheVariants.{Profile, HandleNet}
 use Rattle.hdl_value.specs.Fault.{Begins, IsSound}
 use Rattle.hdl_tenants.specs.Register.{Publisher, IsPublisher, IsPrefix}
 
@@ -21,11 +23,19 @@ pub record IsDecimal (digits : List ℕ) (n : ℕ) : Type 0 where
   pub value : n ≡ digits_value 10 digits
   pub fits : n < 2 ^ 16
 
--- `publisher NAME LANES PORT`
+-- the layout by the fields behind a publisher's port: our profile's where there are none
+abbrev pub wire_in : List (List ℕ) → Option Wire
+wire_in [] = Some Profile
+wire_in (field ∷ []) = if bytes_eq field (codes "handle-net") then Some HandleNet else None
+wire_in (field ∷ _ ∷ _) = None
+
+-- `publisher NAME LANES PORT`, or with a field more for the layout of values
 pub record IsPublisherLine (fields : List (List ℕ)) (p : Publisher) : Type 0 where
   pub lanes_text : List ℕ
   pub port_text : List ℕ
-  pub split : fields ≡ codes "publisher" ∷ p.name ∷ lanes_text ∷ port_text ∷ []
+  pub more : List (List ℕ)
+  pub split : fields ≡ codes "publisher" ∷ p.name ∷ lanes_text ∷ port_text ∷ more
+  pub layout : wire_in more ≡ Some p.wire
   pub lanes_read : IsDecimal lanes_text p.lanes
   pub port_read : IsDecimal port_text p.port
   pub sound : IsPublisher p

@@ -13,7 +13,7 @@ use Rattle.hdl_tenants.specs.Register.{Publisher, Hosting, lane_count}
 
 -- the publisher that a line names
 abbrev pub publisher_on : PublisherLine → Publisher
-publisher_on line = record { name = line.name.now; lanes = line.lanes; port = line.port }
+publisher_on line = record { name = line.name.now; lanes = line.lanes; port = line.port; wire = line.wire }
 
 -- the publisher of a hosting, with the hash function there
 abbrev pub host_in : Hosting → Host
@@ -25,7 +25,7 @@ hosts_of prefix hostings = map host_in (filter (λ h. bytes_eq prefix h.prefix) 
 
 module _ {Z : Type 0} where
   abbrev pub publisher_in : String Z × Shape → Publisher
-  publisher_in e = record { name = string_bytes e.0; lanes = e.1.lanes; port = e.1.port }
+  publisher_in e = record { name = string_bytes e.0; lanes = e.1.lanes; port = e.1.port; wire = e.1.wire }
 
   abbrev pub publishers_in : List (String Z × Shape) → List Publisher
   publishers_in entries = map publisher_in entries

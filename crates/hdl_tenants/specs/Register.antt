@@ -1,5 +1,5 @@
 -- What a tenants text says as a whole: publishers, hosted prefixes and opening rows, each in the text's order.
-use Rattle.std.specs.Prelude.{◌≡◌, ◌≢◌, ◌≤◌, ◌<◌, ◌^◌, ◌==◌, ◌&&◌, ◌||◌, ◌-◌, ◌+◌, ℕ, Bool, List, [], ◌∷◌, length, take, codes, map, sum_by, count_by, All, AllPairs, Contains, Option, Some, None, nat_lt, if◌then◌else◌, find}
+use Rattle.std.specs.Prelude.{◌≡◌, ◌≢◌, ◌≤◌, ◌<◌, ◌^◌, ◌==◌, ◌&&◌, ◌||◌, ◌-◌, ◌+◌, ℕ, Bool, List, [], ◌∷◌, length, take, codes, map, sum_by, count_by, All, AllPairs, Contains, Option, Some, None, nat_lt, if◌then◌else◌, find, slice_get}
 use Rattle.std.specs.List.{AllPass, list_any}
 use Rattle.std.specs.Option.{option_map, option_map_or}
 use Rattle.std.specs.Char.{is_ascii_digit, is_ascii_lowercase}
@@ -9,15 +9,18 @@ use Rattle.hdl_auth.specs.declared.algorithm.Algorithm.{Algorithm}
 use Rattle.hdl_auth.specs.declared.algorithm.Algorithm.TheVariants.{Sha1}
 use Rattle.hdl_name.specs.Name.{IsHandle, IsAuthority, canonical, prefix}
 use Rattle.hdl_value.specs.declared.value.Value.{Value}
+use Rattle.hdl_value.specs.declared.wire.Wire.{Wire}
+use Rattle.hdl_value.specs.declared.wire.Wire.TheVariants.{Profile}
 use Rattle.hdl_value.specs.Place.{Place}
 use Rattle.hdl_value.specs.Spelling.{Fits, CanBeSpelt}
 use Rattle.hdl_value.specs.Fault.{IsSound}
 
--- a publisher: its name, how many lanes it has, and its port
+-- a publisher: its name, how many lanes it has, its port, and by whose layout its lanes speak of values
 pub record Publisher : Type 0 where
   pub name : List ℕ
   pub lanes : ℕ
   pub port : ℕ
+  pub wire : Wire
 
 -- a prefix in canonical form, the place of its publisher among the publishers, and its hash function on that publisher's lanes
 pub record Hosting : Type 0 where
@@ -57,6 +60,13 @@ owner r lane = owner_among r.publishers lane
 -- the first lane of the publisher at this place, behind the lanes of those before it
 abbrev pub first_lane : List Publisher → ℕ → ℕ
 first_lane publishers place = lane_count (take place publishers)
+
+-- by whose layout the lanes of the publisher at this place speak of values, our profile's where there is none
+abbrev pub wire_among : List Publisher → ℕ → Wire
+wire_among publishers place = option_map_or (λ p. p.wire) (slice_get publishers place) Profile
+
+abbrev pub wire : Register → ℕ → Wire
+wire r publisher = wire_among r.publishers publisher
 
 -- whether one of these gives the prefix to the publisher at this place
 abbrev pub hosts_among : List Hosting → ℕ → List ℕ → Bool

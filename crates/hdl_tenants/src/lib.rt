@@ -15,9 +15,9 @@
 //!
 //! ```rust
 //! // crates/hdl_vectors/src/tenants.rt
-//! match tenants.publisher(place) {
-//!     Some((name, lanes, port)) => println!(rt; "  publisher {name} {lanes} {port}")?,
-//!     None => println!(rt; "  no publisher {place}")?,
+//! match tenants.lanes_of(place) {
+//!     Some((first, last)) => println!(rt; "    lanes {first} to {last}"),
+//!     None => println!(rt; "    no lanes"),
 //! }
 //! ```
 //!
@@ -26,12 +26,14 @@
 //! - **A prefix of several publishers is found by the prefix, with the list of its publishers beside it**, since a look-up takes no memory
 //!   and a key of prefix and publisher would have to be put together. The lines' order stands in a vector of its own, which is what
 //!   contracts see; the invariant is that each list is the publishers of its prefix in that vector (`KeepsHostings`).
-//! - **Whether a prefix is hosted and its hash function there are one answer** (`Tenants::algorithm`), since a request needs both and a look-up is dear.
+//! - **Whether a prefix is hosted and its hash function there are one answer** (`Tenants::hosting`), since a request needs both and a look-up is dear.
+//!   `hosts` and `algorithm` give one of the two.
 //! - **Accepted tenants texts are said by a relation from one register to the next**, line by line, and a register keeps places and counts
 //!   beside it only while a text is read, so that reading takes time linear in the text.
 #![tactic(auto)]
 
 mod fault;
+mod hosting;
 mod laws;
 mod lines;
 mod numerals;

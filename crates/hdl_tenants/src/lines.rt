@@ -8,7 +8,7 @@ ghost use Rattle.hdl_value.specs.declared.value.Value.{Value};
 ghost use Rattle.hdl_tenants.specs.Register as register;
 ghost use Rattle.hdl_tenants.specs.Register.{IsPublisherName, IsPrefix};
 ghost use Rattle.hdl_tenants.specs.Lines as lines;
-ghost use Rattle.hdl_tenants.specs.Lines.{IsPublisherLine, IsPrefixLine, IsValueText, algorithm_in, algorithm_named};
+ghost use Rattle.hdl_tenants.specs.Lines.{IsPublisherLine, IsPrefixLine, IsValueText, algorithm_in, algorithm_named, wire_in};
 ghost use Rattle.hdl_tenants.specs.Text.{IsSkipped};
 ghost use Rattle.hdl_tenants.specs.Steps.{IsNameFault, IsDigitsFault};
 
@@ -17,16 +17,17 @@ use crate::numerals::decimal_u16;
 use hdl_auth::algorithm::Algorithm;
 use hdl_limits::{LANES, PUBLISHER_NAME_MAX};
 use hdl_name::{Name, is_authority, is_name};
-use hdl_value::{Value, ValueFault, read_value};
+use hdl_value::{Value, ValueFault, Wire, read_value};
 use hex::FromHexError;
 use std::alloc::{AllocError, Global};
 
-/// A publisher as its line names it: its name, how many lanes it has, and its port.
+/// A publisher as its line names it: its name, how many lanes it has, its port, and the layout of values on its lanes.
 #[derive(Clone, Copy)]
 pub struct PublisherLine<'a> {
     pub name: &'a str,
     pub lanes: u16,
     pub port: u16,
+    pub wire: Wire,
 }
 
 /// A prefix, the name of its publisher, and its hash function on that publisher's lanes.
@@ -71,12 +72,29 @@ fn is_prefix(text: &str) -> bool
     is_authority(text) && is_lower(text) && text != "0.na"
 }
 
-/// What the fields of a line `publisher NAME LANES PORT` say.
+/// The layout by the fields behind a publisher's port.
+fn wire_in(fields: &[&str]) -> Option<Wire>
+    ensures { result ≡ wire_in (map (λ field. field.now) fields.now) }
+{
+    match fields {
+        [] => Some(Wire::Profile),
+        [field] => {
+            if *field == "handle-net" {
+                Some(Wire::HandleNet)
+            } else {
+                None
+            }
+        }
+        _ => None,
+    }
+}
+
+/// What the fields of a line `publisher NAME LANES PORT`, or of one with a field more, say.
 pub fn publisher_of<'a>(fields: &[&'a str]) -> Option<PublisherLine<'a>>
     ensures { MatchOption result ((p : register.Publisher) → ¬ IsPublisherLine (map (λ field. field.now) fields.now) p)
-        (λ p. IsPublisherLine (map (λ field. field.now) fields.now) (record { name = p.name.now; lanes = p.lanes; port = p.port })) }
+        (λ p. IsPublisherLine (map (λ field. field.now) fields.now) (record { name = p.name.now; lanes = p.lanes; port = p.port; wire = p.wire })) }
 {
-    let [word, name, lanes, port] = fields else {
+    let [word, name, lanes, port, more @ ..] = fields else {
         return None;
     };
     if *word != "publisher" || !is_publisher_name(name) {
@@ -87,7 +105,13 @@ pub fn publisher_of<'a>(fields: &[&'a str]) -> Option<PublisherLine<'a>>
     if lanes < 2 || lanes as usize > LANES || port == 0 {
         return None;
     }
-    Some(PublisherLine { name, lanes, port })
+    let wire = wire_in(more)?;
+    Some(PublisherLine {
+        name,
+        lanes,
+        port,
+        wire,
+    })
 }
 
 /// The hash function that a field names: `2` or `3`.

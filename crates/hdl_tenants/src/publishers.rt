@@ -1,7 +1,7 @@
 //! The publishers of a tenants text, in its order.
 
 ghost use Rattle.std.specs.Prelude.{◌≡◌, ◌+◌, ◌<◌, ◌≤◌, [], ◌∷◌, ◌++◌, length, Contains, IfErr, IfSome, IfNone, MatchOption, OnOk, OnErr, slice_get};
-ghost use Rattle.hdl_tenants.specs.Register.{names_of, lane_count, owner_among, first_lane};
+ghost use Rattle.hdl_tenants.specs.Register.{names_of, lane_count, owner_among, first_lane, wire_among};
 ghost use Rattle.hdl_tenants.specs.Steps.{IsPublisherFault};
 ghost use Rattle.hdl_tenants.specs.Text.{place_of};
 ghost use Rattle.hdl_tenants.specs.Record.{publisher_on};
@@ -9,6 +9,7 @@ ghost use Rattle.hdl_tenants.specs.Record.{publisher_on};
 use crate::fault::TenantFault;
 use crate::lines::PublisherLine;
 use hdl_limits::LANES;
+use hdl_value::Wire;
 use indexmap::IndexMap;
 use std::alloc::Global;
 use std::marker::Model;
@@ -18,6 +19,7 @@ use std::marker::Model;
 pub struct Shape {
     pub lanes: u16,
     pub port: u16,
+    pub wire: Wire,
 }
 
 /// Publishers in the order of their lines. They have at most 64 lanes together.
@@ -67,6 +69,7 @@ impl Publishers {
         let shape = Shape {
             lanes: line.lanes,
             port: line.port,
+            wire: line.wire,
         };
         let Ok(name) = String::from_str(alloc, line.name) else {
             return Err(TenantFault::Memory);
@@ -102,13 +105,23 @@ impl Publishers {
         self.by_name.get_index_of(name)
     }
 
-    /// Name, lanes and port of the publisher at this place.
-    pub fn get(&self, place: usize) -> Option<(&str, u16, u16)>
+    /// Name, lanes, port and layout of the publisher at this place.
+    pub fn get(&self, place: usize) -> Option<(&str, u16, u16, Wire)>
         ensures { MatchOption result (slice_get self.now place ≡ None)
-            (λ p. slice_get self.now place ≡ Some (record { name = p.0.now; lanes = p.1; port = p.2 })) }
+            (λ p. slice_get self.now place ≡ Some (record { name = p.0.now; lanes = p.1; port = p.2; wire = p.3 })) }
     {
         let (name, shape) = self.by_name.get_index(place)?;
-        Some((name.as_str(), shape.lanes, shape.port))
+        Some((name.as_str(), shape.lanes, shape.port, shape.wire))
+    }
+
+    /// By whose layout the lanes of the publisher at this place speak of values: our profile's where there is none.
+    pub fn wire(&self, place: usize) -> Wire
+        ensures { result ≡ wire_among self.now place }
+    {
+        match self.get(place) {
+            Some((_, _, _, wire)) => wire,
+            None => Wire::Profile,
+        }
     }
 
     /// The first lane of the publisher at this place.

@@ -20,7 +20,7 @@ use crate::publishers::Publishers;
 use crate::taken::TakenPlaces;
 use hdl_auth::algorithm::Algorithm;
 use hdl_name::Name;
-use hdl_value::Value;
+use hdl_value::{Value, Wire};
 use std::alloc::Global;
 use std::marker::Model;
 
@@ -142,6 +142,7 @@ impl Tenants {
     /// lines that begin with `#` are skipped; the fields of the others are divided by single spaces:
     ///
     /// ```text
+    /// publisher NAME LANES PORT WIRE    the same; its lanes speak by the layout WIRE, handle-net
     /// publisher NAME LANES PORT    NAME is 1 to 32 of a-z, 0-9 and -; LANES is 2 to 64; PORT is 1 to 65535
     /// prefix PREFIX NAME           PREFIX is a naming authority in canonical form, other than 0.na; NAME stands before;
     /// prefix PREFIX NAME HASH      several publishers may have one prefix. HASH is 2 for SHA-1, as where there is none, or 3
@@ -186,11 +187,18 @@ impl Tenants {
 
     /// The hash function of the name's prefix on the lanes of the publisher at this place, if its whole prefix, in canonical
     /// form, is hosted for it. None where it isn't.
-    pub fn algorithm(&self, publisher: usize, name: &Name) -> Option<Algorithm>
+    pub fn hosting(&self, publisher: usize, name: &Name) -> Option<Algorithm>
         ensures hosted { is_some result ≡ register.hosts self.now publisher (prefix name.now) }
         ensures algorithm { unwrap_or result Algorithm.Sha1 ≡ register.algorithm self.now publisher (prefix name.now) }
     {
         self.prefixes.algorithm(publisher, name.prefix())
+    }
+
+    /// By whose layout the lanes of the publisher at this place speak of values.
+    pub fn wire(&self, publisher: usize) -> Wire
+        ensures { result ≡ register.wire self.now publisher }
+    {
+        self.publishers.wire(publisher)
     }
 
     /// How many publishers there are.
@@ -203,9 +211,10 @@ impl Tenants {
     /// Name, number of lanes and port of the publisher at this place, if there is one.
     pub fn publisher(&self, place: usize) -> Option<(&str, u16, u16)>
         ensures { MatchOption result (slice_get self.now.publishers place ≡ None)
-            (λ p. slice_get self.now.publishers place ≡ Some (record { name = p.0.now; lanes = p.1; port = p.2 })) }
+            (λ p. slice_get self.now.publishers place ≡ Some (record { name = p.0.now; lanes = p.1; port = p.2; wire = register.wire self.now place })) }
     {
-        self.publishers.get(place)
+        let (name, lanes, port, _) = self.publishers.get(place)?;
+        Some((name, lanes, port))
     }
 
     /// The first and the last lane of the publisher at this place, if there is one. The last is the lane of its datagrams, the
@@ -216,7 +225,7 @@ impl Tenants {
         ensures there { IsSome result ↔ (place < length self.now.publishers) }
     {
         let first = self.publishers.first_lane(place)?;
-        let (_, lanes, _) = self.publishers.get(place)?;
+        let (_, lanes, _, _) = self.publishers.get(place)?;
         Some((first, first + lanes - 1))
     }
 

@@ -1,5 +1,5 @@
 use crate::assertion::same;
-use hdl_cache::KeptMasks;
+use hdl_cache::Masks;
 use hdl_name::Name;
 use hdl_value::{AdminMask, Reference};
 use std::alloc::Global;
@@ -14,7 +14,7 @@ fn key(alloc: Global, index: u32) -> Result<Reference, Fail> {
 
 #[test]
 fn what_is_kept_is_found(rt: HostRuntime) -> Result<(), Fail> {
-    let mut masks = KeptMasks::new(rt.alloc())?;
+    let mut masks = Masks::new(rt.alloc())?;
     let name = Name::read(rt.alloc(), b"10.ABC/c")?;
     let key = key(rt.alloc(), 3)?;
     same(&rt, "found", masks.find(&name, &key)?, None);
@@ -33,7 +33,7 @@ fn what_is_kept_is_found(rt: HostRuntime) -> Result<(), Fail> {
 
 #[test]
 fn that_there_is_no_mask_is_kept(rt: HostRuntime) -> Result<(), Fail> {
-    let mut masks = KeptMasks::new(rt.alloc())?;
+    let mut masks = Masks::new(rt.alloc())?;
     let name = Name::read(rt.alloc(), b"10/c")?;
     let other = Name::read(rt.alloc(), b"10/d")?;
     let key = key(rt.alloc(), 3)?;
@@ -46,7 +46,7 @@ fn that_there_is_no_mask_is_kept(rt: HostRuntime) -> Result<(), Fail> {
 /// Keeps a mask, or that there is none, of the key at this index.
 fn keep(
     alloc: Global,
-    masks: &mut KeptMasks,
+    masks: &mut Masks,
     name: &Name,
     index: u32,
     mask: Option<AdminMask>,
@@ -58,7 +58,7 @@ fn keep(
 /// What is kept of the key at this index.
 fn find(
     alloc: Global,
-    masks: &mut KeptMasks,
+    masks: &mut Masks,
     name: &Name,
     index: u32,
 ) -> Result<Option<Option<AdminMask>>, Fail> {
@@ -69,7 +69,7 @@ fn find(
 #[test]
 fn the_least_recently_used_goes(rt: HostRuntime) -> Result<(), Fail> {
     let alloc = rt.alloc();
-    let mut masks = KeptMasks::new(alloc)?;
+    let mut masks = Masks::new(alloc)?;
     let name = Name::read(alloc, b"10/c")?;
     for index in 1..=256 {
         keep(alloc, &mut masks, &name, index, Some(AdminMask(1)))?;

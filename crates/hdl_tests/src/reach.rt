@@ -5,7 +5,7 @@ ghost use Rattle.std.specs.Prelude.{◌≡◌, IfOk};
 use crate::assertion::same;
 use crate::made::value;
 use hdl_name::Name;
-use hdl_reach::Search;
+use hdl_reach::mask;
 use hdl_rows::{Fuse, PlainRows, Refused, Rows};
 use hdl_value::{AdminMask, Reference, Value, put_string, put_u32};
 use std::alloc::{AllocError, Global};
@@ -63,21 +63,6 @@ fn table(rt: &impl Abort, alloc: Global, values: &[Row]) -> Result<PlainRows, Fa
         )?;
     }
     Ok(rows)
-}
-
-/// The mask of one key, by a search of its own to the end.
-fn mask<R: Rows>(
-    alloc: Global,
-    rows: &mut R,
-    name: &Name,
-    key: &Reference,
-) -> Result<Option<AdminMask>, Refused> {
-    let search = Search::begin(alloc, rows, name)?;
-    let search = search.go_on(alloc, rows, usize::MAX)?;
-    match search.mask(alloc, key) {
-        Ok(mask) => Ok(mask),
-        Err(_) => Err(Refused),
-    }
 }
 
 /// Sees that these are the masks of the references for a handle.

@@ -12,14 +12,14 @@ use hdl_msg::ResponseCode;
 /// The code of success.
 const SUCCESS: u32 = ResponseCode::Success as u32;
 
-/// How many pieces a message of so many octets has.
+/// How many pieces a message of `length` octets has.
 fn piece_count(length: u32) -> u64
     ensures { result ≡ piece_count length }
 {
     u64::from(length.div_ceil(PIECE_LEN))
 }
 
-/// How many datagrams carry a reply whose message has so many octets.
+/// How many datagrams carry a reply whose message has `length` octets.
 fn datagram_count(length: u32) -> u64
     ensures { result ≡ datagram_count length }
 {
@@ -30,7 +30,7 @@ fn datagram_count(length: u32) -> u64
     }
 }
 
-/// The octets of a message of so many in this many datagrams.
+/// The octets of a message of this many in this many datagrams.
 fn octets_in(count: u64, length: u32) -> u128
     ensures { result ≡ octets_in count length }
 {
@@ -50,7 +50,7 @@ impl Exchange {
         octets_in(count, self.length)
     }
 
-    /// Whether a reply whose message has so many octets is one datagram, or has at most so many times the octets that asked, envelopes with both.
+    /// Whether a reply whose message has this many octets is one datagram, or has at most this many times the octets that asked, envelopes with both.
     pub(crate) fn is_within(&self, times: u32, length: u32) -> bool
         ensures { result ≡ is_within times length self.now }
     {

@@ -19,7 +19,7 @@ pub struct Exchange {
     pub reply: Option<(u32, u32)>,
 }
 
-/// The number in the four octets from this place on, if there are so many.
+/// The number in the four octets from this place on, if there are this many.
 fn number_at(octets: &[u8], place: usize) -> Option<u32>
     ensures { result ≡ number_at octets.now place }
 {
@@ -72,7 +72,7 @@ impl Exchange {
         }
     }
 
-    /// With a datagram of the reply to it.
+    /// The exchange with a datagram of its reply.
     pub(crate) fn with_reply(self, datagram: &[u8]) -> Exchange
         ensures { result ≡ with_reply datagram.now self }
     {

@@ -20,7 +20,7 @@ pub struct Mark {
     pub key: MessageKey,
     /// How many octets the message has.
     pub length: u32,
-    /// Its operation, once the piece came in which that stands.
+    /// The message's operation, once the piece that holds it came.
     pub operation: Option<u32>,
 }
 
@@ -60,7 +60,7 @@ impl Mark {
     }
 }
 
-/// A challenge: to whom it was sent, and under which number of the lane, which is its SessionId.
+/// A challenge: the peer that it was sent to, and its number on the lane, which is its SessionId.
 #[derive(Clone, Copy, Default)]
 pub struct SentChallenge {
     pub number: u16,
@@ -76,7 +76,7 @@ impl SentChallenge {
     }
 }
 
-/// Puts one behind the others, of which the oldest goes where there are as many as may be.
+/// Puts one after the others, of which the oldest goes where there are as many as may be.
 pub(crate) fn put<T: Default + Drop, const N: usize>(kept: &mut ArrayVec<T, N>, newest: T)
     requires { 0 < N }
     ensures put { kept.new.items ≡ put_behind N kept.old.items newest }

@@ -33,7 +33,7 @@ impl<A> Model for Peers<A> {
 }
 
 impl<A: Eq + Copy> Peers<A> {
-    /// No peers yet, and nothing is kept.
+    /// Peers of which none is known.
     pub fn new(alloc: Global) -> Peers<A>
         ensures { result ≡ record { known = []; followed = record { partials = []; challenges = [] }; under_way = [] } }
     {
@@ -67,7 +67,7 @@ impl<A: Eq + Copy> Peers<A> {
         self.trail.free_place(self.known.len())
     }
 
-    /// Gives the number behind this place, under which nothing is kept or under way, to the address.
+    /// Gives the number after this place, under which nothing is kept or under way, to the address.
     fn seat(&mut self, place: usize, from: A) -> u16
         requires place { place < length self.old.known }
         requires free { IsFalse (holds self.old (place + 1)) }
@@ -93,7 +93,7 @@ impl<A: Eq + Copy> Peers<A> {
         Ok(place as u16 + 1)
     }
 
-    /// Octets came from this address: the number under which they come, which is the address's until their reply is whole, and longer while something is kept
+    /// Notes octets that came from this address. The number under which they come, which is the address's until their reply is whole, and longer while something is kept
     /// under it. None where they are no frame; then nothing changes. Where as many frames are under way as may be, the oldest is settled first; memory that is
     /// refused changes no more than that.
     pub fn note_octets(&mut self, from: A, octets: &[u8]) -> Result<Option<u16>, AllocError>
@@ -140,7 +140,7 @@ impl<A: Eq + Copy> Peers<A> {
         self.trail.finish_oldest();
     }
 
-    /// Whether a reply to the oldest frame whose message has so many octets is one datagram, or has in all its datagrams at most so many times
+    /// Whether a reply to the oldest frame whose message has this many octets is one datagram, or has in all its datagrams at most this many times
     /// the octets that asked. False where nothing came.
     pub fn is_within(&self, times: u32, length: u32) -> bool
         ensures { result ≡ is_within_last times length (oldest self.now.under_way) }

@@ -51,7 +51,7 @@ pub struct Trail {
 }
 
 impl Trail {
-    /// Of a lane of which nothing is kept.
+    /// The trail of a lane of which nothing is kept.
     pub fn new() -> Trail
         ensures followed { followed_by result ≡ record { partials = []; challenges = [] } }
         ensures under_way { result.under_way.items ≡ [] }
@@ -94,7 +94,7 @@ impl Trail {
         challenges.any(|sent| sent.number == number)
     }
 
-    /// The place of the first of so many numbers, from 1 on, under which nothing is kept or under way. Where there is none so many are, at least.
+    /// The place of the first of the numbers 1 to `count` that is free. None: `count` numbers are in use, at least.
     pub fn free_place(&self, count: usize) -> Option<usize>
         requires { count ≤ PEERS_MAX }
         ensures free { IfSome result (λ place. (place < count) × IsFalse (is_held (followed_by self.now) (place + 1) || is_under_way self.now.under_way.items (place + 1))) }
@@ -133,7 +133,7 @@ impl Trail {
         self.under_way.as_slice().first().copied()
     }
 
-    /// A frame came from whoever has the number.
+    /// Notes a frame that came from the peer with this number.
     pub(crate) fn note_frame(&mut self, number: u16, frame: &Frame<'_>)
         requires room { length self.old.under_way.items < UNDER_WAY_MAX }
         ensures followed { followed_by self.new ≡ followed_by self.old }
@@ -152,7 +152,7 @@ impl Trail {
         }
     }
 
-    /// Whether a reply to the oldest frame whose message has so many octets is one datagram, or has at most so many times the octets that asked.
+    /// Whether a reply to the oldest frame whose message has `length` octets is one datagram, or has at most `times` times the octets that asked.
     pub fn is_within(&self, times: u32, length: u32) -> bool
         ensures { result ≡ is_within_last times length (oldest self.now.under_way.items) }
     {

@@ -1,10 +1,11 @@
 -- The test of soundness says what soundness is.
-use Rattle.std.proofs.Common.{◌≡◌, ◌≢◌, arith, Result, Ok, Err, ◌<◌, ◌≤◌, Bool, true, false, cond, ltb, leb, length, Option, Some, None, is_some, refl, sym, Decides}
+use Rattle.std.proofs.Common.{◌≡◌, ◌≢◌, arith, Result, Ok, Err, ◌<◌, ◌≤◌, ℕ, List, Bool, true, false, cond, ltb, leb, length, Option, Some, None, is_some, refl, sym, Decides}
 use Rattle.std.specs.Prelude.{MatchResult}
 use Rattle.std.specs.Result.{is_ok}
 use Rattle.std.proofs.lemmas.Bool.{false_from_ne_true, ltb-true, lt-ltb, leb-true, le-leb}
 use Rattle.std.proofs.lemmas.Bool.Decides.{Decides-and}
 use Rattle.std.proofs.lemmas.Slice.Eq.{bytes_eq-Decides}
+use Rattle.hdl_limits.specs.Octets.{AreOctets}
 use Rattle.hdl_value.specs.declared.value.Value.{Value}
 use Rattle.hdl_value.specs.declared.fault.ValueFault.{ValueFault}
 use Rattle.hdl_value.specs.declared.fault.ValueFault.TheVariants.{Short, IndexZero, TypeLong, DataLong, RefsMany, BadAdmin, BadList, Memory}
@@ -43,6 +44,9 @@ data_decides v fits =
     (some_decides (admin_in v.bytes) (HasAdminData v.bytes) (λ x e. (x.0, x.1, admin_in_is v.bytes x.0 x.1 fits.bytes.each e)) (λ h. ((h.0, h.1), admin_in_again v.bytes h.0 h.1 h.2))))
     (implies_decides (is_list v) (is_some (list_in v.bytes)) (v.kind ≡ list_kind) (HasListData v.bytes) (bytes_eq-Decides v.kind list_kind)
     (some_decides (list_in v.bytes) (HasListData v.bytes) (λ rs e. (rs, list_in_is v.bytes rs fits.bytes.each e)) (λ h. (h.0, list_in_again v.bytes h.0 h.1))))
+
+pub admin_data_decides : (bytes : List ℕ) → AreOctets bytes → Decides (is_some (admin_in bytes)) (HasAdminData bytes)
+admin_data_decides bytes each = some_decides (admin_in bytes) (HasAdminData bytes) (λ x e. (x.0, x.1, admin_in_is bytes x.0 x.1 each e)) (λ h. ((h.0, h.1), admin_in_again bytes h.0 h.1 h.2))
 
 pub sound_decides : (v : Value) → Fits v → Decides (is_sound v) (IsSound v)
 sound_decides v fits =

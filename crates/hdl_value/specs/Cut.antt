@@ -8,8 +8,7 @@ use Rattle.hdl_value.specs.declared.references.RawReferences.{RawReferences}
 use Rattle.hdl_value.specs.declared.value.Value.{Value}
 use Rattle.hdl_value.specs.declared.cut.RawValue.{RawValue}
 use Rattle.hdl_value.specs.Reading.{number_at, pair_at, many_at}
-use Rattle.hdl_value.specs.Spelling.{ref_at}
-use Rattle.hdl_value.specs.Fault.{Begins}
+use Rattle.hdl_value.specs.Spelling.{ref_at, Fits}
 
 -- a mask and a reference
 unfoldable pub admin_at : List ℕ → Option ((ℕ × RawRef) × List ℕ)
@@ -32,7 +31,7 @@ pub record IsWhole (r : RawReferences) : Type 0 where
   pub count : length (refs_view r) ≡ r.count
   pub all : many_at ref_at r.count r.octets.now ≡ Some (refs_view r, [])
 
--- the fields stand in these octets, and nothing else does
-pub record IsCut (octets : List ℕ) (v : RawValue) : Type 0 where
-  pub spelt : Begins octets (value_view v) []
+-- the fields are those of a value that was cut
+pub record IsCut (v : RawValue) : Type 0 where
+  pub fits : Fits (value_view v)
   pub whole : IsWhole v.references

@@ -1,20 +1,25 @@
 //! Values where they stand in octets, cut by layout alone. Nothing is copied.
 
-ghost use Rattle.std.specs.Prelude.{◌≡◌, ◌≢◌, IfOk, IfErr, IfSome, MatchResult, is_ok};
-ghost use Rattle.hdl_value.specs.Spelling.{spelling, value_at};
+ghost use Rattle.std.specs.Prelude.{◌≡◌, ◌≢◌, ◌≤◌, ◌++◌, length, IfOk, IfErr, IfSome, OnOk, MatchResult, is_ok};
+ghost use Rattle.hdl_value.specs.Spelling.{spelling, value_at, references};
+ghost use Rattle.hdl_value.specs.HandleNet.{second_at, net_value_at};
 ghost use Rattle.hdl_value.specs.Reading.{Reads, octets_at};
-ghost use Rattle.hdl_value.specs.Cut.{value_view, IsWhole};
+ghost use Rattle.hdl_value.specs.Cut.{value_view, refs_view, IsWhole};
 ghost use Rattle.hdl_value.specs.Fault.{IsSound, IsFirstFault};
 ghost use Rattle.hdl_value.specs.Refs.{is_admin};
 ghost use Rattle.hdl_value.specs.Tests.{is_sound};
+ghost use Rattle.hdl_value.specs.Padding.{stored_by, stored_data};
 
+use crate::data::without_padding;
 use crate::fault::ValueFault;
-use crate::fields::{octet_at, string_at, u32_at, u64_at};
+use crate::fields::{octet_at, put_string, put_u32, put_u64, string_at, u32_at, u64_at};
+use crate::fits::{octets_fit, string_fits};
 use crate::kinds::HS_ADMIN;
 use crate::read::{check, copy_of};
 use crate::references::{RawReferences, references_at};
 use crate::value::Value;
-use std::alloc::Global;
+use crate::wire::Wire;
+use std::alloc::{AllocError, Global};
 use std::marker::Model;
 
 /// The fields of a value where they stand.
@@ -29,10 +34,9 @@ pub(crate) struct RawValue<'a> {
     pub references: RawReferences<'a>,
 }
 
-/// A value where it stands, seen as that value. Its fields may break the limits, and its data may be bad.
+/// A value where it stands, seen as that value, whichever layout it was cut by. Its fields may break the limits, and its data may be bad.
 #[derive(Drop)]
 pub struct CutValue<'a> {
-    octets: &'a [u8],
     fields: RawValue<'a>,
 }
 
@@ -44,7 +48,7 @@ impl<'a> Model for CutValue<'a> {
 
     ghost view = { λ c. value_view c.fields };
 
-    ghost invariant = { λ c. IsCut c.octets.now c.fields };
+    ghost invariant = { λ c. IsCut c.fields };
 }
 
 fn ttl_at(octets: &[u8]) -> Option<([u8; 5], &[u8])>
@@ -84,16 +88,86 @@ pub fn cut_value(octets: &[u8]) -> Option<(CutValue<'_>, &[u8])>
     ensures { Reads (λ x. (x.0, x.1.now)) result (value_at octets.now) }
 {
     let (fields, rest) = fields_at(octets)?;
-    let (octets, _) = octets.split_at(octets.len() - rest.len());
-    Some((CutValue { octets, fields }, rest))
+    Some((CutValue { fields }, rest))
+}
+
+/// The moment at which the second in the first four octets begins, and what follows.
+#[tactic(auto, unfolding(crate::specs::HandleNet::second_at))]
+fn second_at(octets: &[u8]) -> Option<(u64, &[u8])>
+    ensures { Reads (λ x. (x.0, x.1.now)) result (second_at octets.now) }
+{
+    let (second, rest) = u32_at(octets)?;
+    Some((second as u64 * 1000, rest))
+}
+
+#[tactic(auto, unfolding(crate::specs::HandleNet::net_value_at))]
+fn net_fields_at(octets: &[u8]) -> Option<(RawValue<'_>, &[u8])>
+    ensures reads { Reads (λ x. (value_view x.0, x.1.now)) result (net_value_at octets.now) }
+    ensures whole { IfSome result (λ x. IsWhole x.0.references) }
+{
+    let (index, rest) = u32_at(octets)?;
+    let (timestamp, rest) = second_at(rest)?;
+    let (ttl, rest) = ttl_at(rest)?;
+    let (permissions, rest) = octet_at(rest)?;
+    let (kind, rest) = string_at(rest)?;
+    let (bytes, rest) = string_at(rest)?;
+    let (refs, rest) = references_at(rest)?;
+    let value = RawValue {
+        index,
+        kind,
+        bytes,
+        ttl,
+        permissions,
+        timestamp,
+        references: refs,
+    };
+    Some((value, rest))
+}
+
+/// The same by the layout of the Handle.Net software.
+pub(crate) fn cut_net_value(octets: &[u8]) -> Option<(CutValue<'_>, &[u8])>
+    ensures { Reads (λ x. (x.0, x.1.now)) result (net_value_at octets.now) }
+{
+    let (fields, rest) = net_fields_at(octets)?;
+    Some((CutValue { fields }, rest))
+}
+
+fn put_cut_references(out: &mut Vec<u8>, refs: &RawReferences<'_>) -> Result<(), AllocError>
+    requires { IsWhole refs.now }
+    ensures { OnOk result (out.new.items ≡ out.old.items ++ references (refs_view refs.now)) }
+{
+    octets_fit(refs.octets);
+    put_u32(out, refs.count)?;
+    out.extend_from_slice(refs.octets)?;
+    Ok(())
+}
+
+/// The data that is stored of fields that came by the layout.
+fn stored_data<'a>(wire: Wire, fields: &RawValue<'a>) -> &'a [u8]
+    ensures data { result.now ≡ stored_data wire (value_view fields.now) }
+    ensures short { length result.now ≤ length fields.now.bytes.now }
+{
+    if wire == Wire::HandleNet && fields.kind == HS_ADMIN {
+        without_padding(fields.bytes)
+    } else {
+        fields.bytes
+    }
 }
 
 impl<'a> CutValue<'a> {
-    /// Its octets, those of its one spelling.
-    pub fn octets(&self) -> &'a [u8]
-        ensures { result.now ≡ spelling self.now }
+    /// Puts its one spelling by our profile's layout at the end. After a refusal a part of it may stand there.
+    pub fn put_spelling(&self, out: &mut Vec<u8>) -> Result<(), AllocError>
+        ensures { OnOk result (out.new.items ≡ out.old.items ++ spelling self.now) }
     {
-        self.octets
+        let fields = &self.fields;
+        put_u32(out, fields.index)?;
+        put_string(out, fields.kind)?;
+        put_string(out, fields.bytes)?;
+        out.extend_from_slice(&fields.ttl)?;
+        out.push(fields.permissions)?;
+        put_u64(out, fields.timestamp)?;
+        put_cut_references(out, &fields.references)?;
+        Ok(())
     }
 
     /// Its index, which may be 0.
@@ -115,6 +189,21 @@ impl<'a> CutValue<'a> {
         ensures { result ≡ is_admin self.now }
     {
         self.fields.kind == HS_ADMIN
+    }
+
+    /// The value that is stored where this one came by the layout: of HS_ADMIN data by the layout of the Handle.Net software
+    /// without two octets of 0 behind it.
+    pub fn stored_by(&self, wire: Wire) -> CutValue<'a>
+        ensures { result ≡ stored_by wire self.now }
+    {
+        let bytes = stored_data(wire, &self.fields);
+        string_fits(bytes);
+        CutValue {
+            fields: RawValue {
+                bytes,
+                ..self.fields
+            },
+        }
     }
 
     /// Whether it keeps the limits and its data is good, or its first fault otherwise. It takes no memory, and never answers

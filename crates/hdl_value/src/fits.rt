@@ -37,6 +37,13 @@ fn ttl_fits(ttl: [u8; 5])
     let _ = ttl.as_slice();
 }
 
+/// Octets are octets.
+pub(crate) fn octets_fit(octets: &[u8])
+    ensures fit { AreOctets octets.now }
+{
+    let _ = octets;
+}
+
 /// Octets are a string, where their number fits four octets.
 pub fn string_fits(octets: &[u8])
     requires short { length octets.now < 2 ^ 32 }

@@ -37,6 +37,7 @@ mod permission;
 mod read;
 mod references;
 mod value;
+mod wire;
 mod write;
 
 pub use admin::{AdminMask, Reference, admin_of, vlist_of};
@@ -46,11 +47,13 @@ pub use fields::{octet_at, put_string, put_u16, put_u32, string_at, u16_at, u32_
 pub use fits::{number_fits, string_fits, value_fits};
 pub use kinds::{HS_ADMIN, HS_SECKEY, HS_VLIST};
 pub use laws::{
-    grants_are_named, listed_are_named, none_begins_another, one_administrator, one_list,
-    places_are_ordered, read_as_spelt, refs_are_named, soundness_decided,
+    grants_are_named, listed_are_named, net_read_as_spelt, none_begins_another, one_administrator,
+    one_list, places_are_ordered, read_as_spelt, read_as_spelt_by, read_by_second, refs_are_named,
+    soundness_decided,
 };
 pub use permission::{AdminPermission, Class, Permission};
 pub use read::read_value;
 pub use references::{RawRef, RawRefs, put_references, read_references};
 pub use value::Value;
+pub use wire::Wire;
 pub use write::{put_value, write_value};

@@ -19,6 +19,8 @@
 //! line OCTETS        a line of a value, read and written       short-replies OCTETS   the answers to an envelope without a decision
 //! request OCTETS     what a message asks, and the message as it is written
 //! reply OCTETS       what the message of a frame answers, and the frame as it is written
+//! handle-net-value OCTETS, handle-net-cut, handle-net-request, handle-net-reply   the same by the layout of the Handle.Net
+//!                    software: a value of the profile's layout as it is written there; and `octets` and `value` are the profile's
 //! tenants TEXT | QUESTION | ..   the publishers of a text; a question is `owners` of the lanes, the publisher `beyond` the last, the
 //!                    `opening` values, or a handle, whose prefix is hosted for some
 //! tenant-faults      the text of each fault of a tenants text
@@ -40,17 +42,29 @@ mod slots;
 mod tenants;
 mod values;
 
+use hdl_value::Wire;
 use octets::{octets_of, unread};
 use std::io;
+
+/// Prints what octets mean in the layout of the Handle.Net software.
+fn put_handle_net(rt: &HostRuntime, word: &str, octets: &[u8]) -> io::Result<()> {
+    match word {
+        "handle-net-value" => values::put_handle_net(rt, octets),
+        "handle-net-cut" => values::put_cut(rt, Wire::HandleNet, octets),
+        "handle-net-request" => requests::put_request(rt, Wire::HandleNet, octets),
+        "handle-net-reply" => replies::put_reply(rt, Wire::HandleNet, octets),
+        _ => Err(unread()),
+    }
+}
 
 /// Prints what a message, or a line of a value, means.
 fn put_message(rt: &HostRuntime, word: &str, octets: &[u8]) -> io::Result<()> {
     match word {
         "line" => lines::put_value_line(rt, octets),
-        "request" => requests::put_request(rt, octets),
-        "reply" => replies::put_reply(rt, octets),
+        "request" => requests::put_request(rt, Wire::Profile, octets),
+        "reply" => replies::put_reply(rt, Wire::Profile, octets),
         "short-replies" => replies::put_short_replies(rt, octets),
-        _ => Err(unread()),
+        _ => put_handle_net(rt, word, octets),
     }
 }
 
@@ -66,7 +80,7 @@ fn put_octets(rt: &HostRuntime, word: &str, octets: &[u8]) -> io::Result<()> {
         "pieces" => frames::put_pieces(rt, octets),
         "value" => values::put_whole(rt, octets),
         "is-value" => values::put_whether_value(rt, octets),
-        "cut" => values::put_cut(rt, octets),
+        "cut" => values::put_cut(rt, Wire::Profile, octets),
         "masks" => values::put_masks(rt, octets),
         _ => put_message(rt, word, octets),
     }

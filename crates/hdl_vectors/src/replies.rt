@@ -9,6 +9,7 @@ use hdl_limits::MESSAGE_MAX;
 use hdl_msg::{
     ContentView, Reply, ReplyContent, ReplyView, busy, read_reply, refuse, reply_len, write_reply,
 };
+use hdl_value::Wire;
 use std::alloc::{AllocError, Global};
 use std::io;
 
@@ -28,9 +29,14 @@ fn put_content(rt: &HostRuntime, content: ContentView<'_>) -> io::Result<()> {
 }
 
 /// The content to write that says what another does.
-fn content_of(alloc: Global, content: ContentView<'_>) -> Result<ReplyContent, AllocError> {
+fn content_of(
+    alloc: Global,
+    wire: Wire,
+    content: ContentView<'_>,
+) -> Result<ReplyContent, AllocError> {
     Ok(match content {
         ContentView::Values { handle, values } => ReplyContent::Values {
+            wire,
             handle: copy_of(alloc, handle)?,
             values: values_of(alloc, values)?,
         },
@@ -74,26 +80,26 @@ fn put_view(rt: &HostRuntime, reply: ReplyView<'_>) -> io::Result<()> {
 }
 
 /// Prints what a reply says, and its frame as it is written to the request of this envelope.
-fn put_both(rt: &HostRuntime, came: Envelope, view: ReplyView<'_>) -> io::Result<()> {
+fn put_both(rt: &HostRuntime, wire: Wire, came: Envelope, view: ReplyView<'_>) -> io::Result<()> {
     put_view(rt, view)?;
     let reply = Reply {
         session: came.session,
         request: came.request,
         header: view.header,
         digest: view.digest,
-        content: content_of(rt.alloc(), view.content)?,
+        content: content_of(rt.alloc(), wire, view.content)?,
     };
     put_written(rt, &reply)
 }
 
-/// Prints what the reply in a frame says.
-pub fn put_reply(rt: &HostRuntime, frame: &[u8]) -> io::Result<()> {
+/// Prints what the reply in a frame says whose values have this layout.
+pub fn put_reply(rt: &HostRuntime, wire: Wire, frame: &[u8]) -> io::Result<()> {
     let Some((came, message)) = frame.split_at_checked(ENVELOPE_LEN) else {
         return Err(unread());
     };
     let came = envelope_of(came)?;
-    match read_reply(message) {
-        Ok(reply) => put_both(rt, came, reply),
+    match read_reply(wire, message) {
+        Ok(reply) => put_both(rt, wire, came, reply),
         Err(fault) => println!(rt; "  {fault}"),
     }
 }

@@ -1,12 +1,13 @@
 //! Requests, as they are read and as they are written.
 
 use crate::octets::{put_hex, put_text};
+use crate::values::put_spelling;
 use hdl_limits::{Items, MESSAGE_MAX, Octets};
 use hdl_msg::{
     Body, Header, Numbers, OpCode, OpFlag, RequestBody, ResponseCode, Strings, Values,
     answer_header, read_request, request_len, write_request,
 };
-use hdl_value::Value;
+use hdl_value::{Value, Wire};
 use std::alloc::{AllocError, Global};
 use std::io;
 
@@ -55,10 +56,10 @@ pub fn put_texts(rt: &HostRuntime, word: &str, texts: Strings<'_>) -> io::Result
     Ok(())
 }
 
-/// Prints the octets of each value of a list.
+/// Prints the octets of each value of a list, in the profile's layout.
 pub fn put_values(rt: &HostRuntime, values: Values<'_>) -> io::Result<()> {
     for value in values {
-        put_hex(rt, "value", value.octets())?;
+        put_spelling(rt, "value", &value)?;
     }
     Ok(())
 }
@@ -181,20 +182,24 @@ fn body_of(alloc: Global, body: &Body<'_>) -> Result<Option<RequestBody>, AllocE
 }
 
 /// Prints a request as it is written. The header that is given has another operation.
-fn put_written(rt: &HostRuntime, header: Header, body: &RequestBody) -> io::Result<()> {
+fn put_written(rt: &HostRuntime, wire: Wire, header: Header, body: &RequestBody) -> io::Result<()> {
     let header = Header {
         op_code: 7,
         ..header
     };
-    if request_len(body) > MESSAGE_MAX as usize {
+    if request_len(wire, body) > MESSAGE_MAX as usize {
         return println!(rt; "  too long");
     }
-    put_hex(rt, "written", &write_request(rt.alloc(), header, body)?)
+    put_hex(
+        rt,
+        "written",
+        &write_request(rt.alloc(), wire, header, body)?,
+    )
 }
 
-/// Prints what a request says.
-pub fn put_request(rt: &HostRuntime, octets: &[u8]) -> io::Result<()> {
-    let request = match read_request(octets) {
+/// Prints what a request says whose values have this layout.
+pub fn put_request(rt: &HostRuntime, wire: Wire, octets: &[u8]) -> io::Result<()> {
+    let request = match read_request(wire, octets) {
         Ok(request) => request,
         Err(fault) => return println!(rt; "  {fault}"),
     };
@@ -203,7 +208,7 @@ pub fn put_request(rt: &HostRuntime, octets: &[u8]) -> io::Result<()> {
     put_text(rt, "handle", handle_of(request.body()))?;
     put_lists(rt, request.body())?;
     match body_of(rt.alloc(), request.body())? {
-        Some(body) => put_written(rt, request.header(), &body),
+        Some(body) => put_written(rt, wire, request.header(), &body),
         None => Ok(()),
     }
 }

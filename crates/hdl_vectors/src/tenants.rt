@@ -4,6 +4,7 @@ use crate::octets::{octets_of, put_hex, put_text, unread};
 use hdl_auth::algorithm::Algorithm;
 use hdl_name::Name;
 use hdl_tenants::{TenantFault, Tenants};
+use hdl_value::Wire;
 use std::io;
 
 /// The faults whose texts are printed; no line brings the last one about.
@@ -28,6 +29,9 @@ fn put_publisher(rt: &HostRuntime, tenants: &Tenants, place: usize) -> io::Resul
     match tenants.publisher(place) {
         Some((name, lanes, port)) => println!(rt; "  publisher {name} {lanes} {port}")?,
         None => println!(rt; "  no publisher {place}")?,
+    }
+    if tenants.wire(place) == Wire::HandleNet {
+        println!(rt; "    handle-net")?;
     }
     match tenants.lanes_of(place) {
         Some((first, last)) => println!(rt; "    lanes {first} to {last}"),
@@ -77,7 +81,7 @@ fn put_host(rt: &HostRuntime, place: usize, algorithm: Option<Algorithm>) -> io:
 fn put_hosts(rt: &HostRuntime, tenants: &Tenants, name: &Name) -> io::Result<()> {
     put_text(rt, "prefix of", name.sent())?;
     for place in 0..tenants.publishers() {
-        put_host(rt, place, tenants.algorithm(place, name))?;
+        put_host(rt, place, tenants.hosting(place, name))?;
     }
     Ok(())
 }

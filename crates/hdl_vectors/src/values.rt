@@ -4,8 +4,8 @@ ghost use Rattle.hdl_value.specs.Spelling.{CanBeSpelt};
 
 use crate::octets::{put_hex, put_reference, put_text, unread};
 use hdl_value::{
-    AdminMask, AdminPermission, CutValue, Value, admin_of, cut_value, put_value, read_value,
-    u16_at, vlist_of, write_value,
+    AdminMask, AdminPermission, CutValue, Value, Wire, admin_of, put_value, read_value, u16_at,
+    vlist_of, write_value,
 };
 use std::io;
 
@@ -84,6 +84,30 @@ pub fn put_whether_value(rt: &HostRuntime, octets: &[u8]) -> io::Result<()> {
     }
 }
 
+/// Prints a value in the layout of the Handle.Net software.
+fn put_in_handle_net(rt: &HostRuntime, value: &Value) -> io::Result<()>
+    requires { CanBeSpelt value.now }
+{
+    let mut written = Vec::new(rt.alloc());
+    Wire::HandleNet.put(&mut written, value)?;
+    put_hex(rt, "written", &written)
+}
+
+/// Prints the value at the front of the octets in the layout of the Handle.Net software.
+pub fn put_handle_net(rt: &HostRuntime, octets: &[u8]) -> io::Result<()> {
+    match read_value(rt.alloc(), octets) {
+        Err(fault) => println!(rt; "  {fault}"),
+        Ok((value, _)) => put_in_handle_net(rt, &value),
+    }
+}
+
+/// Prints the octets of what was cut, in the profile's layout, behind a word.
+pub fn put_spelling(rt: &HostRuntime, word: &str, cut: &CutValue<'_>) -> io::Result<()> {
+    let mut spelling = Vec::new(rt.alloc());
+    cut.put_spelling(&mut spelling)?;
+    put_hex(rt, word, &spelling)
+}
+
 /// Prints the data of what was cut, or the fault that it has.
 fn put_read(rt: &HostRuntime, cut: &CutValue<'_>) -> io::Result<()> {
     match cut.check() {
@@ -96,14 +120,14 @@ fn put_read(rt: &HostRuntime, cut: &CutValue<'_>) -> io::Result<()> {
     }
 }
 
-/// Prints what is cut at the front of the octets by layout alone.
-pub fn put_cut(rt: &HostRuntime, octets: &[u8]) -> io::Result<()> {
-    let Some((cut, behind)) = cut_value(octets) else {
+/// Prints what is cut at the front of the octets by a layout alone.
+pub fn put_cut(rt: &HostRuntime, wire: Wire, octets: &[u8]) -> io::Result<()> {
+    let Some((cut, behind)) = wire.cut(octets) else {
         return println!(rt; "  no value by its layout");
     };
     println!(rt; "  index {}", cut.index())?;
     put_text(rt, "type", cut.kind())?;
-    put_hex(rt, "octets", cut.octets())?;
+    put_spelling(rt, "octets", &cut)?;
     println!(rt; "  {} octets behind", behind.len())?;
     put_read(rt, &cut)
 }

@@ -22,7 +22,7 @@ pub(crate) struct Ask {
     pub(crate) answer: oneshot::Sender<Made>,
 }
 
-/// What a browser is told where no server gave a good answer.
+/// The answer to a browser if no server gave a good one.
 fn no_answer(missed: Miss) -> NoAnswer {
     match missed {
         Miss::Elsewhere => NoAnswer::Elsewhere,

@@ -61,7 +61,7 @@ pub struct Board<R> {
     pub(crate) visits: Option<Sender<Visit>>,
 }
 
-/// A question as far as what is kept answers it: the answer, or a question that no kept reply answers, its message, and whom to ask.
+/// A question as far as what is kept answers it: the answer, or a question that no kept reply answers, its message, and which servers to ask.
 #[derive(Drop)]
 enum Known {
     Answer(Answer),
@@ -95,7 +95,7 @@ impl<R: Wait + Clock> Board<R> {
         mixed ^ (mixed >> 31)
     }
 
-    /// Whom to ask for handles of this prefix, in turn.
+    /// The servers to ask for handles of this prefix, in turn.
     pub(crate) fn turn(&self, prefix: &[u8]) -> Result<Vec<usize>, AllocError> {
         let known = if self.routes.len() > 1 {
             self.holders.lock(&self.rt).of(prefix, self.now())
@@ -194,7 +194,7 @@ impl<R: Wait + Clock> Board<R> {
                 }
             }
         }
-        // so many aliases aren't followed, so none is left here
+        // as many aliases as that aren't followed, so none is left here
         Err(AllocError)
     }
 
@@ -337,7 +337,7 @@ impl<R: Wait + Clock> Board<R> {
         }
     }
 
-    /// Who carries out the changes of handles of this prefix, and to which servers they go, in turn. None where no server has the prefix, or no
+    /// The way to the thread that carries out the changes of handles of this prefix, and the servers that they go to, in turn. None where no server has the prefix, or no
     /// changes are made.
     pub(crate) fn clerk(
         &self,

@@ -131,7 +131,7 @@ impl<R: Wait + Clock + Copy + Drop> Desk<R> {
         self.board.way(plain_path(first_line(req))?)
     }
 
-    /// What is told of the proxy itself, where that is asked for.
+    /// The page of the proxy itself, if one is asked for.
     fn own_text(&self, sent: SentRequest<'_>) -> Result<Option<OwnText>, AllocError> {
         if !matches!(sent.method, "GET" | "HEAD") {
             return Ok(None);
@@ -146,7 +146,7 @@ impl<R: Wait + Clock + Copy + Drop> Desk<R> {
                 Ok(Some(OwnText::of_words(self.alloc, 200, "ok\n")?))
             }
             "/health" => {
-                let words = "no server answers\n";
+                let words = "every server is left out after a failure\n";
                 Ok(Some(OwnText::of_words(self.alloc, 503, words)?))
             }
             _ => Ok(None),

@@ -29,7 +29,7 @@ impl EventLoop {
     }
 }
 
-/// Adds so many event loops that share the connections of one address.
+/// Adds `count` event loops that share the connections of one address.
 pub fn listen_at<R>(
     rt: &R,
     loops: &mut Vec<EventLoop>,

@@ -45,7 +45,7 @@ pub(crate) struct Counter<R> {
     pub(crate) board: Arc<Board<R>>,
 }
 
-const ELSEWHERE: &str = "No server that was asked has handles of this prefix. Nothing was done.";
+const ELSEWHERE: &str = "None of the servers that were asked hosts this prefix. Nothing was done.";
 
 const CROWDED: &str = "Too many changes wait for the server. Nothing was done. Please try again.";
 
@@ -104,12 +104,12 @@ impl<R: Wait + Clock> Counter<R> {
                 Err(refused) => Turn::Made(Err(refused)),
             },
             Ok(Err(LimitedError::LengthLimit)) => {
-                let why = "The body has more than 1048576 octets. Nothing was done.";
+                let why = "The body is larger than 1048576 octets. Nothing was done.";
                 self.refuse_order(&order, Status::ContentTooLarge, ResponseCode::Error, why)
             }
             Ok(Err(_)) => Turn::Made(Err(AllocError)),
             Err(_) => {
-                let why = "The body didn't come within 10 seconds. Nothing was done.";
+                let why = "The body didn't arrive within 10 seconds. Nothing was done.";
                 self.refuse_order(&order, Status::RequestTimeout, ResponseCode::Error, why)
             }
         }

@@ -8,7 +8,7 @@ use std::num::NonZeroUsize;
 /// Of how many prefixes it is remembered.
 const PREFIXES_MOST: usize = 4096;
 
-/// For how many milliseconds.
+/// For how many milliseconds the proxy remembers which server has a prefix.
 const REMEMBERED: u64 = 60_000;
 
 /// The server at this place has a prefix, until a moment.
@@ -18,7 +18,7 @@ struct Holder {
     until: u64,
 }
 
-/// Which server has which prefix, as answers told. It changes who is asked first, and nothing else.
+/// Which server has which prefix, by earlier answers. It changes which server is asked first, and nothing else.
 #[derive(Drop)]
 pub(crate) struct Holders {
     alloc: Global,

@@ -135,7 +135,7 @@ impl<R: Wait + Clock> Open<R> {
         Open { board, asked }
     }
 
-    /// It is over, with this answer: it is counted, and its line written.
+    /// Notes that the visit is over, with this answer: counts it, and writes its line.
     pub(crate) fn end(&mut self, answer: &Answer) {
         let status = answer.status.number();
         self.board
@@ -144,7 +144,7 @@ impl<R: Wait + Clock> Open<R> {
         self.note_end(status, answer.body.len());
     }
 
-    /// It is over, with a redirect whose body has so many octets.
+    /// Notes that the visit is over, with a redirect, and the length of its body in octets.
     pub(crate) fn end_redirect(&mut self, octets: usize) {
         let status = Status::Found.number();
         self.board
@@ -153,7 +153,7 @@ impl<R: Wait + Clock> Open<R> {
         self.note_end(status, octets);
     }
 
-    /// Its line is written, where any are.
+    /// Writes the visit's line, if there is a log.
     pub(crate) fn note_end(&mut self, status: u16, octets: usize) {
         let (Some(visits), Some(asked)) = (&self.board.visits, self.asked.take()) else {
             return;
@@ -206,7 +206,7 @@ fn write_line<W: Write>(alloc: Global, out: &mut W, visit: &Visit) -> bool {
     out.write_all(line.as_bytes()).is_ok() && out.flush().is_ok()
 }
 
-/// Writes the lines of visits, until nobody is left who could send one. That a line couldn't be written is said once.
+/// Writes the lines of visits, until no sender is left. The first line that can't be written is reported.
 pub(crate) fn write_lines<R: Wait + Eprint, W: Write + Drop>(
     rt: &R,
     alloc: Global,
@@ -218,7 +218,7 @@ pub(crate) fn write_lines<R: Wait + Eprint, W: Write + Drop>(
         if !write_line(alloc, &mut out, &visit) && !is_said {
             is_said = true;
             let _ = eprintln!(rt;
-                "hdl: a line of the log couldn't be written, as others may be behind it"
+                "hdl: --log: a line can't be written: the disk may be full. Requests are answered as before; lines may be lost"
             );
         }
     }

@@ -51,7 +51,7 @@ use std::sync::Arc;
 use std::time::Duration;
 use words::{Invocation, ProxyWords, read_words};
 
-/// The servers that the words name. None where a word names none, which is told, or memory was refused.
+/// The servers that the words name. None if a word names none, which is reported, or if memory was refused.
 fn routes(rt: &HostRuntime, words: &ProxyWords) -> Option<Vec<Route>> {
     let mut routes = Vec::new(rt.alloc());
     for (place, word) in words.servers.iter().enumerate() {
@@ -66,12 +66,12 @@ fn routes(rt: &HostRuntime, words: &ProxyWords) -> Option<Vec<Route>> {
     Some(routes)
 }
 
-/// Who asks this server once at a time.
+/// The server as one asker has it, which asks one question at a time.
 fn asker(rt: &HostRuntime, words: &ProxyWords, route: &Route) -> Result<Server, AllocError> {
     Server::new(*rt, &route.address, Duration::from_secs(words.timeout))
 }
 
-/// Who asks this server: as many as questions are asked of it at once.
+/// The askers of this server: as many as it is asked questions at once.
 fn askers(rt: &HostRuntime, words: &ProxyWords, route: &Route) -> Result<Vec<Server>, AllocError> {
     let mut askers = Vec::new(rt.alloc());
     for _ in 0..words.askers {
@@ -83,7 +83,7 @@ fn askers(rt: &HostRuntime, words: &ProxyWords, route: &Route) -> Result<Vec<Ser
     Ok(askers)
 }
 
-/// The handles of the copy that the words name, if they name one. A fault is told, and then there are none.
+/// The handles of the copy that the words name, if they name one. A fault is reported, and then there are none.
 fn copied(rt: &HostRuntime, words: &ProxyWords) -> Result<Option<CopiedHandles>, ExitCode> {
     let Some(path) = &words.lists else {
         return Ok(None);
@@ -105,7 +105,7 @@ fn shared(copied: &Option<Arc<CopiedHandles>>) -> Result<Option<Arc<CopiedHandle
     }
 }
 
-/// Who carries out orders, where any are taken.
+/// What carries out orders, if any are taken.
 fn writer(
     rt: &HostRuntime,
     words: &ProxyWords,
@@ -160,7 +160,7 @@ fn site(rt: &HostRuntime, words: &ProxyWords) -> Result<Site, AllocError> {
     Site::new(rt.alloc(), &words.site, contact)
 }
 
-/// Where a line of each visit is written, if anywhere.
+/// The log of visits, if there is one.
 fn lines_to(rt: &HostRuntime, words: &ProxyWords) -> io::Result<Option<Log>> {
     let Some(path) = &words.log else {
         return Ok(None);
@@ -181,14 +181,16 @@ fn listen(
     listening: &mut Listening,
 ) -> io::Result<()> {
     let Ok(address) = word.parse::<SocketAddr>() else {
-        return Err(io::Error::other("it wants an IP address and a port, as 127.0.0.1:8080"));
+        return Err(io::Error::other(
+            "not an IP address with a port: write one such as 127.0.0.1:8080",
+        ));
     };
     listen_at(rt, &mut listening.loops, address, words.threads)?;
     listening.addresses.push(address)?;
     Ok(())
 }
 
-/// What listens at the addresses that the words name. None where one of them can't be had, which is told.
+/// What listens at the addresses that the words name. None if one of them can't be had, which is reported.
 fn listening(rt: &HostRuntime, words: &ProxyWords) -> Option<Listening> {
     let mut listening = Listening {
         addresses: Vec::new(rt.alloc()),

@@ -1,4 +1,4 @@
-//! What is counted, and how it is told.
+//! What is counted, and how it is printed.
 
 use crate::board::{Board, ServerRecord};
 use hdl_programs::VERSION;
@@ -43,10 +43,10 @@ struct Count {
     count: u64,
 }
 
-/// What is counted beside what servers are asked.
+/// What is counted in addition to what servers are asked.
 #[derive(Drop)]
 pub(crate) struct Counts {
-    /// Answers by what was kept.
+    /// Answers from the cache.
     pub(crate) kept: AtomicU64,
     /// Lines of visits that were lost.
     pub(crate) lost: AtomicU64,
@@ -97,7 +97,7 @@ impl Counts {
         let lost = self.lost.load(Ordering::Relaxed);
         writeln!(
             text,
-            "# HELP hdl_proxy_answers_kept_total Answers by what was kept.\n# TYPE hdl_proxy_answers_kept_total counter\nhdl_proxy_answers_kept_total {kept}"
+            "# HELP hdl_proxy_answers_kept_total Answers from the cache.\n# TYPE hdl_proxy_answers_kept_total counter\nhdl_proxy_answers_kept_total {kept}"
         )?;
         writeln!(
             text,
@@ -123,21 +123,21 @@ const SERVER_METRICS: [ServerMetric; 4] = [
 ];
 
 impl ServerMetric {
-    /// Its name behind `hdl_proxy_server_`, its type, and what it says.
+    /// Its name after `hdl_proxy_server_`, its type, and what it says.
     fn words(self) -> (&'static str, &'static str, &'static str) {
         match self {
             ServerMetric::Asked => ("asked_total", "counter", "Questions asked, by server."),
             ServerMetric::Failed => (
                 "failed_total",
                 "counter",
-                "Questions that got no good answer, by server.",
+                "Questions that failed, by server.",
             ),
             ServerMetric::LeftOut => (
                 "left_out",
                 "gauge",
-                "1 where a server is left out for a while, since it failed.",
+                "1 while a server is left out after a failure.",
             ),
-            ServerMetric::Waiting => ("waiting", "gauge", "Questions that wait, by server."),
+            ServerMetric::Waiting => ("waiting", "gauge", "Waiting questions, by server."),
         }
     }
 }

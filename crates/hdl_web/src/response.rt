@@ -22,7 +22,7 @@ use std::alloc::{AllocError, Global};
 const POLICY: &str =
     "default-src 'none'; style-src 'unsafe-inline'; img-src 'self'; base-uri 'none'; frame-ancestors 'none'";
 
-/// When a client may ask again where a server is busy or doesn't answer, in seconds: a server that failed is left out for so long.
+/// When a client may ask again where a server is busy or doesn't answer, in seconds: as long as a server that failed is left out.
 const RETRY_SECONDS: u64 = LEFT_OUT / 1000;
 
 /// Adds a field whose value is made here.

@@ -5,6 +5,7 @@ use hdl_copied::CopiedHandles;
 use hdl_limits::Octets;
 use hdl_msg::{RequestBody, ResponseCode};
 use hdl_proxy::NoAnswer;
+use hdl_value::Wire;
 use hdl_writes::{ChangeServer, NoReply, SUFFIX_LEN};
 use rand::RngExt;
 use rand::rngs::StdRng;
@@ -50,7 +51,7 @@ impl Server {
     /// Asks on a new connection, which is kept if it answers.
     fn ask_anew(&mut self, since: Instant, message: &[u8]) -> Result<Reply, ClientFault> {
         let mut session = connect_within(&self.rt, &self.address, since, self.limit)?;
-        let reply = session.exchange(message)?;
+        let reply = session.exchange(Wire::Profile, message)?;
         self.session = Some(session);
         Ok(reply)
     }
@@ -61,7 +62,7 @@ impl Server {
         let Some(mut session) = self.session.take() else {
             return self.ask_anew(since, message);
         };
-        match session.exchange(message) {
+        match session.exchange(Wire::Profile, message) {
             Ok(reply) => {
                 self.session = Some(session);
                 Ok(reply)
@@ -89,7 +90,7 @@ impl Server {
         body: &RequestBody,
         key: &Key,
     ) -> Result<Reply, ClientFault> {
-        let reply = session.ask(body, Some(key))?;
+        let reply = session.ask(Wire::Profile, body, Some(key))?;
         self.session = Some(session);
         Ok(reply)
     }
@@ -157,7 +158,7 @@ pub struct OrderCarrier {
 }
 
 impl OrderCarrier {
-    /// Who asks these servers, in their places.
+    /// An asker of these servers, which it knows by their places.
     pub fn new(
         servers: Vec<Server>,
         rng: StdRng,

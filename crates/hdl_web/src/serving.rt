@@ -139,7 +139,7 @@ where
     }
     match ends.recv(rt) {
         Ok(end) => end,
-        Err(_) => Err(io::Error::other("nothing is served")),
+        Err(_) => Err(io::Error::other("all threads that serve have ended")),
     }
 }
 
@@ -174,7 +174,7 @@ pub struct Listening {
 }
 
 /// Serves HTTP on these event loops until the process ends. Each has a thread of its own, and so has each asker, so as many questions are asked at once. A line
-/// of each visit is written to the log, if there is one. The addresses are told once servers can be asked.
+/// of each visit is written to the log, if there is one. The addresses are printed once servers can be asked.
 pub fn serve_http<R, S, C, L>(
     rt: &R,
     listening: Listening,

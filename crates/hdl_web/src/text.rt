@@ -55,7 +55,7 @@ impl OwnText {
         })
     }
 
-    /// The response that it is, which nobody keeps.
+    /// The response that it is, which may not be cached.
     pub(crate) fn response(&self, alloc: Global) -> Result<Response<Full<Bytes>>, AllocError> {
         let Ok(status) = StatusCode::from_u16(self.status) else {
             return Err(AllocError);

@@ -19,7 +19,7 @@ pub(crate) trait ConnectionHandler: Drop {
     fn receive(&self, socket: TcpStream) -> Option<Self::Served>
         ensures { IfSome result Self.Served.can_poll };
 
-    /// How long nobody is received where the process has no room for another connection. None where memory was refused.
+    /// How long no client is received if the process has no room for another connection. None where memory was refused.
     fn rest(&self) -> Option<Sleep>;
 }
 

@@ -1,4 +1,4 @@
-//! Redirects that are kept beside the replies that they were made of.
+//! Redirects that are kept with the replies that they were made of.
 
 ghost use Rattle.std.specs.Prelude.{◌≡◌, IfOk};
 ghost use Rattle.http.specs.Response.{head_of};
@@ -8,6 +8,7 @@ use bytes::Bytes;
 use hdl_msg::{ContentView, read_reply};
 use hdl_proxy::{Answer, Status};
 use hdl_routes::KeptReplies;
+use hdl_value::Wire;
 use http::StatusCode;
 use http::header::{HeaderMap, HeaderValue};
 use http::response::{Parts, Response};
@@ -56,7 +57,7 @@ impl KeptRedirect {
 
 /// Whether what is answered by a reply isn't always the same: where it says locations, each answer draws one. What can't be read counts as if it did.
 fn is_drawn(alloc: Global, reply: &[u8]) -> bool {
-    let Ok(read) = read_reply(reply) else {
+    let Ok(read) = read_reply(Wire::Profile, reply) else {
         return true;
     };
     let ContentView::Values { values, .. } = read.content else {

@@ -22,14 +22,14 @@ const ASKERS: u64 = 2;
 /// How many seconds a server's answer may take, where no other number is named.
 const TIMEOUT: u64 = 5;
 
-/// What `hdl proxy` is told.
+/// The options of `hdl proxy`.
 #[derive(Drop)]
 pub struct ProxyWords {
-    /// Where it listens.
+    /// The addresses at which it listens.
     pub listen: Vec<String>,
     /// How many threads serve the connections of each address: 1 to 64.
     pub threads: u64,
-    /// Whom it asks, in this order.
+    /// The servers to ask, in this order.
     pub servers: Vec<String>,
     /// How many questions it asks each at once: 1 to 64.
     pub askers: u64,
@@ -37,7 +37,7 @@ pub struct ProxyWords {
     pub timeout: u64,
     /// What the site of its pages is called.
     pub site: String,
-    /// Whom readers ask.
+    /// The contact for readers' questions.
     pub contact: Option<String>,
     /// For how many seconds an answer is kept at most; 0 keeps none.
     pub cache: u64,
@@ -74,19 +74,19 @@ fn listening_args<'a>(alloc: Global, command: Command<'a>) -> Result<Command<'a>
             alloc,
             "listen",
             "ADDRESS:PORT",
-            "Where it listens, repeated for more; without it on 127.0.0.1:8080",
+            "An address to listen at; may be repeated; 127.0.0.1:8080 by default",
         )
         .action(ArgAction::Append))?
         .arg(option(
             alloc,
             "threads",
             "N",
-            "How many threads serve the connections of each address, 1 without it",
+            "Threads for the connections of each address; 1 by default",
         )
         .value_parser(value_parser!(u64).range(1..65)))
 }
 
-/// The options that say whom it asks, and how.
+/// The options that say which servers it asks, and how.
 fn asking_args<'a>(alloc: Global, command: Command<'a>) -> Result<Command<'a>, AllocError> {
     command
         .arg(
@@ -94,7 +94,7 @@ fn asking_args<'a>(alloc: Global, command: Command<'a>) -> Result<Command<'a>, A
                 alloc,
                 "server",
                 "HOST:PORT[=PREFIX,..]",
-                "A handle server to ask, repeated for more: for these prefixes, or for all that no server is named with",
+                "A handle server, for these prefixes; without prefixes, for all that no other server has; may be repeated",
             )
             .required(true)
             .action(ArgAction::Append),
@@ -103,14 +103,14 @@ fn asking_args<'a>(alloc: Global, command: Command<'a>) -> Result<Command<'a>, A
             alloc,
             "askers",
             "N",
-            "How many questions each server is asked at once, 2 without it; each may hold a lane",
+            "Questions that each server is asked at once; 2 by default; each may hold a lane",
         )
         .value_parser(value_parser!(u64).range(1..65)))?
         .arg(option(
             alloc,
             "timeout",
             "SECONDS",
-            "How long a server's whole answer may take, 5 without it",
+            "Time limit for a server's whole answer; 5 by default",
         )
         .value_parser(value_parser!(u64).range(1..61)))
 }
@@ -122,13 +122,13 @@ fn site_args<'a>(alloc: Global, command: Command<'a>) -> Result<Command<'a>, All
             alloc,
             "site",
             "NAME",
-            "What the site is called, at the head of its pages; without it Handles",
+            "The site's name, at the head of every page; Handles by default",
         ))?
         .arg(option(
             alloc,
             "contact",
             "ADDRESS",
-            "Whom readers ask, at the foot of its pages: an address of mail, or a URL",
+            "A mail address or URL for readers' questions, at the foot of every page",
         ))
 }
 
@@ -139,14 +139,14 @@ fn keeping_args<'a>(alloc: Global, command: Command<'a>) -> Result<Command<'a>, 
             alloc,
             "cache",
             "SECONDS",
-            "How long an answer is kept at most, as far as its TTL lets it; none is without it",
+            "Caches answers for at most this long, and within their TTL; no cache by default",
         )
         .value_parser(value_parser!(u64).range(1..86401)))?
         .arg(option(
             alloc,
             "log",
             "FILE",
-            "Where a line of each visit is written, - is standard output; nowhere without it",
+            "Appends a line to FILE for each request; - is standard output; no log by default",
         ))
 }
 
@@ -157,7 +157,7 @@ fn writing_args<'a>(alloc: Global, command: Command<'a>) -> Result<Command<'a>, 
             Arg::new(alloc, "writes")
                 .long("writes")
                 .help(
-                    "Changes handles too, by PUT and DELETE with a key, which needs TLS in front of it",
+                    "Lets clients with a key change handles, by PUT and DELETE; put TLS in front of the proxy",
                 )
                 .action(ArgAction::SetTrue),
         )?
@@ -165,7 +165,7 @@ fn writing_args<'a>(alloc: Global, command: Command<'a>) -> Result<Command<'a>, 
             alloc,
             "lists",
             "FILE",
-            "With --writes, a copy of the table (handled copy), from which lists are told that are too long for a server's answer",
+            "With --writes: a copy of the table (handled copy), for lists too long for one reply",
         )
         .requires_arg("writes")?)
 }
@@ -174,7 +174,7 @@ fn command<'a>(alloc: Global) -> Result<Command<'a>, AllocError> {
     let command = Command::new(alloc, NAME)
         .version(VERSION)
         .bin_name(NAME)?
-        .about("Leads browsers from a handle's address to its URL, over HTTP");
+        .about("Redirects browsers from a handle's address to its URL");
     let command = asking_args(alloc, listening_args(alloc, command)?)?;
     writing_args(alloc, keeping_args(alloc, site_args(alloc, command)?)?)
 }
@@ -221,7 +221,9 @@ fn parse(alloc: Global, words: &[String]) -> Result<ProxyWords, Error> {
 /// Reads the command line, and prints what `clap` has to say of it.
 pub fn read_words(rt: &HostRuntime) -> Invocation {
     let Ok(words) = words_of(rt) else {
-        let _ = eprintln!(rt; "error: the command line cannot be read");
+        let _ = eprintln!(rt;
+            "error: a word of the command line is not UTF-8, or there is no memory for it"
+        );
         return Invocation::Ended(2);
     };
     match parse(rt.alloc(), words.as_slice()) {

@@ -19,7 +19,7 @@ pub struct Errand {
     pub(crate) answer: oneshot::Sender<Made>,
 }
 
-/// Asks the server at this place what comes, until nobody is left who could ask.
+/// Asks the server at this place what comes, until no sender is left.
 pub(crate) fn work<R: Wait + Clock, S: Resolver>(
     board: &Board<R>,
     place: usize,
@@ -31,7 +31,7 @@ pub(crate) fn work<R: Wait + Clock, S: Resolver>(
     }
 }
 
-/// Carries out orders one after the other, until nobody is left who could give one. What is kept of a handle is forgotten before its change is answered.
+/// Carries out orders one after the other, until no sender is left. What is kept of a handle is forgotten before its change is answered.
 pub(crate) fn work_on_orders<R: Wait + Clock, C: Clerk>(
     board: &Board<R>,
     mut clerk: C,

@@ -4,7 +4,7 @@ use Rattle.std.proofs.lemmas.List.{map-append}
 use Rattle.std.proofs.lemmas.List.Concat.{flat_map-append}
 use Rattle.std.specs.List.{flat_map}
 use Rattle.hdl_events.specs.declared.Outcome.{Outcome}
-use Rattle.hdl_events.specs.declared.Happening.TheVariants.{Open, Close}
+use Rattle.hdl_events.specs.declared.What.TheVariants.{Open, Close}
 use Rattle.hdl_frame.specs.Frames.{BeginsWithFrame, fault_at}
 use Rattle.hdl_frame.proofs.FrameLemmas.{none_short}
 use Rattle.hdl_workers.specs.Octets.{octets_of}

@@ -7,7 +7,7 @@ use mathlib.Core.List.{IsPrefix}
 use Rattle.hdl_limits.specs.declared.TheConstants.{PIECE_LEN}
 use Rattle.hdl_frame.specs.Frames.{IsFrame}
 use Rattle.hdl_events.specs.declared.Outcome.{Outcome}
-use Rattle.hdl_events.specs.declared.Happening.TheVariants.{Open, Frame, Bad, Close}
+use Rattle.hdl_events.specs.declared.What.TheVariants.{Open, Frame, Bad, Close}
 use Rattle.hdl_workers.specs.declared.door.Packets.{Ghosts}
 use Rattle.hdl_workers.specs.declared.item.Item.{Item}
 use Rattle.hdl_workers.specs.declared.item.Item.TheVariants.{Event, End}

@@ -6,7 +6,7 @@ use Rattle.std.proofs.lemmas.List.Folds.{concat-append}
 use Rattle.std.proofs.lemmas.List.Concat.{flat_map-append}
 use Rattle.std.specs.List.{flat_map, concat}
 use Rattle.hdl_events.specs.declared.Outcome.{Outcome}
-use Rattle.hdl_events.specs.declared.Happening.TheVariants.{Bad}
+use Rattle.hdl_events.specs.declared.What.TheVariants.{Bad}
 use Rattle.hdl_frame.specs.declared.envelope.FrameFault.{FrameFault}
 use Rattle.hdl_frame.specs.Frames.{IsFrame, BeginsWithFrame, fault_at}
 use Rattle.hdl_workers.specs.declared.item.Item.{Item}

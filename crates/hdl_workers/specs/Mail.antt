@@ -4,8 +4,8 @@ use mathlib.Core.List.{IsPrefix}
 use Rattle.hdl_frame.specs.Envelope.{envelope_at, is_truncated}
 use Rattle.hdl_frame.specs.Frames.{IsFrame}
 use Rattle.hdl_frame.specs.Pieces.{datagrams}
-use Rattle.hdl_events.specs.declared.Happening.{Happening}
-use Rattle.hdl_events.specs.declared.Happening.TheVariants.{Open, Frame, Bad, Close}
+use Rattle.hdl_events.specs.declared.What.{What}
+use Rattle.hdl_events.specs.declared.What.TheVariants.{Open, Frame, Bad, Close}
 use Rattle.hdl_events.specs.declared.Outcome.{Outcome}
 use Rattle.hdl_workers.specs.declared.door.Packets.{Ghosts}
 use Rattle.hdl_workers.specs.declared.item.Item.{Item}
@@ -54,7 +54,7 @@ BeginsReply peer octets sent n m =
     (ds : List (List ℕ × List ℕ)) × ArePieces octets ds × (n ≤ m) × IsPrefix sent (map (to_peer peer) ds)
 
 -- who sent the frame that an item holds
-abbrev pub peer_of_what : Happening → Option ℕ
+abbrev pub peer_of_what : What → Option ℕ
 peer_of_what Open = None
 peer_of_what (Frame peer moment nonce bytes) = Some peer
 peer_of_what (Bad session request) = None

@@ -1,8 +1,8 @@
 -- What an item shows: a sign without its moment and nonce, and apart from it these two.
 use Rattle.std.specs.Prelude.{◌≡◌, ℕ, List, [], ◌∷◌, ◌++◌, map, replicate, ◌⊎◌}
 use Rattle.std.specs.List.{flat_map}
-use Rattle.hdl_events.specs.declared.Happening.{Happening}
-use Rattle.hdl_events.specs.declared.Happening.TheVariants.{Open, Frame, Bad, Close}
+use Rattle.hdl_events.specs.declared.What.{What}
+use Rattle.hdl_events.specs.declared.What.TheVariants.{Open, Frame, Bad, Close}
 use Rattle.hdl_workers.specs.Door.{Gives}
 use Rattle.hdl_workers.specs.declared.item.Item.{Item}
 use Rattle.hdl_workers.specs.declared.item.Item.TheVariants.{Event, End}
@@ -15,7 +15,7 @@ pub data Sign : Type 0 where
   closed : Sign
   finished : Sign
 
-abbrev pub sign_of_what : Happening → Sign
+abbrev pub sign_of_what : What → Sign
 sign_of_what Open = opened
 sign_of_what (Frame peer moment nonce bytes) = framed peer bytes
 sign_of_what (Bad session request) = faulty session request
@@ -37,7 +37,7 @@ abbrev pub WithEnd : List Item → List Item → Type 0
 WithEnd events items = (items ≡ events) ⊎ (items ≡ events ++ End ∷ [])
 
 -- the moments of the frames, in order, and their nonces
-abbrev pub moment_of_what : Happening → List ℕ
+abbrev pub moment_of_what : What → List ℕ
 moment_of_what Open = []
 moment_of_what (Frame peer moment nonce bytes) = moment ∷ []
 moment_of_what (Bad session request) = []
@@ -50,7 +50,7 @@ moment_of End = []
 abbrev pub moments_of : List Item → List ℕ
 moments_of items = flat_map moment_of items
 
-abbrev pub nonce_of_what : Happening → List (List ℕ)
+abbrev pub nonce_of_what : What → List (List ℕ)
 nonce_of_what Open = []
 nonce_of_what (Frame peer moment nonce bytes) = nonce ∷ []
 nonce_of_what (Bad session request) = []

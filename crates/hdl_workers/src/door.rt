@@ -56,7 +56,7 @@ pub trait Door {
         ensures still_open { is_open self.new ≡ is_open self.old }
         ensures said { IsTrue is_observed → MatchResult result (λ n. current self.new ≡ say (take n octets.now) (current self.old)) (λ _. current self.new ≡ break_off (current self.old)) };
 
-    /// Gives the open connection up, for want of memory. It is broken, as behind a write that failed, and a fault is counted.
+    /// Gives the open connection up, for want of memory. It is broken, as after a write that failed, and a fault is counted.
     fn give_up(&mut self)
         ensures faults { Raises (fault_count self.old) (fault_count self.new) }
         ensures ended { IsTrue is_observed → ended self.new ≡ ended self.old }
@@ -90,13 +90,17 @@ pub trait Clock {
     fn pause(&mut self)
         ensures { IsTrue is_observed → answers self.new ≡ answers self.old };
 
-    /// How long the wait is that goes on: since its first pause. Zero where none does, or where the machine's clock fails.
-    fn waited(&self) -> Duration;
+    /// How long the wait is that goes on: since its first pause. Zero where none does, where the machine's clock fails, and of a clock that
+    /// doesn't tell.
+    fn waited(&self) -> Duration {
+        Duration::ZERO
+    }
 
     /// Something was done, so the next pause begins a wait. Workers call it once they put what came through their door, and when they took
     /// an outcome or wrote one; `serve` after a turn that answered.
     fn note_work(&mut self)
-        ensures { IsTrue is_observed → answers self.new ≡ answers self.old };
+        ensures { IsTrue is_observed → answers self.new ≡ answers self.old }
+    {}
 }
 
 /// Numbers used once, for challenges.
@@ -154,10 +158,14 @@ pub trait Packets {
     fn end_reply(&mut self)
         ensures faults { fault_count self.new ≡ fault_count self.old }
         ensures received { IsTrue is_observed → received self.new ≡ received self.old }
-        ensures sent { IsTrue is_observed → sent self.new ≡ sent self.old };
+        ensures sent { IsTrue is_observed → sent self.new ≡ sent self.old }
+    {}
 
     /// How many frames may be under way, without a reply, before the next datagram is received: 1 to `UNDER_WAY_MAX`; others count as the nearest.
-    fn most_under_way(&self) -> usize;
+    /// A door that doesn't say has one.
+    fn most_under_way(&self) -> usize {
+        1
+    }
 
     /// How many calls failed.
     fn faults(&self) -> u64

@@ -55,7 +55,7 @@ impl LaneEnds {
             outcomes,
         } = self;
         let WorkerEnd {
-            reason: _,
+            why: _,
             ended,
             outlet,
         } = end;

@@ -34,7 +34,7 @@ impl MemoryConnection {
         }
     }
 
-    /// Reads at most so many octets.
+    /// Reads at most `most` octets.
     pub(crate) fn read(&mut self, buffer: &mut [u8], most: usize) -> usize
         ensures fits { result ≤ length buffer.new }
         ensures heard { connection_of self.new ≡ hear (take result buffer.new) (connection_of self.old) }
@@ -81,8 +81,8 @@ pub struct MemoryDoor {
 }
 
 impl MemoryDoor {
-    /// A door at which these peers come, one after the other. A read gives at most so many octets, and the call with this
-    /// number fails, from 1 on.
+    /// A door at which these peers come, one after the other. A read gives at most `most` octets; call number
+    /// `fails` fails, counted from 1.
     pub fn new(alloc: Global, coming: VecDeque<Vec<u8>>, most: usize, fails: u64) -> MemoryDoor
         ensures fresh { result.left.items ≡ [] }
     {

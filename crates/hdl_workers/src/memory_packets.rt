@@ -27,7 +27,7 @@ pub struct MemoryPackets {
 }
 
 impl MemoryPackets {
-    /// A place where these datagrams come in, of which so many frames may be under way. The call with this number fails, from 1 on.
+    /// A place where these datagrams come in, with `under_way` frames at most without a reply. Call number `fails` fails, counted from 1.
     pub fn new(
         alloc: Global,
         coming: VecDeque<Datagram>,

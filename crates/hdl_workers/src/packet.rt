@@ -18,7 +18,7 @@ use crate::worker::{EndReason, WorkerEnd, finish, open, spend};
 use crate::worker_lane::WorkerLane;
 use crate::{Clock, DoorFault, Nonces, Packets, WorkerSide};
 use arrayvec::ArrayVec;
-use hdl_events::{Happening, Outcome};
+use hdl_events::{Outcome, What};
 use hdl_frame::{ENVELOPE_LEN, one_datagram, pieces};
 use hdl_limits::{MESSAGE_MAX, Octets, PIECE_LEN, UNDER_WAY_MAX};
 use std::alloc::Global;
@@ -96,7 +96,7 @@ fn put_frame<C: Clock, N: Nonces>(
         if line.has_room() {
             let moment = clock.now();
             let nonce = nonces.next();
-            line.put(Happening::Frame {
+            line.put(What::Frame {
                 peer,
                 moment,
                 nonce,
@@ -166,7 +166,7 @@ fn submit<C: Clock, N: Nonces>(
     }
 }
 
-/// Puts the datagram that came last where it is a frame, whose peer then waits for a reply behind the others. Whether the turns sufficed.
+/// Puts the datagram that came last where it is a frame, whose peer then waits for a reply after the others. Whether the turns sufficed.
 fn take_in<C: Clock, N: Nonces>(
     line: &mut WorkerLane,
     peers: &mut ArrayVec<u16, UNDER_WAY_MAX>,
@@ -266,7 +266,7 @@ fn receive_next<P: Packets>(
     packets.receive(buffer, peers.is_empty())
 }
 
-/// No datagram came: sends the oldest reply that is owed, or pauses where none is. Whether the turns sufficed.
+/// For when no datagram came: sends the oldest reply that is owed, or pauses where none is. Whether the turns sufficed.
 fn go_on<P: Packets, C: Clock>(
     packets: &mut P,
     line: &mut WorkerLane,
@@ -356,7 +356,7 @@ fn serve_packets<P: Packets, C: Clock, N: Nonces>(
 ///
 /// It puts Open, and a Frame for each datagram that is one frame, in order, with the peer that sent it; other datagrams are dropped.
 /// Each outcome's octets are sent as their pieces to its event's peer, in the same order. As many frames as the door says are under way at most, so that others
-/// are received, without waiting for them, while a reply is owed; where a send fails the rest of that reply is dropped. A growth that is refused is tried again behind a pause, as a turn. Full rings, moments and nonces are as with [`stream_worker`](crate::stream_worker).
+/// are received, without waiting for them, while a reply is owed; where a send fails the rest of that reply is dropped. A growth that is refused is tried again after a pause, as a turn. Full rings, moments and nonces are as with [`stream_worker`](crate::stream_worker).
 #[tactic(auto, using(crate::proofs::Used::ended_rules))]
 pub fn packet_worker<P: Packets, C: Clock, N: Nonces>(
     alloc: Global,
@@ -369,15 +369,15 @@ pub fn packet_worker<P: Packets, C: Clock, N: Nonces>(
     requires first { IsTrue P.is_observed → (P.received packets.old ≡ []) × (P.sent packets.old ≡ []) }
     ensures inlet { EndsLane side.inlet result.ended }
     ensures outlet { SameOutlet side.outcomes result.outlet }
-    ensures device { result.reason ≡ Device → (P.fault_count packets.old < P.fault_count packets.new) ⊎ (P.fault_count packets.old ≡ 2 ^ 64 - 1) }
+    ensures device { result.why ≡ Device → (P.fault_count packets.old < P.fault_count packets.new) ⊎ (P.fault_count packets.old ≡ 2 ^ 64 - 1) }
     ensures moments { IsTrue C.is_observed → Gives 0 (C.answers clock.old) (moments_of (all_put result.ended)) (C.answers clock.new) }
     ensures nonces { IsTrue N.is_observed → Gives (replicate 16 0) (N.answers nonces.old) (nonces_of (all_put result.ended)) (N.answers nonces.new) }
-    ensures whole { IsTrue P.is_observed → result.reason ≡ Device → (events : List Item) × WithEnd events (all_put result.ended)
+    ensures whole { IsTrue P.is_observed → result.why ≡ Device → (events : List Item) × WithEnd events (all_put result.ended)
         × Traded (P.received packets.new) (P.sent packets.new) (P.fault_count packets.old) (P.fault_count packets.new) events (taken_from result.outlet) }
     ensures trades { IsTrue P.is_observed → (events : List Item) × WithEnd events (all_put result.ended)
         × Trades (P.received packets.new) (P.sent packets.new) (P.fault_count packets.old) (P.fault_count packets.new) events (taken_from result.outlet) }
 {
     let mut line = WorkerLane::new(alloc, side, turns);
-    let reason = serve_packets(packets, &mut line, clock, nonces);
-    finish(line, clock, reason)
+    let why = serve_packets(packets, &mut line, clock, nonces);
+    finish(line, clock, why)
 }

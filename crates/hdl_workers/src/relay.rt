@@ -62,7 +62,7 @@ fn write_outcome<D: Door>(door: &mut D, outcome: &Outcome, turns: &mut u64) -> R
     write_all(door, octets_of(outcome), turns)
 }
 
-/// Takes the outcomes that are there while their octets find room behind those that are joined. The one that found none.
+/// Takes the outcomes that are there while their octets find room after those that are joined. The one that found none.
 fn join_ready(line: &mut WorkerLane, joined: &mut ArrayVec<u8, JOINED>) -> Option<Outcome>
     ensures line { SameWorkerLane line.old line.new }
     ensures put { put_by line.new ≡ put_by line.old }

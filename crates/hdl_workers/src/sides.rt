@@ -7,7 +7,7 @@ use crate::{LaneEnds, WorkerSide};
 use hdl_lanes::lane;
 use std::alloc::{AllocError, Global};
 
-/// So many lanes, numbered from 0, with both sides of each, in that order. Each ring has room for so many items, both ways.
+/// `count` lanes, numbered from 0: both sides of each, in that order. Each ring holds `capacity` items.
 pub fn lanes_of(
     alloc: Global,
     count: u16,

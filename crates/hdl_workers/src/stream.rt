@@ -6,7 +6,7 @@ ghost use Rattle.hdl_workers.specs.declared.worker.EndReason.TheVariants.{Device
 ghost use Rattle.hdl_workers.specs.declared.item.Item.{Item};
 ghost use Rattle.hdl_workers.specs.declared.item.Item.TheVariants.{Event};
 ghost use Rattle.hdl_events.specs.declared.Outcome.{Outcome};
-ghost use Rattle.hdl_events.specs.declared.Happening.TheVariants.{Bad, Close};
+ghost use Rattle.hdl_events.specs.declared.What.TheVariants.{Bad, Close};
 ghost use Rattle.hdl_lanes.specs.Lane.{taken_from, all_put, SameOutlet};
 ghost use Rattle.hdl_workers.specs.Door.{fresh, Gives};
 ghost use Rattle.hdl_workers.specs.Found.{Finds, fault_found};
@@ -24,7 +24,7 @@ use crate::relay::{await_outcomes, await_room};
 use crate::worker::{EndReason, Stop, WorkerEnd, finish, open, spend};
 use crate::worker_lane::WorkerLane;
 use crate::{Clock, Door, Nonces, WorkerSide};
-use hdl_events::Happening;
+use hdl_events::What;
 use hdl_frame::{Cutter, FrameFault};
 use hdl_limits::Octets;
 use std::alloc::Global;
@@ -91,7 +91,7 @@ fn submit_frame<D: Door, C: Clock, N: Nonces>(
     await_room(door, line, clock)?;
     let moment = clock.now();
     let nonce = nonces.next();
-    line.put(Happening::Frame {
+    line.put(What::Frame {
         peer: 0,
         moment,
         nonce,
@@ -115,11 +115,11 @@ fn submit_fault<D: Door, C: Clock>(
     ensures answers { IsTrue C.is_observed → C.answers clock.new ≡ C.answers clock.old }
 {
     await_room(door, line, clock)?;
-    line.put(Happening::Bad { session, request });
+    line.put(What::Bad { session, request });
     Ok(())
 }
 
-/// Puts every frame that is there, and the fault behind them. Whether there was a fault.
+/// Puts every frame that is there, and the fault after them. Whether there was a fault.
 #[tactic(auto, using(crate::proofs::Used::used_rules))]
 fn submit_frames<D: Door, C: Clock, N: Nonces>(
     door: &mut D,
@@ -211,7 +211,7 @@ fn put_close<C: Clock>(line: &mut WorkerLane, clock: &mut C) -> bool
 {
     while spend(&mut line.turns) {
         if line.has_room() {
-            line.put(Happening::Close);
+            line.put(What::Close);
             return true;
         }
         if line.next().is_some() {
@@ -317,7 +317,7 @@ fn serve_door<D: Door, C: Clock, N: Nonces>(
 /// Of each connection it puts Open, every frame that was read, Bad where a faulty envelope stands next, and Close. It reads at most
 /// 8,192 octets at a time, and again only once each event that it put has its outcome and that was written. What it writes is the
 /// octets of the outcomes, in order. Where a read or a write fails it puts Close and goes on with the next connection; octets of
-/// an unfinished frame are dropped. A growth that is refused is tried again behind a pause, as a turn, once what is owed was written; after a second of that the
+/// an unfinished frame are dropped. A growth that is refused is tried again after a pause, as a turn, once what is owed was written; after a second of that the
 /// connection is given up, as where a write fails. Where the ring is full it takes outcomes and puts again. Each frame has the next moment of the clock and the next nonce of the source, and none of these is left out.
 pub fn stream_worker<D: Door, C: Clock, N: Nonces>(
     alloc: Global,
@@ -330,13 +330,13 @@ pub fn stream_worker<D: Door, C: Clock, N: Nonces>(
     requires first { IsTrue D.is_observed → D.ended door.old ≡ [] }
     ensures inlet { EndsLane side.inlet result.ended }
     ensures outlet { SameOutlet side.outcomes result.outlet }
-    ensures device { result.reason ≡ Device → (D.fault_count door.old < D.fault_count door.new) ⊎ (D.fault_count door.old ≡ 2 ^ 64 - 1) }
+    ensures device { result.why ≡ Device → (D.fault_count door.old < D.fault_count door.new) ⊎ (D.fault_count door.old ≡ 2 ^ 64 - 1) }
     ensures moments { IsTrue C.is_observed → Gives 0 (C.answers clock.old) (moments_of (all_put result.ended)) (C.answers clock.new) }
     ensures nonces { IsTrue N.is_observed → Gives (replicate 16 0) (N.answers nonces.old) (nonces_of (all_put result.ended)) (N.answers nonces.new) }
-    ensures whole { IsTrue D.is_observed → result.reason ≡ Device → (events : List Item) × WithEnd events (all_put result.ended) × History (D.ended door.new) events (taken_from result.outlet) }
+    ensures whole { IsTrue D.is_observed → result.why ≡ Device → (events : List Item) × WithEnd events (all_put result.ended) × History (D.ended door.new) events (taken_from result.outlet) }
     ensures serves { IsTrue D.is_observed → (events : List Item) × WithEnd events (all_put result.ended) × Serves (D.ended door.new) (D.current door.new) events (taken_from result.outlet) }
 {
     let mut line = WorkerLane::new(alloc, side, turns);
-    let reason = serve_door(door, &mut line, clock, nonces);
-    finish(line, clock, reason)
+    let why = serve_door(door, &mut line, clock, nonces);
+    finish(line, clock, why)
 }

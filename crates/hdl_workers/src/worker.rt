@@ -2,7 +2,7 @@
 
 ghost use Rattle.std.specs.Prelude.{◌≡◌, ◌+◌, ◌++◌, ◌∷◌, [], ◌≤◌, IsTrue, IsFalse};
 ghost use Rattle.hdl_workers.specs.declared.item.Item.TheVariants.{Event};
-ghost use Rattle.hdl_events.specs.declared.Happening.TheVariants.{Open};
+ghost use Rattle.hdl_events.specs.declared.What.TheVariants.{Open};
 ghost use Rattle.hdl_lanes.specs.Lane.{put_into, all_put, SameInlet};
 ghost use Rattle.hdl_workers.specs.Joined.{EndsLane};
 ghost use Rattle.hdl_workers.specs.Sign.{WithEnd};
@@ -10,10 +10,9 @@ ghost use Rattle.hdl_workers.specs.WorkerLane.{put_by, taken_by, SameWorkerLane}
 
 use crate::worker_lane::WorkerLane;
 use crate::{Clock, Item};
-use hdl_events::{Happening, Outcome};
+use hdl_events::{Outcome, What};
 use hdl_lanes::{Ended, Inlet, Outlet};
 
-/// Why a worker ended.
 #[derive(Clone, Copy, PartialEq, Eq)]
 pub enum EndReason {
     /// Its turns are spent.
@@ -25,7 +24,7 @@ pub enum EndReason {
 /// Why a worker ended, and its ends of the lane, for the thread that joins it: by them both rings are settled.
 #[derive(Drop)]
 pub struct WorkerEnd {
-    pub reason: EndReason,
+    pub why: EndReason,
     pub ended: Ended<Item>,
     pub outlet: Outlet<Outcome>,
 }
@@ -59,7 +58,7 @@ pub(crate) fn open<C: Clock>(line: &mut WorkerLane, clock: &mut C) -> bool
 {
     while spend(&mut line.turns) {
         if line.has_room() {
-            line.put(Happening::Open);
+            line.put(What::Open);
             clock.note_work();
             return true;
         }
@@ -83,8 +82,8 @@ pub(crate) fn put_end<C: Clock>(inlet: &mut Inlet<Item>, clock: &mut C, turns: &
 }
 
 /// Puts End where the device ended the worker, and gives the ends of its lane.
-pub(crate) fn finish<C: Clock>(line: WorkerLane, clock: &mut C, reason: EndReason) -> WorkerEnd
-    ensures reason { result.reason ≡ reason }
+pub(crate) fn finish<C: Clock>(line: WorkerLane, clock: &mut C, why: EndReason) -> WorkerEnd
+    ensures why { result.why ≡ why }
     ensures inlet { EndsLane line.inlet result.ended }
     ensures outlet { result.outlet ≡ line.outcomes }
     ensures put { WithEnd (put_by line) (all_put result.ended) }
@@ -97,11 +96,11 @@ pub(crate) fn finish<C: Clock>(line: WorkerLane, clock: &mut C, reason: EndReaso
         mut turns,
         alloc: _,
     } = line;
-    if reason == EndReason::Device {
+    if why == EndReason::Device {
         put_end(&mut inlet, clock, &mut turns);
     }
     WorkerEnd {
-        reason,
+        why,
         ended: inlet.finish(),
         outlet: outcomes,
     }

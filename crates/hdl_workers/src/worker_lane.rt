@@ -4,7 +4,7 @@ ghost use Rattle.std.specs.Prelude.{◌≡◌, ◌+◌, length};
 ghost use Rattle.hdl_lanes.specs.Lane.{put_into, taken_from};
 
 use crate::{Item, WorkerSide};
-use hdl_events::{Happening, Outcome};
+use hdl_events::{Outcome, What};
 use hdl_lanes::{Inlet, Outlet};
 use std::alloc::Global;
 
@@ -52,7 +52,7 @@ impl WorkerLane {
     }
 
     /// Puts an event.
-    pub(crate) fn put(&mut self, what: Happening)
+    pub(crate) fn put(&mut self, what: What)
         requires room { HasPlace self.old }
         ensures line { SameWorkerLane self.old self.new }
         ensures put { put_by self.new ≡ put_by self.old ++ Event what ∷ [] }

@@ -13,7 +13,7 @@ use hdl_client::Reply;
 use hdl_limits::{Items, MESSAGE_MAX, Octets, WRITTEN_MAX};
 use hdl_msg::{ContentView, ReplyView, RequestBody, ResponseCode, Values, request_len};
 use hdl_proxy::{Answer, Keeping, Status, refusal, values_answer};
-use hdl_value::{Value, ValueFault};
+use hdl_value::{Value, ValueFault, Wire};
 use std::alloc::{AllocError, Global};
 
 /// A copy of the order's handle.
@@ -22,7 +22,7 @@ fn handle_of(alloc: Global, order: &Order) -> Result<Octets, AllocError> {
 }
 
 fn is_short(body: &RequestBody) -> bool {
-    request_len(body) <= MESSAGE_MAX as usize
+    request_len(Wire::Profile, body) <= MESSAGE_MAX as usize
 }
 
 /// The reply to a request, whatever its code is.
@@ -143,7 +143,7 @@ fn ask_to_read<S: ChangeServer>(
     reply_to(service, order, &body)
 }
 
-/// Of these indexes, or of all, those that are there and that the key may read.
+/// Those of these indexes, or of all, that are there and that the key may read.
 fn indexes_there<S: ChangeServer>(
     alloc: Global,
     service: &mut S,
@@ -411,7 +411,7 @@ fn carry_read<S: ChangeServer>(
 }
 
 /// Carries out an order: reads the body of its request, where it takes one, asks for one thing after the other, and makes the answer.
-/// Nothing is asked where the body is refused. Where a request isn't done, none behind it is sent, and the answer says what was done.
+/// Nothing is asked where the body is refused. Where a request isn't done, none after it is sent, and the answer says what was done.
 pub fn carry_out<S: ChangeServer>(
     alloc: Global,
     service: &mut S,

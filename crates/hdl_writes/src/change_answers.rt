@@ -49,12 +49,12 @@ pub(crate) fn change_words(code: u32) -> &'static str
         Some(ResponseCode::HandleNotFound) => "This handle isn't there.",
         Some(ResponseCode::HandleAlreadyExists) => "This handle is there already.",
         Some(ResponseCode::InvalidHandle) => "The server says that this is no handle.",
-        Some(ResponseCode::ValueNotFound) => "A value isn't there, or isn't to be read.",
-        Some(ResponseCode::ValueAlreadyExists) => "A value of such an index is there already.",
+        Some(ResponseCode::ValueNotFound) => "A value is missing, or the key may not read it.",
+        Some(ResponseCode::ValueAlreadyExists) => "A value with this index exists already.",
         Some(ResponseCode::ValueInvalid) =>
             "The server refuses the values: a record has an HS_ADMIN value, and at most 1024 values.",
         Some(ResponseCode::ServiceReferral) =>
-            "No server that was asked has handles of this prefix.",
+            "None of the servers that were asked hosts this prefix.",
         Some(ResponseCode::NotAuthorized) => "The key is no administrator of this handle.",
         Some(ResponseCode::AccessDenied) => "The key lacks a permission for this.",
         Some(ResponseCode::AuthenticationFailed) => "The secret isn't that of the key.",
@@ -84,7 +84,7 @@ fn step_word(body: &RequestBody) -> &'static str {
     }
 }
 
-/// That a change was done.
+/// The answer to a change that was done.
 pub(crate) fn success(alloc: Global, handle: &[u8], status: Status) -> Result<Answer, AllocError>
     ensures told { IfOk result (Tells status Media.Json) }
 {
@@ -105,7 +105,7 @@ fn step_words(alloc: Global, steps: &[RequestBody]) -> Result<Json, AllocError> 
     Ok(Json::from(words))
 }
 
-/// That a change wasn't done, or not whole: what of it was done, by its requests.
+/// The answer to a change that wasn't done, or not whole: what of it was done, by its requests.
 pub(crate) fn failure(
     alloc: Global,
     handle: &[u8],

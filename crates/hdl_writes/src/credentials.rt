@@ -43,7 +43,7 @@ impl From<AllocError> for KeyFault {
 
 const BASIC: &[u8] = b"basic ";
 
-/// What stands behind the word Basic.
+/// What follows the word Basic.
 fn basic_in(field: &[u8]) -> Option<&[u8]>
     ensures { Reads (λ text. text.now) result (basic_in field.now) }
 {

@@ -20,7 +20,7 @@ use hex::FromHexError;
 use serde_json::Value as Json;
 use std::alloc::{AllocError, Global};
 
-/// How the data of a value is told.
+/// How the data of a value is written in JSON.
 #[derive(Clone, Copy, PartialEq, Eq)]
 enum Format {
     Text,
@@ -206,7 +206,7 @@ fn formatted_in(alloc: Global, json: &Json) -> Result<Vec<u8>, EntryFault>
     octets_by(alloc, format, told)?.ok_or(format.fault())
 }
 
-/// The data that is told: text, or an object of `format` and `value`.
+/// The data that the JSON says: text, or an object of `format` and `value`.
 #[tactic(auto, unfolding(crate::specs::Data::data_in))]
 pub(crate) fn data_in(alloc: Global, json: &Json) -> Result<Vec<u8>, EntryFault>
     ensures value { IfOk result (λ v. data_in (view json.now) ≡ Ok v.items) }

@@ -53,7 +53,7 @@ pub enum RecordFault {
     Many,
     #[error("value {place}: {fault}")]
     Entry { place: u64, fault: EntryFault },
-    #[error("value {place}: its index stands twice")]
+    #[error("value {place}: its index is given twice")]
     Twice { place: u64 },
     #[error("an object of it has a key twice")]
     Again,

@@ -46,7 +46,7 @@ pub(crate) fn ttl_in_json(json: Option<&Json>) -> Option<u32>
     }
 }
 
-/// The permissions of a value of this type: four digits, administrator reads, administrator writes, anybody reads, anybody writes.
+/// The permissions of a value of this type: four digits, administrator reads, administrator writes, everyone reads, everyone writes.
 pub(crate) fn permissions_in_json(kind: &[u8], json: Option<&Json>) -> Option<u8>
     ensures { result ≡ permissions_in_json kind.now (option_map view (option_copied json.entry)) }
 {

@@ -32,7 +32,7 @@ fn keys_in(alloc: Global, text: &str) -> Result<u64, AllocError>
             count += 1;
         }
     }
-    // No memory holds so long a text.
+    // No memory holds a text of that length.
     Err(AllocError)
 }
 

@@ -108,11 +108,11 @@ fn page_answer(
 
 /// What is said of more handles than one reply of a server says.
 const LONG_LIST: &str =
-    "The prefix has more handles than one answer of the server says. Whoever runs this proxy gives it a copy of the table: `handled copy`, and then `--lists` with the copy.";
+    "The prefix has more handles than fit into one reply. The proxy's operator can give it a copy of the table: `handled copy`, then `--lists COPY`.";
 
 /// Where handles are from that a copy has.
 const COPIED: &str =
-    "The prefix has more handles than one answer of the server says: these are of a copy of the table.";
+    "The prefix has more handles than fit into one reply: these are from a copy of the table.";
 
 /// What is answered to who may list more handles than one reply of the server says: those that a copy has, where there is one.
 fn long_answer<S: ChangeServer>(

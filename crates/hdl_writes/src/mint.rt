@@ -14,9 +14,9 @@ use std::alloc::{AllocError, Global};
 /// How many suffixes are drawn at most until one is new.
 const DRAWN_MOST: u32 = 8;
 
-const NONE_NEW: &str = "Of eight suffixes that were drawn none was new. Nothing was done.";
+const NONE_NEW: &str = "All eight suffixes that were drawn exist already. Nothing was done.";
 
-/// Creates the handle of a suffix that is drawn behind the order's name. None: it is there already.
+/// Creates the handle of the order's name with a drawn suffix. None: it is there already.
 fn mint_once<S: ChangeServer>(
     alloc: Global,
     service: &mut S,

@@ -45,7 +45,7 @@ pub struct Window {
     pub size: u32,
 }
 
-/// What is done.
+/// What a request asks to do.
 #[derive(Drop)]
 pub enum Act {
     /// The values of the body are put into the handle; where indexes are named, no others may be among them.
@@ -80,7 +80,7 @@ pub struct Order {
 }
 
 impl Order {
-    /// Whether the handle may be another one behind it.
+    /// Whether the request may change the handle.
     pub fn changes(&self) -> bool {
         !matches!(self.act, Act::List { .. } | Act::Read { .. })
     }
@@ -136,7 +136,7 @@ fn named_indexes(alloc: Global, pairs: &[Pair]) -> Result<Vec<u32>, AddressFault
     }
 }
 
-const ONCE: &str = "The words overwrite, mintNewSuffix and auth are true or false, and stand once.";
+const ONCE: &str = "overwrite, mintNewSuffix and auth are true or false, each given once.";
 
 fn is_set(alloc: Global, pairs: &[Pair], name: &str) -> Result<Option<bool>, AddressFault> {
     let mut values = values_named(alloc, pairs, name)?;
@@ -166,7 +166,7 @@ fn among(alloc: Global, pairs: &[Pair]) -> Result<Option<Vec<u32>>, AddressFault
 fn minting(alloc: Global, pairs: &[Pair]) -> Result<Act, AddressFault> {
     if has_pair(pairs, "index") || is_set(alloc, pairs, "overwrite")? == Some(true) {
         return Err(address_fault(
-            "With mintNewSuffix a new handle is created, so index and overwrite=true aren't taken.",
+            "mintNewSuffix creates a new handle, so index and overwrite=true are refused.",
         ));
     }
     Ok(Act::Mint)
@@ -222,9 +222,7 @@ fn number_of(alloc: Global, pairs: &[Pair], name: &str) -> Result<Option<u32>, A
     match last_named(alloc, pairs, name)? {
         Some(text) => match text.parse::<u32>() {
             Ok(number) => Ok(Some(number)),
-            Err(_) => Err(address_fault(
-                "The words page and pageSize are numbers below 4294967296.",
-            )),
+            Err(_) => Err(address_fault("page and pageSize are numbers below 4294967296.")),
         },
         None => Ok(None),
     }
@@ -244,7 +242,7 @@ fn bad_address(alloc: Global, asked: &[u8], why: &str) -> Result<Answer, AllocEr
     refusal(alloc, Status::BadRequest, asked, code, why)
 }
 
-/// That what is named is no handle, and why.
+/// The answer if what is named is no handle, and why.
 pub(crate) fn no_name(alloc: Global, asked: &[u8], fault: NameFault) -> Result<Answer, AllocError> {
     let why = format!(in alloc; "This is no handle: {fault}.")?;
     bad_address(alloc, asked, &why)
@@ -291,7 +289,7 @@ fn order_of(
     }
 }
 
-/// That a request has no key, or none that can be read.
+/// The answer to a request without a key that can be read.
 fn no_key(alloc: Global, asked: &[u8], fault: KeyFault) -> Result<Answer, AllocError> {
     let code = match fault {
         KeyFault::Memory => return Err(AllocError),
@@ -330,7 +328,7 @@ fn begin_handle(
 fn other_method(alloc: Global, path: &str) -> Result<Begun, AllocError>
     ensures { (method : List ℕ) → (pairs : List (List ℕ × List ℕ)) → IfOk result (HasKnownWords method pairs) }
 {
-    let why = "A handle is asked for by GET or HEAD, and changed by PUT or DELETE.";
+    let why = "Use GET or HEAD to read a handle, PUT or DELETE to change it.";
     let code = ResponseCode::OperationDenied.number();
     let answer = refusal(alloc, Status::MethodNotAllowed, path.as_bytes(), code, why)?;
     Ok(Begun::Answer(answer))
@@ -353,9 +351,9 @@ fn begin_reading(alloc: Global, sent: SentRequest<'_>) -> Result<Begun, AllocErr
 }
 
 const KNOWN: &str =
-    "The query has a word that isn't done here. Nothing was done. A PUT takes overwrite, index and mintNewSuffix, a DELETE index.";
+    "The query has an unknown parameter. Nothing was done. A PUT takes overwrite, index and mintNewSuffix, a DELETE index.";
 
-/// That the query has a word that isn't known: nothing is passed over that may change what is meant.
+/// The answer to a query with an unknown parameter: none is ignored, since it may change what is meant.
 fn unknown_word(alloc: Global, text: &str) -> Result<Begun, AllocError>
     ensures { (method : List ℕ) → (pairs : List (List ℕ × List ℕ)) → IfOk result (HasKnownWords method pairs) }
 {

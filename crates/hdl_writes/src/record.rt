@@ -52,7 +52,7 @@ pub(crate) fn has_index(index: u32, values: &[Value]) -> bool
     values.iter().any(|value| value.index == index)
 }
 
-/// The place of the first value whose index stands behind it again; the first of these values is at `place`.
+/// The place of the first value whose index stands after it again; the first of these values is at `place`.
 fn twice_from(place: u64, values: &[Value]) -> Option<u64>
     requires { place + length values.now < 2 ^ 64 }
     ensures { result ≡ twice_from place values.now }

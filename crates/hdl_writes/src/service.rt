@@ -28,11 +28,11 @@ pub trait ChangeServer: Drop {
     /// because its connection was old, and none is sent twice.
     fn renew(&mut self);
 
-    /// The reply to a request, whose challenge the key answers. The connection, time-outs, and whom to ask after a referral are the
+    /// The reply to a request, whose challenge the key answers. The connection, time-outs, and which server to ask after a referral are the
     /// service's. It may wait, but not for ever.
     fn ask(&mut self, body: &RequestBody, key: &Key) -> Result<Reply, NoReply>;
 
-    /// Octets that nobody can guess, of which the suffix of a new name is made.
+    /// Octets that no one can guess, of which the suffix of a new name is made.
     fn draw(&mut self) -> [u8; SUFFIX_LEN];
 
     /// The handles of a prefix in canonical form that a copy of the table has, where there is a copy.

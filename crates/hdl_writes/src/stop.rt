@@ -38,18 +38,18 @@ impl From<NoReply> for ChangeFault {
     }
 }
 
-const SILENT: &str = "No answer of a server came. Whether this was done isn't known.";
+const SILENT: &str = "The server sent no answer. The change may or may not have been made.";
 
-const UNREACHED: &str = "The server to which changes go wasn't reached. Nothing was done.";
+const UNREACHED: &str = "The server for changes can't be reached. Nothing was done.";
 
 const UNREACHED_BEHIND: &str =
-    "The server to which changes go was reached no more. Nothing but what stands under done was done.";
+    "The server for changes can't be reached any more. Only what `done` lists was done.";
 
 const TOO_LONG: &str = "The change needs a request of more than 65536 octets. Nothing was done.";
 
 const TOO_MANY: &str = "The change would remove more than 256 values. Nothing was done.";
 
-/// What is said of a server that wasn't reached, behind so many requests that were done.
+/// The words for a server that wasn't reached, after the requests that were done.
 fn unreached_words(done: usize) -> &'static str {
     if done == 0 {
         UNREACHED
@@ -58,7 +58,7 @@ fn unreached_words(done: usize) -> &'static str {
     }
 }
 
-/// The status, the code and the words of a stop behind so many requests that were done. None: memory was refused.
+/// The status, the code and the words of a stop after the requests that were done. None: memory was refused.
 fn words_of_stop(stop: ChangeFault, done: usize) -> Option<(Status, u32, &'static str)> {
     let error = ResponseCode::Error.number();
     match stop {
@@ -73,7 +73,7 @@ fn words_of_stop(stop: ChangeFault, done: usize) -> Option<(Status, u32, &'stati
     }
 }
 
-/// The answer to an order that stopped, behind the requests of it that were done.
+/// The answer to an order that stopped, after those of its requests that were done.
 pub(crate) fn answer_to_stop(
     alloc: Global,
     handle: &[u8],

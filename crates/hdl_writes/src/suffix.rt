@@ -18,7 +18,7 @@ fn letter(octet: u8) -> u8
     LETTERS[usize::from(octet % 32)]
 }
 
-/// These octets with the letters behind them that the others draw.
+/// The front, followed by the letters that the drawn octets stand for.
 pub fn with_suffix(alloc: Global, front: &[u8], drawn: &[u8]) -> Result<Vec<u8>, AllocError>
     ensures { IfOk result (λ name. name.items ≡ with_suffix front.now drawn.now) }
 {

@@ -10,6 +10,7 @@ use hdl_client::{Batch, ClientFault, Key, Outcomes, Session, Task, connect, requ
 use hdl_limits::{Items, Octets};
 use hdl_lines::{printed_octets, shown_line};
 use hdl_msg::{Body, ContentView, ReplyView, RequestBody, ResponseCode, Values, read_request};
+use hdl_value::Wire;
 use std::alloc::{AllocError, Global};
 use std::io::{self, Read, Write};
 use std::{fs, mem};
@@ -17,7 +18,7 @@ use thiserror::Error;
 
 /// What can be done where the connection failed.
 const AGAIN: &str =
-    "; start again with the same file: a handle that is there with its values counts as done";
+    "; start again with the same file: handles that exist with these values count as done";
 
 /// What is imported, and where.
 #[derive(Drop)]
@@ -26,6 +27,8 @@ pub struct Import {
     pub file: String,
     /// `HOST:PORT`.
     pub server: String,
+    /// By whose layout the server speaks of values.
+    pub wire: Wire,
     /// A reference to the key that answers the challenges.
     pub key: String,
     /// Whether the file is only read, and nothing sent.
@@ -43,7 +46,7 @@ enum ImportFault {
     Key(WordFault),
     #[error("{0}")]
     Client(ClientFault),
-    #[error("the service refuses the key: look at --key and its secret; what stands behind wasn't tried")]
+    #[error("the server refuses the key: check --key and its secret; later rows were not tried")]
     Refused,
 }
 
@@ -149,12 +152,12 @@ fn lines_of(alloc: Global, values: Values<'_>) -> Result<Vec<Vec<u8>>, AllocErro
     Ok(lines)
 }
 
-/// Whether a reply shows just the values of the request with this message, whenever they were written.
-fn shows_just(alloc: Global, reply: &ReplyView<'_>, message: &[u8]) -> Result<bool, AllocError> {
+/// Whether a reply shows just the values of this task, whenever they were written.
+fn shows_just(alloc: Global, reply: &ReplyView<'_>, creation: &Task) -> Result<bool, AllocError> {
     let ContentView::Values { values: there, .. } = reply.content else {
         return Ok(false);
     };
-    let Ok(request) = read_request(message) else {
+    let Ok(request) = read_request(creation.wire, &creation.message) else {
         return Ok(false);
     };
     let Body::Create { values: meant, .. } = request.body() else {
@@ -179,7 +182,7 @@ impl Outcomes for Comparisons<'_> {
     fn note_reply(&mut self, task: &Task, code: u32, reply: &ReplyView<'_>) {
         let creation = self.tasks.iter().find(|other| other.line == task.line);
         let is_same = match creation {
-            Some(creation) => shows_just(self.rt.alloc(), reply, &creation.message),
+            Some(creation) => shows_just(self.rt.alloc(), reply, creation),
             None => Ok(false),
         };
         if is_same.unwrap_or(false) {
@@ -197,24 +200,25 @@ impl Outcomes for Comparisons<'_> {
 }
 
 /// The message that asks for the values of a handle.
-fn resolution(alloc: Global, handle: &[u8]) -> Result<Vec<u8>, ClientFault> {
+fn resolution(alloc: Global, wire: Wire, handle: &[u8]) -> Result<Vec<u8>, ClientFault> {
     let body = RequestBody::Resolution {
         handle: Octets::new(Vec::from_slice(alloc, handle)?),
         indexes: Items::new(Vec::new(alloc)),
         types: Items::new(Vec::new(alloc)),
     };
-    request_message(alloc, &body)
+    request_message(alloc, wire, &body)
 }
 
 /// The task that asks for the values of a handle, in the place of the one that was to create it.
 fn question(alloc: Global, task: &Task) -> Result<Task, ClientFault> {
-    let message = resolution(alloc, &task.handle)?;
+    let message = resolution(alloc, task.wire, &task.handle)?;
     let title = String::from_str(alloc, &task.title)?;
     let handle = Vec::from_slice(alloc, &task.handle)?;
     Ok(Task {
         line: task.line,
         title,
         message,
+        wire: task.wire,
         key: task.key,
         handle,
         is_alone: false,
@@ -399,7 +403,7 @@ fn import_rows(rt: &HostRuntime, import: &Import, counts: &mut Counts) -> Result
         Ok(reference) => reference,
         Err(fault) => return Err(ImportFault::Key(fault)),
     };
-    let mut rows = match HandleRows::new(alloc, reference, &text) {
+    let mut rows = match HandleRows::new(alloc, import.wire, reference, &text) {
         Ok(rows) => rows,
         Err(fault) => return Err(ImportFault::Header(fault)),
     };

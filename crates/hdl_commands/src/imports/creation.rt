@@ -14,13 +14,13 @@ use hdl_limits::{Items, NAME_MAX, Octets, WRITTEN_MAX};
 use hdl_lines::printed_octets;
 use hdl_msg::{OpCode, RequestBody};
 use hdl_name::Name;
-use hdl_value::{HS_ADMIN, RawRef, RawRefs, Value, put_string, put_u16, put_u32};
+use hdl_value::{HS_ADMIN, RawRef, RawRefs, Value, Wire, put_string, put_u16, put_u32};
 use std::alloc::Global;
 
 /// All that an administrator may do.
 const EVERYTHING: u16 = 0x0FFF;
 
-/// Where an administrator is added: at this index, or the first one behind it that is free.
+/// Where an administrator is added: at this index, or the first one after it that is free.
 const PLACE: u32 = 100;
 
 /// The data of an administrator who may do everything, by this key.
@@ -112,11 +112,12 @@ fn check(values: &[Value]) -> Result<(), WordFault> {
 /// The message that creates a handle of its rows' values. A request that the service wouldn't take is refused with its reason.
 fn creation(
     alloc: Global,
+    wire: Wire,
     key: &RawRef,
     handle: &[u8],
     rows: Vec<Value>,
 ) -> Result<Vec<u8>, WordFault>
-    ensures { IfOk result (λ message. Creates key.now handle.now rows.items message.items) }
+    ensures { IfOk result (λ message. Creates wire key.now handle.now rows.items message.items) }
 {
     let values = with_administrator(alloc, key, rows)?;
     check(&values)?;
@@ -124,26 +125,29 @@ fn creation(
         handle: Octets::new(Vec::from_slice(alloc, handle)?),
         values: Items::new(values),
     };
-    message_or_fault(alloc, &body)
+    message_or_fault(alloc, wire, &body)
 }
 
 /// The task that creates a handle of its rows' values; `line` is that of the first row.
 pub(crate) fn creation_task(
     alloc: Global,
+    wire: Wire,
     key: &RawRef,
     line: usize,
     handle: &[u8],
     rows: Vec<Value>,
 ) -> Result<Task, WordFault>
-    ensures { IfOk result (λ task. Creates key.now handle.now rows.items task.message.items) }
+    ensures creates { IfOk result (λ task. Creates wire key.now handle.now rows.items task.message.items) }
+    ensures layout { IfOk result (λ task. task.wire ≡ wire) }
 {
     let name = Name::read(alloc, handle)?;
     let is_alone = may_disturb(OpCode::CreateHandle, &name) || rows.iter().any(is_relied_on);
-    let message = creation(alloc, key, handle, rows)?;
+    let message = creation(alloc, wire, key, handle, rows)?;
     Ok(Task {
         line,
         title: printed_octets(alloc, handle)?,
         message,
+        wire,
         key: Some(0),
         handle: Vec::from_slice(alloc, name.canon())?,
         is_alone,

@@ -12,7 +12,7 @@ use hdl_lines::{LineFault, number_in, permissions_in, value_by_type};
 use hdl_value::Value;
 use std::alloc::Global;
 
-/// The permissions 1110: administrators read and write, anybody reads.
+/// The permissions 1110: administrators read and write, everyone reads.
 pub(crate) const OPEN: u8 = 14;
 
 /// The TTL where none is said: a day.

@@ -12,13 +12,13 @@ use crate::imports::row::value_in_row;
 use csv::ByteRecord;
 use hdl_client::Task;
 use hdl_lines::{LineFault, cut_at};
-use hdl_value::{RawRef, Value};
+use hdl_value::{RawRef, Value, Wire};
 use std::alloc::{AllocError, Global};
 
 /// How many handles are asked for at a time.
 const PART: usize = 1000;
 
-/// Who is told what of a file isn't imported.
+/// Is informed of what isn't imported of a file.
 pub(crate) trait Faults {
     /// This line, a row of this handle, is at fault.
     fn note_fault(&mut self, line: usize, handle: &[u8], fault: WordFault);
@@ -88,7 +88,9 @@ impl Entry {
 #[derive(Drop)]
 pub(crate) struct HandleRows<'t> {
     alloc: Global,
-    /// The key of the administrator whom a handle without one gets.
+    /// The layout of values in the requests.
+    wire: Wire,
+    /// The key of the administrator that a handle without one gets.
     key: RawRef,
     columns: Columns,
     /// How many fields a row has.
@@ -108,14 +110,19 @@ fn line_of(text: &[u8]) -> (&[u8], &[u8]) {
     }
 }
 
-/// Whether a CR stands in a line, behind which there would be a record more.
+/// Whether a CR stands in a line, after which there would be a record more.
 fn has_return(line: &[u8]) -> bool {
     line.contains(&b'\r')
 }
 
 impl<'t> HandleRows<'t> {
-    /// The rows behind the header of this text.
-    pub fn new(alloc: Global, key: RawRef, text: &'t [u8]) -> Result<HandleRows<'t>, WordFault> {
+    /// The rows after the header of this text.
+    pub fn new(
+        alloc: Global,
+        wire: Wire,
+        key: RawRef,
+        text: &'t [u8],
+    ) -> Result<HandleRows<'t>, WordFault> {
         let (header, rest) = line_of(text);
         if let Some(fault) = other_form(header) {
             return Err(fault);
@@ -128,6 +135,7 @@ impl<'t> HandleRows<'t> {
         };
         Ok(HandleRows {
             alloc,
+            wire,
             key,
             columns: columns_of(&names)?,
             width: names.len(),
@@ -162,7 +170,7 @@ impl<'t> HandleRows<'t> {
         if is_faulty {
             return faults.left_out();
         }
-        let fault = match creation_task(self.alloc, &self.key, line, &handle, values) {
+        let fault = match creation_task(self.alloc, self.wire, &self.key, line, &handle, values) {
             Ok(task) => match tasks.push(task) {
                 Ok(()) => return,
                 Err(_) => WordFault::Memory,

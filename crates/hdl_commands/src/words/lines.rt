@@ -6,12 +6,13 @@ use crate::words::request::push_request;
 use crate::words::value::push_value;
 use hdl_frame::{Frame, one_datagram};
 use hdl_msg::{read_reply, read_request};
-use hdl_value::cut_value;
+use hdl_value::{Wire, cut_value};
 use std::alloc::AllocError;
 
 /// Adds a frame: a request or a reply, whichever its message is, or a piece of one.
 fn push_frame(
     printout: &mut Printout,
+    wire: Wire,
     frame: &Frame<'_>,
     is_reply: bool,
 ) -> Result<(), AllocError> {
@@ -25,20 +26,25 @@ fn push_frame(
     }
     let message = frame.payload();
     if !is_reply {
-        return match read_request(message) {
+        return match read_request(wire, message) {
             Ok(request) => push_request(printout, envelope, &request),
-            Err(_) => printout.push(";; a frame whose message is no request"),
+            Err(_) => printout.push(";; a frame, but its message is no request"),
         };
     }
-    match read_reply(message) {
+    match read_reply(wire, message) {
         Ok(reply) => push_reply(printout, envelope, &reply),
-        Err(_) => printout.push(";; a frame whose message is no reply"),
+        Err(_) => printout.push(";; a frame, but its message is no reply"),
     }
 }
 
-fn push_octets(printout: &mut Printout, octets: &[u8], is_reply: bool) -> Result<(), AllocError> {
+fn push_octets(
+    printout: &mut Printout,
+    wire: Wire,
+    octets: &[u8],
+    is_reply: bool,
+) -> Result<(), AllocError> {
     match one_datagram(octets) {
-        Ok(frame) => push_frame(printout, &frame, is_reply),
+        Ok(frame) => push_frame(printout, wire, &frame, is_reply),
         Err(fault) => {
             let line = format!(in printout.alloc; ";; no frame: {fault}")?;
             printout.push(&line)
@@ -46,9 +52,14 @@ fn push_octets(printout: &mut Printout, octets: &[u8], is_reply: bool) -> Result
     }
 }
 
-fn push_digits(printout: &mut Printout, digits: &str, is_reply: bool) -> Result<(), AllocError> {
+fn push_digits(
+    printout: &mut Printout,
+    wire: Wire,
+    digits: &str,
+    is_reply: bool,
+) -> Result<(), AllocError> {
     match hex::decode(printout.alloc, digits) {
-        Ok(octets) => push_octets(printout, &octets, is_reply),
+        Ok(octets) => push_octets(printout, wire, &octets, is_reply),
         Err(_) => printout.push(";; no hexadecimal digits"),
     }
 }
@@ -80,6 +91,7 @@ fn is_reply(printout: &Printout, digits: &str) -> bool {
 /// Adds what a script says of a frame, and the frame.
 fn push_event(
     printout: &mut Printout,
+    wire: Wire,
     lane: &str,
     peer: &str,
     moment: &str,
@@ -87,38 +99,47 @@ fn push_event(
 ) -> Result<(), AllocError> {
     let said = format!(in printout.alloc; ";; lane {lane}, peer {peer}, moment {moment}")?;
     printout.push(&said)?;
-    push_digits(printout, digits, false)
+    push_digits(printout, wire, digits, false)
 }
 
 /// Adds what `handled` says of a reply, and the reply.
 fn push_outcome(
     printout: &mut Printout,
+    wire: Wire,
     lane: &str,
     what: &str,
     digits: &str,
 ) -> Result<(), AllocError> {
     let said = format!(in printout.alloc; ";; lane {lane}: {what}")?;
     printout.push(&said)?;
-    push_digits(printout, digits, true)
+    push_digits(printout, wire, digits, true)
 }
 
 /// Adds what a line with these fields says.
-fn push_fields(printout: &mut Printout, line: &str, fields: &[&str]) -> Result<(), AllocError> {
+fn push_fields(
+    printout: &mut Printout,
+    wire: Wire,
+    line: &str,
+    fields: &[&str],
+) -> Result<(), AllocError> {
     match fields {
         ["value", handle, digits] => push_row(printout, handle, digits),
         ["frame", lane, peer, moment, _, digits] => push_event(
-            printout, lane, peer, moment, digits,
+            printout, wire, lane, peer, moment, digits,
         ),
         [lane, what, digits] if matches!(*what, "reply" | "busy" | "close") => {
-            push_outcome(printout, lane, what, digits)
+            push_outcome(printout, wire, lane, what, digits)
         }
-        [digits] if digits.len() >= 40 => push_digits(printout, digits, is_reply(printout, digits)),
+        [digits] if digits.len() >= 40 => {
+            push_digits(printout, wire, digits, is_reply(printout, digits))
+        }
         _ => printout.push(line),
     }
 }
 
-/// Adds what a line says: a line of a script or of what `handled` prints, or the digits of a frame alone. Any other line stays as it is.
-pub fn explain(printout: &mut Printout, line: &str) -> Result<(), AllocError> {
+/// Adds what a line says: a line of a script or of what `handled` prints, or the digits of a frame alone. Any other line stays as it is. The values of
+/// messages stand by this layout, those of lines `value` by our profile's.
+pub fn explain(printout: &mut Printout, wire: Wire, line: &str) -> Result<(), AllocError> {
     let fields: Vec<&str> = line.split(' ').collect(printout.alloc)?;
-    push_fields(printout, line, &fields)
+    push_fields(printout, wire, line, &fields)
 }

@@ -17,7 +17,7 @@ pub fn operation_name(number: u32) -> &'static str {
     }
 }
 
-/// The operation that a word asks for, in capital or small letters. Nobody asks for a challenge response in a word.
+/// The operation that a word names, in capital or small letters. No word names a challenge response.
 pub fn operation_in(word: &str) -> Option<OpCode> {
     match word {
         "resolve" | "RESOLVE" => Some(OpCode::Resolution),

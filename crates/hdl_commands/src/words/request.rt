@@ -74,7 +74,7 @@ fn push_body(printout: &mut Printout, word: &str, body: &Body<'_>) -> Result<(),
         } => push_response(printout, word, handle, *index, answer),
         Body::Other { octets } => {
             let line = format!(in printout.alloc;
-                ";; an operation that isn't used, {} octets",
+                ";; an unknown operation, {} octets",
                 octets.len()
             )?;
             printout.push(&line)
@@ -108,7 +108,7 @@ pub fn push_request(
     )?;
     printout.push(&line)?;
     if request.header().has(OpFlag::PublicOnly) {
-        printout.push(";; of what anybody may read alone")?;
+        printout.push(";; public values only")?;
     }
     if request.header().has(OpFlag::ReturnDigest) {
         printout.push(";; with the request's digest in the reply")?;

@@ -53,7 +53,7 @@ pub fn push_value(printout: &mut Printout, value: &CutValue<'_>) -> Result<(), A
     push_line(printout, value)
 }
 
-/// Adds the data of a value alone, as it stands in the value's line behind the format; of a hidden key just how many octets it has.
+/// Adds the data of a value alone, as it stands in the value's line after the format; of a hidden key just how many octets it has.
 pub fn push_data(printout: &mut Printout, value: &CutValue<'_>) -> Result<(), AllocError>
     ensures hidden { is_hidden value.now printout.old.shows_keys ≡ true → OnOk result (printout.new ≡ with_line printout.old (hidden_data (hidden_count value.now))) }
     ensures shown { is_hidden value.now printout.old.shows_keys ≡ false → OnOk result (printout.new ≡ with_line printout.old (whole_data value.now)) }

@@ -120,7 +120,7 @@ pub struct Plan {
 #[derive(Drop)]
 pub struct Ran<S> {
     pub serving: S,
-    pub reason: EndReason,
+    pub why: EndReason,
     pub served: u64,
     pub unserved: Vec<Item>,
     pub untaken: Vec<Outcome>,
@@ -138,11 +138,11 @@ fn settle_rings<L: Made, S: Serving + Drop>(beside: Beside<L, S>, end: WorkerEnd
         of: _,
     } = beside;
     let ends = lanes.pop()?;
-    let reason = end.reason;
+    let why = end.why;
     let (unserved, untaken) = ends.settle(end);
     Some(Ran {
         serving,
-        reason,
+        why,
         served,
         unserved,
         untaken,

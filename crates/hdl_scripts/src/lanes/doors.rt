@@ -78,11 +78,11 @@ fn tell_ran<S>(
     ran: &Ran<S>,
     told: &mut Vec<u8>,
 ) -> io::Result<()> {
-    let reason = word_of(ran.reason);
+    let why = word_of(ran.why);
     let served = ran.served;
     writeln!(
         told,
-        "  {reason}, {faults} faults, {served} served, {frames} frames"
+        "  {why}, {faults} faults, {served} served, {frames} frames"
     )?;
     write!(told, "  unserved")?;
     for item in &ran.unserved {

@@ -134,23 +134,23 @@ fn run_recorded<D: Door>(
     let LanePair { side, ends } = pair;
     recorder.ends = ends;
     let end = stream_worker(alloc, door, recorder, nonces, side, turns);
-    end.reason
+    end.why
 }
 
 /// Tells how a worker ended, and what it put.
 fn tell_recorded<D: Door>(
-    reason: EndReason,
+    why: EndReason,
     door: &Counting<D>,
     put: &[u8],
     told: &mut Vec<u8>,
 ) -> io::Result<()> {
-    let reason = word_of(reason);
+    let why = word_of(why);
     let faults = door.faults();
     let writes = door.writes;
     let longest = door.longest;
     writeln!(
         told,
-        "  {reason}, {faults} faults, {writes} writes, the longest of {longest}"
+        "  {why}, {faults} faults, {writes} writes, the longest of {longest}"
     )?;
     write!(told, "  put")?;
     told.write_all(put)?;
@@ -180,7 +180,7 @@ pub fn record(
         writes: 0,
         longest: 0,
     };
-    let reason = run_recorded(
+    let why = run_recorded(
         alloc,
         pair,
         &mut door,
@@ -189,5 +189,5 @@ pub fn record(
         plan.turns,
     );
     recorder.answer_all(plan.after)?;
-    tell_recorded(reason, &door, &recorder.put, told)
+    tell_recorded(why, &door, &recorder.put, told)
 }

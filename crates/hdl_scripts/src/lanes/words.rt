@@ -1,6 +1,6 @@
 //! Words of the texts, and of what is printed.
 
-use hdl_events::{Event, Happening, Outcome};
+use hdl_events::{Event, Outcome, What};
 use hdl_programs::Fault;
 use hdl_replay::{events_of, line_of};
 use hdl_serve::{EndReason, Item};
@@ -90,13 +90,10 @@ pub fn tell_octets(alloc: Global, word: &str, octets: &[u8], told: &mut Vec<u8>)
 /// Tells an item: a frame by the last octet of its request's number.
 pub fn tell_item(item: &Item, told: &mut Vec<u8>) -> io::Result<()> {
     match item {
-        Item::Event(Happening::Open) => write!(told, " open"),
-        Item::Event(Happening::Close) => write!(told, " close"),
-        Item::Event(Happening::Bad { session, request }) => write!(
-            told,
-            " bad {session} {request}"
-        ),
-        Item::Event(Happening::Frame { bytes, .. }) => match bytes.as_slice().get(11) {
+        Item::Event(What::Open) => write!(told, " open"),
+        Item::Event(What::Close) => write!(told, " close"),
+        Item::Event(What::Bad { session, request }) => write!(told, " bad {session} {request}"),
+        Item::Event(What::Frame { bytes, .. }) => match bytes.as_slice().get(11) {
             Some(request) => write!(told, " frame {request}"),
             None => write!(told, " frame"),
         },
@@ -105,8 +102,8 @@ pub fn tell_item(item: &Item, told: &mut Vec<u8>) -> io::Result<()> {
 }
 
 /// The word for why a worker ended.
-pub fn word_of(reason: EndReason) -> &'static str {
-    match reason {
+pub fn word_of(why: EndReason) -> &'static str {
+    match why {
         EndReason::Turns => "turns",
         EndReason::Device => "device",
     }

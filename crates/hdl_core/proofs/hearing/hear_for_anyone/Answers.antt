@@ -9,7 +9,8 @@ use Rattle.hdl_laws.specs.Effects.{answer_octets}
 use Rattle.hdl_core.specs.Serving.{challenge_of_request, context, HasItsCode, IsHeardForAnyone}
 use Rattle.hdl_core.specs.declared.hearing.Heard.{Heard}
 use Rattle.hdl_core.proofs.Heard.{on_ok, named_decides}
-use Rattle.hdl_reach.specs.Cost.{values_cost}
+use Rattle.hdl_ops.specs.Cost.{anyone_cost}
+use Rattle.hdl_ops.proofs.Costs.{by_anyone}
 use Rattle.hdl_core.proofs.Costs.{then_nothing}
 use Rattle.hdl_core.proofs.hearing.hear_for_anyone.Goals as goal
 
@@ -39,7 +40,7 @@ returns-clause-asked g c =
       d,
       named_decides (g.R.Rows.content c.args.rows.now) Anyone d c.in_ok-named.ensures.owner named c.in_ok-decision.ensures.decided,
       answered,
-      c.in_ok-octets.ensures.reply ∙ ap (λ (x : HashedRequest). answer_octets x.algorithm c.args.origin.now.envelope x.request.now d.code d.content) named,
+      c.in_ok-octets.ensures.reply ∙ ap (λ (x : HashedRequest). answer_octets x.algorithm c.args.origin.now.moment c.args.origin.now.envelope x.request.now d.code d.content) named,
       c.in_ok-octets.ensures.done ∙ ap (λ t. apply_if t c.args.origin.now.moment c.in_ok-decision.decision.change) c.decide.ensures.unchanged,
     )
 
@@ -49,16 +50,16 @@ returns-clause-read g c = λ has.
     let e = c.args.origin.now.envelope in
     let asked = c.in_ok-named.named.asked in
     c.in_ok-octets.ensures.read
-    (answer_announced_lem (hosted_by c.in_ok-named.named.owner.now) asked.algorithm (g.R.Rows.content c.args.rows.now) asked.request.now Anyone (decision_of c.in_ok-decision.decision) e.session e.request (subst (λ (x : HashedRequest). HasItsCode x.request.now) (sym c.in_ok-named.ensures.asked) has) c.in_ok-decision.ensures.decided answered)
+    (answer_announced_lem (hosted_by c.in_ok-named.named.owner.now) asked.algorithm (g.R.Rows.content c.args.rows.now) asked.request.now Anyone (decision_of c.in_ok-decision.decision) c.args.origin.now.moment e.session e.request (subst (λ (x : HashedRequest). HasItsCode x.request.now) (sym c.in_ok-named.ensures.asked) has) c.in_ok-decision.ensures.decided answered)
 
 pub returns-in_err-decision-clause-cost : goal.returns-in_err-decision-clause-cost
-returns-in_err-decision-clause-cost g c = c.decide.ensures.cost
+returns-in_err-decision-clause-cost g c = by_anyone (g.R.Rows.content c.args.rows.now) c.in_ok-named.named.asked.request.now.operation _ _ c.decide.ensures.cost
 
 pub returns-then-is_challenged-clause-cost : goal.returns-then-is_challenged-clause-cost
-returns-then-is_challenged-clause-cost g c = c.decide.ensures.cost
+returns-then-is_challenged-clause-cost g c = by_anyone (g.R.Rows.content c.args.rows.now) c.in_ok-named.named.asked.request.now.operation _ _ c.decide.ensures.cost
 
 pub returns-in_err-octets-clause-cost : goal.returns-in_err-octets-clause-cost
-returns-in_err-octets-clause-cost g c = then_nothing (g.R.Rows.content c.args.rows.now) values_cost _ _ _ c.decide.ensures.cost c.answer.ensures.reads
+returns-in_err-octets-clause-cost g c = then_nothing (g.R.Rows.content c.args.rows.now) anyone_cost _ _ _ (by_anyone (g.R.Rows.content c.args.rows.now) c.in_ok-named.named.asked.request.now.operation _ _ c.decide.ensures.cost) c.answer.ensures.reads
 
 pub returns-clause-cost : goal.returns-clause-cost
-returns-clause-cost g c = then_nothing (g.R.Rows.content c.args.rows.now) values_cost _ _ _ c.decide.ensures.cost c.answer.ensures.reads
+returns-clause-cost g c = then_nothing (g.R.Rows.content c.args.rows.now) anyone_cost _ _ _ (by_anyone (g.R.Rows.content c.args.rows.now) c.in_ok-named.named.asked.request.now.operation _ _ c.decide.ensures.cost) c.answer.ensures.reads

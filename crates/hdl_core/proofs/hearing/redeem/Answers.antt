@@ -1,27 +1,29 @@
 use Rattle.std.proofs.Common.{ℕ, List, sym, ap, ◌∙◌, subst}
+use Rattle.hdl_value.specs.declared.wire.Wire.{Wire}
 use Rattle.hdl_msg.specs.Message.{SpellsRequest}
 use Rattle.hdl_ops.proofs.Announced.{answer_announced_lem, proven_code, timeout_announced}
 use Rattle.hdl_ops.specs.Decisions.{Proven}
 use Rattle.hdl_ops.specs.Proven.{Proof}
 use Rattle.hdl_ops.specs.Tables.{apply_if}
-use Rattle.hdl_ops.specs.Views.{algorithms_by, decision_of, hosted_by, response_view}
+use Rattle.hdl_ops.specs.Views.{algorithms_by, decision_of, hosted_by, response_view, wire_by}
 use Rattle.hdl_core.proofs.Heard.{on_ok, on_both, named_decides, unreadable, late, proven}
 use Rattle.hdl_ops.specs.Cost.{proof_cost}
+use Rattle.hdl_ops.proofs.Costs.{by_proof}
 use Rattle.hdl_core.proofs.Costs.{then_nothing}
 use Rattle.hdl_core.proofs.hearing.redeem.Goals as goal
 
 pub returns-in_default-clause-redeemed : goal.returns-in_default-clause-redeemed
 returns-in_default-clause-redeemed g c =
     on_ok c.malformed_reply.result _ _
-    (λ octets is. unreadable (hosted_by c.args.owner.now) (algorithms_by c.args.owner.now) (g.R.Rows.content c.args.rows.now) c.args.origin.now (response_view c.args.response) c.args.pending.now octets
-    (λ r spells. c.in_default.ensures.malformed r (subst (λ (b : List ℕ). SpellsRequest b r) (sym c.as_slice.ensures) spells)) is)
+    (λ octets is. unreadable (wire_by c.args.owner.now) (hosted_by c.args.owner.now) (algorithms_by c.args.owner.now) (g.R.Rows.content c.args.rows.now) c.args.origin.now (response_view c.args.response) c.args.pending.now octets
+    (λ r spells. c.in_default.ensures.malformed r (subst (λ (w : Wire). SpellsRequest w c.as_slice.result.now r) (sym c.wire.ensures) (subst (λ (b : List ℕ). SpellsRequest (wire_by c.args.owner.now) b r) (sym c.as_slice.ensures) spells))) is)
     c.malformed_reply.ensures.octets
 
 pub returns-then-is_late-clause-redeemed : goal.returns-then-is_late-clause-redeemed
 returns-then-is_late-clause-redeemed g c =
     on_ok c.code_reply.result _ _
-    (λ octets is. late (hosted_by c.args.owner.now) (algorithms_by c.args.owner.now) (g.R.Rows.content c.args.rows.now) c.args.origin.now (response_view c.args.response) c.args.pending.now c.in-Ok.request c.algorithm.result octets c.algorithm.ensures
-    (subst (λ (b : List ℕ). SpellsRequest b c.in-Ok.request) c.as_slice.ensures c.in-Ok.ensures.read) (λ message. sym c.if-is_late.true ∙ c.is_late.ensures message) is)
+    (λ octets is. late (wire_by c.args.owner.now) (hosted_by c.args.owner.now) (algorithms_by c.args.owner.now) (g.R.Rows.content c.args.rows.now) c.args.origin.now (response_view c.args.response) c.args.pending.now c.in-Ok.request c.algorithm.result octets c.algorithm.ensures
+    (subst (λ (b : List ℕ). SpellsRequest (wire_by c.args.owner.now) b c.in-Ok.request) c.as_slice.ensures (subst (λ (w : Wire). SpellsRequest w c.as_slice.result.now c.in-Ok.request) c.wire.ensures c.in-Ok.ensures.read)) (λ message. sym c.if-is_late.true ∙ c.is_late.ensures message) is)
     c.code_reply.ensures.reply
 
 pub returns-clause-redeemed : goal.returns-clause-redeemed
@@ -31,15 +33,15 @@ returns-clause-redeemed g c =
     let p : Proof = record { response = response_view c.args.response; nonce = c.args.pending.now.nonce; digest = c.args.pending.now.digest } in
     let d = decision_of c.in_ok-decision.decision in
     on_both c.answer.result _ _ _
-    (λ octets is table. proven hosts (algorithms_by c.args.owner.now) t c.args.origin.now (response_view c.args.response) c.args.pending.now c.in-Ok.request c.algorithm.result d octets (g.R.Rows.content c.answer.new.rows) c.algorithm.ensures
-    (subst (λ (b : List ℕ). SpellsRequest b c.in-Ok.request) c.as_slice.ensures c.in-Ok.ensures.read) (λ message. sym c.if-is_late.false ∙ c.is_late.ensures message)
+    (λ octets is table. proven (wire_by c.args.owner.now) hosts (algorithms_by c.args.owner.now) t c.args.origin.now (response_view c.args.response) c.args.pending.now c.in-Ok.request c.algorithm.result d octets (g.R.Rows.content c.answer.new.rows) c.algorithm.ensures
+    (subst (λ (b : List ℕ). SpellsRequest (wire_by c.args.owner.now) b c.in-Ok.request) c.as_slice.ensures (subst (λ (w : Wire). SpellsRequest w c.as_slice.result.now c.in-Ok.request) c.wire.ensures c.in-Ok.ensures.read)) (λ message. sym c.if-is_late.false ∙ c.is_late.ensures message)
     (named_decides t (Proven p) d c.in_ok-named.ensures.owner c.in_ok-named.ensures.asked c.in_ok-decision.ensures.decided) is (table ∙ ap (λ t. apply_if t c.args.origin.now.moment c.in_ok-decision.decision.change) c.decide.ensures.unchanged))
     c.answer.ensures.reply c.answer.ensures.done
 
 pub returns-then-is_late-clause-read : goal.returns-then-is_late-clause-read
 returns-then-is_late-clause-read g c =
     let e = c.args.origin.now.envelope in
-    on_ok c.code_reply.result _ _ (λ octets reads. reads (timeout_announced c.algorithm.result e.session e.request c.in-Ok.request)) c.code_reply.ensures.read
+    on_ok c.code_reply.result _ _ (λ octets reads. reads (timeout_announced c.algorithm.result c.args.origin.now.moment e.session e.request c.in-Ok.request)) c.code_reply.ensures.read
 
 pub returns-clause-read : goal.returns-clause-read
 returns-clause-read g c =
@@ -51,11 +53,16 @@ returns-clause-read g c =
     let d = decision_of c.in_ok-decision.decision in
     let decided = named_decides t (Proven p) d c.in_ok-named.ensures.owner c.in_ok-named.ensures.asked c.in_ok-decision.ensures.decided in
     on_ok c.answer.result _ _
-    (λ octets reads. reads (answer_announced_lem hosts c.algorithm.result t r (Proven p) d e.session e.request c.in-Ok.ensures.read.has_code decided (proven_code hosts c.algorithm.result t r p d decided)))
+    (λ octets reads. reads (answer_announced_lem hosts c.algorithm.result t r (Proven p) d c.args.origin.now.moment e.session e.request c.in-Ok.ensures.read.has_code decided (proven_code hosts c.algorithm.result t r p d decided)))
     c.answer.ensures.read
 
 pub returns-in_err-decision-clause-cost : goal.returns-in_err-decision-clause-cost
-returns-in_err-decision-clause-cost g c = c.decide.ensures.cost
+returns-in_err-decision-clause-cost g c =
+    let p : Proof = record { response = response_view c.args.response; nonce = c.args.pending.now.nonce; digest = c.args.pending.now.digest } in
+    by_proof (g.R.Rows.content c.args.rows.now) p c.in_ok-named.named.asked.request.now.operation _ _ c.decide.ensures.cost
 
 pub returns-clause-cost : goal.returns-clause-cost
-returns-clause-cost g c = then_nothing (g.R.Rows.content c.args.rows.now) proof_cost _ _ _ c.decide.ensures.cost c.answer.ensures.reads
+returns-clause-cost g c =
+    let p : Proof = record { response = response_view c.args.response; nonce = c.args.pending.now.nonce; digest = c.args.pending.now.digest } in
+    let t = g.R.Rows.content c.args.rows.now in
+    then_nothing t proof_cost _ _ _ (by_proof t p c.in_ok-named.named.asked.request.now.operation _ _ c.decide.ensures.cost) c.answer.ensures.reads

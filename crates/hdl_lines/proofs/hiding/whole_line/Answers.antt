@@ -11,4 +11,4 @@ returns-in-Some c =
 pub returns-in-None : goal.returns-in-None
 returns-in-None c =
     let e : value_of_fields c.args.value.now ≡ None = search rules in
-    rw (line_of_octets c.args.value.now e) (rw (← c.octets.ensures) c.octets_line.ensures)
+    rw (line_of_octets c.args.value.now e) c.spelling_line.ensures

@@ -2,4 +2,4 @@ use Rattle.hdl_msg.proofs.ReplyReadings.{reply_written_lem}
 use Rattle.hdl_msg.proofs.laws.reply_written.Goals as goal
 
 pub returns : goal.returns
-returns c = λ octets p session request s le. reply_written_lem octets p session request s le
+returns c = λ w octets p session request s le. reply_written_lem w octets p session request s le

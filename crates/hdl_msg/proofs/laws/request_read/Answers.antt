@@ -2,4 +2,4 @@ use Rattle.hdl_msg.proofs.Requests.{request_again}
 use Rattle.hdl_msg.proofs.laws.request_read.Goals as goal
 
 pub returns : goal.returns
-returns c = λ octets d s. request_again octets d s
+returns c = λ w octets d s. request_again w octets d s

@@ -1,7 +1,7 @@
 use Rattle.std.proofs.Common.{List, ℕ, arith, rules, subst, sym}
-use Rattle.hdl_msg.specs.Reply.{reply_parts, FramesReply}
+use Rattle.hdl_msg.specs.Reply.{reply_parts, parts_read, wire_of_content, FramesReply}
 use Rattle.hdl_msg.proofs.Written.{length-reply_message, content_short, reply_written}
-use Rattle.hdl_msg.proofs.ReplyReadings.{reply_framed}
+use Rattle.hdl_msg.proofs.ReplyReadings.{reply_read_back}
 use Rattle.hdl_msg.proofs.replies.write_reply.Goals as goal
 
 pub overflow_sub-len : goal.overflow_sub-len
@@ -20,5 +20,5 @@ returns-clause-octets c =
 
 pub returns-clause-read : goal.returns-clause-read
 returns-clause-read c = λ announced.
-    subst (λ (octets : List ℕ). FramesReply octets (reply_parts c.args.reply.now)) (sym (returns-clause-octets c))
-    (reply_framed c.args.reply.now (record { fits = c.reply_fits.ensures; announced = announced; short = c.requires }))
+    subst (λ (octets : List ℕ). FramesReply (wire_of_content c.args.reply.now.content) octets (parts_read (reply_parts c.args.reply.now))) (sym (returns-clause-octets c))
+    (reply_read_back c.args.reply.now c.reply_fits.ensures announced c.requires)

@@ -5,7 +5,6 @@ use Rattle.hdl_ops.specs.Cost.{decision_cost}
 use Rattle.hdl_ops.specs.Decisions.{Anyone, Proven}
 use Rattle.hdl_ops.specs.Views.{hosted_by, level_of, proof_of}
 use Rattle.hdl_ops.proofs.Applied.{passed, can_apply}
-use Rattle.hdl_ops.proofs.Costs.{sight_read}
 use Rattle.hdl_ops.proofs.deciding.decide.Goals as goal
 
 pub returns-in-Anyone-clause-can_apply : goal.returns-in-Anyone-clause-can_apply
@@ -18,5 +17,5 @@ returns-in-Proven-clause-can_apply g c =
 
 pub returns-in-Anyone-clause-cost : goal.returns-in-Anyone-clause-cost
 returns-in-Anyone-clause-cost g c =
-    subst (λ (l : Level). ReadsWithin (g.R.Rows.content c.args.rows.now) (decision_cost (level_of l)) (g.R.Rows.reads c.args.rows.now) (g.R.Rows.reads c.decide_for_anyone.new.rows)) (sym c.in-Anyone.is)
-    (sight_read _ c.args.request.asked.request.now _ _ c.decide_for_anyone.ensures.cost)
+    subst (λ (l : Level). ReadsWithin (g.R.Rows.content c.args.rows.now) (decision_cost (level_of l) c.args.request.asked.request.now.operation) (g.R.Rows.reads c.args.rows.now) (g.R.Rows.reads c.decide_for_anyone.new.rows)) (sym c.in-Anyone.is)
+    c.decide_for_anyone.ensures.cost

@@ -1,7 +1,7 @@
 use Rattle.std.proofs.Common.{sym, ap, ◌∙◌, option_map}
 use Rattle.hdl_rows.proofs.Changes.{if_ok_then}
 use Rattle.hdl_msg.specs.Codes.{response_number}
-use Rattle.hdl_ops.proofs.Unlisted.{by_early, by_key}
+use Rattle.hdl_ops.proofs.Bare.{by_early, by_key}
 use Rattle.hdl_ops.proofs.keys.code_for_proof.Goals as goal
 
 pub returns-in-Some-clause-code : goal.returns-in-Some-clause-code

@@ -4,8 +4,9 @@ use Rattle.hdl_auth.specs.Digest.{digest_spelling}
 use Rattle.hdl_auth.proofs.Digests.{digest_short}
 use Rattle.hdl_msg.specs.declared.fields.Header.{Header}
 use Rattle.hdl_msg.specs.declared.replies.ReplyContent.TheVariants.{Nonce}
-use Rattle.hdl_msg.specs.Reply.{answer_header, ReplyParts, IsAnnounced}
-use Rattle.hdl_ops.specs.Replies.{challenge_to}
+use Rattle.hdl_msg.specs.Reply.{ReplyParts, IsAnnounced}
+use Rattle.hdl_value.specs.declared.wire.Wire.TheVariants.{Profile}
+use Rattle.hdl_ops.specs.Replies.{challenge_to, reply_header}
 use Rattle.hdl_ops.proofs.Announced.{challenge_announced_lem}
 use Rattle.hdl_ops.proofs.Lengths.{challenge_short}
 use Rattle.hdl_ops.proofs.rendering.render_challenge.Goals as goal
@@ -18,7 +19,7 @@ write_reply-requires c =
 pub returns-clause-read : goal.returns-clause-read
 unfolding challenge_to
 returns-clause-read c =
-    let header : c.answer_header.result ≡ answer_header c.args.asked.now.request.now.header 402 = search rules in
-    let announced = challenge_announced_lem c.args.asked.now.algorithm c.args.envelope.now.session c.args.envelope.now.request c.args.asked.now.request.now c.args.nonce.now in
+    let header : c.reply_header.result ≡ reply_header c.args.moment c.args.asked.now.request.now 402 = search rules in
+    let announced = challenge_announced_lem c.args.asked.now.algorithm c.args.moment c.args.envelope.now.session c.args.envelope.now.request c.args.asked.now.request.now c.args.nonce.now in
     let parts : Header → ReplyParts = λ h. record { header = h; digest = Some c.digest-request_digest.result; content = Nonce c.args.nonce.now } in
-    (parts c.answer_header.result, c.in_ok-octets.ensures.read (subst (λ (h : Header). IsAnnounced (parts h)) (sym header) (record { digest = announced.digest; form = announced.form })))
+    (Profile, parts c.reply_header.result, c.in_ok-octets.ensures.read (subst (λ (h : Header). IsAnnounced (parts h)) (sym header) (record { digest = announced.digest; form = announced.form })))

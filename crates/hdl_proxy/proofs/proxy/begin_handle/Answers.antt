@@ -12,7 +12,7 @@ returns-then-is_called_back-clause-asks c =
     let form = c.args.form in
     let pairs : List (List ℕ × List ℕ) = texts_of c.args.pairs.now in
     let called : is_called_back form pairs ≡ true = sym c.is_called_back.ensures ∙ c.if-is_called_back.true in
-    refused_for form c.args.octets.now c.args.sent.now pairs (codes "The word callback isn't taken: pages of any site may read this JSON.") c.refuse.result
+    refused_for form c.args.octets.now c.args.sent.now pairs (codes "callback is refused: pages of any site may read this JSON without it.") c.refuse.result
     (inl (called, refl)) c.refuse.ensures.refuses
 
 pub returns-in_default-clause-asks : goal.returns-in_default-clause-asks

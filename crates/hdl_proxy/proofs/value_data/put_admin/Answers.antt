@@ -11,7 +11,7 @@ returns c =
     let key = c.args.key.now in
     on_ok_weaker c.put_permissions.result (λ put.
     six c.args.page.now.octets.items _ _ _ _ _ _
-    (codes "<p>Whoever has the key <span class=\"data\">") (escaped (decimal key.index)) (codes ":") (escaped key.name) (codes "</span> may</p>\n") (permissions_part c.args.mask.0)
+    (codes "<p>The holder of the key <span class=\"data\">") (escaped (decimal key.index)) (codes ":") (escaped key.name) (codes "</span> may</p>\n") (permissions_part c.args.mask.0)
     c.in_ok-markup.ensures
     c.in_ok-number.ensures
     c.in_ok-markup-2.ensures

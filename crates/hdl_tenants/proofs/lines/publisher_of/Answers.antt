@@ -1,19 +1,21 @@
-use Rattle.std.proofs.Common.{◌≡◌, ℕ, List, [], length, get_or, arith, rules, Bor, codes}
-use Rattle.hdl_tenants.proofs.Fields.{four_texts}
+use Rattle.std.proofs.Common.{◌≡◌, ◌≤◌, ℕ, List, [], length, get_or, arith, rules, Bor, codes, sym, ◌∙◌}
+use Rattle.hdl_tenants.proofs.Fields.{four_texts_and}
 use Rattle.hdl_tenants.proofs.lines.publisher_of.Goals as goal
 
 pub returns : goal.returns
 returns c =
     let d : Bor (List ℕ) = record { ref_ptr = (0, 0); now = [] } in
     let fields = c.args.fields.now in
-    let four_long : length fields ≡ 4 = omega (arith, c.in-len4.len_at_least, c.in-len4.len_below) in
+    let long : 4 ≤ length fields = omega (arith, c.in-len4-up.len_at_least) in
     let word : (get_or fields 0 d).now ≡ codes "publisher" = search rules in
     let lanes = c.in_ok-lanes.ensures in
     let port = c.in_ok-port.ensures in
     record {
       lanes_text = (get_or fields 2 d).now;
       port_text = (get_or fields 3 d).now;
-      split = four_texts fields d (codes "publisher") four_long word;
+      more = _;
+      split = four_texts_and fields d (codes "publisher") long word;
+      layout = sym c.wire_in.ensures ∙ c.in_ok-wire.was;
       lanes_read = record { numeral = lanes.0.0; value = lanes.1; fits = search rules };
       port_read = record { numeral = port.0.0; value = port.1; fits = search rules };
       sound = record {

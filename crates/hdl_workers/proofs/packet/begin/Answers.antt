@@ -1,5 +1,5 @@
 use Rattle.std.proofs.Common.{◌≡◌, ◌∙◌, ◌++◌, ◌∷◌, [], ap}
-use Rattle.hdl_events.specs.declared.Happening.TheVariants.{Open}
+use Rattle.hdl_events.specs.declared.What.TheVariants.{Open}
 use Rattle.hdl_workers.specs.declared.item.Item.TheVariants.{Event}
 use Rattle.hdl_workers.specs.WorkerLane.{put_by}
 use Rattle.hdl_workers.proofs.Mails.{begun}

@@ -1,8 +1,8 @@
 use Rattle.std.proofs.Common.{ap, arith, refl, subst}
 use Rattle.hdl_events.specs.declared.Outcome.TheVariants.{Silent}
-use Rattle.hdl_reach.specs.Cost.{ReadsWithin, values_cost}
+use Rattle.hdl_reach.specs.Cost.{ReadsWithin}
 use Rattle.hdl_reach.proofs.Costs.{unread}
-use Rattle.hdl_ops.specs.Cost.{proof_cost}
+use Rattle.hdl_ops.specs.Cost.{anyone_cost, proof_cost}
 use Rattle.hdl_laws.specs.Cost.{IsStranger}
 use Rattle.hdl_laws.specs.Worlds.{lane_of}
 use Rattle.hdl_laws.specs.Runs.{Steps}
@@ -17,7 +17,7 @@ pub returns-then-event-len : goal.returns-then-event-len
 returns-then-event-len g c =
     let world = ap (λ (m : Machine _). m.world) c.self.view_is in
     let done : Steps c.args.self.now.world c.args.event Silent c.args.self.now.world = subst (λ w. Steps w c.args.event Silent w) world (steps_alone c.self.inside.tenants c.self.inside.lanes _ c.args.event (omega (arith, c.len.ensures, c.if-event-len.true))) in
-    record { step = done; told = c.reply_told.ensures _ _ _ _ done; read = tt; cost = unread _ proof_cost _ _ refl; stranger = λ _. unread _ values_cost _ _ refl }
+    record { step = done; told = c.reply_told.ensures _ _ _ _ done; read = tt; cost = unread _ proof_cost _ _ refl; stranger = λ _. unread _ anyone_cost _ _ refl }
 
 pub returns : goal.returns
 returns g c =
@@ -33,6 +33,6 @@ returns g c =
       told = c.reply_told.ensures _ _ _ _ done;
       read = c.serve.ensures.read;
       cost = subst (λ (m : Machine _). ReadsWithin m.world.table proof_cost (g.R.Rows.reads m.rows) (g.R.Rows.reads c.serve.new.rows)) c.self.view_is (in_world c.self.inside.tenants c.self.inside.lanes table proof_cost _ _ c.serve.ensures.cost);
-      stranger = subst (λ (m : Machine _). IsStranger (lane_of m.world c.args.event.lane) c.args.event.what → ReadsWithin m.world.table values_cost (g.R.Rows.reads m.rows) (g.R.Rows.reads c.serve.new.rows)) c.self.view_is
-          (λ s. in_world c.self.inside.tenants c.self.inside.lanes table values_cost _ _ (c.serve.ensures.stranger (stranger_here c.self.inside.tenants c.self.inside.lanes table c.args.event (omega (arith, c.len.ensures, c.if-event-len.false)) s)));
+      stranger = subst (λ (m : Machine _). IsStranger (lane_of m.world c.args.event.lane) c.args.event.what → ReadsWithin m.world.table anyone_cost (g.R.Rows.reads m.rows) (g.R.Rows.reads c.serve.new.rows)) c.self.view_is
+          (λ s. in_world c.self.inside.tenants c.self.inside.lanes table anyone_cost _ _ (c.serve.ensures.stranger (stranger_here c.self.inside.tenants c.self.inside.lanes table c.args.event (omega (arith, c.len.ensures, c.if-event-len.false)) s)));
     }

@@ -1,6 +1,6 @@
 use Rattle.std.proofs.Common.{◌∙◌, ℕ, ap, subst}
-use Rattle.hdl_reach.specs.Cost.{ReadsWithin, values_cost}
-use Rattle.hdl_ops.specs.Cost.{proof_cost}
+use Rattle.hdl_reach.specs.Cost.{ReadsWithin}
+use Rattle.hdl_ops.specs.Cost.{anyone_cost, proof_cost}
 use Rattle.hdl_laws.specs.Cost.{IsStranger}
 use Rattle.hdl_laws.specs.Worlds.{World, lane_of}
 use Rattle.hdl_laws.specs.Runs.{Steps}
@@ -26,5 +26,5 @@ returns-clause-stranger g c =
     let same = ap (world_of c.self.inside.tenants c.self.inside.lanes) c.let_write.ensures.unchanged ∙ ap (λ (m : Machine _). m.world) c.self.view_is in
     let read = c.let_write.ensures.reads ∙ ap (λ (m : Machine _). g.R.Rows.reads m.rows) c.self.view_is in
     let new = g.R.Rows.reads c.serve-outcome.new.self.rows in
-    subst (λ (n : ℕ). IsStranger (lane_of c.args.self.now.world c.args.event.lane) c.args.event.what → ReadsWithin c.args.self.now.world.table values_cost n new) read
-    (subst (λ (w : World). IsStranger (lane_of w c.args.event.lane) c.args.event.what → ReadsWithin w.table values_cost (g.R.Rows.reads c.let_write.new.self) new) same c.serve-outcome.ensures.stranger)
+    subst (λ (n : ℕ). IsStranger (lane_of c.args.self.now.world c.args.event.lane) c.args.event.what → ReadsWithin c.args.self.now.world.table anyone_cost n new) read
+    (subst (λ (w : World). IsStranger (lane_of w c.args.event.lane) c.args.event.what → ReadsWithin w.table anyone_cost (g.R.Rows.reads c.let_write.new.self) new) same c.serve-outcome.ensures.stranger)

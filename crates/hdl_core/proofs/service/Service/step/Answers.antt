@@ -1,6 +1,6 @@
 use Rattle.std.proofs.Common.{subst}
-use Rattle.hdl_reach.specs.Cost.{ReadsWithin, values_cost}
-use Rattle.hdl_ops.specs.Cost.{proof_cost}
+use Rattle.hdl_reach.specs.Cost.{ReadsWithin}
+use Rattle.hdl_ops.specs.Cost.{anyone_cost, proof_cost}
 use Rattle.hdl_laws.specs.Cost.{IsStranger}
 use Rattle.hdl_laws.specs.Worlds.{lane_of}
 use Rattle.hdl_laws.specs.Runs.{Steps}
@@ -14,4 +14,4 @@ pub returns-clause-cost : goal.returns-clause-cost
 returns-clause-cost g c = subst (λ (m : Machine _). ReadsWithin m.world.table proof_cost (g.R.Rows.reads m.rows) (g.R.Rows.reads c.step.new.self.rows)) c.self.view_is c.step.ensures.cost
 
 pub returns-clause-stranger : goal.returns-clause-stranger
-returns-clause-stranger g c = subst (λ (m : Machine _). IsStranger (lane_of m.world c.args.event.lane) c.args.event.what → ReadsWithin m.world.table values_cost (g.R.Rows.reads m.rows) (g.R.Rows.reads c.step.new.self.rows)) c.self.view_is c.step.ensures.stranger
+returns-clause-stranger g c = subst (λ (m : Machine _). IsStranger (lane_of m.world c.args.event.lane) c.args.event.what → ReadsWithin m.world.table anyone_cost (g.R.Rows.reads m.rows) (g.R.Rows.reads c.step.new.self.rows)) c.self.view_is c.step.ensures.stranger

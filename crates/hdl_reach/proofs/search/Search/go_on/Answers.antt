@@ -1,9 +1,11 @@
-use Rattle.std.proofs.Common.{◌∙◌, arith, inr, refl, subst, sym}
+use Rattle.std.proofs.Common.{◌∙◌, ◌<◌, arith, inr, refl, subst}
 use Rattle.hdl_rows.specs.Table.{Table}
 use Rattle.hdl_reach.specs.declared.search.Search.{Search}
 use Rattle.hdl_reach.specs.Cost.{ReadsWithin, value_cost}
 use Rattle.hdl_reach.specs.Search.{IsSearch}
+use Rattle.hdl_reach.specs.Looks.{looks_left}
 use Rattle.hdl_reach.proofs.Costs.{search_read, search_ended}
+use Rattle.hdl_reach.proofs.Looks.{left_next}
 use Rattle.hdl_reach.proofs.Steps.{further_next}
 use Rattle.hdl_reach.proofs.search.Search.go_on.Goals as goal
 
@@ -22,6 +24,7 @@ loop-alloc-preserved g c =
       search = subst (λ (t : Table). IsSearch t new) c.loop-alloc.invariant.same c.in_ok-octets.ensures.search.0;
       handle = c.in_ok-octets.ensures.search.1 ∙ c.loop-alloc.invariant.handle;
       further = inr (further_next c.args.self c.loop-alloc.self c.pass.new.self new c.loop-alloc.invariant.further c.in_ok-octets.ensures.further refl);
+      left = inr (left_next (g.R.Rows.content c.args.rows.now) c.args.self c.loop-alloc.self new c.loop-alloc.invariant.left (subst (λ (t : Table). looks_left t new < looks_left t c.loop-alloc.self) c.loop-alloc.invariant.same c.in_ok-octets.ensures.left));
     }
 
 pub returns-in_err-octets-clause-cost : goal.returns-in_err-octets-clause-cost
@@ -38,3 +41,8 @@ returns-then-left-octets-clause-cost g c =
 
 pub returns-clause-cost : goal.returns-clause-cost
 returns-clause-cost g c = search_ended (g.R.Rows.content c.args.rows.now) c.args.most (g.R.Rows.reads c.args.rows.now) c.loop-alloc.left (g.R.Rows.reads c.loop-alloc.rows) c.loop-alloc.invariant.read
+
+pub returns-then-left-octets-clause-left : goal.returns-then-left-octets-clause-left
+returns-then-left-octets-clause-left g c =
+    let new : Search = record { handle = c.pass.new.self.handle; found = c.pass.new.self.found; looked_up = c.saturating_add.result } in
+    inr (left_next (g.R.Rows.content c.args.rows.now) c.args.self c.loop-alloc.self new c.loop-alloc.invariant.left (subst (λ (t : Table). looks_left t new < looks_left t c.loop-alloc.self) c.loop-alloc.invariant.same c.in_ok-octets.ensures.left))

@@ -1,5 +1,6 @@
-use Rattle.std.proofs.Common.{◌≡◌, ◌⊎◌, ◌≤◌, ◌+◌}
+use Rattle.std.proofs.Common.{◌≡◌, ◌⊎◌, ◌≤◌, ◌<◌, ◌+◌}
 use Rattle.hdl_reach.specs.Search.{IsSearch, IsFurther, handle_of}
+use Rattle.hdl_reach.specs.Looks.{looks_left}
 use Rattle.hdl_reach.proofs.search.Search.go_on.Given as goal
 
 abbrev pub invariant-loop-alloc : goal.invariant-loop-alloc
@@ -10,6 +11,7 @@ invariant-loop-alloc g l = record {
   search : IsSearch (g.R.Rows.content l.fn.rows) l.self;
   handle : handle_of l.self ≡ handle_of l.fn.self;
   further : (l.self ≡ l.fn.self) ⊎ IsFurther l.fn.self l.self;
+  left : (l.self ≡ l.fn.self) ⊎ (looks_left (g.R.Rows.content l.fn.rows) l.self < looks_left (g.R.Rows.content l.fn.rows) l.fn.self);
 }
 
 abbrev pub decreases-loop-alloc : goal.decreases-loop-alloc

@@ -23,7 +23,7 @@ returns-clause-ok c =
     let none : lookup (λ k. bytes_eq (string_bytes c.in-Ok.name) (string_bytes k)) c.self.inside.by_name.entries ≡ None
     = none-from_is_some _ (rw same (sym c.contains_key.ensures ∙ c.if-contains_key.false)) in
     let grown = c.in-Ok-insert.ensures.entries ∙ insert_entry-new _ c.self.inside.by_name c.in-Ok.name _ none in
-    rw (← c.self.view_is) (shown-push publisher_in _ _ _ _ grown (ap (λ p. record { name = p; lanes = c.args.line.now.lanes; port = c.args.line.now.port }) same))
+    rw (← c.self.view_is) (shown-push publisher_in _ _ _ _ grown (ap (λ p. record { name = p; lanes = c.args.line.now.lanes; port = c.args.line.now.port; wire = c.args.line.now.wire }) same))
 
 pub invariant_of-self-2 : goal.invariant_of-self-2
 invariant_of-self-2 c =

@@ -1,0 +1,4 @@
+pub mod Info
+pub mod Raw
+pub mod Making
+pub mod Example
