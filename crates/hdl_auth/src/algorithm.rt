@@ -1,16 +1,16 @@
-//! Hash functions, and the digests that they make.
+//! Hash functions and their digests.
 
 ghost use Rattle.std.specs.Prelude.{◌≡◌};
 ghost use Rattle.hdl_auth.specs.Digest.{octet_of, size_of, algorithm_of, octets_of};
 
-/// A hash function by which requests are authenticated.
+/// A hash function for authenticating requests.
 #[derive(Clone, Copy, Debug, PartialEq, Eq)]
 pub enum Algorithm {
     Sha1,
     Sha256,
 }
 
-/// A digest, by the function that made it.
+/// A digest and its hash function.
 #[derive(Clone, Copy, Debug, PartialEq, Eq)]
 pub enum Digest {
     Sha1([u8; 20]),
@@ -18,7 +18,7 @@ pub enum Digest {
 }
 
 impl Algorithm {
-    /// The octet that names it before a digest.
+    /// The octet of this hash function, which is sent before a digest.
     pub fn octet(self) -> u8
         ensures { result ≡ octet_of self }
     {
@@ -28,7 +28,7 @@ impl Algorithm {
         }
     }
 
-    /// How many octets its digests have.
+    /// The length of its digests, in octets.
     pub fn size(self) -> usize
         ensures { result ≡ size_of self }
     {
@@ -40,7 +40,6 @@ impl Algorithm {
 }
 
 impl Digest {
-    /// The function that made it.
     pub fn algorithm(&self) -> Algorithm
         ensures { result ≡ algorithm_of self.now }
     {

@@ -1,12 +1,12 @@
 //! Authentication codes: the digest of a request, the keyed digest of a challenge, and the test of a response.
 //!
-//! The formula is the definition, in terms of the kit's functions `sha1` and `sha256` on lists of octets (FIPS 180-4): the digest
-//! is that of header and body, the keyed digest `H(key ++ nonce ++ digest ++ key)` by the function H of the digest
-//! (docs/PROTOCOL.md, "Challenge and response"). [`check`] says of every string whether it is the right response, one of another
-//! form, or a wrong one.
+//! The definitions use the kit's functions `sha1` and `sha256` on lists of octets (FIPS 180-4). The digest of a request
+//! is that of its header and body. The keyed digest is `H(key ++ nonce ++ digest ++ key)`, with the hash function H of
+//! the digest (docs/PROTOCOL.md, "Challenge and response"). [`check`] decides for any octets whether they are the right
+//! response, have another form, or are wrong.
 //!
-//! It stands on no other crate of the service, keeps nothing and takes no memory. Nothing is claimed about the strength of
-//! SHA-1 or SHA-256, nor about how long a comparison takes.
+//! It depends on no other crate of the service, stores nothing and takes no memory. It claims nothing about the
+//! strength of SHA-1 or SHA-256, nor about how long a comparison takes.
 //!
 //! ```rust
 //! // crates/hdl_vectors/src/digests.rt
@@ -24,14 +24,14 @@ mod response;
 
 pub use response::{check, digest, has_response_form, mac};
 
-/// What a response string is.
+/// The verdict on a response.
 #[derive(Clone, Copy, Debug, PartialEq, Eq)]
 pub enum Verdict {
     /// The right response to the challenge.
     Good,
-    /// Not the octet of the challenged request's hash function, and as many octets as its digests have.
+    /// Its first octet is not that of the challenged request's hash function, or its length is not that of its digests.
     BadForm,
-    /// Of the right form, with another keyed digest.
+    /// Of the right form, but not the right keyed digest.
     Wrong,
 }
 

@@ -9,7 +9,7 @@ use crate::algorithm::{Algorithm, Digest};
 use sha1::Sha1;
 use sha2::{Digest as _, Sha256};
 
-/// The digest of these octets by this function: of a request those of its header and body.
+/// The digest of the octets by this hash function. For a request, they are its header and body.
 pub fn digest(algorithm: Algorithm, octets: &[u8]) -> Digest
     ensures { result ≡ digest_of algorithm octets.now }
 {
@@ -19,8 +19,8 @@ pub fn digest(algorithm: Algorithm, octets: &[u8]) -> Digest
     }
 }
 
-/// The keyed digest of a challenge: by the function of the challenged request's digest, that of the key, the nonce, this digest
-/// and the key again.
+/// The keyed digest of a challenge: of the key, the nonce, the request's digest and the key again, by the hash function
+/// of that digest.
 pub fn mac(key: &[u8], nonce: &[u8; 16], request_digest: &Digest) -> Digest
     ensures { result ≡ mac_of key.now nonce.now request_digest.now }
 {
@@ -44,14 +44,15 @@ pub fn mac(key: &[u8], nonce: &[u8; 16], request_digest: &Digest) -> Digest
     }
 }
 
-/// Whether the octets have the form of a response by this function: its octet, and as many octets as its digests have.
+/// Whether the octets have the form of a response: the hash function's octet, then as many octets as its digests have.
 pub fn has_response_form(algorithm: Algorithm, response: &[u8]) -> bool
     ensures { result ≡ has_response_form algorithm response.now }
 {
     response.starts_with(&[algorithm.octet()]) && response.len() == algorithm.size() + 1
 }
 
-/// Whether the octets are the right response to the challenge with this nonce, of a request with this digest, under this key.
+/// Whether the octets are the right response. `nonce` is the challenge's, `digest` the challenged request's, `key` the
+/// administrator's.
 fn is_right_response(key: &[u8], nonce: &[u8; 16], request_digest: &Digest, response: &[u8]) -> bool
     ensures { result ≡ is_right_response key.now nonce.now request_digest.now response.now }
 {
@@ -62,8 +63,8 @@ fn is_right_response(key: &[u8], nonce: &[u8; 16], request_digest: &Digest, resp
     }
 }
 
-/// What a response string is to the challenge with this nonce, of a request with this digest, under this key: good where it is the
-/// right response, and of a bad form where no key could make it right.
+/// The verdict on a response. `nonce` is the challenge's, `digest` the challenged request's, `key` the administrator's.
+/// Good is the right response. A response of a bad form is right for no key.
 #[tactic(auto, using(crate::proofs::Verdicts::good_is_right, crate::proofs::Verdicts::formless_is_wrong))]
 pub fn check(key: &[u8], nonce: &[u8; 16], request_digest: &Digest, response: &[u8]) -> Verdict
     ensures verdict { result ≡ verdict key.now nonce.now request_digest.now response.now }

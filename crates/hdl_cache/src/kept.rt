@@ -1,4 +1,4 @@
-//! The masks that are kept.
+//! The cache of masks.
 
 ghost use Rattle.std.specs.Prelude.{◌≡◌, ◌⊎◌, [], option_map, IfOk, IfSome, OnOk, OnErr};
 ghost use Rattle.std.specs.Map.{lookup};
@@ -39,7 +39,7 @@ impl Model for Masks {
 }
 
 impl Masks {
-    /// None are kept. Refused only for want of memory.
+    /// An empty cache. Refused only if memory is refused.
     pub fn new(alloc: Global) -> Result<Masks, AllocError>
         ensures { IfOk result (λ masks. masks ≡ []) }
     {
@@ -50,10 +50,10 @@ impl Masks {
         Ok(Masks { alloc, kept })
     }
 
-    /// The mask that is kept of this key for this handle; None: it isn't kept. It is then the most recently used.
+    /// The cached mask of this key for this handle, or `None` if it isn't cached. It is then the most recently used.
     ///
-    /// Where what is kept is a table's, what is found is the table's mask (`of_table`). Refused only for want of memory;
-    /// nothing changed then.
+    /// If the cache is true of a table, the result is the table's mask (`of_table`). Refused only if memory is refused;
+    /// then nothing changed.
     pub fn find(
         &mut self,
         name: &Name,
@@ -71,8 +71,8 @@ impl Masks {
         Ok(found)
     }
 
-    /// Keeps the mask of this key for this handle, in the place of the least recently used one where 256 are kept.
-    /// Want of memory changes nothing.
+    /// Stores the mask of this key for this handle. If there are 256, it replaces the least recently used one. If
+    /// memory is refused, nothing changes.
     pub fn keep(&mut self, name: &Name, key: &Reference, mask: Option<AdminMask>)
         ensures kept { (self.new ≡ self.old) ⊎ (self.new ≡ with_mask self.old (subject (canonical name.now) (place_of key.now)) (mask_of mask)) }
         ensures still_true { (t : Table) → AreMasks t self.old → IsMask t (canonical name.now) (place_of key.now) (mask_of mask) → AreMasks t self.new }
@@ -83,7 +83,7 @@ impl Masks {
         let _ = self.kept.put(pair, mask);
     }
 
-    /// Forgets all.
+    /// Removes all masks.
     pub fn clear(&mut self)
         ensures { self.new ≡ [] }
     {

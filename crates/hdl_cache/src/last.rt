@@ -21,15 +21,15 @@ pub(crate) struct FoundMask {
 
 /// The mask that was found last while the table owed no write.
 ///
-/// A step finds its mask before it hands its write over, and nothing is found between the two. So while the table owes that write its mask is here, whatever is
-/// found for others meanwhile.
+/// A step finds its mask before it hands its write over, and no mask is noted until then. So while the table owes that
+/// write, its mask is here, whatever masks are found for other steps meanwhile.
 #[derive(Drop)]
 pub(crate) struct LastMask {
     found: Option<FoundMask>,
 }
 
 impl LastMask {
-    /// None was found.
+    /// Without a mask.
     pub(crate) fn new() -> LastMask
         ensures { (t : Table) → IsLast t result }
     {
@@ -47,7 +47,7 @@ impl LastMask {
         Some(found.mask)
     }
 
-    /// Notes what was found while the table owes this.
+    /// Notes a mask, unless the table owes a write.
     pub(crate) fn note(&mut self, pair: Pair, mask: Option<AdminMask>, owed: Owed)
         ensures kept { is_owed owed ≡ true → self.new ≡ self.old }
         ensures noted { is_owed owed ≡ false → IfSome self.new.found (λ last. (last.pair ≡ pair) × (last.mask ≡ mask)) }
@@ -58,7 +58,7 @@ impl LastMask {
         }
     }
 
-    /// Notes what came of a write: one that was done may change any mask.
+    /// Notes the result of a write. If it was done, the mask is dropped, since the write may have changed any mask.
     pub(crate) fn note_write(&mut self, done: &Result<(), Refused>)
         ensures forgotten { OnOk done.now ((t : Table) → IsLast t self.new) }
         ensures kept { OnErr done.now (self.new ≡ self.old) }

@@ -1,13 +1,16 @@
-//! What is known of administrators: masks as they were found in the present table, and searches that go on.
+//! What is known of administrators: masks that were found in the present table, and searches that continue.
 //!
-//! [`MaskedRows`] is any table, which answers as before (`hdl_rows::Rows`, word for word), together with what is kept of it. [`Masked::mask`]
-//! answers what a key may do as an administrator of a handle: by the masks of at most 256 pairs of a handle and a key ([`Masks`]; the least
-//! recently used go first), else by a search over the table. One call looks up so much and no more, and what lists hold counts; a search that isn't done is
-//! refused, kept by its handle, and gone on by the next call. One that is done serves for every key, those that somebody made up too, by one look in what it
-//! holds: each reference once, with its mask, whatever lists hold it.
+//! [`MaskedRows`] wraps any table, with exactly its contract (`hdl_rows::Rows`), and caches masks and searches.
+//! [`Masked::mask`] returns the permissions of a key as an administrator of a handle. It looks first into the masks of
+//! at most 256 pairs of a handle and a key ([`Masks`]; the least recently used are dropped). Otherwise it searches the
+//! table. One call looks up a limited number of octets, and the contents of lists count. If the search isn't done then,
+//! the call is refused, the search is kept by its handle, and the next call continues it. A search that is done serves
+//! for every key, including invented ones, by one look into its state. That state has each reference once, with its
+//! mask, however many lists contain it.
 //!
-//! The type's invariant ties all of it to the table: what is kept is the table's (`AreTrue` of `specs/Truth.antt`). Each write that was done forgets what it
-//! may touch. So what is found is the mask by definition; that nothing is kept says nothing, and want of memory changes no answer.
+//! The type's invariant ties the cache to the table: all that is cached is true of the table (`AreTrue` of
+//! `specs/Truth.antt`). Each write that was done drops what it may have changed. So a mask that is found is the mask by
+//! definition. If nothing is cached, or memory is refused, no answer changes.
 //!
 //! ```rust
 //! // crates/hdl_tests/src/masks.rt
@@ -20,16 +23,19 @@
 //!
 //! # Decisions
 //!
-//! - **What is kept is in no world.** Contracts see a `MaskedRows` as its table, so `Service::step`, `run` and `open` say nothing of what is kept, and Busy
-//!   and Early may leave other things kept. A write forgets all masks, since it may touch a list on which any mask stands,
-//!   and the searches that saw a reference of its handle; the others stay, or steady writes would keep a long search from ever ending.
-//! - **A write that the table refuses forgets nothing**: the table is as it was. Where a thread makes the writes of a table, each write is tried twice at least, and the second try has to find the
-//!   search and the mask of the first.
-//! - **Who asks for masks takes any [`Masked`] table**: over a type parameter the clauses speak of the table alone, and no function says that what is
-//!   kept stays true.
-//! - **What this doesn't give.** A key that somebody made up pushes an older mask out. The hasher of `lru` has a fixed seed: with at most 256 pairs a chosen collision costs 256 comparisons.
-//! - **`MaskedRows::new` takes the allocator and may be refused**: it takes the room for 256 pairs; `Service::open` answers `Memory` then. `find`
-//!   and `keep` copy two names; a `find` that is refused counts as not kept, and a `keep` that is refused keeps nothing.
+//! - **The cache is in no world.** Contracts see a `MaskedRows` as its table, so `Service::step`, `run` and `open` say
+//!   nothing of the cache, and after Busy and Early it may differ. A write drops all masks, since it may change a list
+//!   on which any mask depends. It also drops the searches that saw a reference to its handle. The others stay, or
+//!   steady writes would keep a long search from ever ending.
+//! - **A write that the table refuses drops nothing**: the table is as it was. If a thread makes the writes of a table,
+//!   each write is tried at least twice, and the second try has to find the search and the mask of the first.
+//! - **Callers that need masks take any [`Masked`] table**: over a type parameter the clauses speak of the table alone,
+//!   and no function has to state that the cache stays true.
+//! - **Limits.** An invented key displaces an older mask. The hasher of `lru` has a fixed seed; with at most 256 pairs,
+//!   keys chosen to collide cost 256 comparisons.
+//! - **`MaskedRows::new` takes the allocator and may be refused**: it takes the memory for 256 pairs. Then
+//!   `Service::open` returns `Memory`. `find` and `keep` copy two names. A refused `find` counts as not cached, and a
+//!   refused `keep` stores nothing.
 #![tactic(auto)]
 
 mod kept;

@@ -1,4 +1,4 @@
-//! A table with what is known of its administrators.
+//! A table with a cache of its administrators.
 
 ghost use Rattle.std.specs.Prelude.{◌≡◌, IfOk};
 ghost use Rattle.hdl_name.specs.Name.{canonical};
@@ -19,12 +19,12 @@ use hdl_value::{AdminMask, Reference, Value};
 use std::alloc::{AllocError, Global};
 use std::marker::Model;
 
-/// A table that is asked for masks.
+/// A table that finds masks.
 pub trait Masked: Rows {
-    /// What the key may do as an administrator of the handle.
+    /// The permissions of the key as an administrator of the handle.
     ///
-    /// Refused: the table refused a look, and its count rose by one; or memory was refused, or the search looked up as much as
-    /// one call may and isn't done, and the count is as it was. The next call goes on from there.
+    /// Refused: the table refused a look, and its count rose by one; or memory was refused, or the search looked up as
+    /// much as one call may and isn't done, and the count is as it was. The next call continues the search.
     fn mask(&mut self, name: &Name, key: &Reference) -> Result<Option<AdminMask>, Refused>
         ensures unchanged { Self.content self.new ≡ Self.content self.old }
         ensures mask { IfOk result (λ mask. IsMask (Self.content self.old) (canonical name.now) (place_of key.now) (mask_of mask)) }
@@ -32,7 +32,7 @@ pub trait Masked: Rows {
         ensures cost { ReadsWithin (Self.content self.old) mask_cost (Self.reads self.old) (Self.reads self.new) };
 }
 
-/// Any table, with the masks and searches that are kept of it. Contracts see the table.
+/// Any table, with a cache of its masks and searches. Contracts see the table.
 #[derive(Drop)]
 pub struct MaskedRows<R: Rows + Drop> {
     alloc: Global,
@@ -54,7 +54,7 @@ impl<R: Rows + Drop> Model for MaskedRows<R> {
 }
 
 impl<R: Rows + Drop> MaskedRows<R> {
-    /// A table of which nothing is known yet. Refused only for want of memory; the table is dropped then.
+    /// Wraps a table, with an empty cache. Refused only if memory is refused; then the table is dropped.
     pub fn new(alloc: Global, rows: R) -> Result<MaskedRows<R>, AllocError>
         ensures { IfOk result (λ masked. masked ≡ rows) }
     {
@@ -74,7 +74,7 @@ impl<R: Rows + Drop> MaskedRows<R> {
         &self.rows
     }
 
-    /// The table, and nothing that was kept of it.
+    /// The table. The cache is dropped.
     pub fn into_inner(self) -> R
         ensures { result ≡ self }
     {

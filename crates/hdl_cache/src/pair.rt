@@ -1,4 +1,4 @@
-//! What a mask is kept under.
+//! The key of a cached mask.
 
 ghost use Rattle.std.specs.Prelude.{◌≡◌, IfOk};
 ghost use Rattle.hdl_name.specs.Name.{canonical};

@@ -1,4 +1,4 @@
-//! What is known of administrators: masks that were found, and searches that go on.
+//! What is known of administrators: masks that were found, and searches that continue.
 
 ghost use Rattle.std.specs.Prelude.{◌≡◌, IfOk, IfSome, OnOk, OnErr};
 ghost use Rattle.hdl_name.specs.Name.{canonical};
@@ -19,16 +19,17 @@ use hdl_value::{AdminMask, Reference};
 use std::alloc::{AllocError, Global};
 use std::mem;
 
-/// How many searches are kept.
+/// The maximum of searches that are kept.
 const SEARCHES: usize = 16;
 
-/// How many octets one call looks up, as `Search::go_on` counts them, and the value that brings the last of them: 2,048 references at which nothing stands.
+/// How many octets one call looks up, as `Search::go_on` counts them, including the value that reaches this number.
+/// This is 2,048 references without a value.
 const LOOKED_UP: usize = 65_536;
 
-/// A search that is done and looked up no more octets isn't kept: to search anew costs as little.
+/// A search that is done and looked up at most this number of octets isn't kept: a new search costs as little.
 const SOON_DONE: usize = 2_048;
 
-/// How many references the searches that are kept hold in all, unless it is one search.
+/// The maximum of references of all kept searches together, unless only one search is kept.
 const REFERENCES: usize = 262_144;
 
 /// Masks by handle and key, and searches by handle.
@@ -36,11 +37,11 @@ const REFERENCES: usize = 262_144;
 pub(crate) struct MasksAndSearches {
     alloc: Global,
     kept: Masks,
-    /// The one that went on last stands at the end.
+    /// The last to be continued is at the end.
     searches: Vec<Search>,
 }
 
-/// The mask of this key by a search that is done. Refused: it isn't, or memory was refused.
+/// The mask of this key by a search. Refused if the search isn't done, or memory is refused.
 fn found_by(alloc: Global, search: &Search, key: &Reference) -> Result<Option<AdminMask>, Refused>
     ensures { (t : Table) → IsSearch t search.now → IfOk result (λ mask. IsMask t (handle_of search.now) (place_of key.now) (mask_of mask)) }
 {
@@ -51,7 +52,7 @@ fn found_by(alloc: Global, search: &Search, key: &Reference) -> Result<Option<Ad
 }
 
 impl MasksAndSearches {
-    /// Nothing is known. Refused only for want of memory.
+    /// An empty cache. Refused only if memory is refused.
     pub(crate) fn new(alloc: Global) -> Result<MasksAndSearches, AllocError>
         ensures { IfOk result (λ masks. (t : Table) → AreTrue t masks) }
     {
@@ -64,7 +65,7 @@ impl MasksAndSearches {
         })
     }
 
-    /// The search that is kept of this handle, which isn't kept any more.
+    /// Removes and returns the search for this handle.
     fn take(&mut self, name: &Name) -> Option<Search>
         ensures handle { IfSome result (λ search. handle_of search ≡ canonical name.now) }
         ensures of_table { (t : Table) → AreTrue t self.old → AreTrue t self.new × IfSome result (IsSearch t) }
@@ -82,7 +83,7 @@ impl MasksAndSearches {
         held
     }
 
-    /// Where many are kept, the search that went on least lately goes.
+    /// If the maximum is reached, drops the search that wasn't continued for the longest time.
     fn make_room(&mut self)
         ensures { (t : Table) → AreTrue t self.old → AreTrue t self.new }
     {
@@ -92,7 +93,7 @@ impl MasksAndSearches {
         drop(self.searches.remove(0));
     }
 
-    /// Where those that are kept and one more hold too much, all go.
+    /// If the searches and `references` more exceed the maximum of references, drops them all.
     fn make_room_for(&mut self, references: usize)
         ensures { (t : Table) → AreTrue t self.old → AreTrue t self.new }
     {
@@ -102,7 +103,7 @@ impl MasksAndSearches {
         self.searches.clear();
     }
 
-    /// Keeps a search, if it is worth that.
+    /// Keeps a search, unless a new one costs as little.
     fn hold(&mut self, search: Search)
         ensures { (t : Table) → AreTrue t self.old → IsSearch t search → AreTrue t self.new }
     {
@@ -114,7 +115,7 @@ impl MasksAndSearches {
         let _ = self.searches.push(search);
     }
 
-    /// The search for the administrators of this handle that was kept, else a new one.
+    /// The kept search for the administrators of this handle, or else a new one.
     fn search_for<R: Rows>(&mut self, rows: &mut R, name: &Name) -> Result<Search, Refused>
         requires of_table { AreTrue (R.content rows.old) self.old }
         ensures unchanged { R.content rows.new ≡ R.content rows.old }
@@ -129,7 +130,7 @@ impl MasksAndSearches {
         Search::begin(self.alloc, rows, name)
     }
 
-    /// The same, gone on by what one call looks up.
+    /// The same search, continued by what one call may look up.
     fn search_on<R: Rows>(&mut self, rows: &mut R, name: &Name) -> Result<Search, Refused>
         requires of_table { AreTrue (R.content rows.old) self.old }
         ensures unchanged { R.content rows.new ≡ R.content rows.old }
@@ -142,11 +143,11 @@ impl MasksAndSearches {
         search.go_on(self.alloc, rows, LOOKED_UP)
     }
 
-    /// What the key may do as an administrator of the handle: as it was found, or by a search over this table, of which what was
-    /// seen is kept.
+    /// The permissions of the key as an administrator of the handle: from the cache, or else by a search of this table.
+    /// What the search saw is kept.
     ///
-    /// Refused: the table refused a look, and its count rose by one; or memory was refused, or the search looked up as much as
-    /// one call may and isn't done, and the count is as it was. The next call goes on from there.
+    /// Refused: the table refused a look, and its count rose by one; or memory was refused, or the search looked up as
+    /// much as one call may and isn't done, and the count is as it was. The next call continues the search.
     pub(crate) fn mask<R: Rows>(
         &mut self,
         rows: &mut R,
@@ -171,8 +172,8 @@ impl MasksAndSearches {
         Ok(mask)
     }
 
-    /// Forgets what may not be so when values of this handle change: all masks, and each search for this handle, or that saw a reference
-    /// of it.
+    /// Drops what may be wrong after a change of this handle's values: all masks, and each search that is for this
+    /// handle or saw a reference to it.
     fn forget(&mut self, name: &Name)
         ensures { (t u : Table) → AgreeBeside (canonical name.now) t u → AreTrue t self.old → AreTrue u self.new }
     {
@@ -185,8 +186,9 @@ impl MasksAndSearches {
         }
     }
 
-    /// Notes what came of a write of this handle: behind one that was done it forgets what may not be so any more. One that was refused left the table as it
-    /// was, and what is kept too: so a write that is tried again, since a thread makes it or memory was refused, finds its search and its mask.
+    /// Notes the result of a write to this handle. If it was done, the cache drops what may be wrong. If it was
+    /// refused, the table is as it was, and the cache too. So a write that is tried again finds its search and its
+    /// mask: a thread makes it, or memory was refused.
     pub(crate) fn note_write(
         &mut self,
         name: &Name,

@@ -1,10 +1,10 @@
-//! What happens on a lane, and what comes of it.
+//! Events on a lane, and their outcomes.
 //!
-//! An [`Event`] is what the service takes, an [`Outcome`] what it answers. Workers between a socket and a lane speak of both and of
-//! nothing else of the service, so these types stand in a crate of their own: `hdl_workers` needs no layer between this one and the
-//! machine. What an event brings about is said in `hdl_laws`, and done in `hdl_core`.
+//! An [`Event`] is what the service takes; an [`Outcome`] is its answer. Workers between a socket and a lane use these
+//! types and nothing else of the service. So the types have a crate of their own, and `hdl_workers` needs no layer
+//! between this one and the service. `hdl_laws` defines the effect of an event, and `hdl_core` implements it.
 //!
-//! It promises nothing: it has types alone.
+//! It has types alone, without contracts.
 //!
 //! ```rust
 //! // crates/hdl_replay/src/script.rt
@@ -22,19 +22,19 @@ use hdl_limits::Octets;
 /// What happens on a lane.
 #[derive(Drop)]
 pub enum What {
-    /// A connection begins; a datagram lane has one for good.
+    /// A connection begins. A datagram lane has one connection that never ends.
     Open,
-    /// Octets that should be one frame.
+    /// Octets that should be exactly one frame.
     Frame {
-        /// Who sent it: on a stream 0, of datagrams the peer's number.
+        /// The sender: 0 on a stream, the peer's number on a datagram lane.
         peer: u16,
         /// When it came, in milliseconds.
         moment: u64,
-        /// Sixteen octets for a challenge, if this frame brings one about.
+        /// Sixteen octets for a challenge, if this frame leads to one.
         nonce: [u8; 16],
         bytes: Octets,
     },
-    /// A faulty envelope stands next in the stream; these are the two numbers at their places in it.
+    /// The next envelope of the stream is faulty. The two numbers are those at their places in it.
     Bad {
         session: u32,
         request: u32,
@@ -43,22 +43,22 @@ pub enum What {
     Close,
 }
 
-/// Something that happens on the lane with this number.
+/// An event on the lane with this number.
 #[derive(Drop)]
 pub struct Event {
     pub lane: u16,
     pub what: What,
 }
 
-/// What comes of an event.
+/// The outcome of an event.
 #[derive(Drop)]
 pub enum Outcome {
     /// The octets of a reply: envelope and message.
     Reply(Octets),
-    /// Memory or the store refused: nothing changed, and this short reply says so.
+    /// Memory or the store was refused. Nothing changed, and this short reply says so.
     Busy([u8; 52]),
     /// Nothing is sent.
     Silent,
-    /// This short reply, and then the end of the connection.
+    /// This short reply is sent, and then the connection is closed.
     CloseAfter([u8; 52]),
 }

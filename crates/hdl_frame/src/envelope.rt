@@ -1,4 +1,4 @@
-//! The envelope: its layout, which envelopes are accepted, and how long a payload is.
+//! The envelope: its layout, which envelopes are accepted, and the length of the payload.
 
 ghost use Rattle.std.specs.Prelude.{◌≡◌, ◌≤◌, length, None};
 ghost use Rattle.hdl_frame.specs.Envelope.{envelope_at, envelope_octets, message_envelope, fault_of, payload_len, is_compressed, is_encrypted, is_truncated};
@@ -7,13 +7,13 @@ use byteorder::{BigEndian, ByteOrder};
 use hdl_limits::{MESSAGE_MAX, PIECE_LEN};
 use thiserror::Error;
 
-/// How many octets an envelope has.
+/// The length of an envelope, in octets.
 pub const ENVELOPE_LEN: usize = 20;
 
-/// The major version that is spoken; any minor version is accepted.
+/// The major version of the protocol. Any minor version is accepted.
 pub const MAJOR_VERSION: u8 = 2;
 
-/// The minor version of what is sent.
+/// The minor version of envelopes that this crate writes.
 pub const MINOR_VERSION: u8 = 1;
 
 /// MessageFlag bit CP: the message is compressed. Such envelopes are refused.
@@ -22,7 +22,7 @@ pub const COMPRESSED: u16 = 0x8000;
 /// MessageFlag bit EC: the message is encrypted. Such envelopes are refused.
 pub const ENCRYPTED: u16 = 0x4000;
 
-/// MessageFlag bit TC: the frame is a piece of a message. All other bits are ignored.
+/// MessageFlag bit TC: the frame is a piece of a message. All bits but CP, EC and TC are ignored.
 pub const TRUNCATED: u16 = 0x2000;
 
 /// The envelope of a message or of a piece of one (RFC 3652, section 2.1, in our profile).
@@ -38,8 +38,8 @@ pub const TRUNCATED: u16 = 0x2000;
 /// +-----------------------------------+
 /// ```
 ///
-/// Numbers stand highest octet first. `length` counts the octets of the whole message without the envelope, in each piece
-/// too. Without TC `sequence` means nothing.
+/// Numbers are sent highest octet first. `length` is the length of the whole message without the envelope, in octets,
+/// in each piece too. Without TC, `sequence` has no meaning.
 #[derive(Clone, Copy, Debug, PartialEq, Eq)]
 pub struct Envelope {
     pub major: u8,
@@ -51,20 +51,19 @@ pub struct Envelope {
     pub length: u32,
 }
 
-/// Why no frame can be cut. The first three say what is wrong with the envelope that stands next, and are tested in this
-/// order.
+/// Why no frame can be cut. The first three are the faults of the next envelope, and are tested in this order.
 #[derive(Clone, Copy, Debug, PartialEq, Eq, Error)]
 pub enum FrameFault {
     /// The major version isn't 2.
     #[error("unknown protocol version")]
     Version(Envelope),
-    /// CP or EC is set; or TC is, and the piece would begin at or after the message's end.
+    /// CP or EC is set; or TC is, and the piece would begin at or after the end of the message.
     #[error("compressed, encrypted, or a piece past the message's end")]
     Flags(Envelope),
     /// MessageLength is over 65,536.
     #[error("message too long")]
     TooLong(Envelope),
-    /// A growth was refused.
+    /// Memory was refused.
     #[error("out of memory")]
     Memory,
 }
@@ -72,7 +71,7 @@ pub enum FrameFault {
 impl Envelope {
     ghost use Rattle.hdl_frame.specs.Envelope.{envelope_at, envelope_octets, message_envelope, fault_of, payload_len, is_compressed, is_encrypted, is_truncated};
 
-    /// The envelope of a whole message in one frame, without flags. `length` counts the message's octets.
+    /// The envelope of a whole message in one frame, without flags. `length` is the length of the message in octets.
     pub fn of_message(session: u32, request: u32, length: u32) -> Envelope
         ensures envelope { result ≡ message_envelope session request length }
     {
@@ -87,7 +86,7 @@ impl Envelope {
         }
     }
 
-    /// The envelope that the first 20 octets spell; every 20 octets spell one.
+    /// The envelope in the first 20 octets. Any 20 octets are an envelope.
     #[tactic(auto, unfolding(crate::specs::Envelope::envelope_at))]
     pub fn read(octets: &[u8]) -> Envelope
         requires whole { ENVELOPE_LEN ≤ length octets.now }
@@ -141,7 +140,7 @@ impl Envelope {
         self.flags & TRUNCATED != 0
     }
 
-    /// What is wrong with the envelope, if anything is: the first of Version, Flags and TooLong.
+    /// The first fault of the envelope (Version, Flags or TooLong), or `None`.
     #[tactic(auto, unfolding(crate::specs::Envelope::fault_of))]
     pub fn fault(self) -> Option<FrameFault>
         ensures first_fault { result ≡ fault_of self }
@@ -159,7 +158,7 @@ impl Envelope {
         }
     }
 
-    /// How many octets follow an accepted envelope in its frame.
+    /// The length of the payload of an accepted envelope, in octets.
     #[tactic(auto, unfolding(crate::specs::Envelope::fault_of, crate::specs::Envelope::payload_len))]
     pub fn payload_len(self) -> usize
         requires accepted { fault_of self ≡ None }

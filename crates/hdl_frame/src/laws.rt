@@ -1,30 +1,30 @@
-//! Laws over the definitions of frames, each the contract of a function without a body.
+//! Laws of frames. Each is the contract of a function without a body.
 
 ghost use Rattle.hdl_frame.specs.Laws.{OneCut, EachIsCut, PiecesJoin, ChunksJoin, OneFrame, OneMessage, MessageIsJoined, JoinedIsMessage, NoneIsMissing};
 ghost use Rattle.hdl_frame.specs.Spelling.{SpelledIsFrame, FrameIsSpelled};
 
-/// A stream is cut in one way only.
+/// There is at most one way to cut a stream.
 pub fn one_cut()
     ensures { OneCut }
 {}
 
-/// Each stream is cut in some way.
+/// There is a way to cut each stream.
 pub fn each_is_cut()
     ensures { EachIsCut }
 {}
 
-/// What comes in two parts is cut as the whole: first the frames of the first part, then those of its rest followed by the
-/// second part.
+/// A stream in two parts is cut like the whole: first the frames of the first part, then those of its rest followed by
+/// the second part.
 pub fn pieces_join()
     ensures { PiecesJoin }
 {}
 
-/// What comes in any chunks is cut as the whole.
+/// A stream in any number of chunks is cut like the whole.
 pub fn chunks_join()
     ensures { ChunksJoin }
 {}
 
-/// What spells a frame is one, and its envelope and payload are those that it spells.
+/// If octets are the encoding of a frame, they can be read as a frame with that envelope and payload.
 pub fn spelled_is_frame()
     ensures { SpelledIsFrame }
 {}
@@ -34,7 +34,7 @@ pub fn frame_is_spelled()
     ensures { FrameIsSpelled }
 {}
 
-/// Octets spell at most one frame.
+/// Octets are the encoding of at most one frame.
 pub fn one_frame()
     ensures { OneFrame }
 {}
@@ -44,17 +44,17 @@ pub fn one_message()
     ensures { OneMessage }
 {}
 
-/// The message that pieces make is their payloads by number, one after the other.
+/// The message that pieces make is the concatenation of their payloads by number.
 pub fn message_is_joined()
     ensures { MessageIsJoined }
 {}
 
-/// Payloads of their length, one after the other by number, are the message that the pieces make.
+/// If the payloads have their lengths, their concatenation by number is the message that the pieces make.
 pub fn joined_is_message()
     ensures { JoinedIsMessage }
 {}
 
-/// A message isn't made only if one of its numbers didn't come.
+/// If the pieces don't make a message, the piece of some number is missing.
 pub fn none_is_missing()
     ensures { NoneIsMissing }
 {}

@@ -5,13 +5,15 @@
 //!                finish -> Ended ---------------> settle -> what is left
 //! ```
 //!
-//! Contracts see of an inlet what was put (`put_into`) and for how many items more it knows to have room (`known_room`), and
-//! of an outlet what was taken (`taken_from`) and which items it has seen (`seen_in`), each list oldest first. A put that succeeds appends to what was put; a full
-//! ring hands the item back and nothing was put; after [`Inlet::has_room`] said yes the next put succeeds. A take that gives
-//! an item appends it to what was taken. An item that is seen can be read where it stands ([`Outlet::front`]), and be taken later. Once both ends are on one thread, [`Outlet::settle`] ties them: what was put is what
-//! was taken, followed by what it gives, so each item came once and in order.
+//! In contracts an inlet has the items that were put (`put_into`), and the number of further items for which it knows
+//! to have room (`known_room`). An outlet has the items that were taken (`taken_from`), and those that it has seen
+//! (`seen_in`). Each list has the oldest first. A put that succeeds appends to the items that were put. If the ring is
+//! full, the item is returned and nothing was put. After [`Inlet::has_room`] returned true, the next put succeeds. A
+//! take appends its item to those that were taken. An item that was seen can be read in place ([`Outlet::front`]) and
+//! taken later. Once both ends are on one thread, [`Outlet::settle`] relates them: the items that were put are those
+//! that were taken, followed by its result. So each item came once, and in order.
 //!
-//! None of the calls waits, and none but [`lane`] takes memory. It stands on the kit's `rtrb`.
+//! None of the calls waits, and only [`lane`] takes memory. It depends on the kit's `rtrb`.
 //!
 //! ```rust
 //! // crates/hdl_scripts/src/lanes/rings.rt
@@ -32,24 +34,24 @@ pub use outlet::Outlet;
 use rtrb::{Producer, PushError, RingBuffer};
 use std::alloc::{AllocError, Global};
 
-/// The end at which items are put.
+/// The end that puts items.
 #[derive(Drop)]
 pub struct Inlet<T> {
     producer: Producer<T>,
 }
 
-/// An inlet at which nothing more is put. It goes to the thread that has the outlet.
+/// An inlet that puts no more items. It goes to the thread that has the outlet.
 #[derive(Drop)]
 pub struct Ended<T> {
     pub(crate) producer: Producer<T>,
 }
 
-/// The ring was full: the item comes back.
+/// The ring was full. This is the item.
 #[derive(Drop)]
 pub struct Full<T>(pub T);
 
-/// A lane with room for `capacity` items, of which nothing was put and nothing taken. All its memory is taken here, for the
-/// ring and for what may be left in it; where that is refused there is no lane.
+/// An empty lane with room for `capacity` items. It takes all its memory now: for the ring, and for the items that may
+/// be left in it. If memory is refused, there is no lane.
 pub fn lane<T: Drop>(alloc: Global, capacity: usize) -> Result<(Inlet<T>, Outlet<T>), AllocError>
     ensures ends { IfOk result (λ ends. AreEnds ends.0 ends.1) }
     ensures room { IfOk result (λ ends. known_room ends.0 ≡ capacity) }
@@ -61,7 +63,7 @@ pub fn lane<T: Drop>(alloc: Global, capacity: usize) -> Result<(Inlet<T>, Outlet
 }
 
 impl<T: Drop> Inlet<T> {
-    /// Puts an item, or hands it back where the ring is full.
+    /// Puts an item, or returns it if the ring is full.
     pub fn put(&mut self, item: T) -> Result<(), Full<T>>
         ensures lane { SameInlet self.old self.new }
         ensures put { OnOk result ((put_into self.new ≡ put_into self.old ++ item ∷ []) × (known_room self.old ≤ known_room self.new + 1)) }
@@ -74,7 +76,8 @@ impl<T: Drop> Inlet<T> {
         }
     }
 
-    /// Whether the next put succeeds. Where room is known this looks at the inlet's own count alone, else once at the ring.
+    /// Whether the next put succeeds. If room is known, this reads only the inlet's own count; otherwise it reads the
+    /// ring once.
     pub fn has_room(&mut self) -> bool
         ensures lane { SameInlet self.old self.new }
         ensures put { put_into self.new ≡ put_into self.old }
@@ -84,7 +87,7 @@ impl<T: Drop> Inlet<T> {
         !self.producer.is_full()
     }
 
-    /// Ends the inlet. Nothing more is put.
+    /// Ends the inlet: no more items can be put.
     pub fn finish(self) -> Ended<T>
         ensures { IsEndOf self result }
     {

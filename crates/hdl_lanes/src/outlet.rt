@@ -1,4 +1,4 @@
-//! The end at which items are taken.
+//! The end that takes items.
 
 ghost use Rattle.std.specs.Prelude.{◌≡◌, ◌≤◌, [], length, vec_capacity};
 ghost use Rattle.rtrb.specs.Ring.{known_items, consumer_capacity};
@@ -6,7 +6,7 @@ ghost use Rattle.rtrb.specs.Ring.{known_items, consumer_capacity};
 use crate::Ended;
 use rtrb::Consumer;
 
-/// The end at which items are taken, and room for what is left once the inlet has ended.
+/// The end that takes items, with room for those that are left when the inlet has ended.
 #[derive(Drop)]
 pub struct Outlet<T> {
     pub(crate) consumer: Consumer<T>,
@@ -19,7 +19,7 @@ impl<T: Drop> Outlet<T> {
     ghost use Rattle.rtrb.specs.Ring.{IsPair, received, sent, consumer_capacity};
     ghost use Rattle.hdl_lanes.specs.Lane.{taken_from, seen_in, all_put, AreEnded, IsFrontOf, SameOutlet};
 
-    /// Takes the oldest item, or nothing where none was seen.
+    /// Takes the oldest item, or returns `None` if no item was seen.
     pub fn take(&mut self) -> Option<T>
         ensures lane { SameOutlet self.old self.new }
         ensures taken { MatchOption result (taken_from self.new ≡ taken_from self.old) (λ item. taken_from self.new ≡ taken_from self.old ++ item ∷ []) }
@@ -27,7 +27,7 @@ impl<T: Drop> Outlet<T> {
         self.consumer.pop().ok()
     }
 
-    /// Whether an item is seen. Nothing is taken.
+    /// Looks whether there is an item to take. None is taken.
     pub fn sees(&mut self) -> bool
         ensures lane { SameOutlet self.old self.new }
         ensures taken { taken_from self.new ≡ taken_from self.old }
@@ -36,7 +36,7 @@ impl<T: Drop> Outlet<T> {
         !self.consumer.is_empty()
     }
 
-    /// The oldest item that is seen. It stays in the ring.
+    /// The oldest item that was seen. It stays in the ring.
     pub fn front(&self) -> &T
         requires { 0 < length (seen_in self.now) }
         ensures { IsFrontOf result.now self.now }
@@ -44,7 +44,7 @@ impl<T: Drop> Outlet<T> {
         self.consumer.peek_known()
     }
 
-    /// Takes the oldest item that is seen.
+    /// Takes the oldest item that was seen.
     pub fn take_front(&mut self) -> T
         requires { 0 < length (seen_in self.old) }
         ensures lane { SameOutlet self.old self.new }
@@ -54,7 +54,7 @@ impl<T: Drop> Outlet<T> {
         self.consumer.pop_known()
     }
 
-    /// What is left of a lane whose inlet has ended, in order. It takes no memory.
+    /// The items that are left in a lane whose inlet has ended, in order. Takes no memory.
     pub fn settle(self, ended: Ended<T>) -> Vec<T>
         requires { AreEnded ended self }
         ensures { all_put ended ≡ taken_from self ++ result.items }
@@ -66,7 +66,7 @@ impl<T: Drop> Outlet<T> {
     }
 }
 
-/// Moves the items that are known to be in the ring into a `Vec` that has room for them.
+/// Moves the items that are known to be in the ring into a `Vec` with room for them.
 fn pop_known<T: Drop>(consumer: &mut Consumer<T>, left: Vec<T>) -> Vec<T>
     requires { (left.items ≡ []) × (length (known_items consumer.old) ≤ vec_capacity left) }
     ensures { result.items ≡ known_items consumer.old }

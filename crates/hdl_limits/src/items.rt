@@ -4,8 +4,8 @@ ghost use Rattle.std.specs.Prelude.{◌≡◌};
 
 use std::marker::Model;
 
-/// Items that a record of the protocol holds. Contracts see them as a list, so a record with such a field is itself the
-/// mathematical record.
+/// A list of items in a record of the protocol. Contracts see it as a mathematical list, so a record with such a field
+/// is itself a mathematical record.
 #[derive(Drop)]
 pub struct Items<T> {
     items: Vec<T>,
@@ -23,21 +23,20 @@ impl<T> Model for Items<T> {
 }
 
 impl<T> Items<T> {
-    /// The items of a vector, which is taken as it is.
+    /// Wraps a vector without a copy.
     pub fn new(items: Vec<T>) -> Items<T>
         ensures { result ≡ items.items }
     {
         Items { items }
     }
 
-    /// The items where they stand.
     pub fn as_slice(&self) -> &[T]
         ensures { result.now ≡ self.now }
     {
         &self.items
     }
 
-    /// The vector back, as it is.
+    /// The vector, without a copy.
     pub fn into_vec(self) -> Vec<T>
         ensures { result.items ≡ self }
     {

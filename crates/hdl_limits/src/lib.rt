@@ -1,12 +1,13 @@
 //! The limits of the profile (docs/PROTOCOL.md), each once.
 //!
-//! A limit is one constant here. Code compares with it, clauses name it, and the definitions of the crates above import it
-//! from `specs.declared.TheConstants`, so the number stands in no other file of `src/` or `specs/`. [`numbers`] says each number, so
-//! that none changes unseen. To change a limit, change its constant, its clause there, and docs/PROTOCOL.md.
+//! Each limit is one constant here. Code compares with it, clauses name it, and the definitions of the crates above
+//! import it from `specs.declared.TheConstants`. So the number stands in no other file of `src/` or `specs/`.
+//! [`numbers`] states each number, so that none changes unnoticed. To change a limit, change its constant, its clause
+//! in [`numbers`], and docs/PROTOCOL.md.
 //!
-//! This crate is the lowest of the service and stands on no other. What each layer above shares stands here too: the definitions of
-//! octets (`specs/Octets.antt`) and of counts of 64 bits (`specs/Counts.antt`), and [`Items`], a vector that contracts see as a list, such
-//! as [`Octets`].
+//! This is the lowest crate of the service and depends on no other. It also holds what all layers above share: the
+//! definitions of octets (`specs/Octets.antt`) and of 64-bit counters (`specs/Counts.antt`), and [`Items`], a vector
+//! that contracts see as a list, such as [`Octets`].
 //!
 //! ```rust
 //! // crates/hdl_vectors/src/names.rt
@@ -22,64 +23,64 @@ ghost use Rattle.std.specs.Prelude.{◌≡◌, ◌≤◌, ◌<◌, ◌*◌, ◌-
 
 pub use items::{Items, Octets};
 
-/// How many lanes there are, and so the most lanes of all publishers together.
+/// The number of lanes, and so the maximum of all publishers together.
 pub const LANES: usize = 64;
 
-/// The most octets of a publisher's name.
+/// The maximum length of a publisher's name, in octets.
 pub const PUBLISHER_NAME_MAX: usize = 32;
 
-/// The most challenges that wait on a lane for their responses.
+/// The maximum of challenges of a lane that wait for their responses.
 pub const CHALLENGES_MAX: usize = 8;
 
-/// How many milliseconds a challenge lives.
+/// How long a challenge is valid, in milliseconds.
 pub const CHALLENGE_LIFE: u64 = 60_000;
 
-/// The most partial messages of a lane.
+/// The maximum of partial messages of a lane.
 pub const PARTIALS_MAX: usize = 4;
 
-/// The most peers of a worker; they are numbered from 1.
+/// The maximum of peers of a worker. They are numbered from 1.
 pub const PEERS_MAX: usize = 1_024;
 
-/// The most frames of a datagram lane that are under way, without a whole reply.
+/// The maximum of frames of a datagram lane that are being served: their replies aren't complete yet.
 pub const UNDER_WAY_MAX: usize = 16;
 
-/// The most octets of a message, without its envelope.
+/// The maximum length of a message without its envelope, in octets.
 pub const MESSAGE_MAX: u32 = 65_536;
 
-/// How many octets of a message each piece but the last carries.
+/// The length of each piece of a message but the last, in octets.
 pub const PIECE_LEN: u32 = 492;
 
-/// How many pieces the longest message has.
+/// The number of pieces of the longest message.
 pub const PIECES_MAX: u32 = (MESSAGE_MAX + PIECE_LEN - 1) / PIECE_LEN;
 
-/// The most octets of a handle's name.
+/// The maximum length of a handle's name, in octets.
 pub const NAME_MAX: usize = 2_048;
 
-/// The most octets of a value's type.
+/// The maximum length of a value's type, in octets.
 pub const TYPE_MAX: usize = 255;
 
-/// The most octets of a value's data.
+/// The maximum length of a value's data, in octets.
 pub const DATA_MAX: usize = 32_768;
 
-/// The most references of a value.
+/// The maximum of references of a value.
 pub const REFERENCES_MAX: u32 = 64;
 
-/// The most values of a handle.
+/// The maximum of values of a handle.
 pub const VALUES_MAX: usize = 1_024;
 
-/// The most values, or indexes, that one request may write.
+/// The maximum of values, or of indexes, that one request may write.
 pub const WRITTEN_MAX: usize = 256;
 
-/// The most masks of administrators that are kept for the requests to come.
+/// The maximum of masks of administrators that are cached.
 pub const MASKS_MAX: usize = 256;
 
-/// The pieces of the longest message hold it, and no fewer do.
+/// `PIECES_MAX` pieces hold the longest message, and one piece fewer doesn't.
 pub fn pieces_hold_a_message()
     ensures enough { MESSAGE_MAX ≤ PIECES_MAX * PIECE_LEN }
     ensures no_more { (PIECES_MAX - 1) * PIECE_LEN < MESSAGE_MAX }
 {}
 
-/// The numbers of the profile (docs/PROTOCOL.md, "Limits", has those that clients see).
+/// The number of each limit. docs/PROTOCOL.md, "Limits", lists those that clients see.
 pub fn numbers()
     ensures lanes { LANES ≡ 64 }
     ensures publisher_name { PUBLISHER_NAME_MAX ≡ 32 }

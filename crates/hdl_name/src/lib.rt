@@ -1,12 +1,12 @@
 //! Names of handles, after RFC 3651, section 3: a naming authority, the first `/`, and a local name.
 //!
-//! This crate is the grammar of names and nothing else. Every crate above speaks of a handle through it.
+//! This crate is the grammar of names and nothing else. Every crate above uses it for handles.
 //!
-//! What it promises: [`Name::read`] accepts exactly the octets that the definition `IsName` spells and gives them back as
-//! they were sent, or tells the first fault of a fixed order; the parts of a name and its canonical form are functions of
-//! the octets that were sent; two handles are the same where their canonical forms are the same octets. [`is_name`] is the
-//! same test without memory. The laws that the crates above lean on (one reading, the canonical form is a name and stays)
-//! are the contracts of functions without a body.
+//! [`Name::read`] accepts exactly the octets that the definition `IsName` describes, and keeps them as they were sent.
+//! For other octets it returns the first fault, in a fixed order. The parts of a name and its canonical form are
+//! functions of the octets. Two handles are the same if their canonical forms are the same octets. [`is_name`] is the
+//! same test and takes no memory. The laws that the crates above use are the contracts of functions without a body:
+//! there is one reading, and the canonical form is a name and its own canonical form.
 //!
 //! Contracts see a [`Name`] as the octets that were sent.
 //!

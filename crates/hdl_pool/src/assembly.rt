@@ -13,14 +13,14 @@ use hdl_limits::{MESSAGE_MAX, PIECE_LEN};
 use std::alloc::{AllocError, Global};
 use std::marker::Model;
 
-/// A message of which pieces came. Each payload is a copy of its own, so that memory follows what really came.
+/// A message of which some pieces came. Each payload is a copy of its own, so the memory is in proportion to what came.
 #[derive(Drop)]
 pub(crate) struct Assembly {
     key: MessageKey,
     message_len: u32,
-    /// The payloads by number, each where it came.
+    /// The payloads by number; `None` if a piece hasn't come yet.
     payloads: Vec<Option<Vec<u8>>>,
-    /// How many didn't come yet.
+    /// How many haven't come yet.
     missing: usize,
 }
 
@@ -60,7 +60,6 @@ impl Assembly {
         })
     }
 
-    /// Whether this is the message of this key.
     pub(crate) fn is_of(&self, key: MessageKey) -> bool
         ensures { result ≡ is_of key self.now }
     {
@@ -69,7 +68,8 @@ impl Assembly {
             && self.key.request == key.request
     }
 
-    /// Takes a piece of this message: whole, and then this stays as it was, or kept, or ignored. An `Err` changes nothing.
+    /// Takes a piece of this message. It is whole, and this stays as it was; or the piece is kept; or it is ignored. An
+    /// `Err` changes nothing.
     pub(crate) fn take(&mut self, alloc: Global, piece: Arrival<'_>) -> Result<Taken, AllocError>
         requires { IsPiece (piece_in piece) }
         ensures fate { IfOk result (λ t. fate_of t ≡ (after_piece self.old (piece_in piece.entry)).0) }
@@ -94,7 +94,7 @@ impl Assembly {
         self.payloads[number as usize].is_some()
     }
 
-    /// The message, where this payload under this number is the last that didn't come. Only there memory is asked for.
+    /// The message, if this payload is the only one that hasn't come. Memory is taken only then.
     fn completed_by(
         &self,
         alloc: Global,
@@ -117,7 +117,7 @@ impl Assembly {
         )
     }
 
-    /// Keeps a copy of a payload that didn't come yet. An `Err` changes nothing.
+    /// Keeps a copy of a payload that hasn't come yet. An `Err` changes nothing.
     fn put(&mut self, alloc: Global, number: u32, payload: &[u8]) -> Result<(), AllocError>
         requires number { number < piece_count self.old.length }
         requires new { payload_at self.old number ≡ None }

@@ -1,4 +1,4 @@
-//! The cells in which partial messages stand.
+//! The cells that hold partial messages.
 
 ghost use Rattle.std.specs.Prelude.{◌≡◌, ◌<◌, replicate, slice_set, option_copied, None, IfOk};
 ghost use Rattle.hdl_pool.specs.Cells.{cells_at, cell_at};
@@ -10,7 +10,8 @@ use std::alloc::{AllocError, Global};
 use std::marker::Model;
 use std::mem;
 
-/// Four cells for each lane, each empty or with a partial message. All are slots of one slab, made once and written in place.
+/// Four cells for each lane, each empty or with a partial message. All are slots of one slab, which is made once and
+/// written in place.
 #[derive(Drop)]
 pub(crate) struct Cells {
     slab: Slab<Option<Assembly>>,
@@ -43,7 +44,7 @@ impl Cells {
         Ok(Cells { slab, keys })
     }
 
-    /// What a cell has.
+    /// The partial message in a cell.
     pub(crate) fn get(&self, lane: usize, place: usize) -> Option<&Assembly>
         requires lane { lane < LANES }
         requires place { place < PARTIALS_MAX }
@@ -53,7 +54,7 @@ impl Cells {
         self.slab.get(key)?.as_ref()
     }
 
-    /// Puts something else, or nothing, into a cell, and gives what it had.
+    /// Replaces the contents of a cell, and returns the old ones.
     pub(crate) fn replace(
         &mut self,
         lane: usize,

@@ -1,4 +1,4 @@
-//! Payloads, one after the other.
+//! Joining payloads.
 
 ghost use Rattle.std.specs.Prelude.{◌≡◌, slice_set, option_map, Some, IfOk};
 ghost use Rattle.hdl_frame.specs.Whole.{whole_payload};
@@ -6,8 +6,8 @@ ghost use Rattle.hdl_pool.specs.Assembly.{lists};
 
 use std::alloc::{AllocError, Global};
 
-/// The message of these payloads by number, with this one under this number; `None` where another one didn't come. Room for
-/// `message_len` octets is taken at once.
+/// The concatenation of these payloads by number, with this one under this number. `None` if another one hasn't come.
+/// Memory for `message_len` octets is taken at once.
 pub(crate) fn joined_with(
     alloc: Global,
     message_len: usize,

@@ -1,4 +1,4 @@
-//! What is done to the cells of one lane.
+//! Calls on the cells of one lane.
 
 ghost use Rattle.std.specs.Prelude.{◌≡◌, ◌<◌, [], position, slice_set, Some, None, OnOk, OnErr, IfOk, IfSome};
 ghost use Rattle.hdl_pool.specs.Partial.{IsPiece};
@@ -24,7 +24,7 @@ impl Cells {
             .is_some_and(|partial| partial.is_of(key))
     }
 
-    /// Puts something else, or nothing, into a cell.
+    /// Replaces the contents of a cell.
     fn write(&mut self, lane: usize, place: usize, content: Option<Assembly>)
         requires lane { lane < LANES }
         requires place { place < PARTIALS_MAX }
@@ -33,7 +33,7 @@ impl Cells {
         self.replace(lane, place, content);
     }
 
-    /// Where in its lane the partial message of this key stands.
+    /// The cell of the lane with the partial message of this key.
     fn find(&self, lane: usize, key: MessageKey) -> Option<usize>
         requires lane { lane < LANES }
         requires fours { AreFours self.now }
@@ -62,7 +62,6 @@ impl Cells {
         }
     }
 
-    /// Empties the lane's cells.
     pub(crate) fn clear(&mut self, lane: usize)
         requires lane { lane < LANES }
         requires fours { AreFours self.old }
@@ -74,7 +73,8 @@ impl Cells {
         }
     }
 
-    /// Puts a partial message after the others: each of them moves down, until an empty cell takes one or the oldest falls out.
+    /// Inserts a partial message as the newest, in the last cell. Each older one moves one cell to the front, until an
+    /// empty cell takes one. If no cell is empty, the oldest is dropped.
     fn store(&mut self, lane: usize, first: Assembly) -> Taken
         requires lane { lane < LANES }
         requires fours { AreFours self.old }
@@ -95,7 +95,7 @@ impl Cells {
         }
     }
 
-    /// A piece of a message of which others came, in this cell.
+    /// Takes a piece of the partial message in this cell.
     fn grow(
         &mut self,
         alloc: Global,
@@ -122,7 +122,7 @@ impl Cells {
         taken
     }
 
-    /// A piece of a message of which nothing came.
+    /// Takes the first piece of a message.
     fn begin(&mut self, alloc: Global, lane: usize, piece: Arrival<'_>) -> Result<Taken, AllocError>
         requires lane { lane < LANES }
         requires fours { AreFours self.old }

@@ -1,8 +1,8 @@
-//! Laws over the definitions of partial messages, each the contract of a function without a body.
+//! Laws of partial messages. Each is the contract of a function without a body.
 
 ghost use Rattle.hdl_pool.specs.Laws.{NothingCame, KeptIsCollected, RepeatedIsIgnored, WholeIsMessage, MessageIsWhole, TakenIsSoFar, OthersStay, FreedIsGone, AtMostFour};
 
-/// Before the first piece nothing of a message came.
+/// Before its first piece, nothing of a message came.
 pub fn nothing_came()
     ensures { NothingCame }
 {}
@@ -12,22 +12,22 @@ pub fn kept_is_collected()
     ensures { KeptIsCollected }
 {}
 
-/// A piece whose number came is ignored, and says nothing new.
+/// If the number of a piece came before, the piece is ignored, and the pieces that came stay the same.
 pub fn repeated_is_ignored()
     ensures { RepeatedIsIgnored }
 {}
 
-/// What is whole is the message that the pieces make.
+/// A whole message is the message that its pieces make.
 pub fn whole_is_message()
     ensures { WholeIsMessage }
 {}
 
-/// The message that the pieces make with a last one is whole.
+/// If the pieces make a message together with a last one, the message is whole.
 pub fn message_is_whole()
     ensures { MessageIsWhole }
 {}
 
-/// What came of a message is what came before the piece, grown by the piece.
+/// After a piece, what came of its message is what came before and the piece.
 pub fn taken_is_so_far()
     ensures { TakenIsSoFar }
 {}
@@ -37,7 +37,7 @@ pub fn others_stay()
     ensures { OthersStay }
 {}
 
-/// What was freed isn't found.
+/// A message that was freed isn't found.
 pub fn freed_is_gone()
     ensures { FreedIsGone }
 {}

@@ -1,21 +1,21 @@
-//! Messages that come in pieces: which pieces came, until the message is whole.
+//! Messages that come in pieces: the pool keeps the pieces until the message is whole.
 //!
-//! Each of the 64 lanes has at most four partial messages, the oldest first. A piece belongs to the message of its lane, its
-//! peer, and the SessionId and RequestId of its envelope. It is ignored where its number came before or where it says another
-//! length; it makes the message whole, and then the pool stays as it was; or it is kept, and a fifth message displaces the
-//! lane's oldest.
+//! Each of the 64 lanes has at most four partial messages, the oldest first. A piece belongs to a message by its lane,
+//! its peer, and the SessionId and RequestId of its envelope. A piece is ignored if its number came before, or if its
+//! message length differs from that of the pieces before it. If it makes the message whole, the pool stays as it was.
+//! Otherwise the pool keeps it; the first piece of a fifth message displaces the oldest message of the lane.
 //!
 //! ```text
 //! frame with TC -> take -> Whole(message) | Kept | Ignored | Displaced
-//!                  free    what came before a whole message goes
+//!                  free    drops the pieces that came before
 //!                  drop_lane
 //! ```
 //!
-//! Definitions of `hdl_frame` say what a frame is and which message pieces make. The 256 slots, in the kit's `slab`, are made by
-//! [`Pool::new`] and written in place; only [`Pool::take`] takes memory, for what really came and for a whole message, and a
-//! refused growth leaves the pool as it was. What it promises is one equation for each call: the list of all lanes is as it was
-//! but for the called one, which is a function of what it was (`specs/Taking.antt`). The laws of `specs/Laws.antt` tie these
-//! functions to the message that pieces make.
+//! `hdl_frame` defines what a frame is and which message pieces make. [`Pool::new`] makes the 256 slots, in the kit's
+//! `slab`; they are written in place. Only [`Pool::take`] takes memory: for the pieces that came and for a whole
+//! message. If memory is refused, the pool stays as it was. The contract of each call is one equation: the lists of the
+//! other lanes stay the same, and the list of the called lane is a function of what it was (`specs/Taking.antt`). The
+//! laws of `specs/Laws.antt` relate these functions to the message that pieces make.
 //!
 //! ```rust
 //! // crates/hdl_vectors/src/pool.rt
@@ -27,19 +27,23 @@
 //!
 //! # Decisions
 //!
-//! - **A one-piece message whose key has a partial message of another length is ignored**, as any other piece of another length.
-//! - **The finite map of a partial message's pieces is a list of options, one for each number**, so equal partial messages are equal values,
-//!   and the message is `whole_payload` of that list, the word of hdl_frame.
-//! - **What a piece does goes in two steps**: `after_piece` says what becomes of its message, `store_if_kept` that only a kept piece changes the lane.
-//!   So a piece that makes its message whole leaves the pool as it was, and a caller whose event becomes Busy has nothing to undo.
-//! - **A partial message counts its missing pieces.** Only the last missing one builds the message; it takes the whole message's room at
-//!   once. Each payload is a copy of its own, and the table of a message's pieces (at most 134 places) comes with its first piece.
-//! - **256 slots of one slab.** All are filled by `Pool::new`, and no key is given back: a table holds the four keys of each lane, and the
-//!   invariant says that each key has a slot and no two are the same. A lane's list is what its four cells have in their order, gaps
-//!   allowed; a new message is put after the others, each moves down until a gap takes one, and where there is none the oldest falls out.
-//! - **A message of one piece is copied, and nothing else**: no table of pieces is taken for it.
-//! - **`free` takes the envelope** of the frame that `take` took, from which it reads the same key.
-//! - **`take` has no allocator parameter**: the pool keeps the handle that `new` was given, as vectors do.
+//! - **If a message in one piece has the key of a partial message of another length, it is ignored**, like any other
+//!   piece of another length.
+//! - **The pieces of a partial message are a list of options, one for each number.** So equal partial messages are
+//!   equal values, and the message is `whole_payload` of that list, a definition of hdl_frame.
+//! - **The effect of a piece is defined in two steps**: `after_piece` is what becomes of its message; by
+//!   `store_if_kept` only a kept piece changes the lane. So a piece that makes its message whole leaves the pool as it
+//!   was. If the caller's event becomes Busy, there is nothing to undo.
+//! - **A partial message counts its missing pieces.** Only the last missing one builds the message, and takes memory
+//!   for the whole of it at once. Each payload is a copy of its own. The table of a message's pieces (at most 134
+//!   places) is made with its first piece.
+//! - **All 256 slots belong to one slab.** `Pool::new` fills them, and no key is given back: a table holds the four
+//!   keys of each lane. The invariant states that each key has a slot and that all keys differ. The list of a lane is
+//!   the contents of its four cells in order; some may be empty. A new message becomes the newest: each older one moves
+//!   one cell to the front until an empty cell takes one, and if there is none the oldest is dropped.
+//! - **A message in one piece is copied, and nothing else**: no table of pieces is made for it.
+//! - **`free` takes the envelope** of the frame that `take` took, and reads the same key from it.
+//! - **`take` has no allocator parameter**: the pool keeps the allocator that `new` was given, as vectors do.
 #![tactic(auto)]
 
 mod assembly;

@@ -1,4 +1,4 @@
-//! A piece of a message, and whose message it belongs to.
+//! A piece of a message, and the message to which it belongs.
 
 ghost use Rattle.std.specs.Prelude.{◌≡◌, true};
 ghost use Rattle.hdl_frame.specs.Envelope.{envelope_at, is_truncated};
@@ -6,10 +6,10 @@ ghost use Rattle.hdl_frame.specs.Splitting.{IsFrameOf};
 
 use hdl_frame::{Envelope, Frame};
 
-/// Whose message a piece belongs to, within a lane: the peer that sent it, and the SessionId and RequestId of its envelope.
+/// Which message of a lane a piece belongs to: the peer that sent it, and the SessionId and RequestId of its envelope.
 #[derive(Clone, Copy, PartialEq, Eq)]
 pub struct MessageKey {
-    /// Who sent it: on a stream 0, of datagrams the peer's number.
+    /// The sender: 0 on a stream, the peer's number on a datagram lane.
     pub peer: u16,
     pub session: u32,
     pub request: u32,
@@ -30,13 +30,13 @@ impl MessageKey {
     }
 }
 
-/// What a frame with TC says of its message.
+/// A frame with TC, as a piece of a message.
 #[derive(Clone, Copy)]
 pub(crate) struct Arrival<'a> {
     pub(crate) key: MessageKey,
-    /// How many octets the whole message has.
+    /// The length of the whole message, in octets.
     pub(crate) message_len: u32,
-    /// The piece's number, from 0 on.
+    /// The number of the piece, from 0.
     pub(crate) number: u32,
     pub(crate) payload: &'a [u8],
 }
@@ -45,7 +45,7 @@ impl<'a> Arrival<'a> {
     ghost use Rattle.hdl_pool.specs.Partial.{piece_of, IsPiece};
     ghost use Rattle.hdl_pool.specs.Arrival.{piece_in};
 
-    /// The piece that a frame from this peer is.
+    /// The frame from this peer, as a piece.
     #[tactic(auto, using(crate::proofs::PieceLemmas::piece_fits))]
     pub(crate) fn of(peer: u16, frame: &Frame<'a>) -> Arrival<'a>
         requires frame { IsFrameOf frame.now.bytes.now frame.now }

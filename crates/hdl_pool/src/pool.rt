@@ -14,8 +14,8 @@ use hdl_limits::LANES;
 use std::alloc::{AllocError, Global};
 use std::marker::Model;
 
-/// The partial messages of all lanes, at most four of each. Contracts see the list of the 64 lanes' partial messages, the oldest
-/// of a lane first.
+/// The partial messages of all lanes, at most four of each. Contracts see a list of 64 lanes; each lane is the list of
+/// its partial messages, the oldest first.
 #[derive(Drop)]
 pub struct Pool {
     alloc: Global,
@@ -35,7 +35,7 @@ impl Model for Pool {
 }
 
 impl Pool {
-    /// A pool of empty slots, which are written in place from then on. Refused only for want of memory.
+    /// A pool of empty slots, which are written in place from then on. Refused only if memory is refused.
     pub fn new(alloc: Global) -> Result<Pool, AllocError>
         ensures ok { IfOk result (λ pool. pool ≡ replicate LANES []) }
     {
@@ -43,13 +43,14 @@ impl Pool {
         Ok(Pool { alloc, cells })
     }
 
-    /// Takes a piece, a frame with TC of this lane and peer (RFC 3652, section 2.3, in our profile). Its message is that of the
-    /// lane, the peer, and the envelope's SessionId and RequestId.
+    /// Takes a piece: a frame with TC of this lane and peer (RFC 3652, section 2.3, in our profile). Its message is
+    /// that of the lane, the peer, and the envelope's SessionId and RequestId.
     ///
-    /// Ignored is a piece whose number came before, or whose MessageLength isn't that of the pieces before it. A piece that
-    /// makes its message whole gives a copy of the message, and the pool stays as it was, so that the caller can still give up
-    /// this event; [`Pool::free`] drops what came before it. A message of one piece is whole at once. Where the lane has four
-    /// partial messages, a piece of a fifth displaces the oldest. An `Err` changes nothing, and is only for want of memory.
+    /// A piece is ignored if its number came before, or if its MessageLength differs from that of the pieces before it.
+    /// If a piece makes its message whole, the call returns a copy of the message, and the pool stays as it was. So the
+    /// caller can still abandon this event; [`Pool::free`] drops the pieces that came before. A message in one piece is
+    /// whole at once. If the lane has four partial messages, a piece of a fifth displaces the oldest. An `Err` means
+    /// that memory was refused, and changes nothing.
     pub fn take(&mut self, lane: u16, peer: u16, frame: &Frame<'_>) -> Result<Taken, PoolFault>
         requires lane { lane < LANES }
         requires frame { IsFrameOf frame.now.bytes.now frame.now }
@@ -62,7 +63,7 @@ impl Pool {
         Ok(self.cells.take(self.alloc, lane as usize, piece)?)
     }
 
-    /// Drops what came of the message with this peer's envelope, if anything did. It takes no memory.
+    /// Drops the pieces of the message with this peer and envelope, if any came. Takes no memory.
     pub fn free(&mut self, lane: u16, peer: u16, envelope: &Envelope)
         requires { lane < LANES }
         ensures lanes { self.new ≡ slice_set self.old lane (free_partial (lane_at self.old lane) (key_of peer envelope.now)) }
@@ -71,7 +72,7 @@ impl Pool {
             .free(lane as usize, MessageKey::of(peer, envelope));
     }
 
-    /// Drops all partial messages of the lane. It takes no memory.
+    /// Drops all partial messages of the lane. Takes no memory.
     pub fn drop_lane(&mut self, lane: u16)
         requires { lane < LANES }
         ensures lanes { self.new ≡ slice_set self.old lane [] }

@@ -1,4 +1,4 @@
-//! What becomes of a piece.
+//! The result of taking a piece.
 
 ghost use Rattle.std.specs.Prelude.{◌≡◌};
 ghost use Rattle.hdl_pool.specs.declared.taken.PoolFault.TheVariants.{Memory};
@@ -9,20 +9,20 @@ use thiserror::Error;
 /// What became of a piece.
 #[derive(Drop)]
 pub enum Taken {
-    /// It made its message whole, and this is the message.
+    /// It made its message whole: this message.
     Whole(Vec<u8>),
-    /// It waits for the others.
+    /// The pool keeps it until the others come.
     Kept,
-    /// Its number came before, or it says another length than the pieces before it.
+    /// Ignored: its number came before, or its message length differs from that of the pieces before it.
     Ignored,
-    /// It waits for the others, and the lane's oldest partial message is given up for it.
+    /// The pool keeps it until the others come, and has dropped the lane's oldest partial message for it.
     Displaced,
 }
 
-/// Why a piece wasn't taken.
+/// Why a piece couldn't be taken.
 #[derive(Clone, Copy, Debug, PartialEq, Eq, Error)]
 pub enum PoolFault {
-    /// A growth was refused.
+    /// Memory was refused.
     #[error("out of memory")]
     Memory,
 }

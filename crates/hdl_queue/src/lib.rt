@@ -1,7 +1,8 @@
-//! Who writes next, where the writes of a table are made beside the thread that serves, one at a time.
+//! Which lane writes next, if another thread makes the writes of a table, one at a time.
 //!
-//! That thread refuses a write that another thread makes, so the write's event stays in its lane and is served again: [`WriteQueue`] keeps the
-//! lanes of such events in order, and the lane to which the table owes a write, and says which one may come now.
+//! While another thread makes a write, the table refuses the call, the event stays in its lane, and `serve` takes it up
+//! again later. [`WriteQueue`] keeps the lanes of such events in order, and the lane to which the table owes a write.
+//! It decides which of them may be served now.
 //!
 //! ```rust
 //! // crates/hdl_program_tests/src/write_queue.rt
@@ -11,10 +12,12 @@
 //!
 //! # Decisions
 //!
-//! - **A lane that was answered goes after those that wait**, so that a client with many changes at once doesn't hold up another's.
-//! - **What the table owes is an argument**, and what a lane may do is a result. So clauses say all that the queue does: an event that was answered busy stays while
-//!   the table owes a write, whatever it was busy for.
-//! - **What a queue says decides when an event is served, and never how**: `serve` (hdl_serve) keeps its clauses whatever it says, as does the table.
+//! - **An answered lane goes after those that wait**, so a client with many changes at once doesn't hold up another
+//!   client's.
+//! - **What the table owes is an argument, and what a lane may do is a result.** So clauses state all that the queue
+//!   does. While the table owes a write, an event that was answered busy stays, whatever the reason was.
+//! - **The queue decides when an event is served, and never how**: `serve` (hdl_serve) and the table keep their
+//!   clauses, whatever the queue answers.
 #![tactic(auto)]
 
 mod queue;

@@ -1,4 +1,4 @@
-//! The lanes whose writes wait.
+//! The lanes that wait for their writes.
 
 ghost use Rattle.std.specs.Prelude.{◌≡◌, ◌⊎◌, ◌||◌, not, IsTrue, IsFalse, IfOk, Some, None};
 ghost use Rattle.hdl_queue.specs.Waiting.{is_asked, is_turn, owner_after, owner_without, turn_of, with_lane, without_lane};
@@ -6,12 +6,12 @@ ghost use Rattle.hdl_queue.specs.Waiting.{is_asked, is_turn, owner_after, owner_
 use std::alloc::{AllocError, Global};
 use std::marker::Model;
 
-/// The lanes whose next event waits for its write, in the order in which they came, and the lane to which the table owes a write. That one may write, else the first one,
-/// and no other.
+/// The lanes whose next event waits for its write, in the order in which they came, and the lane to which the table
+/// owes a write. Only one lane may write: the one to which a write is owed, or else the first that waits.
 #[derive(Drop)]
 pub struct WriteQueue {
     waiting: Vec<u16>,
-    /// The lane whose event's step handed the write over that the table owes.
+    /// The lane to which the table owes a write: the step of its event handed it over.
     owner: Option<u16>,
 }
 
@@ -36,7 +36,7 @@ impl WriteQueue {
         }
     }
 
-    /// A queue in which no lane waits, with room for `lanes`. Refused only for want of memory.
+    /// A queue in which no lane waits, with room for `lanes`. Refused only if memory is refused.
     pub fn with_capacity(alloc: Global, lanes: usize) -> Result<WriteQueue, AllocError>
         ensures empty { IfOk result (λ queue. queue ≡ record { lanes = []; owner = None }) }
     {
@@ -46,7 +46,8 @@ impl WriteQueue {
         })
     }
 
-    /// The lane whose turn it is to write: the one to which a write is owed, else the first that waits. None if no lane waits.
+    /// The lane that may write next: the one to which a write is owed, or else the first that waits. `None` if no lane
+    /// waits.
     pub fn turn(&self) -> Option<u16>
         ensures { result ≡ turn_of self.now }
     {
@@ -56,7 +57,7 @@ impl WriteQueue {
         }
     }
 
-    /// Whether the lane may write now: it is its turn, or no lane's.
+    /// Whether the lane may write now: it is the next, or no lane waits.
     pub fn is_turn(&self, lane: u16) -> bool
         ensures { result ≡ is_turn self.now lane }
     {
@@ -69,15 +70,17 @@ impl WriteQueue {
         }
     }
 
-    /// Whether the lane's next event is asked for now: one that waits isn't while a write is under way, nor before it is its turn.
+    /// Whether the lane's next event is served now. If the lane waits, it is served once no write is being made and it
+    /// is the lane's turn.
     pub fn is_asked(&self, lane: u16, is_under_way: bool) -> bool
         ensures { result ≡ is_asked self.now lane is_under_way }
     {
         !self.waiting.contains(&lane) || !is_under_way && self.is_turn(lane)
     }
 
-    /// Whether the lane's event, whose step was answered busy, waits: while the table owes a write, whatever the step was busy for, and where it wasn't its turn.
-    /// The lane then stands after those that wait already, or where it did, if there is room.
+    /// Whether the event of the lane, whose step was answered busy, stays. It stays while the table owes a write,
+    /// whatever the step was busy for. It also stays if it wasn't the lane's turn. Then the lane waits: in its old
+    /// place, or else after those that wait already, if there is room.
     pub fn stays(&mut self, lane: u16, owes: bool) -> bool
         ensures stays { result ≡ (owes || not (is_turn self.old lane)) }
         ensures waits { (self.new.lanes ≡ with_lane self.old.lanes lane) ⊎ (self.new.lanes ≡ self.old.lanes) }
@@ -92,7 +95,7 @@ impl WriteQueue {
         stays
     }
 
-    /// Notes whether the table owes a write after a step of this lane.
+    /// Notes, after a step of this lane, whether the table owes a write.
     fn note_owed(&mut self, lane: u16, owes: bool)
         ensures { self.new ≡ record self.old { owner = owner_after self.old.owner lane owes } }
     {
@@ -103,14 +106,14 @@ impl WriteQueue {
         }
     }
 
-    /// The lane waits no more.
+    /// The lane no longer waits.
     fn leave(&mut self, lane: u16)
         ensures { self.new ≡ record self.old { lanes = without_lane self.old.lanes lane } }
     {
         self.waiting.retain(|waits| *waits != lane);
     }
 
-    /// Notes that nothing is owed to the lane.
+    /// If a write was owed to the lane, it no longer is.
     fn release(&mut self, lane: u16)
         ensures { self.new ≡ record self.old { owner = owner_without self.old.owner lane } }
     {
@@ -122,7 +125,7 @@ impl WriteQueue {
         }
     }
 
-    /// Notes that the outcome of the lane's event is put: the lane waits no more, and nothing is owed to it.
+    /// Notes that the lane's event has its outcome: the lane no longer waits, and no write is owed to it.
     pub fn note_outcome(&mut self, lane: u16)
         ensures { self.new ≡ record self.old { lanes = without_lane self.old.lanes lane; owner = owner_without self.old.owner lane } }
     {

@@ -1,4 +1,4 @@
-//! What a reference may do as an administrator.
+//! The permissions of a reference as an administrator.
 
 ghost use Rattle.std.specs.Prelude.{◌≡◌, IfOk};
 ghost use Rattle.hdl_name.specs.Name.{canonical};
@@ -13,11 +13,12 @@ use hdl_rows::{Refused, Rows};
 use hdl_value::{AdminMask, Reference};
 use std::alloc::Global;
 
-/// What the key may do as an administrator of the handle: the union of the masks of all its HS_ADMIN values that lead to the key, at once
-/// or over lists. None if no value leads to it, and for a key of index 0, which refers to nothing. The key itself need not be there.
+/// The permissions of the key as an administrator of the handle: the union of the masks of all its HS_ADMIN values that
+/// lead to the key, directly or through lists. None if no value leads to it, and for a key of index 0, which refers to
+/// nothing. The key itself need not exist.
 ///
-/// It looks up all that the lists of the handle reach, and ends on lists that refer to each other. Whoever has other work beside it bounds
-/// each call by [`Search::go_on`].
+/// It looks up all that the lists of the handle reach, and ends even if lists refer to each other. A caller with other
+/// work to do limits each call by [`Search::go_on`].
 ///
 /// Refused: the table refused a look, and its count rose by one; or memory was refused, and the count is as it was.
 pub fn mask<R: Rows>(

@@ -1,4 +1,4 @@
-//! What a search knows of references: the masks that lead there, and which are still to be looked up.
+//! The state of a search: the masks that lead to references, and which references are still to be looked up.
 
 ghost use Rattle.std.specs.Prelude.{◌≡◌, ◌≢◌, ◌⊎◌, [], ◌∷◌, ◌++◌, None, Some, if◌then◌else◌, length, option_map, option_to_list, IfOk, OnOk, IfNone, IsTrue, IsSome, MatchOption};
 ghost use Rattle.std.specs.Bool.{Decides};
@@ -19,20 +19,20 @@ use std::collections::BTreeMap;
 /// What is known of a reference.
 #[derive(Clone, Copy)]
 pub(crate) struct Known {
-    /// The union of the masks that were found to lead there.
+    /// The union of the masks found so far that lead to it.
     mask: AdminMask,
-    /// Whether its list is still to be looked up, for bits that came since.
+    /// Whether its list is still to be looked up: its mask got bits since the last time.
     waits: bool,
 }
 
-/// What is known, by the keys of references, and the references that wait.
+/// What is known of each reference, by its key, and the references that are still to be looked up.
 #[derive(Drop)]
 pub(crate) struct Found {
     known: BTreeMap<PlaceKey, Known>,
     waiting: Vec<Reference>,
 }
 
-/// What is known with a mask more. None where that has no bit that wasn't known.
+/// What is known after one more mask. `None` if the mask has no new bit.
 fn gained(before: Option<Known>, mask: AdminMask) -> Option<Known>
     ensures { MatchOption result
         (option_map mark before ≡ Some (raised (option_map mark before) mask.0))
@@ -73,14 +73,14 @@ impl Found {
         self.known.len()
     }
 
-    /// Whether none waits.
+    /// Whether no reference is still to be looked up.
     pub(crate) fn is_settled(&self) -> bool
         ensures { Decides result (length self.now.waiting.items ≡ 0) }
     {
         self.waiting.is_empty()
     }
 
-    /// The mask that leads there.
+    /// The mask that leads to this reference.
     pub(crate) fn mask(
         &self,
         alloc: Global,
@@ -95,7 +95,7 @@ impl Found {
         }
     }
 
-    /// Lets a reference wait of which this was known.
+    /// Puts a reference among those to look up, unless it is there already. `before` is what was known of it.
     fn wait(
         &mut self,
         alloc: Global,
@@ -112,7 +112,7 @@ impl Found {
         Ok(())
     }
 
-    /// Adds a mask that leads to a reference, which waits then if there are bits that weren't known.
+    /// Adds a mask that leads to a reference. If the mask has new bits, the reference is to be looked up.
     pub(crate) fn raise(
         &mut self,
         alloc: Global,
@@ -134,7 +134,7 @@ impl Found {
         Ok(())
     }
 
-    /// Adds a mask that leads to each of these.
+    /// Adds a mask that leads to each of these references.
     pub(crate) fn raise_all(
         &mut self,
         alloc: Global,
@@ -152,7 +152,7 @@ impl Found {
         Ok(())
     }
 
-    /// Takes the reference that came last of those that wait.
+    /// Removes and returns the last of the references to look up.
     pub(crate) fn pop(&mut self) -> Option<Reference>
         ensures known { self.new.known ≡ self.old.known }
         ensures taken { self.old.waiting.items ≡ self.new.waiting.items ++ option_to_list result }
@@ -161,7 +161,7 @@ impl Found {
         self.waiting.pop()
     }
 
-    /// Notes that a reference waits no more. The mask that leads there.
+    /// Notes that a reference was looked up, and returns the mask that leads to it.
     pub(crate) fn settle(
         &mut self,
         alloc: Global,
@@ -183,13 +183,13 @@ impl Found {
         Ok(Some(known.mask))
     }
 
-    /// Whether none that is known is of this handle.
+    /// Whether no known reference is of this handle.
     pub(crate) fn is_apart_from(&self, alloc: Global, name: &Name) -> Result<bool, AllocError>
         ensures { IfOk result (λ apart. IsTrue apart → (p : Place) → IsSome (known_at self.now p) → p.handle ≢ canonical name.now) }
     {
         let first = (Vec::from_slice(alloc, name.canon())?, 0);
         let mut next = Vec::from_slice(alloc, name.canon())?;
-        // the octets that follow in order are these and a zero
+        // the next key in order is these octets and a zero
         next.push(0)?;
         Ok(self.known.range(first..(next, 0)).next().is_none())
     }

@@ -1,4 +1,4 @@
-//! What the HS_ADMIN values of a handle grant, and to whom.
+//! The grants of a handle's HS_ADMIN values.
 
 ghost use Rattle.std.specs.Prelude.{◌≡◌, take, option_to_list, IfOk};
 ghost use Rattle.hdl_value.specs.Refs.{value_grants};
@@ -15,7 +15,7 @@ pub(crate) struct Grant {
     pub(crate) reference: Reference,
 }
 
-/// The grant of an HS_ADMIN value; none where the index is 0.
+/// The grant of an HS_ADMIN value. None if the index is 0.
 fn grant_of(alloc: Global, value: &Value) -> Result<Option<Grant>, AllocError>
     ensures { IfOk result (λ grant. grants_in (option_to_list grant) ≡ value_grants value.now) }
 {
@@ -28,7 +28,7 @@ fn grant_of(alloc: Global, value: &Value) -> Result<Option<Grant>, AllocError>
     Ok(Some(Grant { mask, reference }))
 }
 
-/// The grants of all HS_ADMIN values among these.
+/// The grants of all HS_ADMIN values in the list.
 pub(crate) fn grants_of(alloc: Global, values: &[Value]) -> Result<Vec<Grant>, AllocError>
     ensures { IfOk result (λ all. grants_in all.items ≡ grants values.now) }
 {

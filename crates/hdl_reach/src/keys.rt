@@ -1,4 +1,4 @@
-//! By what a search keeps references apart.
+//! The keys by which a search tells references apart.
 
 ghost use Rattle.std.specs.Prelude.{◌≡◌, IfOk};
 ghost use Rattle.hdl_value.specs.Refs.{place_of};
@@ -8,7 +8,7 @@ use hdl_name::Name;
 use hdl_value::Reference;
 use std::alloc::{AllocError, Global};
 
-/// The octets of a handle in canonical form, and an index: references of one place have one key.
+/// The octets of a handle in canonical form, and an index. References to one place have the same key.
 pub(crate) type PlaceKey = (Vec<u8>, u32);
 
 pub(crate) fn key_of(alloc: Global, one: &Reference) -> Result<PlaceKey, AllocError>

@@ -1,4 +1,4 @@
-//! What the lists at references hold.
+//! The contents of the lists at references.
 
 ghost use Rattle.std.specs.Prelude.{◌≡◌, ◌≤◌, ◌<◌, ◌+◌, filter, IfOk};
 ghost use Rattle.hdl_limits.specs.Counts.{at_most_u64};
@@ -15,7 +15,7 @@ use hdl_rows::{Refused, Rows};
 use hdl_value::{Reference, Value, vlist_of};
 use std::alloc::{AllocError, Global};
 
-/// Those that refer to something.
+/// The references that refer to something: their index isn't 0.
 fn referring(alloc: Global, all: Vec<Reference>) -> Result<Vec<Reference>, AllocError>
     ensures { IfOk result (λ some. places some.items ≡ filter refers (places all.items)) }
 {
@@ -28,7 +28,7 @@ fn referring(alloc: Global, all: Vec<Reference>) -> Result<Vec<Reference>, Alloc
     Ok(some)
 }
 
-/// The references of a list value; none of another value.
+/// The references of a list. None for another value.
 fn references_of(alloc: Global, value: &Value) -> Result<Vec<Reference>, AllocError>
     ensures { IfOk result (λ all. places all.items ≡ listed_places value.now) }
 {
@@ -38,20 +38,21 @@ fn references_of(alloc: Global, value: &Value) -> Result<Vec<Reference>, AllocEr
     }
 }
 
-/// How many octets one look counts, besides those of the value that it finds, and each reference of that, besides those of its handle.
+/// How many octets a look counts in addition to the value that it finds, and each reference of the value in addition to
+/// its handle.
 const LOOK_OCTETS: usize = 32;
 
-/// What a reference counts here beside what it counts where a table gives it.
+/// How many octets more a reference counts here than in `reads` of a table.
 const MORE_OCTETS: usize = LOOK_OCTETS - REFERENCE_OCTETS as usize;
 
-/// What one look found: the references of the list that stands there, and how many octets it came to.
+/// The result of one look: the references of the list, and how many octets the look counts.
 #[derive(Drop)]
 pub(crate) struct Looked {
     pub(crate) listed: Vec<Reference>,
     pub(crate) octets: usize,
 }
 
-/// How many octets a value has: what it counts where a table gives it, and more for each reference.
+/// How many octets a value counts: those of a table's `reads`, and more for each reference.
 fn octets_in(value: &Value) -> usize
     ensures { at_most_u64 (reads.value_octets value.now) ≤ result }
 {
@@ -60,7 +61,7 @@ fn octets_in(value: &Value) -> usize
     octets.saturating_add(references.saturating_mul(MORE_OCTETS))
 }
 
-/// Looks up what stands there.
+/// Looks up the value at a reference.
 pub(crate) fn list_at<R: Rows>(
     alloc: Global,
     rows: &mut R,

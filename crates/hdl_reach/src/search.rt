@@ -21,8 +21,8 @@ use hdl_rows::{Refused, Rows};
 use hdl_value::{AdminMask, Reference, Value};
 use std::alloc::{AllocError, Global};
 
-/// A search from the HS_ADMIN values of a handle over all lists to which they lead, as far as it came. What it found serves
-/// for every key.
+/// A search from the HS_ADMIN values of a handle over all lists to which they lead, up to where it came. Its result
+/// serves for every key.
 #[derive(Drop)]
 pub struct Search {
     /// In canonical form.
@@ -31,7 +31,7 @@ pub struct Search {
     looked_up: usize,
 }
 
-/// What the grants give at once.
+/// The references that the grants name, with their masks.
 fn start_of(alloc: Global, grants: &[Grant]) -> Result<Found, AllocError>
     ensures { IfOk result (λ found. (t : Table) → IsFound t (grants_in grants.now) found) }
 {
@@ -42,7 +42,7 @@ fn start_of(alloc: Global, grants: &[Grant]) -> Result<Found, AllocError>
     Ok(found)
 }
 
-/// A search over these values of a handle, by which nothing was looked up.
+/// A search from these values of a handle that hasn't looked up anything yet.
 fn search_from(alloc: Global, name: &Name, values: &[Value]) -> Result<Search, AllocError>
     ensures search { (t : Table) → values_of t (canonical name.now) ≡ values.now → IfOk result (IsSearch t) }
     ensures handle { IfOk result (λ search. handle_of search ≡ canonical name.now) }
@@ -57,8 +57,8 @@ fn search_from(alloc: Global, name: &Name, values: &[Value]) -> Result<Search, A
 }
 
 impl Search {
-    /// A search for the administrators of this handle, by which no list was looked up. Refused: the table refused a look, and its
-    /// count rose by one; or memory was refused, and the count is as it was.
+    /// Begins a search for the administrators of this handle. No list is looked up yet. Refused: the table refused a
+    /// look, and its count rose by one; or memory was refused, and the count is as it was.
     pub fn begin<R: Rows>(alloc: Global, rows: &mut R, name: &Name) -> Result<Search, Refused>
         ensures unchanged { R.content rows.new ≡ R.content rows.old }
         ensures begun { IfOk result (λ search. IsSearch (R.content rows.old) search × (handle_of search ≡ canonical name.now)) }
@@ -69,22 +69,22 @@ impl Search {
         Ok(search_from(alloc, name, &values)?)
     }
 
-    /// Whether it is one for this handle.
+    /// Whether it is a search for this handle.
     pub fn is_for(&self, name: &Name) -> bool
         ensures { result ≡ bytes_eq (handle_of self.now) (canonical name.now) }
     {
         self.handle.as_slice() == name.canon()
     }
 
-    /// Whether all lists were looked up to which the handle's HS_ADMIN values lead.
+    /// Whether it has looked up all lists to which the handle's HS_ADMIN values lead.
     pub fn is_done(&self) -> bool
         ensures { Decides result (IsDone self.now) }
     {
         self.found.is_settled()
     }
 
-    /// Whether it is one of the new table too, where only values of this handle change: it is another handle's, and knows no reference of
-    /// this one. False where memory is refused.
+    /// Whether the search stays valid if only values of this handle change: it is for another handle, and knows no
+    /// reference to this one. False if memory is refused.
     pub fn is_apart_from(&self, alloc: Global, name: &Name) -> bool
         ensures { IsTrue result → (t u : Table) → AgreeBeside (canonical name.now) t u → IsSearch t self.now → IsSearch u self.now }
     {
@@ -102,13 +102,13 @@ impl Search {
         self.found.len()
     }
 
-    /// How many octets it looked up, as `go_on` counts them.
+    /// How many octets it has looked up, as `go_on` counts them.
     pub fn looked_up(&self) -> usize {
         self.looked_up
     }
 
-    /// Looks up one reference more, and passes its mask on to what its list holds. How many octets that came to. After a refusal the
-    /// search is of no use.
+    /// Looks up one more reference, and passes its mask on to the references in its list. Returns how many octets that
+    /// counted. After a refusal the search is useless.
     fn pass<R: Rows>(&mut self, alloc: Global, rows: &mut R) -> Result<usize, Refused>
         requires search { IsSearch (R.content rows.old) self.old }
         requires more { IsDone self.old → ⊥ }
@@ -132,14 +132,15 @@ impl Search {
         Ok(looked.octets)
     }
 
-    /// Goes on until so many octets were looked up, with the value that brings the last of them, or to the end: a look counts 32, a value 30 and its octets,
-    /// and each of its references 32, so that what lists hold counts also where it was known. No look counts less than the table reads for it, so the call
-    /// reads no more than that, and one value (`cost`). The table stays as it is.
+    /// Continues until `most` octets were looked up, including the value that reaches this number, or to the end. A
+    /// look counts 32, a value 30 and its octets, and each of its references 32, so that lists count even if their
+    /// references were known. No look counts less than the table's `reads` of it. So a call reads at most that number,
+    /// and one value (`cost`). The table stays as it is.
     ///
-    /// A list is looked up again only where a mask leads to it that has bits which were not known there.
+    /// A list is looked up again only if a mask with new bits leads to it.
     ///
-    /// Refused: the table refused a look, and its count rose by one; or memory was refused, and the count is as it was. The search is
-    /// dropped then.
+    /// Refused: the table refused a look, and its count rose by one; or memory was refused, and the count is as it was.
+    /// Then the search is dropped.
     pub fn go_on<R: Rows>(
         mut self,
         alloc: Global,
@@ -166,9 +167,9 @@ impl Search {
         Ok(self)
     }
 
-    /// What the key may do as an administrator of the handle, when the search is done: the union of the masks of all its HS_ADMIN values
-    /// that lead to the key, at once or over lists. None where no value leads to it, and for a key of index 0, which refers to
-    /// nothing. The key itself need not be there. Refused only for want of memory.
+    /// The permissions of the key as an administrator of the handle, once the search is done: the union of the masks of
+    /// all its HS_ADMIN values that lead to the key, directly or through lists. None if no value leads to it, and for a
+    /// key of index 0, which refers to nothing. The key itself need not exist. Refused only if memory is refused.
     pub fn mask(&self, alloc: Global, key: &Reference) -> Result<Option<AdminMask>, AllocError>
         ensures found { (t : Table) → IsSearch t self.now → IsDone self.now → IfOk result (λ mask. IsMask t (handle_of self.now) (place_of key.now) (mask_of mask)) }
     {

@@ -1,4 +1,4 @@
-//! A table of which some calls are refused, for tests.
+//! A table that refuses some calls, for tests.
 
 ghost use Rattle.std.specs.Prelude.{◌≡◌, ◌+◌, min, map, true, false, is_some, IfOk, OnOk, OnErr};
 ghost use Rattle.hdl_name.specs.Name.{canonical};
@@ -13,7 +13,7 @@ use hdl_limits::Octets;
 use hdl_name::Name;
 use hdl_value::{Reference, Value};
 
-/// Which calls are refused, and what came so far.
+/// Which calls are refused, and how many came.
 #[derive(Clone, Copy, Drop)]
 struct Wire {
     first: u64,
@@ -25,7 +25,7 @@ struct Wire {
 impl Wire {
     ghost use Rattle.hdl_rows.specs.Fuse.{is_blown, after_call};
 
-    /// Counts a call, and tells whether it is refused.
+    /// Counts a call, and returns whether it is refused.
     fn blows(&mut self) -> bool
         ensures refused { result ≡ is_blown self.old }
         ensures refusals_after { self.new ≡ after_call self.old }
@@ -39,7 +39,7 @@ impl Wire {
     }
 }
 
-/// Refuses its calls from `first` to `last`, counted from 1 up to the greatest `u64`, without reaching the inner table.
+/// Refuses its calls from `first` to `last`, counted from 1 up to the greatest `u64`, without calling the inner table.
 /// `refusals` isn't counted as a call.
 #[derive(Drop)]
 pub struct Fuse<R> {
@@ -50,7 +50,7 @@ pub struct Fuse<R> {
 impl<R: Rows> Fuse<R> {
     ghost use Rattle.hdl_rows.specs.Fuse.{inner_of, wire_of};
 
-    /// The inner table behind a fuse. With `first` above `last` it never blows.
+    /// Wraps a table. If `first` is above `last`, no call is refused.
     pub fn new(inner: R, first: u64, last: u64) -> Fuse<R>
         ensures inner { inner_of result ≡ inner }
         ensures wire { wire_of result ≡ record { first = first; last = last; calls = 0; refusals = 0 } }

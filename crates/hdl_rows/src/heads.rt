@@ -1,4 +1,4 @@
-//! The heads of values, of which neither data nor references are copied.
+//! The heads of values: all but their data and references.
 
 ghost use Rattle.std.specs.Prelude.{◌≡◌, map, IfOk};
 ghost use Rattle.hdl_rows.specs.Heads as spec;
@@ -22,7 +22,7 @@ fn head_of(alloc: Global, value: &Value) -> Result<Value, AllocError>
     })
 }
 
-/// The heads of values, in memory of their own.
+/// Copies of the heads of values.
 pub fn heads_of(alloc: Global, values: &[Value]) -> Result<Vec<Value>, AllocError>
     ensures { IfOk result (λ heads. heads.items ≡ map spec.head values.now) }
 {
@@ -33,7 +33,7 @@ pub fn heads_of(alloc: Global, values: &[Value]) -> Result<Vec<Value>, AllocErro
     Ok(heads)
 }
 
-/// Lets all of a value go but its head.
+/// Drops all of a value but its head.
 fn strip(alloc: Global, value: &mut Value)
     ensures { value.new ≡ spec.head value.old }
 {
@@ -41,7 +41,7 @@ fn strip(alloc: Global, value: &mut Value)
     value.references = RawRefs::new(Vec::new(alloc));
 }
 
-/// Lets all of the values go but their heads. No memory is taken.
+/// Drops all of the values but their heads. Takes no memory.
 pub fn into_heads(alloc: Global, mut values: Vec<Value>) -> Vec<Value>
     ensures { result.items ≡ map spec.head values.items }
 {

@@ -1,15 +1,16 @@
 //! The value table: a finite set of canonical handles and a finite map from places (handle, index) to values.
 //!
-//! [`Rows`] is its contract, whatever keeps it: each call is one operation of set and map, whole or not at all, and the
-//! count of refusals is exact. [`PlainRows`] keeps it in memory; [`Fuse`] is any table of which some calls are refused, for
-//! tests. [`laws`] says what every look-up answers after every write.
+//! [`Rows`] is its contract, for any storage. Each call is one operation of set and map, done as a whole or not at all,
+//! and the number of refusals is exact. [`PlainRows`] stores it in memory. [`Fuse`] wraps any table and refuses some
+//! calls, for tests. [`laws`] states what every look-up returns after every write.
 //!
-//! Each call takes a name for its canonical form. That a table's values stand at its handles is no clause of the calls: it
-//! is a word of its own (`IsPlaced`), which every write keeps under its conditions.
+//! In each call a name stands for its canonical form. No clause of the calls states that each value is at a handle of
+//! the table. That is a definition of its own (`IsPlaced`); every write preserves it under its conditions.
 //!
-//! A table counts the octets that its calls give ([`reads`]), so that a clause of a crate above can say what is read at most.
+//! A table counts the octets that its calls return ([`reads`]), so that a clause of a crate above can bound what is
+//! read.
 //!
-//! The crates above know a table through [`Rows`] alone.
+//! The crates above use a table through [`Rows`] alone.
 //!
 //! ```rust
 //! // crates/hdl_tests/src/ops.rt
@@ -22,15 +23,17 @@
 //!
 //! # Decisions
 //!
-//! - **Handles stand in a `BTreeMap`, each with a vector of its values by rising index**: the map's order gives the handles of an authority as
-//!   they are listed, and neither a look-up nor a create goes over the others. A handle has few values, and they are listed in order.
-//! - **The handles of an authority are a range of the map**, from its octets with a slash to its octets with what follows the slash. So a list goes over
-//!   no other authority's handles. That each handle begins with its authority is an invariant of [`PlainRows`].
-//! - **`reads` counts what calls give**, and not what a table does for it: no clause can tell of that. An entry weighs what it takes in a message, so what
-//!   is too much for a table to give is too much for a message.
-//! - **`look` stands beside `exists` and `values`**: a resolution asks both, and a table that keeps each value at a handle that is there can answer
-//!   both by one query. `IsPlaced` is asked of no table for it.
-//! - **That a look-up takes few steps stands in no clause**: contracts say what is found. `bench/replay` measures it.
+//! - **Handles are in a `BTreeMap`, each with a vector of its values by rising index.** The order of the map is that in
+//!   which the handles of an authority are listed, and neither a look-up nor a create visits the others. A handle has
+//!   few values, and they are listed in order.
+//! - **The handles of an authority are a range of the map**, from its octets with a slash to its octets with the octet
+//!   after the slash. So a list visits no other authority's handles. An invariant of [`PlainRows`] states that each
+//!   handle begins with its authority.
+//! - **`reads` counts what calls return**, and not what a table does internally, which no clause can state. An entry
+//!   counts as many octets as in a message. So more than a message can hold is more than a table may return.
+//! - **`look` exists in addition to `exists` and `values`**, because a resolution asks both. A table whose values are
+//!   all at its handles can answer both by one query. No table has to be `IsPlaced` for it.
+//! - **No clause bounds the steps of a look-up**: contracts state what is found. `bench/replay` measures it.
 #![tactic(auto)]
 
 mod fuse;

@@ -1,4 +1,4 @@
-//! What a table owes.
+//! The write that a table owes.
 
 ghost use Rattle.std.specs.Prelude.{◌≡◌};
 ghost use Rattle.hdl_rows.specs.Debt.{Debt, nothing, is_owed};
@@ -6,24 +6,25 @@ ghost use Rattle.hdl_rows.specs.Debt.{Debt, nothing, is_owed};
 use crate::plain::PlainRows;
 use crate::rows::Rows;
 
-/// What a table owes: a write that it handed over to be made beside it, and whose call it refused till then.
+/// What a table owes: a write that it handed over to another thread, and whose call it refuses until the write has
+/// ended.
 #[derive(Clone, Copy, Debug, PartialEq, Eq, Drop)]
 pub enum Owed {
     /// No write.
     Nothing,
-    /// A write that is being made.
+    /// A write that is still being made.
     UnderWay,
-    /// A write that has ended: the same call, come again, claims it.
+    /// A write that has ended. The same call, made again, claims it.
     Ended,
 }
 
-/// A table that may hand a write over to be made beside it, one at a time, and refuses its call till then: it owes that call its write, until the same
-/// call comes again and claims it.
+/// A table that may hand a write over to another thread, one at a time. It refuses the write's call and owes it the
+/// write, until the same call is made again and claims it.
 pub trait Owing: Rows {
-    /// Whether it hands writes over at all, and whether it owes one.
+    /// Whether it hands writes over, and whether it owes one.
     ghost debt: { Self → Debt };
 
-    /// Whether it hands writes over at all. Else each write is made by its call.
+    /// Whether it hands writes over. Otherwise each call makes its write itself.
     fn hands_over(&self) -> bool
         ensures { result ≡ (debt self.now).hands_over };
 
@@ -31,7 +32,8 @@ pub trait Owing: Rows {
     fn owed(&self) -> Owed
         ensures { is_owed result ≡ (debt self.now).owes };
 
-    /// Says whether a write of the calls that come may be handed over. Else it is refused, and nothing is owed for it.
+    /// Sets whether the calls that follow may hand a write over. If not, such a write is refused, and nothing is owed
+    /// for it.
     fn let_write(&mut self, may_write: bool)
         ensures unchanged { Self.content self.new ≡ Self.content self.old }
         ensures count { Self.refused self.new ≡ Self.refused self.old }
@@ -39,7 +41,7 @@ pub trait Owing: Rows {
         ensures debt { debt self.new ≡ debt self.old };
 }
 
-/// A table whose writes are each made by their call: it never owes one.
+/// A table whose calls make their writes themselves. It never owes one.
 pub trait Prompt: Rows {}
 
 impl Prompt for PlainRows {}

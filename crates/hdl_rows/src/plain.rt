@@ -12,8 +12,8 @@ use hdl_value::{Reference, Value};
 use std::alloc::{AllocError, Global};
 use std::marker::Model;
 
-/// A table in memory, which refuses a call only where a growth was refused. Contracts see what it holds and how many calls
-/// were refused.
+/// A table in memory. It refuses a call only if memory is refused. Contracts see its contents and the number of refused
+/// calls.
 #[derive(Drop)]
 pub struct PlainRows {
     alloc: Global,
@@ -36,7 +36,7 @@ impl Model for PlainRows {
 }
 
 impl PlainRows {
-    /// An empty table. It takes no memory.
+    /// An empty table. Takes no memory.
     pub fn new(alloc: Global) -> PlainRows
         ensures empty { result ≡ record { table = no_rows; refused = 0; reads = 0 } }
     {

@@ -1,4 +1,4 @@
-//! What a table gave, counted as its calls give it.
+//! Counts of what a table's calls return.
 
 ghost use Rattle.std.specs.Prelude.{◌≡◌, ◌+◌, sum_by, map};
 ghost use Rattle.hdl_limits.specs.Counts.{at_most_u64};
@@ -9,19 +9,20 @@ ghost use Rattle.hdl_rows.specs.Table.{values_in};
 use hdl_limits::Octets;
 use hdl_value::{RawRef, Value};
 
-/// Octets that a call counts beside what it gives.
+/// What a call counts in addition to what it returns, in octets.
 pub const CALL_OCTETS: u64 = 16;
 
-/// Octets of a value beside its type, its data and its references: as many as its fields take in a message.
+/// What a value counts in addition to its type, its data and its references: as many octets as its other fields take in
+/// a message.
 pub const VALUE_OCTETS: u64 = 30;
 
-/// Octets of a reference beside its handle, as in a message.
+/// What a reference counts in addition to its handle: as many octets as in a message.
 pub const REFERENCE_OCTETS: u64 = 8;
 
-/// Octets of a handle in a list beside its own, as in a message.
+/// What a handle in a list counts in addition to its own octets: as many as in a message.
 pub const NAME_OCTETS: u64 = 4;
 
-/// What was read so far, with a call more that gave so many octets.
+/// The count after one more call, which returned `octets`.
 pub fn with_call(reads: u64, octets: u64) -> u64
     ensures { result ≡ at_most_u64 (reads + (CALL_OCTETS + octets)) }
 {
@@ -39,7 +40,7 @@ fn references_octets(refs: &[RawRef]) -> u64
     sum
 }
 
-/// What a value counts.
+/// How many octets a value counts.
 pub fn value_octets(value: &Value) -> u64
     ensures { result ≡ at_most_u64 (spec.value_octets value.now) }
 {
@@ -52,7 +53,7 @@ pub fn value_octets(value: &Value) -> u64
         .saturating_add(refs)
 }
 
-/// What the value counts that was found; nothing where there is none.
+/// How many octets a value counts; 0 if there is none.
 pub fn found_octets(value: &Option<Value>) -> u64
     ensures { result ≡ at_most_u64 (of_value value.now) }
 {
@@ -62,7 +63,7 @@ pub fn found_octets(value: &Option<Value>) -> u64
     }
 }
 
-/// What values count.
+/// How many octets values count together.
 pub fn values_octets(values: &[Value]) -> u64
     ensures { result ≡ at_most_u64 (spec.values_octets values.now) }
 {
@@ -73,7 +74,7 @@ pub fn values_octets(values: &[Value]) -> u64
     sum
 }
 
-/// What the values of a handle count; nothing where it is absent.
+/// How many octets the values of a handle count together; 0 if the handle is absent.
 pub fn seen_octets(seen: &Option<Vec<Value>>) -> u64
     ensures { result ≡ at_most_u64 (spec.values_octets (values_in seen.now)) }
 {
@@ -83,7 +84,7 @@ pub fn seen_octets(seen: &Option<Vec<Value>>) -> u64
     }
 }
 
-/// What names of handles count.
+/// How many octets names of handles count together.
 pub fn names_octets(names: &[Octets]) -> u64
     ensures { result ≡ at_most_u64 (spec.names_octets names.now) }
 {

@@ -10,7 +10,7 @@ ghost use Rattle.hdl_rows.specs.Table.{value_with};
 use hdl_value::Value;
 use std::alloc::{AllocError, Global};
 
-/// How many values at the front have an index below.
+/// How many of the values at the front have a lower index.
 fn count_below(values: &[Value], index: u32) -> usize
     requires ordered { IsTrue (is_sorted nat_cmp (by_index values.now)) }
     ensures { result ≡ prefix_len (λ v. nat_lt v.index index) values.now }
@@ -18,14 +18,14 @@ fn count_below(values: &[Value], index: u32) -> usize
     values.partition_point(|value| value.index < index)
 }
 
-/// The value with this index, where the values stand in any order.
+/// The value with this index, if the values are in any order.
 pub fn value_with(values: &[Value], index: u32) -> Option<&Value>
     ensures found { option_copied result ≡ value_with index values.now }
 {
     values.iter().find(|value| value.index == index)
 }
 
-/// The value with this index, found by halving.
+/// The value with this index, by binary search.
 pub(crate) fn value_of(values: &[Value], index: u32) -> Option<&Value>
     requires ordered { IsTrue (is_sorted nat_cmp (by_index values.now)) }
     ensures { option_copied result ≡ find nat_cmp index (by_index values.now) }
@@ -48,7 +48,7 @@ pub(crate) fn copies(alloc: Global, values: &[Value]) -> Result<Vec<Value>, Allo
     Ok(all)
 }
 
-/// Puts a value in its place, over the one with its index if there is one.
+/// Inserts a value in order. If there is one with its index, it is replaced.
 fn put_value(values: &mut Vec<Value>, value: Value)
     requires ordered { IsTrue (is_sorted nat_cmp (by_index values.old.items)) }
     requires room { vec_len values.old < vec_capacity values.old }
@@ -67,7 +67,7 @@ fn put_value(values: &mut Vec<Value>, value: Value)
     }
 }
 
-/// Puts copies of all in their places. All memory is taken first.
+/// Inserts copies of all values. All memory is taken before the first is inserted.
 pub(crate) fn put_copies(
     alloc: Global,
     values: &mut Vec<Value>,
@@ -85,7 +85,7 @@ pub(crate) fn put_copies(
     Ok(())
 }
 
-/// Takes the values with these indexes away.
+/// Removes the values with these indexes.
 pub(crate) fn take_away(values: &mut Vec<Value>, indexes: &[u32])
     ensures { values.new.items ≡ filter (λ v. not (list_any (λ i. i == v.index) indexes.now)) values.old.items }
 {

@@ -12,7 +12,7 @@ use hdl_name::Name;
 use hdl_value::{Reference, Value};
 use std::alloc::AllocError;
 
-/// The store or memory refused. The table is as it was, and its count of refusals rose by one.
+/// The store or memory was refused. The table is as it was, and its number of refusals rose by one.
 #[derive(Clone, Copy, Debug, PartialEq, Eq, Drop)]
 pub struct Refused;
 
@@ -24,17 +24,17 @@ impl From<AllocError> for Refused {
 
 /// A finite set of canonical handles, and a finite map from places (canonical handle, index) to values.
 ///
-/// A name stands for its canonical form in every call: `10.ABC/x` and `10.abc/x` are one handle. Each call is its operation
-/// whole, or is refused and leaves all as it was.
+/// A name stands for its canonical form in every call: `10.ABC/x` and `10.abc/x` are one handle. Each call does the
+/// whole of its operation, or is refused and leaves the table as it was.
 pub trait Rows {
-    /// What it holds, however it is kept.
+    /// The contents, for any storage.
     ghost content: { Self → Table };
 
     /// How many of its calls were refused, up to the greatest `u64`.
     ghost refused: { Self → ℕ };
 
-    /// Octets that its calls gave, up to the greatest `u64`: a few for each call, and what it told. A write gives nothing, and what a table reads for
-    /// itself is nothing that it gave.
+    /// How many octets its calls returned, up to the greatest `u64`: a few for each call, and the result. A write
+    /// returns nothing. What a table reads internally doesn't count.
     ghost reads: { Self → ℕ };
 
     /// Whether the handle is there.
@@ -44,14 +44,14 @@ pub trait Rows {
         ensures count { refused self.new ≡ refusals_after result (refused self.old) }
         ensures reads { reads self.new ≡ reads_after nothing result (reads self.old) };
 
-    /// The value at a reference, if one stands there.
+    /// The value at a reference, if there is one.
     fn at(&mut self, reference: &Reference) -> Result<Option<Value>, Refused>
         ensures found { IfOk result (λ value. value ≡ at (content self.old) (place_of reference.now)) }
         ensures unchanged { content self.new ≡ content self.old }
         ensures count { refused self.new ≡ refusals_after result (refused self.old) }
         ensures reads { reads self.new ≡ reads_after of_value result (reads self.old) };
 
-    /// The values of a handle, by rising index, each at the index that it has; none of an absent one.
+    /// The values of a handle, by rising index, each at its own index. An absent handle has none.
     fn values(&mut self, name: &Name) -> Result<Vec<Value>, Refused>
         ensures found { IfOk result (λ all. all.items ≡ values_of (content self.old) (canonical name.now)) }
         ensures by_index { IfOk result (λ all. HaveTheirIndexes (content self.old) (canonical name.now) all.items) }
@@ -59,8 +59,8 @@ pub trait Rows {
         ensures count { refused self.new ≡ refusals_after result (refused self.old) }
         ensures reads { reads self.new ≡ reads_after (λ all. values_octets all.items) result (reads self.old) };
 
-    /// The values of a handle, by rising index, each at the index that it has, or `None` where the handle is absent: what
-    /// [`exists`](Rows::exists) and [`values`](Rows::values) answer, in one call.
+    /// The values of a handle, by rising index, each at its own index. `None` if the handle is absent. This one call
+    /// returns what [`exists`](Rows::exists) and [`values`](Rows::values) return.
     fn look(&mut self, name: &Name) -> Result<Option<Vec<Value>>, Refused>
         ensures there { IfOk result (λ all. is_some all ≡ has (content self.old) (canonical name.now)) }
         ensures found { IfOk result (λ all. values_in all ≡ values_of (content self.old) (canonical name.now)) }
@@ -78,14 +78,14 @@ pub trait Rows {
         ensures count { refused self.new ≡ refusals_after result (refused self.old) }
         ensures reads { reads self.new ≡ reads_after (λ all. values_octets (values_in all)) result (reads self.old) };
 
-    /// The canonical handles of an authority in canonical form, rising by octets.
+    /// The canonical handles of an authority, rising by octets. The authority is in canonical form.
     fn names(&mut self, authority: &[u8]) -> Result<Vec<Octets>, Refused>
         ensures found { IfOk result (λ all. all.items ≡ names_of (content self.old) authority.now) }
         ensures unchanged { content self.new ≡ content self.old }
         ensures count { refused self.new ≡ refusals_after result (refused self.old) }
         ensures reads { reads self.new ≡ reads_after (λ all. names_octets all.items) result (reads self.old) };
 
-    /// Makes an absent handle, with these values.
+    /// Creates an absent handle with these values.
     fn create(&mut self, name: &Name, values: &[Value]) -> Result<(), Refused>
         requires absent { has (content self.old) (canonical name.now) ≡ false }
         requires distinct { AreDistinct (indexes values.now) }
@@ -94,7 +94,7 @@ pub trait Rows {
         ensures count { refused self.new ≡ refusals_after result (refused self.old) }
         ensures reads { reads self.new ≡ reads self.old };
 
-    /// Puts values at indexes of a handle where none stands.
+    /// Adds values to a handle, at indexes where there is none.
     fn add(&mut self, name: &Name, values: &[Value]) -> Result<(), Refused>
         requires there { has (content self.old) (canonical name.now) ≡ true }
         requires distinct { AreDistinct (indexes values.now) }
@@ -104,7 +104,7 @@ pub trait Rows {
         ensures count { refused self.new ≡ refusals_after result (refused self.old) }
         ensures reads { reads self.new ≡ reads self.old };
 
-    /// Replaces the values at indexes of a handle, each whole.
+    /// Replaces the values of a handle at these indexes as a whole.
     fn modify(&mut self, name: &Name, values: &[Value]) -> Result<(), Refused>
         requires there { has (content self.old) (canonical name.now) ≡ true }
         requires distinct { AreDistinct (indexes values.now) }
@@ -114,7 +114,7 @@ pub trait Rows {
         ensures count { refused self.new ≡ refusals_after result (refused self.old) }
         ensures reads { reads self.new ≡ reads self.old };
 
-    /// Takes values away from a handle, which stays.
+    /// Removes values from a handle. The handle stays, even without values.
     fn remove(&mut self, name: &Name, indexes: &[u32]) -> Result<(), Refused>
         requires there { has (content self.old) (canonical name.now) ≡ true }
         requires distinct { AreDistinct indexes.now }
@@ -124,7 +124,7 @@ pub trait Rows {
         ensures count { refused self.new ≡ refusals_after result (refused self.old) }
         ensures reads { reads self.new ≡ reads self.old };
 
-    /// Takes a handle away with all its values.
+    /// Deletes a handle with all its values.
     fn delete(&mut self, name: &Name) -> Result<(), Refused>
         requires there { has (content self.old) (canonical name.now) ≡ true }
         ensures done { OnOk result (content self.new ≡ without_handle (content self.old) (canonical name.now)) }
@@ -136,7 +136,7 @@ pub trait Rows {
     fn refusals(&self) -> u64
         ensures { result ≡ refused self.now };
 
-    /// Octets that were read, up to the greatest `u64`.
+    /// How many octets its calls returned, up to the greatest `u64`.
     fn reads(&self) -> u64
         ensures { result ≡ reads self.now };
 }

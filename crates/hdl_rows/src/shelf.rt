@@ -1,4 +1,4 @@
-//! Rows in order: the table in a map of handles.
+//! The table as a map of handles.
 
 ghost use Rattle.std.specs.Prelude.{◌≡◌, ◌↔◌, IsTrue, is_some, map, true, false, option_copied, [], ◌∷◌, ◌++◌, IfOk, OnOk, OnErr};
 ghost use Rattle.std.specs.List.{position_or_len};
@@ -17,7 +17,7 @@ use std::alloc::{AllocError, Global};
 use std::collections::BTreeMap;
 use std::marker::Model;
 
-/// Handles by rising octets, each with its values by rising index. Contracts see the table that they are.
+/// Handles by rising octets, each with its values by rising index. Contracts see this as the table.
 #[derive(Drop)]
 pub(crate) struct Shelf {
     rows: BTreeMap<Vec<u8>, Vec<Value>>,
@@ -37,7 +37,7 @@ impl Model for Shelf {
     ghost invariant = { λ s. AreInOrder (entries_of s.rows.entries) };
 }
 
-/// How many octets stand before the first slash.
+/// How many octets there are before the first slash.
 fn slash_in(handle: &[u8]) -> usize
     ensures { result ≡ position_or_len is_slash handle.now }
 {
@@ -51,7 +51,7 @@ fn front_of(handle: &[u8]) -> &[u8]
     &handle[..slash_in(handle)]
 }
 
-/// Whether the octets, with their ASCII letters made lower, are these.
+/// Whether the octets are these, once their ASCII letters are lower case.
 fn lowers_to(octets: &[u8], lowered: &[u8]) -> bool
     ensures { IsTrue result ↔ (map to_ascii_lowercase octets.now ≡ lowered.now) }
 {
@@ -73,7 +73,7 @@ fn is_of(handle: &[u8], prefix: &[u8]) -> bool
     lowers_to(front_of(handle), prefix)
 }
 
-/// The octets, and one more behind them.
+/// The octets, and this octet after them.
 fn followed_by(alloc: Global, octets: &[u8], octet: u8) -> Result<Vec<u8>, AllocError>
     ensures { IfOk result (λ all. all.items ≡ octets.now ++ octet ∷ []) }
 {
@@ -82,7 +82,7 @@ fn followed_by(alloc: Global, octets: &[u8], octet: u8) -> Result<Vec<u8>, Alloc
     Ok(all)
 }
 
-/// Copies of values by rising index; of two with one index the later one.
+/// Copies of the values by rising index. If two have the same index, the later one stays.
 fn shelf_of(alloc: Global, values: &[Value]) -> Result<Vec<Value>, AllocError>
     ensures { IfOk result (λ all. by_index all.items ≡ put_all [] values.now) }
 {
@@ -128,7 +128,7 @@ impl Shelf {
         }
     }
 
-    /// The values of a handle, or that it is absent.
+    /// The values of a handle. `None` if it is absent.
     pub(crate) fn look(&self, alloc: Global, name: &[u8]) -> Result<Option<Vec<Value>>, AllocError>
         ensures there { IfOk result (λ all. is_some all ≡ has self.now name.now) }
         ensures found { IfOk result (λ all. values_in all ≡ values_of self.now name.now) }
@@ -140,7 +140,7 @@ impl Shelf {
         }
     }
 
-    /// The heads of a handle's values, or that it is absent.
+    /// The heads of a handle's values. `None` if it is absent.
     pub(crate) fn heads(&self, alloc: Global, name: &[u8]) -> Result<Option<Vec<Value>>, AllocError>
         ensures there { IfOk result (λ all. is_some all ≡ has self.now name.now) }
         ensures found { IfOk result (λ all. values_in all ≡ heads_of self.now name.now) }
@@ -152,7 +152,7 @@ impl Shelf {
         }
     }
 
-    /// The handles of an authority. Only those are looked at that begin with it and a slash.
+    /// The handles of an authority. Only those that begin with it and a slash are visited.
     pub(crate) fn names(&self, alloc: Global, prefix: &[u8]) -> Result<Vec<Octets>, AllocError>
         requires { HaveAuthorities self.now }
         ensures { IfOk result (λ all. all.items ≡ names_of self.now prefix.now) }
@@ -169,7 +169,7 @@ impl Shelf {
         Ok(all)
     }
 
-    /// Puts an absent handle in its place.
+    /// Inserts an absent handle in order.
     pub(crate) fn create(
         &mut self,
         alloc: Global,
@@ -186,7 +186,7 @@ impl Shelf {
         Ok(())
     }
 
-    /// Puts values among those of a handle.
+    /// Inserts values among those of a handle.
     pub(crate) fn put(
         &mut self,
         alloc: Global,

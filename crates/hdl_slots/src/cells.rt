@@ -10,7 +10,7 @@ use std::alloc::{AllocError, Global};
 use std::marker::Model;
 use std::mem;
 
-/// One slot, which says whose it is: so the cells of two places are never the same.
+/// One slot. It has its lane and its place, so the cells of two places are never equal.
 #[derive(Drop)]
 struct Cell {
     lane: usize,
@@ -18,7 +18,7 @@ struct Cell {
     challenge: Option<Challenge>,
 }
 
-/// 64 lanes of eight slots. The cells are made once, in one slab, and written in place; the table has the key of each.
+/// 64 lanes of eight slots. The slots are made once, in one slab, and written in place. The table has the key of each.
 #[derive(Drop)]
 pub(crate) struct Cells {
     slab: Slab<Cell>,
@@ -42,7 +42,7 @@ impl Cells {
     ghost use Rattle.hdl_slots.specs.Places.{places_of, at_place};
     ghost use Rattle.hdl_slots.specs.Cells.{empty_cell};
 
-    /// Empty slots on every lane.
+    /// Empty slots for every lane.
     pub(crate) fn new(alloc: Global) -> Result<Cells, AllocError>
         ensures { IfOk result (λ cells. cells ≡ replicate LANES (replicate CHALLENGES_MAX None)) }
     {
@@ -54,7 +54,7 @@ impl Cells {
         Ok(Cells { slab, keys })
     }
 
-    /// What stands in this place of this lane.
+    /// The challenge in this place of this lane.
     pub(crate) fn at(&self, lane: usize, place: usize) -> Option<&Challenge>
         requires lane { lane < LANES }
         requires place { place < CHALLENGES_MAX }
@@ -64,7 +64,7 @@ impl Cells {
         self.slab[key].challenge.as_ref()
     }
 
-    /// Writes this place of this lane, and answers what stood there.
+    /// Writes this place of this lane, and returns the old contents.
     pub(crate) fn replace(
         &mut self,
         lane: usize,
@@ -81,7 +81,7 @@ impl Cells {
         mem::replace(&mut cell.challenge, challenge)
     }
 
-    /// Makes a lane's cells, and answers their keys.
+    /// Makes a lane's cells, and returns their keys.
     fn lane_keys(slab: &mut Slab<Cell>, lane: usize) -> Result<[usize; CHALLENGES_MAX], AllocError>
         ensures places { IfOk result (λ keys. length keys ≡ CHALLENGES_MAX) }
         ensures made { IfOk result (λ keys. (place : ℕ) → place < CHALLENGES_MAX → get slab.new (slice_index keys place) ≡ Some (empty_cell lane place)) }

@@ -1,4 +1,4 @@
-//! The calls on one lane's places. Each leaves every other lane's as they were.
+//! Calls on the places of one lane. Each leaves every other lane as it was.
 
 ghost use Rattle.std.specs.Prelude.{◌≡◌, ◌<◌, ◌++◌, ◌∷◌, [], length, find, filter, not, option_copied};
 ghost use Rattle.hdl_slots.specs.Lanes.{next_after, last_eight, without, challenge_of, is_of, has_number};
@@ -8,7 +8,7 @@ use crate::cells::Cells;
 use crate::pending::{Challenge, Pending};
 use hdl_limits::{CHALLENGES_MAX, LANES};
 
-/// What was sent to this peer under this number.
+/// The pending challenge of this peer and number.
 pub(crate) fn find(cells: &Cells, lane: usize, peer: u16, number: u32) -> Option<&Pending>
     requires lane { lane < LANES }
     requires places { length (places_of cells.now lane) ≡ CHALLENGES_MAX }
@@ -19,7 +19,7 @@ pub(crate) fn find(cells: &Cells, lane: usize, peer: u16, number: u32) -> Option
     Some(&challenge.pending)
 }
 
-/// Takes out what was sent to this peer under this number.
+/// Removes and returns the pending challenge of this peer and number.
 pub(crate) fn take(cells: &mut Cells, lane: usize, peer: u16, number: u32) -> Option<Pending>
     requires lane { lane < LANES }
     requires places { IsLane (places_of cells.old lane) }
@@ -42,8 +42,8 @@ pub(crate) fn forget(cells: &mut Cells, lane: usize, number: u32)
     }
 }
 
-/// Puts a challenge after the newest one. From the end on each moves one place to the front, until an empty place takes it in;
-/// where none is empty, the oldest is dropped.
+/// Inserts a challenge as the newest. Each older one moves one place to the front, until an empty place takes one. If
+/// no place is empty, the oldest is dropped.
 pub(crate) fn push(cells: &mut Cells, lane: usize, challenge: Challenge)
     requires lane { lane < LANES }
     requires places { length (places_of cells.old lane) ≡ CHALLENGES_MAX }
@@ -57,7 +57,6 @@ pub(crate) fn push(cells: &mut Cells, lane: usize, challenge: Challenge)
     }
 }
 
-/// Drops all challenges.
 pub(crate) fn clear(cells: &mut Cells, lane: usize)
     requires lane { lane < LANES }
     requires places { length (places_of cells.old lane) ≡ CHALLENGES_MAX }
@@ -68,14 +67,13 @@ pub(crate) fn clear(cells: &mut Cells, lane: usize)
     }
 }
 
-/// The number after this one.
 pub(crate) fn next_after(number: u32) -> u32
     ensures { result ≡ next_after number }
 {
     if number == u32::MAX { 1 } else { number + 1 }
 }
 
-/// The place of the challenge of this peer under this number.
+/// The place of the challenge of this peer and number.
 fn place_of(cells: &Cells, lane: usize, peer: u16, number: u32) -> Option<usize>
     requires lane { lane < LANES }
     requires places { length (places_of cells.now lane) ≡ CHALLENGES_MAX }
@@ -103,7 +101,6 @@ fn place_of_number(cells: &Cells, lane: usize, number: u32) -> Option<usize>
     None
 }
 
-/// It's the challenge of this peer under this number.
 fn is_of(found: Option<&Challenge>, peer: u16, number: u32) -> bool
     ensures { result ≡ passes (is_of peer number) (option_copied found.entry) }
 {
@@ -113,7 +110,6 @@ fn is_of(found: Option<&Challenge>, peer: u16, number: u32) -> bool
     }
 }
 
-/// It's the challenge of this number.
 fn has_number(found: Option<&Challenge>, number: u32) -> bool
     ensures { result ≡ passes (has_number number) (option_copied found.entry) }
 {

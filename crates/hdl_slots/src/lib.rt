@@ -1,14 +1,14 @@
-//! Pending challenges: what was sent to which peer and under which number, until the response comes.
+//! Pending challenges: each is kept, with its peer and number, until the response comes.
 //!
-//! Each of the 64 lanes has a list of at most eight challenges, the oldest first, and counts its own numbers: from 1 on, and
-//! after 4,294,967,295 again 1. A ninth challenge displaces the lane's oldest; where the numbers have gone round, a pending
-//! challenge of the number to be given is dropped before.
+//! Each of the 64 lanes has a list of at most eight challenges, the oldest first. It numbers them from 1, and starts
+//! again at 1 after 4,294,967,295. A ninth challenge displaces the lane's oldest. If the next number still has a
+//! pending challenge, that challenge is dropped first.
 //!
-//! The 512 slots stand in one slab, which [`Slots::new`] fills and which
-//! is written in place from then on: no other call takes memory or can be refused. What it promises is one equation for each
-//! call: the list of all lanes is as it was but for the called one, which is a function of what it was (`specs/Lanes.antt`).
-//! The laws of `specs/Laws.antt` say what follows: what was put is found under its number, what was taken is gone, no lane has
-//! more than eight. Whether a response is right is said by `hdl_auth`.
+//! The 512 slots belong to one slab. [`Slots::new`] fills it, and the slots are written in place from then on: no other
+//! call takes memory or can be refused. The contract of each call is one equation: the lists of the other lanes stay
+//! the same, and the list of the called lane is a function of what it was (`specs/Lanes.antt`). The laws of
+//! `specs/Laws.antt` follow: a challenge that was put is found by its number, one that was taken is gone, and no lane
+//! has more than eight. `hdl_auth` decides whether a response is right.
 //!
 //! ```rust
 //! // crates/hdl_vectors/src/slots.rt
@@ -19,17 +19,17 @@
 //!
 //! # Decisions
 //!
-//! - **A challenge's number is stored with it** (`Challenge { number, pending }`), since the lane gives it.
-//! - **A taken challenge goes by peer and number.** That no two challenges of a lane have one number is kept by each lane, so this is the
-//!   same as going by the number where the peer is the challenge's, and leaves the lane as it was where it isn't.
-//! - **The 512 slots stand in one slab**, which `Slots::new` fills with empty cells; no cell is made or removed after it, and each call
-//!   writes in place. The slab picks its keys, and nothing is known of their order: a table has the key of each lane's eight places. A
-//!   cell says of which lane and place it is, and the invariant is that the key of a place finds the cell of that place: so no two
-//!   places share a cell, and a write of one leaves every other as it was.
-//! - **A lane's list is what stands in its eight places, the oldest first, with gaps.** A taken challenge leaves a gap. A new one comes
-//!   in at the last place, and each moves one place to the front until a gap takes it in; where there's none, the oldest falls out.
-//!   Contents move and keys don't, so the table stays as it was made: a table that turned its keys would have to be shown to keep them
-//!   different. No contract names the storage.
+//! - **A challenge is stored with its number** (`Challenge { number, pending }`), which the lane assigns.
+//! - **A challenge is taken by peer and number.** No two challenges of a lane have the same number, so the number alone
+//!   would find the same challenge. With another peer the call leaves the lane as it was.
+//! - **The 512 slots belong to one slab**, which `Slots::new` fills with empty cells. No cell is made or removed later,
+//!   and each call writes in place. The slab chooses its keys, in an order that no contract states, so a table has the
+//!   keys of each lane's eight places. A cell has its lane and its place. The invariant is that the key of a place
+//!   finds the cell of that place. So no two places share a cell, and a write to one leaves every other as it was.
+//! - **A lane's list is the contents of its eight places, the oldest first, with gaps.** Taking a challenge leaves a
+//!   gap. A new one enters at the last place, and each older one moves one place to the front until a gap takes one; if
+//!   there is no gap, the oldest is dropped. Contents move and keys don't, so the table never changes. If keys moved,
+//!   each call would have to be proved to keep them different. No contract mentions the storage.
 #![tactic(auto)]
 
 mod cells;

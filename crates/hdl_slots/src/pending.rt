@@ -3,10 +3,10 @@
 use hdl_auth::algorithm::Digest;
 use hdl_limits::Octets;
 
-/// A challenge as it was sent, and the request that it stands before.
+/// A challenge as it was sent, and the challenged request.
 #[derive(Drop)]
 pub struct Pending {
-    /// Who sent the request: on a stream 0, of datagrams the peer's number.
+    /// The sender of the request: 0 on a stream, the peer's number on a datagram lane.
     pub peer: u16,
     /// When the request came, in milliseconds.
     pub moment: u64,
@@ -18,7 +18,7 @@ pub struct Pending {
     pub message: Octets,
 }
 
-/// A challenge and the number that it was sent under, counted lane by lane.
+/// A challenge and the number under which it was sent. Each lane has its own numbers.
 #[derive(Drop)]
 pub struct Challenge {
     pub number: u32,

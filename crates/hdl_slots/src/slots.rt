@@ -10,8 +10,8 @@ use hdl_limits::LANES;
 use std::alloc::{AllocError, Global};
 use std::marker::Model;
 
-/// Room for eight challenges on each lane: 512 slots of one slab, which are made once and written in place. Contracts see the
-/// list of the 64 lanes' states.
+/// Room for eight challenges on each lane: 512 slots of one slab, which are made once and written in place. Contracts
+/// see the list of the states of the 64 lanes.
 #[derive(Drop)]
 pub struct Slots {
     // Each lane's next number.
@@ -32,7 +32,7 @@ impl Model for Slots {
 }
 
 impl Slots {
-    /// Slots that are all empty; each lane's next number is 1. Refused only for want of memory.
+    /// Empty slots. Each lane's next number is 1. Refused only if memory is refused.
     pub fn new(alloc: Global) -> Result<Slots, AllocError>
         ensures ok { IfOk result (λ slots. slots ≡ replicate LANES fresh) }
     {
@@ -41,7 +41,7 @@ impl Slots {
         Ok(Slots { numbers, cells })
     }
 
-    /// The number that the lane's next challenge gets.
+    /// The number of the lane's next challenge.
     pub fn next_number(&self, lane: u16) -> u32
         requires { lane < LANES }
         ensures number { result ≡ (lane_at self.now lane).next }
@@ -49,8 +49,8 @@ impl Slots {
         self.numbers[lane as usize]
     }
 
-    /// Puts a challenge under the lane's next number, and answers that number. A pending challenge of this number is dropped
-    /// first; a ninth displaces the lane's oldest.
+    /// Stores a challenge under the lane's next number, and returns that number. A pending challenge with this number
+    /// is dropped first; a ninth challenge displaces the lane's oldest.
     pub fn put(&mut self, lane: u16, pending: Pending) -> u32
         requires { lane < LANES }
         ensures number { result ≡ (lane_at self.old lane).next }
@@ -64,7 +64,7 @@ impl Slots {
         number
     }
 
-    /// What was sent on the lane to this peer under this number, if it's pending.
+    /// The pending challenge of this lane, peer and number.
     pub fn find(&self, lane: u16, peer: u16, number: u32) -> Option<&Pending>
         requires { lane < LANES }
         ensures found { option_copied result ≡ challenge_of (lane_at self.now lane).challenges peer number }
@@ -72,7 +72,7 @@ impl Slots {
         lane::find(&self.cells, lane as usize, peer, number)
     }
 
-    /// Takes out what was sent on the lane to this peer under this number, if it's pending.
+    /// Removes and returns the pending challenge of this lane, peer and number.
     pub fn take(&mut self, lane: u16, peer: u16, number: u32) -> Option<Pending>
         requires { lane < LANES }
         ensures found { result ≡ challenge_of (lane_at self.old lane).challenges peer number }
@@ -81,7 +81,7 @@ impl Slots {
         lane::take(&mut self.cells, lane as usize, peer, number)
     }
 
-    /// Forgets the lane's challenges; its numbers begin at 1 again.
+    /// Drops the lane's challenges. Its numbers start at 1 again.
     pub fn drop_lane(&mut self, lane: u16)
         requires { lane < LANES }
         ensures slots { self.new ≡ slice_set self.old lane fresh }

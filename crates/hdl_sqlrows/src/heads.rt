@@ -1,4 +1,4 @@
-//! What is asked of the tables about the heads of values: neither data nor references are answered.
+//! Queries for the heads of values. Their results have neither data nor references.
 
 ghost use Rattle.std.specs.Prelude.{◌≡◌, is_some, IfOk, OnOk, map};
 ghost use Rattle.hdl_rows.specs.Heads as spec;
@@ -74,8 +74,8 @@ fn heads_of(
     all_heads(alloc, &rows)
 }
 
-/// The heads of a handle's values, by rising index, or that it is absent. Where values stand at a handle it is there, so `handles` is asked only
-/// where there is none.
+/// The heads of a handle's values, by rising index. `None` if it is absent. A handle with values is there, so `handles`
+/// is queried only if there are none.
 pub(crate) fn heads(
     conn: &mut Connection<MemStore>,
     alloc: Global,

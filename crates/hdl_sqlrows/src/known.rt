@@ -1,4 +1,4 @@
-//! Whether the tables of a database are those of the layout.
+//! Whether a database has the tables of the layout.
 
 ghost use Rattle.std.specs.Prelude.{◌≡◌, ◌↔◌, [], ◌∷◌, None, codes, false, true, IsTrue};
 ghost use Rattle.sqlite_value.specs.Keys.{plain};
@@ -12,18 +12,18 @@ use sqlite_schema::schema::{Action, Column, Index, Kind, Reference, Schema, Stam
 use sqlite_value::keys::{Collation, Order};
 use sqlite_value::value::{Bytes, Value};
 
-/// What a database that was there already is.
+/// What an existing database is.
 #[derive(Clone, Copy, PartialEq, Eq, Drop)]
 pub enum FoundDatabase {
-    /// Without a table, as a new file is.
+    /// Without a table, like a new file.
     Nothing,
     /// The tables of the layout, and nothing else.
     Tables,
-    /// Anything else.
+    /// Any other database.
     Other,
 }
 
-/// Whether a database has the tables of the layout and nothing else, or no table at all.
+/// Whether a database has the tables of the layout and no other, or no table at all.
 pub fn tables_of<S: Alter>(conn: &Connection<S>) -> FoundDatabase
     ensures nothing { (result ≡ FoundDatabase.Nothing) ↔ ((state S.Store conn.now).now.schema ≡ no_schema) }
     ensures tables { (result ≡ FoundDatabase.Tables) ↔ ((state S.Store conn.now).now.schema ≡ layout) }
@@ -140,7 +140,7 @@ fn is_opened(table: &Table) -> bool
         && table.references.is_empty()
 }
 
-/// Whether there is one column, `name`.
+/// Whether there is exactly one column, `name`.
 fn are_names(columns: &[Column]) -> bool
     ensures { IsTrue result ↔ (columns.now ≡ required_column (codes "name") Kind.Blob ∷ []) }
 {
@@ -170,7 +170,7 @@ fn is_to_handles(reference: &Reference) -> bool
         && !reference.is_deferred
 }
 
-/// Whether these are one name, `name`.
+/// Whether these are exactly one name, `name`.
 fn is_name(columns: &[Bytes]) -> bool
     ensures { IsTrue result ↔ (columns.now ≡ codes "name" ∷ []) }
 {
@@ -186,7 +186,7 @@ fn is_text(name: &Bytes, text: &[u8]) -> bool
     name.as_slice() == text
 }
 
-/// Whether a table has this name, tree and key, and neither tests its rows nor computes a value.
+/// Whether a table has this name, tree and key, without checks on its rows and without computed values.
 fn is_keyed(table: &Table, name: &[u8], tree: u32, key: &[usize]) -> bool
     ensures { IsTrue result ↔ (table.now ≡ keyed_table name.now tree table.now.columns key.now table.now.references) }
 {
@@ -201,7 +201,7 @@ fn has_key(table: &Table, key: &[usize]) -> bool
         && is_plain(table.orders.as_slice())
 }
 
-/// Whether the only key ascends by its octets.
+/// Whether the only key is ascending and compares octets.
 fn is_plain(orders: &[Order]) -> bool
     ensures { IsTrue result ↔ (orders.now ≡ plain ∷ []) }
 {
@@ -261,7 +261,7 @@ fn is_required(column: &Column, name: &[u8], kind: Kind) -> bool
         && column.collation == Collation::Binary
 }
 
-/// Whether an index is the one that keeps this key of a table single.
+/// Whether an index is the one that keeps this key of a table unique.
 fn is_guard(index: &Index, name: &[u8], tree: u32, table: u32, key: &[usize]) -> bool
     ensures { IsTrue result ↔ (index.now ≡ guard name.now tree table key.now) }
 {

@@ -1,4 +1,4 @@
-//! The rows of a database, put into a table in memory.
+//! Loading the rows of a database into a table in memory.
 
 ghost use Rattle.std.specs.Prelude.{◌≡◌, false, OnOk};
 ghost use Rattle.sqlite.specs.State.{HasCleanDisk, IsUnchanged, Survives};
@@ -15,7 +15,7 @@ use hdl_rows::Rows;
 use sqlite::{Alter, Connection};
 use std::alloc::Global;
 
-/// Is informed of a load's progress: after each row, how many of its kind were read.
+/// Receives a load's progress: after each row, how many of its kind were read.
 pub trait Progress {
     fn handles(&mut self, count: u64);
 
@@ -47,7 +47,7 @@ fn load_handles<S: Alter, R: Rows, P: Progress>(
         last = Some(take_handle(alloc, row, last, rows)?);
         progress.handles(before + 1);
     }
-    // No memory holds as many handles as that.
+    // No memory holds that many handles.
     Err(LoadFault::Memory)
 }
 
@@ -80,15 +80,15 @@ fn load_entries<S: Alter, R: Rows, P: Progress>(
         last = Some(take_entry(alloc, row, last, rows)?);
         progress.values(before + 1);
     }
-    // No memory holds as many values as that.
+    // No memory holds that many values.
     Err(LoadFault::Memory)
 }
 
-/// Puts the rows of a database of this layout into an empty table. They are read one at a time, and nothing is written.
+/// Puts the rows of a database of this layout into an empty table. It reads them one at a time, and writes nothing.
 ///
-/// Where the disk has returned what was written, the table is then the one that is filed, and the rows are as the writes need them. It is refused
-/// where memory, the store or the table refused, or else at the first row that is unsound. The table then has the rows before that one; the
-/// database is as it was, unless its store shut.
+/// If the disk returned what was written to it, the table is then the one that is filed, and the rows are as the writes
+/// need them. The load is refused if memory, the store or the table refused; otherwise at the first row that is
+/// unsound. The table then has the rows before that one. The database is as it was, unless its store closed.
 pub fn load<S: Alter, R: Rows, P: Progress>(
     conn: &mut Connection<S>,
     alloc: Global,

@@ -1,4 +1,4 @@
-//! The writes of a table in memory, where the disk has always returned what was written and the store is open.
+//! The writes of a table in memory: the disk has always returned what was written, and the store is open.
 
 ghost use Rattle.std.specs.Prelude.{◌≡◌, true, false, OnOk, OnErr};
 ghost use Rattle.hdl_name.specs.Name.{authority as authority_of};
@@ -11,7 +11,7 @@ use hdl_value::Value;
 use sqlite::{Connection, MemStore};
 use std::alloc::Global;
 
-/// Makes the tables in a database that has none.
+/// Creates the tables in an empty database.
 pub(crate) fn make_tables(conn: &mut Connection<MemStore>) -> Result<(), StoreFault>
     requires mode { conn.old.in_transaction ≡ false }
     requires blank { IsBlank (state_of conn.old) }
@@ -21,7 +21,7 @@ pub(crate) fn make_tables(conn: &mut Connection<MemStore>) -> Result<(), StoreFa
     layout::make_tables(conn)
 }
 
-/// Makes a handle with these values.
+/// Creates a handle with these values.
 pub(crate) fn create(
     conn: &mut Connection<MemStore>,
     alloc: Global,
@@ -41,7 +41,7 @@ pub(crate) fn create(
     writes::create(conn, alloc, name, authority, values)
 }
 
-/// Puts values at indexes where none stands.
+/// Adds values at indexes where there is none.
 pub(crate) fn add(
     conn: &mut Connection<MemStore>,
     alloc: Global,
@@ -58,7 +58,7 @@ pub(crate) fn add(
     writes::add(conn, alloc, name, values)
 }
 
-/// Puts values at their indexes, each over the one that stands there.
+/// Replaces values, each by the one with its index.
 pub(crate) fn modify(
     conn: &mut Connection<MemStore>,
     alloc: Global,
@@ -74,7 +74,7 @@ pub(crate) fn modify(
     writes::modify(conn, alloc, name, values)
 }
 
-/// Takes away what stands at these indexes.
+/// Removes the values with these indexes.
 pub(crate) fn remove(
     conn: &mut Connection<MemStore>,
     name: &[u8],
@@ -88,7 +88,7 @@ pub(crate) fn remove(
     writes::remove(conn, name, indexes)
 }
 
-/// Takes a handle away, and its values with it.
+/// Deletes a handle with all its values.
 pub(crate) fn delete(conn: &mut Connection<MemStore>, name: &[u8]) -> Result<(), StoreFault>
     requires settled { IsBetweenCalls (state_of conn.old) }
     requires there { has (table_of conn.old) name.now ≡ true }

@@ -22,10 +22,10 @@ use hdl_value::Value;
 use sqlite::{Alter, Connection, Transaction, params};
 use std::alloc::Global;
 
-/// Makes the tables in a database that has none, and opens handles with their first values, in one transaction: a crash leaves nothing
-/// or all. A handle may be named in several ways, and its values may stand anywhere in the list.
+/// Creates the tables in an empty database, and opens handles with their first values, in one transaction: a crash
+/// leaves nothing or all. The list may name a handle in several ways, and have its values in any order.
 ///
-/// Refused where the store or memory refuses: nothing is made then.
+/// Refused if the store or memory is refused. Then nothing is created.
 pub fn open_new<S: Alter>(
     conn: &mut Connection<S>,
     alloc: Global,
@@ -46,10 +46,10 @@ pub fn open_new<S: Alter>(
     finish(tx, written)
 }
 
-/// Opens the handles that weren't opened before, in one transaction: each that is absent gets its first values. Handles that were opened
-/// stay as they are, also where they were deleted since. The list is as for [`open_new`].
+/// Opens the handles that weren't opened before, in one transaction. Each of them that is absent gets its first values.
+/// Handles that were opened before stay as they are, even if they were deleted since. The list is as for [`open_new`].
 ///
-/// Refused where the store or memory refuses: all stays as it was then.
+/// Refused if the store or memory is refused. Then all stays as it was.
 pub fn open_more<S: Alter>(
     conn: &mut Connection<S>,
     alloc: Global,
@@ -67,16 +67,16 @@ pub fn open_more<S: Alter>(
     ensures restored { OnErr result (WhereOpen (state S.Store conn.new) (CrashKeeps (state S.Store conn.new) (filed_base (state S.Store conn.old)))) }
     ensures survives { Survives (state S.Store conn.old) (state S.Store conn.new) (λ db. IsTrue (state S.Store conn.old).is_open → base_in db ≡ opened_with (filed_base (state S.Store conn.old)) opening.now) }
 {
-    // Its rows are of the kinds that the schema says.
+    // Its rows have the types of the schema.
     let _ = conn.schema();
     let mut tx = conn.transaction();
     let written = open_within(&mut tx, alloc, opening);
     finish(tx, written)
 }
 
-/// Whether each handle of the list was opened. Nothing is written.
+/// Whether each handle of the list was opened. Writes nothing.
 ///
-/// Refused where the store or memory refuses.
+/// Refused if the store or memory is refused.
 pub fn are_opened<S: Alter>(
     conn: &mut Connection<S>,
     alloc: Global,
@@ -90,7 +90,7 @@ pub fn are_opened<S: Alter>(
     ensures found { IfOk result (λ are. WhereOpen (state S.Store conn.new) (IsTrue are ↔ (left_to_open (filed_base (state S.Store conn.old)).opened opening.now ≡ []))) }
     ensures survives { Survives (state S.Store conn.old) (state S.Store conn.new) (λ _. ⊥) }
 {
-    // Its rows are of the kinds that the schema says.
+    // Its rows have the types of the schema.
     let _ = conn.schema();
     let mut tx = conn.transaction();
     let unopened = unopened_of(&mut tx, alloc, opening);
@@ -98,14 +98,14 @@ pub fn are_opened<S: Alter>(
     Ok(unopened?.is_empty())
 }
 
-/// A handle that was opened isn't opened again, whatever became of the table since: what is noted of it no write touches
-/// (`beside` of [`writes`](crate::writes)).
+/// A handle that was opened isn't opened again, however the table was changed since: no write changes the record of
+/// opened handles (`beside` of [`writes`](crate::writes)).
 pub fn opened_once(opening: &[(Name, Value)])
     ensures noted { (base : Base) → AllByRecursion (λ (first : First). IsTrue (set.contains (opened_with base opening.now).opened (handle first))) opening.now }
     ensures once { (base : Base) → (t : Table) → opened_with (record (opened_with base opening.now) { table = t }) opening.now ≡ record (opened_with base opening.now) { table = t } }
 {}
 
-/// Makes the tables and opens handles within a transaction.
+/// Creates the tables and opens handles within a transaction.
 fn make_and_open<S: Alter>(
     tx: &mut Transaction<'_, S>,
     alloc: Global,
@@ -150,7 +150,7 @@ fn was_opened<S: Alter>(tx: &mut Transaction<'_, S>, name: &[u8]) -> Result<bool
     Ok(!rows.is_empty())
 }
 
-/// Notes that a handle was opened, which isn't noted yet.
+/// Records that a handle was opened. It isn't recorded yet.
 fn note<S: Alter>(tx: &mut Transaction<'_, S>, name: &[u8]) -> Result<(), StoreFault>
     requires inside { WhereOpen (state S.Store tx.old.conn.now) (IsInside (state S.Store tx.old.conn.now)) }
     requires named { WhereOpen (state S.Store tx.old.conn.now) (AllByRecursion IsOpenedRow ((state S.Store tx.old.conn.now).now.trees 4)) }
@@ -186,7 +186,7 @@ fn put_missing<S: Alter>(
     }
 }
 
-/// Adds a first value, with its handle where that isn't there.
+/// Adds a first value, and its handle if that is absent.
 fn put_first<S: Alter>(
     tx: &mut Transaction<'_, S>,
     alloc: Global,
@@ -206,7 +206,7 @@ fn put_first<S: Alter>(
     put_entry(tx, alloc, handle, value)
 }
 
-/// Adds first values, each with its handle where that isn't there.
+/// Adds first values, each with its handle if that is absent.
 fn put_firsts<S: Alter>(
     tx: &mut Transaction<'_, S>,
     alloc: Global,
@@ -227,7 +227,7 @@ fn put_firsts<S: Alter>(
     Ok(())
 }
 
-/// Notes that a handle was opened, unless it is noted already.
+/// Records that a handle was opened, unless that is recorded already.
 fn note_once<S: Alter>(tx: &mut Transaction<'_, S>, name: &[u8]) -> Result<(), StoreFault>
     requires inside { WhereOpen (state S.Store tx.old.conn.now) (IsInside (state S.Store tx.old.conn.now)) }
     requires named { WhereOpen (state S.Store tx.old.conn.now) (AllByRecursion IsOpenedRow ((state S.Store tx.old.conn.now).now.trees 4)) }
@@ -245,7 +245,7 @@ fn note_once<S: Alter>(tx: &mut Transaction<'_, S>, name: &[u8]) -> Result<(), S
     }
 }
 
-/// Notes that the handles of first values were opened.
+/// Records that the handles of first values were opened.
 fn note_firsts<S: Alter>(
     tx: &mut Transaction<'_, S>,
     firsts: &[&(Name, Value)],
@@ -265,7 +265,7 @@ fn note_firsts<S: Alter>(
     Ok(())
 }
 
-/// Adds a first value to a list, unless it is to be left out.
+/// Adds a first value to a list, unless it is excluded.
 fn push_unless<'a>(
     firsts: &mut Vec<&'a (Name, Value)>,
     first: &'a (Name, Value),
@@ -279,7 +279,7 @@ fn push_unless<'a>(
     Ok(())
 }
 
-/// The first values of handles that weren't opened.
+/// The first values of the handles that weren't opened.
 fn unopened_of<'a, S: Alter>(
     tx: &mut Transaction<'_, S>,
     alloc: Global,
@@ -301,7 +301,7 @@ fn unopened_of<'a, S: Alter>(
     Ok(firsts)
 }
 
-/// Those of handles that aren't in the table.
+/// Those of handles that are absent.
 fn absent_of<'a, S: Alter>(
     tx: &mut Transaction<'_, S>,
     alloc: Global,

@@ -1,4 +1,4 @@
-//! Rows that are replaced, within a transaction.
+//! Replacing rows, within a transaction.
 
 ghost use Rattle.std.specs.Prelude.{◌≡◌, ◌≢◌, None, IsTrue, OnOk};
 ghost use Rattle.std.specs.FinMap as map;
@@ -16,7 +16,7 @@ use hdl_value::Value;
 use sqlite::{Alter, Transaction, params};
 use std::alloc::Global;
 
-/// Puts the cells of a value, with its references as octets, over those at its index.
+/// Replaces the row at a value's index by one for this value, with its references as octets.
 fn replace_cells<'x, S: Alter>(
     tx: &mut Transaction<'_, S>,
     name: &'x [u8],
@@ -50,7 +50,7 @@ fn replace_cells<'x, S: Alter>(
     Ok(())
 }
 
-/// Puts a value at its index, over the one that stands there.
+/// Replaces the value with the same index.
 fn replace_entry<S: Alter>(
     tx: &mut Transaction<'_, S>,
     alloc: Global,
@@ -69,7 +69,7 @@ fn replace_entry<S: Alter>(
     replace_cells(tx, name, value, &refs)
 }
 
-/// Puts values at their indexes, each over the one that stands there.
+/// Replaces values, each by the one with its index.
 pub(crate) fn replace_entries<S: Alter>(
     tx: &mut Transaction<'_, S>,
     alloc: Global,

@@ -14,8 +14,8 @@ use sqlite::{Connection, MemStore};
 use std::alloc::Global;
 use std::marker::Model;
 
-/// A table in SQL, in memory, which refuses a call where the store does: for want of memory, or of a list of references that
-/// four octets can't count. Contracts see what it holds, how many calls were refused, and what was read.
+/// A table in SQL, in memory. It refuses a call if the store does: memory is refused, or a list of references is longer
+/// than four octets can count. Contracts see its contents, the number of refused calls, and what was read.
 #[derive(Drop)]
 pub struct SqlRows {
     alloc: Global,
@@ -38,7 +38,7 @@ impl Model for SqlRows {
 }
 
 impl SqlRows {
-    /// An empty table. Refused where memory for the tables is: no table counts that refusal.
+    /// An empty table. Refused if memory for the tables is refused; no table counts that refusal.
     pub fn new(alloc: Global) -> Result<SqlRows, Refused>
         ensures empty { IfOk result (λ rows. rows ≡ record { table = no_rows; refused = 0; reads = 0 }) }
     {

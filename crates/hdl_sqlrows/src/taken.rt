@@ -1,4 +1,4 @@
-//! A row that was read, put into a table in memory. A row that no write of this crate makes is refused as unsound.
+//! Putting rows that were read into a table in memory. A row that no write of this crate makes is refused as unsound.
 
 ghost use Rattle.std.specs.Prelude.{◌≡◌, ◌<◌, true, false, None, [], ◌∷◌, pos, IfOk, IfSome, OnOk};
 ghost use Rattle.sqlite_value.specs.declared.value.Value.TheVariants.{Int, Blob};
@@ -17,7 +17,7 @@ use sqlite::Row;
 use std::alloc::Global;
 use std::slice;
 
-/// The rowid in a cell, which must be above the last.
+/// The rowid in a cell. It must be above the last one.
 fn rowid_at(row: &Row, at: usize, last: Option<u64>) -> Result<u64, LoadFault>
     ensures cell { IfOk result (λ id. column row.now at ≡ Int (pos id)) }
     ensures above { IfOk result (λ id. IfSome last (λ before. before < id)) }
@@ -31,7 +31,7 @@ fn rowid_at(row: &Row, at: usize, last: Option<u64>) -> Result<u64, LoadFault>
     }
 }
 
-/// The handle in a cell, which must be in canonical form.
+/// The handle in a cell. It must be in canonical form.
 fn name_at(alloc: Global, row: &Row, at: usize) -> Result<Name, LoadFault>
     ensures { IfOk result (λ name. column row.now at ≡ Blob (canonical name)) }
 {
@@ -47,7 +47,8 @@ fn name_at(alloc: Global, row: &Row, at: usize) -> Result<Name, LoadFault>
     Ok(name)
 }
 
-/// Puts the handle in a row of `handles`, as `SELECT rowid, name, authority` shows it, and tells its rowid.
+/// Puts the handle of a row of `handles` into the table, and returns the rowid. The row is as `SELECT rowid, name,
+/// authority` returns it.
 pub(crate) fn take_handle<R: Rows>(
     alloc: Global,
     row: &Row,
@@ -72,7 +73,7 @@ pub(crate) fn take_handle<R: Rows>(
     Ok(id)
 }
 
-/// Puts a value at a handle that is there, at an index where none stands.
+/// Adds a value to a handle that is there, at an index where there is none.
 fn put_value<R: Rows>(rows: &mut R, name: Name, value: &Value) -> Result<(), LoadFault>
     ensures there { OnOk result (has (R.content rows.old) (canonical name) ≡ true) }
     ensures absent { OnOk result (at (R.content rows.old) (place (canonical name) value.now.index) ≡ None) }
@@ -91,7 +92,8 @@ fn put_value<R: Rows>(rows: &mut R, name: Name, value: &Value) -> Result<(), Loa
     Ok(rows.add(&place.name, slice::from_ref(value))?)
 }
 
-/// Puts the value in a row of `entries`, as `SELECT idx, kind, bytes, ttl, permissions, timestamp, refs, name, rowid` shows it, and tells its rowid.
+/// Puts the value of a row of `entries` into the table, and returns the rowid. The row is as `SELECT idx, kind, bytes,
+/// ttl, permissions, timestamp, refs, name, rowid` returns it.
 pub(crate) fn take_entry<R: Rows>(
     alloc: Global,
     row: &Row,

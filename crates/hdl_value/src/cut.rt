@@ -1,4 +1,4 @@
-//! Values where they stand in octets, cut by layout alone. Nothing is copied.
+//! Values read in place: the layout alone decides, and nothing is copied.
 
 ghost use Rattle.std.specs.Prelude.{◌≡◌, ◌≢◌, ◌≤◌, ◌++◌, length, IfOk, IfErr, IfSome, OnOk, MatchResult, is_ok};
 ghost use Rattle.hdl_value.specs.Spelling.{spelling, value_at, references};
@@ -22,7 +22,7 @@ use crate::wire::Wire;
 use std::alloc::{AllocError, Global};
 use std::marker::Model;
 
-/// The fields of a value where they stand.
+/// The fields of a value, in place.
 #[derive(Clone, Copy)]
 pub(crate) struct RawValue<'a> {
     pub index: u32,
@@ -34,7 +34,8 @@ pub(crate) struct RawValue<'a> {
     pub references: RawReferences<'a>,
 }
 
-/// A value where it stands, seen as that value, whichever layout it was cut by. Its fields may break the limits, and its data may be bad.
+/// A value in place. Contracts see it as that value, whichever layout it has. Its fields may exceed the limits, and its
+/// data may be bad.
 #[derive(Drop)]
 pub struct CutValue<'a> {
     fields: RawValue<'a>,
@@ -82,8 +83,8 @@ fn fields_at(octets: &[u8]) -> Option<(RawValue<'_>, &[u8])>
     Some((value, rest))
 }
 
-/// The value at the front, and what follows it. None where the octets do not hold the whole layout: any index, and any lengths
-/// and counts that the octets hold, are good here. It takes no memory, and a length that lies ends where the octets do.
+/// The value at the front, and the octets after it. None if the octets don't hold the whole layout. Any index is
+/// accepted, and any length or count that fits into the octets. Takes no memory. A length beyond the octets is refused.
 pub fn cut_value(octets: &[u8]) -> Option<(CutValue<'_>, &[u8])>
     ensures { Reads (λ x. (x.0, x.1.now)) result (value_at octets.now) }
 {
@@ -91,7 +92,7 @@ pub fn cut_value(octets: &[u8]) -> Option<(CutValue<'_>, &[u8])>
     Some((CutValue { fields }, rest))
 }
 
-/// The moment at which the second in the first four octets begins, and what follows.
+/// The start, in milliseconds, of the second in the first four octets, and the octets after it.
 #[tactic(auto, unfolding(crate::specs::HandleNet::second_at))]
 fn second_at(octets: &[u8]) -> Option<(u64, &[u8])>
     ensures { Reads (λ x. (x.0, x.1.now)) result (second_at octets.now) }
@@ -124,7 +125,7 @@ fn net_fields_at(octets: &[u8]) -> Option<(RawValue<'_>, &[u8])>
     Some((value, rest))
 }
 
-/// The same by the layout of the Handle.Net software.
+/// The same for the layout of the Handle.Net software.
 pub(crate) fn cut_net_value(octets: &[u8]) -> Option<(CutValue<'_>, &[u8])>
     ensures { Reads (λ x. (x.0, x.1.now)) result (net_value_at octets.now) }
 {
@@ -142,7 +143,7 @@ fn put_cut_references(out: &mut Vec<u8>, refs: &RawReferences<'_>) -> Result<(),
     Ok(())
 }
 
-/// The data that is stored of fields that came by the layout.
+/// The data to store, for a value that was sent in this layout.
 fn stored_data<'a>(wire: Wire, fields: &RawValue<'a>) -> &'a [u8]
     ensures data { result.now ≡ stored_data wire (value_view fields.now) }
     ensures short { length result.now ≤ length fields.now.bytes.now }
@@ -155,7 +156,7 @@ fn stored_data<'a>(wire: Wire, fields: &RawValue<'a>) -> &'a [u8]
 }
 
 impl<'a> CutValue<'a> {
-    /// Puts its one spelling by our profile's layout at the end. After a refusal a part of it may stand there.
+    /// Appends the value's encoding in our profile's layout. A refusal may leave a part of it.
     pub fn put_spelling(&self, out: &mut Vec<u8>) -> Result<(), AllocError>
         ensures { OnOk result (out.new.items ≡ out.old.items ++ spelling self.now) }
     {
@@ -170,14 +171,13 @@ impl<'a> CutValue<'a> {
         Ok(())
     }
 
-    /// Its index, which may be 0.
+    /// Its index. It may be 0.
     pub fn index(&self) -> u32
         ensures { result ≡ self.now.index }
     {
         self.fields.index
     }
 
-    /// Its type.
     pub fn kind(&self) -> &'a [u8]
         ensures { result.now ≡ self.now.kind }
     {
@@ -191,8 +191,8 @@ impl<'a> CutValue<'a> {
         self.fields.kind == HS_ADMIN
     }
 
-    /// The value that is stored where this one came by the layout: of HS_ADMIN data by the layout of the Handle.Net software
-    /// without two octets of 0 behind it.
+    /// The value to store, for a value that was sent in this layout. HS_ADMIN data in the layout of the Handle.Net
+    /// software loses the two octets of 0 after it.
     pub fn stored_by(&self, wire: Wire) -> CutValue<'a>
         ensures { result ≡ stored_by wire self.now }
     {
@@ -206,8 +206,8 @@ impl<'a> CutValue<'a> {
         }
     }
 
-    /// Whether it keeps the limits and its data is good, or its first fault otherwise. It takes no memory, and never answers
-    /// that there is none.
+    /// Whether it keeps the limits and its data is good, or else its first fault. Takes no memory, and never returns
+    /// the fault `Memory`.
     pub fn check(&self) -> Result<(), ValueFault>
         ensures fault { MatchResult result (λ _. IsSound self.now) (λ e. IsFirstFault self.now e × (e ≢ ValueFault.Memory)) }
         ensures test { is_ok result ≡ is_sound self.now }
@@ -215,8 +215,8 @@ impl<'a> CutValue<'a> {
         check(&self.fields)
     }
 
-    /// The value, if it keeps the limits and its data is good, or its first fault. Memory is asked for only where there is no
-    /// fault.
+    /// The value, if it keeps the limits and its data is good, or else its first fault. Memory is taken only if there
+    /// is no fault.
     pub fn read(&self, alloc: Global) -> Result<Value, ValueFault>
         ensures value { IfOk result (λ v. v ≡ self.now) }
         ensures sound { IfOk result (λ v. IsSound v) }

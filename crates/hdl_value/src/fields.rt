@@ -1,4 +1,4 @@
-//! The fields that layouts are made of: numbers, octets and strings, read from the front and put at the end.
+//! The fields of layouts (numbers, octets and strings), read from the front and appended.
 
 ghost use Rattle.std.specs.Prelude.{◌≡◌, ◌++◌, ◌<◌, ◌^◌, length, OnOk};
 ghost use Rattle.std.specs.Int.{w16, w32, w64, to_be_bytes};
@@ -8,7 +8,7 @@ ghost use Rattle.hdl_value.specs.Reading.{Reads, number_at, octets_at, octet_at,
 use byteorder::{BigEndian, ByteOrder};
 use std::alloc::AllocError;
 
-/// The number in the first two octets, and what follows. None where there are fewer.
+/// The number in the first two octets, and the octets after it. None if there are fewer.
 pub fn u16_at(octets: &[u8]) -> Option<(u16, &[u8])>
     ensures { Reads (λ x. (x.0, x.1.now)) result (number_at w16 octets.now) }
 {
@@ -16,7 +16,7 @@ pub fn u16_at(octets: &[u8]) -> Option<(u16, &[u8])>
     Some((BigEndian::read_u16(front), rest))
 }
 
-/// The number in the first four octets, and what follows. None where there are fewer.
+/// The number in the first four octets, and the octets after it. None if there are fewer.
 pub fn u32_at(octets: &[u8]) -> Option<(u32, &[u8])>
     ensures { Reads (λ x. (x.0, x.1.now)) result (number_at w32 octets.now) }
 {
@@ -24,7 +24,7 @@ pub fn u32_at(octets: &[u8]) -> Option<(u32, &[u8])>
     Some((BigEndian::read_u32(front), rest))
 }
 
-/// The number in the first eight octets, and what follows.
+/// The number in the first eight octets, and the octets after it. None if there are fewer.
 pub(crate) fn u64_at(octets: &[u8]) -> Option<(u64, &[u8])>
     ensures { Reads (λ x. (x.0, x.1.now)) result (number_at w64 octets.now) }
 {
@@ -38,7 +38,7 @@ fn octets_at(octets: &[u8], count: u32) -> Option<(&[u8], &[u8])>
     octets.split_at_checked(count as usize)
 }
 
-/// The first octet, and what follows. None where there is none.
+/// The first octet, and the octets after it. None if there is none.
 pub fn octet_at(octets: &[u8]) -> Option<(u8, &[u8])>
     ensures { Reads (λ x. (x.0, x.1.now)) result (octet_at octets.now) }
 {
@@ -46,7 +46,8 @@ pub fn octet_at(octets: &[u8]) -> Option<(u8, &[u8])>
     Some((*first, rest))
 }
 
-/// The string at the front, four octets of length and that many, and what follows. None where the octets do not hold it.
+/// The string at the front, and the octets after it: a length in four octets, then that number of octets. None if the
+/// octets are fewer.
 #[tactic(auto, unfolding(crate::specs::Reading::string_at))]
 pub fn string_at(octets: &[u8]) -> Option<(&[u8], &[u8])>
     ensures { Reads (λ x. (x.0.now, x.1.now)) result (string_at octets.now) }
@@ -55,7 +56,7 @@ pub fn string_at(octets: &[u8]) -> Option<(&[u8], &[u8])>
     octets_at(rest, count)
 }
 
-/// Puts the two octets of the number at the end.
+/// Appends the number in two octets.
 pub fn put_u16(out: &mut Vec<u8>, number: u16) -> Result<(), AllocError>
     ensures { OnOk result (out.new.items ≡ out.old.items ++ to_be_bytes w16 number) }
 {
@@ -64,7 +65,7 @@ pub fn put_u16(out: &mut Vec<u8>, number: u16) -> Result<(), AllocError>
     out.extend_from_slice(&octets)
 }
 
-/// Puts the four octets of the number at the end.
+/// Appends the number in four octets.
 pub fn put_u32(out: &mut Vec<u8>, number: u32) -> Result<(), AllocError>
     ensures { OnOk result (out.new.items ≡ out.old.items ++ to_be_bytes w32 number) }
 {
@@ -81,7 +82,7 @@ pub(crate) fn put_u64(out: &mut Vec<u8>, number: u64) -> Result<(), AllocError>
     out.extend_from_slice(&octets)
 }
 
-/// Puts the string at the end: its length in four octets, and its octets. After a refusal the length may stand there.
+/// Appends the string: its length in four octets, then its octets. A refusal may leave the length.
 pub fn put_string(out: &mut Vec<u8>, octets: &[u8]) -> Result<(), AllocError>
     requires { length octets.now < 2 ^ 32 }
     ensures { OnOk result (out.new.items ≡ out.old.items ++ string octets.now) }

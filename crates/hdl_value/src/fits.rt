@@ -1,7 +1,8 @@
-//! What the types of a value's parts say of them: they fit their fields. A contract sees a number behind a reference, or inside
-//! an owned value, without its type's range; who passes it here by value has the range as a clause.
+//! The parts of a value fit their fields, as their types imply. A contract sees a number that is behind a reference, or
+//! inside an owned value, without the range of its type. A caller that passes the number here by value gets the range
+//! as a clause.
 //!
-//! Nothing is computed but the walk over the references.
+//! Nothing is computed except the walk over the references.
 
 ghost use Rattle.std.specs.Prelude.{◌≡◌, ◌<◌, ◌^◌, length};
 ghost use Rattle.std.specs.List.{AllByRecursion};
@@ -11,7 +12,7 @@ ghost use Rattle.hdl_value.specs.Spelling.{IsString, RefFits, CanBeSpelt, Fits};
 use crate::references::RawRef;
 use crate::value::Value;
 
-/// A number of 32 bits fits four octets.
+/// A number of 32 bits fits into four octets.
 pub fn number_fits(number: u32)
     ensures fits { number < 2 ^ 32 }
 {
@@ -37,14 +38,14 @@ fn ttl_fits(ttl: [u8; 5])
     let _ = ttl.as_slice();
 }
 
-/// Octets are octets.
+/// Each octet of a list is in the range of an octet.
 pub(crate) fn octets_fit(octets: &[u8])
     ensures fit { AreOctets octets.now }
 {
     let _ = octets;
 }
 
-/// Octets are a string, where their number fits four octets.
+/// Octets are a string if their length fits into four octets.
 pub fn string_fits(octets: &[u8])
     requires short { length octets.now < 2 ^ 32 }
     ensures fits { IsString octets.now }
@@ -69,7 +70,7 @@ fn refs_fit(refs: &[RawRef])
     }
 }
 
-/// The parts of a value fit their fields, where its lengths and counts do.
+/// The parts of a value fit their fields if its lengths and counts do.
 pub fn value_fits(value: &Value)
     requires short { CanBeSpelt value.now }
     ensures fits { Fits value.now }

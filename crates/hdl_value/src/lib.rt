@@ -1,20 +1,21 @@
-//! Values of handles, from octets and to octets.
+//! Values of handles: reading them from octets and writing them.
 //!
-//! A value has an index, a type, data, a TTL, a permission octet, a timestamp and references (RFC 3651, section 3.1; layout
-//! and limits are our profile: docs/PROTOCOL.md, "Values"). Contracts see the struct `Value` as it is declared: its octets
-//! and references are lists, so it is itself the mathematical value. `specs/Spelling.antt` has its one spelling,
-//! `specs/Data.antt` the data with a meaning, `specs/Fault.antt` the limits and the order of the faults.
+//! A value has an index, a type, data, a TTL, a permission octet, a timestamp and references (RFC 3651, section 3.1;
+//! layout and limits are our profile: docs/PROTOCOL.md, "Values"). Contracts see its octets and references as lists, so
+//! the struct `Value` is itself the mathematical value. `specs/Spelling.antt` defines its encoding, `specs/Data.antt`
+//! the data with a meaning, `specs/Fault.antt` the limits and the order of the faults.
 //!
-//! `read_value` gives a value that keeps the limits, or the first fault of the octets. `cut_value` goes by layout alone
-//! and copies nothing, for values inside a message. `admin_of` and `vlist_of` say what a value refers to, `Value::class`
-//! who may read it. Places (`specs/Place.antt`: a canonical handle and an index) are what tables, chains of lists and
-//! covers speak of.
+//! `read_value` returns a value that keeps the limits, or the first fault of the octets. `cut_value` checks the layout
+//! alone and copies nothing, for values inside a message. `admin_of` and `vlist_of` return what a value refers to;
+//! `Value::class` says who may read it. A place (`specs/Place.antt`) is a canonical handle and an index. Tables, chains
+//! of lists and covers are defined by places.
 //!
-//! `number_fits`, `string_fits` and `value_fits` say what the types of parts say: that they fit their fields. A writer of a grammar
-//! calls them to know that what it writes is spelt.
+//! `number_fits`, `string_fits` and `value_fits` state that parts fit their fields, as their types imply. A writer of a
+//! grammar calls them to know that its output is in the grammar.
 //!
-//! `specs/Reading.antt` has readers that are made of readers, with two laws (what is read is spelt there, what is spelt
-//! is read), proved once in `proofs/Codecs.antt`. The layouts above, as those of messages, are terms over these.
+//! `specs/Reading.antt` builds readers from readers, with two laws that are proved once in `proofs/Codecs.antt`: what
+//! is read is in the grammar, and what is in the grammar is read. The layouts of values and of messages are built from
+//! these readers.
 //!
 //! ```rust
 //! // crates/hdl_vectors/src/values.rt

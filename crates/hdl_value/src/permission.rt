@@ -1,9 +1,10 @@
-//! What a value permits to anybody and to administrators, and what an administrator's mask permits.
+//! The permissions of a value, and those of an administrator's mask.
 
 ghost use Rattle.std.specs.Prelude.{◌≡◌};
 ghost use Rattle.hdl_value.specs.Permission.{permission_bit, admin_bit};
 
-/// The bits of a value's permission octet, under the names of RFC 3651, section 3.1. The other bits are kept and mean nothing.
+/// The bits of a value's permission octet, under the names of RFC 3651, section 3.1. Other bits are kept and have no
+/// meaning.
 #[derive(Clone, Copy, PartialEq, Eq)]
 pub enum Permission {
     /// Anybody may modify or remove the value (PUBLIC_WRITE).
@@ -44,17 +45,17 @@ pub enum AdminPermission {
     AddHandle = 0x0001,
     /// Delete_Handle: delete the handle.
     DeleteHandle = 0x0002,
-    /// Add_NA, which nothing asks for.
+    /// Add_NA: no operation needs it.
     AddNamingAuthority = 0x0004,
-    /// Delete_NA, which nothing asks for.
+    /// Delete_NA: no operation needs it.
     DeleteNamingAuthority = 0x0008,
-    /// Modify_Value: modify a value that is not HS_ADMIN and does not become so.
+    /// Modify_Value: modify a value that is not HS_ADMIN before or after the change.
     ModifyValue = 0x0010,
     /// Delete_Value: remove a value that is not HS_ADMIN.
     DeleteValue = 0x0020,
     /// Add_Value: add a value that is not HS_ADMIN.
     AddValue = 0x0040,
-    /// Modify_Admin: modify a value that is HS_ADMIN or becomes so.
+    /// Modify_Admin: modify a value that is HS_ADMIN before or after the change.
     ModifyAdmin = 0x0080,
     /// Remove_Admin: remove an HS_ADMIN value.
     RemoveAdmin = 0x0100,

@@ -1,4 +1,4 @@
-//! Reading of values: the layout, then the limits, then the data, then a copy.
+//! Reading of values: first the layout, then the limits, then the data. The copy comes last.
 
 ghost use Rattle.std.specs.Prelude.{◌≡◌, ◌≢◌, drop, length, IfOk, IfErr, MatchResult};
 ghost use Rattle.hdl_value.specs.Spelling.{spelling, CanBeSpelt};
@@ -14,7 +14,7 @@ use crate::value::Value;
 use hdl_limits::{DATA_MAX, Octets, REFERENCES_MAX, TYPE_MAX};
 use std::alloc::{AllocError, Global};
 
-/// The first fault of a value that was cut by layout. It takes no memory.
+/// The first fault of a value that has the layout. Takes no memory.
 pub(crate) fn check(raw: &RawValue<'_>) -> Result<(), ValueFault>
     requires { IsWhole raw.now.references }
     ensures { MatchResult result (λ _. IsSound (value_view raw.now)) (λ e. IsFirstFault (value_view raw.now) e × (e ≢ ValueFault.Memory)) }
@@ -58,11 +58,12 @@ pub(crate) fn copy_of(alloc: Global, raw: &RawValue<'_>) -> Result<Value, AllocE
     })
 }
 
-/// Reads the value at the front, and tells how many octets it takes. Octets may stand behind it.
+/// Reads the value at the front, and returns how many octets it takes. Further octets may follow.
 ///
-/// Refuses, in this order: Short where the octets do not hold the layout; IndexZero; TypeLong over 255 octets; DataLong over
-/// 32,768; RefsMany over 64; BadAdmin and BadList where data with a meaning is not of its layout or names no handle; Memory,
-/// which is asked for only where there is no other fault. A length or a count that lies is Short, before anything is copied.
+/// Refusals, the first that applies: Short if the octets don't hold the layout; IndexZero; TypeLong over 255 octets;
+/// DataLong over 32,768; RefsMany over 64; BadAdmin or BadList if data with a meaning doesn't have its layout, or its
+/// handle is not a name; Memory, which is taken only if there is no other fault. A length or count beyond the octets is
+/// Short, and nothing is copied.
 pub fn read_value(alloc: Global, octets: &[u8]) -> Result<(Value, usize), ValueFault>
     ensures begins { IfOk result (λ x. Begins octets.now x.0 (drop x.1 octets.now)) }
     ensures count { IfOk result (λ x. x.1 ≡ length (spelling x.0)) }

@@ -1,4 +1,4 @@
-//! References of a value: as it holds them, and where they stand in octets.
+//! References of a value: owned, and in place.
 
 ghost use Rattle.std.specs.Prelude.{◌≡◌, ◌++◌, ◌<◌, ◌^◌, length, IfSome, IfOk, OnOk};
 ghost use Rattle.std.specs.List.{AllByRecursion};
@@ -11,7 +11,7 @@ use crate::fields::{put_string, put_u32, string_at, u32_at};
 use hdl_limits::{Items, Octets};
 use std::alloc::{AllocError, Global};
 
-/// A reference as it is spelt: a handle, which may be no name, and an index.
+/// A reference as it was sent: a handle, which need not be a name, and an index.
 #[derive(Drop)]
 pub struct RawRef {
     pub handle: Octets,
@@ -21,14 +21,14 @@ pub struct RawRef {
 /// The references of a value.
 pub type RawRefs = Items<RawRef>;
 
-/// A reference where it stands in the octets.
+/// A reference in place.
 #[derive(Clone, Copy)]
 pub(crate) struct RawReference<'a> {
     pub handle: &'a [u8],
     pub index: u32,
 }
 
-/// References where they stand in the octets: how many, and their octets.
+/// References in place: their number, and their octets.
 #[derive(Clone, Copy)]
 pub(crate) struct RawReferences<'a> {
     pub count: u32,
@@ -44,7 +44,7 @@ pub(crate) fn reference_at(octets: &[u8]) -> Option<(RawReference<'_>, &[u8])>
     Some((RawReference { handle, index }, rest))
 }
 
-/// What stands behind so many references. A count that lies ends where the octets do.
+/// The octets after `count` references. A count beyond the octets is refused.
 fn skip_references(count: u32, octets: &[u8]) -> Option<&[u8]>
     ensures { Reads (λ x. x.now) result (option_map (λ x. x.1) (many_at ref_at count octets.now)) }
 {
@@ -74,7 +74,7 @@ pub(crate) fn references_at(octets: &[u8]) -> Option<(RawReferences<'_>, &[u8])>
     references_in(count, rest)
 }
 
-/// The references that stand there, each with its handle copied.
+/// Copies the references.
 pub(crate) fn copied_references(
     alloc: Global,
     refs: &RawReferences<'_>,
@@ -96,7 +96,7 @@ pub(crate) fn copied_references(
     Ok(references)
 }
 
-/// The references that the octets spell, if they spell a count and that many and nothing else.
+/// The references, if the octets are a count, that number of references, and nothing else.
 #[tactic(auto, unfolding(crate::specs::Reading::whole_of))]
 pub fn read_references(alloc: Global, octets: &[u8]) -> Result<Option<Vec<RawRef>>, AllocError>
     ensures { IfOk result (λ o. option_map (λ v. v.items) o ≡ whole_of refs_at octets.now) }
@@ -115,7 +115,7 @@ fn put_reference(out: &mut Vec<u8>, r: &RawRef) -> Result<(), AllocError>
     put_u32(out, r.index)
 }
 
-/// Puts the count and the references at the end. After a refusal a part may stand there.
+/// Appends the count and the references. A refusal may leave a part of them.
 pub fn put_references(out: &mut Vec<u8>, refs: &[RawRef]) -> Result<(), AllocError>
     requires count { length refs.now < 2 ^ 32 }
     requires handles { AllByRecursion (λ r. length r.handle < 2 ^ 32) refs.now }

@@ -41,7 +41,7 @@ impl Value {
         self.permissions & permission.bit() != 0
     }
 
-    /// Who may read the value: anybody, an administrator alone, or nobody.
+    /// Who may read the value: anybody, administrators only, or nobody.
     pub fn class(&self) -> Class
         ensures { result ≡ class_of self.now }
     {
@@ -75,7 +75,7 @@ impl Value {
         self.kind.as_slice() == HS_SECKEY
     }
 
-    /// An equal value, in memory of its own.
+    /// A copy of the value.
     pub fn copy(&self, alloc: Global) -> Result<Value, AllocError>
         ensures { IfOk result (λ v. v ≡ self.now) }
     {

@@ -13,10 +13,10 @@ use crate::value::Value;
 use crate::write::put_value;
 use std::alloc::AllocError;
 
-/// By whose layout values stand in messages. All else of a message is the same.
+/// The layout of values in messages. All other parts of a message are the same in both.
 #[derive(Clone, Copy, Debug, PartialEq, Eq)]
 pub enum Wire {
-    /// Our profile's, which [`Value`] shows.
+    /// Our profile's, as [`Value`] documents it.
     Profile,
     /// That of the Handle.Net software. The fields in order:
     ///
@@ -32,7 +32,7 @@ pub enum Wire {
     HandleNet,
 }
 
-/// The second of a moment in milliseconds; the last one that four octets say stands for all after it.
+/// The second of a time in milliseconds. Later times than four octets can count become the last second that they can.
 fn second_of(moment: u64) -> u32
     ensures { result ≡ second_of moment }
 {
@@ -57,7 +57,7 @@ fn put_net_value(out: &mut Vec<u8>, value: &Value) -> Result<(), AllocError>
 }
 
 impl Wire {
-    /// The value at the front, and what follows it, as [`cut_value`] has them by our profile's layout.
+    /// The value at the front, and the octets after it, as [`cut_value`] returns them for our profile's layout.
     pub fn cut(self, octets: &[u8]) -> Option<(CutValue<'_>, &[u8])>
         ensures { Reads (λ x. (x.0, x.1.now)) result (wire_value_at self octets.now) }
     {
@@ -67,7 +67,7 @@ impl Wire {
         }
     }
 
-    /// Puts the spelling of the value at the end, under the condition of [`put_value`]. After a refusal a part of it may stand there.
+    /// Appends the encoding of the value, under the condition of [`put_value`]. A refusal may leave a part of it.
     pub fn put(self, out: &mut Vec<u8>, value: &Value) -> Result<(), AllocError>
         requires { CanBeSpelt value.now }
         ensures { OnOk result (out.new.items ≡ out.old.items ++ wire_spelling self value.now) }
