@@ -1,4 +1,4 @@
--- Digests by hash function, and how they are spelt (docs/PROTOCOL.md, "Challenge and response").
+-- Digests by hash function, and their encoding (docs/PROTOCOL.md, "Challenge and response").
 use Rattle.std.specs.Prelude.{ℕ, List, ◌∷◌}
 use Rattle.sha1.specs.Sha1.{sha1}
 use Rattle.sha2.specs.Sha256.{sha256}

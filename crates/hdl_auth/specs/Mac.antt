@@ -11,7 +11,7 @@ use Rattle.hdl_auth.specs.Digest.{octet_of, size_of, digest_of, algorithm_of, oc
 abbrev pub mac_of : List ℕ → List ℕ → Digest → Digest
 mac_of key nonce d = digest_of (algorithm_of d) (key ++ nonce ++ octets_of d ++ key)
 
--- the response string that answers a challenge: the keyed digest as it is spelt
+-- the response that answers a challenge: the keyed digest in its encoding
 abbrev pub right_response : List ℕ → List ℕ → Digest → List ℕ
 right_response key nonce d = digest_spelling (mac_of key nonce d)
 
@@ -27,7 +27,7 @@ is_good Good = true
 is_good BadForm = false
 is_good Wrong = false
 
--- what a response string is to a challenge
+-- the verdict on a response to a challenge
 abbrev pub verdict : List ℕ → List ℕ → Digest → List ℕ → Verdict
 verdict key nonce d response =
     if has_response_form (algorithm_of d) response

@@ -1,4 +1,4 @@
--- Masks that are kept, and when they are a table's.
+-- Cached masks, and when they are those of a table.
 use Rattle.std.specs.Prelude.{ℕ, List, Bool, ◌&&◌, bytes_eq, nat_eq, map, Option, Contains}
 use Rattle.hdl_limits.specs.declared.TheConstants.{MASKS_MAX}
 use Rattle.hdl_value.specs.Place.{Place}
@@ -9,7 +9,7 @@ use Rattle.hdl_reach.specs.Views.{mask_of}
 use Rattle.lru.specs.LruCache.{lru_cache, put_entries}
 use Rattle.hdl_cache.specs.declared.pair.Pair.{Pair}
 
--- the key whose mask is kept, and the handle for which
+-- the key whose mask is cached, and the handle for which
 pub record Subject : Type 0 where
   pub handle : List ℕ
   pub key : Place
@@ -17,7 +17,7 @@ pub record Subject : Type 0 where
 abbrev pub subject : List ℕ → Place → Subject
 subject h k = record { handle = h; key = k }
 
--- a mask that is kept, or that there is none
+-- a cached mask, or that there is none
 abbrev pub Kept : Type 0
 Kept = Subject × Option ℕ
 
@@ -28,11 +28,11 @@ same_subject a b = bytes_eq a.handle b.handle && (bytes_eq a.key.handle b.key.ha
 abbrev pub is_subject : List ℕ → Place → Subject → Bool
 is_subject h k = same_subject (subject h k)
 
--- one more, the most recently used; of as many others as are kept the least recently used is gone
+-- one more, the most recently used; if the cache is full, the least recently used is dropped
 abbrev pub with_mask : List Kept → Subject → Option ℕ → List Kept
 with_mask kept a m = put_entries same_subject (lru_cache kept MASKS_MAX) a m
 
--- the masks that are kept are the table's
+-- the cached masks are the table's
 abbrev pub AreMasks : Table → List Kept → Type 0
 AreMasks t kept = (e : Kept) → Contains kept e → IsMask t e.0.handle e.0.key e.1
 

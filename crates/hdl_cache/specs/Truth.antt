@@ -1,4 +1,4 @@
--- What is known of administrators, and when it is a table's.
+-- What is known of administrators, and when it is true of a table.
 use Rattle.std.specs.Prelude.{All, IfSome}
 use Rattle.hdl_rows.specs.Table.{Table}
 use Rattle.hdl_reach.specs.Search.{IsSearch}
@@ -9,7 +9,7 @@ use Rattle.hdl_reach.specs.Views.{mask_of}
 use Rattle.hdl_cache.specs.declared.last.LastMask.{LastMask}
 use Rattle.hdl_cache.specs.Masks.{AreMasks, subject_of}
 
--- the masks that are kept, and the searches, are the table's
+-- the cached masks, and the searches, are the table's
 abbrev pub AreTrue : Table → MasksAndSearches → Type 0
 AreTrue t m = AreMasks t m.kept × All (IsSearch t) m.searches.items
 

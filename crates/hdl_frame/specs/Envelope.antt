@@ -58,11 +58,11 @@ is_encrypted e = has_flag e 0x4000
 abbrev pub is_truncated : Envelope → Bool
 is_truncated e = has_flag e 0x2000
 
--- a piece that would begin at or behind the message's end; the product doesn't wrap
+-- a piece that would begin at or after the message's end; the product doesn't wrap
 abbrev pub is_past_end : Envelope → Bool
 is_past_end e = is_truncated e && nat_le e.length (PIECE_LEN * e.sequence)
 
--- the first fault in the order of the tests; none where the envelope is accepted
+-- the first fault in the order of the tests; none if the envelope is accepted
 unfoldable pub fault_of : Envelope → Option FrameFault
 fault_of e =
     if not (e.major == 2) then Some (Version e)

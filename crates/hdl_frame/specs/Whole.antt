@@ -20,12 +20,12 @@ pub record MakeMessage (pieces : List Piece) (len : ℕ) (message : List ℕ) : 
   pub whole : length message ≡ len
   pub each : (k : ℕ) → k < piece_count len → payload_of pieces k ≡ Some (stretch message k)
 
--- a payload before those that follow it, where these came
+-- a payload before those that follow it, if these came
 abbrev pub before : List ℕ → Option (List ℕ) → Option (List ℕ)
 before payload None = None
 before payload (Some rest) = Some (payload ++ rest)
 
--- the payloads one after the other, where each came; else none
+-- the payloads one after the other, if each came; else none
 abbrev pub whole_payload : List (Option (List ℕ)) → Option (List ℕ)
 whole_payload [] = Some []
 whole_payload (None ∷ rest) = None
@@ -35,7 +35,7 @@ whole_payload (Some payload ∷ rest) = before payload (whole_payload rest)
 abbrev pub payloads_of : List Piece → ℕ → List (Option (List ℕ))
 payloads_of pieces len = map (payload_of pieces) (range_with_len 0 (piece_count len))
 
--- the message that pieces make, where each of its numbers came; else none
+-- the message that pieces make, if each of its numbers came; else none
 abbrev pub message_of : List Piece → ℕ → Option (List ℕ)
 message_of pieces len = whole_payload (payloads_of pieces len)
 

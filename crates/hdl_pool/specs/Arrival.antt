@@ -1,4 +1,4 @@
--- A piece as the code hands it on.
+-- A piece as the code passes it on.
 use Rattle.hdl_pool.specs.declared.piece.Arrival.{Arrival}
 use Rattle.hdl_pool.specs.Partial.{Piece}
 

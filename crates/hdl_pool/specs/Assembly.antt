@@ -1,4 +1,4 @@
--- A partial message where its payloads lie.
+-- A partial message of the code, as the definitions see it.
 use Rattle.std.specs.Prelude.{ℕ, List, map, Option, option_map, is_none, count_by}
 use Rattle.std.specs.Global.{Vec}
 

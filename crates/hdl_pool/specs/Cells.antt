@@ -10,15 +10,15 @@ use Rattle.hdl_pool.specs.Partial.{Partial, is_of}
 abbrev pub cells_at : List (List (Option Partial)) → ℕ → List (Option Partial)
 cells_at cells lane = slice_index_or cells lane []
 
--- what one cell has
+-- the contents of one cell
 abbrev pub cell_at : List (List (Option Partial)) → ℕ → ℕ → Option Partial
 cell_at cells lane place = slice_index_or (cells_at cells lane) place None
 
--- what the cells of a lane have, in their order
+-- the contents of the cells of a lane, in their order
 abbrev pub contents : List (Option Partial) → List Partial
 contents = filter_map (λ content. content)
 
--- what the cells of all lanes have
+-- the contents of the cells of all lanes
 abbrev pub lanes_of : List (List (Option Partial)) → List (List Partial)
 lanes_of = map contents
 

@@ -1,5 +1,4 @@
--- What follows from the definitions: a partial message is what came of it, and what makes it whole gives the message of its
--- pieces (docs/PROTOCOL.md, "Frames and pieces").
+-- What follows from the definitions: a partial message is the pieces that came, and a whole one is the message of its pieces (docs/PROTOCOL.md, "Frames and pieces").
 use Rattle.std.specs.Prelude.{◌≡◌, ◌≢◌, ℕ, ◌≤◌, List, [], ◌∷◌, ◌++◌, length, find, Some, None}
 use Rattle.hdl_frame.specs.Whole.{Piece as Numbered, payload_of, payloads_of, MakeMessage, HaveTheirLength}
 use Rattle.hdl_limits.specs.declared.TheConstants.{PARTIALS_MAX}
@@ -24,7 +23,7 @@ abbrev pub KeptIsCollected : Type 0
 KeptIsCollected = (pieces : List Numbered) (piece : Piece) → IsPiece piece → (after_piece (collect piece.key piece.length pieces) piece).0 ≡ kept
     → (after_piece (collect piece.key piece.length pieces) piece).1 ≡ collect piece.key piece.length (pieces ++ numbered_piece piece ∷ [])
 
--- a piece whose number came is ignored, and says nothing new
+-- a piece whose number came is ignored, and changes nothing
 abbrev pub RepeatedIsIgnored : Type 0
 RepeatedIsIgnored = (pieces : List Numbered) (piece : Piece) (payload : List ℕ) → IsPiece piece → payload_of pieces piece.number ≡ Some payload
     → after_piece (collect piece.key piece.length pieces) piece ≡ (ignored, collect piece.key piece.length (pieces ++ numbered_piece piece ∷ []))
@@ -39,7 +38,7 @@ abbrev pub MessageIsWhole : Type 0
 MessageIsWhole = (pieces : List Numbered) (piece : Piece) (message : List ℕ) → IsPiece piece → payload_of pieces piece.number ≡ None
     → MakeMessage (pieces ++ numbered_piece piece ∷ []) piece.length message → (after_piece (collect piece.key piece.length pieces) piece).0 ≡ made_whole message
 
--- what came of a message is what came before the piece, grown by the piece
+-- after a piece, what came of the message is what came before and the piece
 abbrev pub TakenIsSoFar : Type 0
 TakenIsSoFar = (lane : List Partial) (piece : Piece) → so_far (take_piece lane piece).1 piece ≡ (after_piece (so_far lane piece) piece).1
 
@@ -51,6 +50,6 @@ OthersStay = (lane : List Partial) (piece : Piece) (key : MessageKey) → key �
 abbrev pub FreedIsGone : Type 0
 FreedIsGone = (lane : List Partial) (key : MessageKey) → find (is_of key) (free_partial lane key) ≡ None
 
--- a lane keeps to four
+-- a lane has at most four
 abbrev pub AtMostFour : Type 0
 AtMostFour = (lane : List Partial) (piece : Piece) → length lane ≤ PARTIALS_MAX → length (take_piece lane piece).1 ≤ PARTIALS_MAX

@@ -19,7 +19,7 @@ pub record IsPiece (piece : Piece) : Type 0 where
   pub begins : PIECE_LEN * piece.number < piece.length
   pub limit : piece.length ≤ MESSAGE_MAX
 
--- a partial message: whose it is, how long, and by number the payload of the first piece with it, where one came
+-- a partial message: whose it is, how long, and for each number the payload of the first piece with it, if one came
 pub record Partial : Type 0 where
   pub key : MessageKey
   pub length : ℕ
@@ -54,6 +54,6 @@ payload_at p number = slice_index_or p.pieces number None
 abbrev pub with_payload : Partial → ℕ → List ℕ → Partial
 with_payload p number payload = record p { pieces = slice_set p.pieces number (Some payload) }
 
--- the message, where every piece came
+-- the message, if every piece came
 abbrev pub whole : Partial → Option (List ℕ)
 whole p = whole_payload p.pieces

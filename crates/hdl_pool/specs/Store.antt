@@ -1,15 +1,15 @@
--- Where the cells lie: in the slots of a slab. The slots' keys stand in a table, four for each lane, lane by lane.
+-- The cells are slots of a slab. A table has the slots' keys, four for each lane, lane by lane.
 use Rattle.std.specs.Prelude.{◌≡◌, ◌≢◌, ℕ, zero, suc, ◌*◌, ◌<◌, List, [], ◌∷◌, length, map, take, drop, slice_index, Option, None, IsSome, unwrap_or}
 use Rattle.slab.specs.Slab.{Slab, get}
 use Rattle.hdl_limits.specs.declared.TheConstants.{LANES, PARTIALS_MAX}
 use Rattle.hdl_pool.specs.Partial.{Partial}
 
--- a list cut into so many lists of four
+-- a list cut into this number of lists of four
 unfoldable pub fours : {A : Type 0} → ℕ → List A → List (List A)
 fours zero xs = []
 fours (suc n) xs = take PARTIALS_MAX xs ∷ fours n (drop PARTIALS_MAX xs)
 
--- what the slot with this key has
+-- the contents of the slot with this key
 abbrev pub content_at : Slab (Option Partial) → ℕ → Option Partial
 content_at slab key = unwrap_or (get slab key) None
 

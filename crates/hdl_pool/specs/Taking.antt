@@ -8,7 +8,7 @@ use Rattle.hdl_pool.specs.declared.taken.Taken.{Taken}
 use Rattle.hdl_pool.specs.declared.taken.Taken.TheVariants.{Whole, Kept, Ignored, Displaced}
 use Rattle.hdl_pool.specs.Partial.{Piece, Partial, is_of, nothing_of, payload_at, with_payload, whole}
 
--- what became of a piece: it made this message whole, or it was kept, ignored, or kept in the place of the oldest message
+-- what became of a piece: it made this message whole, or it was kept, ignored, or kept in place of the oldest message
 pub data Fate : Type 0 where
   made_whole : (message : List ℕ) → Fate
   kept : Fate
@@ -31,13 +31,13 @@ is_ignored p piece = not (nat_eq p.length piece.length) || is_some (payload_at p
 abbrev pub with_piece : Partial → Piece → Partial
 with_piece p piece = with_payload p piece.number piece.payload
 
--- what becomes of a piece, and of its partial message: where the piece makes it whole, it stays as it was
+-- what becomes of a piece, and of its partial message: if the piece makes it whole, it stays as it was
 abbrev pub after_piece : Partial → Piece → Fate × Partial
 after_piece p piece =
     if is_ignored p piece then (ignored, p)
     else option_map_or (λ message. (made_whole message, p)) (whole (with_piece p piece)) (kept, with_piece p piece)
 
--- the lane with this partial message in the place of the one with this key
+-- the lane with this partial message in place of the one with this key
 abbrev pub replace_partial : MessageKey → Partial → List Partial → List Partial
 replace_partial key more [] = []
 replace_partial key more (p ∷ ps) = if is_of key p then more ∷ ps else p ∷ replace_partial key more ps

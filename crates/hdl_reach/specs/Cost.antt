@@ -1,4 +1,4 @@
--- What is read of a table, as the table counts what it gives.
+-- What is read of a table, as its calls count it.
 use Rattle.std.specs.Prelude.{◌≤◌, ℕ, ◌+◌, List}
 use Rattle.hdl_value.specs.Place.{Place}
 use Rattle.hdl_rows.specs.declared.reads.TheConstants.{CALL_OCTETS}

@@ -1,4 +1,4 @@
--- What a search knows of places.
+-- What is known of places during a search.
 use Rattle.std.specs.Prelude.{◌≡◌, ◌≢◌, ◌⊎◌, ⊤, ℕ, List, Bool, true, false, if◌then◌else◌, nat_eq, bit_or, Option, Some, None, option_map, IsTrue}
 use Rattle.std.specs.BTreeMap.{get_by}
 use Rattle.hdl_value.specs.Place.{Place, place_cmp, same_place}
@@ -32,7 +32,7 @@ abbrev pub waits : Option (ℕ × Bool) → Bool
 waits None = false
 waits (Some m) = m.1
 
--- with one mask more: a place waits, where that has bits which weren't known
+-- with one more mask: a place waits if the mask has new bits
 abbrev pub raised : Option (ℕ × Bool) → ℕ → ℕ × Bool
 raised None m = (m, true)
 raised (Some k) m = if nat_eq (bit_or k.0 m) k.0 then k else (bit_or k.0 m, true)
@@ -41,7 +41,7 @@ raised (Some k) m = if nat_eq (bit_or k.0 m) k.0 then k else (bit_or k.0 m, true
 abbrev pub raised_at : (Place → Option (ℕ × Bool)) → List Place → ℕ → Place → Option (ℕ × Bool)
 raised_at known ps m q = if is_among q ps then Some (raised (known q) m) else known q
 
--- the same of each place, but one waits no more
+-- the same of each place, but one no longer waits
 abbrev pub settled_at : (Place → Option (ℕ × Bool)) → Place → Place → Option (ℕ × Bool)
 settled_at known p q = if same_place q p then option_map (λ (k : ℕ × Bool). (k.0, false)) (known q) else known q
 

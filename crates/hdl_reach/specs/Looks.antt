@@ -21,7 +21,7 @@ all_bits (g ∷ gs) = bit_or g.0 (all_bits gs)
 abbrev pub all_places : Table → List (ℕ × Place) → List Place
 all_places t gs = map (λ (g : ℕ × Place). g.1) gs ++ flat_map (λ (e : Place × Value). listed_places e.1) (map.entries t.values)
 
--- how much a mask may still rise, if it has no other bits than all of these
+-- how much a mask may still rise, if it has no bits but all of these
 abbrev pub lack : ℕ → Option ℕ → ℕ
 lack all None = all + 1
 lack all (Some m) = all - m
@@ -31,7 +31,7 @@ abbrev pub lacks : ℕ → List Place → Found → ℕ
 lacks all [] f = 0
 lacks all (p ∷ ps) f = lack all (mask_at f p) + lacks all ps f
 
--- Each that waits is looked up, and a place waits anew only if its mask rose.
+-- Each place that waits is looked up, and a place waits again only if its mask rose.
 abbrev pub looks : ℕ → List Place → Found → ℕ
 looks all ps f = 2 * lacks all ps f + length f.waiting.items
 

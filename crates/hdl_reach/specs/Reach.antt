@@ -15,7 +15,7 @@ abbrev pub listed_in : Option Value → List Place
 listed_in None = []
 listed_in (Some v) = listed_places v
 
--- the places that the HS_VLIST value at this place lists; none where no such value stands
+-- the places that the HS_VLIST value at this place lists; none if there is no such value
 abbrev pub lists : Table → Place → List Place
 lists t p = listed_in (at t p)
 
@@ -42,6 +42,6 @@ IsUnion t k so_far [] m = m ≡ so_far
 IsUnion t k so_far (g ∷ gs) m =
     (IsChain t g.1 k × IsUnion t k (Some (join_masks so_far g.0)) gs m) ⊎ ((IsChain t g.1 k → ⊥) × IsUnion t k so_far gs m)
 
--- the mask of k for the handle: the union of all that lead to k, and none where there is none
+-- the mask of k for the handle: the union of all masks that lead to k, and none if there is no such mask
 abbrev pub IsMask : Table → List ℕ → Place → Option ℕ → Type 0
 IsMask t h k m = IsUnion t k None (grants (values_of t h)) m

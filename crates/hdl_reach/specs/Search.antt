@@ -30,11 +30,11 @@ pub record IsSearched (on : Place → List Place) (P : Place → Type 0) (starts
 
 -- ---- the masks that lead to places, from the grants of a handle over lists
 
--- each grant's mask is within what stands at its place
+-- each grant's mask is within the one at its place
 abbrev pub IsGranted : List (ℕ × Place) → (Place → Option ℕ) → Type 0
 IsGranted gs masks = AllByRecursion (λ g. IsWithin (Some g.0) (masks g.1)) gs
 
--- what stands at a place is within what stands at each that it lists
+-- the mask at a place is within that of each place that it lists
 abbrev pub PassesOn : Table → (Place → Option ℕ) → Place → Type 0
 PassesOn t masks p = (q : Place) → IsTrue (is_among q (lists t p)) → IsWithin (masks p) (masks q)
 
@@ -61,7 +61,7 @@ IsSearch t s = IsFound t (grants (values_of t (handle_of s))) s.found
 abbrev pub IsDone : Search → Type 0
 IsDone s = length s.found.waiting.items ≡ 0
 
--- No mask loses a bit or goes, and somewhere one came or gained a bit, or else fewer references wait.
+-- No mask loses a bit, and no place is dropped. Some place or bit is new, or else fewer references wait.
 pub record IsFurther (old new : Search) : Type 0 where
   pub stays : (p : Place) → IsWithin (mask_at old.found p) (mask_at new.found p)
   pub gained : ((p : Place) × (mask_at new.found p ≢ mask_at old.found p)) ⊎ (length new.found.waiting.items < length old.found.waiting.items)

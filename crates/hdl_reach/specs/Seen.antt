@@ -22,11 +22,11 @@ place_at k = record { handle = k.0.items; index = k.1 }
 abbrev pub key_cmp : PlaceKey → PlaceKey → Ordering
 key_cmp j k = place_cmp (place_at j) (place_at k)
 
--- seen, with one more unless it was seen
+-- seen, and one more place unless it was seen
 abbrev pub with_place : List Place → Place → List Place
 with_place seen p = if is_among p seen then seen else seen ++ p ∷ []
 
--- New has the places of old, and behind them those of more that old lacks, each once.
+-- New has the places of old, and after them those of more that old lacks, each once.
 pub record Extends (old more new : List Place) : Type 0 where
   pub tail : List Place
   pub is : new ≡ old ++ tail

@@ -1,4 +1,4 @@
--- The code's grants and masks, as the definitions speak of them.
+-- The code's grants and masks, as the definitions see them.
 use Rattle.std.specs.Prelude.{ℕ, List, map, Option, option_map}
 use Rattle.hdl_value.specs.Place.{Place}
 use Rattle.hdl_value.specs.Refs.{place_of}

@@ -3,12 +3,12 @@ use Rattle.std.specs.Prelude.{refl, Bool, true, false}
 use Rattle.std.specs.Coded.{Coded, code_by, coded×, coded_bool}
 use Rattle.hdl_rows.specs.declared.owing.Owed.{Owed}
 
--- whether a table hands writes over to be made beside it, and whether it owes one: it was handed over, and no call has claimed it yet
+-- whether a table hands writes over to another thread, and whether it owes one: it was handed over, and no call has claimed it yet
 pub record Debt : Type 0 where
   pub hands_over : Bool
   pub owes : Bool
 
--- of a table whose writes are each made by their call
+-- of a table whose calls make their writes themselves
 abbrev pub nothing : Debt
 nothing = record { hands_over = false; owes = false }
 

@@ -12,29 +12,29 @@ next_call w = min (w.calls + 1) most
 abbrev pub is_blown : Wire → Bool
 is_blown w = nat_le w.first (next_call w) && nat_le (next_call w) w.last
 
--- the wire once that call was counted, and its refusal if it was refused
+-- the wire after this call was counted, and its refusal if it was refused
 abbrev pub after_call : Wire → Wire
 after_call w = record w { calls = next_call w; refusals = if is_blown w then min (w.refusals + 1) most else w.refusals }
 
--- what a fuse has of its own, and the table behind it
+-- what a fuse has of its own, and the inner table
 abbrev pub wire_of : {R : Type 0} → Fuse R → Wire
 wire_of fuse = fuse.wire
 
 abbrev pub inner_of : {R : Type 0} → Fuse R → R
 inner_of fuse = fuse.inner
 
--- both counts, held at the greatest
+-- both counts, up to the greatest
 abbrev pub refusals_of : {R : Type 0} → (R → ℕ) → Fuse R → ℕ
 refusals_of refused fuse = min (refused (inner_of fuse) + (wire_of fuse).refusals) most
 
--- what the table behind the fuse gave
+-- what the inner table returned
 abbrev pub reads_of : {R : Type 0} → (R → ℕ) → Fuse R → ℕ
 reads_of reads fuse = reads (inner_of fuse)
 
--- A call that the fuse refuses is answered so, and doesn't reach the inner table.
+-- A call that the fuse refuses fails, and doesn't reach the inner table.
 abbrev pub Blows : {R X E : Type 0} → Fuse R → Fuse R → Result X E → Type 0
 Blows old new result = is_blown (wire_of old) ≡ true → IsErr result × (inner_of new ≡ inner_of old)
 
--- Any other is the inner table's to answer or to refuse.
+-- The inner table answers or refuses any other call.
 abbrev pub Passes : {R X E : Type 0} → (R → ℕ) → Fuse R → Fuse R → Result X E → Type 0
 Passes refused old new result = is_blown (wire_of old) ≡ false → refused (inner_of new) ≡ refusals_after result (refused (inner_of old))

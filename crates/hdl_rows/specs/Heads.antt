@@ -1,4 +1,4 @@
--- The heads of values: all that a value is but its data and its references.
+-- The heads of values: all but their data and their references.
 use Rattle.std.specs.Prelude.{ℕ, List, [], map}
 use Rattle.hdl_value.specs.declared.value.Value.{Value}
 use Rattle.hdl_rows.specs.Table.{Table, values_of}

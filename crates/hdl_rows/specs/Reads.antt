@@ -1,4 +1,4 @@
--- What a table gave: octets, counted as they are given.
+-- What a table's calls returned, counted in octets.
 use Rattle.std.specs.Prelude.{ℕ, ◌+◌, List, Option, Some, None, Result, Ok, Err, length, sum_by}
 use Rattle.hdl_limits.specs.Counts.{at_most_u64}
 use Rattle.hdl_value.specs.declared.references.RawRef.{RawRef}
@@ -23,7 +23,7 @@ name_octets h = NAME_OCTETS + length h
 abbrev pub names_octets : List (List ℕ) → ℕ
 names_octets hs = sum_by name_octets hs
 
--- ---- what a call gives
+-- ---- what a call returns
 
 abbrev pub nothing : {X : Type 0} → X → ℕ
 nothing x = 0
@@ -32,7 +32,7 @@ abbrev pub of_value : Option Value → ℕ
 of_value None = 0
 of_value (Some v) = value_octets v
 
--- The count after a call: the call itself, and what it gave. A call that is refused gave nothing, and doesn't count.
+-- The count after a call: the call itself, and what it returned. A call that is refused returned nothing, and doesn't count.
 abbrev pub reads_after : {X E : Type 0} → (X → ℕ) → Result X E → ℕ → ℕ
 reads_after given (Ok x) n = at_most_u64 (n + (CALL_OCTETS + given x))
 reads_after given (Err e) n = n

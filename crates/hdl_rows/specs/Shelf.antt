@@ -1,4 +1,4 @@
--- The table that the entries of a map are, each a handle with its values.
+-- The table as the entries of a map, each a handle with its values.
 use Rattle.std.specs.Prelude.{Vec, ℕ, List, [], ◌∷◌, ◌++◌, ◌≡◌, true, map, IsTrue}
 use Rattle.std.specs.declared.alloc.Global.{Global}
 use Rattle.std.specs.List.{flat_map, AllByRecursion}
@@ -34,7 +34,7 @@ pub record AreInOrder (es : List (List ℕ × List Value)) : Type 0 where
   pub handles : IsTrue (is_sorted handle_cmp es)
   pub values : AllByRecursion (λ e. IsTrue (is_sorted nat_cmp (by_index e.1))) es
 
--- values by index, with others put among them one by one, each over what stood there
+-- values by index, with others put among them one by one, each replacing the one at its index
 abbrev pub put_all : List (ℕ × Value) → List Value → List (ℕ × Value)
 put_all es [] = es
 put_all es (v ∷ vs) = put_all (put nat_cmp v.index v es) vs

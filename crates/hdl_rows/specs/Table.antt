@@ -1,4 +1,4 @@
--- What a table holds, what is read of it, and what each write makes of it.
+-- The contents of a table, what is read of it, and the effect of each write.
 use Rattle.std.specs.Prelude.{refl, Vec, ℕ, ◌+◌, ◌^◌, ◌-◌, min, List, [], ◌∷◌, Bool, true, not, ◌==◌, map, find, Option, Some, None, Result, Ok, Err, OnOk, OnErr, ◌⊎◌, ◌≡◌, ◌≢◌}
 use Rattle.std.specs.List.{AllByRecursion}
 use Rattle.std.specs.declared.alloc.Global.{Global}
@@ -33,7 +33,7 @@ at t p = map.get t.values p
 abbrev pub values_of : Table → List ℕ → List Value
 values_of t h = map.values (map.retain_keys t.values (λ p. same_handle p.handle h))
 
--- the values that were found, none where the handle is absent
+-- the values that were found, none if the handle is absent
 abbrev pub values_in : Option (Vec Value Global) → List Value
 values_in None = []
 values_in (Some vs) = vs.items
@@ -42,7 +42,7 @@ values_in (Some vs) = vs.items
 abbrev pub value_with : ℕ → List Value → Option Value
 value_with i vs = find (λ v. v.index == i) vs
 
--- among these values that of each index is the one that stands there, or there is none in both
+-- among these values, the one of each index is that at this index of the handle, or neither exists
 abbrev pub HaveTheirIndexes : Table → List ℕ → List Value → Type 0
 HaveTheirIndexes t h vs = (i : ℕ) → value_with i vs ≡ at t (place h i)
 
@@ -57,13 +57,13 @@ in_order s = map.keys (map.from_entries {R = handle_cmp} (map key (set.items s))
 abbrev pub names_of : Table → List ℕ → List (List ℕ)
 names_of t a = in_order (set.retain t.handles (λ h. same_handle (authority h) a))
 
--- each value stands at a handle of the set
+-- each value is at a handle of the set
 abbrev pub IsPlaced : Table → Type 0
 IsPlaced t = (p : Place) (v : Value) → at t p ≡ Some v → has t p.handle ≡ true
 
 -- ---- what is written
 
--- the values at their indexes of the handle, each over what stood there
+-- the values at their indexes of the handle, each replacing the one at its index
 abbrev pub put_values : map.FinMap place_cmp Value → List ℕ → List Value → map.FinMap place_cmp Value
 put_values m h [] = m
 put_values m h (v ∷ vs) = put_values (map.insert m (place h v.index) v) h vs
@@ -75,7 +75,7 @@ remove_values m h (i ∷ is) = remove_values (map.remove m (place h i)) h is
 abbrev pub with_new_handle : Table → List ℕ → List Value → Table
 with_new_handle t h vs = record { handles = set.insert t.handles h; values = put_values t.values h vs }
 
--- added, or replaced whole
+-- added, or replaced as a whole
 abbrev pub with_values : Table → List ℕ → List Value → Table
 with_values t h vs = record t { values = put_values t.values h vs }
 
@@ -85,7 +85,7 @@ without_values t h is = record t { values = remove_values t.values h is }
 abbrev pub without_handle : Table → List ℕ → Table
 without_handle t h = record { handles = set.remove t.handles h; values = map.retain_keys t.values (λ p. not (same_handle p.handle h)) }
 
--- ---- what a write asks of the table
+-- ---- the conditions of a write
 
 -- no two of them are the same
 abbrev pub AreDistinct : List ℕ → Type 0
@@ -112,7 +112,7 @@ abbrev pub refusals_after : {X E : Type 0} → Result X E → ℕ → ℕ
 refusals_after (Ok x) n = n
 refusals_after (Err e) n = min (n + 1) most
 
--- The count after several looks: as it was where all answered; else one look was refused, or memory for the answer was, which no table counts.
+-- The count after several looks: as it was if all answered; else one look was refused, or memory for the answer was, which no table counts.
 abbrev pub AreRefusalsAfter : {X E : Type 0} → Result X E → ℕ → ℕ → Type 0
 AreRefusalsAfter result old new = OnOk result (new ≡ old) × OnErr result ((new ≡ old) ⊎ (new ≡ min (old + 1) most))
 

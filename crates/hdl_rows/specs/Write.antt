@@ -1,4 +1,4 @@
--- The writes of a table, one by one: what each makes of it, and what it asks.
+-- The writes of a table, one by one: the effect of each, and its conditions.
 use Rattle.std.specs.Prelude.{ℕ, List, true, false, ◌≡◌}
 use Rattle.hdl_value.specs.declared.value.Value.{Value}
 use Rattle.hdl_rows.specs.Table.{Table, has, with_new_handle, with_values, without_values, without_handle, AreDistinct, AreAbsent, ArePresent, indexes}
@@ -25,7 +25,7 @@ after_write t (Modify h vs) = with_values t h vs
 after_write t (Remove h is) = without_values t h is
 after_write t (Delete h) = without_handle t h
 
--- what the write asks of the table
+-- the conditions of the write
 abbrev pub CanWrite : Table → Write → Type 0
 CanWrite t (Create h vs) = (has t h ≡ false) × AreDistinct (indexes vs)
 CanWrite t (Add h vs) = (has t h ≡ true) × AreDistinct (indexes vs) × AreAbsent t h (indexes vs)

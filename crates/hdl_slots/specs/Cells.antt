@@ -6,11 +6,11 @@ use Rattle.hdl_limits.specs.declared.TheConstants.{LANES, CHALLENGES_MAX}
 use Rattle.hdl_slots.specs.declared.cells.Cell.{Cell}
 use Rattle.hdl_slots.specs.declared.pending.Challenge.{Challenge}
 
--- the challenge that stands in the cell of this key
+-- the challenge in the cell of this key
 abbrev pub challenge_in : Slab Cell → ℕ → Option Challenge
 challenge_in slab key = option_and_then (λ c. c.challenge) (get slab key)
 
--- what stands in the cells of these keys
+-- the contents of the cells of these keys
 abbrev pub lanes_held : Slab Cell → List (List ℕ) → List (List (Option Challenge))
 lanes_held slab = map (map (challenge_in slab))
 
@@ -22,7 +22,7 @@ key_at keys lane place = slice_index (slice_index_or keys lane []) place
 abbrev pub owner : Slab Cell → ℕ → Option (ℕ × ℕ)
 owner slab key = option_map (λ c. (c.lane, c.place)) (get slab key)
 
--- a cell in which nothing stands yet
+-- an empty cell
 abbrev pub empty_cell : ℕ → ℕ → Cell
 empty_cell lane place = record { lane = lane; place = place; challenge = None }
 

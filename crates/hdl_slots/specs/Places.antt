@@ -1,4 +1,4 @@
--- The eight places of each lane: what stands in them, in which order, and what the calls do to one lane's.
+-- The eight places of each lane: their contents, their order, and what the calls do to those of one lane.
 use Rattle.std.specs.Prelude.{◌≡◌, ℕ, ◌<◌, Bool, true, false, List, [], ◌∷◌, length, Option, Some, None, slice_index_or, slice_set}
 use Rattle.std.specs.List.{filter_map}
 use Rattle.std.specs.Option.{option_map_or}
@@ -10,15 +10,15 @@ use Rattle.hdl_slots.specs.Lanes.{LaneState, NumbersDiffer}
 abbrev pub places_of : List (List (Option Challenge)) → ℕ → List (Option Challenge)
 places_of lanes lane = slice_index_or lanes lane []
 
--- what stands in this place of this lane
+-- the challenge in this place of this lane
 abbrev pub at_place : List (List (Option Challenge)) → ℕ → ℕ → Option Challenge
 at_place lanes lane place = slice_index_or (places_of lanes lane) place None
 
--- the challenges that stand in these places, in their order
+-- the challenges in these places, in their order
 abbrev pub contents : List (Option Challenge) → List Challenge
 contents = filter_map (λ place. place)
 
--- the lanes' states: the next number of each, and what stands in its places
+-- the lanes' states: the next number of each, and the challenges in its places
 abbrev pub states : List ℕ → List (List (Option Challenge)) → List LaneState
 states [] lanes = []
 states (n ∷ ns) [] = []
@@ -35,11 +35,11 @@ pub record AreLanes (numbers : List ℕ) (lanes : List (List (Option Challenge))
   pub lanes_len : length lanes ≡ LANES
   pub each : (lane : ℕ) → lane < LANES → IsLane (places_of lanes lane)
 
--- a challenge stands in this place, and the test passes at it
+-- there is a challenge in this place, and the test passes for it
 abbrev pub passes : (Challenge → Bool) → Option Challenge → Bool
 passes test place = option_map_or test place false
 
--- the first place at which the test passes
+-- the first place for which the test passes
 abbrev pub IsFirst : (Challenge → Bool) → List (Option Challenge) → Option ℕ → Type 0
 IsFirst test places None = (k : ℕ) → k < length places → passes test (slice_index_or places k None) ≡ false
 IsFirst test places (Some i) =

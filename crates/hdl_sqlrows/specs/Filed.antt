@@ -5,7 +5,7 @@ use Rattle.sqlite.specs.State.{State, HasCleanDisk}
 use Rattle.hdl_rows.specs.Table.{Table}
 use Rattle.hdl_sqlrows.specs.Stored.{IsInside, table_in}
 
--- P, where the disk has returned what was written and the store is open
+-- P, if the disk has returned what was written to it and the store is open
 abbrev pub WhereOpen : State → Type 0 → Type 0
 WhereOpen s P = HasCleanDisk s → IsTrue s.is_open → P
 

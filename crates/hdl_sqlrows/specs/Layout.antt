@@ -46,7 +46,7 @@ handle_columns = required_column (codes "name") kind.Blob ∷ required_column (c
 abbrev pub handles : Table
 handles = keyed_table (codes "handles") 0 handle_columns (1 ∷ []) []
 
--- what a value has beside its handle and index
+-- the columns of a value besides its handle and index
 abbrev pub cell_columns : List Column
 cell_columns =
     required_column (codes "kind") kind.Blob ∷ required_column (codes "bytes") kind.Blob ∷ required_column (codes "ttl") kind.Blob ∷ required_column (codes "perm") kind.Integer
@@ -55,15 +55,15 @@ cell_columns =
 abbrev pub entry_columns : List Column
 entry_columns = required_column (codes "name") kind.Blob ∷ required_column (codes "idx") kind.Integer ∷ cell_columns
 
--- to the row of the handle, with which a row goes
+-- the reference to the row of the handle; if that row is deleted, so is this one
 abbrev pub to_handles : Reference
 to_handles = record { columns = 1 ∷ []; parent = codes "handles"; parent_columns = codes "name" ∷ []; on_delete = Cascade; on_update = NoAction; is_deferred = false }
 
--- a row for each value, with the cells that it has beside its handle; it goes with the handle's row
+-- a row for each value, with its cells besides its handle; it is deleted with the handle's row
 abbrev pub entries : Table
 entries = keyed_table (codes "entries") 2 entry_columns (1 ∷ 2 ∷ []) (to_handles ∷ [])
 
--- a row for each handle that was opened with its first values, which isn't done again
+-- a row for each handle that was opened with its first values, which happens once
 abbrev pub opened_table : Table
 opened_table = keyed_table (codes "opened") 4 (required_column (codes "name") kind.Blob ∷ []) (1 ∷ []) []
 
@@ -80,7 +80,7 @@ two_tables = created one_table (record entries { tree = 0 })
 abbrev pub layout : Schema
 layout = created two_tables (record opened_table { tree = 0 })
 
--- the index that keeps a key single, and those that the tables get with their keys
+-- the index that keeps a key unique, and those that the tables get with their keys
 abbrev pub guard : List ℕ → ℕ → ℕ → List ℕ → Index
 guard name tree table key = record { name = name; tree = tree; table = table; columns = key; order = plain; is_unique = true }
 

@@ -1,4 +1,4 @@
--- What it means that the rows of a database stand in a table in memory.
+-- What it means that the rows of a database are loaded into a table in memory.
 use Rattle.std.specs.Prelude.{◌≡◌, ◌==◌, if◌then◌else◌, [], ◌∷◌}
 use Rattle.sqlite_value.specs.Order.{Row, column}
 use Rattle.sqlite_trees.specs.Tree.{Trees}
@@ -14,6 +14,6 @@ pub record IsLoaded (db : Trees) (t : Table) : Type 0 where
   pub kept : AreKept db
   pub table : t ≡ table_in db
 
--- the row of `entries` that an answer shows as idx, kind, bytes, ttl, perm, stamp, refs, name, rowid
+-- the row of `entries` that a result shows as idx, kind, bytes, ttl, perm, stamp, refs, name, rowid
 abbrev pub entry_shown : Row → Row
 entry_shown r = column r 8 ∷ column r 7 ∷ column r 0 ∷ column r 1 ∷ column r 2 ∷ column r 3 ∷ column r 4 ∷ column r 5 ∷ column r 6 ∷ []

@@ -1,4 +1,4 @@
--- What an opening makes of a database.
+-- The effect of an opening on a database.
 use Rattle.std.specs.Prelude.{◌≡◌, None, List, [], ◌∷◌, ℕ, not, fold, map, filter, IsTrue}
 use Rattle.std.specs.Borrow.{Bor}
 use Rattle.std.specs.FinMap as map
@@ -32,7 +32,7 @@ pub record Base : Type 0 where
   pub table : Table
   pub opened : set.FinSet handle_cmp
 
--- what is kept in a database
+-- the contents of a database
 abbrev pub base_in : Trees → Base
 base_in db = record { table = table_in db; opened = set.from_list (map handle_in (db 4)) }
 
@@ -46,7 +46,7 @@ left_to_open opened = filter (λ first. not (set.contains opened (handle first))
 abbrev pub absent : Table → List First → List First
 absent t = filter (λ first. not (has t (handle first)))
 
--- the table with one more value, whose handle is made if it isn't there
+-- the table with one more value, whose handle is created if it is absent
 abbrev pub with_first : Table → First → Table
 with_first t first = record { handles = set.insert t.handles (handle first); values = map.insert t.values (place_of first) first.1 }
 

@@ -24,7 +24,7 @@ use Rattle.hdl_value.specs.declared.value.Value.{Value}
 use Rattle.hdl_rows.specs.Table.{Table, place}
 use Rattle.hdl_sqlrows.specs.Layout.{layout, no_schema}
 
--- ---- what a row says
+-- ---- what a row means
 
 -- the number in a cell
 abbrev pub number : Cell → ℕ
@@ -35,11 +35,11 @@ number (Real x) = 0
 number (Text t) = 0
 number (Blob b) = 0
 
--- the references that octets spell, none where they spell no list
+-- the references that octets encode, none if they encode no list
 abbrev pub refs_in : List ℕ → List RawRef
 refs_in octets = unwrap_or (whole_of refs_at octets) []
 
--- the value in the cells of an answer: idx, kind, bytes, ttl, perm, stamp, refs
+-- the value in the cells of a result: idx, kind, bytes, ttl, perm, stamp, refs
 abbrev pub value_of : Row → Value
 value_of r = record {
   index = number (column r 0);
@@ -51,7 +51,7 @@ value_of r = record {
   references = refs_in (bytes (column r 6));
 }
 
--- the cells of a row of `entries` from idx on, as an answer shows them
+-- the cells of a row of `entries` from idx on, as a result shows them
 abbrev pub cells_of : Row → Row
 cells_of r = column r 2 ∷ column r 3 ∷ column r 4 ∷ column r 5 ∷ column r 6 ∷ column r 7 ∷ column r 8 ∷ []
 
@@ -74,13 +74,13 @@ table_in db = record { handles = set.from_list (map handle_in (db 0)); values = 
 
 -- ---- what rows keep
 
--- a row of `handles`: the cells that a test or an order looks at are of their columns' kinds, and a handle stands beside its authority
+-- a row of `handles`: the cells that a test or an order reads have the types of their columns, and the handle has its authority in the same row
 pub record IsHandleRow (r : Row) : Type 0 where
   pub id : rowid r ≡ Int (id_in (rowid r))
   pub name : column r 1 ≡ Blob (handle_in r)
   pub authority : column r 2 ≡ Blob (authority (handle_in r))
 
--- a row of `entries`: the cells that a test or an order looks at are of their columns' kinds
+-- a row of `entries`: the cells that a test or an order reads have the types of their columns
 pub record IsEntryRow (r : Row) : Type 0 where
   pub id : rowid r ≡ Int (id_in (rowid r))
   pub name : column r 1 ≡ Blob (handle_in r)
@@ -137,7 +137,7 @@ pub record IsBare (schema : Schema) (s : State) : Type 0 where
   pub schema_is : s.now.schema ≡ schema
   pub inside : s.in_transaction ≡ true
 
--- what a connection in memory shows, which no proof has to look into
+-- what a connection in memory shows; no proof looks into it
 unfoldable pub state_of : Held MemStore → State
 state_of conn = state over_memory conn
 

@@ -1,4 +1,4 @@
--- The reader of an administrator, and what stands in octets that were cut.
+-- The reader of an administrator, and values in place.
 use Rattle.std.specs.Prelude.{◌≡◌, ℕ, List, [], length, Option, Some}
 use Rattle.std.specs.Option.{option_map_or}
 use Rattle.std.specs.Int.{w16}
@@ -14,7 +14,7 @@ use Rattle.hdl_value.specs.Spelling.{ref_at, Fits}
 unfoldable pub admin_at : List ℕ → Option ((ℕ × RawRef) × List ℕ)
 admin_at octets = pair_at (number_at w16) ref_at octets
 
--- ---- what stands in the octets, as a value
+-- ---- what the octets contain, as a value
 
 -- a reference, a list of them, a value
 abbrev pub ref_view : RawReference → RawRef
@@ -26,7 +26,7 @@ refs_view r = option_map_or (λ x. x.0) (many_at ref_at r.count r.octets.now) []
 abbrev pub value_view : RawValue → Value
 value_view v = record { index = v.index; kind = v.kind.now; bytes = v.bytes.now; ttl = v.ttl; permissions = v.permissions; timestamp = v.timestamp; references = refs_view v.references }
 
--- the octets are those of so many references, and no others
+-- the octets are those of this number of references, and no others
 pub record IsWhole (r : RawReferences) : Type 0 where
   pub count : length (refs_view r) ≡ r.count
   pub all : many_at ref_at r.count r.octets.now ≡ Some (refs_view r, [])

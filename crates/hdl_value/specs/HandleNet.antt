@@ -9,7 +9,7 @@ use Rattle.hdl_value.specs.Spelling.{string_layout, refs_fields, refs_at, Fits}
 
 -- ---- moments
 
--- the second of a moment in milliseconds; the last one that four octets say stands for all after it
+-- the second of a moment in milliseconds; the last second that four octets can count is that of all later moments
 abbrev pub second_of : ℕ → ℕ
 second_of moment = if nat_lt (moment / 1000) (2 ^ 32) then moment / 1000 else 2 ^ 32 - 1
 
@@ -25,7 +25,7 @@ second_at octets = second_layout.read octets
 
 -- ---- values: index, timestamp, TTL, permission, type, data, references
 
--- the fields, nested as they stand
+-- the fields, nested in their order
 abbrev pub NetFields : Type 0
 NetFields = ℕ × (ℕ × (List ℕ × (ℕ × (List ℕ × (List ℕ × List RawRef)))))
 
@@ -46,9 +46,9 @@ net_value_at octets = net_fields.read octets
 unfoldable pub net_spelling : Value → List ℕ
 net_spelling v = net_fields.write v
 
--- ---- what is read again as it was
+-- ---- what is read again as it was written
 
--- a second begins at the moment, and four octets say it
+-- the moment is the start of a second, and four octets can count that second
 abbrev pub IsSecond : ℕ → Type 0
 IsSecond moment = moment_of (second_of moment) ≡ moment
 
@@ -57,10 +57,10 @@ pub record NetFits (v : Value) : Type 0 where
   pub fits : Fits v
   pub second : IsSecond v.timestamp
 
--- the value as it is seen where it is read again: its moment by its second
+-- the value as it is read again: its moment is cut to the second
 abbrev pub by_second : Value → Value
 by_second v = record v { timestamp = moment_of (second_of v.timestamp) }
 
--- What is written of any value is read as that value, by its second.
+-- If a value is written, it is read as that value, with its moment cut to the second.
 abbrev pub IsReadBySecond : Type 0
 IsReadBySecond = (v : Value) (rest : List ℕ) → Fits v → net_value_at (net_spelling v ++ rest) ≡ Some (by_second v, rest)

@@ -12,7 +12,7 @@ use Rattle.hdl_value.specs.declared.permission.AdminPermission.TheVariants.{AddH
 abbrev pub has_bit : ℕ → ℕ → Bool
 has_bit number bit = not (bit_and number bit == 0)
 
--- so many binary digits of a number, the lowest first
+-- this number of binary digits of a number, the lowest first
 abbrev pub bits : ℕ → ℕ → List ℕ
 bits zero n = []
 bits (suc k) n = (48 + n % 2) ∷ bits k (n / 2)

@@ -1,4 +1,4 @@
--- Where a value of a table stands, and the order of such places.
+-- The places of a table's values, and the order of places.
 use Rattle.std.specs.Prelude.{ℕ, List, Bool, refl}
 use Rattle.std.specs.declared.cmp.Ordering.{Ordering}
 use Rattle.std.specs.Ordering.{nat_cmp, then_cmp, on, eq_by_cmp}

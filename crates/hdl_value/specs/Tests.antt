@@ -1,4 +1,4 @@
--- Soundness as a test that computes. `soundness_decided` says that it is what `IsSound` says.
+-- Soundness as a test that computes. `soundness_decided` states that it agrees with `IsSound`.
 use Rattle.std.specs.Prelude.{Bool, true, length, nat_lt, nat_le, ◌&&◌, if◌then◌else◌, is_some}
 use Rattle.hdl_value.specs.declared.value.Value.{Value}
 use Rattle.hdl_limits.specs.declared.TheConstants.{TYPE_MAX, DATA_MAX, REFERENCES_MAX}

@@ -1,4 +1,4 @@
--- The layouts of a value, by who speaks.
+-- The layouts of a value.
 use Rattle.std.specs.Prelude.{ℕ, List, Option}
 use Rattle.hdl_value.specs.Reading.{Layout}
 use Rattle.hdl_value.specs.declared.value.Value.{Value}
@@ -23,7 +23,7 @@ abbrev pub WireFits : Wire → Value → Type 0
 WireFits Profile v = Fits v
 WireFits HandleNet v = NetFits v
 
--- the value as who reads it sees it
+-- the value as its reader sees it
 abbrev pub wire_seen : Wire → Value → Value
 wire_seen Profile v = v
 wire_seen HandleNet v = by_second v
