@@ -23,7 +23,7 @@ use Rattle.hdl_frame.specs.Frames.{IsFrame}
 use Rattle.hdl_msg.specs.declared.fields.Header.{Header}
 use Rattle.hdl_msg.specs.declared.replies.Reply.{Reply}
 use Rattle.hdl_msg.specs.declared.replies.ReplyContent.{ReplyContent}
-use Rattle.hdl_msg.specs.declared.replies.ReplyContent.TheVariants.{Values, Handles, Nothing, Referral, Nonce, Empty}
+use Rattle.hdl_msg.specs.declared.replies.ReplyContent.TheVariants.{Values, Handles, Nothing, Referral, Nonce, Empty, Site}
 use Rattle.hdl_msg.specs.declared.reply_view.ReplyForm.{ReplyForm}
 use Rattle.hdl_msg.specs.declared.reply_view.ReplyForm.TheVariants as form
 use Rattle.hdl_msg.specs.Message.{number, count_prefixed, header_octets, IsNumber, AreFew, strings_at, values_at, message_at, message_layout}
@@ -177,6 +177,8 @@ content_takes wire form.Nothing octets content fits e = nothing_takes wire octet
 content_takes wire form.Referral octets content fits e = referral_takes wire octets content fits e
 content_takes wire form.Nonce octets content fits e = nonce_takes wire octets content fits e
 content_takes wire form.Empty octets content fits e = empty_takes wire octets content fits e
+content_takes wire form.Site octets content fits e =
+    subst (λ (c : ReplyContent). SpellsContent wire form.Site octets c) (some_is (Site octets) content e) (record { by_wire = tt; fits = fits; has_form = refl; spelt = refl })
 
 short16 : (n : List ℕ) → (length n ≡ 16) × AreOctets n → IsString n
 short16 n fits = record { short = omega (arith, fits.0); each = fits.1 }
@@ -193,6 +195,7 @@ content_again wire (Handles handles) by fits = rw (whole_again strings_at (count
 content_again wire Nothing by fits = refl
 content_again wire (Referral prefix) by fits = rw (whole_again _ _ _ referral_codec (codes "0.NA/" ++ prefix, 0) (fits, omega arith), prefix_again prefix) refl
 content_again wire (Nonce nonce) by fits = rw (whole_again string_at string IsString string_codec nonce (short16 nonce fits), whole_again (octets_at 16) (λ text. text) (IsLong 16) (octets_codec 16) nonce fits) refl
+content_again wire (Site octets) by fits = refl
 content_again wire Empty by fits = rw (whole_again string_at string IsString string_codec [] none_fit) refl
 
 -- ---- replies

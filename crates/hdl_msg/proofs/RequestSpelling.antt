@@ -9,7 +9,7 @@ use Rattle.hdl_value.specs.declared.wire.Wire.{Wire}
 use Rattle.hdl_value.specs.Wires.{wire_spelling}
 use Rattle.hdl_msg.specs.declared.fields.Header.{Header}
 use Rattle.hdl_msg.specs.declared.codes.OpCode.{OpCode}
-use Rattle.hdl_msg.specs.declared.codes.OpCode.TheVariants.{Resolution as ResolutionCode, CreateHandle, DeleteHandle, AddValue, RemoveValue, ModifyValue, ListHandles, ChallengeResponse}
+use Rattle.hdl_msg.specs.declared.codes.OpCode.TheVariants.{Resolution as ResolutionCode, GetSiteInfo, CreateHandle, DeleteHandle, AddValue, RemoveValue, ModifyValue, ListHandles, ChallengeResponse}
 use Rattle.hdl_msg.specs.declared.request_body.RequestBody.{RequestBody}
 use Rattle.hdl_msg.specs.declared.request_body.RequestBody.TheVariants.{Resolution, Create, Delete, Add, Remove, Modify, List as ListAll, Response}
 use Rattle.hdl_msg.specs.Codes.{op_number, IsNumberOf}
@@ -74,6 +74,7 @@ has_number wire (Response kind handle index answer) = refl
 
 small_code : (code : OpCode) → IsNumber (op_number code)
 small_code ResolutionCode = omega arith
+small_code GetSiteInfo = omega arith
 small_code CreateHandle = omega arith
 small_code DeleteHandle = omega arith
 small_code AddValue = omega arith

@@ -12,10 +12,10 @@ use Rattle.hdl_value.proofs.Codecs.{prefix_free, string_codec}
 use Rattle.hdl_value.proofs.DataRead.{whole_takes, whole_again}
 use Rattle.hdl_msg.specs.declared.fields.Header.{Header}
 use Rattle.hdl_msg.specs.declared.codes.OpCode.{OpCode}
-use Rattle.hdl_msg.specs.declared.codes.OpCode.TheVariants.{Resolution, CreateHandle, DeleteHandle, AddValue, RemoveValue, ModifyValue, ListHandles, ChallengeResponse}
+use Rattle.hdl_msg.specs.declared.codes.OpCode.TheVariants.{Resolution, GetSiteInfo, CreateHandle, DeleteHandle, AddValue, RemoveValue, ModifyValue, ListHandles, ChallengeResponse}
 use Rattle.hdl_msg.specs.Codes.{op_code_of, IsNumberOf}
 use Rattle.hdl_msg.proofs.OpCodes.{op_code_is, op_code_again}
-use Rattle.hdl_msg.specs.Message.{Operation, resolution, create, delete, add, remove, modify, list, response, other, body, number, count_prefixed, header_octets, IsShort, AreFew, OperationFits, code_of, Content, signed_octets, SpellsRequest, signed_at, message_at, message_layout}
+use Rattle.hdl_msg.specs.Message.{Operation, resolution, site_info, create, delete, add, remove, modify, list, response, other, body, number, count_prefixed, header_octets, IsShort, AreFew, OperationFits, code_of, Content, signed_octets, SpellsRequest, signed_at, message_at, message_layout}
 use Rattle.hdl_msg.specs.Reading.{resolution_in, with_values_in, remove_in, response_in, operation_in, request_at}
 use Rattle.hdl_msg.proofs.Codecs.{Message, MessageFits, message_codec, resolution_codec, write_codec, remove_codec, response_codec, signed_codec, front, AreOctets-front, AreOctets-back}
 
@@ -70,6 +70,7 @@ response_takes wire octets operation fits e =
 pub body_takes : (wire : Wire) (code : Option OpCode) (octets : List ℕ) (operation : Operation) → AreOctets octets → IsShort octets → operation_in wire code octets ≡ Some operation → SpellsBody wire code octets operation
 unfolding operation_in
 body_takes wire (Some Resolution) octets operation fits short e = resolution_takes wire octets operation fits e
+body_takes wire (Some GetSiteInfo) octets operation fits short e = rw (sym (some_is (site_info octets) operation e)) (record { fits = record { short = short; each = fits }; has_code = refl; spelt = refl })
 body_takes wire (Some CreateHandle) octets operation fits short e = write_takes wire (λ x. create x.0 x.1) (Some CreateHandle) octets operation (λ x h. record { fits = h; has_code = refl; spelt = refl }) fits e
 body_takes wire (Some DeleteHandle) octets operation fits short e = handle_takes wire delete (Some DeleteHandle) octets operation (λ x h. record { fits = h; has_code = refl; spelt = refl }) fits e
 body_takes wire (Some AddValue) octets operation fits short e = write_takes wire (λ x. add x.0 x.1) (Some AddValue) octets operation (λ x h. record { fits = h; has_code = refl; spelt = refl }) fits e
@@ -82,6 +83,7 @@ body_takes wire None octets operation fits short e = rw (sym (some_is (other oct
 again_of : (wire : Wire) (operation : Operation) → OperationFits wire operation → operation_in wire (code_of operation) (body wire operation) ≡ Some operation
 unfolding operation_in resolution_in with_values_in remove_in response_in
 again_of wire (resolution handle indexes types) fits = seen_again _ _ _ (λ x. resolution x.0 x.1.0 x.1.1) resolution_codec (handle, (indexes, types)) fits
+again_of wire (site_info octets) fits = refl
 again_of wire (create handle values) fits = seen_again _ _ _ (λ x. create x.0 x.1) (write_codec wire) (handle, values) fits
 again_of wire (delete handle) fits = seen_again string_at string IsString delete string_codec handle fits
 again_of wire (add handle values) fits = seen_again _ _ _ (λ x. add x.0 x.1) (write_codec wire) (handle, values) fits

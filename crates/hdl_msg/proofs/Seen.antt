@@ -12,8 +12,8 @@ use Rattle.hdl_value.specs.Wires.{wire_spelling, WireFits, wire_seen}
 use Rattle.hdl_value.proofs.HandleNet.{same_by_wire, seen_fits}
 use Rattle.hdl_msg.specs.declared.replies.Reply.{Reply}
 use Rattle.hdl_msg.specs.declared.replies.ReplyContent.{ReplyContent}
-use Rattle.hdl_msg.specs.declared.replies.ReplyContent.TheVariants.{Values, Handles, Nothing, Referral, Nonce, Empty}
-use Rattle.hdl_msg.specs.Message.{Operation, resolution, create, delete, add, remove, modify, list, response, other, body, count_prefixed, header_octets}
+use Rattle.hdl_msg.specs.declared.replies.ReplyContent.TheVariants.{Values, Handles, Nothing, Referral, Nonce, Empty, Site}
+use Rattle.hdl_msg.specs.Message.{Operation, resolution, site_info, create, delete, add, remove, modify, list, response, other, body, count_prefixed, header_octets}
 use Rattle.hdl_msg.specs.Reply.{content_octets, digest_octets, content_read, form_of, wire_of_content, IsByWire, reply_body, reply_message, reply_octets}
 use Rattle.hdl_msg.specs.RequestBody.{operation_read}
 
@@ -41,6 +41,7 @@ with_values wire handle vs = ap (λ (x : List ℕ). string handle ++ x) (same_va
 
 pub same_body : (wire : Wire) (o : Operation) → body wire (operation_read wire o) ≡ body wire o
 same_body wire (resolution handle indexes types) = refl
+same_body wire (site_info octets) = refl
 same_body wire (create handle values) = with_values wire handle values
 same_body wire (delete handle) = refl
 same_body wire (add handle values) = with_values wire handle values
@@ -59,6 +60,7 @@ same_content Nothing = refl
 same_content (Referral prefix) = refl
 same_content (Nonce nonce) = refl
 same_content Empty = refl
+same_content (Site octets) = refl
 
 pub same_form : (content : ReplyContent) → form_of (content_read content) ≡ form_of content
 same_form (Values wire handle values) = refl
@@ -67,6 +69,7 @@ same_form Nothing = refl
 same_form (Referral prefix) = refl
 same_form (Nonce nonce) = refl
 same_form Empty = refl
+same_form (Site octets) = refl
 
 pub same_wire : (content : ReplyContent) → wire_of_content (content_read content) ≡ wire_of_content content
 same_wire (Values wire handle values) = refl
@@ -75,6 +78,7 @@ same_wire Nothing = refl
 same_wire (Referral prefix) = refl
 same_wire (Nonce nonce) = refl
 same_wire Empty = refl
+same_wire (Site octets) = refl
 
 pub own_wire : (content : ReplyContent) → IsByWire (wire_of_content content) content
 own_wire (Values wire handle values) = refl
@@ -83,6 +87,7 @@ own_wire Nothing = tt
 own_wire (Referral prefix) = tt
 own_wire (Nonce nonce) = tt
 own_wire Empty = tt
+own_wire (Site octets) = tt
 
 -- the reply as its reader sees it
 abbrev pub reply_seen_by : Reply → Reply

@@ -9,14 +9,14 @@ use Rattle.hdl_value.specs.declared.references.RawRef.{RawRef}
 use Rattle.hdl_value.specs.Spelling.{string, reference, references, spelling, CanBeSpelt}
 use Rattle.hdl_value.specs.declared.wire.Wire.{Wire}
 use Rattle.hdl_value.specs.declared.wire.Wire.TheVariants.{Profile, HandleNet}
-use Rattle.hdl_value.specs.HandleNet.{second_of, net_spelling}
+use Rattle.hdl_value.specs.HandleNet.{net_spelling}
 use Rattle.hdl_value.specs.Wires.{wire_spelling}
 use Rattle.hdl_msg.specs.declared.fields.Header.{Header}
 use Rattle.hdl_msg.specs.Message.{number, count_prefixed, header_octets}
 use Rattle.hdl_frame.specs.Envelope.{envelope_octets, message_envelope}
 use Rattle.hdl_msg.specs.declared.replies.Reply.{Reply}
 use Rattle.hdl_msg.specs.declared.replies.ReplyContent.{ReplyContent}
-use Rattle.hdl_msg.specs.declared.replies.ReplyContent.TheVariants.{Values, Handles, Nothing, Referral, Nonce, Empty}
+use Rattle.hdl_msg.specs.declared.replies.ReplyContent.TheVariants.{Values, Handles, Nothing, Referral, Nonce, Empty, Site}
 use Rattle.hdl_limits.specs.declared.TheConstants.{MESSAGE_MAX}
 use Rattle.hdl_msg.specs.Reply.{fixed_length, CanBeWritten, content_octets, digest_octets, reply_body, reply_message, reply_octets}
 use Rattle.hdl_limits.specs.Counts.{at_most_u64}
@@ -123,6 +123,7 @@ can_write Nothing lt = tt
 can_write (Referral prefix) lt = omega (arith, lt, length-append prefix (number 0))
 can_write (Nonce nonce) lt = tt
 can_write Empty lt = tt
+can_write (Site octets) lt = lt
 
 pub content_short : (y : Reply) → length (reply_message y) ≤ MESSAGE_MAX → CanBeWritten y.content
 content_short y le = can_write y.content (omega (arith, le, length-reply_message y))

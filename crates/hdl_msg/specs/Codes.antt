@@ -1,9 +1,9 @@
--- The numbers of operations, responses and flags (RFC 3652, sections 2.2.2.1 to 2.2.2.3; the numbers are this project's own:
--- docs/PROTOCOL.md, "Message").
+-- The numbers of operations, responses and flags, under the names of RFC 3652, sections 2.2.2.1 to 2.2.2.3 (docs/PROTOCOL.md,
+-- "Message").
 use Rattle.std.specs.Prelude.{◌≡◌, ◌≢◌, ℕ, ◌==◌, if◌then◌else◌, Bool, Option, Some, None}
 use Rattle.hdl_value.specs.Permission.{has_bit}
 use Rattle.hdl_msg.specs.declared.codes.OpCode.{OpCode}
-use Rattle.hdl_msg.specs.declared.codes.OpCode.TheVariants.{Resolution, CreateHandle, DeleteHandle, AddValue, RemoveValue, ModifyValue, ListHandles, ChallengeResponse}
+use Rattle.hdl_msg.specs.declared.codes.OpCode.TheVariants.{Resolution, GetSiteInfo, CreateHandle, DeleteHandle, AddValue, RemoveValue, ModifyValue, ListHandles, ChallengeResponse}
 use Rattle.hdl_msg.specs.declared.codes.OpFlag.{OpFlag}
 use Rattle.hdl_msg.specs.declared.codes.OpFlag.TheVariants.{Authoritative, Certified, Encrypted, Recursive, CacheAuthentication, Continuous, KeepConnection, PublicOnly, ReturnDigest}
 use Rattle.hdl_msg.specs.declared.codes.ResponseCode.{ResponseCode}
@@ -13,6 +13,7 @@ use Rattle.hdl_msg.specs.declared.codes.ResponseCode.TheVariants.{Authentication
 
 abbrev pub op_number : OpCode → ℕ
 op_number Resolution = 1
+op_number GetSiteInfo = 2
 op_number CreateHandle = 100
 op_number DeleteHandle = 101
 op_number AddValue = 102
@@ -25,6 +26,7 @@ op_number ChallengeResponse = 200
 unfoldable pub op_code_of : ℕ → Option OpCode
 op_code_of n =
     if n == 1 then Some Resolution
+    else if n == 2 then Some GetSiteInfo
     else if n == 100 then Some CreateHandle
     else if n == 101 then Some DeleteHandle
     else if n == 102 then Some AddValue

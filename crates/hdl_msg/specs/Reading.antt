@@ -5,15 +5,15 @@ use Rattle.hdl_value.specs.Reading.{◌>>=◌, whole_of, octet_at, string_at, oc
 use Rattle.hdl_value.specs.declared.wire.Wire.{Wire}
 use Rattle.hdl_msg.specs.declared.fields.Header.{Header}
 use Rattle.hdl_msg.specs.declared.codes.OpCode.{OpCode}
-use Rattle.hdl_msg.specs.declared.codes.OpCode.TheVariants.{Resolution, CreateHandle, DeleteHandle, AddValue, RemoveValue, ModifyValue, ListHandles, ChallengeResponse}
+use Rattle.hdl_msg.specs.declared.codes.OpCode.TheVariants.{Resolution, GetSiteInfo, CreateHandle, DeleteHandle, AddValue, RemoveValue, ModifyValue, ListHandles, ChallengeResponse}
 use Rattle.hdl_msg.specs.Codes.{op_code_of}
-use Rattle.hdl_msg.specs.Message.{Operation, resolution, create, delete, add, remove, modify, list, response, other, Content, strings_at, resolution_layout, values_layout, removal_layout, response_layout, message_at}
+use Rattle.hdl_msg.specs.Message.{Operation, resolution, site_info, create, delete, add, remove, modify, list, response, other, Content, strings_at, resolution_layout, values_layout, removal_layout, response_layout, message_at}
 use Rattle.hdl_auth.specs.declared.algorithm.Algorithm.TheVariants as algorithm
 use Rattle.hdl_auth.specs.declared.algorithm.Digest.{Digest}
 use Rattle.hdl_auth.specs.declared.algorithm.Digest.TheVariants as digest
 use Rattle.hdl_auth.specs.Digest.{octet_of, size_of}
 use Rattle.hdl_msg.specs.declared.replies.ReplyContent.{ReplyContent}
-use Rattle.hdl_msg.specs.declared.replies.ReplyContent.TheVariants.{Values, Handles, Nothing, Referral, Nonce, Empty}
+use Rattle.hdl_msg.specs.declared.replies.ReplyContent.TheVariants.{Values, Handles, Nothing, Referral, Nonce, Empty, Site}
 use Rattle.hdl_msg.specs.declared.reply_view.ReplyForm.{ReplyForm}
 use Rattle.hdl_msg.specs.declared.reply_view.ReplyForm.TheVariants as form
 use Rattle.hdl_msg.specs.Reply.{ReplyParts, announces_digest, announced_form, referral_layout}
@@ -43,6 +43,7 @@ response_in octets = do
 -- the body of the operation with this code, all of the octets; of one that isn't used any octets
 unfoldable pub operation_in : Wire → Option OpCode → List ℕ → Option Operation
 operation_in wire (Some Resolution) octets = resolution_in octets
+operation_in wire (Some GetSiteInfo) octets = Some (site_info octets)
 operation_in wire (Some CreateHandle) octets = with_values_in wire octets >>= λ x. Some (create x.0 x.1)
 operation_in wire (Some DeleteHandle) octets = whole_of string_at octets >>= λ x. Some (delete x)
 operation_in wire (Some AddValue) octets = with_values_in wire octets >>= λ x. Some (add x.0 x.1)
@@ -134,6 +135,7 @@ content_in wire form.Nothing octets = nothing_in octets
 content_in wire form.Referral octets = referral_in octets
 content_in wire form.Nonce octets = nonce_in octets
 content_in wire form.Empty octets = empty_in octets
+content_in wire form.Site octets = Some (Site octets)
 
 -- ---- messages
 

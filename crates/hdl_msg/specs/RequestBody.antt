@@ -11,7 +11,7 @@ use Rattle.hdl_msg.specs.declared.codes.OpCode.TheVariants.{Resolution as Resolu
 use Rattle.hdl_msg.specs.declared.request_body.RequestBody.{RequestBody}
 use Rattle.hdl_msg.specs.declared.request_body.RequestBody.TheVariants.{Resolution, Create, Delete, Add, Remove, Modify, List as ListAll, Response}
 use Rattle.hdl_msg.specs.Codes.{op_number}
-use Rattle.hdl_msg.specs.Message.{Operation, resolution, create, delete, add, remove, modify, list, response, other, body, IsShort, Content, signed_octets}
+use Rattle.hdl_msg.specs.Message.{Operation, resolution, site_info, create, delete, add, remove, modify, list, response, other, body, IsShort, Content, signed_octets}
 
 -- the operation that is asked for
 abbrev pub requested_operation : RequestBody → Operation
@@ -46,6 +46,7 @@ request_content wire h b = record { wire = wire; header = request_header h b; op
 -- what is read of it: its values as their layout says them
 abbrev pub operation_read : Wire → Operation → Operation
 operation_read wire (resolution handle indexes types) = resolution handle indexes types
+operation_read wire (site_info octets) = site_info octets
 operation_read wire (create handle values) = create handle (map (wire_seen wire) values)
 operation_read wire (delete handle) = delete handle
 operation_read wire (add handle values) = add handle (map (wire_seen wire) values)

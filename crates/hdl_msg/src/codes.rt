@@ -3,11 +3,13 @@
 ghost use Rattle.std.specs.Prelude.{◌≡◌};
 ghost use Rattle.hdl_msg.specs.Codes.{op_number, op_code_of, IsNumberOf, flag_bit, response_number, response_code_of, IsResponseNumberOf};
 
-/// OpCode, under the names of RFC 3652, section 2.2.2.1; the numbers are this project's own. Every other number is that of
-/// an operation that isn't used.
+/// OpCode, under the names of RFC 3652, section 2.2.2.1; docs/PROTOCOL.md, "Message", has the numbers. Every other number is
+/// that of an operation that isn't used.
 #[derive(Clone, Copy, Debug, PartialEq, Eq)]
 pub enum OpCode {
     Resolution = 1,
+    /// The publisher's own site information, on lanes of the Handle.Net layout.
+    GetSiteInfo = 2,
     CreateHandle = 100,
     DeleteHandle = 101,
     AddValue = 102,
@@ -33,6 +35,7 @@ impl OpCode {
     {
         match number {
             1 => Some(OpCode::Resolution),
+            2 => Some(OpCode::GetSiteInfo),
             100 => Some(OpCode::CreateHandle),
             101 => Some(OpCode::DeleteHandle),
             102 => Some(OpCode::AddValue),
@@ -78,7 +81,7 @@ impl OpFlag {
     }
 }
 
-/// ResponseCode, under the names of RFC 3652, section 2.2.2.2; the numbers are this project's own.
+/// ResponseCode, under the names of RFC 3652, section 2.2.2.2; docs/PROTOCOL.md, "Message", has the numbers.
 #[derive(Clone, Copy, Debug, PartialEq, Eq)]
 pub enum ResponseCode {
     /// The operation was done.

@@ -98,6 +98,7 @@ fn content_len(content: &ReplyContent) -> usize
         ReplyContent::Referral { prefix } => prefix.as_slice().len().saturating_add(13),
         ReplyContent::Nonce { nonce } => string_len(nonce),
         ReplyContent::Empty => 4,
+        ReplyContent::Site { octets } => octets.as_slice().len(),
     }
 }
 

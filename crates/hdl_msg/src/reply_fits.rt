@@ -58,6 +58,7 @@ fn content_fits(content: &ReplyContent)
         ReplyContent::Referral { prefix } => string_fits(prefix.as_slice()),
         ReplyContent::Nonce { nonce } => nonce_fits(*nonce),
         ReplyContent::Empty => {}
+        ReplyContent::Site { octets } => string_fits(octets.as_slice()),
     }
 }
 

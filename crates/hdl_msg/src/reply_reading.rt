@@ -144,6 +144,7 @@ fn content_in(wire: Wire, form: ReplyForm, octets: &[u8]) -> Option<ContentView<
         ReplyForm::Referral => referral(octets),
         ReplyForm::Nonce => nonce(octets),
         ReplyForm::Empty => empty(octets),
+        ReplyForm::Site => Some(ContentView::Site { octets }),
     }
 }
 

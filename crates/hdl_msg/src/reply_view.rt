@@ -18,6 +18,7 @@ pub enum ReplyForm {
     Referral,
     Nonce,
     Empty,
+    Site,
 }
 
 /// What stands behind a reply's digest, where it stands (RFC 3652, sections 3.2 to 3.7, in our profile: docs/PROTOCOL.md,
@@ -30,6 +31,7 @@ pub enum ReplyForm {
 /// Referral   code 302             `0.NA/` and the prefix (a string), 4 octets of 0
 /// Nonce      code 402             16 octets (a string)
 /// Empty      every other code     an empty string
+/// Site       get site info, code 1   the data of an HS_SITE value, with no length before
 /// ```
 ///
 /// A string is four octets of length and that many, a list four octets of count and that many.
@@ -54,6 +56,10 @@ pub enum ContentView<'a> {
         nonce: &'a [u8; 16],
     },
     Empty,
+    /// The data of an HS_SITE value.
+    Site {
+        octets: &'a [u8],
+    },
 }
 
 /// A reply where it stands: all of its message. Its code is the header's `response_code`.
@@ -79,6 +85,7 @@ fn success_form(operation: Option<OpCode>) -> ReplyForm
 {
     match operation {
         Some(OpCode::Resolution) => ReplyForm::Values,
+        Some(OpCode::GetSiteInfo) => ReplyForm::Site,
         Some(OpCode::ListHandles) => ReplyForm::Handles,
         Some(
             OpCode::CreateHandle

@@ -36,8 +36,8 @@ pub enum Class {
     Hidden,
 }
 
-/// The bits of an administrator's mask, after RFC 3651, section 3.2.1; their numbers are this project's own. The other bits
-/// are kept and mean nothing.
+/// The bits of an administrator's mask, by the names of RFC 3651, section 3.2.1; docs/PROTOCOL.md, "Values", has their numbers.
+/// The other bits are kept and mean nothing.
 #[derive(Clone, Copy, PartialEq, Eq)]
 pub enum AdminPermission {
     /// Add_Handle: create a handle.
