@@ -4,6 +4,7 @@ pub mod Maps
 pub mod Distinct
 pub mod Lanes
 pub mod Registers
+pub mod Informed
 pub mod Sayings
 pub mod Places
 pub mod Hosts

@@ -3,7 +3,7 @@ use Rattle.std.proofs.Common.{◌≡◌, ◌<◌, List, ℕ, map, Contains, arit
 use Rattle.hdl_name.specs.Name.{IsHandle, canonical, prefix}
 use Rattle.hdl_value.specs.declared.value.Value.{Value}
 use Rattle.hdl_tenants.specs.declared.fault.TenantFault.{TenantFault}
-use Rattle.hdl_tenants.specs.declared.fault.TenantFault.TheVariants.{BadLine, TwicePrefix, TwicePublisher, TooMany, Memory}
+use Rattle.hdl_tenants.specs.declared.fault.TenantFault.TheVariants.{BadLine, TwicePrefix, TwicePublisher, TwiceSite, TooMany, Memory}
 use Rattle.hdl_limits.specs.declared.TheConstants.{VALUES_MAX}
 use Rattle.hdl_tenants.specs.Register.{Register, prefixes_of, place, value_count}
 use Rattle.hdl_tenants.specs.Lines.{IsValueText}
@@ -31,6 +31,7 @@ module _ (r : Register) (handle digits : List ℕ) (v : Value) (name canon : Lis
   from_place Memory f text = tt
   from_place TwicePrefix f text = absurd f
   from_place TwicePublisher f text = absurd f
+  from_place TwiceSite f text = absurd f
   from_place TooMany f text = absurd f
 
   pub known_row : (before : List ℕ) → before ≡ prefix name → Contains (prefixes_of r.hostings) before → (Contains (map place r.opening) (record { handle = canon; index = v.index }) → ⊥) → count_at canon (map place r.opening) < VALUES_MAX → IsKnownRow r (handle, v)

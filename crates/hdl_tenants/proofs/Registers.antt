@@ -1,5 +1,5 @@
 -- A register stays one when a line is added.
-use Rattle.std.proofs.Common.{◌≡◌, ◌++◌, ◌∷◌, [], List, ℕ, ◌+◌, ◌<◌, ◌≤◌, true≢false, Bool, true, false, cond, length, map, sum_by, Contains, arith, sym, subst, ◌∙◌, refl, inl, inr, length-append}
+use Rattle.std.proofs.Common.{◌≡◌, ◌++◌, ◌∷◌, [], List, ℕ, zero, suc, ◌+◌, ◌<◌, ◌≤◌, true≢false, Bool, true, false, cond, length, map, sum_by, Contains, arith, sym, subst, ◌∙◌, refl, inl, inr, length-append}
 use Rattle.std.specs.Str.{bytes_eq}
 use Rattle.std.proofs.lemmas.List.{map-append}
 use Rattle.std.proofs.lemmas.List.Elements.{All-push, All-nil, All-weaker, Contains-append_left, Contains-append_cases, Contains-push_cases}
@@ -12,8 +12,9 @@ use Rattle.hdl_value.specs.Spelling.{Fits}
 use Rattle.hdl_value.specs.Fault.{IsSound}
 use Rattle.hdl_value.proofs.Whole.{can_be_spelt}
 use Rattle.hdl_limits.specs.declared.TheConstants.{VALUES_MAX}
-use Rattle.hdl_tenants.specs.Register.{Publisher, Hosting, Row, Register, empty, names_of, prefixes_of, hosting_pair, place, value_count, IsPublisher, IsPrefix, IsHosting, IsOpening, IsRegister}
-use Rattle.hdl_tenants.specs.Text.{Line, skipped, publisher, hosted, opened, IsLine, place_of, register_after, IsKnownRow, IsAllowed, Adds, AddsAll}
+use Rattle.hdl_tenants.specs.declared.sites.TheConstants.{SITE_MAX}
+use Rattle.hdl_tenants.specs.Register.{Publisher, Hosting, Row, SiteInfo, Register, empty, names_of, prefixes_of, hosting_pair, informed, place, value_count, wire_among, IsPublisher, IsPrefix, IsHosting, IsSite, IsOpening, IsRegister}
+use Rattle.hdl_tenants.specs.Text.{Line, skipped, publisher, hosted, sited, opened, IsLine, place_of, register_after, IsKnownRow, IsAllowed, Adds, AddsAll}
 use Rattle.hdl_tenants.proofs.Distinct.{distinct_push, given_hosts}
 
 -- who is named has a place
@@ -31,6 +32,12 @@ place_within (p ∷ publishers) name there = by (bytes_eq name p.name) refl (pla
       | inr other ↦ rw t (omega (arith, later other))
     ]
 
+-- the layout of a publisher that is there is as it was
+wire_before : (publishers : List Publisher) (p : Publisher) (place : ℕ) → place < length publishers → wire_among (publishers ++ p ∷ []) place ≡ wire_among publishers place
+wire_before [] p place inside = absurd (omega (arith, inside))
+wire_before (q ∷ publishers) p zero inside = refl
+wire_before (q ∷ publishers) p (suc place) inside = wire_before publishers p place (omega (arith, inside))
+
 pub publisher_added : (r : Register) (p : Publisher) → IsRegister r → IsPublisher p → IsAllowed r (publisher p) → IsRegister (register_after r (publisher p))
 publisher_added r p is sound allowed = record {
   publishers = All-push IsPublisher r.publishers p is.publishers sound;
@@ -38,6 +45,12 @@ publisher_added r p is sound allowed = record {
   lanes = rw (sum_by-append (λ (q : Publisher). q.lanes) r.publishers (p ∷ [])) (omega (arith, allowed.1));
   hostings = All-weaker (IsHosting r.publishers) (IsHosting (r.publishers ++ p ∷ [])) (λ h old. record { sound = old.sound; publisher = omega (arith, old.publisher, length-append r.publishers (p ∷ [])) }) r.hostings is.hostings;
   once = is.once;
+  sites = All-weaker (IsSite r.publishers) (IsSite (r.publishers ++ p ∷ [])) (λ s old. record {
+    publisher = omega (arith, old.publisher, length-append r.publishers (p ∷ []));
+    layout = wire_before r.publishers p s.publisher old.publisher ∙ old.layout;
+    few = old.few;
+  }) r.sites is.sites;
+  one_site = is.one_site;
   opening = is.opening;
   places = is.places;
   few = is.few;
@@ -55,7 +68,25 @@ hosted_added r prefix name a is sound allowed =
       lanes = is.lanes;
       hostings = All-push (IsHosting r.publishers) r.hostings h is.hostings (record { sound = sound; publisher = place_within r.publishers name allowed.0 });
       once = rw (map-append {A = Hosting} {B = List ℕ × ℕ} hosting_pair r.hostings (h ∷ [])) (distinct_push (map hosting_pair r.hostings) (hosting_pair h) is.once (λ there. true≢false (sym (given_hosts r.hostings (place_of name r.publishers) prefix there) ∙ allowed.1)));
+      sites = is.sites;
+      one_site = is.one_site;
       opening = All-weaker (IsOpening r.hostings) (IsOpening (r.hostings ++ h ∷ [])) (λ row old. record { handle = old.handle; hosted = rw (prefixes-push r.hostings h) (Contains-append_left (prefixes_of r.hostings) (prefix ∷ []) _ old.hosted); sound = old.sound; fits = old.fits; spelt = old.spelt }) r.opening is.opening;
+      places = is.places;
+      few = is.few;
+    }
+
+pub sited_added : (r : Register) (name octets : List ℕ) → IsRegister r → length octets ≤ SITE_MAX → IsAllowed r (sited name octets) → IsRegister (register_after r (sited name octets))
+sited_added r name octets is few allowed =
+    let s : SiteInfo = record { publisher = place_of name r.publishers; octets = octets } in
+    record {
+      publishers = is.publishers;
+      names = is.names;
+      lanes = is.lanes;
+      hostings = is.hostings;
+      once = is.once;
+      sites = All-push (IsSite r.publishers) r.sites s is.sites (record { publisher = place_within r.publishers name allowed.0.there; layout = allowed.0.layout; few = few });
+      one_site = rw (map-append {A = SiteInfo} {B = ℕ} (λ x. x.publisher) r.sites (s ∷ [])) (distinct_push (informed r.sites) s.publisher is.one_site allowed.1);
+      opening = is.opening;
       places = is.places;
       few = is.few;
     }
@@ -69,6 +100,8 @@ opened_added r handle v is named sound fits known =
       lanes = is.lanes;
       hostings = is.hostings;
       once = is.once;
+      sites = is.sites;
+      one_site = is.one_site;
       opening = All-push (IsOpening r.hostings) r.opening row is.opening (record { handle = named; hosted = known.hosted; sound = sound; fits = fits; spelt = can_be_spelt v fits });
       places = rw (map-append place r.opening (row ∷ [])) (distinct_push (map place r.opening) (place row) is.places known.once);
       few = λ h. rw (sum_by-append (λ (x : Row). cond (bytes_eq (canonical x.0) h) 1 0) r.opening (row ∷ [])) (one_more h (bytes_eq (canonical handle) h) refl);
@@ -85,6 +118,7 @@ pub line_added : (r : Register) (text : List ℕ) (line : Line) → IsRegister r
 line_added r text skipped is says allowed = is
 line_added r text (publisher p) is says allowed = publisher_added r p is says.sound allowed
 line_added r text (hosted prefix name a) is says allowed = hosted_added r prefix name a is says.sound allowed
+line_added r text (sited name octets) is says allowed = sited_added r name octets is says.text.few allowed
 line_added r text (opened handle v) is says allowed = opened_added r handle v is says.named says.value.sound says.value.spelt.fits allowed
 
 pub empty_is : IsRegister empty
@@ -94,6 +128,8 @@ empty_is = record {
   lanes = omega arith;
   hostings = All-nil (IsHosting []);
   once = λ i j d below inside. absurd (omega arith);
+  sites = All-nil (IsSite []);
+  one_site = λ i j d below inside. absurd (omega arith);
   opening = All-nil (IsOpening []);
   places = λ i j d below inside. absurd (omega arith);
   few = λ h. omega arith;

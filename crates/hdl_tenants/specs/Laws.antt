@@ -3,7 +3,7 @@ use Rattle.std.specs.Prelude.{◌≡◌, ◌≢◌, ◌<◌, ◌≤◌, ◌+◌,
 use Rattle.hdl_name.specs.Name.{prefix}
 use Rattle.hdl_tenants.specs.declared.fault.TenantFault.{TenantFault}
 use Rattle.hdl_tenants.specs.declared.fault.TenantFault.TheVariants.{Memory}
-use Rattle.hdl_tenants.specs.Register.{Hosting, Register, root, owner, first_lane, hosts, algorithm, hosting_pair, IsRegister}
+use Rattle.hdl_tenants.specs.Register.{Hosting, SiteInfo, Register, root, owner, first_lane, hosts, algorithm, site, hosting_pair, IsRegister}
 use Rattle.hdl_tenants.specs.Text.{IsAccepted, IsFirstFault}
 
 -- lines without a fault say one thing
@@ -33,6 +33,10 @@ HostedAsGiven = (r : Register) (u : ℕ) (prefix : List ℕ) → IsTrue (hosts r
 -- the hash function of a prefix on a publisher's lanes is the one that its line gives
 abbrev pub HashedAsGiven : Type 0
 HashedAsGiven = (r : Register) → IsRegister r → (h : Hosting) → Contains r.hostings h → algorithm r h.publisher h.prefix ≡ h.algorithm
+
+-- the site information of a publisher is the octets that its line gives
+abbrev pub SitedAsGiven : Type 0
+SitedAsGiven = (r : Register) → IsRegister r → (s : SiteInfo) → Contains r.sites s → site r s.publisher ≡ Some s.octets
 
 -- the prefix of each handle to open with is hosted for a publisher
 abbrev pub OpeningIsHosted : Type 0

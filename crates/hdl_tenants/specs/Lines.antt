@@ -1,5 +1,5 @@
--- The three kinds of line of a tenants text, by their fields.
-use Rattle.std.specs.Prelude.{◌≡◌, ◌<◌, ◌^◌, ◌==◌, ℕ, List, [], ◌∷◌, codes, Ok, Option, Some, None, if◌then◌else◌}
+-- The four kinds of line of a tenants text, by their fields.
+use Rattle.std.specs.Prelude.{◌≡◌, ◌≤◌, ◌<◌, ◌^◌, ◌==◌, ℕ, List, [], ◌∷◌, length, codes, Ok, Option, Some, None, if◌then◌else◌}
 use Rattle.std.specs.List.{slice_split}
 use Rattle.std.specs.Str.{bytes_eq}
 use Rattle.std.specs.Str.Parse.{IsNumeral, digits_value}
@@ -11,6 +11,7 @@ use Rattle.hdl_value.specs.declared.value.Value.{Value}
 use Rattle.hdl_value.specs.declared.wire.Wire.{Wire}
 use Rattle.hdl_value.specs.declared.wire.Wire.TheVariants.{Profile, HandleNet}
 use Rattle.hdl_value.specs.Fault.{Begins, IsSound}
+use Rattle.hdl_tenants.specs.declared.sites.TheConstants.{SITE_MAX}
 use Rattle.hdl_tenants.specs.Register.{Publisher, IsPublisher, IsPrefix}
 
 -- what stands between the single spaces of a line
@@ -56,6 +57,17 @@ pub record IsPrefixLine (fields : List (List ℕ)) (prefix name : List ℕ) (alg
   pub split : fields ≡ codes "prefix" ∷ prefix ∷ name ∷ more
   pub hash : algorithm_in more ≡ Some algorithm
   pub sound : IsPrefix prefix
+
+-- hexadecimal digits of either case that spell these octets, for which a reply has room
+pub record IsSiteText (text octets : List ℕ) : Type 0 where
+  pub decoded : decode_of text ≡ Ok octets
+  pub few : length octets ≤ SITE_MAX
+
+-- `site NAME HEX`
+pub record IsSiteLine (fields : List (List ℕ)) (name octets : List ℕ) : Type 0 where
+  pub digits : List ℕ
+  pub split : fields ≡ codes "site" ∷ name ∷ digits ∷ []
+  pub text : IsSiteText digits octets
 
 -- hexadecimal digits of either case that spell this value, which keeps the limits, and nothing behind it
 pub record IsValueText (text : List ℕ) (v : Value) : Type 0 where

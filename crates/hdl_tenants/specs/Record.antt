@@ -8,8 +8,9 @@ use Rattle.hdl_tenants.specs.declared.lines.PublisherLine.{PublisherLine}
 use Rattle.hdl_tenants.specs.declared.prefixes.Host.{Host}
 use Rattle.hdl_tenants.specs.declared.prefixes.HostedPrefix.{HostedPrefix}
 use Rattle.hdl_tenants.specs.declared.publishers.Shape.{Shape}
+use Rattle.hdl_tenants.specs.declared.sites.KeptSite.{KeptSite}
 use Rattle.hdl_limits.specs.declared.TheConstants.{LANES}
-use Rattle.hdl_tenants.specs.Register.{Publisher, Hosting, lane_count}
+use Rattle.hdl_tenants.specs.Register.{Publisher, Hosting, SiteInfo, lane_count}
 
 -- the publisher that a line names
 abbrev pub publisher_on : PublisherLine → Publisher
@@ -43,6 +44,12 @@ hosting_in h = record { prefix = h.prefix.items; publisher = h.host.publisher; a
 
 abbrev pub hostings_in : List HostedPrefix → List Hosting
 hostings_in hosted = map hosting_in hosted
+
+abbrev pub site_in : KeptSite → SiteInfo
+site_in s = record { publisher = s.publisher; octets = s.octets.items }
+
+abbrev pub sites_in : List KeptSite → List SiteInfo
+sites_in kept = map site_in kept
 
 -- how many lanes there are together, and that they are few
 pub record KeepsLanes (publishers : List Publisher) (lanes : ℕ) : Type 0 where

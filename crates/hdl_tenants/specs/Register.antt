@@ -1,16 +1,17 @@
--- What a tenants text says as a whole: publishers, hosted prefixes and opening rows, each in the text's order.
+-- What a tenants text says as a whole: publishers, hosted prefixes, site information and opening rows, each in the text's order.
 use Rattle.std.specs.Prelude.{◌≡◌, ◌≢◌, ◌≤◌, ◌<◌, ◌^◌, ◌==◌, ◌&&◌, ◌||◌, ◌-◌, ◌+◌, ℕ, Bool, List, [], ◌∷◌, length, take, codes, map, sum_by, count_by, All, AllPairs, Contains, Option, Some, None, nat_lt, if◌then◌else◌, find, slice_get}
 use Rattle.std.specs.List.{AllPass, list_any}
 use Rattle.std.specs.Option.{option_map, option_map_or}
 use Rattle.std.specs.Char.{is_ascii_digit, is_ascii_lowercase}
 use Rattle.std.specs.Str.{bytes_eq, str_to_ascii_lowercase}
 use Rattle.hdl_limits.specs.declared.TheConstants.{LANES, VALUES_MAX, PUBLISHER_NAME_MAX}
+use Rattle.hdl_tenants.specs.declared.sites.TheConstants.{SITE_MAX}
 use Rattle.hdl_auth.specs.declared.algorithm.Algorithm.{Algorithm}
 use Rattle.hdl_auth.specs.declared.algorithm.Algorithm.TheVariants.{Sha1}
 use Rattle.hdl_name.specs.Name.{IsHandle, IsAuthority, canonical, prefix}
 use Rattle.hdl_value.specs.declared.value.Value.{Value}
 use Rattle.hdl_value.specs.declared.wire.Wire.{Wire}
-use Rattle.hdl_value.specs.declared.wire.Wire.TheVariants.{Profile}
+use Rattle.hdl_value.specs.declared.wire.Wire.TheVariants.{Profile, HandleNet}
 use Rattle.hdl_value.specs.Place.{Place}
 use Rattle.hdl_value.specs.Spelling.{Fits, CanBeSpelt}
 use Rattle.hdl_value.specs.Fault.{IsSound}
@@ -28,19 +29,25 @@ pub record Hosting : Type 0 where
   pub publisher : ℕ
   pub algorithm : Algorithm
 
+-- the place of a publisher among the publishers, and the octets of its site information
+pub record SiteInfo : Type 0 where
+  pub publisher : ℕ
+  pub octets : List ℕ
+
 -- a handle's name, and a value of that handle
 abbrev pub Row : Type 0
 Row = List ℕ × Value
 
--- the publishers, what is hosted for them, and the rows to open with
+-- the publishers, what is hosted for them, their site information, and the rows to open with
 pub record Register : Type 0 where
   pub publishers : List Publisher
   pub hostings : List Hosting
+  pub sites : List SiteInfo
   pub opening : List Row
 
 -- what no line says
 abbrev pub empty : Register
-empty = record { publishers = []; hostings = []; opening = [] }
+empty = record { publishers = []; hostings = []; sites = []; opening = [] }
 
 -- ---- what callers ask
 
@@ -84,6 +91,14 @@ algorithm_among hostings publisher prefix = option_map_or (λ h. h.algorithm) (f
 abbrev pub algorithm : Register → ℕ → List ℕ → Algorithm
 algorithm r publisher prefix = algorithm_among r.hostings publisher prefix
 
+-- the octets of the first of these that is of the publisher at this place, if one is
+abbrev pub site_among : List SiteInfo → ℕ → Option (List ℕ)
+site_among sites publisher = option_map (λ s. s.octets) (find (λ s. s.publisher == publisher) sites)
+
+-- the site information of the publisher at this place
+abbrev pub site : Register → ℕ → Option (List ℕ)
+site r publisher = site_among r.sites publisher
+
 -- ---- what is kept
 
 -- the names of the publishers
@@ -97,6 +112,10 @@ prefixes_of hostings = map (λ h. h.prefix) hostings
 -- the prefix, and the place of the publisher that has it
 abbrev pub hosting_pair : Hosting → List ℕ × ℕ
 hosting_pair h = (h.prefix, h.publisher)
+
+-- the places of the publishers with site information
+abbrev pub informed : List SiteInfo → List ℕ
+informed sites = map (λ s. s.publisher) sites
 
 -- where a row stands: its canonical handle and its value's index
 abbrev pub place : Row → Place
@@ -141,6 +160,12 @@ pub record IsHosting (publishers : List Publisher) (h : Hosting) : Type 0 where
   pub sound : IsPrefix h.prefix
   pub publisher : h.publisher < length publishers
 
+-- site information that a reply has room for, of a publisher that is there, whose lanes have the layout of the Handle.Net software
+pub record IsSite (publishers : List Publisher) (s : SiteInfo) : Type 0 where
+  pub publisher : s.publisher < length publishers
+  pub layout : wire_among publishers s.publisher ≡ HandleNet
+  pub few : length s.octets ≤ SITE_MAX
+
 -- a value that keeps the limits, of a handle whose prefix is hosted
 pub record IsOpening (hostings : List Hosting) (row : Row) : Type 0 where
   pub handle : IsHandle row.0
@@ -156,6 +181,8 @@ pub record IsRegister (r : Register) : Type 0 where
   pub lanes : lane_count r.publishers ≤ LANES
   pub hostings : All (IsHosting r.publishers) r.hostings
   pub once : AreDistinct (map hosting_pair r.hostings)
+  pub sites : All (IsSite r.publishers) r.sites
+  pub one_site : AreDistinct (informed r.sites)
   pub opening : All (IsOpening r.hostings) r.opening
   pub places : AreDistinct (map place r.opening)
   pub few : (handle : List ℕ) → value_count handle r.opening ≤ VALUES_MAX

@@ -5,17 +5,19 @@ use Rattle.std.specs.Str.{bytes_eq}
 use Rattle.hdl_auth.specs.declared.algorithm.Algorithm.{Algorithm}
 use Rattle.hdl_name.specs.Name.{canonical, prefix}
 use Rattle.hdl_value.specs.declared.value.Value.{Value}
+use Rattle.hdl_value.specs.declared.wire.Wire.TheVariants.{HandleNet}
 use Rattle.hdl_tenants.specs.declared.fault.TenantFault.{TenantFault}
-use Rattle.hdl_tenants.specs.declared.fault.TenantFault.TheVariants.{BadLine, TwicePrefix, TwicePublisher, TooMany, Memory}
+use Rattle.hdl_tenants.specs.declared.fault.TenantFault.TheVariants.{BadLine, TwicePrefix, TwicePublisher, TwiceSite, TooMany, Memory}
 use Rattle.hdl_limits.specs.declared.TheConstants.{LANES, VALUES_MAX}
-use Rattle.hdl_tenants.specs.Register.{Publisher, Register, Row, empty, names_of, prefixes_of, hosts, lane_count, place, value_count}
-use Rattle.hdl_tenants.specs.Lines.{fields_of, IsPublisherLine, IsPrefixLine, IsValueLine}
+use Rattle.hdl_tenants.specs.Register.{Publisher, Register, Row, empty, names_of, prefixes_of, hosts, informed, lane_count, wire, place, value_count}
+use Rattle.hdl_tenants.specs.Lines.{fields_of, IsPublisherLine, IsPrefixLine, IsSiteLine, IsValueLine}
 
 -- what one line says
 pub data Line : Type 0 where
   skipped : Line
   publisher : Publisher → Line
   hosted : (prefix name : List ℕ) → Algorithm → Line
+  sited : (name octets : List ℕ) → Line
   opened : (handle : List ℕ) → Value → Line
 
 -- an empty line, or one that begins with '#'
@@ -27,6 +29,7 @@ abbrev pub IsLine : List ℕ → Line → Type 0
 IsLine text skipped = IsSkipped text
 IsLine text (publisher p) = IsPublisherLine (fields_of text) p
 IsLine text (hosted prefix name a) = IsPrefixLine (fields_of text) prefix name a
+IsLine text (sited name octets) = IsSiteLine (fields_of text) name octets
 IsLine text (opened handle v) = IsValueLine (fields_of text) handle v
 
 -- the place of the publisher with this name
@@ -42,6 +45,7 @@ abbrev pub register_after : Register → Line → Register
 register_after r skipped = r
 register_after r (publisher p) = record r { publishers = r.publishers ++ p ∷ [] }
 register_after r (hosted prefix name a) = record r { hostings = r.hostings ++ record { prefix = prefix; publisher = place_of name r.publishers; algorithm = a } ∷ [] }
+register_after r (sited name octets) = record r { sites = r.sites ++ record { publisher = place_of name r.publishers; octets = octets } ∷ [] }
 register_after r (opened handle v) = record r { opening = r.opening ++ (handle, v) ∷ [] }
 
 -- a value may follow what stands before it
@@ -50,11 +54,21 @@ pub record IsKnownRow (r : Register) (row : Row) : Type 0 where
   pub once : ¬ (Contains (map place r.opening) (place row))
   pub room : value_count (canonical row.0) r.opening < VALUES_MAX
 
+-- the lanes of a publisher with this name have the layout of the Handle.Net software
+pub record SpeaksHandleNet (r : Register) (name : List ℕ) : Type 0 where
+  pub there : Contains (names_of r.publishers) name
+  pub layout : wire r (place_of name r.publishers) ≡ HandleNet
+
+-- the publisher with this name has site information
+abbrev pub HasSite : Register → List ℕ → Type 0
+HasSite r name = Contains (informed r.sites) (place_of name r.publishers)
+
 -- a line names nothing that does not stand before it, and no value twice or too many
 abbrev pub IsKnown : Register → Line → Type 0
 IsKnown r skipped = ⊤
 IsKnown r (publisher p) = ⊤
 IsKnown r (hosted prefix name a) = Contains (names_of r.publishers) name
+IsKnown r (sited name octets) = SpeaksHandleNet r name
 IsKnown r (opened handle v) = IsKnownRow r (handle, v)
 
 -- nothing is wrong with a line that says this
@@ -62,6 +76,7 @@ abbrev pub IsAllowed : Register → Line → Type 0
 IsAllowed r skipped = ⊤
 IsAllowed r (publisher p) = ¬ (Contains (names_of r.publishers) p.name) × (lane_count r.publishers + p.lanes ≤ LANES)
 IsAllowed r (hosted prefix name a) = Contains (names_of r.publishers) name × IsFalse (hosts_named r prefix name)
+IsAllowed r (sited name octets) = SpeaksHandleNet r name × ¬ (HasSite r name)
 IsAllowed r (opened handle v) = IsKnownRow r (handle, v)
 
 -- what is wrong with a line; a line that is skipped needs no memory
@@ -69,6 +84,7 @@ abbrev pub HasFault : Register → List ℕ → TenantFault → Type 0
 HasFault r text BadLine = (line : Line) → IsLine text line → ¬ (IsKnown r line)
 HasFault r text TwicePrefix = (prefix : List ℕ) × (name : List ℕ) × (a : Algorithm) × IsLine text (hosted prefix name a) × Contains (names_of r.publishers) name × IsTrue (hosts_named r prefix name)
 HasFault r text TwicePublisher = (p : Publisher) × IsLine text (publisher p) × Contains (names_of r.publishers) p.name
+HasFault r text TwiceSite = (name : List ℕ) × (octets : List ℕ) × IsLine text (sited name octets) × SpeaksHandleNet r name × HasSite r name
 HasFault r text TooMany = (p : Publisher) × IsLine text (publisher p) × ¬ (Contains (names_of r.publishers) p.name) × (LANES < lane_count r.publishers + p.lanes)
 HasFault r text Memory = ¬ (IsSkipped text)
 

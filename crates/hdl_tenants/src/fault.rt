@@ -12,6 +12,8 @@ pub enum TenantFault {
     TwicePrefix,
     #[error("publisher given twice")]
     TwicePublisher,
+    #[error("site information given twice")]
+    TwiceSite,
     #[error("more than 64 lanes")]
     TooMany,
     #[error("no memory")]

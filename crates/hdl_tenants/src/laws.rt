@@ -1,6 +1,6 @@
 //! Laws over tenants texts, each the contract of a function without a body.
 
-ghost use Rattle.hdl_tenants.specs.Laws.{OneRegister, AcceptedHasNoFault, OneFirstFault, LanesByRange, RootIsNobodys, HostedAsGiven, HashedAsGiven, OpeningIsHosted};
+ghost use Rattle.hdl_tenants.specs.Laws.{OneRegister, AcceptedHasNoFault, OneFirstFault, LanesByRange, RootIsNobodys, HostedAsGiven, HashedAsGiven, SitedAsGiven, OpeningIsHosted};
 
 /// An accepted text says one thing.
 pub fn one_register()
@@ -35,6 +35,11 @@ pub fn hosted_as_given()
 /// The hash function of a prefix on a publisher's lanes is the one that its line gives.
 pub fn hashed_as_given()
     ensures { HashedAsGiven }
+{}
+
+/// The site information of a publisher is the octets that its line gives.
+pub fn sited_as_given()
+    ensures { SitedAsGiven }
 {}
 
 /// Each handle to open with has a prefix that is hosted for a publisher.

@@ -1,4 +1,4 @@
-//! The three kinds of line of a tenants text, by their fields.
+//! The four kinds of line of a tenants text, by their fields.
 
 ghost use Rattle.std.specs.Prelude.{◌≡◌, ◌≢◌, ◌↔◌, ℕ, List, [], ◌∷◌, codes, map, IsTrue, IfOk, IfErr, MatchOption};
 ghost use Rattle.std.specs.Str.{str_to_ascii_lowercase};
@@ -8,12 +8,13 @@ ghost use Rattle.hdl_value.specs.declared.value.Value.{Value};
 ghost use Rattle.hdl_tenants.specs.Register as register;
 ghost use Rattle.hdl_tenants.specs.Register.{IsPublisherName, IsPrefix};
 ghost use Rattle.hdl_tenants.specs.Lines as lines;
-ghost use Rattle.hdl_tenants.specs.Lines.{IsPublisherLine, IsPrefixLine, IsValueText, algorithm_in, algorithm_named, wire_in};
+ghost use Rattle.hdl_tenants.specs.Lines.{IsPublisherLine, IsPrefixLine, IsSiteText, IsValueText, algorithm_in, algorithm_named, wire_in};
 ghost use Rattle.hdl_tenants.specs.Text.{IsSkipped};
-ghost use Rattle.hdl_tenants.specs.Steps.{IsNameFault, IsDigitsFault};
+ghost use Rattle.hdl_tenants.specs.Steps.{IsNameFault, IsDigitsFault, IsSiteTextFault};
 
 use crate::fault::TenantFault;
 use crate::numerals::decimal_u16;
+use crate::sites::SITE_MAX;
 use hdl_auth::algorithm::Algorithm;
 use hdl_limits::{LANES, PUBLISHER_NAME_MAX};
 use hdl_name::{Name, is_authority, is_name};
@@ -36,6 +37,13 @@ pub struct PrefixLine<'a> {
     pub prefix: &'a str,
     pub name: &'a str,
     pub algorithm: Algorithm,
+}
+
+/// The name of a publisher and the hexadecimal digits of its site information.
+#[derive(Clone, Copy)]
+pub struct SiteLine<'a> {
+    pub name: &'a str,
+    pub digits: &'a str,
 }
 
 /// A handle and the hexadecimal digits of a value.
@@ -157,6 +165,20 @@ pub fn prefix_of<'a>(fields: &[&'a str]) -> Option<PrefixLine<'a>>
     })
 }
 
+/// The second and third field of a line `site NAME HEX`.
+pub fn site_of<'a>(fields: &[&'a str]) -> Option<SiteLine<'a>>
+    ensures { MatchOption result ((name digits : List ℕ) → map (λ field. field.now) fields.now ≢ codes "site" ∷ name ∷ digits ∷ [])
+        (λ s. map (λ field. field.now) fields.now ≡ codes "site" ∷ s.name.now ∷ s.digits.now ∷ []) }
+{
+    let [word, name, digits] = fields else {
+        return None;
+    };
+    if *word != "site" {
+        return None;
+    }
+    Some(SiteLine { name, digits })
+}
+
 /// The second and third field of a line `value HANDLE HEX`.
 pub fn value_of<'a>(fields: &[&'a str]) -> Option<ValueLine<'a>>
     ensures { MatchOption result ((handle digits : List ℕ) → map (λ field. field.now) fields.now ≢ codes "value" ∷ handle ∷ digits ∷ [])
@@ -214,6 +236,26 @@ pub fn value_text(alloc: Global, text: &str) -> Result<Value, TenantFault>
             Err(TenantFault::BadLine)
         }
     }
+}
+
+/// The octets of site information that the digits spell.
+pub fn site_text(alloc: Global, text: &str) -> Result<Vec<u8>, TenantFault>
+    ensures octets { IfOk result (λ octets. IsSiteText text.now octets.items) }
+    ensures fault { IfErr result (λ e. IsSiteTextFault text.now e) }
+{
+    let octets = match hex::decode(alloc, text) {
+        Ok(octets) => octets,
+        Err(fault) => {
+            if fault == FromHexError::OutOfMemory {
+                return Err(TenantFault::Memory);
+            }
+            return Err(TenantFault::BadLine);
+        }
+    };
+    if octets.len() > SITE_MAX {
+        return Err(TenantFault::BadLine);
+    }
+    Ok(octets)
 }
 
 /// The fields of a line: what stands between its single spaces.

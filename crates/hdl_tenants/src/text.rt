@@ -1,22 +1,24 @@
 //! A tenants text, line after line.
 
-ghost use Rattle.std.specs.Prelude.{◌≡◌, ◌<◌, ◌↔◌, ℕ, List, ◌+◌, length, Contains, IsTrue, IsSome, IfOk, IfErr, IfSome, MatchOption, OnOk, map, is_some, unwrap_or, slice_get};
+ghost use Rattle.std.specs.Prelude.{◌≡◌, ◌<◌, ◌≤◌, ◌↔◌, ℕ, List, ◌+◌, length, Contains, IsTrue, IsSome, IfOk, IfErr, IfSome, MatchOption, OnOk, map, is_some, unwrap_or, slice_get};
 ghost use Rattle.std.specs.Str.Lines.{lines};
 ghost use Rattle.hdl_name.specs.Name.{prefix};
+ghost use Rattle.hdl_tenants.specs.declared.sites.TheConstants.{SITE_MAX};
 ghost use Rattle.hdl_tenants.specs.Register as register;
 ghost use Rattle.hdl_tenants.specs.Register.{empty, place, IsPublisher, IsPrefix, IsRegister};
 ghost use Rattle.hdl_tenants.specs.Text.{publisher, hosted, register_after, IsAllowed, HasFault, Adds, IsAccepted, IsFirstFault};
-ghost use Rattle.hdl_tenants.specs.Steps.{IsPublisherFault, IsHostedFault, IsOpenedFault, Opens};
+ghost use Rattle.hdl_tenants.specs.Steps.{IsPublisherFault, IsHostedFault, IsSitedFault, Informs, IsOpenedFault, Opens};
 ghost use Rattle.hdl_tenants.specs.Record.{publisher_on};
 ghost use Rattle.hdl_tenants.specs.Taken.{Indexes};
 
 use crate::fault::TenantFault;
 use crate::lines::{
-    PrefixLine, PublisherLine, ValueLine, fields_of, is_skipped, name_of, prefix_of, publisher_of,
-    value_of, value_text,
+    PrefixLine, PublisherLine, SiteLine, ValueLine, fields_of, is_skipped, name_of, prefix_of,
+    publisher_of, site_of, site_text, value_of, value_text,
 };
 use crate::prefixes::{Host, Prefixes};
 use crate::publishers::Publishers;
+use crate::sites::Sites;
 use crate::taken::TakenPlaces;
 use hdl_auth::algorithm::Algorithm;
 use hdl_name::Name;
@@ -24,12 +26,13 @@ use hdl_value::{Value, Wire};
 use std::alloc::Global;
 use std::marker::Model;
 
-/// What a tenants text says: publishers with their lanes and ports, the prefixes that are hosted for them, and the values to
-/// open with, each in the text's order. A publisher is known by its place in that order, counted from 0.
+/// What a tenants text says: publishers with their lanes and ports, the prefixes that are hosted for them, their site
+/// information, and the values to open with, each in the text's order. A publisher is known by its place in that order, counted from 0.
 #[derive(Drop)]
 pub struct Tenants {
     publishers: Publishers,
     prefixes: Prefixes,
+    sites: Sites,
     opening: Vec<(Name, Value)>,
 }
 
@@ -38,9 +41,9 @@ impl Model for Tenants {
 
     ghost Value = { Register };
 
-    ghost view = { λ a. record { publishers = a.publishers; hostings = a.prefixes; opening = a.opening.items } };
+    ghost view = { λ a. record { publishers = a.publishers; hostings = a.prefixes; sites = a.sites; opening = a.opening.items } };
 
-    ghost invariant = { λ a. IsRegister (record { publishers = a.publishers; hostings = a.prefixes; opening = a.opening.items }) };
+    ghost invariant = { λ a. IsRegister (record { publishers = a.publishers; hostings = a.prefixes; sites = a.sites; opening = a.opening.items }) };
 }
 
 impl Tenants {
@@ -51,6 +54,7 @@ impl Tenants {
         Tenants {
             publishers: Publishers::new(alloc),
             prefixes: Prefixes::new(alloc),
+            sites: Sites::new(alloc),
             opening: Vec::new(alloc),
         }
     }
@@ -81,6 +85,23 @@ impl Tenants {
             algorithm: line.algorithm,
         };
         self.prefixes.add(alloc, host, line.prefix.as_bytes())?;
+        Ok(())
+    }
+
+    /// Adds site information of a publisher that is there, whose lanes have the layout of the Handle.Net software.
+    fn add_site(&mut self, alloc: Global, line: &SiteLine<'_>) -> Result<(), TenantFault>
+        ensures ok { OnOk result (Informs self.old line.now.name.now line.now.digits.now self.new) }
+        ensures opening { OnOk result (self.new.opening ≡ self.old.opening) }
+        ensures fault { IfErr result (λ e. IsSitedFault self.old line.now.name.now line.now.digits.now e) }
+    {
+        let Some(publisher) = self.publishers.place(line.name) else {
+            return Err(TenantFault::BadLine);
+        };
+        if self.publishers.wire(publisher) != Wire::HandleNet {
+            return Err(TenantFault::BadLine);
+        }
+        let octets = site_text(alloc, line.digits)?;
+        self.sites.add(publisher, octets)?;
         Ok(())
     }
 
@@ -132,6 +153,9 @@ impl Tenants {
         if let Some(line) = prefix_of(&fields) {
             return self.add_prefix(alloc, &line);
         }
+        if let Some(line) = site_of(&fields) {
+            return self.add_site(alloc, &line);
+        }
         if let Some(line) = value_of(&fields) {
             return self.add_value(alloc, &line, taken);
         }
@@ -147,12 +171,14 @@ impl Tenants {
     /// prefix PREFIX NAME           PREFIX is a naming authority in canonical form, other than 0.na; NAME stands before;
     /// prefix PREFIX NAME HASH      several publishers may have one prefix. HASH is 2 for SHA-1, as where there is none, or 3
     ///                              for SHA-256: the hash function of the prefix on the lanes of NAME
+    /// site NAME HEX                HEX spells the octets that the lanes of NAME, which speak by handle-net, answer to a question
+    ///                              for site information, at most 65,475
     /// value HANDLE HEX             HEX spells one value within its limits; the prefix of HANDLE stands before
     /// ```
     ///
     /// Refuses the first faulty line, counted from 1 over all lines: BadLine for any other line, an index twice in a handle and
-    /// more than 1,024 values of one; then, in this order, TwicePrefix for a prefix that its publisher has, TwicePublisher, TooMany for more than 64
-    /// lanes together;
+    /// more than 1,024 values of one; then, in this order, TwicePrefix for a prefix that its publisher has, TwicePublisher, TwiceSite
+    /// for a publisher that has site information, TooMany for more than 64 lanes together;
     /// Memory where room for the line was refused. Nothing is left of a text that is refused.
     pub fn read(alloc: Global, text: &str) -> Result<Tenants, (usize, TenantFault)>
         ensures accepted { IfOk result (λ tenants. IsAccepted (lines text.now) tenants) }
@@ -199,6 +225,14 @@ impl Tenants {
         ensures { result ≡ register.wire self.now publisher }
     {
         self.publishers.wire(publisher)
+    }
+
+    /// The octets that the lanes of the publisher at this place answer to a question for site information, if a line gives them.
+    pub fn site(&self, publisher: usize) -> Option<&[u8]>
+        ensures site { MatchOption result (register.site self.now publisher ≡ None) (λ octets. register.site self.now publisher ≡ Some octets.now) }
+        ensures few { IfSome result (λ octets. length octets.now ≤ SITE_MAX) }
+    {
+        self.sites.of(publisher)
     }
 
     /// How many publishers there are.

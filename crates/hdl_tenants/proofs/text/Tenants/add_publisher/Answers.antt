@@ -5,5 +5,5 @@ use Rattle.hdl_tenants.proofs.text.Tenants.add_publisher.Goals as goal
 
 pub invariant_of-self-2 : goal.invariant_of-self-2
 invariant_of-self-2 c =
-    let r : Register = record { publishers = c.self.inside.publishers; hostings = c.self.inside.prefixes; opening = c.self.inside.opening.items } in
+    let r : Register = record { publishers = c.self.inside.publishers; hostings = c.self.inside.prefixes; sites = c.self.inside.sites; opening = c.self.inside.opening.items } in
     rw c.in_ok-add.ensures.ok (publisher_added r (publisher_on c.args.line.now) c.self.invariant c.requires (c.in_ok-add.ensures.absent, c.in_ok-add.ensures.room))

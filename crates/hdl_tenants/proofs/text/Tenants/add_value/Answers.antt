@@ -14,7 +14,7 @@ returns-in_err-value-clause-fault c =
 
 pub returns-in_err-add-clause-fault : goal.returns-in_err-add-clause-fault
 returns-in_err-add-clause-fault c =
-    let r : Register = record { publishers = c.self.inside.publishers; hostings = c.self.inside.prefixes; opening = c.self.inside.opening.items } in
+    let r : Register = record { publishers = c.self.inside.publishers; hostings = c.self.inside.prefixes; sites = c.self.inside.sites; opening = c.self.inside.opening.items } in
     let indexes = rw (← c.self.view_is) at c.requires in
     let p = err_from_is_err_and c.from_residual-in_err-add.result c.from_residual-in_err-add.ensures.1 in
     rw (p.1, p.2, ← c.self.view_is) (from_place r c.args.line.now.handle.now c.args.line.now.digits.now c.in_ok-value.value c.in_ok-name.name c.canon.result.now
@@ -22,7 +22,7 @@ returns-in_err-add-clause-fault c =
 
 pub returns-clause-ok : goal.returns-clause-ok
 returns-clause-ok c =
-    let r : Register = record { publishers = c.self.inside.publishers; hostings = c.self.inside.prefixes; opening = c.self.inside.opening.items } in
+    let r : Register = record { publishers = c.self.inside.publishers; hostings = c.self.inside.prefixes; sites = c.self.inside.sites; opening = c.self.inside.opening.items } in
     let handle = c.args.line.now.handle.now in
     let v = c.in_ok-value.value in
     let indexes = rw (← c.self.view_is) at c.requires in
@@ -41,7 +41,7 @@ returns-clause-taken c =
 
 pub invariant_of-self-2 : goal.invariant_of-self-2
 invariant_of-self-2 c =
-    let r : Register = record { publishers = c.self.inside.publishers; hostings = c.self.inside.prefixes; opening = c.self.inside.opening.items } in
+    let r : Register = record { publishers = c.self.inside.publishers; hostings = c.self.inside.prefixes; sites = c.self.inside.sites; opening = c.self.inside.opening.items } in
     let handle = c.args.line.now.handle.now in
     let v = c.in_ok-value.value in
     let indexes = rw (← c.self.view_is) at c.requires in
