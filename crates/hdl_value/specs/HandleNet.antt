@@ -1,4 +1,4 @@
--- The layout of a value that the Handle.Net software has (docs/PROTOCOL.md, "Values"): its timestamp is in seconds, and stands with TTL and
+-- The layout of a value that, to our knowledge, the Handle.Net software has (docs/PROTOCOL.md, "Values"): its timestamp is in seconds, and stands with TTL and
 -- permission before type and data. A value is the same value in both layouts, but that a moment is seen by its second.
 use Rattle.std.specs.Prelude.{◌≡◌, ℕ, ◌*◌, ◌/◌, ◌^◌, ◌-◌, List, ◌++◌, Option, Some, nat_lt, if◌then◌else◌}
 use Rattle.std.specs.Int.{w32}

@@ -1,4 +1,5 @@
-//! The layouts of a value: our profile's, and that of the Handle.Net software.
+//! The layouts of a value: our profile's, and the one that, to our knowledge, the Handle.Net software has
+//! (docs/HANDLE_NET.md). Comments call it the layout of the Handle.Net software.
 
 ghost use Rattle.std.specs.Prelude.{◌≡◌, ◌++◌, OnOk};
 ghost use Rattle.hdl_value.specs.Spelling.{CanBeSpelt};
@@ -18,7 +19,7 @@ use std::alloc::AllocError;
 pub enum Wire {
     /// Our profile's, as [`Value`] documents it.
     Profile,
-    /// That of the Handle.Net software. The fields in order:
+    /// The one that, to our knowledge, the Handle.Net software has. The fields in order:
     ///
     /// ```text
     /// index        4 octets
