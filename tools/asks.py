@@ -402,7 +402,7 @@ tenants: line 15: the name has no slash
 tenants: line 16: HEX is an even number of hexadecimal digits; hdl tenants makes them of a value in words
 tenants: line 17: the value is cut short
 tenants: line 18: a line begins with `publisher`, `prefix`, `site` or `value` and a space, or with `#`, or is empty
-tenants: line 19: the word after the port is handle-net: the layout of values that the Handle.Net software has
+tenants: line 19: the word after the port is handle-net: the layout of values that, to our knowledge, Handle.Net software has
 tenants: line 22: site information given twice: this publisher has it already
 tenants: line 23: no line above gives this publisher `handle-net`: write its line `publisher .. handle-net` before this one
 tenants: line 24: HEX is an even number of hexadecimal digits; hdl site makes them of an address

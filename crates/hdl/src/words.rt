@@ -69,7 +69,7 @@ fn handle_net(alloc: Global) -> Arg<'static> {
     flag(
         alloc,
         "handle-net",
-        "Lays values out as the Handle.Net software does: for ports whose line ends with handle-net",
+        "Lays values out as, to our knowledge, Handle.Net software does: for ports whose line ends with handle-net",
     )
 }
 

@@ -29,7 +29,7 @@ const LANES_FORM: &str = "LANES is a number from 2 to 64; the last lane is that 
 const PORT_FORM: &str = "PORT is a number from 1 to 65535";
 
 const LAYOUT_FORM: &str =
-    "the word after the port is handle-net: the layout of values that the Handle.Net software has";
+    "the word after the port is handle-net: the layout of values that, to our knowledge, Handle.Net software has";
 
 const AUTHORITY_FORM: &str =
     "a prefix is a naming authority in lower case, such as 10 or 10.5072, without a slash, and not 0.na";
