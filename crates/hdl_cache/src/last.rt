@@ -21,8 +21,8 @@ pub(crate) struct FoundMask {
 
 /// The mask that was found last while the table owed no write.
 ///
-/// A step finds its mask before it hands its write over, and no mask is noted until then. So while the table owes that
-/// write, its mask is here, whatever masks are found for other steps meanwhile.
+/// A step finds its mask before it hands its write over, and no other mask is found between the two. So while the table
+/// owes that write, its mask is here, whatever masks are found for other steps meanwhile.
 #[derive(Drop)]
 pub(crate) struct LastMask {
     found: Option<FoundMask>,
