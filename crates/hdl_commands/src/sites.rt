@@ -346,7 +346,7 @@ pub fn show_site(rt: &HostRuntime, word: &str) -> u8 {
 
 /// What a server says of the question, in words.
 #[derive(Drop)]
-enum Told {
+enum SiteAnswer {
     /// What its site information says.
     Site(Printout),
     /// The octets of its site information, which are no data of a site.
@@ -356,21 +356,21 @@ enum Told {
 }
 
 /// What the reply says.
-fn told_by(alloc: Global, reply: &Reply) -> Result<Told, AllocError> {
+fn answer_of(alloc: Global, reply: &Reply) -> Result<SiteAnswer, AllocError> {
     let view = reply.view();
     let ContentView::Site { octets } = view.content else {
-        return Ok(Told::Code(view.header.response_code));
+        return Ok(SiteAnswer::Code(view.header.response_code));
     };
     match told_of(alloc, octets)? {
-        Some(printout) => Ok(Told::Site(printout)),
-        None => Ok(Told::Other(hex::encode(alloc, octets)?)),
+        Some(printout) => Ok(SiteAnswer::Site(printout)),
+        None => Ok(SiteAnswer::Other(hex::encode(alloc, octets)?)),
     }
 }
 
-fn asked(rt: &HostRuntime, server: &str) -> Result<Told, ClientFault> {
+fn asked(rt: &HostRuntime, server: &str) -> Result<SiteAnswer, ClientFault> {
     let mut session = connect(rt, server)?;
     let reply = session.ask_site()?;
-    Ok(told_by(rt.alloc(), &reply)?)
+    Ok(answer_of(rt.alloc(), &reply)?)
 }
 
 /// What to do where a server tells no site information.
@@ -383,16 +383,18 @@ fn way_on(code: u32) -> &'static str {
 }
 
 /// Prints what a server said, and answers the exit status.
-fn show_told(rt: &HostRuntime, told: &Told) -> u8 {
-    let _ = match told {
-        Told::Site(printout) => print!(rt; "{}", printout.as_str()),
-        Told::Other(digits) => {
+fn show_answer(rt: &HostRuntime, answer: &SiteAnswer) -> u8 {
+    let _ = match answer {
+        SiteAnswer::Site(printout) => print!(rt; "{}", printout.as_str()),
+        SiteAnswer::Other(digits) => {
             eprintln!(rt; "hdl: the site information is no data of an HS_SITE value: {digits}")
         }
-        Told::Code(code) => { eprintln!(rt; "hdl: {code} {}{}", code_name(*code), way_on(*code)) }
+        SiteAnswer::Code(code) => {
+            eprintln!(rt; "hdl: {code} {}{}", code_name(*code), way_on(*code))
+        }
     };
-    match told {
-        Told::Site(_) => 0,
+    match answer {
+        SiteAnswer::Site(_) => 0,
         _ => 1,
     }
 }
@@ -402,7 +404,7 @@ fn show_told(rt: &HostRuntime, told: &Told) -> u8 {
 /// nothing that can be read.
 pub fn ask_site(rt: &HostRuntime, server: &str) -> u8 {
     match asked(rt, server) {
-        Ok(told) => show_told(rt, &told),
+        Ok(answer) => show_answer(rt, &answer),
         Err(fault) => {
             tell_fault(rt, server, fault);
             let _ = eprintln!(rt);
