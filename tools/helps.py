@@ -78,7 +78,8 @@ def starts():
         for name in ("handled", "run", "hdl", "crates.txt"):
             shutil.copy(repository.path(name), folder)
         for start, program in STARTS.items():
-            for words in (["--help"], ["-h"], ["--version"], ["-V"], *([name, "--help"] for name in commands(program)[:1])):
+            first = commands(program)[:1]
+            for words in (["--help"], ["-h"], ["--version"], ["-V"], *([name, "--help"] for name in first), *(["help", name] for name in first), *(["help"] for _ in first)):
                 status, output, faults = said([*start.split(), *words], folder)
                 good = (status, output) == (0, said([PROGRAMS[program], *words])[1]) and UNBUILT in faults and faults.count("\n") == 1
                 yield "%s %s before it is built" % (start, " ".join(words)), good
