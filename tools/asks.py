@@ -137,8 +137,23 @@ HTTP port 8000: queries
 SITES = (
     (["--address", "192.0.2.7", "--udp"], SITE.hex() + "\n"),
     (["--address", "2001:db8::7", "--port", "12345", "--serial", "258"], SITE_6.hex() + "\n"),
+    (["--address", "192.0.2.7", "--udp", "--publisher", "acme"], "site acme %s\n" % SITE.hex()),
     (["--read", SITE.hex()], SITE_SAID),
     (["--read", SITE_OTHER.hex()], SITE_OTHER_SAID),
+)
+
+# What a server answers to a question for its site information: code and octets; and what is shown.
+SITE_ASKED = bytes.fromhex("02010000" "00000000" "00000001" "00000000" "00000021"
+                           "00000002" "00000000" "00000000" "ffff" "00" "00" "00000000" "00000005" "00000001" "2f" "00000000")
+NO_SITE = ("hdl: 5 operation denied: this port tells no site information. In the tenants text its publisher's line must end with handle-net, "
+           "and a line `site NAME HEX` gives the octets\n")
+SITE_ANSWERS = (
+    ("site information", reply(2, 1, SITE), (0, SITE_SAID, "")),
+    ("other site information", reply(2, 1, SITE_OTHER), (0, SITE_OTHER_SAID, "")),
+    ("site information that is no site", reply(2, 1, SITE[:-1]), (1, "", "hdl: the site information is no data of an HS_SITE value: %s\n" % SITE[:-1].hex())),
+    ("no site information", reply(2, 5, wire.number(0)), (1, "", NO_SITE)),
+    ("a reply to a deletion", reply(wire.DELETE), (3, "", "hdl: the server replied to another request\n")),
+    ("no reply", b"\0" * 28, (3, "", "hdl: the server sent no reply\n")),
 )
 
 # Of a reply about something else: its name, its octets, what is asked, and what is said on standard error. Nothing of it is shown.
@@ -308,12 +323,12 @@ def run(words, text="", **more):
     return subprocess.run([PROGRAM, *words], input=text, env=environment, capture_output=True, text=True, check=False, timeout=60 * servers.SLOWER)
 
 
-def asked(serve, words, text=""):
-    """What the program says to a server that serves so."""
+def asked(serve, words, text="", option="--server"):
+    """What the program says to a server that serves so, which is named behind this option."""
     with socket.create_server(("127.0.0.1", 0)) as listener:
         thread = threading.Thread(target=serve, args=(listener,), daemon=True)
         thread.start()
-        done = run([*words, "--server", "127.0.0.1:%d" % listener.getsockname()[1]], text)
+        done = run([*words, option, "127.0.0.1:%d" % listener.getsockname()[1]], text)
         thread.join(10)
     return done
 
@@ -345,7 +360,7 @@ def fresh():
 
 
 TEXT_FAULTS = """\
-# Each of these lines but the second and the eighth is faulty.
+# Each of these lines but the second, the eighth and those of net's port and first site information is faulty.
 publisher acme 8 2641
 publisher acme 4 2642
 publisher Bolt 4 2642
@@ -364,6 +379,12 @@ value 10/a 0
 value 10/a 00
 prefixes 10 acme
 publisher bolt 4 2642 handlenet
+publisher net 2 2643 handle-net
+site net 00
+site net 01
+site acme 00
+site net 0g
+site net
 """
 TEXT_SAID = """\
 tenants: line 3: publisher given twice: give each publisher a name of its own
@@ -380,14 +401,20 @@ tenants: line 14: the handle's prefix has no line yet: write its line `prefix ..
 tenants: line 15: the name has no slash
 tenants: line 16: HEX is an even number of hexadecimal digits; hdl tenants makes them of a value in words
 tenants: line 17: the value is cut short
-tenants: line 18: a line begins with `publisher`, `prefix` or `value` and a space, or with `#`, or is empty
+tenants: line 18: a line begins with `publisher`, `prefix`, `site` or `value` and a space, or with `#`, or is empty
 tenants: line 19: the word after the port is handle-net: the layout of values that the Handle.Net software has
+tenants: line 22: site information given twice: this publisher has it already
+tenants: line 23: no line above gives this publisher `handle-net`: write its line `publisher .. handle-net` before this one
+tenants: line 24: HEX is an even number of hexadecimal digits; hdl site makes them of an address
+tenants: line 25: write: site NAME HEX, with single spaces; hdl site makes such a line of an address
 """
 TEXT_HAS = """\
 acme: port 2641, 7 lanes for connections; prefixes 10
 bolt: port 2642, 3 lanes for connections; prefixes 20
 12 of 64 lanes, 6 values
 """
+SITE_TEXT = "publisher net 2 %d handle-net\nsite net 0001\n"
+SITE_HAS = "net: port %d (handle-net), 1 lanes for connections, 2 octets of site information; prefixes\n2 of 64 lanes, 0 values\n"
 
 
 def net():
@@ -431,6 +458,13 @@ def sites():
         yield "hdl site --out", (done.returncode, done.stdout) == (0, "") and written == SITE[:40] + b"\0\0\0\3\0\1\2" + SITE[44:]
         done = run(["site", "--read", out])
         yield "hdl site --read FILE", (done.returncode, done.stdout) == (0, SITE_SAID.replace("key of 0", "key of 3"))
+    for name, message, wanted in SITE_ANSWERS:
+        for more in ([], ["--handle-net"]):
+            came = []
+            done = asked(lambda listener: served(listener, [wire.frame(message, 0, 1)], came), ["site", *more], option="--of")
+            yield "hdl site --of: " + name, (done.returncode, done.stdout, done.stderr) == wanted and came == [SITE_ASKED]
+    for digits, said in ((SITE.hex(), SITE_SAID), ("0g", ";; no hexadecimal digits\n"), ("00", ";; no data of an HS_SITE value\n")):
+        yield "hdl explain of a line of site information", run(["explain"], "site acme %s\n" % digits).stdout == "site acme\n" + said
 
 
 def checks():
@@ -441,7 +475,12 @@ def checks():
         good, has = good.replace(" %s\n" % port, " %d\n" % free), has.replace(port, str(free))
     line = next(line for line in good.splitlines() if line.startswith("value 10/report-7"))
     twice = "tenants: line %d: the handle has a value with this index already: give each value an index of its own\n" % (len(good.splitlines()) + 1)
-    for name, text, wanted in (("faults", TEXT_FAULTS, (3, "", TEXT_SAID)), ("none", good, (0, has, "")), ("twice", good + line + "\n", (3, "", twice))):
+    port, = servers.free_ports(1)
+    texts = (
+        ("faults", TEXT_FAULTS, (3, "", TEXT_SAID)), ("none", good, (0, has, "")), ("twice", good + line + "\n", (3, "", twice)),
+        ("site information", SITE_TEXT % port, (0, SITE_HAS % port, "")),
+    )
+    for name, text, wanted in texts:
         done = subprocess.run([servers.HANDLED, "check"], input=text, capture_output=True, text=True, check=False, timeout=60 * servers.SLOWER)
         yield "handled check: " + name, (done.returncode, done.stdout, done.stderr) == wanted
 

@@ -22,6 +22,9 @@ KEY, SECRET = (300, b"0.NA/10"), b"example-secret"
 OTHER_KEY, OTHER_SECRET = (300, b"0.NA/20"), b"another-secret"
 # A moment in milliseconds, its second, and the seconds after which a reply expires.
 MOMENT, SECOND, LIFE = 1_700_000_000_123, 1_700_000_000, 12 * 3600
+# Site information, and octets of it that take three datagrams.
+SITE = handle_net.site_data("192.0.2.7", 2641)
+LONG_SITE = handle_net.site_data("192.0.2.8", 2641, server_key=bytes(1000))
 MANY = range(1, 40)
 
 
@@ -42,8 +45,8 @@ def line_of_many(index):
     return kept(index, b"DESC", data, moment=MOMENT + 876 + index, references=references)
 
 
-def tenants(acme, own, bolt):
-    """acme and bolt have the other layout. own has the profile's, and the prefix of acme."""
+def tenants(acme, own, bolt, bare):
+    """acme, bolt and bare have the other layout. own has the profile's, and the prefix of acme."""
     values = [
         (b"0.NA/10", kept(100, b"HS_ADMIN", wire.administrator(b"0.NA/10", 300, b"\x0f\xff"))),
         (b"0.NA/10", kept(300, b"HS_SECKEY", SECRET, 0x0C)),
@@ -58,7 +61,8 @@ def tenants(acme, own, bolt):
     ]
     lines = [
         "publisher acme 8 %d handle-net" % acme, "publisher own 4 %d" % own, "publisher bolt 4 %d handle-net" % bolt,
-        "prefix 10 acme", "prefix 10 own", "prefix 20 bolt 3",
+        "publisher bare 4 %d handle-net" % bare, "prefix 10 acme", "prefix 10 own", "prefix 20 bolt 3",
+        "site bolt " + LONG_SITE.hex(), "site acme " + SITE.hex(),
     ]
     return wire.text([*lines, *(wire.value_line(*value) for value in values)])
 
@@ -134,7 +138,7 @@ def expirations(port, own):
     requests = {
         "values": handle_net.resolution(b"10/report-7"), "no handle": handle_net.resolution(b"10/none"),
         "a referral": handle_net.resolution(b"30/x"), "a challenge": create,
-        "an unknown operation": handle_net.of_handle(handle_net.SITE_INFO, b"/"),
+        "site information": handle_net.of_handle(handle_net.SITE_INFO, b"/"),
     }
     for name, request in requests.items():
         for way in ("tcp", "udp"):
@@ -149,11 +153,22 @@ def expirations(port, own):
             yield "no expiration of %s at the profile's port" % name, asked(own, request).expiration, 0
 
 
-def sites(acme, own, bolt):
-    """No port answers get site info."""
-    request = handle_net.of_handle(handle_net.SITE_INFO, b"/")
-    for name, port in (("acme", acme), ("own", own), ("bolt", bolt)):
-        yield "site information of " + name, asked(port, request).code, 5
+def sites(acme, own, bolt, bare):
+    """A port answers the octets of its publisher's line, whatever the question names."""
+    question = handle_net.of_handle(handle_net.SITE_INFO, b"/")
+    for name, port, octets in (("acme", acme, SITE), ("bolt", bolt, LONG_SITE)):
+        for way in ("tcp", "udp"):
+            reply = asked(port, question, way)
+            yield "of %s by %s" % (name, way), (reply.code, reply.site, reply.left), (1, octets, b"")
+    other = handle_net.of_handle(handle_net.SITE_INFO, b"20/archive")
+    yield "asked with another publisher's handle", asked(acme, other).site, SITE
+    yield "asked with octets that are no string", asked(acme, handle_net.Request(handle_net.SITE_INFO, b"x")).site, SITE
+    marked = handle_net.Request(handle_net.SITE_INFO, handle_net.text(b"/"), handle_net.RETURN_DIGEST)
+    reply = asked(acme, marked)
+    yield "behind a digest", (reply.digest, reply.site), ((2, hashlib.sha1(marked.signed).digest()), SITE)
+    for name, port in (("without a line of the text", bare), ("at the profile's port", own)):
+        reply = asked(port, question)
+        yield name, (reply.code, reply.site, reply.left), (5, None, b"")
 
 
 def changes(port):
@@ -288,14 +303,24 @@ REPORT_OF_PROFILE = (
 REPORT_OF_HANDLE_NET = (
     "02010000 00000000 00000007 00000000 00000068" "00000001 00000001 00000000 0000 00 00 00000000 0000004c",
     REPORT, "00000001" "00000001 6553f100 00 00015180 0e", NAMED, "00000000" "00000000")
+ASK_SITE = (
+    "02010000 00000000 0000000c 00000000 00000021" "00000002 00000000 00000000 ffff 00 00 00000000 00000005",
+    "00000001 2f 00000000")
+SITE_TOLD = (
+    "02010000 00000000 0000000c 00000000 00000058" "00000002 00000001 00000000 ffff 00 00 00000000 0000003c",
+    "0001 02 01 0001 80 02 00000000 00000000 00000001 00000001 00000000 00000000 00000000 c0000207 00000000",
+    "00000002 03 01 00000a51 02 00 00000a51 00000000")
+NO_SITE = (
+    "02010000 00000000 0000000c 00000000 00000020" "00000002 00000005 00000000 ffff 00 00 00000000 00000004",
+    "00000000 00000000")
 SAME = (
     ("no handle", ASK_NONE, NONE),
     ("a referral", ASK_OTHERS, OTHERS),
     ("an unknown operation", ASK_UNKNOWN, UNKNOWN),
     ("no message", ASK_NOTHING, NOTHING),
 )
-OF_PROFILE = (("values", ASK_REPORT, REPORT_OF_PROFILE), *SAME)
-OF_HANDLE_NET = (("values", ASK_REPORT, REPORT_OF_HANDLE_NET), *SAME)
+OF_PROFILE = (("values", ASK_REPORT, REPORT_OF_PROFILE), ("no site information", ASK_SITE, NO_SITE), *SAME)
+OF_HANDLE_NET = (("values", ASK_REPORT, REPORT_OF_HANDLE_NET), ("site information", ASK_SITE, SITE_TOLD), *SAME)
 
 
 def exchanged(port, way, octets):
@@ -320,7 +345,7 @@ def octets_of(port, frames, has_moment):
             yield "octets of %s by %s" % (name, way), came.hex(), bytes.fromhex("".join(wanted)).hex()
 
 
-def strangers(acme, own):
+def strangers(acme, own, bolt):
     """A long reply by UDP to an address that has proved no key: code 2 in its place, which expires as any other."""
     request, begun = handle_net.resolution(b"10/many"), int(time.time())
     reply = asked(acme, request, "udp")
@@ -329,14 +354,16 @@ def strangers(acme, own):
     reply = asked(own, request, "udp")
     yield "code 2 at the profile's port", (reply.code, reply.expiration), (2, 0)
     yield "all of it by TCP", [value.index for value in asked(acme, request).values], list(MANY)
+    reply = asked(bolt, handle_net.of_handle(handle_net.SITE_INFO, b"/"), "udp")
+    yield "code 2 for long site information", (reply.code, reply.site), (2, None)
 
 
-def groups(acme, own, bolt):
+def groups(acme, own, bolt, bare):
     for way in ("tcp", "udp"):
         yield way, resolutions(acme, way)
     yield "readings", readings(acme)
     yield "expirations", expirations(acme, own)
-    yield "sites", sites(acme, own, bolt)
+    yield "site information", sites(acme, own, bolt, bare)
     yield "changes", changes(acme)
     yield "refusals", refusals(acme)
     yield "old tools", old_tools(acme, own)
@@ -349,11 +376,11 @@ def groups(acme, own, bolt):
 
 def tried():
     """Each case of a server, and of one whose replies by UDP are short."""
-    with servers.serving(tenants, 3) as ports:
+    with servers.serving(tenants, 4) as ports:
         for group, cases in groups(*ports):
             yield from ((group, *case) for case in cases)
-    with servers.serving(tenants, 3, options=("--amplify", "1")) as (acme, own, _):
-        yield from (("strangers", *case) for case in strangers(acme, own))
+    with servers.serving(tenants, 4, options=("--amplify", "1")) as (acme, own, bolt, _):
+        yield from (("strangers", *case) for case in strangers(acme, own, bolt))
 
 
 def main():

@@ -8,6 +8,7 @@
 //! hdl script < WORDS, hdl tenants < WORDS             words to the lines that handled takes
 //! hdl init PREFIX.., hdl key                          a tenants text in words for new publishers; a fresh secret
 //! hdl site --address ADDRESS, --read DIGITS           the data of an HS_SITE value; the same in words
+//! hdl site --of HOST:PORT                             the site information of a server, in words
 //! ```
 //!
 //! It is the command line of `hdl_commands`, which stands on the codecs that the service stands on: what it sends is in the grammar,
@@ -17,7 +18,7 @@
 mod words;
 
 use hdl_commands::{
-    BatchFault, Printout, explain, fresh_secret, import_file, make_site, run_batch_text,
+    BatchFault, Printout, ask_site, explain, fresh_secret, import_file, make_site, run_batch_text,
     run_question, show_site, write_fresh_tenants, write_script, write_tenants,
 };
 use hdl_value::Wire;
@@ -123,6 +124,7 @@ fn run(rt: &HostRuntime) -> io::Result<u8> {
         Invocation::Key => key(rt),
         Invocation::MakeSite(words) => Ok(make_site(rt, &words)),
         Invocation::ShowSite { word } => Ok(show_site(rt, &word)),
+        Invocation::AskSite { server } => Ok(ask_site(rt, &server)),
         Invocation::Ended(status) => Ok(status),
     }
 }

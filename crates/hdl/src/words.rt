@@ -33,6 +33,8 @@ pub enum Invocation {
     MakeSite(SiteWords),
     /// The same in words: of digits, or of a file.
     ShowSite { word: String },
+    /// The site information of a server.
+    AskSite { server: String },
     /// Nothing: help, the version or a fault was printed, and this is the exit status.
     Ended(u8),
 }
@@ -238,12 +240,26 @@ fn site<'a>(alloc: Global) -> Result<Command<'a>, AllocError> {
         .after_help(
             "A prefix is registered by its HS_SITE value: send the data to who registers prefixes. docs/HANDLE_NET.md has the steps",
         );
-    making_options(command, alloc)?.arg(option(
-        alloc,
-        "read",
-        "DIGITS|FILE",
-        "Shows in words what these hexadecimal digits say, or this file",
-    ))
+    making_options(command, alloc)?
+        .arg(option(
+            alloc,
+            "publisher",
+            "NAME",
+            "Prints the digits as this publisher's line `site` of a tenants text",
+        ))?
+        .arg(option(
+            alloc,
+            "read",
+            "DIGITS|FILE",
+            "Shows in words what these hexadecimal digits say, or this file",
+        ))?
+        .arg(option(
+            alloc,
+            "of",
+            "HOST:PORT",
+            "Asks this server for its site information, and shows it in words",
+        ))?
+        .arg(handle_net(alloc))
 }
 
 /// Adds a command that asks about a handle.
@@ -376,10 +392,13 @@ fn wire_of(matches: &ArgMatches<'_>) -> Wire {
     }
 }
 
-/// A site to be shown, or to be made.
+/// A site to be shown, to be asked for, or to be made.
 fn site_of(alloc: Global, matches: &ArgMatches<'_>) -> Result<Invocation, AllocError> {
     if let Some(word) = given(alloc, matches, "read")? {
         return Ok(Invocation::ShowSite { word });
+    }
+    if let Some(server) = given(alloc, matches, "of")? {
+        return Ok(Invocation::AskSite { server });
     }
     Ok(Invocation::MakeSite(SiteWords {
         address: word(alloc, matches, "address")?,
@@ -388,6 +407,7 @@ fn site_of(alloc: Global, matches: &ArgMatches<'_>) -> Result<Invocation, AllocE
         is_udp: matches.get_flag("udp"),
         key: given(alloc, matches, "public-key")?,
         out: given(alloc, matches, "out")?,
+        publisher: given(alloc, matches, "publisher")?,
     }))
 }
 

@@ -13,6 +13,7 @@ const PUBLISHERS: &[u8] = b"";
 pub(crate) enum LineKind<'a> {
     Publisher,
     Prefix(&'a str),
+    Site(&'a str),
     Value(Name),
     Other,
 }
@@ -31,6 +32,9 @@ pub(crate) fn kind_of<'a>(alloc: Global, fields: &[&'a str]) -> LineKind<'a> {
     if *word == "prefix" {
         return LineKind::Prefix(*subject);
     }
+    if *word == "site" {
+        return LineKind::Site(*subject);
+    }
     if *word != "value" {
         return LineKind::Other;
     }
@@ -46,6 +50,8 @@ pub(crate) struct Accepted<'a> {
     alloc: Global,
     publishers: LinesBy<'a>,
     prefixes: LinesBy<'a>,
+    /// By publisher.
+    sites: LinesBy<'a>,
     /// By handle, in canonical form.
     values: LinesBy<'a>,
 }
@@ -56,6 +62,7 @@ impl<'a> Accepted<'a> {
             alloc,
             publishers: LinesBy::new(alloc),
             prefixes: LinesBy::new(alloc),
+            sites: LinesBy::new(alloc),
             values: LinesBy::new(alloc),
         }
     }
@@ -68,6 +75,10 @@ impl<'a> Accepted<'a> {
             LineKind::Prefix(prefix) => {
                 self.publishers.push_to(&mut text, PUBLISHERS)?;
                 self.prefixes.push_to(&mut text, prefix.as_bytes())?;
+            }
+            LineKind::Site(publisher) => {
+                self.publishers.push_to(&mut text, PUBLISHERS)?;
+                self.sites.push_to(&mut text, publisher.as_bytes())?;
             }
             LineKind::Value(name) => {
                 self.publishers.push_to(&mut text, PUBLISHERS)?;
@@ -98,6 +109,7 @@ impl<'a> Accepted<'a> {
         match kind {
             LineKind::Publisher => self.publishers.add(PUBLISHERS, line),
             LineKind::Prefix(prefix) => self.prefixes.add(prefix.as_bytes(), line),
+            LineKind::Site(publisher) => self.sites.add(publisher.as_bytes(), line),
             LineKind::Value(name) => self.values.add(name.canon(), line),
             LineKind::Other => Ok(()),
         }

@@ -3,7 +3,7 @@
 use crate::judging::{Accepted, LineKind};
 use hdl_limits::{LANES, PUBLISHER_NAME_MAX, VALUES_MAX};
 use hdl_name::{Name, is_authority};
-use hdl_tenants::{TenantFault, decimal_u16};
+use hdl_tenants::{SITE_MAX, TenantFault, decimal_u16};
 use hdl_value::read_value;
 use std::alloc::{AllocError, Global};
 
@@ -13,11 +13,14 @@ const PUBLISHER_FORM: &str =
 const PREFIX_FORM: &str =
     "write: prefix PREFIX NAME, or prefix PREFIX NAME HASH with HASH 2 (SHA-1) or 3 (SHA-256), with single spaces";
 
+const SITE_FORM: &str =
+    "write: site NAME HEX, with single spaces; hdl site makes such a line of an address";
+
 const VALUE_FORM: &str =
     "write: value HANDLE HEX, with single spaces; hdl tenants makes such lines of values in words";
 
 const LINE_FORM: &str =
-    "a line begins with `publisher`, `prefix` or `value` and a space, or with `#`, or is empty";
+    "a line begins with `publisher`, `prefix`, `site` or `value` and a space, or with `#`, or is empty";
 
 const NAME_FORM: &str = "a publisher's name is 1 to 32 of a-z, 0-9 and -";
 
@@ -38,6 +41,14 @@ const HASH_FORM: &str = "the word after the publisher is 2 for SHA-1 or 3 for SH
 
 const UNKNOWN_PREFIX: &str =
     "the handle's prefix has no line yet: write its line `prefix ..` before its values";
+
+const SITE_HEX_FORM: &str =
+    "HEX is an even number of hexadecimal digits; hdl site makes them of an address";
+
+const LONG_SITE: &str = "site information is 65,475 octets at most, since a reply holds no more";
+
+const SITE_PUBLISHER: &str =
+    "no line above gives this publisher `handle-net`: write its line `publisher .. handle-net` before this one";
 
 const HEX_FORM: &str =
     "HEX is an even number of hexadecimal digits; hdl tenants makes them of a value in words";
@@ -105,6 +116,21 @@ fn prefix_reason(fields: &[&str]) -> &'static str {
     }
 }
 
+/// What is wrong with the words of site information.
+fn site_reason(alloc: Global, fields: &[&str]) -> Result<String, AllocError> {
+    let words = |text: &str| String::from_str(alloc, text);
+    let [_, _, digits] = fields else {
+        return words(SITE_FORM);
+    };
+    let Ok(octets) = hex::decode(alloc, digits) else {
+        return words(SITE_HEX_FORM);
+    };
+    if octets.len() > SITE_MAX {
+        return words(LONG_SITE);
+    }
+    words(SITE_PUBLISHER)
+}
+
 /// What is wrong with a value of a handle whose prefix stands above.
 fn value_reason(
     alloc: Global,
@@ -159,6 +185,7 @@ pub(crate) fn words_of(alloc: Global, fault: TenantFault) -> Result<String, Allo
     let advice = match fault {
         TenantFault::TwicePrefix => ": this publisher has it already",
         TenantFault::TwicePublisher => ": give each publisher a name of its own",
+        TenantFault::TwiceSite => ": this publisher has it already",
         TenantFault::TooMany => {
             " together: give this publisher fewer lanes, or a server of its own"
         }
@@ -183,6 +210,7 @@ pub(crate) fn reason_of(
         Some(word) => match *word {
             "publisher" => String::from_str(alloc, publisher_reason(fields)),
             "prefix" => String::from_str(alloc, prefix_reason(fields)),
+            "site" => site_reason(alloc, fields),
             "value" => value_words(alloc, accepted, kind, fields),
             _ => String::from_str(alloc, LINE_FORM),
         },

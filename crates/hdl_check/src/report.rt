@@ -150,6 +150,17 @@ fn layout_words(wire: Wire) -> &'static str {
     }
 }
 
+/// What is said of a publisher's site information: nothing if it has none.
+fn site_words(alloc: Global, site: Option<&[u8]>) -> Result<String, AllocError> {
+    match site {
+        Some(octets) => {
+            let count = octets.len();
+            format!(in alloc; ", {count} octets of site information")
+        }
+        None => Ok(String::new(alloc)),
+    }
+}
+
 /// What an accepted text has: a line for each publisher, and one for all values.
 fn summary(alloc: Global, text: &str, tenants: &Tenants) -> Result<String, AllocError> {
     let mut lines = String::new(alloc);
@@ -159,8 +170,9 @@ fn summary(alloc: Global, text: &str, tenants: &Tenants) -> Result<String, Alloc
         };
         let connections = lanes.saturating_sub(1);
         let layout = layout_words(tenants.wire(place));
+        let site = site_words(alloc, tenants.site(place))?;
         let line = format!(in alloc;
-            "{name}: port {port}{layout}, {connections} lanes for connections; prefixes"
+            "{name}: port {port}{layout}, {connections} lanes for connections{site}; prefixes"
         )?;
         lines.push_str(&line)?;
         push_prefixes(&mut lines, text, name)?;

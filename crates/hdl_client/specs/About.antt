@@ -4,9 +4,9 @@ use Rattle.hdl_name.specs.Name.{IsHandle, prefix, sent_prefix}
 use Rattle.hdl_value.specs.declared.wire.Wire.{Wire}
 use Rattle.hdl_msg.specs.declared.codes.ResponseCode.TheVariants.{Success}
 use Rattle.hdl_msg.specs.declared.replies.ReplyContent.{ReplyContent}
-use Rattle.hdl_msg.specs.declared.replies.ReplyContent.TheVariants.{Values, Handles, Nothing, Referral, Nonce, Empty}
+use Rattle.hdl_msg.specs.declared.replies.ReplyContent.TheVariants.{Values, Handles, Nothing, Referral, Nonce, Empty, Site}
 use Rattle.hdl_msg.specs.Codes.{response_number}
-use Rattle.hdl_msg.specs.Message.{Content, Operation, resolution, create, delete, add, remove, modify, list, response, other, SpellsRequest}
+use Rattle.hdl_msg.specs.Message.{Content, Operation, resolution, site_info, create, delete, add, remove, modify, list, response, other, SpellsRequest}
 use Rattle.hdl_msg.specs.Reply.{ReplyParts, SpellsReply}
 
 -- the handle that a request names, as it was sent
@@ -19,6 +19,7 @@ named_handle (remove handle indexes) = handle
 named_handle (modify handle values) = handle
 named_handle (list handle) = handle
 named_handle (response kind handle index answer) = handle
+named_handle (site_info octets) = []
 named_handle (other octets) = []
 
 -- a handle of this prefix
@@ -33,6 +34,7 @@ IsOf handle Nothing = ⊤
 IsOf handle (Referral to) = IsHandle handle × (to ≡ sent_prefix handle)
 IsOf handle (Nonce nonce) = ⊤
 IsOf handle Empty = ⊤
+IsOf handle (Site octets) = ⊤
 
 -- The reply is about this operation on this handle: what is said to be done is the operation, and what is carried is of the handle.
 pub record IsAbout (operation : ℕ) (handle : List ℕ) (reply : ReplyParts) : Type 0 where

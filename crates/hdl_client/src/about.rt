@@ -73,7 +73,10 @@ fn is_of(alloc: Global, handle: &[u8], content: ContentView<'_>) -> Result<bool,
         ContentView::Values { handle: named, .. } => Ok(named == handle),
         ContentView::Handles { handles } => Ok(are_listed_by(alloc, handle, handles)?),
         ContentView::Referral { prefix } => is_prefix_of(alloc, handle, prefix),
-        ContentView::Nothing | ContentView::Nonce { .. } | ContentView::Empty => Ok(true),
+        ContentView::Nothing
+        | ContentView::Nonce { .. }
+        | ContentView::Empty
+        | ContentView::Site { .. } => Ok(true),
     }
 }
 
@@ -109,7 +112,7 @@ fn named_handle<'m>(body: &Body<'m>) -> &'m [u8]
         Body::Modify { handle, .. } => handle,
         Body::List { handle } => handle,
         Body::Response { handle, .. } => handle,
-        Body::Other { .. } => b"",
+        Body::SiteInfo { .. } | Body::Other { .. } => b"",
     }
 }
 

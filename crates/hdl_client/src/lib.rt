@@ -25,6 +25,7 @@ mod exchange;
 mod fault;
 mod reply;
 mod session;
+mod site_question;
 
 pub use batch::{Batch, Outcomes, Task};
 pub use challenge::{Key, challenge_answer, challenge_response, request_message, signed_part};

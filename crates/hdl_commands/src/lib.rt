@@ -8,6 +8,7 @@
 //! rows of a CSV file -> import_file -> the requests that create its handles ([`imports`])
 //! prefixes, random octets -> write_fresh_tenants -> a tenants text in words, with fresh secrets
 //! an address and a port -> make_site -> the data of an HS_SITE value -> show_site -> what it says, in words ([`sites`])
+//! a server -> ask_site -> what its site information says, in words
 //! ```
 //!
 //! Requests are read from words and written by `hdl_msg`'s `write_request`, so what is sent is in the grammar; a value's words are
@@ -45,6 +46,6 @@ pub use fresh::{FreshFault, fresh_secret, write_fresh_tenants};
 pub use imports::{Import, import_file};
 pub use key::SECRET_VARIABLE;
 pub use scripts::write_script;
-pub use sites::{SiteFault, SiteWords, make_site, show_site};
+pub use sites::{SiteFault, SiteWords, ask_site, make_site, show_site};
 pub use tenants::write_tenants;
 pub use words::{Printout, explain, operation_in};

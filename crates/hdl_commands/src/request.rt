@@ -100,6 +100,6 @@ pub fn request_of(
         OpCode::AddValue => Ok(RequestBody::Add { handle, values }),
         OpCode::RemoveValue => Ok(RequestBody::Remove { handle, indexes }),
         OpCode::ModifyValue => Ok(RequestBody::Modify { handle, values }),
-        OpCode::ChallengeResponse => Err(WordFault::Operation),
+        OpCode::GetSiteInfo | OpCode::ChallengeResponse => Err(WordFault::Operation),
     }
 }

@@ -6,9 +6,12 @@ ghost use Rattle.hex.specs.Hex.{encode_lower};
 ghost use Rattle.hdl_site.specs.Info.{site_octets};
 ghost use Rattle.hdl_site.specs.Making.{planned_site};
 
-use crate::words::Printout;
+use crate::telling::tell_fault;
+use crate::words::{Printout, code_name};
+use hdl_client::{ClientFault, Reply, connect};
 use hdl_limits::Octets;
 use hdl_lines::printed_octets;
+use hdl_msg::{ContentView, ResponseCode};
 use hdl_site::{
     ADMINISTRATION, Attribute, BOTH, HTTP, Interface, PRIMARY, QUERY, SEVERAL_PRIMARIES,
     ServerPlan, SiteInfo, SiteServer, TCP, UDP, address_octets, planned_octets, read_site,
@@ -35,6 +38,8 @@ pub struct SiteWords {
     pub key: Option<String>,
     /// The path of the file that gets the octets.
     pub out: Option<String>,
+    /// The publisher of whose line in a tenants text the digits become part.
+    pub publisher: Option<String>,
 }
 
 /// Why no data is made, or none is told.
@@ -130,13 +135,21 @@ const NEXT: &str = "\
     hdl: send the octets to who registers the prefix: they become the HS_SITE value of 0.NA/PREFIX there\n\
     hdl: the port must be open to the network, and its publisher's line must end with handle-net; see docs/HANDLE_NET.md\n";
 
+/// The digits in a line of their own: of a tenants text, where a publisher is named.
+fn line_of(alloc: Global, publisher: &Option<String>, digits: &str) -> Result<String, AllocError> {
+    match publisher {
+        Some(name) => format!(in alloc; "site {name} {digits}\n"),
+        None => format!(in alloc; "{digits}\n"),
+    }
+}
+
 /// Makes the data of the HS_SITE value of a server, which goes into a file or comes back as a line.
 fn made(rt: &HostRuntime, words: &SiteWords) -> Result<String, SiteFault> {
     let alloc = rt.alloc();
     let plan = plan_of(words, key_in(rt, &words.key)?)?;
     let Some(path) = &words.out else {
         let digits = digits_of(alloc, &plan)?;
-        return Ok(format!(in alloc; "{digits}\n")?);
+        return Ok(line_of(alloc, &words.publisher, &digits)?);
     };
     let octets = octets_of(alloc, &plan)?;
     match fs::write(rt, path.as_str(), octets) {
@@ -284,7 +297,7 @@ fn push_server(printout: &mut Printout, server: &SiteServer) -> Result<(), Alloc
 }
 
 /// Adds what a site says.
-fn push_site(printout: &mut Printout, site: &SiteInfo) -> Result<(), AllocError> {
+pub(crate) fn push_site(printout: &mut Printout, site: &SiteInfo) -> Result<(), AllocError> {
     push_head(printout, site)?;
     for attribute in site.attributes.as_slice() {
         push_attribute(printout, attribute)?;
@@ -295,16 +308,23 @@ fn push_site(printout: &mut Printout, site: &SiteInfo) -> Result<(), AllocError>
     Ok(())
 }
 
-/// What the data that a word says has, in lines.
-fn told(rt: &HostRuntime, word: &str) -> Result<Printout, SiteFault> {
-    let alloc = rt.alloc();
-    let octets = octets_in(rt, word)?;
-    let Some(site) = read_site(alloc, &octets)? else {
-        return Err(SiteFault::NoSite);
+/// What these octets say as the data of a site, in lines.
+fn told_of(alloc: Global, octets: &[u8]) -> Result<Option<Printout>, AllocError> {
+    let Some(site) = read_site(alloc, octets)? else {
+        return Ok(None);
     };
     let mut printout = Printout::new(alloc, false);
     push_site(&mut printout, &site)?;
-    Ok(printout)
+    Ok(Some(printout))
+}
+
+/// What the data that a word says has, in lines.
+fn told(rt: &HostRuntime, word: &str) -> Result<Printout, SiteFault> {
+    let octets = octets_in(rt, word)?;
+    match told_of(rt.alloc(), &octets)? {
+        Some(printout) => Ok(printout),
+        None => Err(SiteFault::NoSite),
+    }
 }
 
 /// Prints in words what the data of an HS_SITE value says: of these hexadecimal digits, or of a file with the octets or their digits. Answers the
@@ -318,6 +338,77 @@ pub fn show_site(rt: &HostRuntime, word: &str) -> u8 {
         Err(fault) => {
             let _ = eprintln!(rt; "hdl: {fault}");
             2
+        }
+    }
+}
+
+// ---- asking
+
+/// What a server says of the question, in words.
+#[derive(Drop)]
+enum SiteAnswer {
+    /// What its site information says.
+    Site(Printout),
+    /// The octets of its site information, which are no data of a site.
+    Other(String),
+    /// The code of another reply.
+    Code(u32),
+}
+
+/// What the reply says.
+fn answer_of(alloc: Global, reply: &Reply) -> Result<SiteAnswer, AllocError> {
+    let view = reply.view();
+    let ContentView::Site { octets } = view.content else {
+        return Ok(SiteAnswer::Code(view.header.response_code));
+    };
+    match told_of(alloc, octets)? {
+        Some(printout) => Ok(SiteAnswer::Site(printout)),
+        None => Ok(SiteAnswer::Other(hex::encode(alloc, octets)?)),
+    }
+}
+
+fn asked(rt: &HostRuntime, server: &str) -> Result<SiteAnswer, ClientFault> {
+    let mut session = connect(rt, server)?;
+    let reply = session.ask_site()?;
+    Ok(answer_of(rt.alloc(), &reply)?)
+}
+
+/// What to do where a server tells no site information.
+fn way_on(code: u32) -> &'static str {
+    if code == ResponseCode::OperationDenied.number() {
+        ": this port tells no site information. In the tenants text its publisher's line must end with handle-net, and a line `site NAME HEX` gives the octets"
+    } else {
+        ""
+    }
+}
+
+/// Prints what a server said, and answers the exit status.
+fn show_answer(rt: &HostRuntime, answer: &SiteAnswer) -> u8 {
+    let _ = match answer {
+        SiteAnswer::Site(printout) => print!(rt; "{}", printout.as_str()),
+        SiteAnswer::Other(digits) => {
+            eprintln!(rt; "hdl: the site information is no data of an HS_SITE value: {digits}")
+        }
+        SiteAnswer::Code(code) => {
+            eprintln!(rt; "hdl: {code} {}{}", code_name(*code), way_on(*code))
+        }
+    };
+    match answer {
+        SiteAnswer::Site(_) => 0,
+        _ => 1,
+    }
+}
+
+/// Asks a server, `HOST:PORT`, for its site information (OpCode 2), and prints in words what it says. Answers the exit status: 0; 1 where the server
+/// answers another code, whose name is then on standard error, or octets that are no data of an HS_SITE value; 3 where it can't be reached or says
+/// nothing that can be read.
+pub fn ask_site(rt: &HostRuntime, server: &str) -> u8 {
+    match asked(rt, server) {
+        Ok(answer) => show_answer(rt, &answer),
+        Err(fault) => {
+            tell_fault(rt, server, fault);
+            let _ = eprintln!(rt);
+            3
         }
     }
 }

@@ -4,7 +4,7 @@ use Rattle.std.specs.List.{slice_split, onto_first}
 use Rattle.std.proofs.lemmas.List.{append-nil, map-append}
 use Rattle.hdl_tenants.specs.Register.{Hosting, Register, empty, prefixes_of}
 use Rattle.hdl_tenants.specs.Lines.{fields_of}
-use Rattle.hdl_tenants.specs.Text.{Line, skipped, publisher, hosted, opened, IsLine, IsSkipped, AddsAll, register_after, place_of, IsAccepted}
+use Rattle.hdl_tenants.specs.Text.{Line, skipped, publisher, hosted, sited, opened, IsLine, IsSkipped, AddsAll, register_after, place_of, IsAccepted}
 use Rattle.hdl_export.specs.Prefixes.{prefix_named}
 use Rattle.hdl_export.specs.Laws.{prefixes_in}
 
@@ -29,6 +29,7 @@ line_names r text (publisher p) is = sym (ap (λ (fields : List (List ℕ)). pre
 line_names r text (hosted prefix name a) is =
     map-append {A = Hosting} {B = List ℕ} (λ h. h.prefix) r.hostings (record { prefix = prefix; publisher = place_of name r.publishers; algorithm = a } ∷ [])
     ∙ sym (ap (λ (fields : List (List ℕ)). prefixes_of r.hostings ++ prefix_named fields) is.split)
+line_names r text (sited name octets) is = sym (ap (λ (fields : List (List ℕ)). prefixes_of r.hostings ++ prefix_named fields) is.split ∙ append-nil (prefixes_of r.hostings))
 line_names r text (opened handle v) is = sym (ap (λ (fields : List (List ℕ)). prefixes_of r.hostings ++ prefix_named fields) is.split ∙ append-nil (prefixes_of r.hostings))
 
 all_named : (r s : Register) (texts : List (List ℕ)) → AddsAll r texts s → prefixes_of s.hostings ≡ prefixes_of r.hostings ++ prefixes_in texts

@@ -7,7 +7,7 @@ use Rattle.std.proofs.lemmas.List.Elements.{Contains-append_cases, Contains-push
 use Rattle.std.proofs.lemmas.Slice.Eq.{bytes_eq-Decides}
 use Rattle.hdl_tenants.specs.Register.{Publisher, Hosting, Register, empty, names_of, hosts_among}
 use Rattle.hdl_tenants.specs.Lines.{fields_of}
-use Rattle.hdl_tenants.specs.Text.{Line, skipped, publisher, hosted, opened, IsLine, IsSkipped, IsAllowed, AddsAll, register_after, place_of, IsAccepted}
+use Rattle.hdl_tenants.specs.Text.{Line, skipped, publisher, hosted, sited, opened, IsLine, IsSkipped, IsAllowed, AddsAll, register_after, place_of, IsAccepted}
 use Rattle.hdl_export.specs.Prefixes.{prefix_given}
 use Rattle.hdl_export.specs.Rows.{is_among}
 use Rattle.hdl_export.specs.Laws.{prefixes_for}
@@ -66,6 +66,7 @@ grows r s (text ∷ texts) h =
     one_line x skipped = ([], sym (append-nil x.publishers))
     one_line x (publisher p) = (p ∷ [], refl)
     one_line x (hosted prefix name a) = ([], sym (append-nil x.publishers))
+    one_line x (sited name octets) = ([], sym (append-nil x.publishers))
     one_line x (opened handle v) = ([], sym (append-nil x.publishers))
 
 -- ---- what each line gives
@@ -107,6 +108,7 @@ module _ (name q : List ℕ) (u : ℕ) where
       → hosts_among (register_after r line).hostings u q ≡ (hosts_among r.hostings u q || is_among q (prefix_given name (fields_of text)))
   line_gives r text skipped more at is allowed = or_false (hosts_among r.hostings u q) ∙ ap (λ (ps : List (List ℕ)). hosts_among r.hostings u q || is_among q ps) (sym (skipped_gives_none name text is))
   line_gives r text (publisher p) more at is allowed = or_false (hosts_among r.hostings u q) ∙ ap (λ (fields : List (List ℕ)). hosts_among r.hostings u q || is_among q (prefix_given name fields)) (sym is.split)
+  line_gives r text (sited one octets) more at is allowed = or_false (hosts_among r.hostings u q) ∙ ap (λ (fields : List (List ℕ)). hosts_among r.hostings u q || is_among q (prefix_given name fields)) (sym is.split)
   line_gives r text (opened handle v) more at is allowed = or_false (hosts_among r.hostings u q) ∙ ap (λ (fields : List (List ℕ)). hosts_among r.hostings u q || is_among q (prefix_given name fields)) (sym is.split)
   line_gives r text (hosted prefix one a) more at is allowed =
       let h : Hosting = record { prefix = prefix; publisher = place_of one r.publishers; algorithm = a } in

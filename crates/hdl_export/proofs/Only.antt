@@ -10,7 +10,7 @@ use Rattle.hdl_value.specs.Spelling.{spelling}
 use Rattle.hdl_value.specs.Fault.{Begins}
 use Rattle.hdl_tenants.specs.Register.{Register, Row, empty}
 use Rattle.hdl_tenants.specs.Lines.{fields_of, IsValueText}
-use Rattle.hdl_tenants.specs.Text.{Line, skipped, publisher, hosted, opened, IsLine, IsSkipped, AddsAll, register_after, IsAccepted}
+use Rattle.hdl_tenants.specs.Text.{Line, skipped, publisher, hosted, sited, opened, IsLine, IsSkipped, AddsAll, register_after, IsAccepted}
 use Rattle.hdl_tenants.proofs.Texts.{one_value, ok_is}
 use Rattle.hdl_tenants.proofs.Uniqueness.{one_register}
 use Rattle.hdl_export.specs.Lines.{value_line, is_other, IsWritable}
@@ -42,6 +42,7 @@ abbrev SaysValue : List ℕ → List ℕ → Line → Type 0
 SaysValue handle digits skipped = ⊥
 SaysValue handle digits (publisher p) = ⊥
 SaysValue handle digits (hosted prefix name a) = ⊥
+SaysValue handle digits (sited name octets) = ⊥
 SaysValue handle digits (opened h v) = (h ≡ handle) × IsValueText digits v
 
 says_value : (text handle digits : List ℕ) → fields_of text ≡ codes "value" ∷ handle ∷ digits ∷ [] → (line : Line) → IsLine text line → SaysValue handle digits line
@@ -49,6 +50,9 @@ says_value text handle digits e skipped is = true≢false (sym (skipped_other te
 says_value text handle digits e (publisher p) is = absurd (omega (arith, ap length (sym is.split ∙ e)))
 says_value text handle digits e (hosted prefix name a) is =
     let words : codes "prefix" ≡ codes "value" = same_word _ _ _ _ (sym is.split ∙ e) in
+    absurd (omega (arith, ap length words))
+says_value text handle digits e (sited name octets) is =
+    let words : codes "site" ≡ codes "value" = same_word _ _ _ _ (sym is.split ∙ e) in
     absurd (omega (arith, ap length words))
 says_value text handle digits e (opened h v) is =
     let same = same_fields _ _ _ _ _ _ (sym is.split ∙ e) in
@@ -58,6 +62,7 @@ opened_of : (handle : List ℕ) (v : Value) → IsWritable v → (line : Line) �
 opened_of handle v h skipped is = absurd is
 opened_of handle v h (publisher p) is = absurd is
 opened_of handle v h (hosted prefix name a) is = absurd is
+opened_of handle v h (sited name octets) is = absurd is
 opened_of handle v h (opened g w) is = let value = one_value_of v w h is.1 in λ i. opened (is.0 i) (value i)
 
 -- the line of a row says this row alone

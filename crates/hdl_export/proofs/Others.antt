@@ -1,11 +1,11 @@
--- The lines of a text but those of values say its publishers and prefixes.
+-- The lines of a text but those of values say its publishers, prefixes and site information.
 use Rattle.std.proofs.Common.{◌≡◌, ℕ, ◌==◌, Bool, true, false, List, [], ◌∷◌, refl, sym, ap, subst, ◌∙◌, true≢false}
 use Rattle.std.specs.Prelude.{not, filter}
 use Rattle.std.specs.List.{join_with_byte}
 use Rattle.std.proofs.lemmas.List.Splits.{join_with_byte-slice_split}
 use Rattle.hdl_tenants.specs.Register.{Register}
 use Rattle.hdl_tenants.specs.Lines.{fields_of}
-use Rattle.hdl_tenants.specs.Text.{Line, skipped, publisher, hosted, opened, IsLine, IsAllowed, Adds, AddsAll, register_after}
+use Rattle.hdl_tenants.specs.Text.{Line, skipped, publisher, hosted, sited, opened, IsLine, IsAllowed, Adds, AddsAll, register_after}
 use Rattle.hdl_export.specs.Lines.{is_other}
 use Rattle.hdl_export.specs.Laws.{with_rows}
 
@@ -36,6 +36,9 @@ kept_line r between s text texts rest (publisher p) is ok e =
 kept_line r between s text texts rest (hosted prefix name a) is ok e =
     kept_step (bare r) (bare between) text texts (bare s) (is_other text) refl
     (λ _. (hosted prefix name a, is, ok, ap bare e)) (λ none. absurd (true≢false (sym (begins text _ _ _ is.split) ∙ none))) rest
+kept_line r between s text texts rest (sited name octets) is ok e =
+    kept_step (bare r) (bare between) text texts (bare s) (is_other text) refl
+    (λ _. (sited name octets, is, ok, ap bare e)) (λ none. absurd (true≢false (sym (begins text _ _ _ is.split) ∙ none))) rest
 kept_line r between s text texts rest (opened handle v) is ok e =
     kept_step (bare r) (bare between) text texts (bare s) (is_other text) refl
     (λ some. absurd (true≢false (sym some ∙ begins text _ _ _ is.split))) (λ _. sym (ap bare e)) rest

@@ -67,8 +67,8 @@ pub record IsWritten (texts prefixes : List (List ℕ)) (t : Table) (out : List 
   pub text : out ≡ text_of (written_lines texts (rows_in prefixes authorities t))
   pub rows : AllByRecursion IsWritableRow (rows_in prefixes authorities t)
 
--- The text that was given says a register. The text that was written says the same publishers and prefixes, and the rows of the table with these
--- prefixes, under all of their authorities.
+-- The text that was given says a register. The text that was written says the same publishers, prefixes and site information, and the rows of the
+-- table with these prefixes, under all of their authorities.
 pub record IsExport (texts : List (List ℕ)) (t : Table) (out : List ℕ) : Type 0 where
   pub register : Register
   pub given : IsAccepted texts register
@@ -89,8 +89,8 @@ pub record HasCover (texts : List (List ℕ)) (places : List Place) : Type 0 whe
   pub covered : EachCovered places (map (λ row. row.1) register.opening)
   pub referred : AreReferred (map (λ row. row.1) register.opening) places
 
--- The text that was given says a register. The text that was written says the same publishers and prefixes, the rows of the table with the
--- prefixes of this publisher, and of the rows with other prefixes those at the places of a cover: all that its rows refer to, and all that the
+-- The text that was given says a register. The text that was written says the same publishers, prefixes and site information, the rows of the table
+-- with the prefixes of this publisher, and of the rows with other prefixes those at the places of a cover: all that its rows refer to, and all that the
 -- lists there refer to, and no other place.
 pub record IsPublisherExport (texts : List (List ℕ)) (name : List ℕ) (t : Table) (out : List ℕ) : Type 0 where
   pub register : Register
@@ -118,11 +118,12 @@ pub record IsSayable (prefixes : List (List ℕ)) (t : Table) : Type 0 where
 abbrev pub with_table : World → Table → World
 with_table w t = record { site = w.site; table = t; lanes = w.lanes }
 
--- Over the table of the second text a publisher has what it had. Both texts say the same lanes and prefixes; the places are a cover for it at the
+-- Over the table of the second text a publisher has what it had. Both texts say the same lanes, prefixes and site information; the places are a cover for it at the
 -- start, in both tables; and what it has of the world, with the values at the cover, is what it has of the world with the table that the second text opens.
 pub record IsMoved (w : World) (u : ℕ) (cover : List Place) (old new : Register) : Type 0 where
   pub publishers : new.publishers ≡ old.publishers
   pub hostings : new.hostings ≡ old.hostings
+  pub sites : new.sites ≡ old.sites
   pub closed : IsClosed (hosts w.site u) cover w.table
   pub closed_there : IsClosed (hosts w.site u) cover (opening_table new.opening)
   pub same : restrict w u cover ≡ restrict (with_table w (opening_table new.opening)) u cover

@@ -12,7 +12,7 @@ pub fn value_line_is_read()
     ensures { ValueLineIsRead }
 {}
 
-/// After lines that say publishers and prefixes, the lines of rows that a text can say are accepted, and say these rows in this order.
+/// After lines that say publishers, prefixes and site information, the lines of rows that a text can say are accepted, and say these rows in this order.
 pub fn register_is_read()
     ensures { RegisterIsRead }
 {}

@@ -2,13 +2,13 @@
 //!
 //! ```text
 //! tenants text ── its lines but those of values ──┐
-//!                                                 ├──► tenants text: publishers and prefixes, then a line for each value
+//!                                                 ├──► tenants text: publishers, prefixes, site information, then a line for each value
 //! table ── names, values of each ── value_line ───┘
 //! ```
 //!
 //! [`export`] writes it. `specs/Lines.antt` defines the line of a row (`value_line`), `specs/Rows.antt` which rows are written. What is
-//! promised is said in the words of `hdl_tenants`: reading what was written gives the publishers and prefixes of the text that was given, and
-//! just these rows, in this order. [`value_line_is_read`] is the law of one line, [`register_is_read`] that of all: whatever a tenants text can
+//! promised is said in the words of `hdl_tenants`: reading what was written gives the publishers, prefixes and site information of the
+//! text that was given, and just these rows, in this order. [`value_line_is_read`] is the law of one line, [`register_is_read`] that of all: whatever a tenants text can
 //! say is read back as it was written; and [`rows_are_only`] that such a text says nothing else.
 //!
 //! [`export_publisher`] writes one publisher's part in the same way, with what it rests on: the values of other publishers to which its values
@@ -27,7 +27,7 @@
 //!
 //! # Decisions
 //!
-//! - **The lines of publishers and prefixes are taken over as they stand**, comments too, since a register keeps what they say and not how
+//! - **The lines of publishers, prefixes and site information are taken over as they stand**, comments too, since a register keeps what they say and not how
 //!   they say it. A line that ends with CR gets another one before its LF, so that reading gives each line back.
 //! - **What a publisher rests on is looked up place by place**, each once and without a bound, from what its rows refer to. The rows are those that
 //!   reading its part of the text gives, so the table is gone through once.

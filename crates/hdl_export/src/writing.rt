@@ -59,7 +59,7 @@ fn sound(alloc: Global, out: Vec<u8>) -> Result<String, ExportFault>
     }
 }
 
-/// The table as a tenants text: the lines of this one that say publishers and prefixes, and comments, then a line for each value, by rising
+/// The table as a tenants text: the lines of this one that say publishers, prefixes and site information, and comments, then a line for each value, by rising
 /// handle and index, of each handle with one of these prefixes that a line can name.
 ///
 /// Refuses, in this order: Given where the text that is given is faulty; Row where the table has what no write of the service makes; Written
@@ -92,7 +92,7 @@ fn cover_of(alloc: Global, text: &[u8]) -> Result<Cover, ExportFault>
     Ok(Cover::of(alloc, tenants.opening())?)
 }
 
-/// One publisher's part of the table as a tenants text: the lines of this one that say publishers and prefixes, and comments; a line for each
+/// One publisher's part of the table as a tenants text: the lines of this one that say publishers, prefixes and site information, and comments; a line for each
 /// value of each handle with one of the prefixes of the publisher of this name, as [`export`] writes them; and a line for each value with
 /// another prefix on which its answers rest: those to which its values refer, and those to which the lists there refer.
 ///

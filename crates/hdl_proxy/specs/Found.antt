@@ -34,6 +34,7 @@ IsRefusal content.Nothing = ⊥
 IsRefusal (content.Referral prefix) = ⊤
 IsRefusal (content.Nonce nonce) = ⊥
 IsRefusal content.Empty = ⊤
+IsRefusal (content.Site octets) = ⊥
 
 -- what is found in a reply with this code and content: of the values of this handle just those that are shown; the code
 -- where it has none; and nothing where it is another answer, or a value is unsound

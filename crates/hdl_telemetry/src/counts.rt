@@ -8,8 +8,9 @@ use std::sync::atomic::AtomicU64;
 use std::sync::atomic::Ordering::SeqCst;
 
 /// The operations that are counted by themselves; all others are counted together.
-const OPERATIONS: [OpCode; 7] = [
+const OPERATIONS: [OpCode; 8] = [
     OpCode::Resolution,
+    OpCode::GetSiteInfo,
     OpCode::CreateHandle,
     OpCode::DeleteHandle,
     OpCode::AddValue,
@@ -44,17 +45,17 @@ const CODES: [ResponseCode; 19] = [
 /// How many counts an operation has: one for each code, and one for all others.
 const COLUMNS: usize = CODES.len() + 1;
 
-/// The word of an operation, as the audit log has it.
+/// The word of an operation: of one that changes a handle, as the audit log has it.
 fn word_of(operation: OpCode) -> &'static str {
     match operation {
         OpCode::Resolution => "resolve",
+        OpCode::GetSiteInfo => "get-site-info",
         OpCode::CreateHandle => "create",
         OpCode::DeleteHandle => "delete",
         OpCode::AddValue => "add",
         OpCode::RemoveValue => "remove",
         OpCode::ModifyValue => "modify",
         OpCode::ListHandles => "list",
-        OpCode::GetSiteInfo => "other",
         OpCode::ChallengeResponse => "other",
     }
 }

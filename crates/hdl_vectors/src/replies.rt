@@ -25,6 +25,7 @@ fn put_content(rt: &HostRuntime, content: ContentView<'_>) -> io::Result<()> {
         ContentView::Referral { prefix } => put_text(rt, "referral to", prefix),
         ContentView::Nonce { nonce } => put_hex(rt, "nonce", nonce),
         ContentView::Empty => println!(rt; "  empty"),
+        ContentView::Site { octets } => put_hex(rt, "site", octets),
     }
 }
 
@@ -51,6 +52,9 @@ fn content_of(
             let nonce = *nonce;
             ReplyContent::Nonce { nonce }
         }
+        ContentView::Site { octets } => ReplyContent::Site {
+            octets: copy_of(alloc, octets)?,
+        },
         ContentView::Empty => ReplyContent::Empty,
     })
 }

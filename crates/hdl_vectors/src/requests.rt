@@ -86,7 +86,7 @@ fn put_lists(rt: &HostRuntime, body: &Body<'_>) -> io::Result<()> {
             put_hex(rt, "answer", answer)
         }
         Body::Delete { .. } | Body::List { .. } => Ok(()),
-        Body::Other { octets } => put_hex(rt, "other", octets),
+        Body::SiteInfo { octets } | Body::Other { octets } => put_hex(rt, "other", octets),
     }
 }
 
@@ -101,7 +101,7 @@ fn handle_of<'a>(body: &Body<'a>) -> &'a [u8] {
         | Body::Modify { handle, .. }
         | Body::List { handle }
         | Body::Response { handle, .. } => handle,
-        Body::Other { .. } => b"",
+        Body::SiteInfo { .. } | Body::Other { .. } => b"",
     }
 }
 
@@ -177,7 +177,7 @@ fn body_of(alloc: Global, body: &Body<'_>) -> Result<Option<RequestBody>, AllocE
             index,
             answer: copy_of(alloc, answer)?,
         },
-        Body::Other { .. } => return Ok(None),
+        Body::SiteInfo { .. } | Body::Other { .. } => return Ok(None),
     }))
 }
 

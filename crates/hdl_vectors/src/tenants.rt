@@ -8,10 +8,11 @@ use hdl_value::Wire;
 use std::io;
 
 /// The faults whose texts are printed; no line brings the last one about.
-const FAULTS: [TenantFault; 5] = [
+const FAULTS: [TenantFault; 6] = [
     TenantFault::BadLine,
     TenantFault::TwicePrefix,
     TenantFault::TwicePublisher,
+    TenantFault::TwiceSite,
     TenantFault::TooMany,
     TenantFault::Memory,
 ];
@@ -32,6 +33,9 @@ fn put_publisher(rt: &HostRuntime, tenants: &Tenants, place: usize) -> io::Resul
     }
     if tenants.wire(place) == Wire::HandleNet {
         println!(rt; "    handle-net")?;
+    }
+    if let Some(octets) = tenants.site(place) {
+        put_hex(rt, "  site", octets)?;
     }
     match tenants.lanes_of(place) {
         Some((first, last)) => println!(rt; "    lanes {first} to {last}"),

@@ -1,11 +1,13 @@
 //! Lines of octets in words.
 
+use crate::sites::push_site;
 use crate::words::printout::Printout;
 use crate::words::reply::push_reply;
 use crate::words::request::push_request;
 use crate::words::value::push_value;
 use hdl_frame::{Frame, one_datagram};
 use hdl_msg::{read_reply, read_request};
+use hdl_site::read_site;
 use hdl_value::{Wire, cut_value};
 use std::alloc::AllocError;
 
@@ -77,6 +79,19 @@ fn push_row(printout: &mut Printout, handle: &str, digits: &str) -> Result<(), A
     }
 }
 
+/// Adds a line of a tenants text with its site information in words.
+fn push_site_row(printout: &mut Printout, publisher: &str, digits: &str) -> Result<(), AllocError> {
+    let line = format!(in printout.alloc; "site {publisher}")?;
+    printout.push(&line)?;
+    let Ok(octets) = hex::decode(printout.alloc, digits) else {
+        return printout.push(";; no hexadecimal digits");
+    };
+    match read_site(printout.alloc, &octets)? {
+        Some(site) => push_site(printout, &site),
+        None => printout.push(";; no data of an HS_SITE value"),
+    }
+}
+
 /// Whether octets alone are those of a reply: its code isn't 0, as that of a request is.
 fn is_reply(printout: &Printout, digits: &str) -> bool {
     match hex::decode(printout.alloc, digits) {
@@ -124,6 +139,7 @@ fn push_fields(
 ) -> Result<(), AllocError> {
     match fields {
         ["value", handle, digits] => push_row(printout, handle, digits),
+        ["site", publisher, digits] => push_site_row(printout, publisher, digits),
         ["frame", lane, peer, moment, _, digits] => push_event(
             printout, wire, lane, peer, moment, digits,
         ),

@@ -6,6 +6,7 @@ use hdl_msg::{OpCode, ResponseCode};
 pub fn operation_name(number: u32) -> &'static str {
     match OpCode::of(number) {
         Some(OpCode::Resolution) => "resolve",
+        Some(OpCode::GetSiteInfo) => "get-site-info",
         Some(OpCode::CreateHandle) => "create",
         Some(OpCode::DeleteHandle) => "delete",
         Some(OpCode::AddValue) => "add",

@@ -51,6 +51,11 @@ fn push_content(printout: &mut Printout, content: ContentView<'_>) -> Result<(),
             let line = format!(in printout.alloc; ";; nonce {digits}")?;
             printout.push(&line)
         }
+        ContentView::Site { octets } => {
+            let digits = hex::encode(printout.alloc, octets)?;
+            let line = format!(in printout.alloc; ";; site information {digits}")?;
+            printout.push(&line)
+        }
         ContentView::Nothing | ContentView::Empty => Ok(()),
     }
 }

@@ -72,6 +72,10 @@ fn push_body(printout: &mut Printout, word: &str, body: &Body<'_>) -> Result<(),
             answer,
             ..
         } => push_response(printout, word, handle, *index, answer),
+        Body::SiteInfo { octets } => {
+            let line = format!(in printout.alloc; ";; {word}, {} octets", octets.len())?;
+            printout.push(&line)
+        }
         Body::Other { octets } => {
             let line = format!(in printout.alloc;
                 ";; an unknown operation, {} octets",

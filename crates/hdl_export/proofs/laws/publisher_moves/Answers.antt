@@ -30,6 +30,7 @@ returns c = λ texts name t out x s read say w tabled hosting.
     record {
       publishers = ap (λ (r : Register). r.publishers) same;
       hostings = ap (λ (r : Register). r.hostings) same;
+      sites = ap (λ (r : Register). r.sites) same;
       closed = subst (λ (z : Table). IsClosed (hosts w.site u) x.cover z) (sym tabled) (subst (λ (f : List ℕ → Bool). IsClosed f x.cover t) (sym hosted) closed_there);
       closed_there = subst (λ (r : Register). IsClosed (hosts w.site u) x.cover (opening_table r.opening)) (sym same)
           (subst (λ (f : List ℕ → Bool). IsClosed f x.cover (opening_table opened)) (sym hosted) (closed_agrees (λ q. is_among q prefixes) x.cover t (opening_table opened) one closed_there));
