@@ -56,7 +56,6 @@ fn word_of(operation: OpCode) -> &'static str {
         OpCode::RemoveValue => "remove",
         OpCode::ModifyValue => "modify",
         OpCode::ListHandles => "list",
-        OpCode::GetSiteInfo => "other",
         OpCode::ChallengeResponse => "other",
     }
 }
