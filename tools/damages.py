@@ -223,12 +223,13 @@ def put(path, pair):
 
 
 def given_up(folder):
-    """`--accept-loss` starts over what is whole, says so, and the next start needs it no more."""
+    """`--accept-loss` starts over what is whole, says so, and the next start needs it no more. A log that was lost is refused if it is put back then."""
     path = os.path.join(folder, "given.db")
     file, log = killed(path, b"given")
     for name, pair, said in (
         ("the log gone", (file, None), b"the log is gone"),
         ("the log damaged", (file, log[:TURNED] + bytes([log[TURNED] ^ 1]) + log[TURNED + 1:]), b"the log is damaged"),
+        ("the log's front damaged", (file, bytes([log[0] ^ 1]) + log[1:]), b"the log is damaged"),
         ("another log", (file, other_log(log)), b"another log"),
         ("the file gone", (None, log), b"the file is gone"),
     ):
@@ -242,6 +243,9 @@ def given_up(folder):
         yield "%s: --accept-loss starts, and says so" % name, status == 0 and b"table: " + said in fault and b"given up" in fault
         status, fault = served(path, ())
         yield "%s: the next start needs no word" % name, status == 0 and b"table: " not in fault.replace(b"table in", b"")
+        put(path, (octets_of(path), log))
+        status, fault = served(path, ())
+        yield "%s: the log that was lost is refused" % name, status == REFUSED and fault.startswith(b"table: another log")
 
 
 def other_log(log):

@@ -1,5 +1,5 @@
 -- A file and the log beside it.
-use Rattle.std.specs.Prelude.{◌≡◌, ◌⊎◌, ◌≤◌, ◌+◌, min, ℕ, Bool, true, false, None, Some, IsTrue}
+use Rattle.std.specs.Prelude.{◌≡◌, ◌⊎◌, ◌≤◌, ◌+◌, min, ℕ, Bool, true, false, None, Some}
 use Rattle.hdl_pairs.specs.declared.judging.Verdict.{Verdict}
 use Rattle.hdl_pairs.specs.declared.judging.Verdict.TheVariants.{Sound, Ends, Begun, Refused}
 use Rattle.hdl_pairs.specs.declared.walking.WholeLog.{WholeLog}

@@ -73,8 +73,8 @@ impl Sums {
 /// What the front of a log is.
 #[derive(Clone, Copy)]
 pub(crate) enum Front {
-    /// It is being begun anew, once the file has all of it.
-    Begun,
+    /// It is being begun anew, once the file has all of it. Its header may be the one before, the next one, or neither.
+    Begun(Option<Header>),
     /// No header of a log.
     Noise,
     Signed(Header),
@@ -132,15 +132,14 @@ fn header_in(octets: &[u8; HEADER]) -> Option<Header> {
 }
 
 impl Front {
-    /// What these octets are, of which a header takes 32. Where the log is begun anew the first one is 0 until the others are there, and whatever a cut of
-    /// power makes of it while it is written.
-    pub(crate) fn read(octets: &[u8; HEADER]) -> Front {
-        if octets[0] == 0 {
-            return Front::Begun;
-        }
+    /// What these octets are, behind which the log has frames or not. Where it is begun anew the first octet is 0 until the others are there, and whatever a
+    /// cut of power makes of it while it is written. The others may be anything meanwhile, but not all of them zeros.
+    pub(crate) fn read(octets: &[u8; HEADER], has_frames: bool) -> Front {
+        let is_torn = octets[0] == 0 && *octets != [0; HEADER];
         match header_in(&with_first(octets, MARK)) {
             Some(header) if octets[0] == MARK => Front::Signed(header),
-            Some(_) => Front::Begun,
+            Some(header) => Front::Begun(Some(header)),
+            None if is_torn || !has_frames => Front::Begun(None),
             None => Front::Noise,
         }
     }

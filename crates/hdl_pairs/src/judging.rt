@@ -1,8 +1,8 @@
 //! Whether a file and the log beside it belong together, and are whole.
 
-ghost use Rattle.std.specs.Prelude.{◌≡◌, ◌⊎◌, ◌↔◌, ℕ, false, IsTrue};
+ghost use Rattle.std.specs.Prelude.{◌≡◌, ◌≢◌, ◌⊎◌, ◌↔◌, ◌<◌, ℕ, false, None, Some, IsTrue};
 ghost use Rattle.hdl_pairs.specs.Pair.{Belongs, IsMarked, NeedsLog, is_refused, is_sound};
-ghost use Rattle.hdl_pairs.specs.declared.notes.FileLook.TheVariants.{Noted};
+ghost use Rattle.hdl_pairs.specs.declared.notes.FileLook.TheVariants as files;
 ghost use Rattle.hdl_pairs.specs.declared.walking.WholeLog.{WholeLog};
 ghost use Rattle.hdl_pairs.specs.declared.walking.LogLook.TheVariants as logs;
 ghost use Rattle.hdl_pairs.specs.declared.walking.Rest.TheVariants as rests;
@@ -29,6 +29,8 @@ pub enum PairFault {
     FileGone,
     /// The log is of an earlier time, or of another file.
     Another,
+    /// The log has no front, and changes behind it that the file hasn't.
+    Front,
     /// The log isn't whole beyond this, and had more.
     Damaged(Found),
 }
@@ -44,6 +46,9 @@ impl fmt::Display for PairFault {
             ),
             PairFault::Another => f.write_str(
                 "another log: the log beside the file is of an earlier time, or of another file",
+            ),
+            PairFault::Front => f.write_str(
+                "the log is damaged: its first octets aren't those of a log, and the file hasn't got its changes",
             ),
             PairFault::Damaged(Found { end, length }) => write!(
                 f,
@@ -81,7 +86,7 @@ fn belongs(note: u32, log: &WholeLog) -> bool
 /// Judges a log of which nothing is damaged.
 fn judge_whole(note: u32, log: &WholeLog) -> Verdict
     ensures another { IsMarked note → ¬ Belongs note log.now → IsTrue (is_refused result) }
-    ensures lawful { IsMarked note → Belongs note log.now → is_refused result ≡ false }
+    ensures lawful { (IsMarked note → Belongs note log.now) → is_refused result ≡ false }
     ensures told { log.now.rest ≡ rests.Unfinished → is_sound result ≡ false }
 {
     let is_marked = note == WHOLE || FIRST_NOTE <= note;
@@ -102,7 +107,7 @@ fn judge_log(note: u32, log: &WholeLog) -> Verdict
     ensures another { IsMarked note → ¬ Belongs note log.now → IsTrue (is_refused result) }
     ensures broken { log.now.rest ≡ rests.Broken → IsTrue (is_refused result) }
     ensures cut { NeedsLog note → log.now.rest ≡ rests.Cut → IsTrue (is_refused result) }
-    ensures lawful { IsMarked note → Belongs note log.now → (log.now.rest ≡ rests.Nothing) ⊎ (log.now.rest ≡ rests.Unfinished) → is_refused result ≡ false }
+    ensures lawful { (IsMarked note → Belongs note log.now) → (log.now.rest ≡ rests.Nothing) ⊎ (log.now.rest ≡ rests.Unfinished) → is_refused result ≡ false }
     ensures told { log.now.rest ≡ rests.Unfinished → is_sound result ≡ false }
 {
     let found = Found {
@@ -122,7 +127,11 @@ fn judge_beside(note: u32, log: &LogLook) -> Verdict
     ensures another { (w : WholeLog) → log.now ≡ logs.Whole w → IsMarked note → ¬ Belongs note w → IsTrue (is_refused result) }
     ensures broken { (w : WholeLog) → log.now ≡ logs.Whole w → w.rest ≡ rests.Broken → IsTrue (is_refused result) }
     ensures cut { (w : WholeLog) → log.now ≡ logs.Whole w → NeedsLog note → w.rest ≡ rests.Cut → IsTrue (is_refused result) }
-    ensures lawful { (w : WholeLog) → log.now ≡ logs.Whole w → IsMarked note → Belongs note w → (w.rest ≡ rests.Nothing) ⊎ (w.rest ≡ rests.Unfinished) → is_refused result ≡ false }
+    ensures front { (l : ℕ) → log.now ≡ logs.Begun (Some l) → l ≢ note → IsTrue (is_refused result) }
+    ensures noise { log.now ≡ logs.Noise → IsTrue (is_refused result) }
+    ensures begun { (log.now ≡ logs.Begun None) ⊎ (log.now ≡ logs.Begun (Some note)) → is_refused result ≡ false }
+    ensures unneeded { ¬ NeedsLog note → log.now ≡ logs.Nothing → is_refused result ≡ false }
+    ensures lawful { (w : WholeLog) → log.now ≡ logs.Whole w → (IsMarked note → Belongs note w) → (w.rest ≡ rests.Nothing) ⊎ (w.rest ≡ rests.Unfinished) → is_refused result ≡ false }
     ensures told { (w : WholeLog) → log.now ≡ logs.Whole w → w.rest ≡ rests.Unfinished → is_sound result ≡ false }
 {
     match log {
@@ -133,17 +142,21 @@ fn judge_beside(note: u32, log: &LogLook) -> Verdict
                 Verdict::Sound
             }
         }
-        LogLook::Begun => Verdict::Begun,
-        LogLook::Noise => Verdict::Refused(PairFault::Damaged(Found { end: 0, length: 0 })),
+        LogLook::Begun(Some(last)) if *last != note => Verdict::Refused(PairFault::Front),
+        LogLook::Begun(_) => Verdict::Begun,
+        LogLook::Noise => Verdict::Refused(PairFault::Front),
         LogLook::Whole(log) => judge_log(note, log),
     }
 }
 
 /// Judges a log beside which there is no file.
-fn judge_alone(log: &LogLook) -> Verdict {
+fn judge_alone(log: &LogLook) -> Verdict
+    ensures alone { (w : WholeLog) → log.now ≡ logs.Whole w → 0 < w.frames → IsTrue (is_refused result) }
+    ensures new { log.now ≡ logs.Nothing → is_refused result ≡ false }
+{
     match log {
-        LogLook::Nothing | LogLook::Begun => Verdict::Sound,
-        LogLook::Noise => Verdict::Refused(PairFault::FileGone),
+        LogLook::Nothing | LogLook::Begun(None) => Verdict::Sound,
+        LogLook::Begun(Some(_)) | LogLook::Noise => Verdict::Refused(PairFault::FileGone),
         LogLook::Whole(log) => {
             if log.is_making && log.frames == 0 {
                 Verdict::Sound
@@ -156,12 +169,18 @@ fn judge_alone(log: &LogLook) -> Verdict {
 
 /// Judges a file and the log beside it. What a kill leaves is never refused, and what comes behind the last change that was done is told.
 pub fn judge(file: &FileLook, log: &LogLook) -> Verdict
-    ensures gone { (n : ℕ) → file.now ≡ Noted n → NeedsLog n → log.now ≡ logs.Nothing → IsTrue (is_refused result) }
-    ensures another { (n : ℕ) (w : WholeLog) → file.now ≡ Noted n → log.now ≡ logs.Whole w → IsMarked n → ¬ Belongs n w → IsTrue (is_refused result) }
-    ensures broken { (n : ℕ) (w : WholeLog) → file.now ≡ Noted n → log.now ≡ logs.Whole w → w.rest ≡ rests.Broken → IsTrue (is_refused result) }
-    ensures cut { (n : ℕ) (w : WholeLog) → file.now ≡ Noted n → log.now ≡ logs.Whole w → NeedsLog n → w.rest ≡ rests.Cut → IsTrue (is_refused result) }
-    ensures lawful { (n : ℕ) (w : WholeLog) → file.now ≡ Noted n → log.now ≡ logs.Whole w → IsMarked n → Belongs n w → (w.rest ≡ rests.Nothing) ⊎ (w.rest ≡ rests.Unfinished) → is_refused result ≡ false }
-    ensures told { (n : ℕ) (w : WholeLog) → file.now ≡ Noted n → log.now ≡ logs.Whole w → w.rest ≡ rests.Unfinished → is_sound result ≡ false }
+    ensures gone { (n : ℕ) → file.now ≡ files.Noted n → NeedsLog n → log.now ≡ logs.Nothing → IsTrue (is_refused result) }
+    ensures another { (n : ℕ) (w : WholeLog) → file.now ≡ files.Noted n → log.now ≡ logs.Whole w → IsMarked n → ¬ Belongs n w → IsTrue (is_refused result) }
+    ensures broken { (n : ℕ) (w : WholeLog) → file.now ≡ files.Noted n → log.now ≡ logs.Whole w → w.rest ≡ rests.Broken → IsTrue (is_refused result) }
+    ensures cut { (n : ℕ) (w : WholeLog) → file.now ≡ files.Noted n → log.now ≡ logs.Whole w → NeedsLog n → w.rest ≡ rests.Cut → IsTrue (is_refused result) }
+    ensures front { (n l : ℕ) → file.now ≡ files.Noted n → log.now ≡ logs.Begun (Some l) → l ≢ n → IsTrue (is_refused result) }
+    ensures noise { (n : ℕ) → file.now ≡ files.Noted n → log.now ≡ logs.Noise → IsTrue (is_refused result) }
+    ensures alone { (w : WholeLog) → file.now ≡ files.Nothing → log.now ≡ logs.Whole w → 0 < w.frames → IsTrue (is_refused result) }
+    ensures new { file.now ≡ files.Nothing → log.now ≡ logs.Nothing → is_refused result ≡ false }
+    ensures begun { (n : ℕ) → file.now ≡ files.Noted n → (log.now ≡ logs.Begun None) ⊎ (log.now ≡ logs.Begun (Some n)) → is_refused result ≡ false }
+    ensures unneeded { (n : ℕ) → file.now ≡ files.Noted n → ¬ NeedsLog n → log.now ≡ logs.Nothing → is_refused result ≡ false }
+    ensures lawful { (n : ℕ) (w : WholeLog) → file.now ≡ files.Noted n → log.now ≡ logs.Whole w → (IsMarked n → Belongs n w) → (w.rest ≡ rests.Nothing) ⊎ (w.rest ≡ rests.Unfinished) → is_refused result ≡ false }
+    ensures told { (n : ℕ) (w : WholeLog) → file.now ≡ files.Noted n → log.now ≡ logs.Whole w → w.rest ≡ rests.Unfinished → is_sound result ≡ false }
 {
     match file {
         FileLook::Nothing => judge_alone(log),

@@ -31,6 +31,7 @@
 //! file n+2 | log empty                             begun anew
 //! file n+2 | log n + 3                             served
 //! file n+1 | log changes, n + 1 where it grows     begun anew by the kit under a long run, which moves the log by itself
+//! file n   | log n + 1, m                          the log before was given up, and m is chosen by chance
 //! ```
 //!
 //! A log that fits none of these is of an earlier time, or of another table. A file with such a note needs a log; a copy notes that it is whole, and needs none.

@@ -8,6 +8,9 @@ use std::io::{self, ErrorKind, Read};
 /// How many octets the front of a frame has, up to its gate and with it.
 const GATED: u64 = 9;
 
+/// How many octets a log has that is begun: its header, and the first gate.
+const EMPTY: u64 = 41;
+
 /// What comes behind the last change of a log that was done.
 #[derive(Clone, Copy, Debug, PartialEq, Eq)]
 pub enum Rest {
@@ -42,8 +45,8 @@ pub struct WholeLog {
 pub enum LogLook {
     /// It isn't there, or is shorter than a header.
     Nothing,
-    /// It is being begun anew, once the file has all of it.
-    Begun,
+    /// It is being begun anew, once the file has all of it: the note of the file in the last of its changes that has the file's first page.
+    Begun(Option<u32>),
     /// It has no header of a log.
     Noise,
     Whole(WholeLog),
@@ -225,8 +228,12 @@ pub fn log_look<I: Read>(alloc: Global, input: &mut I, length: u64) -> Result<Lo
     }
     let mut front = [0; HEADER];
     input.read_exact(&mut front)?;
-    match Front::read(&front) {
-        Front::Begun => Ok(LogLook::Begun),
+    match Front::read(&front, length > EMPTY) {
+        Front::Begun(Some(header)) => {
+            let before = go_through(alloc, input, header, length)?;
+            Ok(LogLook::Begun(before.last))
+        }
+        Front::Begun(None) => Ok(LogLook::Begun(None)),
         Front::Noise => Ok(LogLook::Noise),
         Front::Signed(header) => Ok(LogLook::Whole(go_through(alloc, input, header, length)?)),
     }

@@ -35,6 +35,8 @@ pub enum Note {
     Kept,
     /// That it needs its log.
     Served,
+    /// That it needs its log, by a note that no log has yet.
+    New,
     /// That it is whole without one.
     Whole,
 }
@@ -109,6 +111,13 @@ impl Look {
         judge(&self.file, &self.log)
     }
 
+    fn needs_log(&self) -> bool {
+        match self.file {
+            FileLook::Noted(note) => FIRST_NOTE <= note,
+            _ => false,
+        }
+    }
+
     /// Whether the file has no note of its log, as earlier versions left it.
     fn has_no_note(&self) -> bool {
         match self.file {
@@ -163,7 +172,7 @@ fn say_verdict(rt: &HostRuntime, verdict: &Verdict) {
 /// Whether another log than the file's own lies beside it, which has to go before the file is opened.
 fn is_strange(fault: PairFault) -> bool {
     match fault {
-        PairFault::Another | PairFault::FileGone => true,
+        PairFault::Another | PairFault::FileGone | PairFault::Front => true,
         PairFault::LogGone | PairFault::Damaged(_) => false,
     }
 }
@@ -191,8 +200,8 @@ fn give_up(rt: &HostRuntime, paths: &Paths, fault: PairFault) -> Result<(), Tabl
     }
 }
 
-/// Judges a file and the log beside it before they are opened, and says what there is to tell.
-fn admit(rt: &HostRuntime, place: &TablePath<'_>) -> Result<(), TabledFault> {
+/// Judges a file and the log beside it before they are opened, and says what there is to tell. Whether a log was given up that the file needs.
+fn admit(rt: &HostRuntime, place: &TablePath<'_>) -> Result<bool, TabledFault> {
     let paths = Paths::resolved(rt, place.path)?;
     let look = look_at(rt, &paths)?;
     let verdict = look.verdict();
@@ -200,11 +209,14 @@ fn admit(rt: &HostRuntime, place: &TablePath<'_>) -> Result<(), TabledFault> {
         return Err(TabledFault::from(TableFault::InUse));
     }
     match verdict {
-        Verdict::Refused(fault) if place.accepts_loss => give_up(rt, &paths, fault),
+        Verdict::Refused(fault) if place.accepts_loss => {
+            give_up(rt, &paths, fault)?;
+            Ok(look.needs_log())
+        }
         Verdict::Refused(fault) => Err(TabledFault::Pair(fault)),
         told => {
             say_verdict(rt, &told);
-            Ok(())
+            Ok(false)
         }
     }
 }
@@ -274,14 +286,16 @@ fn note_of(rt: &HostRuntime, note: Note, before: u32) -> Result<u32, TabledFault
         Note::Whole => Ok(WHOLE),
         Note::Kept if before < FIRST_NOTE => Ok(WHOLE),
         Note::Served if before < FIRST_NOTE => first_note(rt),
+        Note::New => first_note(rt),
         Note::Kept | Note::Served => Ok(before.wrapping_add(1).max(FIRST_NOTE)),
     }
 }
 
-/// Writes the note that the file is to have. A whole one that is to need its log gets the note behind its own before, by which the log is known as its own.
+/// Writes the note that the file is to have. One that has a note, and is to need its log, gets the note behind its own first, by which the log is known as its own.
 fn write_last<S: Alter>(store: &mut S, note: u32) -> Result<(), StoreError> {
-    if store.version() == WHOLE && note != WHOLE {
-        write_note(store, WHOLE.saturating_add(1))?;
+    let before = store.version();
+    if before != 0 && note != WHOLE {
+        write_note(store, before.saturating_add(1))?;
     }
     write_note(store, note)
 }
@@ -312,17 +326,17 @@ fn move_log<S: Logged + Drop>(store: S, note: u32) -> Result<(), StoreError> {
     Ok(())
 }
 
-/// Notes what a file needs, moves its log into it, and closes it.
+/// Notes what a file needs, moves its log into it, and closes it. What a full disk has no room for stays in the log, where a file that keeps its note needs no word.
 pub(crate) fn close_noted(
     rt: &HostRuntime,
     conn: Connection<Store>,
     note: Note,
 ) -> Result<(), TabledFault> {
     let store = conn.into_store();
-    let note = note_of(rt, note, store.version())?;
-    match move_log(store, note) {
-        Ok(()) => Ok(()),
-        Err(fault) => Err(TabledFault::from(fault_of(fault))),
+    let number = note_of(rt, note, store.version())?;
+    match (move_log(store, number), note) {
+        (Ok(()), _) | (Err(StoreError::Full), Note::Kept) => Ok(()),
+        (Err(fault), _) => Err(TabledFault::from(fault_of(fault))),
     }
 }
 
@@ -342,6 +356,12 @@ fn open_known(
     }
 }
 
+/// Gives a file that lost its log a new note, so that the lost one isn't taken for its own if it is put back.
+fn renew(rt: &HostRuntime, place: &TablePath<'_>) -> Result<(), TabledFault> {
+    let conn = open_known(rt, place.path, place.has_sums)?;
+    close_noted(rt, conn, Note::New)
+}
+
 /// Judges the file at a path and the log beside it, and opens them.
 pub(crate) fn open_judged(
     rt: &HostRuntime,
@@ -350,7 +370,9 @@ pub(crate) fn open_judged(
     ensures mode { IfOk result (λ c. c.in_transaction ≡ false) }
     ensures even { IfOk result (λ c. WhereOpen (file_state c) ((file_state c).committed ≡ (file_state c).now)) }
 {
-    admit(rt, place)?;
+    if admit(rt, place)? {
+        renew(rt, place)?;
+    }
     open_known(rt, place.path, place.has_sums)
 }
 
