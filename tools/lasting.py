@@ -338,8 +338,9 @@ def not_permitted(folder):
 
 
 def words():
-    """What is said of a table's file asks for `--table`."""
-    return [run(["serve", word], b"")[0] == 2 for word in ("--sums", "--no-sums", "--accept-loss")]
+    """What is said of a table's file asks for `--table`, and not for opposites."""
+    both = run(["serve", "--table", "none/table.db", "--sums", "--no-sums"], b"")[0] == 2
+    return [both] + [run(["serve", word], b"")[0] == 2 for word in ("--sums", "--no-sums", "--accept-loss")]
 
 
 def main():

@@ -37,7 +37,8 @@ fn table_args<'a>(alloc: Global, command: Command<'a>) -> Result<Command<'a>, Al
                     "Makes a new FILE without checksums on its pages: changed bits go unnoticed, and a plain sqlite3 may write it",
                 )
                 .action(ArgAction::SetTrue)
-                .requires_arg("table")?,
+                .requires_arg("table")?
+                .conflicts_with("sums")?,
         )?
         .arg(
             Arg::new(alloc, "accept-loss")
