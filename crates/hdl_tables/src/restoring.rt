@@ -56,7 +56,7 @@ impl fmt::Display for RestoreFault {
             RestoreFault::Pair(fault) => {
                 write!(
                     f,
-                    "the copy isn't taken, and the table stays as it is: {fault}"
+                    "the copy isn't taken, and the table stays as it is: {fault}: take another copy, or put this one in the table's place and start once with --accept-loss"
                 )
             }
             RestoreFault::Left => f.write_str(
