@@ -1,5 +1,5 @@
 -- A file and the log beside it.
-use Rattle.std.specs.Prelude.{◌≡◌, ◌⊎◌, ◌≤◌, ◌+◌, min, ℕ, Bool, true, false, None, Some}
+use Rattle.std.specs.Prelude.{◌≡◌, ◌⊎◌, ◌≤◌, ◌+◌, min, ℕ, Bool, true, false, None, Some, IsTrue}
 use Rattle.hdl_pairs.specs.declared.judging.Verdict.{Verdict}
 use Rattle.hdl_pairs.specs.declared.judging.Verdict.TheVariants.{Sound, Ends, Begun, Refused}
 use Rattle.hdl_pairs.specs.declared.walking.WholeLog.{WholeLog}
@@ -16,9 +16,9 @@ NeedsLog n = first_note ≤ n
 abbrev pub IsMarked : ℕ → Type 0
 IsMarked n = (n ≡ 1) ⊎ NeedsLog n
 
--- The log has no change, or none that notes anything; or it begins with the note behind the file's, or with the file's; or it ends with the file's.
+-- The log has no change, or none that notes anything; or it has the file's note, or begins with the one behind it.
 abbrev pub Belongs : ℕ → WholeLog → Type 0
-Belongs n log = (log.frames ≡ 0) ⊎ ((log.first ≡ None) ⊎ ((log.first ≡ Some n) ⊎ ((log.first ≡ Some (min (n + 1) 4294967295)) ⊎ (log.last ≡ Some n))))
+Belongs n log = (log.frames ≡ 0) ⊎ ((log.first ≡ None) ⊎ (IsTrue log.has_note ⊎ (log.first ≡ Some (min (n + 1) 4294967295))))
 
 -- the file isn't opened over its log
 abbrev pub is_refused : Verdict → Bool

@@ -77,10 +77,7 @@ fn belongs(note: u32, log: &WholeLog) -> bool
     if log.frames == 0 || log.first.is_none() {
         return true;
     }
-    if log.first == Some(note) || log.first == Some(note.saturating_add(1)) {
-        return true;
-    }
-    log.last == Some(note)
+    log.has_note || log.first == Some(note.saturating_add(1))
 }
 
 /// Judges a log of which nothing is damaged.
@@ -167,7 +164,7 @@ fn judge_alone(log: &LogLook) -> Verdict
     }
 }
 
-/// Judges a file and the log beside it. What a kill leaves is never refused, and what comes behind the last change that was done is told.
+/// Judges a file and the log beside it, which was looked through for the file's note. What a kill leaves is never refused, and what comes behind the last change that was done is told.
 pub fn judge(file: &FileLook, log: &LogLook) -> Verdict
     ensures gone { (n : ℕ) → file.now ≡ files.Noted n → NeedsLog n → log.now ≡ logs.Nothing → IsTrue (is_refused result) }
     ensures another { (n : ℕ) (w : WholeLog) → file.now ≡ files.Noted n → log.now ≡ logs.Whole w → IsMarked n → ¬ Belongs n w → IsTrue (is_refused result) }

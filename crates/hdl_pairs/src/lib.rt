@@ -3,7 +3,7 @@
 //!
 //! ```text
 //! file_look(front of the file) -> FileLook     the note in its header
-//! log_look(the log)            -> LogLook      how far it is whole, which notes it has, what comes behind
+//! log_look(the log, the note)  -> LogLook      how far it is whole, which notes it has, what comes behind
 //! judge(FileLook, LogLook)     -> Verdict      sound, with a change that was under way, or what is wrong
 //! ```
 //!
@@ -28,6 +28,7 @@
 //! file n   | log n + 1, changes                    served
 //! file n   | log n + 1, changes, n + 2             being moved into the file
 //! file n+2 | log n + 1, changes, n + 2             moved, and still there
+//! file n+2 | log n + 1, changes, n + 2, n + 3      the same, being moved again
 //! file n+2 | log empty                             begun anew
 //! file n+2 | log n + 3                             served
 //! file n+1 | log changes, n + 1 where it grows     begun anew by the kit under a long run, which moves the log by itself
@@ -42,7 +43,7 @@
 //! // crates/hdl_tables/src/pair.rt
 //! let length = file.metadata()?.len();
 //! let mut input = BufReader::new(rt.alloc(), file)?;
-//! log_look(rt.alloc(), &mut input, length)
+//! log_look(rt.alloc(), &mut input, length, note)
 //! ```
 //!
 //! What is told and what isn't stands in DECISIONS.md.

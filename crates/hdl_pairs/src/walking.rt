@@ -34,9 +34,11 @@ pub struct WholeLog {
     /// How many octets it has up to their end.
     pub end: u64,
     pub length: u64,
-    /// The note of the file in the first of these changes that has the file's first page, and in the last one.
+    /// The note in the first of these changes that has the file's first page, and in the last one.
     pub first: Option<u32>,
     pub last: Option<u32>,
+    /// Whether one of them has the note that the log was looked through for.
+    pub has_note: bool,
     pub rest: Rest,
 }
 
@@ -76,25 +78,30 @@ impl From<io::Error> for LookFault {
 struct Walk {
     header: Header,
     length: u64,
+    /// The note that is looked for.
+    note: u32,
     /// How many frames are whole, one behind the other, and the sums behind them.
     frames: u64,
     sums: Sums,
     /// The note in the first of them that has the file's first page, and in the last one.
     first: Option<u32>,
     last: Option<u32>,
+    has_note: bool,
     /// How many of them are those of changes that were done.
     done: u64,
 }
 
 impl Walk {
-    fn new(header: Header, length: u64) -> Walk {
+    fn new(header: Header, length: u64, note: u32) -> Walk {
         Walk {
             header,
             length,
+            note,
             frames: 0,
             sums: header.sums,
             first: None,
             last: None,
+            has_note: false,
             done: 0,
         }
     }
@@ -122,8 +129,10 @@ impl Walk {
         self.sums = sums;
         self.frames = self.frames.saturating_add(1);
         if number_at(frame, 0) == 1 {
-            self.last = Some(number_at(frame, FRAME + 60));
+            let found = number_at(frame, FRAME + 60);
+            self.last = Some(found);
             self.first = self.first.or(self.last);
+            self.has_note = self.has_note || found == self.note;
         }
         if number_at(frame, 4) != 0 {
             self.done = self.frames;
@@ -158,6 +167,7 @@ impl Walk {
             length: self.length,
             first: self.first,
             last: self.last,
+            has_note: self.has_note,
             rest,
         }
     }
@@ -194,8 +204,9 @@ fn go_through<I: Read>(
     input: &mut I,
     header: Header,
     length: u64,
+    note: u32,
 ) -> Result<WholeLog, LookFault> {
-    let mut walk = Walk::new(header, length);
+    let mut walk = Walk::new(header, length, note);
     let mut frame = Vec::new(alloc);
     frame.resize(FRAME.saturating_add(header.page), 0u8)?;
     for _ in 0..length {
@@ -221,8 +232,13 @@ fn front_of_rest<I: Read>(input: &mut I, walk: &Walk) -> Result<WholeLog, LookFa
     Ok(walk.found(walk.rest(front)))
 }
 
-/// Looks at a log of so many octets.
-pub fn log_look<I: Read>(alloc: Global, input: &mut I, length: u64) -> Result<LogLook, LookFault> {
+/// Looks at a log of so many octets, next to a file with this note.
+pub fn log_look<I: Read>(
+    alloc: Global,
+    input: &mut I,
+    length: u64,
+    note: u32,
+) -> Result<LogLook, LookFault> {
     if length < HEADER as u64 {
         return Ok(LogLook::Nothing);
     }
@@ -230,11 +246,14 @@ pub fn log_look<I: Read>(alloc: Global, input: &mut I, length: u64) -> Result<Lo
     input.read_exact(&mut front)?;
     match Front::read(&front, length > EMPTY) {
         Front::Begun(Some(header)) => {
-            let before = go_through(alloc, input, header, length)?;
+            let before = go_through(alloc, input, header, length, note)?;
             Ok(LogLook::Begun(before.last))
         }
         Front::Begun(None) => Ok(LogLook::Begun(None)),
         Front::Noise => Ok(LogLook::Noise),
-        Front::Signed(header) => Ok(LogLook::Whole(go_through(alloc, input, header, length)?)),
+        Front::Signed(header) => {
+            let log = go_through(alloc, input, header, length, note)?;
+            Ok(LogLook::Whole(log))
+        }
     }
 }

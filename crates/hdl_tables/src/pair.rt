@@ -63,16 +63,20 @@ fn look_at_file(rt: &HostRuntime, path: &str) -> FileLook {
     }
 }
 
-fn look_through(rt: &HostRuntime, file: File) -> Result<LogLook, LookFault> {
+fn look_through(rt: &HostRuntime, file: File, note: u32) -> Result<LogLook, LookFault> {
     let length = file.metadata()?.len();
     let mut input = BufReader::new(rt.alloc(), file)?;
-    log_look(rt.alloc(), &mut input, length)
+    log_look(rt.alloc(), &mut input, length, note)
 }
 
-/// What is known of the log at a path.
-fn look_at_log(rt: &HostRuntime, path: &str) -> Result<LogLook, LookFault> {
+/// What is known of the log at a path, next to a file of which this is known.
+fn look_at_log(rt: &HostRuntime, path: &str, beside: &FileLook) -> Result<LogLook, LookFault> {
+    let note = match beside {
+        FileLook::Noted(note) => *note,
+        _ => 0,
+    };
     match File::open(rt, path) {
-        Ok(file) => look_through(rt, file),
+        Ok(file) => look_through(rt, file, note),
         Err(e) if e.kind() == ErrorKind::NotFound => Ok(LogLook::Nothing),
         Err(e) => Err(LookFault::from(e)),
     }
@@ -98,7 +102,7 @@ fn look_at(rt: &HostRuntime, paths: &Paths) -> Result<Look, TabledFault> {
         return Ok(UNKNOWN);
     }
     let file = look_at_file(rt, &paths.file);
-    match look_at_log(rt, &paths.log) {
+    match look_at_log(rt, &paths.log, &file) {
         Ok(log) => Ok(Look { file, log }),
         Err(LookFault::Memory) => Err(TabledFault::from(Fault::NoMemory)),
         Err(LookFault::Device(ErrorKind::PermissionDenied)) => Ok(UNKNOWN),
