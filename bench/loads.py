@@ -109,12 +109,12 @@ def lanes_of(case):
     return clients + 1 if clients < 3 else clients + 2
 
 
-def start_handled(program, lanes, values, table=None):
+def start_handled(program, lanes, values, table=None, more=()):
     """`handled serve`, over a table in a file where one is named, which has its handles; a program `PATH@NAME=VALUE` has that in its
     environment, as `LD_PRELOAD`."""
     words = program.split("@")
     environment = dict(os.environ, **dict(word.split("=", 1) for word in words[1:]))
-    options, values = (("--table", table), 0) if table else ((), values)
+    options, values = (("--table", table, *more), 0) if table else ((), values)
     begin = time.monotonic()
     process, (port,) = servers.serve(lambda port: tenants(lanes, port, values), 1, words[0], options, env=environment, stderr=subprocess.DEVNULL)
     return Server(process, port, request(0), reply(0), time.monotonic() - begin)
@@ -129,9 +129,15 @@ def fill(file, rows, ttl, permission):
                          (name, kind, data, b"\0" + wire.number(ttl), permission, bytes(8), bytes(4)))
 
 
+def begin_table(program, file, start):
+    """A file without handles that SQLite may write to: a copy, which needs no log, of one that the program made without sums. `start` starts a server over that one and ends it."""
+    start(file + ".first", "--no-sums")
+    subprocess.run([program.split("@")[0], "copy", "--table", file + ".first", "--to", file], check=True)
+
+
 def make_table(program, file, values):
     """A table in a file with so many handles."""
-    start_handled(program, 2, 0, file).stop()
+    begin_table(program, file, lambda first, *more: start_handled(program, 2, 0, first, more).stop())
     fill(file, ((handle(number), b"URL", text(number)) for number in range(values)), 0, PERMISSION)
 
 

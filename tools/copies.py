@@ -7,6 +7,7 @@ already, what isn't there. Last `handled restore`: a copy in the place of the fi
 import contextlib
 import itertools
 import os
+import shutil
 import socket
 import sqlite3
 import struct
@@ -207,6 +208,10 @@ def restored(folder):
     process, ports = servers.serve(tenants, 1, options=("--table", file), **user)
     yield "a server of that user goes on from the copy", number_in(ports[0]) == 1 and changed(ports[0], 3)
     servers.end(process)
+    alone = os.path.join(folder, "alone.db")
+    shutil.copy(file, alone)
+    done = restore(alone, file)
+    yield "a table's file without its log is no copy", done.returncode == 4 and done.stderr.startswith(b"restore: the copy isn't taken, and the table stays as it is: the log is gone: ")
     if user:
         os.chown(file, 0, 0)
         yield "a file of root's in another user's folder", restore(copied, file).returncode == 0 and owner_and_mode(file) == modes

@@ -1,5 +1,5 @@
 """The gate of a submission, from nothing: the definitions quoted in docs/, the map, what pages cite, what must be believed and how long pages and sentences are, ./test, memory refused in turn, random scripts,
-scripts that a loop makes, the examples, answers that are none, the layout of the Handle.Net software, the proxy for browsers, imports, what README shows and --help says, a table in a file over kills and changes that may shut it for nobody, addresses, clients that
+scripts that a loop makes, the examples, answers that are none, the layout of the Handle.Net software, the proxy for browsers, imports, what README shows and --help says, a table in a file over kills, damage and changes that may shut it for nobody, addresses, clients that
 hold a lane, come in a crowd, from many ports or are strangers, an operator's day, the files of packaging/, what is installed, and a dry run of each benchmark.
 
 Before its last line it prints what each crate and each part took, in processor minutes, names the crates that took more than tools/limits.tsv
@@ -39,6 +39,7 @@ PARTS = (
     [sys.executable, "tools/readme.py"],
     [sys.executable, "tools/helps.py"],
     [sys.executable, "tools/lasting.py"],
+    [sys.executable, "tools/damages.py"],
     [sys.executable, "tools/shuts.py"],
     [sys.executable, "tools/exports.py"],
     ["tools/refuse-disk"],

@@ -71,7 +71,7 @@ class Client(servers.Client):
 
 
 def serve(file, **how):
-    process, ports = servers.serve(how.pop("text", tenants), 1, options=("--table", file), **how)
+    process, ports = servers.serve(how.pop("text", tenants), 1, options=("--table", file, *how.pop("more", ())), **how)
     return process, ports[0]
 
 
@@ -94,8 +94,10 @@ def copied(file, to):
 
 
 def is_sound(file):
-    """What sqlite3 says of the file and its log, as they lie; the log is copied into the file as it closes."""
-    with contextlib.closing(sqlite3.connect(file)) as database:
+    """What sqlite3 says of the file and its log, as they lie. It looks at copies, since it moves the log into the file and takes it away."""
+    copy = file + ".looked"
+    copied(file, copy)
+    with contextlib.closing(sqlite3.connect(copy)) as database:
         whole = database.execute("PRAGMA integrity_check").fetchall() == [("ok",)]
         return whole and not database.execute("PRAGMA foreign_key_check").fetchall()
 
@@ -250,11 +252,12 @@ def refused(file, line, **user):
     return good
 
 
-def table(folder, name, statement="PRAGMA wal_checkpoint(TRUNCATE)"):
-    """A table as this program makes it, after a statement of sqlite3, which copies the log into the file."""
+def table(folder, name, statement="SELECT 1"):
+    """A copy of a table as this program makes it, without sums, after a statement of sqlite3, which needs no log."""
     file = os.path.join(folder, name)
-    with served(file):
+    with served(file + ".served", more=("--no-sums",)):
         pass
+    run(["copy", "--table", file + ".served", "--to", file], b"")
     with contextlib.closing(sqlite3.connect(file)) as database:
         database.execute(statement)
         database.commit()
@@ -335,8 +338,9 @@ def not_permitted(folder):
 
 
 def words():
-    """`--sums` asks for `--table`."""
-    return [run(["serve", "--sums"], b"")[0] == 2]
+    """What is said of a table's file asks for `--table`, and not for opposites."""
+    both = run(["serve", "--table", "none/table.db", "--sums", "--no-sums"], b"")[0] == 2
+    return [both] + [run(["serve", word], b"")[0] == 2 for word in ("--sums", "--no-sums", "--accept-loss")]
 
 
 def main():

@@ -27,8 +27,8 @@ ADMIN, KEPT, ANYBODY = 0x0E, 0x0C, 0x0F
 MOMENT = re.compile(r"^[0-9]{4}-[0-9]{2}-[0-9]{2}T[0-9]{2}:[0-9]{2}:[0-9]{2}(\.[0-9]+)?Z ")
 # Seconds in which a server ends that was asked to.
 END = 5
-# Octets of a log that has no page.
-EMPTY = 41
+# More octets than a log has of one page, which notes whose it is.
+NOTED = 3 * 4096
 REFERENCE = "300:0.NA/10"
 # The address of a proxy before the server.
 PROXY = "127.0.0.2"
@@ -244,7 +244,7 @@ def ended(process, control, file, clients):
     for client in clients:
         with contextlib.suppress(OSError):
             yield "a client is left", client.socket.recv(1) == b""
-    yield "the log was copied into the file", os.path.exists(file) and not os.path.exists(control) and os.path.getsize(file + "-wal") <= EMPTY
+    yield "the log was copied into the file", os.path.exists(file) and not os.path.exists(control) and os.path.getsize(file + "-wal") < NOTED
     again, _ = stop(control)
     yield "nobody to stop", (again.returncode, again.stderr.split(b":")[0]) == (1, b"stop")
     process, (port, _) = servers.serve(tenants, 2, options=("--table", file, "--control", control))

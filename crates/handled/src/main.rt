@@ -13,6 +13,7 @@ mod descriptors;
 mod fault;
 mod guarding;
 mod notices;
+mod opening;
 mod plan;
 mod ports;
 mod replaying;
@@ -23,20 +24,18 @@ mod texts;
 use checking::{check_ports, check_text};
 use fault::ProgramFault;
 use hdl_cachedrows::LIMIT_DEFAULT;
-use hdl_core::Tenants;
-use hdl_host::{Health, HostFault, Setting};
-use hdl_lastingrows::TableFault;
+use hdl_host::{Health, Setting};
 use hdl_programs::{Fault, status_of_words, tenants_of};
 use hdl_server_options::{
     BoundWord, ExportOptions, Invocation, ServeOptions, TableFile, read_options,
 };
 use hdl_tables::{
-    Export, FileWork, TablePath, TabledFault, copy_table, empty_table, has_named, is_new,
-    not_there, open_served, over_file, restore_table,
+    Export, FileWork, TabledFault, copy_table, empty_table, has_named, is_new, not_there,
+    over_file, restore_table,
 };
 use notices::TableNotices;
+use opening::{open_planned, place_of};
 use plan::{Plan, Planned, plan_of, setting_of};
-use ports::can_listen;
 use replaying::{ReadScript, replay_input};
 use serving::{serve_memory, serve_table};
 use std::fs::Files;
@@ -55,33 +54,6 @@ fn replay_memory<R: Threads + Drop>(rt: &HostRuntime) -> Result<u8, ProgramFault
     Ok(replay_input(rt, rows)?)
 }
 
-/// Whether each port of a server can be had, where the file of its table is new: a start that fails at one leaves no new file behind.
-fn try_ports(
-    rt: &HostRuntime,
-    file: &TableFile,
-    tenants: &Tenants,
-    setting: &Setting,
-) -> Result<(), HostFault> {
-    if is_new(rt, file.path.as_str()) {
-        can_listen(rt, rt.alloc(), tenants, setting.addresses.as_slice())?;
-    }
-    Ok(())
-}
-
-/// Where the file of the table is.
-fn place_of(file: &TableFile) -> TablePath<'_> {
-    TablePath {
-        path: file.path.as_str(),
-        has_sums: file.has_sums,
-    }
-}
-
-/// Who hears of the table's file in this setting: its status page tells it.
-fn notices_of(rt: &HostRuntime, setting: &Setting) -> Result<TableNotices, TableFault> {
-    let health = Arc::try_clone(&setting.supervision.health)?;
-    Ok(TableNotices::new(rt, health))
-}
-
 /// Serves by this plan over the table in the file, and answers the exit status.
 fn serve_file<
     R: Net<Listener = TcpListener, Stream = TcpStream>
@@ -96,9 +68,7 @@ fn serve_file<
         + 'static,
     P: Plan,
 >(machine: &R, rt: &HostRuntime, file: &TableFile, plan: P) -> Result<u8, ProgramFault> {
-    try_ports(rt, file, plan.tenants(), plan.setting())?;
-    let notices = notices_of(rt, plan.setting())?;
-    let table = open_served(*machine, rt, place_of(file), plan.tenants(), notices, true)?;
+    let table = open_planned(machine, rt, file, &plan)?;
     serve_table(machine, rt, table, plan, file.path.as_str())
 }
 

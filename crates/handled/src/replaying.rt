@@ -9,7 +9,7 @@ use hdl_events::Event;
 use hdl_host::Notices;
 use hdl_programs::{Fault, put_all, tenants_of};
 use hdl_replay::{events_of, lines_of_resumed, parts_of, replay};
-use hdl_tables::{Closing, FileWork, TabledFault};
+use hdl_tables::{Closing, FileWork, Note, TabledFault};
 use std::sync::Arc;
 
 /// A table without bounds, in the type of a served table, which has its publishers' bounds.
@@ -67,7 +67,7 @@ impl FileWork for ReadScript {
         let rows = without_bounds(rt, table)?;
         let (lines, rows) = lines_of_resumed(rt.alloc(), rows, tenants, events)?;
         put_all(&mut rt.stdout(), lines.as_bytes())?;
-        rows.into_rows().close()?;
+        rows.into_rows().close(rt, Note::Kept)?;
         Ok(0)
     }
 }

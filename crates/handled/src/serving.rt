@@ -12,7 +12,7 @@ use hdl_core::Owing;
 use hdl_guardedrows::GuardedRows;
 use hdl_host::{Ending, FileWatch, Health, Setting, host_resumed, host_tenants};
 use hdl_programs::Fault;
-use hdl_tables::{Closing, TabledFault};
+use hdl_tables::{Closing, Note, TabledFault};
 use std::fs::Files;
 use std::net::{Net, TcpListener, TcpStream};
 use std::random::RandomSource;
@@ -46,11 +46,12 @@ fn watch(rt: &HostRuntime, path: &str) -> Result<Option<FileWatch>, Fault> {
 
 /// Closes the table's file, unless another program changed it: then nothing more is written there.
 fn close_guarded<T: Owing + Closing + Drop>(
+    rt: &HostRuntime,
     rows: GuardedRows<T, TableGuard>,
 ) -> Result<(), TabledFault> {
     let (table, mut guard) = rows.into_parts();
     if guard.sees_file() {
-        table.close()
+        table.close(rt, Note::Served)
     } else {
         Ok(())
     }
@@ -113,7 +114,7 @@ pub fn serve_table<
     setting.supervision.file = watch(rt, path)?;
     let rows = GuardedRows::new(table, guard);
     let rows = host_resumed(machine, rt.alloc(), rows, tenants, setting, &mut output)?;
-    close_guarded(rows)?;
+    close_guarded(rt, rows)?;
     say_ends(rt, &health, ending.is_asked());
     Ok(0)
 }

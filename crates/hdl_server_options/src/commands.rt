@@ -25,7 +25,26 @@ fn table_args<'a>(alloc: Global, command: Command<'a>) -> Result<Command<'a>, Al
             Arg::new(alloc, "sums")
                 .long("sums")
                 .help(
-                    "Gives each page of a new FILE a checksum, which shows changed bits; a plain sqlite3 that writes the file destroys the checksums",
+                    "Gives each page of a new FILE a checksum, which shows changed bits; done by default",
+                )
+                .action(ArgAction::SetTrue)
+                .requires_arg("table")?,
+        )?
+        .arg(
+            Arg::new(alloc, "no-sums")
+                .long("no-sums")
+                .help(
+                    "Makes a new FILE without checksums on its pages: changed bits go unnoticed, and a plain sqlite3 may write it",
+                )
+                .action(ArgAction::SetTrue)
+                .requires_arg("table")?
+                .conflicts_with("sums")?,
+        )?
+        .arg(
+            Arg::new(alloc, "accept-loss")
+                .long("accept-loss")
+                .help(
+                    "Opens FILE even if its log is missing, damaged or another one: what is whole stays, the rest is lost",
                 )
                 .action(ArgAction::SetTrue)
                 .requires_arg("table")?,

@@ -9,6 +9,8 @@ pub struct TableFile {
     pub path: String,
     /// Whether a new one gets sums on its pages.
     pub has_sums: bool,
+    /// Whether it is opened where its log isn't whole, or isn't its own.
+    pub accepts_loss: bool,
 }
 
 /// A word after `--bound`: a publisher's name, and how many values and octets it may hold at most.

@@ -41,7 +41,8 @@ fn export_options(alloc: Global, found: &ArgMatches) -> Result<Invocation, Uncle
     let path = required(alloc, found, "table")?;
     let table = TableFile {
         path,
-        has_sums: false,
+        has_sums: true,
+        accepts_loss: false,
     };
     let text = copy_of(alloc, found.get_str("text"))?;
     let publisher = copy_of(alloc, found.get_str("publisher"))?;

@@ -22,7 +22,8 @@ pub fn table_file(alloc: Global, found: &ArgMatches) -> Result<Option<TableFile>
     match found.get_str("table") {
         Some(path) => Ok(Some(TableFile {
             path: String::from_str(alloc, path)?,
-            has_sums: found.get_flag("sums"),
+            has_sums: !found.get_flag("no-sums"),
+            accepts_loss: found.get_flag("accept-loss"),
         })),
         None => Ok(None),
     }

@@ -2,33 +2,31 @@
 
 use crate::fault::TabledFault;
 use crate::opening::ServedFile;
+use crate::pair::{Note, close_noted};
 use hdl_eitherrows::EitherRows;
 use hdl_lastingrows::{Alarm, TableFault};
 use std::thread::Threads;
 
 /// What has a file, which is closed at the end.
 pub trait Closing {
-    /// Copies the log into the file.
-    fn close(self) -> Result<(), TabledFault>;
+    /// Notes in the file what it needs, and copies the log into it.
+    fn close(self, rt: &HostRuntime, note: Note) -> Result<(), TabledFault>;
 }
 
 impl<R: Threads + Drop, A: Alarm + Drop> Closing for ServedFile<R, A> {
-    fn close(self) -> Result<(), TabledFault> {
+    fn close(self, rt: &HostRuntime, note: Note) -> Result<(), TabledFault> {
         let Some(file) = self.into_file().into_file() else {
             return Err(TabledFault::Table(TableFault::Device));
         };
-        match file.into_connection().close() {
-            Ok(()) => Ok(()),
-            Err(fault) => Err(TabledFault::Table(TableFault::from(fault))),
-        }
+        close_noted(rt, file.into_connection(), note)
     }
 }
 
 impl<A: Drop, B: Closing + Drop> Closing for EitherRows<A, B> {
-    fn close(self) -> Result<(), TabledFault> {
+    fn close(self, rt: &HostRuntime, note: Note) -> Result<(), TabledFault> {
         match self {
             EitherRows::First(_) => Ok(()),
-            EitherRows::Second(rows) => rows.close(),
+            EitherRows::Second(rows) => rows.close(rt, note),
         }
     }
 }

@@ -5,9 +5,8 @@
 //! of the changes, with each that was answered before the copy began: a page that was moved into the file meanwhile is in the log too, which goes before it.
 
 use crate::fault::TabledFault;
+use crate::pair::{Note, close_noted, open_copy};
 use crate::paths::Paths;
-use crate::reasons::open_known;
-use hdl_lastingrows::TableFault;
 use std::fmt;
 use std::fs::{File, OpenOptions};
 use std::io::{self, ErrorKind, Read, Write};
@@ -154,12 +153,10 @@ pub(crate) fn copy_both(rt: &HostRuntime, from: &Paths, to: &Paths) -> Result<()
     Err(CopyFault::Busy)
 }
 
-/// Opens a copy of a table's file, which takes in its log, and closes it.
+/// Opens a copy of a table's file, which takes in its log, and closes it: it is whole without the log from then on.
 fn close_copy(rt: &HostRuntime, path: &str) -> Result<(), TabledFault> {
-    match open_known(rt, path, false)?.close() {
-        Ok(()) => Ok(()),
-        Err(fault) => Err(TabledFault::Table(TableFault::from(fault))),
-    }
+    let conn = open_copy(rt, path)?;
+    close_noted(rt, conn, Note::Whole)
 }
 
 /// Copies the table's file, and moves the log of the copy into it.

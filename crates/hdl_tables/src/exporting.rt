@@ -3,6 +3,7 @@
 use crate::closing::Closing;
 use crate::fault::TabledFault;
 use crate::file::FileWork;
+use crate::pair::Note;
 use hdl_export::{ExportFault, LeftOut, export, export_publisher, left_out, left_out_of};
 use hdl_programs::{Fault, INPUT_LIMIT, put_all};
 use hdl_rows::{Owing, Rows};
@@ -201,11 +202,12 @@ impl Export<'_> {
 
 /// Closes the table where it was printed, and answers the exit status.
 fn close_after<T: Closing + Drop>(
+    rt: &HostRuntime,
     table: T,
     printed: Result<u8, TabledFault>,
 ) -> Result<u8, TabledFault> {
     let status = printed?;
-    table.close()?;
+    table.close(rt, Note::Kept)?;
     Ok(status)
 }
 
@@ -217,6 +219,6 @@ impl FileWork for Export<'_> {
     fn run<T: Owing + Closing + Drop>(self, rt: &HostRuntime, table: T) -> Result<u8, TabledFault> {
         let mut table = table;
         let printed = self.put(rt, &mut table);
-        close_after(table, printed)
+        close_after(rt, table, printed)
     }
 }

@@ -6,6 +6,7 @@ use crate::reasons::OpenReason;
 use crate::restoring::RestoreFault;
 use hdl_export::ExportFault;
 use hdl_lastingrows::TableFault;
+use hdl_pairs::{LookFault, PairFault};
 use hdl_programs::Fault;
 use std::fmt;
 
@@ -16,12 +17,18 @@ pub enum TabledFault {
     Table(TableFault),
     /// The table's file can't be opened, for this reason.
     Unopened(OpenReason),
+    /// The table's file and its log don't belong together, or aren't whole.
+    Pair(PairFault),
     Export(ExportFault),
     /// What is exported can't be written.
     Write(WriteFault),
     Copy(CopyFault),
     Restore(RestoreFault),
 }
+
+/// What to do where a file and its log are refused.
+const PAIR_HELP: &str =
+    "keep both files, and put the right ones back, or restore a copy (handled restore); or start once with --accept-loss, which goes on with what is whole";
 
 impl TabledFault {
     /// The exit status: 4 for the file, and else that of the run.
@@ -32,6 +39,7 @@ impl TabledFault {
             TabledFault::Export(fault) => status_of(fault),
             TabledFault::Table(_)
             | TabledFault::Unopened(_)
+            | TabledFault::Pair(_)
             | TabledFault::Write(_)
             | TabledFault::Copy(_)
             | TabledFault::Restore(_) => 4,
@@ -45,6 +53,7 @@ impl fmt::Display for TabledFault {
             TabledFault::Run(fault) => write!(f, "{fault}"),
             TabledFault::Table(fault) => write!(f, "{fault}"),
             TabledFault::Unopened(reason) => write!(f, "table: cannot open: {reason}"),
+            TabledFault::Pair(fault) => write!(f, "table: {fault}: {PAIR_HELP}"),
             TabledFault::Export(fault) => write!(f, "{fault}"),
             TabledFault::Write(fault) => write!(f, "{fault}"),
             TabledFault::Copy(fault) => write!(f, "{fault}"),
@@ -86,5 +95,15 @@ impl From<WriteFault> for TabledFault {
 impl From<TableFault> for TabledFault {
     fn from(fault: TableFault) -> TabledFault {
         TabledFault::Table(fault)
+    }
+}
+
+/// A file or a log can't be looked at.
+impl From<LookFault> for TabledFault {
+    fn from(fault: LookFault) -> TabledFault {
+        match fault {
+            LookFault::Memory => TabledFault::Run(Fault::NoMemory),
+            LookFault::Device(_) => TabledFault::Table(TableFault::Device),
+        }
     }
 }

@@ -8,6 +8,9 @@
 //! restore_table -> such a copy, checked, in the place of the file
 //! ```
 //!
+//! Before the file is opened, it and the log beside it are judged by `hdl_pairs`; what is refused is opened only where its loss is given up. The log of one that is
+//! served is moved into it at the start: where [`log_state`] says that something may stand there alone, the program closes the table behind its open, and opens it again.
+//!
 //! It is the program's part: what is not said in a clause is safe, and no more is promised. It stands in a crate of its own, which knows no sockets, so that it is proved
 //! beside what serves. Who hears of a table's file (how far its load is, that it takes no more writes) is a type of the caller's.
 //!
@@ -24,6 +27,7 @@ mod exporting;
 mod fault;
 mod file;
 mod opening;
+mod pair;
 mod paths;
 mod reasons;
 mod restoring;
@@ -34,5 +38,6 @@ pub use exporting::{Export, WriteFault, has_named, has_publisher};
 pub use fault::TabledFault;
 pub use file::{FileWork, over_file};
 pub use opening::{Table, TablePath, empty_table, is_new, open_served, table_in};
+pub use pair::{LogState, Note, log_state};
 pub use reasons::{OpenReason, Owner, not_there};
 pub use restoring::{RestoreFault, restore_table};

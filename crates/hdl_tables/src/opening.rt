@@ -10,7 +10,7 @@ ghost use Rattle.hdl_lastingrows.specs.Opened.{IsOpenedIn};
 ghost use Rattle.hdl_tables.specs.Served.{IsSecond};
 
 use crate::fault::TabledFault;
-use crate::reasons::open_known;
+use crate::pair::open_judged;
 use hdl_cachedrows::CachedRows;
 use hdl_core::Rows;
 use hdl_eitherrows::EitherRows;
@@ -26,11 +26,14 @@ use std::fs::File;
 use std::hash::RandomState;
 use std::thread::Threads;
 
-/// Where the file of a table is, and whether a new one gets sums on its pages.
+/// Where the file of a table is, and how it is opened.
 #[derive(Clone, Copy)]
 pub struct TablePath<'a> {
     pub path: &'a str,
+    /// Whether a new one gets sums on its pages.
     pub has_sums: bool,
+    /// Whether what its log lacks is given up.
+    pub accepts_loss: bool,
 }
 
 /// The table in memory whose rows are also in a file.
@@ -81,7 +84,8 @@ pub fn table_in<R: Threads + Drop, A: Alarm + Progress + Drop>(
     Ok(EitherRows::Second(rows))
 }
 
-/// The table in the file at a path, as [`table_in`] tells it of what [`hdl_lastingrows::open_file`] found there. An open that is refused says why.
+/// The table in the file at a path, as [`table_in`] tells it of what [`hdl_lastingrows::open_file`] found there, once the file and its log were judged. An open that is
+/// refused says why.
 pub fn open_served<R: Threads + Drop, A: Alarm + Progress + Drop>(
     machine: R,
     rt: &HostRuntime,
@@ -90,7 +94,7 @@ pub fn open_served<R: Threads + Drop, A: Alarm + Progress + Drop>(
     alarm: A,
     beside: bool,
 ) -> Result<Table<R, A>, TabledFault> {
-    let conn = open_known(rt, file.path, file.has_sums)?;
+    let conn = open_judged(rt, &file)?;
     Ok(table_in(machine, rt.alloc(), conn, tenants, alarm, beside)?)
 }
 

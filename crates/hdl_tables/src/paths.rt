@@ -10,6 +10,8 @@ pub(crate) struct Paths {
     pub log: String,
     /// Where the log of a file that is replaced lies until the new one is in its place.
     pub aside: String,
+    /// Where a log lies that was given up.
+    pub lost: String,
     /// What SQLite leaves of a change that was cut off.
     pub journal: String,
     /// What is made next to it to see whether files can be made there.
@@ -24,6 +26,7 @@ impl Paths {
             file: String::from_str(alloc, file)?,
             log: format!(in alloc; "{file}-wal")?,
             aside: format!(in alloc; "{file}-wal.replaced")?,
+            lost: format!(in alloc; "{file}-wal.lost")?,
             journal: format!(in alloc; "{file}-journal")?,
             trial: format!(in alloc; "{file}-trial")?,
         })

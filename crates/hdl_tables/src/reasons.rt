@@ -1,13 +1,7 @@
 //! Why the file of a table can't be opened.
 
-ghost use Rattle.std.specs.Prelude.{◌≡◌, false, IfOk};
-ghost use Rattle.sqlite.specs.Files.{file_state};
-ghost use Rattle.hdl_sqlrows.specs.Filed.{WhereOpen};
-
 use crate::fault::TabledFault;
 use crate::paths::{Paths, folder_of};
-use hdl_lastingrows::{Store, TableFault, open_file};
-use sqlite::{Connection, Wary};
 use std::fmt;
 use std::fs::{self, Metadata, OpenOptions};
 use std::io::ErrorKind;
@@ -63,6 +57,8 @@ pub enum OpenReason {
     Log(Owner),
     /// SQLite left a rollback journal of the file.
     Journal,
+    /// A log that was given up before is at its path with `-wal.lost`.
+    Lost,
     /// It isn't there, and none is made.
     Missing,
     /// Nothing is in the way now.
@@ -97,6 +93,9 @@ impl fmt::Display for OpenReason {
             ),
             OpenReason::Journal => f.write_str(
                 "SQLite left a journal at the file's path with -journal at the end: open the file with sqlite3 first, which applies it",
+            ),
+            OpenReason::Lost => f.write_str(
+                "a log that was given up before is at the file's path with -wal.lost at the end: move it away",
             ),
             OpenReason::Missing => f.write_str("the file isn't there: check the path"),
             OpenReason::Again => f.write_str("nothing is in the way now: try again"),
@@ -196,22 +195,6 @@ pub(crate) fn unopened(rt: &HostRuntime, path: &str) -> TabledFault {
     match Paths::resolved(rt, path) {
         Ok(paths) => TabledFault::Unopened(reason_of(rt, &paths)),
         Err(fault) => TabledFault::Run(fault),
-    }
-}
-
-/// Opens the file at a path, as [`open_file`] does. An open that is refused says why.
-pub(crate) fn open_known(
-    rt: &HostRuntime,
-    path: &str,
-    has_sums: bool,
-) -> Result<Connection<Store>, TabledFault>
-    ensures mode { IfOk result (λ c. c.in_transaction ≡ false) }
-    ensures even { IfOk result (λ c. WhereOpen (file_state c) ((file_state c).committed ≡ (file_state c).now)) }
-{
-    match open_file(rt, path, has_sums, Wary) {
-        Ok(conn) => Ok(conn),
-        Err(TableFault::CannotOpen) => Err(unopened(rt, path)),
-        Err(fault) => Err(TabledFault::from(fault)),
     }
 }
 

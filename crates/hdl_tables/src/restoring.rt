@@ -4,15 +4,15 @@ ghost use Rattle.std.specs.Prelude.{◌≡◌, false};
 
 use crate::copying::{CopyFault, copy_both};
 use crate::fault::TabledFault;
+use crate::pair::{Note, close_noted, hold, open_copy};
 use crate::paths::{Paths, folder_of};
-use crate::reasons::unopened;
-use hdl_lastingrows::{Store, TableFault, open_file};
+use hdl_lastingrows::{Store, TableFault};
+use hdl_pairs::PairFault;
 use hdl_programs::Fault;
 use hdl_rows::PlainRows;
 use hdl_sqlrows::known::{FoundDatabase, tables_of};
 use hdl_sqlrows::load::{Progress, load};
-use sqlite::{Connection, FileFrom, Files, Wary};
-use sqlite_std_file::OpenError;
+use sqlite::Connection;
 use std::fmt;
 use std::fs::{self, File, Metadata, Permissions};
 use std::io::{self, ErrorKind};
@@ -27,6 +27,8 @@ pub enum RestoreFault {
     Busy,
     /// The copy is no table that is sound.
     Copy(TableFault),
+    /// It and its log don't belong together, or aren't whole.
+    Pair(PairFault),
     /// An earlier restore was ended before it was done.
     Left,
     /// The folder of the table isn't there, or can't be looked at.
@@ -49,6 +51,12 @@ impl fmt::Display for RestoreFault {
                 write!(
                     f,
                     "the copy isn't taken, and the table stays as it is: {fault}"
+                )
+            }
+            RestoreFault::Pair(fault) => {
+                write!(
+                    f,
+                    "the copy isn't taken, and the table stays as it is: {fault}: take another copy, or put this one in the table's place and start once with --accept-loss"
                 )
             }
             RestoreFault::Left => f.write_str(
@@ -89,23 +97,6 @@ impl Progress for Silent {
     fn handles(&mut self, _count: u64) {}
 
     fn values(&mut self, _count: u64) {}
-}
-
-/// The files of a table, which no other process opens meanwhile.
-type Held = Files<FileFrom<Wary>>;
-
-/// Keeps every server from opening the file of a table, if one is there.
-fn hold(rt: &HostRuntime, path: &str) -> Result<Option<Held>, TabledFault> {
-    match fs::symlink_metadata(rt, path) {
-        Err(e) if e.kind() == ErrorKind::NotFound => return Ok(None),
-        _ => {}
-    }
-    match sqlite_std_file::open(rt, path, Wary) {
-        Ok(files) => Ok(Some(files)),
-        Err(OpenError::Busy) => Err(TabledFault::from(TableFault::InUse)),
-        Err(OpenError::OutOfMemory) => Err(TabledFault::from(Fault::NoMemory)),
-        Err(_) => Err(unopened(rt, path)),
-    }
 }
 
 /// The user and group that the file of a table is to belong to, and its permissions.
@@ -170,13 +161,20 @@ fn read_rows(rt: &HostRuntime, conn: &mut Connection<Store>) -> Result<(), Table
     }
 }
 
-/// Sees that a copy is a table, each row of it sound, and moves its log into it.
-fn check_copy(rt: &HostRuntime, path: &str) -> Result<(), TableFault> {
-    let mut conn = open_file(rt, path, false, Wary)?;
+/// Sees that a copy is a table, each row of it sound, and makes it whole without its log.
+fn check_copy(rt: &HostRuntime, path: &str) -> Result<(), TabledFault> {
+    let mut conn = open_copy(rt, path)?;
     read_rows(rt, &mut conn)?;
-    match conn.close() {
-        Ok(()) => Ok(()),
-        Err(fault) => Err(TableFault::from(fault)),
+    close_noted(rt, conn, Note::Whole)
+}
+
+/// Why a copy isn't taken in which this is wrong.
+fn untaken(fault: TabledFault) -> TabledFault {
+    match fault {
+        TabledFault::Table(TableFault::Memory) => TabledFault::from(Fault::NoMemory),
+        TabledFault::Table(fault) => TabledFault::from(RestoreFault::Copy(fault)),
+        TabledFault::Pair(fault) => TabledFault::from(RestoreFault::Pair(fault)),
+        other => other,
     }
 }
 
@@ -231,10 +229,8 @@ fn place_copy(rt: &HostRuntime, from: &Paths, new: &Paths, to: &Paths) -> Result
     if let Err(fault) = copy_both(rt, from, new) {
         return Err(TabledFault::from(RestoreFault::from(fault)));
     }
-    match check_copy(rt, &new.file) {
-        Ok(()) => {}
-        Err(TableFault::Memory) => return Err(TabledFault::from(Fault::NoMemory)),
-        Err(fault) => return Err(TabledFault::from(RestoreFault::Copy(fault))),
+    if let Err(fault) = check_copy(rt, &new.file) {
+        return Err(untaken(fault));
     }
     give(rt, &new.file, access_at(rt, &to.file)?)?;
     replace(rt, new, to)?;

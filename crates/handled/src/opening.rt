@@ -1,0 +1,98 @@
+//! Opening the table in a file that is served.
+
+use crate::fault::ProgramFault;
+use crate::notices::TableNotices;
+use crate::plan::Plan;
+use crate::ports::can_listen;
+use hdl_core::Tenants;
+use hdl_host::{HostFault, Setting};
+use hdl_lastingrows::TableFault;
+use hdl_server_options::TableFile;
+use hdl_tables::{
+    Closing, LogState, Note, Table, TablePath, TabledFault, is_new, log_state, open_served,
+};
+use std::net::{Net, TcpListener, TcpStream};
+use std::sync::Arc;
+use std::thread::Threads;
+
+/// Whether each port of a server can be had, if the file of its table is new: a start that fails at a port leaves no new file.
+fn try_ports(
+    rt: &HostRuntime,
+    file: &TableFile,
+    tenants: &Tenants,
+    setting: &Setting,
+) -> Result<(), HostFault> {
+    if is_new(rt, file.path.as_str()) {
+        can_listen(rt, rt.alloc(), tenants, setting.addresses.as_slice())?;
+    }
+    Ok(())
+}
+
+/// Where the file of the table is, and how it is opened.
+pub fn place_of(file: &TableFile) -> TablePath<'_> {
+    TablePath {
+        path: file.path.as_str(),
+        has_sums: file.has_sums,
+        accepts_loss: file.accepts_loss,
+    }
+}
+
+/// What is informed of the table's file in this setting, whose status page shows it.
+fn notices_of(rt: &HostRuntime, setting: &Setting) -> Result<TableNotices, TableFault> {
+    let health = Arc::try_clone(&setting.supervision.health)?;
+    Ok(TableNotices::new(rt, health))
+}
+
+/// The table in the file, as it is found there.
+fn open_once<R: Threads + Drop, P: Plan>(
+    machine: R,
+    rt: &HostRuntime,
+    file: &TableFile,
+    plan: &P,
+) -> Result<Table<R, TableNotices>, ProgramFault> {
+    let notices = notices_of(rt, plan.setting())?;
+    let place = place_of(file);
+    Ok(open_served(machine, rt, place, plan.tenants(), notices, true)?)
+}
+
+/// Says that the file has no note of its log.
+fn say_no_note(rt: &HostRuntime) {
+    let _ = eprintln!(rt;
+        "table: the file has no note of its log, as earlier versions left it: this start can't tell whether one is missing, and later ones can"
+    );
+}
+
+/// Moves the log into the file. Where there is no room for that the log stays beside it, which is said.
+fn move_log<T: Closing>(rt: &HostRuntime, table: T) -> Result<(), TabledFault> {
+    match table.close(rt, Note::Served) {
+        Err(TabledFault::Table(TableFault::Full)) => {
+            let _ = eprintln!(rt;
+                "table: disk full: the log isn't moved into the file, and stays beside it: make room"
+            );
+            Ok(())
+        }
+        closed => closed,
+    }
+}
+
+/// The table in the file that this plan serves. What its log had is moved into the file, behind a first open that finds both sound.
+pub fn open_planned<
+    R: Net<Listener = TcpListener, Stream = TcpStream> + Threads + Copy + Drop,
+    P: Plan,
+>(
+    machine: &R,
+    rt: &HostRuntime,
+    file: &TableFile,
+    plan: &P,
+) -> Result<Table<R, TableNotices>, ProgramFault> {
+    try_ports(rt, file, plan.tenants(), plan.setting())?;
+    let state = log_state(rt, file.path.as_str())?;
+    let table = open_once(*machine, rt, file, plan)?;
+    match state {
+        LogState::Settled => return Ok(table),
+        LogState::Unnoted => say_no_note(rt),
+        LogState::Used => {}
+    }
+    move_log(rt, table)?;
+    open_once(*machine, rt, file, plan)
+}
