@@ -25,6 +25,7 @@ mod exchange;
 mod fault;
 mod reply;
 mod session;
+mod transport;
 
 pub use batch::{Batch, Outcomes, Task};
 pub use challenge::{Key, challenge_answer, challenge_response, request_message, signed_part};
@@ -33,3 +34,4 @@ pub use exchange::{OwnedFrame, frame_of, receive, send};
 pub use fault::{ClientFault, ConnectFault};
 pub use reply::Reply;
 pub use session::Session;
+pub use transport::Transport;
