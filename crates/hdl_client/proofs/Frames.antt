@@ -2,7 +2,7 @@
 use Rattle.std.proofs.Common.{◌≡◌, ℕ, List, ◌++◌, length, drop, Option, Some, None, sym, ap, subst, ◌∙◌, arith}
 use Rattle.std.proofs.Math.Seq.{drop-append_seam}
 use Rattle.std.proofs.lemmas.List.{length-append, append_assoc}
-use Rattle.std.specs.Io.KnownBytes.{Consumes}
+use Rattle.std.specs.Io.KnownBytes.{Appends, Keeps}
 use Rattle.hdl_frame.specs.Envelope.{envelope_at, fault_of, payload_len}
 use Rattle.hdl_frame.specs.Frames.{IsFrame}
 use Rattle.hdl_frame.proofs.FrameLemmas.{envelope_at-append}
@@ -15,15 +15,22 @@ whole_is_frame front payload twenty accepted whole =
     let at : envelope_at (front ++ payload) ≡ envelope_at front = envelope_at-append front payload (omega arith) in
     record { envelope = omega (arith, length-append front payload); accepted = rw at accepted; payload = rw at (omega (arith, length-append front payload)) }
 
--- what is taken in two reads
-pub consumed_in_turn : (all mid rest : Option (List ℕ)) (front payload : List ℕ) → Consumes all mid front → Consumes mid rest payload → Consumes all rest (front ++ payload)
-consumed_in_turn None mid rest front payload c d = tt
-consumed_in_turn (Some xs) None rest front payload c d = elim c [ ]
-consumed_in_turn (Some xs) (Some ys) None front payload c d = d
-consumed_in_turn (Some xs) (Some ys) (Some zs) front payload c d = c ∙ ap (λ t. front ++ t) d ∙ sym (append_assoc front payload zs)
+-- what is added in two parts
+pub added_in_turn : (all mid rest : Option (List ℕ)) (front payload : List ℕ) → Appends all mid front → Appends mid rest payload → Appends all rest (front ++ payload)
+added_in_turn None mid rest front payload c d = tt
+added_in_turn (Some xs) None rest front payload c d = elim c [ ]
+added_in_turn (Some xs) (Some ys) None front payload c d = d
+added_in_turn (Some xs) (Some ys) (Some zs) front payload c d = d ∙ ap (λ t. t ++ payload) c ∙ append_assoc xs front payload
+
+-- what is kept by two calls
+pub kept_twice : (all mid rest : Option (List ℕ)) → Keeps all mid → Keeps mid rest → Keeps all rest
+kept_twice None mid rest p q = tt
+kept_twice (Some xs) None rest p q = elim p [ ]
+kept_twice (Some xs) (Some ys) None p q = q
+kept_twice (Some xs) (Some ys) (Some zs) p q = q ∙ p
 
 -- an accepted envelope and its payload, taken one after the other, are a frame
-pub takes_frame : (all mid rest : Option (List ℕ)) (front payload : List ℕ) (found : OwnedFrame) → Consumes all mid front → Consumes mid rest payload → length front ≡ 20 → found.envelope ≡ envelope_at front → fault_of found.envelope ≡ None → length payload ≡ payload_len found.envelope → found.payload.items ≡ payload → TakesFrame all rest found
+pub takes_frame : (all mid rest : Option (List ℕ)) (front payload : List ℕ) (found : OwnedFrame) → Appends all mid front → Appends mid rest payload → length front ≡ 20 → found.envelope ≡ envelope_at front → fault_of found.envelope ≡ None → length payload ≡ payload_len found.envelope → found.payload.items ≡ payload → TakesFrame all rest found
 takes_frame all mid rest front payload found first second twenty read accepted len same =
     let accepted_front : fault_of (envelope_at front) ≡ None = subst (λ e. fault_of e ≡ None) read accepted in
     let whole : length payload ≡ payload_len (envelope_at front) = subst (λ e. length payload ≡ payload_len e) read len in
@@ -31,7 +38,7 @@ takes_frame all mid rest front payload found first second twenty read accepted l
     let behind : drop 20 (front ++ payload) ≡ payload = subst (λ (n : ℕ). drop n (front ++ payload) ≡ payload) twenty (drop-append_seam front payload) in
     record {
       octets = front ++ payload;
-      taken = consumed_in_turn all mid rest front payload first second;
+      taken = added_in_turn all mid rest front payload first second;
       frame = whole_is_frame front payload twenty accepted_front whole;
       envelope = read ∙ sym at;
       payload = same ∙ sym behind;

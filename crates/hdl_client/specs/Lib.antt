@@ -1,4 +1,5 @@
 pub mod About
+pub mod Asking
 pub mod Batch
 pub mod Exchange
 pub mod Reply

@@ -11,11 +11,11 @@ use crate::exchange::receive;
 use crate::fault::ClientFault;
 use crate::reply::Reply;
 use crate::session::Session;
+use crate::transport::Transport;
 use hdl_limits::CHALLENGES_MAX;
 use hdl_msg::ReplyView;
 use hdl_value::Wire;
 use std::alloc::Global;
-use std::io::{Read, Write};
 
 /// A request of a batch.
 #[derive(Drop)]
@@ -46,6 +46,7 @@ pub struct Batch {
 pub trait Outcomes {
     /// The reply to this task came, with this code. It is about what the task asks.
     fn note_reply(&mut self, task: &Task, code: u32, reply: &ReplyView<'_>)
+        requires own_code { code ≡ (reply_seen reply.now).header.response_code }
         requires answers { IsAnswerTo task.now.wire task.now.message.items (reply_seen reply.now) };
 }
 
@@ -136,7 +137,7 @@ fn take_flight<'b>(flights: &mut Vec<Flight<'b>>, request: u32) -> Result<Flight
     }
 }
 
-impl<S: Read + Write> Session<S> {
+impl<S: Transport> Session<S> {
     /// Sends a message for a task, which is under way then.
     fn launch<'b>(
         &mut self,

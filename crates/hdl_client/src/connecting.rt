@@ -1,7 +1,10 @@
 //! Connections to a server.
 
+ghost use Rattle.std.specs.Prelude.{None};
+
 use crate::fault::{ClientFault, ConnectFault};
 use crate::session::Session;
+use crate::transport::Transport;
 use std::io::{self, ErrorKind, Read, Write};
 use std::net::{TcpStream, ToSocketAddrs};
 use std::time::{Duration, Instant};
@@ -81,6 +84,21 @@ impl Write for Connection {
             self.begin()?;
         }
         Ok(())
+    }
+}
+
+impl Transport for Connection {
+    ghost sent = { λ _. None };
+
+    ghost received = { λ _. None };
+
+    fn send_all(&mut self, octets: &[u8]) -> io::Result<()> {
+        self.write_all(octets)?;
+        self.flush()
+    }
+
+    fn receive_exact(&mut self, buffer: &mut [u8]) -> io::Result<()> {
+        self.read_exact(buffer)
     }
 }
 

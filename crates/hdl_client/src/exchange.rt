@@ -1,15 +1,15 @@
 //! One frame there, and one back.
 
 ghost use Rattle.std.specs.Prelude.{◌≡◌, ◌≤◌, ◌<◌, length, IfOk, IfErr, OnOk};
-ghost use Rattle.std.specs.Io.KnownBytes.{Appends};
+ghost use Rattle.std.specs.Io.KnownBytes.{Appends, Keeps};
 ghost use Rattle.hdl_client.specs.Exchange.{frame_octets, TakesFrame};
 ghost use Rattle.hdl_client.specs.declared.fault.ClientFault.TheVariants.{TooLong};
 
 use crate::fault::ClientFault;
+use crate::transport::Transport;
 use hdl_frame::{ENVELOPE_LEN, Envelope};
 use hdl_limits::MESSAGE_MAX;
 use std::alloc::{AllocError, Global};
-use std::io::{Read, Write};
 
 /// The frame of a message, with the SessionId and RequestId of its envelope.
 pub fn frame_of(
@@ -29,7 +29,7 @@ pub fn frame_of(
 }
 
 /// Sends a message in one frame. A message of more than 65,536 octets is refused, and nothing is sent.
-pub fn send<S: Write>(
+pub fn send<S: Transport>(
     alloc: Global,
     stream: &mut S,
     session: u32,
@@ -37,14 +37,14 @@ pub fn send<S: Write>(
     message: &[u8],
 ) -> Result<(), ClientFault>
     ensures too_long { IfErr result (λ e. e ≡ TooLong → MESSAGE_MAX < length message.now) }
-    ensures sent { OnOk result (Appends (S.contents stream.old) (S.contents stream.new) (frame_octets session request message.now)) }
+    ensures sent { OnOk result (Appends (S.sent stream.old) (S.sent stream.new) (frame_octets session request message.now)) }
+    ensures received { Keeps (S.received stream.old) (S.received stream.new) }
 {
     if message.len() > MESSAGE_MAX as usize {
         return Err(ClientFault::TooLong);
     }
     let octets = frame_of(alloc, session, request, message)?;
-    stream.write_all(&octets)?;
-    stream.flush()?;
+    stream.send_all(&octets)?;
     Ok(())
 }
 
@@ -56,16 +56,17 @@ pub struct OwnedFrame {
 }
 
 /// Takes the next frame from the stream, whole and nothing after it. Where the envelope is refused only its 20 octets were taken.
-pub fn receive<S: Read>(alloc: Global, stream: &mut S) -> Result<OwnedFrame, ClientFault>
-    ensures taken { IfOk result (TakesFrame (S.remaining stream.old) (S.remaining stream.new)) }
+pub fn receive<S: Transport>(alloc: Global, stream: &mut S) -> Result<OwnedFrame, ClientFault>
+    ensures taken { IfOk result (TakesFrame (S.received stream.old) (S.received stream.new)) }
+    ensures sent { OnOk result (Keeps (S.sent stream.old) (S.sent stream.new)) }
 {
     let mut front = [0u8; ENVELOPE_LEN];
-    stream.read_exact(&mut front)?;
+    stream.receive_exact(&mut front)?;
     let envelope = Envelope::read(&front);
     if let Some(fault) = envelope.fault() {
         return Err(ClientFault::NoFrame(fault));
     }
     let mut payload = Vec::from_elem(alloc, 0u8, envelope.payload_len())?;
-    stream.read_exact(&mut payload)?;
+    stream.receive_exact(&mut payload)?;
     Ok(OwnedFrame { envelope, payload })
 }

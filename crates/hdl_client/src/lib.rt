@@ -26,6 +26,7 @@ mod fault;
 mod reply;
 mod session;
 mod site_question;
+mod transport;
 
 pub use batch::{Batch, Outcomes, Task};
 pub use challenge::{Key, challenge_answer, challenge_response, request_message, signed_part};
@@ -34,3 +35,4 @@ pub use exchange::{OwnedFrame, frame_of, receive, send};
 pub use fault::{ClientFault, ConnectFault};
 pub use reply::Reply;
 pub use session::Session;
+pub use transport::Transport;

@@ -6,14 +6,15 @@ use crate::imports::rows::{Faults, HandleRows};
 use crate::key::{key_of, read_key_reference};
 use crate::telling::tell_fault;
 use crate::words::code_name;
-use hdl_client::{Batch, ClientFault, Key, Outcomes, Session, Task, connect, request_message};
+use hdl_client::{
+    Batch, ClientFault, Key, Outcomes, Session, Task, Transport, connect, request_message,
+};
 use hdl_limits::{Items, Octets};
 use hdl_lines::{printed_octets, shown_line};
 use hdl_msg::{Body, ContentView, ReplyView, RequestBody, ResponseCode, Values, read_request};
 use hdl_value::Wire;
 use std::alloc::{AllocError, Global};
-use std::io::{self, Read, Write};
-use std::{fs, mem};
+use std::{fs, io, mem};
 use thiserror::Error;
 
 /// What can be done where the connection failed.
@@ -237,7 +238,7 @@ fn questions(alloc: Global, tasks: &[Task], lines: &[usize]) -> Result<Vec<Task>
 }
 
 /// Asks for what is there already, in the place of what was to be created.
-fn compare<S: Read + Write>(
+fn compare<S: Transport>(
     rt: &HostRuntime,
     session: &mut Session<S>,
     batch: &mut Batch,
@@ -260,7 +261,7 @@ fn compare<S: Read + Write>(
 }
 
 /// Asks for the next part of the file. Answers whether there was one.
-fn ask_part<S: Read + Write>(
+fn ask_part<S: Transport>(
     rt: &HostRuntime,
     session: &mut Session<S>,
     rows: &mut HandleRows<'_>,
@@ -318,7 +319,7 @@ impl Progress<'_> {
     }
 }
 
-fn ask_parts<S: Read + Write>(
+fn ask_parts<S: Transport>(
     rt: &HostRuntime,
     session: &mut Session<S>,
     rows: &mut HandleRows<'_>,
