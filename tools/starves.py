@@ -30,8 +30,8 @@ SOON, END = 10, 20
 MANY = 2600
 # More octets of memory than any process has.
 TOO_MUCH = 1 << 50
-# How much address space a process has that is to run out of memory, and what a value takes.
-SCARCE, LONG = 600 << 20, 30000
+# How much address space a process has that is to run out of memory, what a value takes, and how many heaps glibc gives its threads: each takes 64 MiB of that space, and who came too late for one has nothing else.
+SCARCE, LONG, HEAPS = 600 << 20, 30000, "2"
 
 
 def tenants(*ports):
@@ -223,7 +223,7 @@ def scarce_memory(folder):
 
     for options in ([], ["--table", os.path.join(folder, "scarce.db")]):
         where = "over a file" if options else "in memory"
-        with Server(folder, options, preexec_fn=scarce) as server:
+        with Server(folder, options, preexec_fn=scarce, env={**os.environ, "MALLOC_ARENA_MAX": HEAPS}) as server:
             yield "well before " + where, server.health() == 200
             codes = []
             while codes.count(BUSY) < 3 and len(codes) < 20000:

@@ -12,6 +12,8 @@ pub struct TableGuard {
     /// The table's file, where it has one, and what another program had made of it when it was looked at last.
     file: Option<FileWatch>,
     change: Option<FileChange>,
+    /// Whether less memory could be had than is kept aside, when that was seen last.
+    is_short: bool,
 }
 
 impl TableGuard {
@@ -21,6 +23,7 @@ impl TableGuard {
             health,
             file,
             change: None,
+            is_short: false,
         }
     }
 
@@ -32,11 +35,18 @@ impl TableGuard {
         }
         self.change.is_none()
     }
+
+    /// Whether as much memory can be had as is kept aside. What is seen is reported.
+    fn sees_room(&mut self) -> bool {
+        let is_there = self.health.see_room(self.rt.alloc());
+        self.is_short = !is_there;
+        is_there
+    }
 }
 
 impl Guard for TableGuard {
     fn permits(&mut self, effect: Effect) -> bool {
-        self.sees_file() && (effect == Effect::Frees || self.health.see_room(self.rt.alloc()))
+        self.sees_file() && (effect == Effect::Frees || self.sees_room())
     }
 
     fn note(&mut self, fate: Fate) {
@@ -52,8 +62,8 @@ impl Guard for TableGuard {
         if fate != Fate::Deferred {
             self.health.note_write(fate == Fate::Made);
         }
-        if self.health.is_short() {
-            self.health.see_room(self.rt.alloc());
+        if self.is_short {
+            self.sees_room();
         }
     }
 }
