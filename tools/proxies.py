@@ -21,10 +21,10 @@ import answers
 import repository
 import servers
 import wire
-from proxy_cases import ARCHIVE_WAY, A_ONE, A_PAGE, A_THREE, A_TWO, A_WAY, CHAIN, DAY, JSONS, KEPT, MANY, NEVER, OPTIONS, PAGES, PRETTY, SCRIPT_PAGE, TENANTS
+from proxy_cases import ARCHIVE_WAY, A_ONE, A_PAGE, A_THREE, A_TWO, A_WAY, CHAIN, DAY, JSONS, KEPT, MANY, NEVER, NO_URL, OPTIONS, PAGES, PRETTY, SCRIPT_PAGE, TENANTS
 from proxy_pages import (
     ABSENT, CONTACT, CROWDED, ELSEWHERE, FOLLOW, FORM, FRONT, HIDDEN, ICON, LATER, LOOK, READING, ROBOTS, SITE, UNANSWERED, answered_nowhere, empty, json_refusal, json_text, json_values,
-    nameless, refusal, text, value, values, way)
+    nameless, refusal, text, value, values, way, written_on)
 
 PROGRAM = os.environ.get("PROXY", repository.program("hdl_web"))
 WORDS = os.environ.get("HDL", repository.program("hdl"))
@@ -78,14 +78,14 @@ def silence(_):
 # What a server in this program answers to the first question of a connection, and how the proxy answers then.
 REPLIES = (
     ("values in any order", lambda n: wire.frame(GOOD, 0, n), 302, KEPT % 86400, way("10/a", "HTTPS://example.org/first")),
-    ("hidden values and a key", lambda n: wire.frame(LEAKING, 0, n), 200, KEPT % 60, values("10/a", value("TEXT", 3, text("open"), "for a minute"))),
-    ("values that nobody may read", lambda n: wire.frame(HIDDEN_ALONE, 0, n), 200, NEVER, empty("10/a")),
+    ("hidden values and a key", lambda n: wire.frame(LEAKING, 0, n), 200, KEPT % 60, values("10/a", value("TEXT", 3, text("open")), wrong=NO_URL)),
+    ("values that nobody may read", lambda n: wire.frame(HIDDEN_ALONE, 0, n), 200, NEVER, empty("10/a", NO_URL)),
     ("a moment as a TTL, and one beyond a day", lambda n: wire.frame(UNTIL, 0, n), 302, KEPT % 0, way("10/a", "https://example.org/until")),
     ("a TTL beyond a day", lambda n: wire.frame(LONG, 0, n), 302, KEPT % 86400, way("10/a", "https://example.org/long")),
     ("when it was written", lambda n: wire.frame(shown(stamped(1, b"open", 45)), 0, n), 200, KEPT % 45,
-     values("10/a", value("TEXT", 1, text("open"), "for 45 seconds<br>written 2026-11-25T18:20:41Z"))),
+     values("10/a", value("TEXT", 1, text("open"), written_on("2026-11-25T18:20:41Z")), wrong=NO_URL)),
     ("until a moment", lambda n: wire.frame(shown(stamped(1, b"open", 4294967295, True)), 0, n), 200, KEPT % 0,
-     values("10/a", value("TEXT", 1, text("open"), "until 2106-02-07T06:28:15Z<br>written 2026-11-25T18:20:41Z"))),
+     values("10/a", value("TEXT", 1, text("open"), written_on("2026-11-25T18:20:41Z")), wrong=NO_URL)),
     ("it is busy", short(3), 503, NEVER, refusal("10/a", CROWDED, LATER, "No answer")),
     ("it says that this is no handle", short(102), 400, NEVER, refusal("10/a", "The server says that this is no handle.", FORM, "No handle")),
     ("it is silent", silence, 502, NEVER, refusal("10/a", UNANSWERED, LATER, "No answer")),

@@ -5,8 +5,8 @@ import html
 
 import answers
 from proxy_pages import (
-    ABSENT, BEYOND, CALLBACK, CIRCLE, ELSEWHERE, FOLLOW, FORM, HIDDEN, INDEX, LOOK, OTHERS, READING, SLASH, hop, json_refusal, json_text, json_value, json_values, led_to, link,
-    nowhere, refusal, text, value, values, way)
+    ABSENT, BEYOND, CALLBACK, CIRCLE, ELSEWHERE, FOLLOW, FORM, HIDDEN, INDEX, LOOK, OTHERS, READING, SLASH, grouped, hop, json_refusal, json_text, json_value, json_values, led_to, link,
+    nowhere, octets, refusal, text, value, values, way)
 
 TENANTS = """publisher acme 8 %d
 publisher bolt 8 %d
@@ -57,7 +57,8 @@ value 20/host 1 URL 60 1110 UTF8 https://example.org
 """
 # ten aliases lead from 10/1 to 10/11, and eleven from 10/0
 CHAIN = "".join("value 10/%d 1 HS_ALIAS 86400 1110 UTF8 10/%d\n" % (number, number + 1) for number in range(11))
-MANY = "".join("value 10/many %d NOTE 86400 1110 UTF8 note %d\n" % (index, index) for index in range(1, 51))
+MANY = "".join("value 10/many %d NOTE 86400 1110 UTF8 note %d\n" % (index, index) for index in range(1, 51)) + (
+    "value 10/many 51 TITLE 86400 1110 UTF8 report\u202efdp.exe\nvalue 10/many 60 URL 86400 1110 UTF8 urn:x\nvalue 10/many 70 TITLE 86400 1110 UTF8 \u2066a\u061c\n")
 # a name with what has a meaning in a path, in a page or in an attribute
 WILD = '10/\u00fc?q=a&"<b>%'
 
@@ -67,30 +68,36 @@ OPTIONS = answers.JSON + [("allow", "GET, HEAD, OPTIONS"), ("access-control-allo
 KEPT, NEVER, DAY = answers.KEPT, answers.NEVER, 86400
 ONE = "https://example.org/one?q=1&amp;r=%22%C3%BC%22"
 A_PAGE = values("10/a", value("URL", 1, link(ONE, "https://example.org/one?q=1&amp;r=&quot;\u00fc&quot;")),
-                value("TEXT", 2, text("&lt;b&gt;Tom &amp; &quot;Jerry&quot;&lt;/b&gt;"), "for an hour"),
-                value("URL", 3, link("https://example.org/three", "https://example.org/three")))
-SCRIPT_PAGE = values("10/script", value("URL", 1, text("javascript:alert(1)")), value("URL", 2, link("https://example.org/", "https://example.org/")))
+                value("URL", 3, link("https://example.org/three", "https://example.org/three")),
+                value("TEXT", 2, text("&lt;b&gt;Tom &amp; &quot;Jerry&quot;&lt;/b&gt;")))
+HERE = "Here is what is known about"
+NO_URL = '<p class="note">This handle has no web address to go to. %s it.</p>\n' % HERE
+URL_UNFOLLOWED = '<p class="note">The web address of this handle, or what this link adds to it, isn\'t one that is followed here. %s the handle.</p>\n' % HERE
+SCRIPT_PAGE = values("10/script", value("URL", 1, text("javascript:alert(1)")), value("URL", 2, link("https://example.org/", "https://example.org/")), wrong=URL_UNFOLLOWED)
 PLACES = html.escape('<locations chooseby="locatt,weighted"> <!-- two places --> <location id="1" href="https://one.example.org/a?b=1&amp;c" weight="1"/> '
                      "<location id='2' href=\"https://two.example.org/\" weight=\"0\"></location> <location id=\"3\" href=\"javascript:alert(1)\" weight=\"0\"/> </locations>")
 PLACES_VALUES = (value("URL", 1, link("https://example.org/own", "https://example.org/own")),
-                 value("10320/loc", 2, text(PLACES.replace("&#x27;", "&#39;")), "for an hour"))
-UNREAD = ('<p class="note">The locations of this handle (10320/loc) can\'t be read, so its address leads nowhere. Please tell the person who gave it to you. '
-          "These are its values:</p>\n")
-UNFOLLOWED = ('<p class="note">The location that this address asks for, or that was chosen, isn\'t followed here. Please tell the person who gave it to you. '
-              "These are the handle\'s values:</p>\n")
+                 value("10320/loc", 2, text(PLACES.replace("&#x27;", "&#39;"))))
+UNREAD = ('<p class="note">The list of places that this handle leads to (10320/loc) has a mistake, so it leads nowhere. Please tell the person who gave it to you. '
+          "%s it.</p>\n" % HERE)
+UNFOLLOWED = ('<p class="note">The place that this link asks for, or that was chosen, isn\'t one that is followed here. Please tell the person who gave the handle to you. '
+              "%s it.</p>\n" % HERE)
 
 
-def unread(handle, written, *more):
-    return ("GET /" + handle, 200, KEPT % 3600, None, values(handle, value("10320/loc", 1, text(html.escape(written)), "for an hour"), *more, wrong=UNREAD))
+def unread(handle, written, *urls):
+    return ("GET /" + handle, 200, KEPT % 3600, None, values(handle, *urls, value("10320/loc", 1, text(html.escape(written))), wrong=UNREAD))
 
 
-ADMINISTRATOR = '<p>The holder of the key <span class="data">300:0.NA/10</span> may</p>\n<ul class="may">%s</ul>\n'
+ADMINISTRATOR = ('<details><summary>Who may change this handle</summary>\n<p>The holder of the key <span class="data">300:<bdi>0.NA/10</bdi></span> may</p>\n'
+                 '<ul class="may">%s</ul>\n</details>\n')
 ALL = "".join("<li>%s</li>" % may for may in ("create handles", "delete them", "list them", "read what isn't public", "add values", "change values", "remove values",
                                              "add administrators", "change administrators", "remove administrators"))
-SOME_PAGE = values("10/some", value("HS_ADMIN", 100, ADMINISTRATOR % "<li>list them</li><li>change values</li>"), value("HS_PUBKEY", 101, text("key")))
-MANY_PAGE = values("10/many", *(value("NOTE", index, text("note %d" % index)) for index in range(1, 51)))
+SOME_PAGE = values("10/some", value("HS_ADMIN", 100, ADMINISTRATOR % "<li>list them</li><li>change values</li>"), value("HS_PUBKEY", 101, text("key")), wrong=NO_URL)
+MANY_PAGE = grouped("10/many", ("URL", value("URL", 60, text("urn:x"))), ("NOTE", *(value("NOTE", index, text("note %d" % index)) for index in range(1, 51))),
+                    ("TITLE", value("TITLE", 51, text("report[U+202E]fdp.exe")), value("TITLE", 70, text("[U+2066]a[U+061C]"))), wrong=URL_UNFOLLOWED)
 ADMIN_PAGE = values("10/admin", value("HS_ADMIN", 100, ADMINISTRATOR % ALL),
-                    value("HS_VLIST", 101, text("200:10/x") + text("201:10/y")), value("OCTETS", 102, "<p>3 octets</p>\n" + text("00ff41")), value("HS_SITE", 103, text("site")))
+                    value("HS_VLIST", 101, octets("200:<bdi>10/x</bdi>") + octets("201:<bdi>10/y</bdi>")),
+                    value("OCTETS", 102, "<p>Not text. Length in bytes: 3</p>\n" + octets("00ff41")), value("HS_SITE", 103, text("site")), wrong=NO_URL)
 A_ONE = json_value(1, "URL", json_text('https://example.org/one?q=1&r=\\"\u00fc\\"'))
 A_TWO = json_value(2, "TEXT", json_text('<b>Tom & \\"Jerry\\"</b>'), 3600)
 A_THREE = json_value(3, "URL", json_text("https://example.org/three"))
@@ -108,9 +115,9 @@ PAGES = (
     ("GET /20/archive?urlappend=", *ARCHIVE_WAY),
     ("GET /20/archive?urlappend=x&urlappend=/1%3Fa=%C3%BC", 302, KEPT % 86400, "https://example.org/archive/1?a=%C3%BC",
      way("20/archive", "https://example.org/archive/1?a=%C3%BC")),
-    ("GET /20/archive?urlappend=%0d%0ax:y", 200, KEPT % 86400, None, values("20/archive", value("URL", 1, link("https://example.org/archive", "https://example.org/archive")))),
+    ("GET /20/archive?urlappend=%0d%0ax:y", 200, KEPT % 86400, None, values("20/archive", value("URL", 1, link("https://example.org/archive", "https://example.org/archive")), wrong=URL_UNFOLLOWED)),
     ("GET /20/host", 302, KEPT % 60, "https://example.org", way("20/host", "https://example.org")),
-    ("GET /20/host?urlappend=.evil.example/", 200, KEPT % 60, None, values("20/host", value("URL", 1, link("https://example.org", "https://example.org"), "for a minute"))),
+    ("GET /20/host?urlappend=.evil.example/", 200, KEPT % 60, None, values("20/host", value("URL", 1, link("https://example.org", "https://example.org")), wrong=URL_UNFOLLOWED)),
     ("GET /hdl:10/a", *A_WAY),
     ("GET /DOI:20/archive", *ARCHIVE_WAY),
     ("GET /https://hdl.handle.net/20/archive", *ARCHIVE_WAY),
@@ -151,9 +158,9 @@ PAGES = (
     ("GET /10/alias?type=URL", 302, KEPT % 86400, "https://example.org/own", way("10/alias", "https://example.org/own")),
     ("GET /10/alias?index=5", 302, KEPT % 600, "https://example.org/archive", way("20/archive", "https://example.org/archive")),
     ("GET /10/alias?noredirect", 200, KEPT % 60, None,
-     values("10/alias", value("URL", 1, link("https://example.org/own", "https://example.org/own")), value("HS_ALIAS", 5, text(hop("20/archive")), "for 10 minutes"),
-            value("HS_ALIAS", 7, text(hop("10/none")), "for a minute"))),
-    ("GET /20/wild?noredirect", 200, KEPT % 86400, None, values("20/wild", value("HS_ALIAS", 1, text(hop(WILD))))),
+     values("10/alias", value("URL", 1, link("https://example.org/own", "https://example.org/own")), value("HS_ALIAS", 5, octets(hop("20/archive"))),
+            value("HS_ALIAS", 7, octets(hop("10/none"))))),
+    ("GET /20/wild?noredirect", 200, KEPT % 86400, None, values("20/wild", value("HS_ALIAS", 1, octets(hop(WILD))))),
     ("GET /10/places", 302, KEPT % 3600, "https://one.example.org/a?b=1&c", way("10/places", "https://one.example.org/a?b=1&amp;c")),
     ("GET /10/places?urlappend=d", 302, KEPT % 3600, "https://one.example.org/a?b=1&cd", way("10/places", "https://one.example.org/a?b=1&amp;cd")),
     ("GET /10/places?locatt=id:2", 302, KEPT % 3600, "https://two.example.org/", way("10/places", "https://two.example.org/")),
@@ -170,7 +177,7 @@ PAGES = (
     ("GET /10/kept", 302, KEPT % 86400, "https://example.org/own", way("10/kept", "https://example.org/own")),
     ("GET /10/odd", 302, KEPT % 86400, "https://example.org/own", way("10/odd", "https://example.org/own")),
     ("GET /10/odd?noredirect", 200, KEPT % 86400, None,
-     values("10/odd", value("HS_ALIAS", 1, text("archive")), value("URL", 2, link("https://example.org/own", "https://example.org/own")))),
+     values("10/odd", value("URL", 2, link("https://example.org/own", "https://example.org/own")), value("HS_ALIAS", 1, text("archive")))),
     ("GET /10/gone", 404, NEVER, None, led_to("10/gone", refusal("20/none", ABSENT, LOOK))),
     ("GET /10/off", 404, NEVER, None, led_to("10/off", refusal("30/a", ELSEWHERE, LOOK))),
     ("GET /10/shown", 200, KEPT % 3600, None, led_to("10/shown", SCRIPT_PAGE)),

@@ -7,12 +7,13 @@ SITE, CONTACT = "Tom & Jerry's <handles>", "help@example.org"
 SITE_TEXT = "Tom &amp; Jerry&#39;s &lt;handles&gt;"
 HEADER = '<header><a href="/">%s</a></header>\n<main>\n' % SITE_TEXT
 FOOTER = '<footer>Questions? <a href="mailto:help@example.org">help@example.org</a></footer>\n</body>\n</html>\n'
-ANOTHER = '<p><a href="/">Find another handle</a></p>\n</main>\n' + FOOTER
-COLUMNS = ('<table>\n<thead><tr><th scope="col">Type, index</th><th scope="col">Value</th><th scope="col">May be kept</th></tr></thead>\n'
+ANOTHER = '<p><a href="/">Find another handle</a></p>\n'
+END = "</main>\n" + FOOTER
+COLUMNS = ('<table aria-label="What is known about this handle">\n<thead><tr><th scope="col">Type, index</th><th scope="col">Value</th></tr></thead>\n'
            "<tbody>\n%s</tbody>\n</table>\n")
 
 ABSENT = "This handle isn&#39;t there."
-ELSEWHERE = "None of the servers that were asked hosts this prefix."
+ELSEWHERE = "No server here has handles with this beginning."
 UNANSWERED = "No server answered."
 CROWDED = "The server is busy."
 HIDDEN = "This handle exists, but it has no such public value."
@@ -42,8 +43,12 @@ ICON = ('<svg xmlns="http://www.w3.org/2000/svg" viewBox="0 0 16 16"><rect width
         '<path d="M5 3.5v9M11 3.5v9M5 8h6" stroke="#fff" stroke-width="2"/></svg>\n')
 
 
+def name(asked):
+    return '<p class="name" dir="auto">%s</p>\n' % asked
+
+
 def refusal(asked, why, advice, word="Not found"):
-    return "%s: %s - %s" % (word, asked, SITE_TEXT), "%s<h1>%s</h1>\n<p>%s</p>\n<p>%s</p>\n%s" % (HEADER, asked, why, advice, ANOTHER)
+    return "%s: %s - %s" % (word, asked, SITE_TEXT), "%s<h1>%s</h1>\n%s<p>%s</p>\n%s%s" % (HEADER, why, name(asked), advice, ANOTHER, END)
 
 
 def answered_nowhere(page):
@@ -59,44 +64,64 @@ def nameless(page, foot=""):
     return [part.replace(SITE_TEXT, "Handles").replace(FOOTER, foot + "</body>\n</html>\n") for part in page]
 
 
+def about(handle, why, shown):
+    """A page about a handle: why it is shown, and what."""
+    json = '<p><small><a href="/api/handles/%s">For programs: these values as JSON</a></small></p>\n' % urllib.parse.quote(html.unescape(handle), safe="/")
+    return "%s - %s" % (handle, SITE_TEXT), '%s<h1 dir="auto">%s</h1>\n%s%s%s%s%s' % (HEADER, handle, why, shown, ANOTHER, json, END)
+
+
 def values(handle, *parts, wrong=""):
-    return "%s - %s" % (handle, SITE_TEXT), "%s<h1>%s</h1>\n%s%s%s" % (HEADER, handle, wrong, COLUMNS % "".join(parts), ANOTHER)
+    return about(handle, wrong, COLUMNS % "".join(parts))
 
 
-def hop(name):
+def grouped(handle, *groups, wrong=""):
+    """A page of many values: each type once, with its values below it."""
+    head = '<tbody>\n<tr class="type"><th colspan="2" scope="rowgroup"><bdi>%s</bdi></th></tr>\n%s</tbody>\n'
+    rows = "".join(head % (kind, "".join(parts)) for kind, *parts in groups)
+    return about(handle, wrong, COLUMNS.replace("<table", '<table class="types"').replace("<tbody>\n%s</tbody>\n", "%s") % rows)
+
+
+def hop(handle):
     """A handle's name, as a link to the page of its own values."""
-    return '<a href="/%s?noredirect">%s</a>' % (urllib.parse.quote(name, safe="/"), html.escape(name))
+    return '<a href="/%s?noredirect"><bdi>%s</bdi></a>' % (urllib.parse.quote(handle, safe="/"), html.escape(handle))
 
 
 def led_to(asked, page):
     """A page to which an alias led: it says which handle was asked for."""
     title, main = page
-    note = '<p class="note">%s is an alias, which leads to this handle:</p>\n' % hop(asked)
+    note = '<p class="note">%s is an alias, which leads to another handle:</p>\n' % hop(asked)
     return "%s, an alias: %s" % (html.escape(asked), title), HEADER + note + main[len(HEADER):]
 
 
 def nowhere(why, *names):
     """That the aliases of handles lead nowhere, by a link to each."""
-    asked, hops = html.escape(names[0]), "".join("<li>%s</li>\n" % hop(name) for name in names)
+    asked, hops = html.escape(names[0]), "".join("<li>%s</li>\n" % hop(one) for one in names)
     return ("Leads nowhere: %s - %s" % (asked, SITE_TEXT),
-            "%s<h1>%s</h1>\n<p>%s</p>\n<ol>\n%s</ol>\n<p>%s</p>\n%s" % (HEADER, asked, why, hops, ELSEWHERE_PLEASE, ANOTHER))
+            "%s<h1>This handle leads nowhere.</h1>\n%s<p>%s</p>\n<ol>\n%s</ol>\n<p>%s</p>\n%s%s" % (HEADER, name(asked), why, hops, ELSEWHERE_PLEASE, ANOTHER, END))
 
 
-def empty(handle):
-    none = "<p>This handle exists, but it has no public value.</p>\n"
-    return "%s - %s" % (handle, SITE_TEXT), "%s<h1>%s</h1>\n%s%s" % (HEADER, handle, none, ANOTHER)
+def empty(handle, wrong=""):
+    return about(handle, wrong, "<p>This handle exists, but nothing about it is public.</p>\n")
 
 
-def value(kind, index, data, times="for a day"):
-    return '<tr><th scope="row">%s <small>%d</small></th>\n<td>%s</td>\n<td>%s</td></tr>\n' % (kind, index, data, times)
+def value(kind, index, data, written=""):
+    return '<tr><th scope="row"><bdi>%s</bdi> <small>%d</small></th>\n<td>%s%s</td></tr>\n' % (kind, index, data, written)
+
+
+def written_on(moment):
+    return '<p class="written">Written <time datetime="%s">%s</time></p>\n' % (moment, moment[:10])
 
 
 def text(shown):
+    return '<p class="text" dir="auto">%s</p>\n' % shown
+
+
+def octets(shown):
     return '<p class="data">%s</p>\n' % shown
 
 
 def link(to, shown):
-    return text('<a rel="noreferrer" href="%s">%s</a>' % (to, shown))
+    return '<p class="data" dir="auto"><a rel="noreferrer" href="%s">%s</a></p>\n' % (to, shown)
 
 
 def way(title, to):

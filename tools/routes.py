@@ -154,7 +154,7 @@ def prefixes():
     with proxy((first, "ABC"), (second, "30")) as port:
         yield "small letters", ask(port, "aBc/x")[0] == 302
         yield "a prefix that no server has", ask(port, "99/a")[0] == 404
-        wanted = '{"handle":"99/a","message":"None of the servers that were asked hosts this prefix.","responseCode":100}'
+        wanted = '{"handle":"99/a","message":"No server here has handles with this beginning.","responseCode":100}'
         yield "a prefix that no server has: JSON", body_of(port, "/api/handles/99/a") == (404, wanted)
 
 

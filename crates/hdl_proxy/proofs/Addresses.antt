@@ -53,3 +53,8 @@ slash_graphic = (omega arith, omega arith)
 pub word_graphic : All IsGraphic (codes "?noredirect")
 unfolding percent_encode should_percent_encode
 word_graphic = All-cons IsGraphic 63 (codes "noredirect") (omega arith, omega arith) (graphic IN_PATH path_covers (codes "noredirect"))
+
+-- nor for letters and slashes
+pub api_graphic : All IsGraphic (codes "/api/handles")
+unfolding percent_encode should_percent_encode
+api_graphic = graphic IN_PATH path_covers (codes "/api/handles")

@@ -15,4 +15,5 @@ pub mod Sections
 pub mod Soonest
 pub mod Texts
 pub mod Unsound
+pub mod Visible
 pub mod Within

@@ -5,7 +5,7 @@ use Rattle.std.specs.Prelude.{codes}
 use Rattle.std.proofs.lemmas.List.Elements.{All-append, All-cons}
 use Rattle.hdl_value.specs.declared.value.Value.{Value}
 use Rattle.hdl_proxy.specs.Answer.{LeadsTo, Tells, IsLocated, IsWayAt, IsWayBy, IsWayFrom, IsWayOf, IsWayOfValue, IsWayToMeant, Goes, ShowsValues, ShowsFound}
-use Rattle.hdl_proxy.specs.Link.{IsLink, address_of, path_to, path_to_values}
+use Rattle.hdl_proxy.specs.Link.{IsLink, address_of, path_to, path_to_json, path_to_values}
 use Rattle.hdl_proxy.specs.Status.{status_of_code}
 use Rattle.hdl_proxy.specs.Url.{IsGraphic, extend}
 use Rattle.hdl_proxy.specs.declared.answer.Answer.{Answer}
@@ -19,7 +19,7 @@ use Rattle.std.specs.Borrow.{Bor}
 use Rattle.hdl_proxy.specs.declared.found.Found.TheVariants.{Values, Refused, Nothing}
 use Rattle.hdl_proxy.specs.declared.question.Form.{Form}
 use Rattle.hdl_proxy.specs.declared.question.Form.TheVariants.{Follow, Page, Json, Pretty}
-use Rattle.hdl_proxy.proofs.Addresses.{graphic, location_covers, path_covers, slash_graphic, word_graphic}
+use Rattle.hdl_proxy.proofs.Addresses.{api_graphic, graphic, location_covers, path_covers, slash_graphic, word_graphic}
 
 -- ---- links are graphic ASCII
 
@@ -32,10 +32,14 @@ path_graphic name = All-cons IsGraphic 47 _ slash_graphic (graphic _ path_covers
 pub values_path_graphic : (name : List ℕ) → All IsGraphic (path_to_values name)
 values_path_graphic name = All-append IsGraphic (path_to name) (codes "?noredirect") (path_graphic name) word_graphic
 
+pub json_path_graphic : (name : List ℕ) → All IsGraphic (path_to_json name)
+json_path_graphic name = All-append IsGraphic (codes "/api/handles") (path_to name) api_graphic (path_graphic name)
+
 pub link_graphic : (to : List ℕ) → IsLink to → All IsGraphic to
 link_graphic to (inl w) = subst (All IsGraphic) (sym w.1.1) (address_graphic w.0)
 link_graphic to (inr (inl w)) = subst (All IsGraphic) (sym w.1.1) (path_graphic w.0)
-link_graphic to (inr (inr w)) = subst (All IsGraphic) (sym w.1.1) (values_path_graphic w.0)
+link_graphic to (inr (inr (inl w))) = subst (All IsGraphic) (sym w.1.1) (values_path_graphic w.0)
+link_graphic to (inr (inr (inr w))) = subst (All IsGraphic) (sym w.1.1) (json_path_graphic w.0)
 
 -- ---- answers
 
@@ -72,15 +76,15 @@ meant_graphic : (url : Option (List ℕ)) (to : List ℕ) → IsWayToMeant url (
 meant_graphic None to w = absurd cc
 meant_graphic (Some url) to w = subst (All IsGraphic) (sym w.1) (address_graphic url)
 
-way_graphic : (append to : List ℕ) (first : Option Value) → IsWayOfValue first append (Some to) → All IsGraphic to
-way_graphic append to None w = absurd cc
-way_graphic append to (Some v) w = meant_graphic (extend v.bytes append) to w
+way_graphic : (append to : List ℕ) (first : Option Value) (wrong : Note) → IsWayOfValue first append (Some to) wrong → All IsGraphic to
+way_graphic append to None wrong w = meant_graphic None to w.0
+way_graphic append to (Some v) wrong w = meant_graphic (extend v.bytes append) to w.0
 
-url_graphic : (values : List Value) (append to : List ℕ) → IsWayOf values append (Some to) → All IsGraphic to
-url_graphic values append to w = way_graphic append to w.0 w.1.1
+url_graphic : (values : List Value) (append to : List ℕ) (wrong : Note) → IsWayOf values append (Some to) wrong → All IsGraphic to
+url_graphic values append to wrong w = way_graphic append to w.0 wrong w.1.1
 
 at_graphic : (chosen : Option (Bor Location)) (values : List Value) (append to : List ℕ) (wrong : Note) → IsWayAt chosen values append (Some to) wrong → All IsGraphic to
-at_graphic None values append to wrong w = url_graphic values append to w.0
+at_graphic None values append to wrong w = url_graphic values append to wrong w
 at_graphic (Some chosen) values append to wrong w = meant_graphic (extend chosen.now.href.items append) to w.0
 
 place_graphic : (values : List Value) (append locatt to : List ℕ) (place : Value) (wrong : Note) → IsWayBy (Some place) values append locatt (Some to) wrong → All IsGraphic to
@@ -88,7 +92,7 @@ place_graphic values append locatt to place wrong (inl w) = absurd cc
 place_graphic values append locatt to place wrong (inr w) = at_graphic w.1.1.0 values append to wrong w.1.1.1.1
 
 from_graphic : (values : List Value) (append locatt to : List ℕ) (place : Option Value) (wrong : Note) → IsWayBy place values append locatt (Some to) wrong → All IsGraphic to
-from_graphic values append locatt to None wrong w = url_graphic values append to w.0
+from_graphic values append locatt to None wrong w = url_graphic values append to wrong w
 from_graphic values append locatt to (Some place) wrong w = place_graphic values append locatt to place wrong w
 
 goes_located : (handle append locatt : List ℕ) (values : List Value) (way : Option (List ℕ)) (wrong : Note) (a : Answer) → IsWayFrom values append locatt way wrong → Goes handle values way wrong a → IsLocated a

@@ -1,11 +1,12 @@
 -- What a page says of a value, and one section more.
-use Rattle.std.proofs.Common.{◌≡◌, ℕ, ◌+◌, ◌<◌, List, [], ◌∷◌, ◌++◌, None, length, get_or, take, sym, ap, subst, ◌∙◌}
-use Rattle.std.proofs.lemmas.List.{take_more}
+use Rattle.std.proofs.Common.{◌≡◌, ◌==◌, ℕ, zero, suc, arith, ◌+◌, ◌<◌, ◌≤◌, Bool, false, List, [], ◌∷◌, ◌++◌, None, drop, filter, length, get_or, take, inl, inr, refl, sym, ap, subst, ◌∙◌, append_assoc}
+use Rattle.std.proofs.lemmas.List.{append-nil, drop_all, drop_more, take_more}
+use Rattle.std.proofs.lemmas.List.Elements.{filter-append}
 use Rattle.std.proofs.lemmas.Slice.Zip.{all_zipped_more}
 use Rattle.hdl_value.specs.declared.value.Value.{Value}
 use Rattle.hdl_value.specs.Refs.{admin_read, list_read}
 use Rattle.hdl_proxy.proofs.Pieces.{concat_push}
-use Rattle.hdl_proxy.specs.Pages.{IsDataPart, IsSection, IsSections, IsTextPart}
+use Rattle.hdl_proxy.specs.Pages.{IsDataPart, IsGroupAt, IsGroupsFrom, IsRow, IsSection, IsSections, IsTextPart}
 
 pub text_told : (v : Value) (part : List ℕ) → admin_read v ≡ None → list_read v ≡ None → IsTextPart v part → IsDataPart v part
 text_told v part no_admin no_list h = rw (no_admin, no_list) h
@@ -14,7 +15,47 @@ sections_push : (values : List Value) (v : Value) (part section : List ℕ) → 
 sections_push values v part section h s =
     (h.0 ++ section ∷ [], all_zipped_more IsSection values h.0 v section h.1 s, ap (λ (x : List ℕ). x ++ section) h.2 ∙ concat_push h.0 section)
 
-pub sections_more : (values : List Value) (i : ℕ) (v : Value) (part section : List ℕ) → i < length values → v ≡ get_or values i v → IsSections (take i values) part → IsSection v section → IsSections (take (i + 1) values) (part ++ section)
-sections_more values i v part section lt is h s =
+-- one row more, where the value is put
+row_pushed : (p : Value → Bool) (before : List Value) (v : Value) (part row : List ℕ) → IsSections before part → IsRow (p v) v row → IsSections (before ++ filter p (v ∷ [])) (part ++ row)
+row_pushed p before v part row h (inl r) = rw r.0 (sections_push before v part row h r.1)
+row_pushed p before v part row h (inr r) =
+    let none : filter p (v ∷ []) ≡ [] = rw r.0 refl in
+    subst (λ (vs : List Value). IsSections vs (part ++ row)) (sym (append-nil before) ∙ ap (λ (vs : List Value). before ++ vs) (sym none))
+    (subst (IsSections before) (sym (append-nil part) ∙ ap (λ (x : List ℕ). part ++ x) (sym r.1)) h)
+
+pub rows_more : (p : Value → Bool) (values : List Value) (i : ℕ) (v : Value) (put : Bool) (part row : List ℕ) → i < length values → v ≡ get_or values i v → put ≡ p v
+    → IsSections (filter p (take i values)) part → IsRow put v row → IsSections (filter p (take (i + 1) values)) (part ++ row)
+rows_more p values i v put part row lt is same h r =
     let more : take (i + 1) values ≡ take i values ++ v ∷ [] = take_more values i v lt ∙ ap (λ (x : Value). take i values ++ x ∷ []) (sym is) in
-    subst (λ (vs : List Value). IsSections vs (part ++ section)) (sym more) (sections_push (take i values) v part section h s)
+    let apart = ap (filter p) more ∙ filter-append p (take i values) (v ∷ []) in
+    subst (λ (vs : List Value). IsSections vs (part ++ row)) (sym apart) (row_pushed p (filter p (take i values)) v part row h (subst (λ (b : Bool). IsRow b v row) same r))
+
+-- ---- groups
+
+-- what is put so far is the front of the groups of all
+abbrev pub IsFront : Bool → List Value → ℕ → List ℕ → Type 0
+IsFront are_urls values i part =
+    (others : List ℕ) → IsGroupsFrom are_urls values (take i values) (drop i values) others → IsGroupsFrom are_urls values [] values (part ++ others)
+
+pub no_group : (are_urls : Bool) (values : List Value) → IsFront are_urls values 0 []
+no_group are_urls values = λ others h. h
+
+pub groups_more : (are_urls : Bool) (values : List Value) (i : ℕ) (v : Value) (part group : List ℕ) → i < length values → v ≡ get_or values i v
+    → IsFront are_urls values i part → IsGroupAt are_urls values (take i values) v group → IsFront are_urls values (i + 1) (part ++ group)
+groups_more are_urls values i v part group lt is h g = λ others left.
+    let more : take (i + 1) values ≡ take i values ++ v ∷ [] = take_more values i v lt ∙ ap (λ (x : Value). take i values ++ x ∷ []) (sym is) in
+    let rest : drop i values ≡ v ∷ drop (i + 1) values = drop_more values i v lt ∙ ap (λ (x : Value). x ∷ drop (i + 1) values) (sym is) in
+    let behind = subst (λ (before : List Value). IsGroupsFrom are_urls values before (drop (i + 1) values) others) more left in
+    let whole = subst (λ (vs : List Value). IsGroupsFrom are_urls values (take i values) vs (group ++ others)) (sym rest) (group, others, g, behind, refl) in
+    subst (IsGroupsFrom are_urls values [] values) (sym (append_assoc part group others)) (h (group ++ others) whole)
+
+pub groups_all : (are_urls : Bool) (values : List Value) (i : ℕ) (part : List ℕ) → length values ≤ i → IsFront are_urls values i part → IsGroupsFrom are_urls values [] values part
+groups_all are_urls values i part le h =
+    subst (IsGroupsFrom are_urls values [] values) (append-nil part)
+    (h [] (subst (λ (vs : List Value). IsGroupsFrom are_urls values (take i values) vs []) (sym (drop_all i values le)) refl))
+
+-- ---- tables
+
+pub positive : (n : ℕ) → (n == 0) ≡ false → 0 < n
+positive zero e = absurd cc
+positive (suc n) e = omega arith

@@ -54,24 +54,24 @@ abbrev pub IsWayToMeant : Option (List ℕ) → Option (List ℕ) → Type 0
 IsWayToMeant None way = way ≡ None
 IsWayToMeant (Some url) way = IsWayTo url way
 
--- the way to the URL of this value with this behind it, where there is one
-abbrev pub IsWayOfValue : Option Value → List ℕ → Option (List ℕ) → Type 0
-IsWayOfValue None append way = way ≡ None
-IsWayOfValue (Some value) append way = IsWayToMeant (extend value.bytes append) way
+-- what is wrong where this is the way: nothing where there is one
+abbrev pub note_of : Note → Option (List ℕ) → Note
+note_of wrong None = wrong
+note_of wrong (Some to) = note.Nothing
+
+-- the way to the URL of this value with this behind it, where there is one, and else what is wrong
+abbrev pub IsWayOfValue : Option Value → List ℕ → Option (List ℕ) → Note → Type 0
+IsWayOfValue None append way wrong = (way ≡ None) × (wrong ≡ note.NoUrl)
+IsWayOfValue (Some value) append way wrong = IsWayToMeant (extend value.bytes append) way × (wrong ≡ note_of note.UrlUnfollowed way)
 
 -- the way to the first URL of these values with this behind it: its address where it is one to be followed, and none otherwise
-abbrev pub IsWayOf : List Value → List ℕ → Option (List ℕ) → Type 0
-IsWayOf values append way = (first : Option Value) × (IsFirstUrl values first × IsWayOfValue first append way)
-
--- what is wrong where the location that was chosen leads this way
-abbrev pub note_of : Option (List ℕ) → Note
-note_of None = note.Unfollowed
-note_of (Some to) = note.Nothing
+abbrev pub IsWayOf : List Value → List ℕ → Option (List ℕ) → Note → Type 0
+IsWayOf values append way wrong = (first : Option Value) × (IsFirstUrl values first × IsWayOfValue first append way wrong)
 
 -- the way to the location that was chosen with this behind it, and where none was to the first URL; and what is wrong
 abbrev pub IsWayAt : Option (Bor Location) → List Value → List ℕ → Option (List ℕ) → Note → Type 0
-IsWayAt None values append way wrong = IsWayOf values append way × (wrong ≡ note.Nothing)
-IsWayAt (Some chosen) values append way wrong = IsWayToMeant (extend chosen.now.href.items append) way × (wrong ≡ note_of way)
+IsWayAt None values append way wrong = IsWayOf values append way wrong
+IsWayAt (Some chosen) values append way wrong = IsWayToMeant (extend chosen.now.href.items append) way × (wrong ≡ note_of note.Unfollowed way)
 
 abbrev pub IsWayAmong : List Location → List Value → List ℕ → Option (List ℕ) → Note → Type 0
 IsWayAmong locations values append way wrong =
@@ -83,7 +83,7 @@ IsUnread way wrong = (way ≡ None) × (wrong ≡ note.Unread)
 
 -- where a handle's own address leads, and what is wrong: among the locations that it says, where it has some, and else to its first URL
 abbrev pub IsWayBy : Option Value → List Value → List ℕ → List ℕ → Option (List ℕ) → Note → Type 0
-IsWayBy None values append locatt way wrong = IsWayOf values append way × (wrong ≡ note.Nothing)
+IsWayBy None values append locatt way wrong = IsWayOf values append way wrong
 IsWayBy (Some place) values append locatt way wrong =
     IsUnread way wrong ⊎ ((locations : List Location) × (SaysLocations locatt place.bytes locations × IsWayAmong locations values append way wrong))
 

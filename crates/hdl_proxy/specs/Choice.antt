@@ -13,6 +13,9 @@ is_shown v = is_public v && not (is_secret_key v)
 abbrev pub is_of : List ℕ → Value → Bool
 is_of kind v = bytes_eq v.kind kind
 
+abbrev pub is_url : Value → Bool
+is_url v = is_of (codes "URL") v
+
 -- its index is below that of the one chosen so far, or none was chosen
 abbrev pub comes_first : Value → Option Value → Bool
 comes_first v None = true

@@ -1,11 +1,11 @@
 -- How a page says through which handles aliases led: the name of each is a link to the page of its own values.
 use Rattle.std.specs.Prelude.{ℕ, List, ◌++◌, codes, flat_map}
-use Rattle.hdl_proxy.specs.Pages.{advice_part, element, handle_link, top}
+use Rattle.hdl_proxy.specs.Pages.{advice_part, element, handle_link, name_part, top}
 use Rattle.hdl_proxy.specs.declared.codes.TheConstants.{TOO_FAR}
 
 -- above a page: which handle was asked for, whose alias led there
 unfoldable pub alias_part : List ℕ → List ℕ
-alias_part asked = codes "<p class=\"note\">" ++ (handle_link asked ++ codes " is an alias, which leads to this handle:</p>\n")
+alias_part asked = codes "<p class=\"note\">" ++ (handle_link asked ++ codes " is an alias, which leads to another handle:</p>\n")
 
 -- the handles that aliases lead through in order, this one the last
 unfoldable pub hop_part : List ℕ → List ℕ
@@ -17,4 +17,4 @@ hops_part names target = codes "<ol>\n" ++ (flat_map hop_part names ++ (hop_part
 -- the page that says of a handle that its aliases lead nowhere, by all of them, and what to do
 unfoldable pub nowhere_page : List ℕ → List ℕ → List (List ℕ) → List ℕ → List ℕ
 nowhere_page handle front names target =
-    top handle ++ (element (codes "<p>") front (codes "</p>\n") ++ (hops_part names target ++ advice_part TOO_FAR handle))
+    top (codes "This handle leads nowhere.") ++ (name_part handle ++ (element (codes "<p>") front (codes "</p>\n") ++ (hops_part names target ++ advice_part TOO_FAR handle)))

@@ -1,6 +1,7 @@
 -- The page of a handle's values: markup of this crate, and the handle and what these values say as text, and nothing else.
-use Rattle.std.specs.Prelude.{◌≡◌, ◌<◌, ℕ, ◌==◌, nat_le, Bool, true, not, ◌&&◌, ◌||◌, ◌⊎◌, List, [], ◌++◌, length, codes, decimal, if◌then◌else◌, Option, Some, None, MatchOption, string_bytes, flat_map}
-use Rattle.std.specs.List.{AllZip, concat, list_all}
+-- Text that isn't of this crate stands apart from what is around it (`bdi`, `dir`), so that its direction changes nothing else.
+use Rattle.std.specs.Prelude.{◌≡◌, ◌<◌, ◌≤◌, ◌∷◌, ℕ, ◌==◌, nat_le, Bool, true, false, not, ◌&&◌, ◌||◌, ◌⊎◌, List, [], ◌++◌, filter, length, take, codes, decimal, if◌then◌else◌, Option, Some, None, MatchOption, string_bytes, flat_map}
+use Rattle.std.specs.List.{AllZip, concat, list_all, list_any}
 use Rattle.std.specs.Str.{is_utf8}
 use Rattle.hex.specs.Hex.{encode_lower}
 use Rattle.hdl_name.specs.Name.{IsHandle}
@@ -10,17 +11,15 @@ use Rattle.hdl_value.specs.Refs.{admin_read, list_read}
 use Rattle.hdl_value.specs.Permission.{mask_permits}
 use Rattle.hdl_value.specs.declared.permission.AdminPermission.{AdminPermission}
 use Rattle.hdl_value.specs.declared.permission.AdminPermission.TheVariants as may
-use Rattle.hdl_proxy.specs.declared.pages.TheConstants.{ANOTHER, COLUMNS, END, NO_VALUES}
-use Rattle.hdl_proxy.specs.declared.words.KeptFor.{KeptFor}
-use Rattle.hdl_proxy.specs.declared.words.KeptFor.TheVariants.{Seconds, Until}
-use Rattle.hdl_proxy.specs.Choice.{is_of}
+use Rattle.hdl_proxy.specs.declared.pages.TheConstants.{ANOTHER, COLUMNS, COLUMNS_OF_TYPES, END, NO_VALUES}
+use Rattle.hdl_proxy.specs.Choice.{is_of, is_url}
 use Rattle.hdl_proxy.specs.Escape.{escaped}
-use Rattle.hdl_proxy.specs.Link.{address_of, path_to_values}
+use Rattle.hdl_proxy.specs.Link.{address_of, path_to_json, path_to_values}
 use Rattle.hdl_proxy.specs.Note.{note_part}
 use Rattle.hdl_proxy.specs.declared.note.Note.{Note}
 use Rattle.hdl_proxy.specs.Status.{advice}
 use Rattle.hdl_proxy.specs.Url.{IsFollowed}
-use Rattle.hdl_proxy.specs.Words.{span_words, IsKeptFor, IsWritten}
+use Rattle.hdl_proxy.specs.Words.{IsWritten, day_of}
 use Rattle.hdl_proxy.specs.declared.codes.TheConstants.{HANDLE_NOT_FOUND, INVALID_HANDLE, OPERATION_DENIED, SERVICE_REFERRAL, TOO_FAR, VALUE_NOT_FOUND}
 
 -- ---- pieces of a page
@@ -29,13 +28,24 @@ use Rattle.hdl_proxy.specs.declared.codes.TheConstants.{HANDLE_NOT_FOUND, INVALI
 abbrev pub element : List ℕ → List ℕ → List ℕ → List ℕ
 element front text back = front ++ (escaped text ++ back)
 
--- the top of a page's main part: its heading
+-- the top of a page's main part: its heading, which is what the page says, or the name of the handle that it is about
 unfoldable pub top : List ℕ → List ℕ
 top heading = element (codes "<h1>") heading (codes "</h1>\n")
 
+unfoldable pub name_top : List ℕ → List ℕ
+name_top name = element (codes "<h1 dir=\"auto\">") name (codes "</h1>\n")
+
+-- the name of a handle below what is said of it
+abbrev pub name_part : List ℕ → List ℕ
+name_part name = element (codes "<p class=\"name\" dir=\"auto\">") name (codes "</p>\n")
+
 -- a handle's name, which leads to the page of its own values
 unfoldable pub handle_link : List ℕ → List ℕ
-handle_link name = codes "<a href=\"" ++ (escaped (path_to_values name) ++ element (codes "\">") name (codes "</a>"))
+handle_link name = codes "<a href=\"" ++ (escaped (path_to_values name) ++ element (codes "\"><bdi>") name (codes "</bdi></a>"))
+
+-- a link to the same values as JSON
+unfoldable pub json_part : List ℕ → List ℕ
+json_part name = codes "<p><small><a href=\"" ++ (escaped (path_to_json name) ++ codes "\">For programs: these values as JSON</a></small></p>\n")
 
 -- ---- the data of a value
 
@@ -63,15 +73,15 @@ unfoldable pub permissions_part : ℕ → List ℕ
 permissions_part mask =
     codes "<ul class=\"may\">" ++ (handle_permissions mask ++ (value_permissions mask ++ (admin_permissions mask ++ codes "</ul>\n")))
 
--- an administrator: its key, and what it may do
+-- an administrator, folded: its key, and what it may do
 unfoldable pub admin_part : ℕ × RawRef → List ℕ
 admin_part x =
-    codes "<p>The holder of the key <span class=\"data\">" ++ (escaped (decimal x.1.index) ++ (codes ":" ++ (escaped x.1.handle
-    ++ (codes "</span> may</p>\n" ++ permissions_part x.0))))
+    codes "<details><summary>Who may change this handle</summary>\n<p>The holder of the key <span class=\"data\">" ++ (escaped (decimal x.1.index) ++ (codes ":<bdi>"
+    ++ (escaped x.1.handle ++ (codes "</bdi></span> may</p>\n" ++ (permissions_part x.0 ++ codes "</details>\n")))))
 
 -- a reference of a list
 unfoldable pub reference_part : RawRef → List ℕ
-reference_part r = codes "<p class=\"data\">" ++ (escaped (decimal r.index) ++ (codes ":" ++ (escaped r.handle ++ codes "</p>\n")))
+reference_part r = codes "<p class=\"data\">" ++ (escaped (decimal r.index) ++ (codes ":<bdi>" ++ (escaped r.handle ++ codes "</bdi></p>\n")))
 
 -- text without control octets but tabs and line ends
 abbrev pub is_plain_octet : ℕ → Bool
@@ -82,17 +92,18 @@ is_plain octets = is_utf8 octets && list_all is_plain_octet octets
 
 -- octets as text where they are plain, and else their number and their hexadecimal digits
 abbrev pub plain_part : List ℕ → List ℕ
-plain_part octets = element (codes "<p class=\"data\">") octets (codes "</p>\n")
+plain_part octets = element (codes "<p class=\"text\" dir=\"auto\">") octets (codes "</p>\n")
 
 unfoldable pub digits_part : List ℕ → List ℕ
-digits_part octets = codes "<p>" ++ (escaped (decimal (length octets)) ++ (codes " octets</p>\n" ++ plain_part (encode_lower octets)))
+digits_part octets =
+    codes "<p>Not text. Length in bytes: " ++ (escaped (decimal (length octets)) ++ (codes "</p>\n" ++ element (codes "<p class=\"data\">") (encode_lower octets) (codes "</p>\n")))
 
 abbrev pub octets_part : List ℕ → List ℕ
 octets_part octets = if is_plain octets then plain_part octets else digits_part octets
 
 -- a link to this address, under this text
 unfoldable pub link_part : List ℕ → List ℕ → List ℕ
-link_part to text = codes "<p class=\"data\"><a rel=\"noreferrer\" href=\"" ++ (escaped to ++ (codes "\">" ++ (escaped text ++ codes "</a></p>\n")))
+link_part to text = codes "<p class=\"data\" dir=\"auto\"><a rel=\"noreferrer\" href=\"" ++ (escaped to ++ (codes "\">" ++ (escaped text ++ codes "</a></p>\n")))
 
 -- octets are a link where they are plain and a URL that is followed, by its address as it stands in a Location, and else they stand as they are
 abbrev pub IsLinked : List ℕ → Type 0
@@ -120,48 +131,87 @@ IsDataPart v part =
     (MatchOption (list_read v) (IsTextPart v part) (λ rs. part ≡ flat_map reference_part rs))
     (λ x. part ≡ admin_part x)
 
--- ---- the times of a value
+-- ---- when a value was written
 
-abbrev pub kept_part : KeptFor → List ℕ
-kept_part (Seconds n) = codes "for " ++ escaped (span_words n)
-kept_part (Until words) = codes "until " ++ escaped (string_bytes words)
+-- the day, and the moment for programs
+unfoldable pub moment_part : List ℕ → List ℕ
+moment_part words =
+    codes "<p class=\"written\">Written <time datetime=\"" ++ (escaped words ++ element (codes "\">") (day_of words) (codes "</time></p>\n"))
 
 -- a timestamp of 0 says nothing
 abbrev pub written_part : ℕ → Option (List ℕ) → List ℕ
 written_part timestamp None = []
-written_part timestamp (Some words) = if timestamp == 0 then [] else codes "<br>written " ++ escaped words
+written_part timestamp (Some words) = if timestamp == 0 then [] else moment_part words
 
-abbrev pub times_part : ℕ → KeptFor → Option (List ℕ) → List ℕ
-times_part timestamp kept written = codes "</td>\n<td>" ++ (kept_part kept ++ (written_part timestamp written ++ codes "</td></tr>\n"))
-
-abbrev pub IsTimesPart : Value → List ℕ → Type 0
-IsTimesPart v part =
-    (kept : KeptFor) × (written : Option (List ℕ)) × IsKeptFor v kept × IsWritten v written × (part ≡ times_part v.timestamp kept written)
+abbrev pub IsWrittenPart : Value → List ℕ → Type 0
+IsWrittenPart v part = (written : Option (List ℕ)) × IsWritten v written × (part ≡ written_part v.timestamp written)
 
 -- ---- a value, and all of them
 
 unfoldable pub heading : Value → List ℕ
-heading v = codes "<tr><th scope=\"row\">" ++ (escaped v.kind ++ (codes " <small>" ++ (escaped (decimal v.index) ++ codes "</small></th>\n<td>")))
+heading v = codes "<tr><th scope=\"row\"><bdi>" ++ (escaped v.kind ++ (codes "</bdi> <small>" ++ (escaped (decimal v.index) ++ codes "</small></th>\n<td>")))
 
 -- what a page says of a value
 abbrev pub IsSection : Value → List ℕ → Type 0
 IsSection v section =
-    (data_part : List ℕ) × (times : List ℕ) × IsDataPart v data_part × IsTimesPart v times × (section ≡ heading v ++ (data_part ++ times))
+    (data_part : List ℕ) × (written : List ℕ) × IsDataPart v data_part × IsWrittenPart v written
+    × (section ≡ heading v ++ (data_part ++ (written ++ codes "</td></tr>\n")))
 
 -- a section for each value, in order; or that there is none
 abbrev pub IsSections : List Value → List ℕ → Type 0
 IsSections values part = (sections : List (List ℕ)) × AllZip IsSection values sections × (part ≡ concat sections)
 
--- a table of them
+-- whether it is put among the URLs, or among the others
+abbrev pub is_put : Bool → Value → Bool
+is_put are_urls v = if are_urls then is_url v else not (is_url v)
+
+-- the row of a value, where it is put
+abbrev pub IsRow : Bool → Value → List ℕ → Type 0
+IsRow put v part = ((put ≡ true) × IsSection v part) ⊎ ((put ≡ false) × (part ≡ []))
+
+-- a table of a few: the URLs, and then the others
+abbrev pub IsFew : List Value → List ℕ → Type 0
+IsFew values part =
+    (urls : List ℕ) × (others : List ℕ) × IsSections (filter (is_put true) values) urls × IsSections (filter (is_put false) values) others
+    × (part ≡ COLUMNS.now ++ (urls ++ (others ++ END.now)))
+
+-- a group: a type, and the rows of all values of it
+unfoldable pub group_head : List ℕ → List ℕ
+group_head kind = element (codes "<tbody>\n<tr class=\"type\"><th colspan=\"2\" scope=\"rowgroup\"><bdi>") kind (codes "</bdi></th></tr>\n")
+
+abbrev pub IsGroup : List Value → List ℕ → List ℕ → Type 0
+IsGroup values kind part =
+    (rows : List ℕ) × IsSections (filter (is_of kind) values) rows × (part ≡ group_head kind ++ (rows ++ codes "</tbody>\n"))
+
+-- the group of a value's type, where it is put and none of these is of this type
+abbrev pub is_head : Bool → List Value → Value → Bool
+is_head are_urls before v = is_put are_urls v && not (list_any (is_of v.kind) before)
+
+abbrev pub IsGroupAt : Bool → List Value → List Value → Value → List ℕ → Type 0
+IsGroupAt are_urls values before v part =
+    ((is_head are_urls before v ≡ true) × IsGroup values v.kind part) ⊎ ((is_head are_urls before v ≡ false) × (part ≡ []))
+
+-- the groups of those that are left, behind these
+abbrev pub IsGroupsFrom : Bool → List Value → List Value → List Value → List ℕ → Type 0
+IsGroupsFrom are_urls values before [] part = part ≡ []
+IsGroupsFrom are_urls values before (v ∷ left) part =
+    (group : List ℕ) × (others : List ℕ) × IsGroupAt are_urls values before v group × IsGroupsFrom are_urls values (before ++ v ∷ []) left others × (part ≡ group ++ others)
+
+-- a table of many, by their types: URLs, and then the others, each type where its first value stands
+abbrev pub IsMany : List Value → List ℕ → Type 0
+IsMany values part =
+    (urls : List ℕ) × (others : List ℕ) × IsGroupsFrom true values [] values urls × IsGroupsFrom false values [] values others
+    × (part ≡ COLUMNS_OF_TYPES.now ++ (urls ++ (others ++ codes "</table>\n")))
+
 abbrev pub IsTable : List Value → List ℕ → Type 0
-IsTable values part = (rows : List ℕ) × IsSections values rows × (part ≡ COLUMNS.now ++ (rows ++ END.now))
+IsTable values part = ((length values < 20) × IsFew values part) ⊎ ((20 ≤ length values) × IsMany values part)
 
 abbrev pub IsValuesPart : List Value → List ℕ → Type 0
 IsValuesPart values part = ((values ≡ []) × (part ≡ NO_VALUES.now)) ⊎ ((0 < length values) × IsTable values part)
 
 -- the page of these values of this handle, and what is wrong
 abbrev pub IsPageOf : List ℕ → Note → List Value → List ℕ → Type 0
-IsPageOf handle note values body = (part : List ℕ) × IsValuesPart values part × (body ≡ top handle ++ (note_part note ++ (part ++ ANOTHER.now)))
+IsPageOf handle note values body = (part : List ℕ) × IsValuesPart values part × (body ≡ name_top handle ++ (note_part note ++ (part ++ (ANOTHER.now ++ json_part handle))))
 
 -- ---- a refusal
 
@@ -184,7 +234,7 @@ advice_part code asked = element (codes "<p>") (advice code asked) (codes "</p>\
 
 -- the page that says why there are no values, and what to do
 unfoldable pub refusal_page : List ℕ → ℕ → List ℕ → List ℕ
-refusal_page asked code why = top asked ++ (element (codes "<p>") why (codes "</p>\n") ++ advice_part code asked)
+refusal_page asked code why = top why ++ (name_part asked ++ advice_part code asked)
 
 -- ---- a way
 

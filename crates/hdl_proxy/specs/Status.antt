@@ -41,7 +41,7 @@ refused_words code =
     if code == HANDLE_NOT_FOUND then codes "This handle isn't there."
     else if code == INVALID_HANDLE then codes "The server says that this is no handle."
     else if code == VALUE_NOT_FOUND then codes "This handle exists, but it has no such public value."
-    else if code == SERVICE_REFERRAL then codes "None of the servers that were asked hosts this prefix."
+    else if code == SERVICE_REFERRAL then codes "No server here has handles with this beginning."
     else if code == SERVER_BUSY then codes "The server is busy."
     else codes "The server couldn't answer."
 

@@ -1,5 +1,5 @@
 -- The numbers of a value in words, and octets as text.
-use Rattle.std.specs.Prelude.{◌≡◌, ◌≢◌, ◌==◌, codes, decimal, ℕ, ◌+◌, ◌*◌, ◌/◌, ◌%◌, ℤ, pos, List, [], ◌∷◌, ◌++◌, drop, slice_index, if◌then◌else◌, Option, Some, None, string_bytes}
+use Rattle.std.specs.Prelude.{◌≡◌, ◌≢◌, ◌==◌, codes, decimal, ℕ, ◌+◌, ◌*◌, ◌/◌, ◌%◌, ℤ, pos, List, [], ◌∷◌, ◌++◌, drop, slice_index, take, if◌then◌else◌, Option, Some, None, string_bytes}
 use Rattle.std.specs.Int.{w32, from_be_bytes}
 use Rattle.std.specs.Str.{is_utf8}
 use Rattle.hex.specs.Hex.{encode_lower}
@@ -50,6 +50,10 @@ abbrev pub IsWritten : Value → Option (List ℕ) → Type 0
 IsWritten v None = ¬ IsTimestampNanos (written_at v)
 IsWritten v (Some words) = IsMomentText (written_at v) words
 
+-- the day of a moment in RFC 3339: its first ten octets
+abbrev pub day_of : List ℕ → List ℕ
+day_of words = take 10 words
+
 -- how long a value may be kept (RFC 3651, section 3.1): kind 1 of TTL is a moment in seconds, every other kind counts seconds
 abbrev pub ttl_kind : Value → ℕ
 ttl_kind v = slice_index v.ttl 0
@@ -60,17 +64,3 @@ ttl_seconds v = from_be_bytes w32 (drop 1 v.ttl)
 abbrev pub IsKeptFor : Value → KeptFor → Type 0
 IsKeptFor v (Seconds n) = (ttl_kind v ≢ 1) × (n ≡ ttl_seconds v)
 IsKeptFor v (Until words) = (ttl_kind v ≡ 1) × IsMomentText (pos (ttl_seconds v * 1_000_000_000)) (string_bytes words)
-
--- ---- spans
-
--- so many of a unit
-abbrev pub count_phrase : ℕ → List ℕ → List ℕ → List ℕ
-count_phrase n one many = if n == 1 then one else decimal n ++ many
-
--- so many seconds, by the largest unit of which they are some
-abbrev pub span_words : ℕ → List ℕ
-span_words n =
-    if n % 86_400 == 0 then count_phrase (n / 86_400) (codes "a day") (codes " days")
-    else if n % 3_600 == 0 then count_phrase (n / 3_600) (codes "an hour") (codes " hours")
-    else if n % 60 == 0 then count_phrase (n / 60) (codes "a minute") (codes " minutes")
-    else count_phrase n (codes "a second") (codes " seconds")

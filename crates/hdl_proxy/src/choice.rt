@@ -1,7 +1,7 @@
 //! Which values are shown, and which one leads on.
 
 ghost use Rattle.std.specs.Prelude.{◌≡◌, codes, option_copied};
-ghost use Rattle.hdl_proxy.specs.Choice.{is_shown, is_of, is_chosen, comes_first, IsFirstOf, IsFirstUrl};
+ghost use Rattle.hdl_proxy.specs.Choice.{is_shown, is_of, is_url, is_chosen, comes_first, IsFirstOf, IsFirstUrl};
 
 use hdl_value::{Permission, Value};
 
@@ -22,10 +22,17 @@ pub fn is_shown(value: &Value) -> bool
 }
 
 /// Whether a value is of this type.
-fn is_of(kind: &[u8], value: &Value) -> bool
+pub(crate) fn is_of(kind: &[u8], value: &Value) -> bool
     ensures { result ≡ is_of kind.now value.now }
 {
     value.kind.as_slice() == kind
+}
+
+/// Whether a value is a URL, by its type.
+pub(crate) fn is_url(value: &Value) -> bool
+    ensures { result ≡ is_url value.now }
+{
+    is_of(URL, value)
 }
 
 /// Whether a value names another handle, by its type.

@@ -8,18 +8,18 @@ ghost use Rattle.hdl_proxy.specs.Pages.{refusal_title};
 use crate::answer::{Answer, Keeping, Media, Status};
 use crate::codes::TOO_FAR;
 use crate::page::Page;
-use crate::pages::{page_answer, put_advice, refusal_title};
+use crate::pages::{page_answer, put_advice, put_name, refusal_title};
 use hdl_name::Name;
 use std::alloc::{AllocError, Global};
 
-/// Adds which handle was asked for, whose alias led to the handle below.
+/// Adds which handle was asked for, whose alias led to the handle of this page.
 #[tactic(auto, unfolding(crate::specs::Hops::alias_part))]
 pub(crate) fn put_alias(page: &mut Page, asked: &Name) -> Result<(), AllocError>
     ensures { OnOk result (page.new.octets.items ≡ page.old.octets.items ++ alias_part asked.now) }
 {
     page.markup("<p class=\"note\">")?;
     page.handle(asked)?;
-    page.markup(" is an alias, which leads to this handle:</p>\n")
+    page.markup(" is an alias, which leads to another handle:</p>\n")
 }
 
 #[tactic(auto, unfolding(crate::specs::Hops::hop_part))]
@@ -66,7 +66,8 @@ pub(crate) fn nowhere_page(
     ensures body { IfOk result (λ a. a.body.items ≡ nowhere_page handle.now front.now names.now target.now) }
 {
     let title = refusal_title(alloc, handle, TOO_FAR)?;
-    let mut page = Page::new(alloc, handle)?;
+    let mut page = Page::new(alloc, b"This handle leads nowhere.")?;
+    put_name(&mut page, handle)?;
     page.element("<p>", front.as_bytes(), "</p>\n")?;
     put_hops(&mut page, names, target)?;
     put_advice(&mut page, TOO_FAR, handle)?;

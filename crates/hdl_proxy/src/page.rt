@@ -2,7 +2,7 @@
 
 ghost use Rattle.std.specs.Prelude.{◌≡◌, ◌++◌, [], IfOk, OnOk, decimal};
 ghost use Rattle.hdl_proxy.specs.Escape.{escaped};
-ghost use Rattle.hdl_proxy.specs.Pages.{element, handle_link, top};
+ghost use Rattle.hdl_proxy.specs.Pages.{element, handle_link, name_top, top};
 
 use crate::escape::put_escaped;
 use crate::link::Link;
@@ -24,6 +24,16 @@ impl Page {
     {
         let mut page = Page::empty(alloc);
         page.element("<h1>", heading, "</h1>\n")?;
+        Ok(page)
+    }
+
+    /// The main part of a page about this handle, whose name is its heading.
+    #[tactic(auto, unfolding(crate::specs::Pages::name_top))]
+    pub(crate) fn about(alloc: Global, name: &[u8]) -> Result<Page, AllocError>
+        ensures { IfOk result (λ page. page.octets.items ≡ name_top name.now) }
+    {
+        let mut page = Page::empty(alloc);
+        page.element("<h1 dir=\"auto\">", name, "</h1>\n")?;
         Ok(page)
     }
 
@@ -55,7 +65,7 @@ impl Page {
     pub(crate) fn text(&mut self, text: &[u8]) -> Result<(), AllocError>
         ensures { OnOk result (self.new.octets.items ≡ self.old.octets.items ++ escaped text.now) }
     {
-        put_escaped(&mut self.octets, text)
+        put_escaped(&mut self.octets, self.alloc, text)
     }
 
     /// Adds text between this markup.
@@ -88,7 +98,7 @@ impl Page {
         let to = Link::to_values(self.alloc, name)?;
         self.markup("<a href=\"")?;
         self.text(to.octets())?;
-        self.element("\">", name.sent(), "</a>")
+        self.element("\"><bdi>", name.sent(), "</bdi></a>")
     }
 
     /// The octets so far.

@@ -1,12 +1,15 @@
 //! The pages of the proxy.
 
-ghost use Rattle.std.specs.Prelude.{◌≡◌, ◌++◌, List, ℕ, IfOk, OnOk, option_map, string_bytes};
-ghost use Rattle.hdl_proxy.specs.Pages.{advice_part, heading, refusal_title, lead_word, IsTable, kept_part, written_part, refusal_page, redirect_page, IsTimesPart, IsSection, IsSections, IsValuesPart, IsPageOf};
+ghost use Rattle.std.specs.Prelude.{◌≡◌, ◌≤◌, ◌++◌, List, ℕ, IfOk, OnOk, [], filter, length, option_map, string_bytes, take};
+ghost use Rattle.hdl_proxy.specs.Pages.{advice_part, group_head, heading, is_head, is_put, json_part, moment_part, name_part, refusal_title, lead_word, IsTable, written_part, refusal_page, redirect_page, IsFew, IsGroup, IsGroupAt, IsGroupsFrom, IsMany, IsRow, IsWrittenPart, IsSection, IsSections, IsValuesPart, IsPageOf};
+ghost use Rattle.std.specs.List.{list_any};
+ghost use Rattle.hdl_proxy.specs.Choice.{is_of};
 ghost use Rattle.hdl_proxy.specs.Answer.{IsLocated, LeadsTo, Tells};
 ghost use Rattle.hdl_proxy.specs.Keeping.{IsKeepingOf};
 ghost use Rattle.hdl_proxy.specs.Status.{advice, ends_with_slash, look_again};
 
 use crate::answer::{Answer, Keeping, Media, Status};
+use crate::choice::{is_of, is_url};
 use crate::codes::{
     HANDLE_NOT_FOUND, INVALID_HANDLE, OPERATION_DENIED, SERVICE_REFERRAL, TOO_FAR, VALUE_NOT_FOUND,
 };
@@ -15,19 +18,29 @@ use crate::link::Link;
 use crate::note::Note;
 use crate::page::Page;
 use crate::value_data::put_data;
-use crate::words::{KeptFor, kept_for, span_words, written_words};
+use crate::words::{day_of, written_words};
+use hdl_name::Name;
 use hdl_value::Value;
 use std::alloc::{AllocError, Global};
 
-const NO_VALUES: &str = "<p>This handle exists, but it has no public value.</p>\n";
+const NO_VALUES: &str = "<p>This handle exists, but nothing about it is public.</p>\n";
 
 const ANOTHER: &str = "<p><a href=\"/\">Find another handle</a></p>\n";
 
 /// The head of a table of values.
-const COLUMNS: &str = "<table>
-<thead><tr><th scope=\"col\">Type, index</th><th scope=\"col\">Value</th><th scope=\"col\">May be kept</th></tr></thead>
+const COLUMNS: &str = "<table aria-label=\"What is known about this handle\">
+<thead><tr><th scope=\"col\">Type, index</th><th scope=\"col\">Value</th></tr></thead>
 <tbody>
 ";
+
+/// The head of a table of many values, which stand by their types.
+const COLUMNS_OF_TYPES: &str =
+    "<table class=\"types\" aria-label=\"What is known about this handle\">
+<thead><tr><th scope=\"col\">Type, index</th><th scope=\"col\">Value</th></tr></thead>
+";
+
+/// From so many values on they stand by their types.
+const MANY: usize = 20;
 
 const END: &str = "</tbody>
 </table>
@@ -106,6 +119,13 @@ pub(crate) fn refusal_title(alloc: Global, asked: &[u8], code: u32) -> Result<Ve
     Ok(title)
 }
 
+/// Adds the name of a handle, below what is said of it.
+pub(crate) fn put_name(page: &mut Page, name: &[u8]) -> Result<(), AllocError>
+    ensures { OnOk result (page.new.octets.items ≡ page.old.octets.items ++ name_part name.now) }
+{
+    page.element("<p class=\"name\" dir=\"auto\">", name, "</p>\n")
+}
+
 /// What to do, and the way to another handle.
 #[tactic(auto, unfolding(crate::specs::Pages::advice_part))]
 pub(crate) fn put_advice(page: &mut Page, code: u32, asked: &[u8]) -> Result<(), AllocError>
@@ -115,7 +135,7 @@ pub(crate) fn put_advice(page: &mut Page, code: u32, asked: &[u8]) -> Result<(),
     page.markup(ANOTHER)
 }
 
-/// A page that says why there are no values: what was asked, why not, and what to do.
+/// A page that says why there are no values: why not, what was asked, and what to do.
 #[tactic(auto, unfolding(crate::specs::Pages::refusal_page))]
 pub(crate) fn refusal(
     alloc: Global,
@@ -130,8 +150,8 @@ pub(crate) fn refusal(
     ensures body { IfOk result (λ a. a.body.items ≡ refusal_page asked.now code why.now) }
 {
     let title = refusal_title(alloc, asked, code)?;
-    let mut page = Page::new(alloc, asked)?;
-    page.element("<p>", why.as_bytes(), "</p>\n")?;
+    let mut page = Page::new(alloc, why.as_bytes())?;
+    put_name(&mut page, asked)?;
     put_advice(&mut page, code, asked)?;
     Ok(page_answer(status, Keeping::Never, title, page))
 }
@@ -191,24 +211,22 @@ pub(crate) fn redirect(
     })
 }
 
-fn put_kept(page: &mut Page, kept: KeptFor) -> Result<(), AllocError>
-    ensures { OnOk result (page.new.octets.items ≡ page.old.octets.items ++ kept_part kept) }
+/// The day of a moment, and the moment for programs.
+#[tactic(auto, unfolding(crate::specs::Pages::moment_part))]
+fn put_moment(page: &mut Page, moment: &[u8]) -> Result<(), AllocError>
+    ensures { OnOk result (page.new.octets.items ≡ page.old.octets.items ++ moment_part moment.now) }
 {
-    match kept {
-        KeptFor::Seconds(seconds) => {
-            let words = span_words(page.alloc, seconds)?;
-            page.markup("for ")?;
-            page.text(words.as_bytes())
-        }
-        KeptFor::Until(moment) => {
-            page.markup("until ")?;
-            page.text(moment.as_bytes())
-        }
-    }
+    page.markup("<p class=\"written\">Written <time datetime=\"")?;
+    page.text(moment)?;
+    page.element("\">", day_of(moment), "</time></p>\n")
 }
 
 /// When a value was written. A timestamp of 0 says nothing.
-fn put_written(page: &mut Page, timestamp: u64, written: Option<String>) -> Result<(), AllocError>
+fn put_written_at(
+    page: &mut Page,
+    timestamp: u64,
+    written: Option<String>,
+) -> Result<(), AllocError>
     ensures { OnOk result (page.new.octets.items ≡ page.old.octets.items ++ written_part timestamp (option_map string_bytes written)) }
 {
     let Some(moment) = written else {
@@ -217,28 +235,23 @@ fn put_written(page: &mut Page, timestamp: u64, written: Option<String>) -> Resu
     if timestamp == 0 {
         return Ok(());
     }
-    page.markup("<br>written ")?;
-    page.text(moment.as_bytes())
+    put_moment(page, moment.as_bytes())
 }
 
-fn put_times(page: &mut Page, value: &Value) -> Result<(), AllocError>
-    ensures { OnOk result ((part : List ℕ) × IsTimesPart value.now part × (page.new.octets.items ≡ page.old.octets.items ++ part)) }
+fn put_written(page: &mut Page, value: &Value) -> Result<(), AllocError>
+    ensures { OnOk result ((part : List ℕ) × IsWrittenPart value.now part × (page.new.octets.items ≡ page.old.octets.items ++ part)) }
 {
-    let kept = kept_for(page.alloc, value)?;
     let written = written_words(page.alloc, value)?;
-    page.markup("</td>\n<td>")?;
-    put_kept(page, kept)?;
-    put_written(page, value.timestamp, written)?;
-    page.markup("</td></tr>\n")
+    put_written_at(page, value.timestamp, written)
 }
 
 #[tactic(auto, unfolding(crate::specs::Pages::heading))]
 fn put_heading(page: &mut Page, value: &Value) -> Result<(), AllocError>
     ensures { OnOk result (page.new.octets.items ≡ page.old.octets.items ++ heading value.now) }
 {
-    page.markup("<tr><th scope=\"row\">")?;
+    page.markup("<tr><th scope=\"row\"><bdi>")?;
     page.text(value.kind.as_slice())?;
-    page.markup(" <small>")?;
+    page.markup("</bdi> <small>")?;
     page.number(value.index)?;
     page.markup("</small></th>\n<td>")
 }
@@ -248,24 +261,145 @@ fn put_value(page: &mut Page, value: &Value) -> Result<(), AllocError>
 {
     put_heading(page, value)?;
     put_data(page, value)?;
-    put_times(page, value)
+    put_written(page, value)?;
+    page.markup("</td></tr>\n")
 }
 
-fn put_sections(page: &mut Page, values: &[Value]) -> Result<(), AllocError>
-    ensures { OnOk result ((part : List ℕ) × IsSections values.now part × (page.new.octets.items ≡ page.old.octets.items ++ part)) }
+/// Whether a value is put among the URLs, or among the others.
+fn is_put(are_urls: bool, value: &Value) -> bool
+    ensures { result ≡ is_put are_urls value.now }
 {
-    for value in values {
-        put_value(page, value)?;
+    if are_urls {
+        is_url(value)
+    } else {
+        !is_url(value)
+    }
+}
+
+fn put_row(page: &mut Page, put: bool, value: &Value) -> Result<(), AllocError>
+    ensures { OnOk result ((part : List ℕ) × IsRow put value.now part × (page.new.octets.items ≡ page.old.octets.items ++ part)) }
+{
+    if put {
+        return put_value(page, value);
     }
     Ok(())
+}
+
+/// The rows of those values that are URLs, or of the others.
+fn put_sections(page: &mut Page, are_urls: bool, values: &[Value]) -> Result<(), AllocError>
+    ensures { OnOk result ((part : List ℕ) × IsSections (filter (is_put are_urls) values.now) part × (page.new.octets.items ≡ page.old.octets.items ++ part)) }
+{
+    for value in values {
+        put_row(page, is_put(are_urls, value), value)?;
+    }
+    Ok(())
+}
+
+fn put_few(page: &mut Page, values: &[Value]) -> Result<(), AllocError>
+    ensures { OnOk result ((part : List ℕ) × IsFew values.now part × (page.new.octets.items ≡ page.old.octets.items ++ part)) }
+{
+    page.markup(COLUMNS)?;
+    put_sections(page, true, values)?;
+    put_sections(page, false, values)?;
+    page.markup(END)
+}
+
+/// The rows of the values of this type.
+fn put_of_type(page: &mut Page, kind: &[u8], values: &[Value]) -> Result<(), AllocError>
+    ensures { OnOk result ((part : List ℕ) × IsSections (filter (is_of kind.now) values.now) part × (page.new.octets.items ≡ page.old.octets.items ++ part)) }
+{
+    for value in values {
+        put_row(page, is_of(kind, value), value)?;
+    }
+    Ok(())
+}
+
+#[tactic(auto, unfolding(crate::specs::Pages::group_head))]
+fn put_group_head(page: &mut Page, kind: &[u8]) -> Result<(), AllocError>
+    ensures { OnOk result (page.new.octets.items ≡ page.old.octets.items ++ group_head kind.now) }
+{
+    page.element(
+        "<tbody>\n<tr class=\"type\"><th colspan=\"2\" scope=\"rowgroup\"><bdi>",
+        kind,
+        "</bdi></th></tr>\n",
+    )
+}
+
+/// A type, and its values.
+fn put_group(page: &mut Page, kind: &[u8], values: &[Value]) -> Result<(), AllocError>
+    ensures { OnOk result ((part : List ℕ) × IsGroup values.now kind.now part × (page.new.octets.items ≡ page.old.octets.items ++ part)) }
+{
+    put_group_head(page, kind)?;
+    put_of_type(page, kind, values)?;
+    page.markup("</tbody>\n")
+}
+
+fn has_type(kind: &[u8], values: &[Value]) -> bool
+    ensures { result ≡ list_any (is_of kind.now) values.now }
+{
+    values.iter().any(|value| is_of(kind, value))
+}
+
+/// Whether a value is put, and is the first one of its type.
+fn is_head(are_urls: bool, before: &[Value], value: &Value) -> bool
+    ensures { result ≡ is_head are_urls before.now value.now }
+{
+    is_put(are_urls, value) && !has_type(value.kind.as_slice(), before)
+}
+
+/// The group of a value's type, where the value is its head.
+fn put_group_at(
+    page: &mut Page,
+    are_urls: bool,
+    values: &[Value],
+    before: &[Value],
+    value: &Value,
+) -> Result<(), AllocError>
+    ensures { OnOk result ((part : List ℕ) × IsGroupAt are_urls values.now before.now value.now part × (page.new.octets.items ≡ page.old.octets.items ++ part)) }
+{
+    if is_head(are_urls, before, value) {
+        return put_group(page, value.kind.as_slice(), values);
+    }
+    Ok(())
+}
+
+fn values_before(values: &[Value], place: usize) -> &[Value]
+    requires { place ≤ length values.now }
+    ensures { result.now ≡ take place values.now }
+{
+    &values[..place]
+}
+
+/// The groups of those values that are URLs, or of the others.
+fn put_groups(page: &mut Page, are_urls: bool, values: &[Value]) -> Result<(), AllocError>
+    ensures { OnOk result ((part : List ℕ) × IsGroupsFrom are_urls values.now [] values.now part × (page.new.octets.items ≡ page.old.octets.items ++ part)) }
+{
+    let mut place = 0;
+    for value in values {
+        let before = values_before(values, place);
+        put_group_at(page, are_urls, values, before, value)?;
+        place += 1;
+    }
+    Ok(())
+}
+
+fn put_many(page: &mut Page, values: &[Value]) -> Result<(), AllocError>
+    ensures { OnOk result ((part : List ℕ) × IsMany values.now part × (page.new.octets.items ≡ page.old.octets.items ++ part)) }
+{
+    page.markup(COLUMNS_OF_TYPES)?;
+    put_groups(page, true, values)?;
+    put_groups(page, false, values)?;
+    page.markup("</table>\n")
 }
 
 fn put_table(page: &mut Page, values: &[Value]) -> Result<(), AllocError>
     ensures { OnOk result ((part : List ℕ) × IsTable values.now part × (page.new.octets.items ≡ page.old.octets.items ++ part)) }
 {
-    page.markup(COLUMNS)?;
-    put_sections(page, values)?;
-    page.markup(END)
+    if values.len() < MANY {
+        put_few(page, values)
+    } else {
+        put_many(page, values)
+    }
 }
 
 fn put_values(page: &mut Page, values: &[Value]) -> Result<(), AllocError>
@@ -277,22 +411,33 @@ fn put_values(page: &mut Page, values: &[Value]) -> Result<(), AllocError>
     put_table(page, values)
 }
 
-/// The values of a handle, and what is wrong.
+#[tactic(auto, unfolding(crate::specs::Pages::json_part))]
+fn put_json_link(page: &mut Page, name: &Name) -> Result<(), AllocError>
+    ensures { OnOk result (page.new.octets.items ≡ page.old.octets.items ++ json_part name.now) }
+{
+    let to = Link::to_json(page.alloc, name)?;
+    page.markup("<p><small><a href=\"")?;
+    page.text(to.octets())?;
+    page.markup("\">For programs: these values as JSON</a></small></p>\n")
+}
+
+/// The values of a handle, and why they are shown where its address leads nowhere.
 pub(crate) fn values_page(
     alloc: Global,
-    handle: &[u8],
+    name: &Name,
     note: Note,
     values: &[Value],
 ) -> Result<Answer, AllocError>
     ensures told { IfOk result (Tells Status.Success Media.Page) }
     ensures kept { IfOk result (λ a. IsKeepingOf values.now a.keeping) }
-    ensures title { IfOk result (λ a. a.title.items ≡ handle.now) }
-    ensures body { IfOk result (λ a. IsPageOf handle.now note values.now a.body.items) }
+    ensures title { IfOk result (λ a. a.title.items ≡ name.now) }
+    ensures body { IfOk result (λ a. IsPageOf name.now note values.now a.body.items) }
 {
-    let title = Vec::from_slice(alloc, handle)?;
-    let mut page = Page::new(alloc, handle)?;
+    let title = Vec::from_slice(alloc, name.sent())?;
+    let mut page = Page::about(alloc, name.sent())?;
     page.markup(note.markup())?;
     put_values(&mut page, values)?;
     page.markup(ANOTHER)?;
+    put_json_link(&mut page, name)?;
     Ok(page_answer(Status::Success, keeping_of(values), title, page))
 }

@@ -25,7 +25,7 @@ use crate::resolver::NoAnswer;
 use crate::way::{Way, Wish, way_from};
 use crate::{files, json, pages};
 use hdl_msg::ResponseCode;
-use hdl_name::NameFault;
+use hdl_name::{Name, NameFault};
 use hdl_value::Value;
 use std::alloc::{AllocError, Global};
 
@@ -341,40 +341,40 @@ fn refused_words(code: u32) -> &'static str
         HANDLE_NOT_FOUND => "This handle isn't there.",
         INVALID_HANDLE => "The server says that this is no handle.",
         VALUE_NOT_FOUND => "This handle exists, but it has no such public value.",
-        SERVICE_REFERRAL => "None of the servers that were asked hosts this prefix.",
+        SERVICE_REFERRAL => "No server here has handles with this beginning.",
         SERVER_BUSY => "The server is busy.",
         _ => "The server couldn't answer.",
     }
 }
 
 /// The way, or where there is none the values and what is wrong.
-fn go(alloc: Global, handle: &[u8], way: Way, values: &[Value]) -> Result<Answer, AllocError>
-    ensures { IfOk result (Goes handle.now values.now way.to way.wrong) }
+fn go(alloc: Global, name: &Name, way: Way, values: &[Value]) -> Result<Answer, AllocError>
+    ensures { IfOk result (Goes name.now values.now way.to way.wrong) }
 {
     let Way { to, wrong } = way;
     match to {
-        Some(link) => pages::redirect(alloc, handle, link, keeping_of(values)),
-        None => pages::values_page(alloc, handle, wrong, values),
+        Some(link) => pages::redirect(alloc, name.sent(), link, keeping_of(values)),
+        None => pages::values_page(alloc, name, wrong, values),
     }
 }
 
 fn answer_values(
     alloc: Global,
-    handle: &[u8],
+    name: &Name,
     form: Form,
     wish: &Wish<'_>,
     values: &[Value],
 ) -> Result<Answer, AllocError>
-    ensures { IfOk result (ShowsValues form handle.now wish.now.append.now wish.now.locatt.now values.now) }
+    ensures { IfOk result (ShowsValues form name.now wish.now.append.now wish.now.locatt.now values.now) }
 {
     match form {
         Form::Follow => {
             let way = way_from(alloc, values, wish)?;
-            go(alloc, handle, way, values)
+            go(alloc, name, way, values)
         }
-        Form::Page => pages::values_page(alloc, handle, Note::Nothing, values),
-        Form::Json => json::values_answer(alloc, handle, values, keeping_of(values)),
-        Form::Pretty => json::pretty_answer(alloc, handle, values, keeping_of(values)),
+        Form::Page => pages::values_page(alloc, name, Note::Nothing, values),
+        Form::Json => json::values_answer(alloc, name.sent(), values, keeping_of(values)),
+        Form::Pretty => json::pretty_answer(alloc, name.sent(), values, keeping_of(values)),
     }
 }
 
@@ -413,7 +413,7 @@ pub(crate) fn answer_found(
                 locatt: &question.locatt,
                 chance,
             };
-            answer_values(alloc, handle, form, &wish, values)
+            answer_values(alloc, &question.name, form, &wish, values)
         }
         Found::Refused(code) => {
             let status = Status::of_code(*code);

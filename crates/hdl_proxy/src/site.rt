@@ -26,18 +26,25 @@ header, main, footer { max-width: 60rem; margin: 0 auto; padding: 1rem 1.25rem }
 header { padding-bottom: 0; font-weight: 600 }
 header a { color: inherit; text-decoration: none }
 footer { color: var(--soft); font-size: .9rem }
+header a, footer a { display: inline-block; padding: .2rem 0 }
 a { color: var(--jade) }
 :focus-visible { outline: 3px solid var(--jade); outline-offset: 2px }
 h1 { font-size: 1.5rem; line-height: 1.25; margin: .75rem 0 1rem; overflow-wrap: anywhere }
+.name { font-size: 1.125rem; font-weight: 600; overflow-wrap: anywhere }
 p { max-width: 44rem; margin: 0 0 .75rem }
 small { font-size: .875rem; font-weight: normal; color: var(--soft) }
 table { width: 100%; margin: 0 0 1.5rem; border-collapse: collapse; border-top: 1px solid var(--line) }
 th, td { padding: .55rem 1rem .55rem 0; border-bottom: 1px solid var(--line); text-align: left; vertical-align: top; overflow-wrap: anywhere }
 thead th { font-size: .875rem; font-weight: normal; color: var(--soft) }
 th:first-child { width: 10rem }
-td:last-child, thead th:last-child { width: 13rem; padding-right: 0; font-size: .875rem; color: var(--soft) }
-td p, td ul { max-width: none; margin: 0 }
-.data { font-family: ui-monospace, monospace; font-size: .95em; white-space: pre-wrap; overflow-wrap: anywhere }
+td, thead th:last-child { padding-right: 0 }
+.types .type th { padding-top: 1.1rem; font-size: 1.0625rem }
+.types th[scope=row] bdi { display: none }
+td p, td ul { max-width: none; margin: 0; text-align: start }
+.data, .text { white-space: pre-wrap; overflow-wrap: anywhere }
+.data { font-family: ui-monospace, monospace; font-size: .95em }
+.written { font-size: .875rem; color: var(--soft) }
+summary { width: fit-content; padding: .1rem 0; cursor: pointer; color: var(--jade) }
 .may { padding: 0; list-style: none; font-size: .875rem; color: var(--soft) }
 .may li { display: inline }
 .may li + li::before { content: \", \" }
@@ -52,11 +59,15 @@ input { flex: 1 1 16rem }
 button { border-color: var(--jade); color: var(--paper); background: var(--jade) }
 @media (max-width: 40rem) {
 thead { position: absolute; width: 1px; height: 1px; overflow: hidden; clip-path: inset(50%) }
-tbody tr { display: grid; grid-template-columns: 1fr auto; padding: .6rem 0; border-bottom: 1px solid var(--line) }
-tbody th:first-child, tbody td, tbody td:last-child { width: auto; padding: 0; border: 0 }
-tbody td { grid-column: 1 / 3; grid-row: 2 }
-tbody td:last-child { grid-column: 2; grid-row: 1; text-align: right }
-td:last-child::before { content: \"kept \" }
+tbody tr { display: block; padding: .6rem 0; border-bottom: 1px solid var(--line) }
+tbody th:first-child, tbody td { display: block; width: auto; padding: 0; border: 0 }
+.types tr:has(td) { display: flex; gap: .75rem }
+.types th[scope=row] { flex: 0 0 2rem }
+}
+@media print {
+:root { color-scheme: light; --ink: #000; --soft: #333; --line: #999; --paper: #fff; --jade: #000 }
+body { border-top: 0 }
+tr { break-inside: avoid }
 }
 </style>
 </head>

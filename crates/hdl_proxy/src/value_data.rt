@@ -140,12 +140,15 @@ fn put_permissions(page: &mut Page, mask: AdminMask) -> Result<(), AllocError>
 fn put_admin(page: &mut Page, mask: AdminMask, key: &Reference) -> Result<(), AllocError>
     ensures { OnOk result (page.new.octets.items ≡ page.old.octets.items ++ admin_part (mask.0, raw key.now)) }
 {
-    page.markup("<p>The holder of the key <span class=\"data\">")?;
+    page.markup(
+        "<details><summary>Who may change this handle</summary>\n<p>The holder of the key <span class=\"data\">",
+    )?;
     page.number(key.index)?;
-    page.markup(":")?;
+    page.markup(":<bdi>")?;
     page.text(key.name.sent())?;
-    page.markup("</span> may</p>\n")?;
-    put_permissions(page, mask)
+    page.markup("</bdi></span> may</p>\n")?;
+    put_permissions(page, mask)?;
+    page.markup("</details>\n")
 }
 
 #[tactic(auto, unfolding(crate::specs::Pages::reference_part))]
@@ -154,9 +157,9 @@ fn put_reference(page: &mut Page, reference: &Reference) -> Result<(), AllocErro
 {
     page.markup("<p class=\"data\">")?;
     page.number(reference.index)?;
-    page.markup(":")?;
+    page.markup(":<bdi>")?;
     page.text(reference.name.sent())?;
-    page.markup("</p>\n")
+    page.markup("</bdi></p>\n")
 }
 
 fn put_list(page: &mut Page, references: &[Reference]) -> Result<(), AllocError>
@@ -172,7 +175,7 @@ fn put_list(page: &mut Page, references: &[Reference]) -> Result<(), AllocError>
 fn put_link(page: &mut Page, to: &Link, text: &[u8]) -> Result<(), AllocError>
     ensures { OnOk result (page.new.octets.items ≡ page.old.octets.items ++ link_part to.now text.now) }
 {
-    page.markup("<p class=\"data\"><a rel=\"noreferrer\" href=\"")?;
+    page.markup("<p class=\"data\" dir=\"auto\"><a rel=\"noreferrer\" href=\"")?;
     page.text(to.octets())?;
     page.markup("\">")?;
     page.text(text)?;
@@ -185,9 +188,9 @@ fn put_digits(page: &mut Page, octets: &[u8]) -> Result<(), AllocError>
 {
     let digits = hex::encode(page.alloc, octets)?;
     let count = format!(in page.alloc; "{}", octets.len())?;
-    page.markup("<p>")?;
+    page.markup("<p>Not text. Length in bytes: ")?;
     page.text(count.as_bytes())?;
-    page.markup(" octets</p>\n")?;
+    page.markup("</p>\n")?;
     page.element("<p class=\"data\">", digits.as_bytes(), "</p>\n")
 }
 
@@ -199,7 +202,7 @@ fn put_octets(page: &mut Page, octets: &[u8]) -> Result<(), AllocError>
     }
     match Link::of_url(page.alloc, octets)? {
         Some(link) => put_link(page, &link, octets),
-        None => page.element("<p class=\"data\">", octets, "</p>\n"),
+        None => page.element("<p class=\"text\" dir=\"auto\">", octets, "</p>\n"),
     }
 }
 

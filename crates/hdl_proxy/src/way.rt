@@ -30,16 +30,6 @@ pub(crate) struct Wish<'a> {
     pub(crate) chance: u64,
 }
 
-/// The way to the first URL of these values with this appended, where that is one to be followed.
-fn way_of(alloc: Global, values: &[Value], append: &[u8]) -> Result<Option<Link>, AllocError>
-    ensures { IfOk result (IsWayOf values.now append.now) }
-{
-    match first_url(values) {
-        Some(value) => way_beyond(alloc, value.bytes.as_slice(), append),
-        None => Ok(None),
-    }
-}
-
 /// Where a handle's own address leads, and what is wrong where that is nowhere.
 #[derive(Drop)]
 pub(crate) struct Way {
@@ -47,31 +37,30 @@ pub(crate) struct Way {
     pub(crate) wrong: Note,
 }
 
-/// The way to a location with this appended.
-fn way_to(alloc: Global, location: &Location, append: &[u8]) -> Result<Way, AllocError>
-    ensures { IfOk result (λ way. IsWayToMeant (extend location.now.href.items append.now) way.to × (way.wrong ≡ note_of way.to)) }
+/// The way to a URL with this appended, and this note where there is none.
+fn way_or(alloc: Global, url: &[u8], append: &[u8], wrong: Note) -> Result<Way, AllocError>
+    ensures { IfOk result (λ way. IsWayToMeant (extend url.now append.now) way.to × (way.wrong ≡ note_of wrong way.to)) }
 {
-    match way_beyond(alloc, &location.href, append)? {
+    match way_beyond(alloc, url, append)? {
         Some(link) => Ok(Way {
             to: Some(link),
             wrong: Note::Nothing,
         }),
-        None => Ok(Way {
-            to: None,
-            wrong: Note::Unfollowed,
-        }),
+        None => Ok(Way { to: None, wrong }),
     }
 }
 
-/// The way to the first URL of these values, which nothing is wrong with.
+/// The way to the first URL of these values with this appended.
 fn way_to_url(alloc: Global, values: &[Value], append: &[u8]) -> Result<Way, AllocError>
-    ensures { IfOk result (λ way. IsWayOf values.now append.now way.to × (way.wrong ≡ Note.Nothing)) }
+    ensures { IfOk result (λ way. IsWayOf values.now append.now way.to way.wrong) }
 {
-    let to = way_of(alloc, values, append)?;
-    Ok(Way {
-        to,
-        wrong: Note::Nothing,
-    })
+    match first_url(values) {
+        Some(value) => way_or(alloc, value.bytes.as_slice(), append, Note::UrlUnfollowed),
+        None => Ok(Way {
+            to: None,
+            wrong: Note::NoUrl,
+        }),
+    }
 }
 
 /// The way to one of these locations; the way to a URL where none of them is chosen.
@@ -84,7 +73,7 @@ fn way_among(
     ensures { IfOk result (λ way. IsWayAmong locations.now values.now wish.now.append.now way.to way.wrong) }
 {
     match choose(locations, wish.chance) {
-        Some(location) => way_to(alloc, location, wish.append),
+        Some(location) => way_or(alloc, &location.href, wish.append, Note::Unfollowed),
         None => way_to_url(alloc, values, wish.append),
     }
 }

@@ -2,7 +2,7 @@
 
 ghost use Rattle.std.specs.Prelude.{◌≡◌, ◌+◌, ◌<◌, ◌++◌, IfOk, OnOk, option_map, string_bytes};
 ghost use Rattle.hdl_value.specs.Permission.{bits};
-ghost use Rattle.hdl_proxy.specs.Words.{count_phrase, span_words, permission_digits, value_digits, usual_permissions, IsMomentText, IsKeptFor, IsWritten};
+ghost use Rattle.hdl_proxy.specs.Words.{day_of, permission_digits, value_digits, usual_permissions, IsMomentText, IsKeptFor, IsWritten};
 
 use hdl_value::{AdminMask, HS_SECKEY, Value};
 use jiff_core::Timestamp;
@@ -86,6 +86,16 @@ pub(crate) fn written_words(alloc: Global, value: &Value) -> Result<Option<Strin
     }
 }
 
+/// The day of a moment in RFC 3339.
+pub(crate) fn day_of(moment: &[u8]) -> &[u8]
+    ensures { result.now ≡ day_of moment.now }
+{
+    match moment.split_at_checked(10) {
+        Some((day, _)) => day,
+        None => moment,
+    }
+}
+
 /// How long a value may be kept (RFC 3651, section 3.1): for a number of seconds, or until a moment.
 #[derive(Drop)]
 pub enum KeptFor {
@@ -106,32 +116,4 @@ pub(crate) fn kept_for(alloc: Global, value: &Value) -> Result<KeptFor, AllocErr
         unreachable!()
     };
     Ok(KeptFor::Until(moment_words(alloc, moment)?))
-}
-
-/// The number and the unit, in words.
-fn count_phrase(alloc: Global, number: u32, one: &str, many: &str) -> Result<String, AllocError>
-    ensures { IfOk result (λ words. string_bytes words ≡ count_phrase number one.now many.now) }
-{
-    if number == 1 {
-        return String::from_str(alloc, one);
-    }
-    let mut words = format!(in alloc; "{number}")?;
-    words.push_str(many)?;
-    Ok(words)
-}
-
-/// The number of seconds in words, by the largest unit of which it is a multiple.
-pub(crate) fn span_words(alloc: Global, seconds: u32) -> Result<String, AllocError>
-    ensures { IfOk result (λ words. string_bytes words ≡ span_words seconds) }
-{
-    if seconds % 86_400 == 0 {
-        return count_phrase(alloc, seconds / 86_400, "a day", " days");
-    }
-    if seconds % 3_600 == 0 {
-        return count_phrase(alloc, seconds / 3_600, "an hour", " hours");
-    }
-    if seconds % 60 == 0 {
-        return count_phrase(alloc, seconds / 60, "a minute", " minutes");
-    }
-    count_phrase(alloc, seconds, "a second", " seconds")
 }

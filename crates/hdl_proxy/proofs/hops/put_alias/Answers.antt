@@ -10,7 +10,7 @@ unfolding alias_part
 returns c =
     on_ok_weaker c.markup-2.result (λ put.
     three c.args.page.now.octets.items _ _ _
-    (codes "<p class=\"note\">") (handle_link c.args.asked.now) (codes " is an alias, which leads to this handle:</p>\n")
+    (codes "<p class=\"note\">") (handle_link c.args.asked.now) (codes " is an alias, which leads to another handle:</p>\n")
     c.in_ok-markup.ensures
     c.in_ok-handle.ensures
     put)

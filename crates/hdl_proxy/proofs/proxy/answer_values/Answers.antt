@@ -1,4 +1,4 @@
-use Rattle.std.proofs.Common.{sym, subst}
+use Rattle.std.proofs.Common.{ℕ, List, sym, subst}
 use Rattle.std.specs.Prelude.{IfOk}
 use Rattle.hdl_proxy.specs.Answer.{IsPage, IsJson, IsPretty, ShowsValues}
 use Rattle.hdl_proxy.specs.Keeping.{IsKeepingOf}
@@ -8,7 +8,7 @@ use Rattle.hdl_proxy.proofs.proxy.answer_values.Goals as goal
 
 pub returns-in-Page : goal.returns-in-Page
 returns-in-Page c =
-    let handle = c.args.handle.now in
+    let handle = c.args.name.now in
     let values = c.args.values.now in
     let said = c.values_page.ensures in
     let page : IfOk c.values_page.result (IsPage handle Nothing values) = made_so c.values_page.result _ _ _ _ _ (λ a told kept title body. record { told = told; kept = kept; title = title; body = body }) said.told said.kept said.title said.body in
@@ -16,18 +16,20 @@ returns-in-Page c =
 
 pub returns-in-Json : goal.returns-in-Json
 returns-in-Json c =
-    let handle = c.args.handle.now in
+    let handle = c.args.name.now in
     let values = c.args.values.now in
     let said = c.values_answer.ensures in
-    let json : IfOk c.values_answer.result (IsJson handle values) =
+    let json : IfOk c.values_answer.result (IsJson c.sent.result.now values) =
     made_of c.values_answer.result _ _ _ _ (λ a told kept body. record { told = told; kept = subst (IsKeepingOf values) (sym kept) c.keeping_of.ensures; body = body }) said.told said.kept said.body in
-    subst (λ form. IfOk c.values_answer.result (ShowsValues form handle c.args.wish.now.append.now c.args.wish.now.locatt.now values)) (sym c.in-Json.is) json
+    let named = subst (λ (h : List ℕ). IfOk c.values_answer.result (IsJson h values)) c.sent.ensures.octets json in
+    subst (λ form. IfOk c.values_answer.result (ShowsValues form handle c.args.wish.now.append.now c.args.wish.now.locatt.now values)) (sym c.in-Json.is) named
 
 pub returns-in-Pretty : goal.returns-in-Pretty
 returns-in-Pretty c =
-    let handle = c.args.handle.now in
+    let handle = c.args.name.now in
     let values = c.args.values.now in
     let said = c.pretty_answer.ensures in
-    let pretty : IfOk c.pretty_answer.result (IsPretty handle values) =
+    let pretty : IfOk c.pretty_answer.result (IsPretty c.sent-in-Pretty.result.now values) =
     made_of c.pretty_answer.result _ _ _ _ (λ a told kept body. record { told = told; kept = subst (IsKeepingOf values) (sym kept) c.keeping_of-in-Pretty.ensures; body = body }) said.told said.kept said.body in
-    subst (λ form. IfOk c.pretty_answer.result (ShowsValues form handle c.args.wish.now.append.now c.args.wish.now.locatt.now values)) (sym c.in-Pretty.is) pretty
+    let named = subst (λ (h : List ℕ). IfOk c.pretty_answer.result (IsPretty h values)) c.sent-in-Pretty.ensures.octets pretty in
+    subst (λ form. IfOk c.pretty_answer.result (ShowsValues form handle c.args.wish.now.append.now c.args.wish.now.locatt.now values)) (sym c.in-Pretty.is) named

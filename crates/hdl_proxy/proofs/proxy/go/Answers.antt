@@ -1,4 +1,4 @@
-use Rattle.std.proofs.Common.{sym, subst}
+use Rattle.std.proofs.Common.{ℕ, List, sym, subst}
 use Rattle.std.specs.Prelude.{IfOk}
 use Rattle.hdl_proxy.specs.Answer.{Goes, IsPage, LeadsBy}
 use Rattle.hdl_proxy.specs.Keeping.{IsKeepingOf}
@@ -7,16 +7,17 @@ use Rattle.hdl_proxy.proofs.proxy.go.Goals as goal
 
 pub returns-in-Some : goal.returns-in-Some
 returns-in-Some c =
-    let handle = c.args.handle.now in
+    let handle = c.args.name.now in
     let values = c.args.values.now in
     let to = c.in-Some.link in
-    let leads : IfOk c.redirect.result (LeadsBy handle values to) =
+    let leads : IfOk c.redirect.result (LeadsBy c.sent.result.now values to) =
     made c.redirect.result _ _ _ (λ a leads kept. record { leads = leads; kept = subst (IsKeepingOf values) (sym kept) c.keeping_of.ensures }) c.redirect.ensures.leads c.redirect.ensures.kept in
-    subst (λ way. IfOk c.redirect.result (Goes handle values way c.args.way.wrong)) (sym c.in-Some.is) leads
+    let named = subst (λ (h : List ℕ). IfOk c.redirect.result (LeadsBy h values to)) c.sent.ensures.octets leads in
+    subst (λ way. IfOk c.redirect.result (Goes handle values way c.args.way.wrong)) (sym c.in-Some.is) named
 
 pub returns-in-None : goal.returns-in-None
 returns-in-None c =
-    let handle = c.args.handle.now in
+    let handle = c.args.name.now in
     let values = c.args.values.now in
     let said = c.values_page.ensures in
     let page : IfOk c.values_page.result (IsPage handle c.args.way.wrong values) = made_so c.values_page.result _ _ _ _ _ (λ a told kept title body. record { told = told; kept = kept; title = title; body = body }) said.told said.kept said.title said.body in

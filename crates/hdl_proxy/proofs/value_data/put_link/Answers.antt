@@ -11,7 +11,7 @@ returns c =
     let to = c.args.to.now in
     on_ok_weaker c.markup-3.result (λ put.
     five c.args.page.now.octets.items _ _ _ _ _
-    (codes "<p class=\"data\"><a rel=\"noreferrer\" href=\"") (escaped to) (codes "\">") (escaped c.args.text.now) (codes "</a></p>\n")
+    (codes "<p class=\"data\" dir=\"auto\"><a rel=\"noreferrer\" href=\"") (escaped to) (codes "\">") (escaped c.args.text.now) (codes "</a></p>\n")
     c.in_ok-markup.ensures
     (said c.markup.new.self.octets.items _ c.octets.result.now to c.in_ok-text.ensures c.octets.ensures.octets)
     c.in_ok-markup-2.ensures

@@ -11,7 +11,7 @@ returns c =
     let reference = c.args.reference.now in
     on_ok_weaker c.markup-3.result (λ put.
     five c.args.page.now.octets.items _ _ _ _ _
-    (codes "<p class=\"data\">") (escaped (decimal reference.index)) (codes ":") (escaped reference.name) (codes "</p>\n")
+    (codes "<p class=\"data\">") (escaped (decimal reference.index)) (codes ":<bdi>") (escaped reference.name) (codes "</bdi></p>\n")
     c.in_ok-markup.ensures
     c.in_ok-number.ensures
     c.in_ok-markup-2.ensures

@@ -1,4 +1,4 @@
-use Rattle.std.proofs.Common.{ℕ, List, ◌++◌, inr, ap, ◌∙◌}
+use Rattle.std.proofs.Common.{ℕ, List, ◌++◌, inl, inr, ap, ◌∙◌}
 use Rattle.std.specs.Prelude.{codes}
 use Rattle.hdl_proxy.specs.Link.{path_to}
 use Rattle.hdl_proxy.proofs.link.Link.to_values.Goals as goal
@@ -6,7 +6,7 @@ use Rattle.hdl_proxy.proofs.link.Link.to_values.Goals as goal
 pub invariant_of-result : goal.invariant_of-result
 invariant_of-result c =
     let spelt = c.in_ok-text.ensures.spelt ∙ ap path_to c.sent.ensures.octets in
-    inr (inr (c.args.name.now, (c.sent.ensures.handle, c.in_ok-push_str.ensures.bytes ∙ ap (λ (t : List ℕ). t ++ codes "?noredirect") spelt)))
+    inr (inr (inl (c.args.name.now, (c.sent.ensures.handle, c.in_ok-push_str.ensures.bytes ∙ ap (λ (t : List ℕ). t ++ codes "?noredirect") spelt))))
 
 pub returns : goal.returns
 returns c =

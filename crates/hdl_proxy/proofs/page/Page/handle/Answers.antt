@@ -13,8 +13,8 @@ returns c =
     let name = c.args.name.now in
     on_ok_weaker c.element.result (λ put.
     three c.args.self.now.octets.items _ _ _
-    (codes "<a href=\"") (escaped (path_to_values name)) (element (codes "\">") name (codes "</a>"))
+    (codes "<a href=\"") (escaped (path_to_values name)) (element (codes "\"><bdi>") name (codes "</bdi></a>"))
     c.in_ok-markup.ensures
     (said c.markup.new.self.octets.items _ c.octets.result.now (path_to_values name) c.in_ok-text.ensures (c.octets.ensures.octets ∙ c.in_ok-to.ensures))
-    (put_as c.text.new.self.octets.items _ (codes "\">") c.sent.result.now name (codes "</a>") put c.sent.ensures.octets))
+    (put_as c.text.new.self.octets.items _ (codes "\"><bdi>") c.sent.result.now name (codes "</bdi></a>") put c.sent.ensures.octets))
     c.element.ensures

@@ -1,0 +1,13 @@
+use Rattle.std.proofs.Common.{ℕ, List, ◌++◌, ap, ◌∙◌, append_assoc, arith}
+use Rattle.hdl_proxy.specs.Choice.{is_of}
+use Rattle.hdl_proxy.proofs.Sections.{rows_more}
+use Rattle.hdl_proxy.proofs.pages.put_of_type.Goals as goal
+
+pub loop-value-preserved : goal.loop-value-preserved
+loop-value-preserved c =
+    let done = c.loop-value.invariant in
+    let put = c.in_ok-put_row.ensures in (
+      done.0 ++ put.0,
+      rows_more (is_of c.args.kind.now) c.args.values.now c.loop-value.value-index c.value-item.result c.is_of.result done.0 put.0 (omega arith) c.value-item.is c.is_of.ensures done.1 put.1,
+      put.2 ∙ ap (λ (x : List ℕ). x ++ put.0) done.2 ∙ append_assoc c.args.page.now.octets.items done.0 put.0,
+    )
