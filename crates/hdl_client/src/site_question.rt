@@ -2,6 +2,7 @@
 
 ghost use Rattle.std.specs.Prelude.{IfOk};
 ghost use Rattle.hdl_value.specs.declared.wire.Wire.TheVariants.{HandleNet};
+ghost use Rattle.hdl_client.specs.Exchange.{next_number, Exchanged};
 ghost use Rattle.hdl_client.specs.Reply.{IsReplyTo};
 ghost use Rattle.hdl_client.specs.About.{AnswersRequest};
 ghost use Rattle.hdl_client.specs.declared.site_question.TheConstants.{SITE_QUESTION};
@@ -9,8 +10,8 @@ ghost use Rattle.hdl_client.specs.declared.site_question.TheConstants.{SITE_QUES
 use crate::fault::ClientFault;
 use crate::reply::Reply;
 use crate::session::Session;
+use crate::transport::Transport;
 use hdl_value::Wire;
-use std::io::{Read, Write};
 
 /// A request for site information (OpCode 2), as, to our knowledge, the Handle.Net software asks it: SiteInfoSerialNumber `ffff`, the handle `/`,
 /// and an empty credential.
@@ -19,10 +20,11 @@ const SITE_QUESTION: [u8; 33] = [
     0, 0, 0, 0,
 ];
 
-impl<S: Read + Write> Session<S> {
+impl<S: Transport> Session<S> {
     /// Asks for the server's site information, and takes the reply. A reply about another operation is refused.
     pub fn ask_site(&mut self) -> Result<Reply, ClientFault>
         ensures reply { IfOk result (IsReplyTo HandleNet self.new.request) }
+        ensures exchanged { IfOk result (Exchanged S.Transport HandleNet 0 (next_number self.old.request) SITE_QUESTION self.old.stream self.new.stream) }
         ensures answers { IfOk result (λ reply. AnswersRequest HandleNet SITE_QUESTION reply.message) }
     {
         let reply = self.exchange(Wire::HandleNet, &SITE_QUESTION)?;
