@@ -11,10 +11,10 @@ use Rattle.hdl_msg.specs.Reply.{short_reply}
 use Rattle.hdl_pool.specs.declared.piece.MessageKey.{MessageKey}
 use Rattle.hdl_pool.specs.Partial.{Partial, key_of, piece_of, is_of}
 use Rattle.hdl_pool.specs.Taking.{Fate, made_whole, kept, ignored, displaced, so_far, after_piece, replace_partial, store_partial, begin_partial, store_if_kept, take_piece, whole_message, free_partial}
-use Rattle.hdl_value.specs.declared.wire.Wire.{Wire}
+use Rattle.hdl_laws.specs.Speech.{Speech}
 use Rattle.hdl_rows.specs.Table.{Table}
 use Rattle.hdl_ops.specs.Admission.{request_algorithm}
-use Rattle.hdl_ops.specs.Decisions.{Decision, failure}
+use Rattle.hdl_ops.specs.Decisions.{Decision, failure, site_decision}
 use Rattle.hdl_ops.specs.Requests.{Response, response_of}
 use Rattle.hdl_slots.specs.declared.pending.Pending.{Pending}
 use Rattle.hdl_slots.specs.Lanes.{challenge_of}
@@ -22,7 +22,7 @@ use Rattle.hdl_msg.specs.declared.replies.ReplyContent.TheVariants.{Empty}
 use Rattle.hdl_events.specs.declared.Outcome.TheVariants.{Reply, Silent}
 use Rattle.hdl_laws.specs.Lanes.{LaneState, fresh, with_partials}
 use Rattle.hdl_laws.specs.Tasks as tasks
-use Rattle.hdl_laws.specs.Tasks.{Received, Task, Ignore, Malformed, Unknown, Late, Ask, Redeem, is_late, without_challenge, redeem_task, IsReading, IsResponseTask, IsRequestTask, IsContentTask, IsMessageTask, IsWholeTask}
+use Rattle.hdl_laws.specs.Tasks.{Received, Task, Ignore, Malformed, Unknown, Late, Ask, Inform, Redeem, told_site, ask_task, is_late, without_challenge, redeem_task, IsReading, IsResponseTask, IsRequestTask, IsContentTask, IsMessageTask, IsWholeTask}
 use Rattle.hdl_laws.specs.Effects.{Effect, answer_effect, challenge_effect, ask_effect, Does}
 use Rattle.hdl_core.specs.declared.origin.Origin.{Origin}
 use Rattle.hdl_core.specs.Held.{Held, held_at, state_at, with_state}
@@ -33,9 +33,9 @@ use Rattle.hdl_ops.specs.Tables.{apply_if}
 -- ---- a lane whose partial messages are others hears a message as it did
 
 -- the same on a lane with these partial messages
-record Moved (wire : Wire) (hosts : List ℕ → Bool) (algorithms : List ℕ → Algorithm) (t : Table) (s : LaneState) (p : List Partial) (m : tasks.Message) (eff : Effect) : Type 0 where
+record Moved (speech : Speech) (hosts : List ℕ → Bool) (algorithms : List ℕ → Algorithm) (t : Table) (s : LaneState) (p : List Partial) (m : tasks.Message) (eff : Effect) : Type 0 where
   task : Task
-  is_task : IsMessageTask wire (with_partials s p) m task
+  is_task : IsMessageTask speech (with_partials s p) m task
   effect : Effect
   does : Does hosts algorithms t task effect
   outcome : effect.outcome ≡ eff.outcome
@@ -43,11 +43,11 @@ record Moved (wire : Wire) (hosts : List ℕ → Bool) (algorithms : List ℕ �
   change : effect.change ≡ eff.change
   same : eff.state.partials ≡ s.partials
 
-module _ (wire : Wire) (hosts : List ℕ → Bool) (algorithms : List ℕ → Algorithm) (t : Table) (s : LaneState) (p : List Partial) (m : tasks.Message) where
-  garbled : (o : Option Content) → IsReading (SpellsRequest wire m.message) o → o ≡ None → (eff : Effect) → Does hosts algorithms t (Malformed m s) eff → Moved wire hosts algorithms t s p m eff
+module _ (speech : Speech) (hosts : List ℕ → Bool) (algorithms : List ℕ → Algorithm) (t : Table) (s : LaneState) (p : List Partial) (m : tasks.Message) where
+  garbled : (o : Option Content) → IsReading (SpellsRequest speech.wire m.message) o → o ≡ None → (eff : Effect) → Does hosts algorithms t (Malformed m s) eff → Moved speech hosts algorithms t s p m eff
   garbled o reading is eff does = record {
     task = Malformed m (with_partials s p);
-    is_task = (o, reading, subst (λ x. IsContentTask wire (with_partials s p) m x (Malformed m (with_partials s p))) (sym is) refl);
+    is_task = (o, reading, subst (λ x. IsContentTask speech (with_partials s p) m x (Malformed m (with_partials s p))) (sym is) refl);
     effect = record { outcome = Reply (short_reply 4 m.envelope); state = with_partials s p; change = None };
     does = refl;
     outcome = sym (ap (λ (e : Effect). e.outcome) does);
@@ -56,10 +56,10 @@ module _ (wire : Wire) (hosts : List ℕ → Bool) (algorithms : List ℕ → Al
     same = ap (λ (e : Effect). e.state.partials) does;
   }
 
-  asked : (r : Content) → SpellsRequest wire m.message r → response_of r.operation ≡ None → (eff : Effect) → Does hosts algorithms t (Ask m r s) eff → Moved wire hosts algorithms t s p m eff
-  asked r spells is eff (d, decides, does) = record {
+  asked : (r : Content) → SpellsRequest speech.wire m.message r → response_of r.operation ≡ None → told_site speech.site r.operation ≡ None → (eff : Effect) → Does hosts algorithms t (Ask m r s) eff → Moved speech hosts algorithms t s p m eff
+  asked r spells is told eff (d, decides, does) = record {
     task = Ask m r (with_partials s p);
-    is_task = (Some r, spells, subst (λ x. IsRequestTask wire (with_partials s p) m r x (Ask m r (with_partials s p))) (sym is) refl);
+    is_task = (Some r, spells, subst (λ x. IsRequestTask speech (with_partials s p) m r x (Ask m r (with_partials s p))) (sym is) (ap (ask_task (with_partials s p) m r) (sym told)));
     effect = ask_effect alg (with_partials s p) m r d;
     does = (d, decides, refl);
     outcome = outcome_by (d.code == 402) ∙ sym (ap (λ (e : Effect). e.outcome) does);
@@ -88,8 +88,8 @@ module _ (wire : Wire) (hosts : List ℕ → Bool) (algorithms : List ℕ → Al
       same_by false = refl
 
   -- an answer that keeps the partial messages
-  replied : (k' : Task) (a : Algorithm) (r : Content) (d : Decision) (here here' : LaneState) (eff : Effect) → IsMessageTask wire (with_partials s p) m k' → here' ≡ with_partials here p → here.partials ≡ s.partials
-      → eff ≡ answer_effect a here m r d → Does hosts algorithms t k' (answer_effect a here' m r d) → Moved wire hosts algorithms t s p m eff
+  replied : (k' : Task) (a : Algorithm) (r : Content) (d : Decision) (here here' : LaneState) (eff : Effect) → IsMessageTask speech (with_partials s p) m k' → here' ≡ with_partials here p → here.partials ≡ s.partials
+      → eff ≡ answer_effect a here m r d → Does hosts algorithms t k' (answer_effect a here' m r d) → Moved speech hosts algorithms t s p m eff
   replied k' a r d here here' eff task moved same is does = record {
     task = k';
     is_task = task;
@@ -101,17 +101,23 @@ module _ (wire : Wire) (hosts : List ℕ → Bool) (algorithms : List ℕ → Al
     same = ap (λ (e : Effect). e.state.partials) is ∙ same;
   }
 
-  found : (r : Content) (a : Response) (c : Pending) (o : Option Content) → SpellsRequest wire m.message r → response_of r.operation ≡ Some a → challenge_of s.challenges.challenges m.peer m.envelope.session ≡ Some c
-      → IsReading (SpellsRequest wire c.message) o → IsMessageTask wire (with_partials s p) m (redeem_task (with_partials s p) m a c o)
+  informs : (r : Content) (site : List ℕ) → SpellsRequest speech.wire m.message r → response_of r.operation ≡ None → told_site speech.site r.operation ≡ Some site → (eff : Effect) → Does hosts algorithms t (Inform m r site s) eff
+      → Moved speech hosts algorithms t s p m eff
+  informs r site spells is told eff does =
+      replied (Inform m r site (with_partials s p)) Sha1 r (site_decision Sha1 r site) s (with_partials s p) eff
+      (Some r, spells, subst (λ x. IsRequestTask speech (with_partials s p) m r x (Inform m r site (with_partials s p))) (sym is) (ap (ask_task (with_partials s p) m r) (sym told))) refl refl does refl
+
+  found : (r : Content) (a : Response) (c : Pending) (o : Option Content) → SpellsRequest speech.wire m.message r → response_of r.operation ≡ Some a → challenge_of s.challenges.challenges m.peer m.envelope.session ≡ Some c
+      → IsReading (SpellsRequest speech.wire c.message) o → IsMessageTask speech (with_partials s p) m (redeem_task (with_partials s p) m a c o)
   found r a c o spells is there reading = (
     Some r,
     spells,
-    subst (λ x. IsRequestTask wire (with_partials s p) m r x (redeem_task (with_partials s p) m a c o)) (sym is)
-        (subst (λ x. IsResponseTask wire (with_partials s p) m r a x (redeem_task (with_partials s p) m a c o)) (sym there) (o, reading, refl)),
+    subst (λ x. IsRequestTask speech (with_partials s p) m r x (redeem_task (with_partials s p) m a c o)) (sym is)
+        (subst (λ x. IsResponseTask speech.wire (with_partials s p) m r a x (redeem_task (with_partials s p) m a c o)) (sym there) (o, reading, refl)),
   )
 
-  redeems : (r : Content) (a : Response) (c : Pending) (o : Option Content) → SpellsRequest wire m.message r → response_of r.operation ≡ Some a → challenge_of s.challenges.challenges m.peer m.envelope.session ≡ Some c
-      → IsReading (SpellsRequest wire c.message) o → (eff : Effect) → Does hosts algorithms t (redeem_task s m a c o) eff → Moved wire hosts algorithms t s p m eff
+  redeems : (r : Content) (a : Response) (c : Pending) (o : Option Content) → SpellsRequest speech.wire m.message r → response_of r.operation ≡ Some a → challenge_of s.challenges.challenges m.peer m.envelope.session ≡ Some c
+      → IsReading (SpellsRequest speech.wire c.message) o → (eff : Effect) → Does hosts algorithms t (redeem_task s m a c o) eff → Moved speech hosts algorithms t s p m eff
   redeems r a c None spells is there reading eff does = record {
     task = Malformed m (without_challenge (with_partials s p) m);
     is_task = found r a c None spells is there reading;
@@ -124,7 +130,7 @@ module _ (wire : Wire) (hosts : List ℕ → Bool) (algorithms : List ℕ → Al
   }
   redeems r a c (Some q) spells is there reading eff does = by_time (is_late m c) refl does
     where
-      by_time : (b : Bool) → is_late m c ≡ b → Does hosts algorithms t (cond b (Late m q (algorithm_of c.digest) (without_challenge s m)) (Redeem m q (record { response = a; nonce = c.nonce; digest = c.digest }) (without_challenge s m))) eff → Moved wire hosts algorithms t s p m eff
+      by_time : (b : Bool) → is_late m c ≡ b → Does hosts algorithms t (cond b (Late m q (algorithm_of c.digest) (without_challenge s m)) (Redeem m q (record { response = a; nonce = c.nonce; digest = c.digest }) (without_challenge s m))) eff → Moved speech hosts algorithms t s p m eff
       by_time true late does =
           replied (redeem_task (with_partials s p) m a c (Some q)) (algorithm_of c.digest) q (failure 405 Empty) (without_challenge s m) (without_challenge (with_partials s p) m) eff (found r a c (Some q) spells is there reading) refl refl does
           (subst (λ b. Does hosts algorithms t (cond b (Late m q (algorithm_of c.digest) (without_challenge (with_partials s p) m)) (Redeem m q (record { response = a; nonce = c.nonce; digest = c.digest }) (without_challenge (with_partials s p) m))) (answer_effect (algorithm_of c.digest) (without_challenge (with_partials s p) m) m q (failure 405 Empty))) (sym late) refl)
@@ -132,19 +138,23 @@ module _ (wire : Wire) (hosts : List ℕ → Bool) (algorithms : List ℕ → Al
           replied (redeem_task (with_partials s p) m a c (Some q)) (algorithm_of c.digest) q d (without_challenge s m) (without_challenge (with_partials s p) m) eff (found r a c (Some q) spells is there reading) refl refl does
           (subst (λ b. Does hosts algorithms t (cond b (Late m q (algorithm_of c.digest) (without_challenge (with_partials s p) m)) (Redeem m q (record { response = a; nonce = c.nonce; digest = c.digest }) (without_challenge (with_partials s p) m))) (answer_effect (algorithm_of c.digest) (without_challenge (with_partials s p) m) m q d)) (sym late) (d, decides, refl))
 
-  responded : (r : Content) (a : Response) (o : Option Pending) (k : Task) → SpellsRequest wire m.message r → response_of r.operation ≡ Some a → challenge_of s.challenges.challenges m.peer m.envelope.session ≡ o
-      → IsResponseTask wire s m r a o k → (eff : Effect) → Does hosts algorithms t k eff → Moved wire hosts algorithms t s p m eff
+  responded : (r : Content) (a : Response) (o : Option Pending) (k : Task) → SpellsRequest speech.wire m.message r → response_of r.operation ≡ Some a → challenge_of s.challenges.challenges m.peer m.envelope.session ≡ o
+      → IsResponseTask speech.wire s m r a o k → (eff : Effect) → Does hosts algorithms t k eff → Moved speech hosts algorithms t s p m eff
   responded r a None k spells is there task eff does =
       replied (Unknown m r (with_partials s p)) Sha1 r (failure 4 Empty) s (with_partials s p) eff
-      (Some r, spells, subst (λ x. IsRequestTask wire (with_partials s p) m r x (Unknown m r (with_partials s p))) (sym is) (subst (λ x. IsResponseTask wire (with_partials s p) m r a x (Unknown m r (with_partials s p))) (sym there) refl))
+      (Some r, spells, subst (λ x. IsRequestTask speech (with_partials s p) m r x (Unknown m r (with_partials s p))) (sym is) (subst (λ x. IsResponseTask speech.wire (with_partials s p) m r a x (Unknown m r (with_partials s p))) (sym there) refl))
       refl refl (subst (λ x. Does hosts algorithms t x eff) task does) refl
   responded r a (Some c) k spells is there (o, reading, task) eff does = redeems r a c o spells is there reading eff (subst (λ x. Does hosts algorithms t x eff) task does)
 
-  requested : (r : Content) (o : Option Response) (k : Task) → SpellsRequest wire m.message r → response_of r.operation ≡ o → IsRequestTask wire s m r o k → (eff : Effect) → Does hosts algorithms t k eff → Moved wire hosts algorithms t s p m eff
-  requested r None k spells is task eff does = asked r spells is eff (subst (λ x. Does hosts algorithms t x eff) task does)
+  requested : (r : Content) (o : Option Response) (k : Task) → SpellsRequest speech.wire m.message r → response_of r.operation ≡ o → IsRequestTask speech s m r o k → (eff : Effect) → Does hosts algorithms t k eff → Moved speech hosts algorithms t s p m eff
+  requested r None k spells is task eff does = by (told_site speech.site r.operation) refl (subst (λ x. Does hosts algorithms t x eff) task does)
+    where
+      by : (o : Option (List ℕ)) → told_site speech.site r.operation ≡ o → Does hosts algorithms t (ask_task s m r o) eff → Moved speech hosts algorithms t s p m eff
+      by None told does = asked r spells is told eff does
+      by (Some site) told does = informs r site spells is told eff does
   requested r (Some a) k spells is task eff does = responded r a (challenge_of s.challenges.challenges m.peer m.envelope.session) k spells is refl task eff does
 
-  moved : (k : Task) → IsMessageTask wire s m k → (eff : Effect) → Does hosts algorithms t k eff → Moved wire hosts algorithms t s p m eff
+  moved : (k : Task) → IsMessageTask speech s m k → (eff : Effect) → Does hosts algorithms t k eff → Moved speech hosts algorithms t s p m eff
   moved k (None, reading, task) eff does = garbled None reading refl eff (subst (λ x. Does hosts algorithms t x eff) task does)
   moved k (Some r, reading, task) eff does = requested r (response_of r.operation) k reading refl task eff does
 
@@ -169,9 +179,9 @@ whole_stays lane key displaced more message is = refl
 
 -- ---- a piece
 
-module _ (wire : Wire) (hosts : List ℕ → Bool) (algorithms : List ℕ → Algorithm) (t : Table) (lanes : List Held) (number : ℕ) (m : Origin) (bytes : List ℕ) (envelope : m.envelope ≡ envelope_at bytes) where
+module _ (speech : Speech) (hosts : List ℕ → Bool) (algorithms : List ℕ → Algorithm) (t : Table) (lanes : List Held) (number : ℕ) (m : Origin) (bytes : List ℕ) (envelope : m.envelope ≡ envelope_at bytes) where
   abbrev context : Context
-  context = record { wire = wire; hosts = hosts; algorithms = algorithms; table = t }
+  context = record { speech = speech; hosts = hosts; algorithms = algorithms; table = t }
 
   abbrev scene : Scene
   scene = record { context = context; lanes = lanes }
@@ -194,7 +204,7 @@ module _ (wire : Wire) (hosts : List ℕ → Bool) (algorithms : List ℕ → Al
     (
       record { outcome = Silent; state = with_partials here after.1; change = None },
       Ignore (with_partials here after.1),
-      subst (λ o. IsWholeTask wire (with_partials here after.1) (with_partials here (free_partial here.partials (key_of m.peer (envelope_at bytes)))) x o (Ignore (with_partials here after.1))) (sym none ∙ ap whole_message is) refl,
+      subst (λ o. IsWholeTask speech (with_partials here after.1) (with_partials here (free_partial here.partials (key_of m.peer (envelope_at bytes)))) x o (Ignore (with_partials here after.1))) (sym none ∙ ap whole_message is) refl,
       refl,
       refl,
       refl,
@@ -218,7 +228,7 @@ module _ (wire : Wire) (hosts : List ℕ → Bool) (algorithms : List ℕ → Al
   whole message octets lanes' lanes'' t' there is (s', same, (k, task, (eff, does, out, state, table))) free =
       let key = key_of m.peer (envelope_at bytes) in
       let gone = free_partial here.partials key in
-      let mv = moved wire hosts algorithms t here gone (message_as m message) k task eff does in
+      let mv = moved speech hosts algorithms t here gone (message_as m message) k task eff does in
       let now : state_at lanes' number ≡ s' = ap (λ (ls : List Held). state_at ls number) same ∙ ap (λ (h : Held). h.state) (get_or-set_same lanes number (record { publisher = (held_at lanes number).publisher; state = s' }) (record { publisher = 0; state = fresh false }) there) in
       let kept_partials : (state_at lanes' number).partials ≡ here.partials = ap (λ (s : LaneState). s.partials) (now ∙ sym state) ∙ mv.same in
       let freed_now : with_partials (state_at lanes' number) (free_partial (state_at lanes' number).partials (key_of m.peer m.envelope)) ≡ with_partials s' gone =
@@ -232,8 +242,8 @@ module _ (wire : Wire) (hosts : List ℕ → Bool) (algorithms : List ℕ → Al
         (
           mv.effect,
           mv.task,
-          subst (λ o. IsWholeTask wire (with_partials here after.1) (with_partials here gone) x o mv.task) (ap whole_message is)
-              (subst (λ (l : tasks.Message). IsMessageTask wire (with_partials here gone) l mv.task) (λ i. record { peer = m.peer; moment = m.moment; nonce = m.nonce; envelope = envelope i; message = message }) mv.is_task),
+          subst (λ o. IsWholeTask speech (with_partials here after.1) (with_partials here gone) x o mv.task) (ap whole_message is)
+              (subst (λ (l : tasks.Message). IsMessageTask speech (with_partials here gone) l mv.task) (λ i. record { peer = m.peer; moment = m.moment; nonce = m.nonce; envelope = envelope i; message = message }) mv.is_task),
           mv.does,
           mv.outcome ∙ out,
           mv.state ∙ ap (λ (s : LaneState). with_partials s gone) state,

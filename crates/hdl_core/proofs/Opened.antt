@@ -164,6 +164,10 @@ module _ (r : Register) (t : Table) where
   unfolding world_of
   hosted = refl
 
+  site_infos : (world_of r lanes t).site.sites ≡ r.sites
+  unfolding world_of
+  site_infos = refl
+
   held_table : (world_of r lanes t).table ≡ t
   unfolding world_of
   held_table = refl
@@ -173,6 +177,7 @@ module _ (r : Register) (t : Table) where
     owners = owners;
     hostings = hosted;
     layouts = λ publisher. sym (layout_of r lanes t publisher);
+    sites = site_infos;
     closed = all_closed;
     table = held_table ∙ rows;
   })
@@ -182,6 +187,7 @@ module _ (r : Register) (t : Table) where
     owners = owners;
     hostings = hosted;
     layouts = λ publisher. sym (layout_of r lanes t publisher);
+    sites = site_infos;
     closed = all_closed;
     table = held_table;
   })

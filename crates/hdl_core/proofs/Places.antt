@@ -8,14 +8,16 @@ use Rattle.std.proofs.lemmas.Bool.Decides.{nat_tests}
 use Rattle.std.proofs.lemmas.Option.{slice_get-map, slice_get-get_or}
 use Rattle.std.proofs.lemmas.List.{length-map}
 use Rattle.hdl_rows.specs.Table.{Table}
-use Rattle.hdl_tenants.specs.Register.{Publisher, Register, wire}
+use Rattle.hdl_tenants.specs.Register.{Publisher, Register, wire, site, site_among}
 use Rattle.hdl_value.specs.declared.wire.Wire.{Wire}
+use Rattle.hdl_laws.specs.Speech.{Speech}
+use Rattle.hdl_ops.specs.Decisions.{told_by}
 use Rattle.hdl_value.specs.declared.wire.Wire.TheVariants.{Profile}
 use Rattle.std.specs.Option.{option_map_or}
 use Rattle.hdl_ops.specs.Tables.{apply_if}
 use Rattle.hdl_laws.specs.Lanes.{fresh}
 use Rattle.hdl_events.specs.declared.Event.{Event}
-use Rattle.hdl_laws.specs.Worlds.{owner, lane_of, layout}
+use Rattle.hdl_laws.specs.Worlds.{owner, lane_of, layout, speech}
 use Rattle.hdl_laws.specs.Effects.{Effect}
 use Rattle.hdl_laws.specs.Steps.{after_effect, moment_of}
 use Rattle.hdl_core.specs.Held.{Held}
@@ -78,6 +80,17 @@ layout_of r lanes t u =
     sym (mapped_or (λ (p : Publisher). p.wire) (slice_get r.publishers u) Profile)
     ∙ sym (ap (λ (o : Option Wire). unwrap_or o Profile) (get-by_place (map (λ (p : Publisher). p.wire) r.publishers) u ∙ slice_get-map (λ (p : Publisher). p.wire) r.publishers u))
 
+-- how the lanes of the publisher at this place speak
+abbrev pub register_speech : Register → ℕ → Speech
+register_speech r u = record { wire = wire r u; site = told_by (wire r u) (site r u) }
+
+sites_of : (r : Register) (lanes : List Held) (t : Table) (u : ℕ) → site r u ≡ site_among (world_of r lanes t).site.sites u
+unfolding world_of
+sites_of r lanes t u = refl
+
+pub speech_of : (r : Register) (lanes : List Held) (t : Table) (u : ℕ) → register_speech r u ≡ speech (world_of r lanes t).site u
+speech_of r lanes t u = λ i. record { wire = layout_of r lanes t u i; site = told_by (layout_of r lanes t u i) (sites_of r lanes t u i) }
+
 pub lane_of_world : (r : Register) (lanes : List Held) (t : Table) (l : ℕ) → lane_of (world_of r lanes t) l ≡ unwrap_or (option_map (λ (y : Held). y.state) (slice_get lanes l)) (fresh false)
 unfolding world_of
 lane_of_world r lanes t l = ap (λ o. unwrap_or o (fresh false)) (get-by_place (map (λ (y : Held). y.state) lanes) l ∙ slice_get-map (λ (y : Held). y.state) lanes l)
@@ -99,4 +112,4 @@ world_after r lanes t t' e x d eff h same state table =
     ap by_place (map-set (λ (y : Held). y.state) lanes e.lane x)
     ∙ by_place-set (map (λ (y : Held). y.state) lanes) e.lane x.state (subst (λ n. e.lane < n) (sym (length-map lanes (λ (y : Held). y.state))) h)
     ∙ ap (map.insert (by_place (map (λ (y : Held). y.state) lanes)) e.lane) state in
-    λ i. record { site = record { owners = owners i; hostings = r.hostings; layouts = by_place (map (λ (p : Publisher). p.wire) r.publishers) }; table = table i; lanes = states i }
+    λ i. record { site = record { owners = owners i; hostings = r.hostings; layouts = by_place (map (λ (p : Publisher). p.wire) r.publishers); sites = r.sites }; table = table i; lanes = states i }

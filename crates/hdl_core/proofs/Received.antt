@@ -8,7 +8,7 @@ use Rattle.hdl_frame.specs.Frames.{IsFrame}
 use Rattle.hdl_frame.specs.Splitting.{IsFrameOf}
 use Rattle.hdl_msg.specs.Reply.{short_reply, IsReplyFrame}
 use Rattle.hdl_msg.proofs.ReplyReadings.{short_reply_read}
-use Rattle.hdl_value.specs.declared.wire.Wire.{Wire}
+use Rattle.hdl_laws.specs.Speech.{Speech}
 use Rattle.hdl_rows.specs.Table.{Table}
 use Rattle.hdl_events.specs.declared.What.{What}
 use Rattle.hdl_events.specs.declared.What.TheVariants.{Open, Bad, Close}
@@ -41,9 +41,9 @@ read_of e (Ok (Some octets)) o is h = subst IsReadable (sym is) h
 read_of e (Ok None) o is h = subst IsReadable (sym is) tt
 read_of e (Err refusal) o is h = subst IsReadable (sym is) (short_reply_read e).0
 
-module _ (wire : Wire) (hosts : List ℕ → Bool) (algorithms : List ℕ → Algorithm) (t : Table) (lanes : List Held) (number : ℕ) where
+module _ (speech : Speech) (hosts : List ℕ → Bool) (algorithms : List ℕ → Algorithm) (t : Table) (lanes : List Held) (number : ℕ) where
   abbrev context : Context
-  context = record { wire = wire; hosts = hosts; algorithms = algorithms; table = t }
+  context = record { speech = speech; hosts = hosts; algorithms = algorithms; table = t }
 
   abbrev scene : Scene
   scene = record { context = context; lanes = lanes }
@@ -51,7 +51,7 @@ module _ (wire : Wire) (hosts : List ℕ → Bool) (algorithms : List ℕ → Al
   -- ---- octets that came on an open lane
 
   module _ (x : Received) where
-    ignored : IsOctetsTask wire (state_at lanes number) x (Ignore (state_at lanes number)) → ReceivesAt scene number x Silent lanes t
+    ignored : IsOctetsTask speech (state_at lanes number) x (Ignore (state_at lanes number)) → ReceivesAt scene number x Silent lanes t
     ignored task = (state_at lanes number, kept lanes number, inl (record { outcome = Silent; state = state_at lanes number; change = None }, Ignore (state_at lanes number), task, refl, refl, refl, refl))
 
     pub no_frame : ¬ IsFrame x.bytes → ReceivesAt scene number x Silent lanes t
@@ -86,19 +86,19 @@ module _ (wire : Wire) (hosts : List ℕ → Bool) (algorithms : List ℕ → Al
   -- ---- an event of a lane
 
   module _ (what : What) where
-    silent : (s' : LaneState) (lanes' : List Held) → tasks.IsTask wire (state_at lanes number) what (Ignore s') → lanes' ≡ with_state lanes number s' → ServesAt scene number what Silent lanes' t
+    silent : (s' : LaneState) (lanes' : List Held) → tasks.IsTask speech (state_at lanes number) what (Ignore s') → lanes' ≡ with_state lanes number s' → ServesAt scene number what Silent lanes' t
     silent s' lanes' task after = (s', after, inl (record { outcome = Silent; state = s'; change = None }, Ignore s', task, refl, refl, refl, refl))
 
     pub opened : (lanes' : List Held) → what ≡ Open → lanes' ≡ with_state lanes number (fresh true) → ServesAt scene number what Silent lanes' t
-    opened lanes' e after = silent (fresh true) lanes' (subst (λ w. tasks.IsTask wire (state_at lanes number) w (Ignore (fresh true))) (sym e) refl) after
+    opened lanes' e after = silent (fresh true) lanes' (subst (λ w. tasks.IsTask speech (state_at lanes number) w (Ignore (fresh true))) (sym e) refl) after
 
     pub closed : (lanes' : List Held) → what ≡ Close → lanes' ≡ with_state lanes number (fresh false) → ServesAt scene number what Silent lanes' t
-    closed lanes' e after = silent (fresh false) lanes' (subst (λ w. tasks.IsTask wire (state_at lanes number) w (Ignore (fresh false))) (sym e) refl) after
+    closed lanes' e after = silent (fresh false) lanes' (subst (λ w. tasks.IsTask speech (state_at lanes number) w (Ignore (fresh false))) (sym e) refl) after
 
     pub unbroken : (session request : ℕ) → what ≡ Bad session request → (state_at lanes number).is_open ≡ false → ServesAt scene number what Silent lanes t
     unbroken session request e up =
         let s = state_at lanes number in
-        silent s lanes (subst (λ w. tasks.IsTask wire s w (Ignore s)) (sym e) (ap (λ b. cond b (Break session request s) (Ignore s)) (sym up))) (kept lanes number)
+        silent s lanes (subst (λ w. tasks.IsTask speech s w (Ignore s)) (sym e) (ap (λ b. cond b (Break session request s) (Ignore s)) (sym up))) (kept lanes number)
 
     pub broken : (session request : ℕ) (reply : List ℕ) → what ≡ Bad session request → (state_at lanes number).is_open ≡ true → reply ≡ short_reply 4 (message_envelope session request 0) → ServesAt scene number what (CloseAfter reply) lanes t
     broken session request reply e up is =
@@ -108,7 +108,7 @@ module _ (wire : Wire) (hosts : List ℕ → Bool) (algorithms : List ℕ → Al
           inl (
             record { outcome = CloseAfter (short_reply 4 (message_envelope session request 0)); state = s; change = None },
             Break session request s,
-            subst (λ w. tasks.IsTask wire s w (Break session request s)) (sym e) (ap (λ b. cond b (Break session request s) (Ignore s)) (sym up)),
+            subst (λ w. tasks.IsTask speech s w (Break session request s)) (sym e) (ap (λ b. cond b (Break session request s) (Ignore s)) (sym up)),
             refl,
             ap CloseAfter is,
             refl,
@@ -119,7 +119,7 @@ module _ (wire : Wire) (hosts : List ℕ → Bool) (algorithms : List ℕ → Al
     pub unheard : (x : Received) → what ≡ what_of x → (state_at lanes number).is_open ≡ false → ServesAt scene number what Silent lanes t
     unheard x e up =
         let s = state_at lanes number in
-        silent s lanes (subst (λ w. tasks.IsTask wire s w (Ignore s)) (sym e) (when_false s.is_open _ _ up refl)) (kept lanes number)
+        silent s lanes (subst (λ w. tasks.IsTask speech s w (Ignore s)) (sym e) (when_false s.is_open _ _ up refl)) (kept lanes number)
 
     pub received : (x : Received) (o : Outcome) (lanes' : List Held) (t' : Table) → what ≡ what_of x → (state_at lanes number).is_open ≡ true → ReceivesAt scene number x o lanes' t' → ServesAt scene number what o lanes' t'
     received x o lanes' t' e up (s', after, inl a) =

@@ -13,7 +13,7 @@ use Rattle.hdl_laws.specs.Lanes.{LaneState, fresh}
 use Rattle.std.specs.Prelude.{IsFalse}
 use Rattle.hdl_laws.specs.Laws.{JoinsRuns, HostsNoRoot}
 use Rattle.hdl_laws.specs.Runs.{Run, Steps}
-use Rattle.hdl_laws.specs.Worlds.{World, hosts, algorithms, owner, lane_of, layout}
+use Rattle.hdl_laws.specs.Worlds.{World, hosts, algorithms, owner, lane_of, speech}
 use Rattle.hdl_laws.specs.Tasks.{IsTask}
 use Rattle.hdl_laws.specs.Effects.{Does}
 use Rattle.hdl_laws.specs.Steps.{Turn, turn, IsAnswerFor}
@@ -21,7 +21,7 @@ use Rattle.hdl_core.specs.Held.{Held, held_at, with_state}
 use Rattle.hdl_core.specs.Worlds.{world_of}
 use Rattle.hdl_core.specs.Serving.{Scene, ServesAt}
 use Rattle.hdl_core.proofs.HeldLanes.{kept}
-use Rattle.hdl_core.proofs.Places.{layout_of, owner_of, lane_here, world_after}
+use Rattle.hdl_core.proofs.Places.{register_speech, speech_of, owner_of, lane_here, world_after}
 
 -- what is held of a lane that nobody owns
 abbrev nobody : Held
@@ -47,7 +47,7 @@ steps_alone r lanes t e past =
 
 -- what stands before an event of a lane of this publisher
 abbrev pub scene : Register → Table → List Held → ℕ → Scene
-scene r t lanes publisher = record { context = record { wire = register.wire r publisher; hosts = register.hosts r publisher; algorithms = register.algorithm r publisher; table = t }; lanes = lanes }
+scene r t lanes publisher = record { context = record { speech = register_speech r publisher; hosts = register.hosts r publisher; algorithms = register.algorithm r publisher; table = t }; lanes = lanes }
 
 pub steps_served : (r : Register) (lanes lanes' : List Held) (t t' : Table) (e : Event) (o : Outcome) → e.lane < length lanes
     → ServesAt (scene r t lanes (held_at lanes e.lane).publisher) e.lane e.what o lanes' t'
@@ -56,8 +56,8 @@ steps_served r lanes lanes' t t' e o h (s', after, inl a) =
     let w = world_of r lanes t in
     let here = held_at lanes e.lane in
     let owned : owner w.site e.lane ≡ Some here.publisher = owner_of r lanes t e.lane ∙ ap (option_map (λ (x : Held). x.publisher)) (slice_get-get_or lanes e.lane nobody h) in
-    let task : IsTask (layout w.site here.publisher) (lane_of w e.lane) e.what a.1 =
-    subst (λ l. IsTask l (lane_of w e.lane) e.what a.1) (layout_of r lanes t here.publisher) (subst (λ s. IsTask (register.wire r here.publisher) s e.what a.1) (sym (lane_here r lanes t e.lane nobody h)) a.2) in
+    let task : IsTask (speech w.site here.publisher) (lane_of w e.lane) e.what a.1 =
+    subst (λ l. IsTask l (lane_of w e.lane) e.what a.1) (speech_of r lanes t here.publisher) (subst (λ s. IsTask (register_speech r here.publisher) s e.what a.1) (sym (lane_here r lanes t e.lane nobody h)) a.2) in
     let does : Does (hosts w.site here.publisher) (algorithms w.site here.publisher) w.table a.1 a.0 =
     table_of r lanes t (λ x. Does (hosts w.site here.publisher) (algorithms w.site here.publisher) x a.1 a.0)
     (subst (λ g. Does (hosts w.site here.publisher) g t a.1 a.0) (algorithms_in_world r lanes t here.publisher)

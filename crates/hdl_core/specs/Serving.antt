@@ -2,6 +2,7 @@
 use Rattle.std.specs.Prelude.{◌≡◌, ℕ, List, Bool, ◌==◌, true, false, ◌⊎◌, Option, Some, None, Result, Ok, Err}
 use Rattle.std.specs.Option.{option_map_or}
 use Rattle.hdl_auth.specs.declared.algorithm.Algorithm.{Algorithm}
+use Rattle.hdl_auth.specs.declared.algorithm.Algorithm.TheVariants.{Sha1}
 use Rattle.hdl_frame.specs.declared.envelope.Envelope.{Envelope}
 use Rattle.hdl_frame.specs.Envelope.{envelope_at}
 use Rattle.hdl_frame.specs.Frames.{IsFrame}
@@ -14,9 +15,9 @@ use Rattle.hdl_pool.specs.Partial.{piece_of}
 use Rattle.hdl_pool.specs.Taking.{take_piece}
 use Rattle.hdl_rows.specs.Table.{Table}
 use Rattle.hdl_rows.specs.declared.rows.Refused.{Refused}
-use Rattle.hdl_ops.specs.Decisions.{Anyone, Decision, Decides}
+use Rattle.hdl_ops.specs.Decisions.{Anyone, Decision, Decides, site_decision}
 use Rattle.hdl_ops.specs.Requests.{Response}
-use Rattle.hdl_ops.specs.Views.{algorithms_by, hosted_by, wire_by}
+use Rattle.hdl_ops.specs.Views.{algorithms_by, hosted_by, site_by, wire_by}
 use Rattle.hdl_value.specs.declared.wire.Wire.{Wire}
 use Rattle.hdl_ops.specs.declared.owner.Owner.{Owner}
 use Rattle.hdl_ops.specs.Admission.{request_algorithm}
@@ -32,6 +33,7 @@ use Rattle.hdl_laws.specs.Tasks.{Task, IsReading, without_challenge, redeem_task
 use Rattle.hdl_laws.specs.Effects.{answer_octets, challenge_octets, Effect, Does}
 use Rattle.hdl_laws.specs.Steps.{what_of, moment_of}
 use Rattle.hdl_laws.specs.Lanes.{LaneState}
+use Rattle.hdl_laws.specs.Speech.{Speech}
 use Rattle.hdl_core.specs.declared.origin.Origin.{Origin}
 use Rattle.hdl_core.specs.declared.origin.Received as code
 use Rattle.hdl_core.specs.declared.hearing.Heard.{Heard}
@@ -50,16 +52,20 @@ received_as origin bytes = record { peer = origin.peer; moment = origin.moment; 
 abbrev pub message_as : Origin → List ℕ → tasks.Message
 message_as origin message = record { peer = origin.peer; moment = origin.moment; nonce = origin.nonce; envelope = origin.envelope; message = message }
 
--- What an event of a lane is decided by: the layout that is spoken on it, the prefixes that are hosted for the lane's publisher, their hash functions, and the table.
+-- What an event of a lane is decided by: how its publisher's lanes speak, the prefixes that are hosted for that publisher, their hash functions, and the table.
 pub record Context : Type 0 where
-  pub wire : Wire
+  pub speech : Speech
   pub hosts : List ℕ → Bool
   pub algorithms : List ℕ → Algorithm
   pub table : Table
 
+-- how the owner's lanes speak
+abbrev pub speech_by : Owner → Speech
+speech_by owner = record { wire = wire_by owner; site = site_by owner }
+
 -- the context of the owner's lanes
 abbrev pub context : Owner → Table → Context
-context owner table = record { wire = wire_by owner; hosts = hosted_by owner; algorithms = algorithms_by owner; table = table }
+context owner table = record { speech = speech_by owner; hosts = hosted_by owner; algorithms = algorithms_by owner; table = table }
 
 -- The context of a lane, and all lanes.
 pub record Scene : Type 0 where
@@ -105,6 +111,10 @@ IsHeardForAnyone given origin next request (Challenged octets digest) table' =
     (decision : Decision) × DecidesForAnyone given request decision × ((decision.code == response_number AuthenticationNeeded) ≡ true)
     × (octets ≡ challenge_octets (request_algorithm given.algorithms request) origin.moment next origin.envelope request origin.nonce) × (digest ≡ digest_of (request_algorithm given.algorithms request) request) × (table' ≡ given.table)
 
+-- the octets answer a question for site information with this record
+abbrev pub IsInformed : Origin → Content → List ℕ → List ℕ → Type 0
+IsInformed origin request site octets = octets ≡ answer_octets Sha1 origin.moment origin.envelope request (site_decision Sha1 request site).code (site_decision Sha1 request site).content
+
 -- the task has this effect
 abbrev pub HasEffect : Context → Task → Effect → Type 0
 HasEffect given task effect = Does given.hosts given.algorithms given.table task effect
@@ -117,7 +127,7 @@ Replies given moment task octets state' table' =
 -- a challenge response that names this challenge has this reply, whatever else the lane holds
 abbrev pub IsRedeemed : Context → Origin → Response → Pending → List ℕ → Table → Type 0
 IsRedeemed given origin response pending octets table' =
-    (state : LaneState) (message : List ℕ) → (reading : Option Content) × IsReading (SpellsRequest given.wire pending.message) reading
+    (state : LaneState) (message : List ℕ) → (reading : Option Content) × IsReading (SpellsRequest given.speech.wire pending.message) reading
     × Replies given origin.moment (redeem_task state (message_as origin message) response pending reading) octets (without_challenge state (message_as origin message)) table'
 
 -- what was returned, as a task of a lane in this state
@@ -128,11 +138,11 @@ IsReturnedTask wire state returned message task = IsResponseTask wire state (mes
 abbrev pub RespondsAt : Scene → ℕ → Returned → List ℕ → List Held → Table → Type 0
 RespondsAt given number returned octets lanes' table' =
     (message : List ℕ) → (state' : LaneState) × (lanes' ≡ with_state given.lanes number state') × (task : Task)
-    × IsReturnedTask given.context.wire (state_at given.lanes number) returned message task × Replies given.context returned.origin.moment task octets state' table'
+    × IsReturnedTask given.context.speech.wire (state_at given.lanes number) returned message task × Replies given.context returned.origin.moment task octets state' table'
 
 -- a message on a lane has this reply
 abbrev pub IsHeard : Context → LaneState → tasks.Message → List ℕ → LaneState → Table → Type 0
-IsHeard given state message octets state' table' = (task : Task) × IsMessageTask given.wire state message task × Replies given message.moment task octets state' table'
+IsHeard given state message octets state' table' = (task : Task) × IsMessageTask given.speech state message task × Replies given message.moment task octets state' table'
 
 -- the lanes after that
 abbrev pub HearsAt : Scene → ℕ → tasks.Message → List ℕ → List Held → Table → Type 0
@@ -148,7 +158,7 @@ outcome_of envelope (Err refused) = Busy (short_reply (response_number ServerBus
 -- a piece that came on an open lane has this reply, or none yet
 abbrev pub IsAssembled : Context → LaneState → Received → Option (List ℕ) → LaneState → Table → Type 0
 IsAssembled given state piece reply state' table' =
-    (effect : Effect) × (task : Task) × IsPieceTask given.wire state piece (take_piece state.partials (piece_of piece.peer piece.bytes)) task × HasEffect given task effect
+    (effect : Effect) × (task : Task) × IsPieceTask given.speech state piece (take_piece state.partials (piece_of piece.peer piece.bytes)) task × HasEffect given task effect
     × (effect.outcome ≡ option_map_or Reply reply Silent) × (effect.state ≡ state') × (table' ≡ apply_if given.table piece.moment effect.change)
 
 abbrev pub AssemblesAt : Scene → ℕ → Received → Option (List ℕ) → List Held → Table → Type 0
@@ -158,7 +168,7 @@ AssemblesAt given number piece reply lanes' table' =
 -- octets that came on an open lane have this outcome, or are refused and nothing changed
 abbrev pub IsReceived : Context → LaneState → Received → Outcome → LaneState → Table → Type 0
 IsReceived given state came outcome state' table' =
-    ((effect : Effect) × (task : Task) × IsOctetsTask given.wire state came task × HasEffect given task effect × (outcome ≡ effect.outcome) × (state' ≡ effect.state) × (table' ≡ apply_if given.table came.moment effect.change))
+    ((effect : Effect) × (task : Task) × IsOctetsTask given.speech state came task × HasEffect given task effect × (outcome ≡ effect.outcome) × (state' ≡ effect.state) × (table' ≡ apply_if given.table came.moment effect.change))
     ⊎ (IsFrame came.bytes × (outcome ≡ Busy (short_reply (response_number ServerBusy) (envelope_at came.bytes))) × (state' ≡ state) × (table' ≡ given.table))
 
 abbrev pub ReceivesAt : Scene → ℕ → Received → Outcome → List Held → Table → Type 0
@@ -168,7 +178,7 @@ ReceivesAt given number came outcome lanes' table' =
 -- an event of the lane has this outcome, and leaves the lane and the table so
 abbrev pub IsAnswered : Context → LaneState → What → Outcome → LaneState → Table → Type 0
 IsAnswered given state what outcome state' table' =
-    (effect : Effect) × (task : Task) × IsTask given.wire state what task × HasEffect given task effect × (outcome ≡ effect.outcome) × (state' ≡ effect.state) × (table' ≡ apply_if given.table (moment_of what) effect.change)
+    (effect : Effect) × (task : Task) × IsTask given.speech state what task × HasEffect given task effect × (outcome ≡ effect.outcome) × (state' ≡ effect.state) × (table' ≡ apply_if given.table (moment_of what) effect.change)
 
 -- a frame on the open lane is refused, and the lane stays
 pub record IsTurnedDown (table : Table) (state : LaneState) (what : What) (answer : Outcome) (state' : LaneState) (table' : Table) : Type 0 where

@@ -18,7 +18,12 @@ by_place xs = map.from_entries (with_numbers 0 xs)
 -- the world of these publishers and prefixes, lanes and table
 unfoldable pub world_of : Register → List Held → Table → World
 world_of register lanes table = record {
-  site = record { owners = by_place (map (λ lane. lane.publisher) lanes); hostings = register.hostings; layouts = by_place (map (λ publisher. publisher.wire) register.publishers) };
+  site = record {
+    owners = by_place (map (λ lane. lane.publisher) lanes);
+    hostings = register.hostings;
+    layouts = by_place (map (λ publisher. publisher.wire) register.publishers);
+    sites = register.sites;
+  };
   table = table;
   lanes = by_place (map (λ lane. lane.state) lanes);
 }

@@ -1,15 +1,17 @@
 //! Hearing a message that came on an open lane: a request that is decided, challenged, or comes back with a proof.
 
-ghost use Rattle.std.specs.Prelude.{◌≡◌, ◌==◌, ◌<◌, ℕ, List, length, IfOk, OnErr};
-ghost use Rattle.hdl_msg.specs.Codes.{response_number};
+ghost use Rattle.std.specs.Prelude.{◌≡◌, ◌==◌, ◌<◌, ℕ, List, length, Some, None, IfOk, MatchOption, OnErr};
+ghost use Rattle.hdl_msg.specs.declared.codes.OpCode.TheVariants.{GetSiteInfo};
+ghost use Rattle.hdl_msg.specs.Codes.{response_number, IsNumberOf};
+ghost use Rattle.hdl_msg.specs.Views.{operation_of};
 ghost use Rattle.hdl_msg.specs.Reply.{IsReplyFrame};
-ghost use Rattle.hdl_ops.specs.Views.{response_view};
+ghost use Rattle.hdl_ops.specs.Views.{response_view, site_by};
 ghost use Rattle.hdl_reach.specs.Cost.{ReadsWithin};
 ghost use Rattle.hdl_ops.specs.Cost.{anyone_cost, proof_cost};
 ghost use Rattle.hdl_laws.specs.Cost.{IsUnchallenged};
 ghost use Rattle.hdl_core.specs.Held.{state_at};
-ghost use Rattle.hdl_laws.specs.Tasks.{is_late};
-ghost use Rattle.hdl_core.specs.Serving.{challenge_of_request, context, message_as, scene, sent_of, HasItsCode, IsHeardForAnyone, IsRedeemed, RespondsAt, HearsAt};
+ghost use Rattle.hdl_laws.specs.Tasks.{is_late, told_site};
+ghost use Rattle.hdl_core.specs.Serving.{challenge_of_request, context, message_as, scene, sent_of, HasItsCode, IsHeardForAnyone, IsInformed, IsRedeemed, RespondsAt, HearsAt};
 
 use crate::answering::{answer, code_reply, malformed_reply};
 use crate::lanes::Lanes;
@@ -17,10 +19,10 @@ use crate::origin::Origin;
 use hdl_auth::algorithm::{Algorithm, Digest};
 use hdl_frame::Envelope;
 use hdl_limits::{CHALLENGE_LIFE, Octets};
-use hdl_msg::{Request, ResponseCode, read_request};
+use hdl_msg::{Body, Request, ResponseCode, read_request};
 use hdl_ops::{
     Decision, HashedRequest, Level, Masked, NamedRequest, Owner, Proof, Refused, Response, decide,
-    render_challenge, response_of,
+    decide_site, render, render_challenge, response_of,
 };
 use hdl_slots::Pending;
 use std::alloc::Global;
@@ -79,6 +81,51 @@ fn hear_for_anyone<R: Masked>(
     }
     let octets = answer(owner.alloc, &asked, rows, origin, decision)?;
     Ok(Heard::Answered(octets))
+}
+
+/// The site information that answers the operation: the owner's, for a question for it.
+fn told_site<'a>(owner: &'a Owner<'_>, body: &Body<'_>) -> Option<&'a [u8]>
+    ensures { MatchOption result (told_site (site_by owner.now) (operation_of body.now) ≡ None) (λ site. told_site (site_by owner.now) (operation_of body.now) ≡ Some site.now) }
+{
+    match body {
+        Body::SiteInfo { .. } => owner.site(),
+        Body::Resolution { .. } => None,
+        Body::Create { .. } => None,
+        Body::Delete { .. } => None,
+        Body::Add { .. } => None,
+        Body::Remove { .. } => None,
+        Body::Modify { .. } => None,
+        Body::List { .. } => None,
+        Body::Response { .. } => None,
+        Body::Other { .. } => None,
+    }
+}
+
+/// The reply to a question for site information. The table isn't read.
+fn inform(
+    alloc: Global,
+    origin: &Origin,
+    request: &Request<'_>,
+    site: &[u8],
+) -> Result<Octets, Refused>
+    ensures informed { IfOk result (λ octets. IsInformed origin.now request.now site.now octets) }
+    ensures read { IfOk result (λ octets. IsNumberOf (Some GetSiteInfo) request.now.header.op_code → IsReplyFrame octets) }
+{
+    let asked = HashedRequest {
+        algorithm: Algorithm::Sha1,
+        request,
+    };
+    let decision = decide_site(alloc, &asked, site)?;
+    let Decision { code, content, .. } = decision;
+    let octets = render(
+        alloc,
+        &asked,
+        &origin.envelope,
+        origin.moment,
+        code,
+        content,
+    )?;
+    Ok(Octets::new(octets))
 }
 
 /// The moment of the message is later than the challenge's by more than a challenge lives; an earlier one counts as none.
@@ -177,6 +224,9 @@ pub(crate) fn hear<R: Masked>(
     };
     if let Some(response) = response_of(request.body()) {
         return respond(owner, rows, lanes, origin, &request, response);
+    }
+    if let Some(site) = told_site(owner, request.body()) {
+        return inform(owner.alloc, origin, &request, site);
     }
     let next = lanes.next_number(origin.lane);
     match hear_for_anyone(owner, rows, origin, next, &request)? {

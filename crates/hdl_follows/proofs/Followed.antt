@@ -18,7 +18,8 @@ use Rattle.hdl_events.specs.declared.Event.{Event}
 use Rattle.hdl_events.specs.declared.Outcome.{Outcome}
 use Rattle.hdl_events.specs.declared.Outcome.TheVariants.{Reply, Busy}
 use Rattle.hdl_laws.specs.Lanes.{LaneState, fresh, with_partials}
-use Rattle.hdl_laws.specs.Worlds.{World, owner, hosts, algorithms, lane_of, layout, layout_for}
+use Rattle.hdl_laws.specs.Speech.{Speech}
+use Rattle.hdl_laws.specs.Worlds.{World, owner, hosts, algorithms, lane_of, speech, speech_for}
 use Rattle.hdl_laws.specs.Tasks.{Received, message_from, Task, Ignore, IsTask, IsMessageTask, IsWholeTask, IsPieceTask, IsFrameTask, IsOctetsTask}
 use Rattle.hdl_laws.specs.Effects.{Effect, Does}
 use Rattle.hdl_laws.specs.Steps.{Turn, IsAnswerFor, IsBusy, IsStep}
@@ -70,7 +71,7 @@ answered_with f e octets o code session none is seen calm =
     ∙ ap (λ (z : Exchange). finish_exchange f (Some z)) (answered_is octets e (code, session) none seen)
     ∙ ap (λ (b : Bool). cond b f (leave_answered f e code session)) calm
 
-module _ (wire : Wire) (hosted : List ℕ → Bool) (algorithms : List ℕ → Algorithm) (t : Table) (s : LaneState) (u : IsInUse wire s) (x : Received) (frame : IsFrame x.bytes) where
+module _ (speech : Speech) (hosted : List ℕ → Bool) (algorithms : List ℕ → Algorithm) (t : Table) (s : LaneState) (u : IsInUse speech.wire s) (x : Received) (frame : IsFrame x.bytes) where
   abbrev e : Exchange
   e = arrival x.bytes x.peer
 
@@ -78,10 +79,10 @@ module _ (wire : Wire) (hosted : List ℕ → Bool) (algorithms : List ℕ → A
   marks = map mark_of s.partials
 
   -- a message that is answered on a lane: the trail has its partial messages as the lane has, and knows the message's operation
-  message_followed : (gone : LaneState) (message : List ℕ) (k : Task) (eff : Effect) → IsInUse wire gone → gone.challenges ≡ s.challenges → end_message e marks ≡ map mark_of gone.partials → operation_of e marks ≡ number_at message 0
-      → IsMessageTask wire gone (message_from x message) k → Does hosted algorithms t k eff → FollowsOn wire (view s) e eff
+  message_followed : (gone : LaneState) (message : List ℕ) (k : Task) (eff : Effect) → IsInUse speech.wire gone → gone.challenges ≡ s.challenges → end_message e marks ≡ map mark_of gone.partials → operation_of e marks ≡ number_at message 0
+      → IsMessageTask speech gone (message_from x message) k → Does hosted algorithms t k eff → FollowsOn speech.wire (view s) e eff
   message_followed gone message k eff used same ends knows task does =
-      let ans : Answered wire gone (message_from x message) eff = message_answered wire hosted algorithms t gone used (message_from x message) k eff task does in
+      let ans : Answered speech.wire gone (message_from x message) eff = message_answered speech hosted algorithms t gone used (message_from x message) k eff task does in
       let settles : finish_exchange (view s) (Some (answered_by (outcome_datagrams eff.outcome) e)) ≡ leave_answered (view s) e ans.code ans.session =
       answered_with (view s) e ans.octets eff.outcome ans.code ans.session refl ans.outcome ans.seen ans.calm in (
         record {
@@ -96,7 +97,7 @@ module _ (wire : Wire) (hosted : List ℕ → Bool) (algorithms : List ℕ → A
       )
 
   -- without TC
-  single_followed : is_truncated (envelope_at x.bytes) ≡ false → (k : Task) (eff : Effect) → IsMessageTask wire s (message_from x (drop 20 x.bytes)) k → Does hosted algorithms t k eff → FollowsOn wire (view s) e eff
+  single_followed : is_truncated (envelope_at x.bytes) ≡ false → (k : Task) (eff : Effect) → IsMessageTask speech s (message_from x (drop 20 x.bytes)) k → Does hosted algorithms t k eff → FollowsOn speech.wire (view s) e eff
   single_followed plain k eff task does =
       message_followed s (drop 20 x.bytes) k eff u refl
       (ap (λ (b : Bool). cond b (filter (λ m. not (trail.is_of e.key m)) marks) marks) plain)
@@ -105,11 +106,11 @@ module _ (wire : Wire) (hosted : List ℕ → Bool) (algorithms : List ℕ → A
       task does
 
   -- a piece that isn't answered
-  piece_followed : is_truncated (envelope_at x.bytes) ≡ true → whole_message (take_piece s.partials (piece_of x.peer x.bytes)).0 ≡ None → (k : Task) (eff : Effect) → k ≡ Ignore (with_partials s (take_piece s.partials (piece_of x.peer x.bytes)).1) → Does hosted algorithms t k eff → FollowsOn wire (view s) e eff
+  piece_followed : is_truncated (envelope_at x.bytes) ≡ true → whole_message (take_piece s.partials (piece_of x.peer x.bytes)).0 ≡ None → (k : Task) (eff : Effect) → k ≡ Ignore (with_partials s (take_piece s.partials (piece_of x.peer x.bytes)).1) → Does hosted algorithms t k eff → FollowsOn speech.wire (view s) e eff
   piece_followed truncated none k eff task does =
       let left = piece_left x.peer x.bytes frame truncated s.partials u.partials none in
       let done : Does hosted algorithms t (Ignore (with_partials s (take_piece s.partials (piece_of x.peer x.bytes)).1)) eff = subst (λ (j : Task). Does hosted algorithms t j eff) task does in
-      subst (FollowsOn wire (view s) e) (sym done) ((
+      subst (FollowsOn speech.wire (view s) e) (sym done) ((
         record {
           partials = ap (λ (b : Bool). (cond {A = Followed} b (record (view s) { partials = with_piece e marks }) (view s)).partials) truncated ∙ left.0;
           challenges = ap (λ (b : Bool). (cond {A = Followed} b (record (view s) { partials = with_piece e marks }) (view s)).challenges) truncated;
@@ -119,7 +120,7 @@ module _ (wire : Wire) (hosted : List ℕ → Bool) (algorithms : List ℕ → A
 
   -- a piece that makes its message whole
   whole_followed : is_truncated (envelope_at x.bytes) ≡ true → (message : List ℕ) → whole_message (take_piece s.partials (piece_of x.peer x.bytes)).0 ≡ Some message → (k : Task) (eff : Effect)
-      → IsMessageTask wire (with_partials s (free_partial s.partials (pool.key_of x.peer (envelope_at x.bytes)))) (message_from x message) k → Does hosted algorithms t k eff → FollowsOn wire (view s) e eff
+      → IsMessageTask speech (with_partials s (free_partial s.partials (pool.key_of x.peer (envelope_at x.bytes)))) (message_from x message) k → Does hosted algorithms t k eff → FollowsOn speech.wire (view s) e eff
   whole_followed truncated message made k eff task does =
       let key = pool.key_of x.peer (envelope_at x.bytes) in
       message_followed (with_partials s (free_partial s.partials key)) message k eff
@@ -129,25 +130,25 @@ module _ (wire : Wire) (hosted : List ℕ → Bool) (algorithms : List ℕ → A
       (whole_left x.peer x.bytes frame truncated s.partials u.partials message made)
       task does
 
-  frame_followed : (k : Task) (eff : Effect) → IsFrameTask wire s x k → Does hosted algorithms t k eff → FollowsOn wire (view s) e eff
+  frame_followed : (k : Task) (eff : Effect) → IsFrameTask speech s x k → Does hosted algorithms t k eff → FollowsOn speech.wire (view s) e eff
   frame_followed k eff task does = by_flag (is_truncated (envelope_at x.bytes)) refl task
     where
       by_whole : is_truncated (envelope_at x.bytes) ≡ true → (o : Option (List ℕ)) → whole_message (take_piece s.partials (piece_of x.peer x.bytes)).0 ≡ o
-          → IsWholeTask wire (with_partials s (take_piece s.partials (piece_of x.peer x.bytes)).1) (with_partials s (free_partial s.partials (pool.key_of x.peer (envelope_at x.bytes)))) x o k → FollowsOn wire (view s) e eff
+          → IsWholeTask speech (with_partials s (take_piece s.partials (piece_of x.peer x.bytes)).1) (with_partials s (free_partial s.partials (pool.key_of x.peer (envelope_at x.bytes)))) x o k → FollowsOn speech.wire (view s) e eff
       by_whole truncated None none task = piece_followed truncated none k eff task does
       by_whole truncated (Some message) made task = whole_followed truncated message made k eff task does
 
       by_flag : (b : Bool) → is_truncated (envelope_at x.bytes) ≡ b
-          → MatchBool b (IsPieceTask wire s x (take_piece s.partials (piece_of x.peer x.bytes)) k) (IsMessageTask wire s (message_from x (drop 20 x.bytes)) k) → FollowsOn wire (view s) e eff
+          → MatchBool b (IsPieceTask speech s x (take_piece s.partials (piece_of x.peer x.bytes)) k) (IsMessageTask speech s (message_from x (drop 20 x.bytes)) k) → FollowsOn speech.wire (view s) e eff
       by_flag true truncated task = by_whole truncated (whole_message (take_piece s.partials (piece_of x.peer x.bytes)).0) refl task
       by_flag false plain task = single_followed plain k eff task does
 
-  pub event_followed : (k : Task) (eff : Effect) → IsTask wire s (What.Frame x.peer x.moment x.nonce x.bytes) k → Does hosted algorithms t k eff → FollowsOn wire (view s) e eff
+  pub event_followed : (k : Task) (eff : Effect) → IsTask speech s (What.Frame x.peer x.moment x.nonce x.bytes) k → Does hosted algorithms t k eff → FollowsOn speech.wire (view s) e eff
   event_followed k eff task does =
-      let here : IsOctetsTask wire s x k = subst (λ (b : Bool). MatchBool b (IsOctetsTask wire s x k) (k ≡ Ignore s)) u.is_open task in
+      let here : IsOctetsTask speech s x k = subst (λ (b : Bool). MatchBool b (IsOctetsTask speech s x k) (k ≡ Ignore s)) u.is_open task in
       by_frame here
     where
-      by_frame : IsOctetsTask wire s x k → FollowsOn wire (view s) e eff
+      by_frame : IsOctetsTask speech s x k → FollowsOn speech.wire (view s) e eff
       by_frame (inl a) = frame_followed k eff a.1 does
       by_frame (inr b) = absurd (b.0 frame)
 
@@ -158,29 +159,29 @@ after_is w lane s =
     ap (λ (o : Option LaneState). unwrap_or o (fresh false))
     (map.get-insert nat_cmp_total w.lanes lane s lane ∙ ap (λ (r : Ordering). cond (is_eq r) (Some s) (map.get w.lanes lane)) (tied_itself nat_cmp_total lane))
 
-module _ (w : World) (lane peer moment : ℕ) (nonce octets : List ℕ) (f : Followed) (frame : IsFrame octets) (owned : owner w.site lane ≢ None) (used : IsInUse (layout_for w.site (owner w.site lane)) (lane_of w lane)) (follows : Follows f (lane_of w lane)) where
+module _ (w : World) (lane peer moment : ℕ) (nonce octets : List ℕ) (f : Followed) (frame : IsFrame octets) (owned : owner w.site lane ≢ None) (used : IsInUse (speech_for w.site (owner w.site lane)).wire (lane_of w lane)) (follows : Follows f (lane_of w lane)) where
   abbrev event : Event
   event = record { lane = lane; what = What.Frame peer moment nonce octets }
 
   -- the trail follows the lane of this world once the outcome is seen
   abbrev FollowsAfter : Outcome → World → Type 0
-  FollowsAfter o new = Follows (finish_exchange f (Some (answered_by (outcome_datagrams o) (arrival octets peer)))) (lane_of new lane) × IsInUse (layout_for w.site (owner w.site lane)) (lane_of new lane)
+  FollowsAfter o new = Follows (finish_exchange f (Some (answered_by (outcome_datagrams o) (arrival octets peer)))) (lane_of new lane) × IsInUse (speech_for w.site (owner w.site lane)).wire (lane_of new lane)
 
   answer_followed : (t : Turn) → t.event ≡ event → (o : Option ℕ) → owner w.site lane ≡ o → IsAnswerFor w o t → FollowsAfter t.outcome t.after
   answer_followed t same None none is = absurd (owned none)
   answer_followed t same (Some publisher) of is =
       let x : Received = record { peer = peer; moment = moment; nonce = nonce; bytes = octets } in
       let eff : Effect = is.0 in
-      let wire : Wire = layout_for w.site (owner w.site lane) in
-      let there : IsTask (layout w.site publisher) (lane_of w lane) (What.Frame peer moment nonce octets) is.1 = subst (λ (z : Event). IsTask (layout w.site publisher) (lane_of w z.lane) z.what is.1) same is.2 in
-      let task : IsTask wire (lane_of w lane) (What.Frame peer moment nonce octets) is.1 = subst (λ (l : Wire). IsTask l (lane_of w lane) (What.Frame peer moment nonce octets) is.1) (sym (ap (layout_for w.site) of)) there in
-      let on : FollowsOn wire (view (lane_of w lane)) (arrival octets peer) eff = event_followed wire (hosts w.site publisher) (algorithms w.site publisher) w.table (lane_of w lane) used x frame is.1 eff task is.3 in
-      let here : FollowsOn wire f (arrival octets peer) eff = subst (λ (g : Followed). FollowsOn wire g (arrival octets peer) eff) (view_is f (lane_of w lane) follows) on in
+      let lanes_speech : Speech = speech_for w.site (owner w.site lane) in
+      let there : IsTask (speech w.site publisher) (lane_of w lane) (What.Frame peer moment nonce octets) is.1 = subst (λ (z : Event). IsTask (speech w.site publisher) (lane_of w z.lane) z.what is.1) same is.2 in
+      let task : IsTask lanes_speech (lane_of w lane) (What.Frame peer moment nonce octets) is.1 = subst (λ (l : Speech). IsTask l (lane_of w lane) (What.Frame peer moment nonce octets) is.1) (sym (ap (speech_for w.site) of)) there in
+      let on : FollowsOn lanes_speech.wire (view (lane_of w lane)) (arrival octets peer) eff = event_followed lanes_speech (hosts w.site publisher) (algorithms w.site publisher) w.table (lane_of w lane) used x frame is.1 eff task is.3 in
+      let here : FollowsOn lanes_speech.wire f (arrival octets peer) eff = subst (λ (g : Followed). FollowsOn lanes_speech.wire g (arrival octets peer) eff) (view_is f (lane_of w lane) follows) on in
       let state : lane_of t.after lane ≡ eff.state =
       ap (λ (z : Turn). lane_of z.after lane) is.4 ∙ ap (λ (z : Event). unwrap_or (map.get (map.insert w.lanes z.lane eff.state) lane) (fresh false)) same ∙ after_is w lane eff.state in
       let outcome : t.outcome ≡ eff.outcome = ap (λ (z : Turn). z.outcome) is.4 in
-      subst (λ (o : Outcome). Follows (finish_exchange f (Some (answered_by (outcome_datagrams o) (arrival octets peer)))) (lane_of t.after lane) × IsInUse wire (lane_of t.after lane)) (sym outcome)
-      (subst (λ (z : LaneState). Follows (finish_exchange f (Some (answered_by (outcome_datagrams eff.outcome) (arrival octets peer)))) z × IsInUse wire z) (sym state) here)
+      subst (λ (o : Outcome). Follows (finish_exchange f (Some (answered_by (outcome_datagrams o) (arrival octets peer)))) (lane_of t.after lane) × IsInUse lanes_speech.wire (lane_of t.after lane)) (sym outcome)
+      (subst (λ (z : LaneState). Follows (finish_exchange f (Some (answered_by (outcome_datagrams eff.outcome) (arrival octets peer)))) z × IsInUse lanes_speech.wire z) (sym state) here)
 
   busy_followed : (t : Turn) → IsBusy w t → FollowsAfter t.outcome t.after
   busy_followed t is =

@@ -18,15 +18,17 @@ use Rattle.hdl_slots.specs.declared.pending.Pending.{Pending}
 use Rattle.hdl_slots.specs.declared.pending.Challenge.{Challenge}
 use Rattle.hdl_slots.specs.Lanes as slots
 use Rattle.hdl_ops.specs.Admission.{request_algorithm}
-use Rattle.hdl_ops.specs.Decisions.{Anyone, Proven, Decision, failure}
+use Rattle.hdl_ops.specs.Decisions.{Anyone, Proven, Decision, failure, site_decision}
 use Rattle.hdl_ops.specs.Proven.{Proof}
 use Rattle.hdl_ops.specs.Replies.{reply_to, challenge_to}
 use Rattle.hdl_ops.specs.Requests.{Response, response_of}
 use Rattle.hdl_ops.proofs.Announced.{proven_code}
 use Rattle.hdl_ops.proofs.Codes.{is_answer_code, code_fits, decides_code, not_busy}
+use Rattle.hdl_ops.proofs.SiteDecisions.{site_code, site_unchallenged}
 use Rattle.hdl_events.specs.declared.Outcome.TheVariants.{Reply}
 use Rattle.hdl_laws.specs.Lanes.{LaneState}
-use Rattle.hdl_laws.specs.Tasks.{Message, Task, Ignore, Break, Malformed, Unknown, Late, Ask, Redeem, is_late, redeem_task, IsReading, IsResponseTask, IsRequestTask, IsContentTask, IsMessageTask}
+use Rattle.hdl_laws.specs.Speech.{Speech}
+use Rattle.hdl_laws.specs.Tasks.{Message, Task, Ignore, Break, Malformed, Unknown, Late, Ask, Inform, Redeem, told_site, ask_task, is_late, redeem_task, IsReading, IsResponseTask, IsRequestTask, IsContentTask, IsMessageTask}
 use Rattle.hdl_laws.specs.Tasks as laws
 use Rattle.hdl_laws.specs.Effects.{Effect, Does, pending, answer_octets, challenge_octets, answer_effect, challenge_effect}
 use Rattle.hdl_laws.proofs.Codes.{reply_code, challenge_code}
@@ -98,7 +100,7 @@ spent_in_use wire s m u = record {
   challenges = each_filter (CanBeRead wire) (λ (c : Challenge). not (slots.is_of m.peer m.envelope.session c)) s.challenges.challenges u.challenges;
 }
 
-module _ (wire : Wire) (hosted : List ℕ → Bool) (algorithms : List ℕ → Algorithm) (t : Table) (s : LaneState) (u : IsInUse wire s) (m : Message) where
+module _ (speech : Speech) (hosted : List ℕ → Bool) (algorithms : List ℕ → Algorithm) (t : Table) (s : LaneState) (u : IsInUse speech.wire s) (m : Message) where
   abbrev key : MessageKey
   key = key_of m.peer m.envelope
 
@@ -106,7 +108,7 @@ module _ (wire : Wire) (hosted : List ℕ → Bool) (algorithms : List ℕ → A
   sent = map sent_of s.challenges.challenges
 
   -- a reply that leaves the challenges
-  plain : (a : Algorithm) (r : Content) (d : Decision) → IsTrue (is_answer_code d.code) → eqb d.code 402 ≡ false → is_response (number_at m.message 0) && not (eqb d.code 4) ≡ false → Answered wire s m (answer_effect a s m r d)
+  plain : (a : Algorithm) (r : Content) (d : Decision) → IsTrue (is_answer_code d.code) → eqb d.code 402 ≡ false → is_response (number_at m.message 0) && not (eqb d.code 4) ≡ false → Answered speech.wire s m (answer_effect a s m r d)
   plain a r d fits none other =
       let octets = answer_octets a m.moment m.envelope r d.code d.content in
       record {
@@ -123,7 +125,7 @@ module _ (wire : Wire) (hosted : List ℕ → Bool) (algorithms : List ℕ → A
 
   -- a reply to a response that spends its challenge
   spending : (a : Algorithm) (r : Content) (d : Decision) → IsTrue (is_answer_code d.code) → eqb d.code 402 ≡ false → is_response (number_at m.message 0) && not (eqb d.code 4) ≡ true
-      → Answered wire s m (answer_effect a (spent_lane s m) m r d)
+      → Answered speech.wire s m (answer_effect a (spent_lane s m) m r d)
   spending a r d fits none answers =
       let octets = answer_octets a m.moment m.envelope r d.code d.content in
       record {
@@ -135,11 +137,11 @@ module _ (wire : Wire) (hosted : List ℕ → Bool) (algorithms : List ℕ → A
         calm = not_busy d.code fits;
         partials = refl;
         challenges = spends key (number_at m.message 0) d.code (session_in octets) sent none answers ∙ spent_seen m.peer m.envelope.session s.challenges.challenges;
-        in_use = spent_in_use wire s m u;
+        in_use = spent_in_use speech.wire s m u;
       }
 
   -- a challenge
-  challenging : (a : Algorithm) (r : Content) → SpellsRequest wire m.message r → is_response (number_at m.message 0) ≡ false → Answered wire s m (challenge_effect a s m r)
+  challenging : (a : Algorithm) (r : Content) → SpellsRequest speech.wire m.message r → is_response (number_at m.message 0) ≡ false → Answered speech.wire s m (challenge_effect a s m r)
   challenging a r spelt other =
       let y = challenge_to a m.moment s.challenges.next m.envelope.request r m.nonce in
       let octets = challenge_octets a m.moment s.challenges.next m.envelope r m.nonce in
@@ -158,12 +160,12 @@ module _ (wire : Wire) (hosted : List ℕ → Bool) (algorithms : List ℕ → A
           partials = u.partials;
           next = next_fits s.challenges.next u.next;
           few = put_few s.challenges p;
-          challenges = put_read wire s.challenges p u.challenges (r, spelt);
+          challenges = put_read speech.wire s.challenges p u.challenges (r, spelt);
         };
       }
 
-  malformed : (eff : Effect) → Does hosted algorithms t (Malformed m s) eff → Answered wire s m eff
-  malformed eff does = subst (Answered wire s m) (sym does) (record {
+  malformed : (eff : Effect) → Does hosted algorithms t (Malformed m s) eff → Answered speech.wire s m eff
+  malformed eff does = subst (Answered speech.wire s m) (sym does) (record {
     octets = short_reply 4 m.envelope;
     outcome = refl;
     code = 4;
@@ -175,60 +177,72 @@ module _ (wire : Wire) (hosted : List ℕ → Bool) (algorithms : List ℕ → A
     in_use = u;
   })
 
-  asked : (r : Content) → SpellsRequest wire m.message r → is_response (number_at m.message 0) ≡ false → (eff : Effect) → Does hosted algorithms t (Ask m r s) eff → Answered wire s m eff
+  asked : (r : Content) → SpellsRequest speech.wire m.message r → is_response (number_at m.message 0) ≡ false → (eff : Effect) → Does hosted algorithms t (Ask m r s) eff → Answered speech.wire s m eff
   asked r spelt other eff does =
       let a = request_algorithm algorithms r in
-      subst (Answered wire s m) (sym does.2) (pick a does.0 (decides_code hosted a t r Anyone does.0 does.1) (eqb does.0.code 402) refl)
+      subst (Answered speech.wire s m) (sym does.2) (pick a does.0 (decides_code hosted a t r Anyone does.0 does.1) (eqb does.0.code 402) refl)
     where
-      pick : (a : Algorithm) (d : Decision) → IsTrue (is_answer_code d.code) → (b : Bool) → eqb d.code 402 ≡ b → Answered wire s m (cond {A = Effect} b (challenge_effect a s m r) (answer_effect a s m r d))
+      pick : (a : Algorithm) (d : Decision) → IsTrue (is_answer_code d.code) → (b : Bool) → eqb d.code 402 ≡ b → Answered speech.wire s m (cond {A = Effect} b (challenge_effect a s m r) (answer_effect a s m r d))
       pick a d fits true is = challenging a r spelt other
       pick a d fits false is = plain a r d fits is (ap (λ (b : Bool). b && not (eqb d.code 4)) other)
 
+  informed : (r : Content) (site : List ℕ) → is_response (number_at m.message 0) ≡ false → (eff : Effect) → Does hosted algorithms t (Inform m r site s) eff → Answered speech.wire s m eff
+  informed r site other eff does =
+      let d = site_decision Sha1 r site in
+      subst (Answered speech.wire s m) (sym does) (plain Sha1 r d (site_code Sha1 r site) (site_unchallenged Sha1 r site) (ap (λ (b : Bool). b && not (eqb d.code 4)) other))
+
   responded : (r : Content) (answer : Response) → is_response (number_at m.message 0) ≡ true → (p : Option Pending) → slots.challenge_of s.challenges.challenges m.peer m.envelope.session ≡ p
-      → (k : Task) (eff : Effect) → IsResponseTask wire s m r answer p k → Does hosted algorithms t k eff → Answered wire s m eff
+      → (k : Task) (eff : Effect) → IsResponseTask speech.wire s m r answer p k → Does hosted algorithms t k eff → Answered speech.wire s m eff
   responded r answer is None missed k eff task does =
       let done : Does hosted algorithms t (Unknown m r s) eff = subst (λ (j : Task). Does hosted algorithms t j eff) task does in
-      subst (Answered wire s m) (sym done) (plain Sha1 r (failure 4 Empty) refl refl (no_change (is_response (number_at m.message 0))))
+      subst (Answered speech.wire s m) (sym done) (plain Sha1 r (failure 4 Empty) refl refl (no_change (is_response (number_at m.message 0))))
   responded r answer is (Some p) found k eff task does =
       let done = subst (λ (j : Task). Does hosted algorithms t j eff) task.2 does in
       by_reading task.0 task.1 done
     where
-      readable : (request : Content) × SpellsRequest wire p.message request
+      readable : (request : Content) × SpellsRequest speech.wire p.message request
       readable = of_challenge (find (slots.is_of m.peer m.envelope.session) s.challenges.challenges) refl found
         where
-          of_challenge : (o : Option Challenge) → find (slots.is_of m.peer m.envelope.session) s.challenges.challenges ≡ o → option_map (λ (c : Challenge). c.pending) o ≡ Some p → (request : Content) × SpellsRequest wire p.message request
+          of_challenge : (o : Option Challenge) → find (slots.is_of m.peer m.envelope.session) s.challenges.challenges ≡ o → option_map (λ (c : Challenge). c.pending) o ≡ Some p → (request : Content) × SpellsRequest speech.wire p.message request
           of_challenge None at is = absurd (cc)
           of_challenge (Some c) at is =
-              let can : CanBeRead wire c = each_found (CanBeRead wire) (slots.is_of m.peer m.envelope.session) s.challenges.challenges c u.challenges at in
+              let can : CanBeRead speech.wire c = each_found (CanBeRead speech.wire) (slots.is_of m.peer m.envelope.session) s.challenges.challenges c u.challenges at in
               let same : c.pending ≡ p = cc in
-              subst (λ (q : Pending). (request : Content) × SpellsRequest wire q.message request) same can
+              subst (λ (q : Pending). (request : Content) × SpellsRequest speech.wire q.message request) same can
 
-      by_reading : (o : Option Content) → IsReading (SpellsRequest wire p.message) o → Does hosted algorithms t (redeem_task s m answer p o) eff → Answered wire s m eff
+      by_reading : (o : Option Content) → IsReading (SpellsRequest speech.wire p.message) o → Does hosted algorithms t (redeem_task s m answer p o) eff → Answered speech.wire s m eff
       by_reading None none done = absurd (none readable.0 readable.1)
       by_reading (Some request) spelt done = by_late (is_late m p) done
         where
           by_late : (b : Bool)
               → Does hosted algorithms t (cond {A = Task} b (Late m request (algorithm_of p.digest) (laws.without_challenge s m)) (Redeem m request (record { response = answer; nonce = p.nonce; digest = p.digest }) (laws.without_challenge s m))) eff
-              → Answered wire s m eff
-          by_late true done = subst (Answered wire s m) (sym done) (spending (algorithm_of p.digest) request (failure 405 Empty) refl refl (ap (λ (b : Bool). b && true) is))
+              → Answered speech.wire s m eff
+          by_late true done = subst (Answered speech.wire s m) (sym done) (spending (algorithm_of p.digest) request (failure 405 Empty) refl refl (ap (λ (b : Bool). b && true) is))
           by_late false done =
               let proof : Proof = record { response = answer; nonce = p.nonce; digest = p.digest } in
               let a = algorithm_of p.digest in
               let d = done.0 in
-              subst (Answered wire s m) (sym done.2)
+              subst (Answered speech.wire s m) (sym done.2)
               (spending a request d (decides_code hosted a t request (Proven proof) d done.1) (proven_code hosted a t request proof d done.1)
               (ap (λ (b : Bool). b && not (eqb d.code 4)) is ∙ ap not (proven_no_fault hosted a t request proof d done.1)))
 
   -- the trail sees what the reply to a message does
-  pub message_answered : (k : Task) (eff : Effect) → IsMessageTask wire s m k → Does hosted algorithms t k eff → Answered wire s m eff
+  pub message_answered : (k : Task) (eff : Effect) → IsMessageTask speech s m k → Does hosted algorithms t k eff → Answered speech.wire s m eff
   message_answered k eff task does = by_reading task.0 task.1 task.2
     where
-      by_response : (r : Content) → SpellsRequest wire m.message r → (o : Option Response) → response_of r.operation ≡ o → IsRequestTask wire s m r o k → Answered wire s m eff
+      by_response : (r : Content) → SpellsRequest speech.wire m.message r → (o : Option Response) → response_of r.operation ≡ o → IsRequestTask speech s m r o k → Answered speech.wire s m eff
       by_response r spelt None is task =
-          asked r spelt (response_seen wire m.message r spelt ∙ ap is_some is) eff (subst (λ (j : Task). Does hosted algorithms t j eff) task does)
-      by_response r spelt (Some answer) is task =
-          responded r answer (response_seen wire m.message r spelt ∙ ap is_some is) (slots.challenge_of s.challenges.challenges m.peer m.envelope.session) refl k eff task does
+          by_site (told_site speech.site r.operation) (subst (λ (j : Task). Does hosted algorithms t j eff) task does)
+        where
+          other : is_response (number_at m.message 0) ≡ false
+          other = response_seen speech.wire m.message r spelt ∙ ap is_some is
 
-      by_reading : (o : Option Content) → IsReading (SpellsRequest wire m.message) o → IsContentTask wire s m o k → Answered wire s m eff
+          by_site : (o : Option (List ℕ)) → Does hosted algorithms t (ask_task s m r o) eff → Answered speech.wire s m eff
+          by_site None done = asked r spelt other eff done
+          by_site (Some site) done = informed r site other eff done
+      by_response r spelt (Some answer) is task =
+          responded r answer (response_seen speech.wire m.message r spelt ∙ ap is_some is) (slots.challenge_of s.challenges.challenges m.peer m.envelope.session) refl k eff task does
+
+      by_reading : (o : Option Content) → IsReading (SpellsRequest speech.wire m.message) o → IsContentTask speech s m o k → Answered speech.wire s m eff
       by_reading None none task = malformed eff (subst (λ (j : Task). Does hosted algorithms t j eff) task does)
       by_reading (Some r) spelt task = by_response r spelt (response_of r.operation) refl task

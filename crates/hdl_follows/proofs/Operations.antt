@@ -9,7 +9,7 @@ use Rattle.hdl_auth.specs.declared.algorithm.Algorithm.{Algorithm}
 use Rattle.hdl_msg.specs.Codes.{IsNumberOf}
 use Rattle.hdl_msg.specs.declared.codes.OpCode.TheVariants.{ChallengeResponse}
 use Rattle.hdl_value.specs.declared.wire.Wire.{Wire}
-use Rattle.hdl_msg.specs.Message.{Content, SpellsRequest, Operation, code_of, resolution, create, delete, add, remove, modify, list, response, other, header_octets, signed_octets}
+use Rattle.hdl_msg.specs.Message.{Content, SpellsRequest, Operation, code_of, resolution, create, delete, add, remove, modify, list, response, other, site_info, header_octets, signed_octets}
 use Rattle.hdl_ops.specs.First.{or_code}
 use Rattle.hdl_ops.specs.Admission.{refusal}
 use Rattle.hdl_ops.specs.Requests.{response_of}
@@ -42,6 +42,7 @@ response_number (remove handle indexes) n is = ap (λ (k : ℕ). eqb k 200) is
 response_number (modify handle values) n is = ap (λ (k : ℕ). eqb k 200) is
 response_number (list handle) n is = ap (λ (k : ℕ). eqb k 200) is
 response_number (response kind handle index answer) n is = ap (λ (k : ℕ). eqb k 200) is
+response_number (site_info octets) n is = ap (λ (k : ℕ). eqb k 200) is
 response_number (other octets) n is = ne_eqb n 200 (is ChallengeResponse)
 
 -- the message of a request brings a challenge response just where the request is one

@@ -5,7 +5,7 @@ use Rattle.hdl_value.specs.declared.wire.Wire.{Wire}
 use Rattle.hdl_events.specs.declared.What.{What}
 use Rattle.hdl_events.specs.declared.Outcome.{Outcome}
 use Rattle.hdl_laws.specs.Lanes.{LaneState, fresh}
-use Rattle.hdl_laws.specs.Worlds.{World, owner, lane_of, layout_for}
+use Rattle.hdl_laws.specs.Worlds.{World, owner, lane_of, speech_for}
 use Rattle.hdl_laws.specs.Runs.{Steps}
 use Rattle.hdl_trail.specs.Followed.{Followed, is_held, finish_exchange}
 use Rattle.hdl_trail.specs.declared.exchange.Exchange.{Exchange}
@@ -22,9 +22,9 @@ pub record BeginsFollowed : Type 0 where
 abbrev pub StepsFollowed : Type 0
 StepsFollowed =
     (w new : World) (lane peer moment : ℕ) (nonce octets : List ℕ) (o : Outcome) (f : Followed)
-    → IsFrame octets → owner w.site lane ≢ None → IsInUse (layout_for w.site (owner w.site lane)) (lane_of w lane) → Follows f (lane_of w lane)
+    → IsFrame octets → owner w.site lane ≢ None → IsInUse (speech_for w.site (owner w.site lane)).wire (lane_of w lane) → Follows f (lane_of w lane)
     → Steps w (record { lane = lane; what = What.Frame peer moment nonce octets }) o new
-    → Follows (finish_exchange f (Some (answered_by (outcome_datagrams o) (arrival octets peer)))) (lane_of new lane) × IsInUse (layout_for w.site (owner w.site lane)) (lane_of new lane)
+    → Follows (finish_exchange f (Some (answered_by (outcome_datagrams o) (arrival octets peer)))) (lane_of new lane) × IsInUse (speech_for w.site (owner w.site lane)).wire (lane_of new lane)
 
 -- a trail that follows a lane holds the numbers under which the lane keeps something, and no others
 abbrev pub HoldsWhatIsKept : Type 0

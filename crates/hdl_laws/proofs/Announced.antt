@@ -14,7 +14,8 @@ use Rattle.hdl_msg.specs.Codes.{IsNumberOf}
 use Rattle.hdl_msg.specs.Laws.{short_parts}
 use Rattle.hdl_msg.specs.Reading.{reply_at}
 use Rattle.hdl_value.specs.Spelling.{string}
-use Rattle.hdl_msg.specs.Message.{Content, code_of, SpellsRequest, IsShort, header_octets}
+use Rattle.hdl_msg.specs.declared.codes.OpCode.TheVariants.{GetSiteInfo}
+use Rattle.hdl_msg.specs.Message.{Content, Operation, resolution, site_info, create, delete, add, remove, modify, list, response, other, code_of, SpellsRequest, IsShort, header_octets}
 use Rattle.hdl_msg.specs.Reply.{reply_body, reply_message, reply_octets, short_reply, ReplyParts, reply_parts, parts_body, IsAnnounced, parts_message, parts_read, PartsFit, SpellsReply, content_read, digest_octets, wire_of_content}
 use Rattle.hdl_msg.proofs.ReplyReadings.{reply_again, short_reply_spelt_lem}
 use Rattle.hdl_msg.proofs.Seen.{own_wire, same_content, same_form, same_wire}
@@ -23,15 +24,17 @@ use Rattle.hdl_pool.specs.Partial.{key_of, piece_of}
 use Rattle.hdl_slots.specs.declared.pending.Pending.{Pending}
 use Rattle.hdl_slots.specs.Lanes.{challenge_of}
 use Rattle.hdl_ops.specs.Admission.{request_algorithm}
-use Rattle.hdl_ops.specs.Decisions.{Anyone, Proven, Decision, Decides}
+use Rattle.hdl_ops.specs.Decisions.{Anyone, Proven, Decision, site_decision, Decides}
 use Rattle.hdl_ops.specs.Requests.{Response, response_of}
 use Rattle.hdl_ops.specs.Replies.{reply_to, challenge_to}
 use Rattle.hdl_ops.proofs.Announced.{answer_announced_lem, protocol_error_announced, timeout_announced, challenge_announced_lem, proven_code}
+use Rattle.hdl_ops.proofs.SiteDecisions.{site_announced}
 use Rattle.hdl_events.specs.declared.What.{What}
 use Rattle.hdl_events.specs.declared.What.TheVariants.{Open, Bad, Close}
 use Rattle.hdl_laws.specs.Lanes.{LaneState, with_partials}
-use Rattle.hdl_laws.specs.Worlds.{World, hosts, algorithms, owner, lane_of, layout}
-use Rattle.hdl_laws.specs.Tasks.{Received, Message, message_from, Task, Ignore, Break, Malformed, Unknown, Late, Ask, Redeem, is_late, without_challenge, redeem_task, IsReading, IsResponseTask, IsRequestTask, IsContentTask, IsMessageTask, IsWholeTask, IsFrameTask, IsOctetsTask, IsTask}
+use Rattle.hdl_laws.specs.Speech.{Speech}
+use Rattle.hdl_laws.specs.Worlds.{World, hosts, algorithms, owner, lane_of, speech}
+use Rattle.hdl_laws.specs.Tasks.{Received, Message, message_from, Task, Ignore, Break, Malformed, Unknown, Late, Ask, Inform, Redeem, told_site, ask_task, is_late, without_challenge, redeem_task, IsReading, IsResponseTask, IsRequestTask, IsContentTask, IsMessageTask, IsWholeTask, IsFrameTask, IsOctetsTask, IsTask}
 use Rattle.hdl_laws.specs.Effects.{Effect, Does, answer_effect, challenge_effect}
 use Rattle.hdl_laws.specs.Steps.{Turn, IsAnswerFor, IsStep}
 use Rattle.hdl_laws.specs.Reveals.{IsSelfTold, sent_by, StepsAnnounce}
@@ -80,6 +83,7 @@ Coded r = IsNumberOf (code_of r.operation) r.header.op_code
 
 abbrev CodedTask : Task → Type 0
 CodedTask (Ask m r s) = Coded r
+CodedTask (Inform m r site s) = IsNumberOf (Some GetSiteInfo) r.header.op_code
 CodedTask (Redeem m r p s) = Coded r
 CodedTask _ = ⊤
 
@@ -99,32 +103,46 @@ response_coded : (w : Wire) (s : LaneState) (m : Message) (r : Content) (a : Res
 response_coded w s m r a None k is = subst CodedTask (sym is) tt
 response_coded w s m r a (Some p) k is = subst CodedTask (sym is.2) (redeem_coded w s m a p is.0 is.1)
 
-request_coded : (w : Wire) (s : LaneState) (m : Message) (r : Content) (o : Option Response) (k : Task) → Coded r → IsRequestTask w s m r o k → CodedTask k
-request_coded w s m r None k has is = subst CodedTask (sym is) has
-request_coded w s m r (Some a) k has is = response_coded w s m r a (challenge_of s.challenges.challenges m.peer m.envelope.session) k is
+-- only a question for site information is answered by it
+asked_coded : (s : LaneState) (m : Message) (r : Content) (site : Option (List ℕ)) (o : Operation) → r.operation ≡ o → Coded r → CodedTask (ask_task s m r (told_site site o))
+asked_coded s m r None (site_info octets) is has = has
+asked_coded s m r (Some site) (site_info octets) is has = subst (λ (o : Operation). IsNumberOf (code_of o) r.header.op_code) is has
+asked_coded s m r site (resolution handle indexes types) is has = has
+asked_coded s m r site (create handle values) is has = has
+asked_coded s m r site (delete handle) is has = has
+asked_coded s m r site (add handle values) is has = has
+asked_coded s m r site (remove handle indexes) is has = has
+asked_coded s m r site (modify handle values) is has = has
+asked_coded s m r site (list handle) is has = has
+asked_coded s m r site (response kind handle index answer) is has = has
+asked_coded s m r site (other octets) is has = has
 
-content_coded : (w : Wire) (s : LaneState) (m : Message) (o : Option Content) (k : Task) → IsReading (SpellsRequest w m.message) o → IsContentTask w s m o k → CodedTask k
+request_coded : (w : Speech) (s : LaneState) (m : Message) (r : Content) (o : Option Response) (k : Task) → Coded r → IsRequestTask w s m r o k → CodedTask k
+request_coded w s m r None k has is = subst CodedTask (sym is) (asked_coded s m r w.site r.operation refl has)
+request_coded w s m r (Some a) k has is = response_coded w.wire s m r a (challenge_of s.challenges.challenges m.peer m.envelope.session) k is
+
+content_coded : (w : Speech) (s : LaneState) (m : Message) (o : Option Content) (k : Task) → IsReading (SpellsRequest w.wire m.message) o → IsContentTask w s m o k → CodedTask k
 content_coded w s m None k h is = subst CodedTask (sym is) tt
 content_coded w s m (Some r) k h is = request_coded w s m r (response_of r.operation) k h.has_code is
 
-message_coded : (w : Wire) (s : LaneState) (m : Message) (k : Task) → IsMessageTask w s m k → CodedTask k
+message_coded : (w : Speech) (s : LaneState) (m : Message) (k : Task) → IsMessageTask w s m k → CodedTask k
 message_coded w s m k is = content_coded w s m is.0 k is.1 is.2
 
-whole_coded : (w : Wire) (kept gone : LaneState) (x : Received) (o : Option (List ℕ)) (k : Task) → IsWholeTask w kept gone x o k → CodedTask k
+whole_coded : (w : Speech) (kept gone : LaneState) (x : Received) (o : Option (List ℕ)) (k : Task) → IsWholeTask w kept gone x o k → CodedTask k
 whole_coded w kept gone x None k is = subst CodedTask (sym is) tt
 whole_coded w kept gone x (Some bytes) k is = message_coded w gone (message_from x bytes) k is
 
-frame_coded : (w : Wire) (s : LaneState) (x : Received) (k : Task) → IsFrameTask w s x k → CodedTask k
+frame_coded : (w : Speech) (s : LaneState) (x : Received) (k : Task) → IsFrameTask w s x k → CodedTask k
 frame_coded w s x k is =
     either (is_truncated (envelope_at x.bytes))
     (λ piece. whole_coded w _ (with_partials s (free_partial s.partials (key_of x.peer (envelope_at x.bytes)))) x (whole_message (take_piece s.partials (piece_of x.peer x.bytes)).0) k piece)
     (λ whole. message_coded w s _ k whole) is
 
-octets_coded : (w : Wire) (s : LaneState) (x : Received) (k : Task) → IsOctetsTask w s x k → CodedTask k
+octets_coded : (w : Speech) (s : LaneState) (x : Received) (k : Task) → IsOctetsTask w s x k → CodedTask k
 octets_coded w s x k (inl frame) = frame_coded w s x k frame.1
 octets_coded w s x k (inr none) = subst CodedTask (sym none.1) tt
 
-task_coded : (w : Wire) (s : LaneState) (what : What) (k : Task) → IsTask w s what k → CodedTask k
+task_coded : (w : Speech) (s : LaneState) (what : What) (k : Task) → IsTask w s what k → CodedTask k
 task_coded w s Open k is = subst CodedTask (sym is) tt
 task_coded w s Close k is = subst CodedTask (sym is) tt
 task_coded w s (Bad session request) k is = subst CodedTask (sym is) (by s.is_open)
@@ -156,6 +174,9 @@ does_announce hosted algorithms t (Late m r a s) eff octets has is e =
     same_octets octets _ (sym (ap sends is) ∙ e) (made_self (reply_to a m.moment m.envelope.session m.envelope.request r 405 Empty) (timeout_announced a m.moment m.envelope.session m.envelope.request r))
 does_announce hosted algorithms t (Ask m r s) eff octets has is e =
     asked_self hosted (request_algorithm algorithms r) t s m r is.0 octets (is.0.code == 402) has refl is.1 (sym (ap sends is.2) ∙ e)
+does_announce hosted algorithms t (Inform m r site s) eff octets has is e =
+    same_octets octets _ (sym (ap sends is) ∙ e)
+    (made_self (reply_to Sha1 m.moment m.envelope.session m.envelope.request r (site_decision Sha1 r site).code (site_decision Sha1 r site).content) (site_announced Sha1 r site m.moment m.envelope.session m.envelope.request has))
 does_announce hosted algorithms t (Redeem m r p s) eff octets has is e =
     same_octets octets _ (sym (ap sends is.2) ∙ e)
     (made_self (reply_to (algorithm_of p.digest) m.moment m.envelope.session m.envelope.request r is.0.code is.0.content)
@@ -167,7 +188,7 @@ step_announces w t octets (inl a) e = by (owner w.site t.event.lane) a
     by : (o : Option ℕ) → IsAnswerFor w o t → IsSelfTold octets
     by None is = nothing_sent octets (sym (ap (λ (z : Turn). sent_by z.outcome) is) ∙ e)
     by (Some u) is =
-        does_announce (hosts w.site u) (algorithms w.site u) w.table is.1 is.0 octets (task_coded (layout w.site u) (lane_of w t.event.lane) t.event.what is.1 is.2) is.3 (sym (ap (λ (z : Turn). sent_by z.outcome) is.4) ∙ e)
+        does_announce (hosts w.site u) (algorithms w.site u) w.table is.1 is.0 octets (task_coded (speech w.site u) (lane_of w t.event.lane) t.event.what is.1 is.2) is.3 (sym (ap (λ (z : Turn). sent_by z.outcome) is.4) ∙ e)
 step_announces w t octets (inr b) e = same_octets octets _ (sym (ap (λ (z : Turn). sent_by z.outcome) b.busy) ∙ e) (busy_self (envelope_at b.received.bytes))
 
 pub steps_announce : StepsAnnounce

@@ -13,10 +13,11 @@ use Rattle.hdl_msg.specs.declared.replies.ReplyContent.TheVariants.{Empty}
 use Rattle.hdl_msg.proofs.ReplyLaws.{code_at_its_place_lem, code-short_reply}
 use Rattle.hdl_ops.specs.Admission.{request_algorithm}
 use Rattle.hdl_ops.specs.Replies.{reply_to, challenge_to}
-use Rattle.hdl_ops.specs.Decisions.{Anyone, Proven, Decision, failure}
+use Rattle.hdl_ops.specs.Decisions.{Anyone, Proven, Decision, failure, site_decision}
 use Rattle.hdl_ops.proofs.Codes.{is_answer_code, code_fits, decides_code}
+use Rattle.hdl_ops.proofs.SiteDecisions.{site_code}
 use Rattle.hdl_laws.specs.Lanes.{LaneState}
-use Rattle.hdl_laws.specs.Tasks.{Message, Task, Ignore, Break, Malformed, Unknown, Late, Ask, Redeem}
+use Rattle.hdl_laws.specs.Tasks.{Message, Task, Ignore, Break, Malformed, Unknown, Late, Ask, Inform, Redeem}
 use Rattle.hdl_laws.specs.Effects.{Effect, Does, ask_effect, answer_effect, challenge_effect}
 use Rattle.hdl_laws.specs.Isolation.{code_of}
 
@@ -51,6 +52,9 @@ does_code hosted algorithms t (Late m r c s) x a = ap has_answer_code a ∙ ap i
 does_code hosted algorithms t (Ask m r s) x a =
     let e = decides_code hosted (request_algorithm algorithms r) t r Anyone a.0 a.1 in
     ap has_answer_code a.2 ∙ ap is_answer_code (ask_code (request_algorithm algorithms r) s m r a.0 e) ∙ e
+does_code hosted algorithms t (Inform m r site s) x a =
+    let e = site_code Sha1 r site in
+    ap has_answer_code a ∙ ap is_answer_code (answer_code Sha1 s m r (site_decision Sha1 r site) e) ∙ e
 does_code hosted algorithms t (Redeem m r p s) x a =
     let e = decides_code hosted (algorithm_of p.digest) t r (Proven p) a.0 a.1 in
     ap has_answer_code a.2 ∙ ap is_answer_code (answer_code (algorithm_of p.digest) s m r a.0 e) ∙ e

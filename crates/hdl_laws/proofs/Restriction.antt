@@ -7,7 +7,7 @@ use Rattle.std.specs.FinMap as map
 use Rattle.std.specs.FinMap.{nat_cmp-IsAntisymmetric}
 use Rattle.std.specs.Str.{bytes_eq}
 use Rattle.std.specs.Prelude.{find}
-use Rattle.std.specs.Option.{option_map_or}
+use Rattle.std.specs.Option.{option_map, option_map_or}
 use Rattle.hdl_auth.specs.declared.algorithm.Algorithm.{Algorithm}
 use Rattle.hdl_auth.specs.declared.algorithm.Algorithm.TheVariants.{Sha1}
 use Rattle.hdl_value.specs.Place.{Place}
@@ -16,10 +16,11 @@ use Rattle.hdl_value.specs.declared.wire.Wire.TheVariants.{Profile}
 use Rattle.std.proofs.lemmas.Bool.{eq-eqb}
 use Rattle.hdl_value.proofs.Places.{tied}
 use Rattle.hdl_rows.specs.Table.{Table}
-use Rattle.hdl_tenants.specs.Register.{Hosting, root, hosts_among, algorithm_among}
+use Rattle.hdl_tenants.specs.Register.{Hosting, SiteInfo, root, hosts_among, algorithm_among, site_among}
+use Rattle.hdl_ops.specs.Decisions.{told_by}
 use Rattle.hdl_ops.specs.Tables.{apply_if}
 use Rattle.hdl_laws.specs.Lanes.{LaneState, fresh}
-use Rattle.hdl_laws.specs.Worlds.{World, Site, owner, hosts, algorithms, lane_of, layout}
+use Rattle.hdl_laws.specs.Worlds.{World, Site, owner, hosts, algorithms, lane_of, layout, speech}
 use Rattle.hdl_laws.specs.Tasks.{IsTask}
 use Rattle.hdl_laws.specs.Effects.{Does}
 use Rattle.hdl_laws.specs.Steps.{Turn, moment_of, after_effect, IsAnswerFor, IsAnswer, IsBusy, IsStep}
@@ -76,6 +77,24 @@ algorithms_restricted s u = λ i p. algorithms_filtered s.hostings u p i
 layout_restricted : (s : Site) (u : ℕ) → layout (restrict_site s u) u ≡ layout s u
 layout_restricted s u =
     ap (λ o. unwrap_or o Profile) (get-retained nat_cmp-IsAntisymmetric s.layouts (λ other. other == u) u ∙ ap (λ b. cond b (map.get s.layouts u) None) (eq-eqb u u refl))
+
+site_filtered : (sites : List SiteInfo) (u : ℕ) → site_among (filter (λ line. line.publisher == u) sites) u ≡ site_among sites u
+site_filtered [] u = refl
+site_filtered (line ∷ sites) u = pick (line.publisher == u) refl (site_filtered sites u)
+  where
+    octets_of : Option SiteInfo → Option (List ℕ)
+    octets_of o = option_map (λ (x : SiteInfo). x.octets) o
+
+    found : List SiteInfo → Option SiteInfo
+    found xs = find (λ x. x.publisher == u) xs
+
+    pick : (b : Bool) → line.publisher == u ≡ b → site_among (filter (λ x. x.publisher == u) sites) u ≡ site_among sites u
+        → site_among (cond b (line ∷ filter (λ x. x.publisher == u) sites) (filter (λ x. x.publisher == u) sites)) u ≡ octets_of (cond b (Some line) (found sites))
+    pick true e rest = λ i. octets_of (cond (e i) (Some line) (found (filter (λ x. x.publisher == u) sites)))
+    pick false e rest = rest
+
+speech_restricted : (s : Site) (u : ℕ) → speech (restrict_site s u) u ≡ speech s u
+speech_restricted s u = λ i. record { wire = layout_restricted s u i; site = told_by (layout_restricted s u i) (site_filtered s.sites u i) }
 
 -- ---- lanes
 
@@ -141,9 +160,9 @@ module _ (u : ℕ) (C : List Place) where
   answer_for w t rootless closed mine a =
       let eff = a.0 in
       let hosted = hosts w.site u in
-      let task : IsTask (layout (restrict_site w.site u) u) (lane_of (restrict w u C) t.event.lane) t.event.what a.1 =
-      subst (λ l. IsTask l (lane_of (restrict w u C) t.event.lane) t.event.what a.1) (sym (layout_restricted w.site u))
-      (subst (λ s. IsTask (layout w.site u) s t.event.what a.1) (sym (lane_restricted w u C t.event.lane mine)) a.2) in
+      let task : IsTask (speech (restrict_site w.site u) u) (lane_of (restrict w u C) t.event.lane) t.event.what a.1 =
+      subst (λ l. IsTask l (lane_of (restrict w u C) t.event.lane) t.event.what a.1) (sym (speech_restricted w.site u))
+      (subst (λ s. IsTask (speech w.site u) s t.event.what a.1) (sym (lane_restricted w u C t.event.lane mine)) a.2) in
       let does : Does (hosts (restrict_site w.site u) u) (algorithms (restrict_site w.site u) u) (restrict_table hosted C w.table) a.1 eff =
       subst (λ g. Does (hosts (restrict_site w.site u) u) g (restrict_table hosted C w.table) a.1 eff) (sym (algorithms_restricted w.site u))
       (subst (λ f. Does f (algorithms w.site u) (restrict_table hosted C w.table) a.1 eff) (sym (hosts_restricted w.site u))

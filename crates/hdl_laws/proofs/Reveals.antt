@@ -12,16 +12,17 @@ use Rattle.hdl_msg.specs.declared.replies.ReplyContent.{ReplyContent}
 use Rattle.hdl_msg.specs.declared.replies.ReplyContent.TheVariants.{Empty}
 use Rattle.hdl_msg.proofs.ReplyLaws.{code-short_reply}
 use Rattle.hdl_ops.specs.Admission.{request_algorithm}
-use Rattle.hdl_ops.specs.Decisions.{Level, Anyone, Proven, Decision, Decides}
+use Rattle.hdl_ops.specs.Decisions.{Level, Anyone, Proven, Decision, site_decision, Decides}
 use Rattle.hdl_ops.specs.Laws.{content_by_code}
 use Rattle.hdl_ops.proofs.Codes.{is_answer_code, code_fits, decides_code, tells_by_code_lem}
+use Rattle.hdl_ops.proofs.SiteDecisions.{site_code, site_told}
 use Rattle.hdl_events.specs.declared.Outcome.TheVariants.{Reply, Busy, Silent, CloseAfter}
 use Rattle.hdl_laws.specs.Lanes.{LaneState}
-use Rattle.hdl_laws.specs.Worlds.{World, hosts, algorithms, algorithms_for, layout_for, owner, lane_of}
-use Rattle.hdl_laws.specs.Tasks.{Message, Task, Ignore, Break, Malformed, Unknown, Late, Ask, Redeem, IsTask}
+use Rattle.hdl_laws.specs.Worlds.{World, hosts, algorithms, algorithms_for, speech_for, owner, lane_of}
+use Rattle.hdl_laws.specs.Tasks.{Message, Task, Ignore, Break, Malformed, Unknown, Late, Ask, Inform, Redeem, IsTask}
 use Rattle.hdl_laws.specs.Effects.{Effect, Does, answer_octets, challenge_octets, answer_effect, challenge_effect}
 use Rattle.hdl_laws.specs.Steps.{Turn, IsAnswerFor, IsStep}
-use Rattle.hdl_laws.specs.Reveals.{IsReplyBy, asked_octets, Reveals, StepsTell}
+use Rattle.hdl_laws.specs.Reveals.{IsReplyBy, asked_octets, site_by_code, Reveals, StepsTell}
 use Rattle.hdl_laws.proofs.Codes.{reply_code, challenge_code}
 
 silent_is_none : (octets : List ℕ) → Silent ≡ Reply octets → ⊥
@@ -70,12 +71,16 @@ does_tell hosted algorithms t (Malformed m s) eff octets is e =
 does_tell hosted algorithms t (Unknown m r s) eff octets is e = by_its_code Sha1 m.moment m.envelope r 4 (λ c. Empty) octets refl (same_reply octets _ (sym (ap (λ (x : Effect). x.outcome) is) ∙ e))
 does_tell hosted algorithms t (Late m r a s) eff octets is e = by_its_code a m.moment m.envelope r 405 (λ c. Empty) octets refl (same_reply octets _ (sym (ap (λ (x : Effect). x.outcome) is) ∙ e))
 does_tell hosted algorithms t (Ask m r s) eff octets is e = asked_reply hosted (request_algorithm algorithms r) t s m r is.0 octets (is.0.code == 402) refl is.1 (sym (ap (λ (x : Effect). x.outcome) is.2) ∙ e)
+does_tell hosted algorithms t (Inform m r site s) eff octets is e =
+    let d = site_decision Sha1 r site in
+    by_its_code Sha1 m.moment m.envelope r d.code (site_by_code site) octets (site_code Sha1 r site)
+    (same_reply octets _ (sym (ap (λ (x : Effect). x.outcome) is) ∙ e) ∙ ap (answer_octets Sha1 m.moment m.envelope r d.code) (site_told Sha1 r site))
 does_tell hosted algorithms t (Redeem m r p s) eff octets is e = decided_reply hosted (algorithm_of p.digest) t m.moment m.envelope r (Proven p) is.0 octets is.1 (same_reply octets _ (sym (ap (λ (x : Effect). x.outcome) is.2) ∙ e))
 
 step_tells : (w : World) (t : Turn) → IsStep w t → Reveals w t.event t.outcome
 step_tells w t (inl a) octets e = by_owner (owner w.site t.event.lane) a
   where
-    by_owner : (o : Option ℕ) → IsAnswerFor w o t → (k : Task) × IsTask (layout_for w.site o) (lane_of w t.event.lane) t.event.what k × IsReplyBy (algorithms_for w.site o) w.table k (response_code_at octets) octets
+    by_owner : (o : Option ℕ) → IsAnswerFor w o t → (k : Task) × IsTask (speech_for w.site o) (lane_of w t.event.lane) t.event.what k × IsReplyBy (algorithms_for w.site o) w.table k (response_code_at octets) octets
     by_owner None is = absurd (silent_is_none octets (sym (ap (λ (z : Turn). z.outcome) is) ∙ e))
     by_owner (Some u) is =
         (is.1, is.2, does_tell (hosts w.site u) (algorithms w.site u) w.table is.1 is.0 octets is.3 (sym (ap (λ (z : Turn). z.outcome) is.4) ∙ e))

@@ -9,9 +9,10 @@ use Rattle.hdl_rows.specs.Table.{Table}
 use Rattle.hdl_rows.proofs.Writes.{some_none}
 use Rattle.hdl_tenants.specs.Register.{root}
 use Rattle.hdl_auth.specs.declared.algorithm.Algorithm.{Algorithm}
+use Rattle.hdl_auth.specs.declared.algorithm.Algorithm.TheVariants.{Sha1}
 use Rattle.hdl_auth.specs.Digest.{algorithm_of}
 use Rattle.hdl_frame.specs.Envelope.{envelope_at, is_truncated}
-use Rattle.hdl_msg.specs.Message.{Content, SpellsRequest, Operation, resolution, create, delete, add, remove, modify, list, response, other}
+use Rattle.hdl_msg.specs.Message.{Content, SpellsRequest, Operation, resolution, create, delete, add, remove, modify, list, response, other, site_info}
 use Rattle.hdl_msg.specs.declared.replies.ReplyContent.TheVariants.{Empty}
 use Rattle.hdl_msg.proofs.Requests.{one_request_lem}
 use Rattle.hdl_slots.specs.declared.pending.Pending.{Pending}
@@ -25,12 +26,14 @@ use Rattle.hdl_ops.specs.Replies.{fits}
 use Rattle.hdl_ops.specs.Decisions.{Level, Anyone, Proven, Decision, DecidesBy, decision, refusal_decision, success, failure, carried_content, change_of}
 use Rattle.hdl_ops.proofs.Passed.{Passes, passes_unless_refused, canonical_is_hosted}
 use Rattle.hdl_ops.proofs.Decided.{one_decision_lem}
+use Rattle.hdl_ops.proofs.SiteDecisions.{site_changes_nothing}
 use Rattle.hdl_events.specs.declared.What.{What}
 use Rattle.hdl_pool.specs.Partial as partial
 use Rattle.hdl_pool.specs.Partial.{piece_of}
 use Rattle.hdl_pool.specs.Taking.{take_piece, whole_message, free_partial}
 use Rattle.hdl_laws.specs.Lanes.{LaneState, with_partials}
-use Rattle.hdl_laws.specs.Tasks.{Received, Message, message_from, Task, Ignore, Break, Malformed, Unknown, Late, Ask, Redeem, IsReading, IsTask, IsResponseTask, IsRequestTask, IsContentTask, IsMessageTask, IsWholeTask, IsPieceTask, IsFrameTask, IsOctetsTask, redeem_task}
+use Rattle.hdl_laws.specs.Speech.{Speech}
+use Rattle.hdl_laws.specs.Tasks.{Received, Message, message_from, Task, Ignore, Break, Malformed, Unknown, Late, Ask, Inform, Redeem, IsReading, IsTask, IsResponseTask, IsRequestTask, IsContentTask, IsMessageTask, IsWholeTask, IsPieceTask, IsFrameTask, IsOctetsTask, redeem_task}
 use Rattle.hdl_laws.specs.Effects.{Effect, Does, ask_effect, answer_effect, challenge_effect}
 use Rattle.hdl_laws.specs.Runs.{is_busy}
 use Rattle.hdl_laws.specs.Isolation.{Agrees, IsClosed}
@@ -52,16 +55,16 @@ response_task_one : (w : Wire) (s : LaneState) (m : Message) (r : Content) (a : 
 response_task_one w s m r a None k k' x y = x ∙ sym y
 response_task_one w s m r a (Some p) k k' x y = x.2 ∙ ap (redeem_task s m a p) (one_reading w p.message x.0 y.0 x.1 y.1) ∙ sym y.2
 
-request_task_one : (w : Wire) (s : LaneState) (m : Message) (r : Content) (a : Option Response) (k k' : Task) → IsRequestTask w s m r a k → IsRequestTask w s m r a k' → k ≡ k'
+request_task_one : (w : Speech) (s : LaneState) (m : Message) (r : Content) (a : Option Response) (k k' : Task) → IsRequestTask w s m r a k → IsRequestTask w s m r a k' → k ≡ k'
 request_task_one w s m r None k k' x y = x ∙ sym y
-request_task_one w s m r (Some a) k k' x y = response_task_one w s m r a _ k k' x y
+request_task_one w s m r (Some a) k k' x y = response_task_one w.wire s m r a _ k k' x y
 
-content_task_one : (w : Wire) (s : LaneState) (m : Message) (o : Option Content) (k k' : Task) → IsContentTask w s m o k → IsContentTask w s m o k' → k ≡ k'
+content_task_one : (w : Speech) (s : LaneState) (m : Message) (o : Option Content) (k k' : Task) → IsContentTask w s m o k → IsContentTask w s m o k' → k ≡ k'
 content_task_one w s m None k k' x y = x ∙ sym y
 content_task_one w s m (Some r) k k' x y = request_task_one w s m r (response_of r.operation) k k' x y
 
-message_task_one : (w : Wire) (s : LaneState) (m : Message) (k k' : Task) → IsMessageTask w s m k → IsMessageTask w s m k' → k ≡ k'
-message_task_one w s m k k' a b = content_task_one w s m b.0 k k' (subst (λ o. IsContentTask w s m o k) (one_reading w m.message a.0 b.0 a.1 b.1) a.2) b.2
+message_task_one : (w : Speech) (s : LaneState) (m : Message) (k k' : Task) → IsMessageTask w s m k → IsMessageTask w s m k' → k ≡ k'
+message_task_one w s m k k' a b = content_task_one w s m b.0 k k' (subst (λ o. IsContentTask w s m o k) (one_reading w.wire m.message a.0 b.0 a.1 b.1) a.2) b.2
 
 either_one : (c : Bool) (P Q : Task → Type 0) → ((k k' : Task) → P k → P k' → k ≡ k') → ((k k' : Task) → Q k → Q k' → k ≡ k') → (k k' : Task) → MatchBool c (P k) (Q k) → MatchBool c (P k') (Q k') → k ≡ k'
 either_one true P Q p q k k' a b = p k k' a b
@@ -70,24 +73,24 @@ either_one false P Q p q k k' a b = q k k' a b
 same_task : (x k k' : Task) → k ≡ x → k' ≡ x → k ≡ k'
 same_task x k k' a b = a ∙ sym b
 
-whole_task_one : (w : Wire) (kept gone : LaneState) (x : Received) (o : Option (List ℕ)) (k k' : Task) → IsWholeTask w kept gone x o k → IsWholeTask w kept gone x o k' → k ≡ k'
+whole_task_one : (w : Speech) (kept gone : LaneState) (x : Received) (o : Option (List ℕ)) (k k' : Task) → IsWholeTask w kept gone x o k → IsWholeTask w kept gone x o k' → k ≡ k'
 whole_task_one w kept gone x None k k' a b = same_task (Ignore kept) k k' a b
 whole_task_one w kept gone x (Some message) k k' a b = message_task_one w gone (message_from x message) k k' a b
 
-frame_task_one : (w : Wire) (s : LaneState) (x : Received) (k k' : Task) → IsFrameTask w s x k → IsFrameTask w s x k' → k ≡ k'
+frame_task_one : (w : Speech) (s : LaneState) (x : Received) (k k' : Task) → IsFrameTask w s x k → IsFrameTask w s x k' → k ≡ k'
 frame_task_one w s x k k' a b =
     let after = take_piece s.partials (piece_of x.peer x.bytes) in
     let gone = with_partials s (free_partial s.partials (partial.key_of x.peer (envelope_at x.bytes))) in
     either_one (is_truncated (envelope_at x.bytes)) (λ j. IsPieceTask w s x after j) (λ j. IsMessageTask w s (message_from x (drop 20 x.bytes)) j)
     (whole_task_one w (with_partials s after.1) gone x (whole_message after.0)) (message_task_one w s (message_from x (drop 20 x.bytes))) k k' a b
 
-octets_task_one : (w : Wire) (s : LaneState) (x : Received) (k k' : Task) → IsOctetsTask w s x k → IsOctetsTask w s x k' → k ≡ k'
+octets_task_one : (w : Speech) (s : LaneState) (x : Received) (k k' : Task) → IsOctetsTask w s x k → IsOctetsTask w s x k' → k ≡ k'
 octets_task_one w s x k k' (inl a) (inl b) = frame_task_one w s x k k' a.1 b.1
 octets_task_one w s x k k' (inl a) (inr b) = absurd (b.0 a.0)
 octets_task_one w s x k k' (inr a) (inl b) = absurd (a.0 b.0)
 octets_task_one w s x k k' (inr a) (inr b) = a.1 ∙ sym b.1
 
-pub task_one : (w : Wire) (s : LaneState) (what : What) (k k' : Task) → IsTask w s what k → IsTask w s what k' → k ≡ k'
+pub task_one : (w : Speech) (s : LaneState) (what : What) (k k' : Task) → IsTask w s what k → IsTask w s what k' → k ≡ k'
 task_one w s What.Open k k' a b = a ∙ sym b
 task_one w s What.Close k k' a b = a ∙ sym b
 task_one w s (What.Bad session request) k k' a b = a ∙ sym b
@@ -104,6 +107,7 @@ does_agrees hosted algorithms C t t' agree closed rootless (Malformed m s) eff i
 does_agrees hosted algorithms C t t' agree closed rootless (Unknown m r s) eff is = is
 does_agrees hosted algorithms C t t' agree closed rootless (Late m r a s) eff is = is
 does_agrees hosted algorithms C t t' agree closed rootless (Ask m r s) eff is = (is.0, decides_agrees hosted C t t' agree closed rootless (request_algorithm algorithms r) r Anyone is.0 is.1, is.2)
+does_agrees hosted algorithms C t t' agree closed rootless (Inform m r site s) eff is = is
 does_agrees hosted algorithms C t t' agree closed rootless (Redeem m r p s) eff is = (is.0, decides_agrees hosted C t t' agree closed rootless (algorithm_of p.digest) r (Proven p) is.0 is.1, is.2)
 
 -- ---- an answer is never busy
@@ -122,6 +126,7 @@ does_calm hosted algorithms t (Malformed m s) eff is = ap calm is
 does_calm hosted algorithms t (Unknown m r s) eff is = ap calm is
 does_calm hosted algorithms t (Late m r a s) eff is = ap calm is
 does_calm hosted algorithms t (Ask m r s) eff is = ap calm is.2 ∙ either_calm (is.0.code == 402) (challenge_effect (request_algorithm algorithms r) s m r) (answer_effect (request_algorithm algorithms r) s m r is.0) refl refl
+does_calm hosted algorithms t (Inform m r site s) eff is = ap calm is
 does_calm hosted algorithms t (Redeem m r p s) eff is = ap calm is.2
 
 -- ---- a task changes hosted rows alone
@@ -144,6 +149,7 @@ asked_change hosted (modify handle values) mine = changes_one hosted (Modify han
 asked_change hosted (resolution handle indexes types) mine = changes_none hosted
 asked_change hosted (list handle) mine = changes_none hosted
 asked_change hosted (response kind handle index answer) mine = changes_none hosted
+asked_change hosted (site_info octets) mine = changes_none hosted
 asked_change hosted (other octets) mine = changes_none hosted
 
 module _ (hosted : List ℕ → Bool) (t : Table) where
@@ -178,6 +184,7 @@ module _ (hosted : List ℕ → Bool) (t : Table) where
   does_change algorithms (Late m r a s) eff is x e = absurd (some_none x (sym e ∙ ap (λ (y : Effect). y.change) is))
   does_change algorithms (Ask m r s) eff is x e =
       asked_effect (is.0.code == 402) (challenge_effect (request_algorithm algorithms r) s m r) (answer_effect (request_algorithm algorithms r) s m r is.0) refl (decided_change (request_algorithm algorithms r) r Anyone is.0 (refusal hosted r) refl is.1) x (sym (ap (λ (y : Effect). y.change) is.2) ∙ e)
+  does_change algorithms (Inform m r site s) eff is x e = absurd (some_none x (sym e ∙ ap (λ (y : Effect). y.change) is ∙ site_changes_nothing Sha1 r site))
   does_change algorithms (Redeem m r p s) eff is x e =
       decided_change (algorithm_of p.digest) r (Proven p) is.0 (refusal hosted r) refl is.1 x (sym (ap (λ (y : Effect). y.change) is.2) ∙ e)
 
@@ -190,4 +197,5 @@ does_one hosted algorithms t (Malformed m s) x y a b = a ∙ sym b
 does_one hosted algorithms t (Unknown m r s) x y a b = a ∙ sym b
 does_one hosted algorithms t (Late m r c s) x y a b = a ∙ sym b
 does_one hosted algorithms t (Ask m r s) x y a b = a.2 ∙ ap (ask_effect (request_algorithm algorithms r) s m r) (one_decision_lem hosted (request_algorithm algorithms r) t r Anyone a.0 b.0 a.1 b.1) ∙ sym b.2
+does_one hosted algorithms t (Inform m r site s) x y a b = a ∙ sym b
 does_one hosted algorithms t (Redeem m r p s) x y a b = a.2 ∙ ap (answer_effect (algorithm_of p.digest) s m r) (one_decision_lem hosted (algorithm_of p.digest) t r (Proven p) a.0 b.0 a.1 b.1) ∙ sym b.2

@@ -14,7 +14,7 @@ use Rattle.hdl_rows.specs.Write.{Write, handle_of}
 use Rattle.hdl_rows.proofs.Writes.{put_at, removed_at, at_after, at-after_write}
 use Rattle.hdl_auth.specs.declared.algorithm.Algorithm.{Algorithm}
 use Rattle.hdl_auth.specs.Digest.{algorithm_of}
-use Rattle.hdl_msg.specs.Message.{Content, Operation, resolution, create, delete, add, remove, modify, list, response, other}
+use Rattle.hdl_msg.specs.Message.{Content, Operation, resolution, create, delete, add, remove, modify, list, response, other, site_info}
 use Rattle.hdl_msg.specs.declared.replies.ReplyContent.TheVariants.{Values, Handles, Empty}
 use Rattle.hdl_ops.specs.declared.change.Change.{Change}
 use Rattle.hdl_ops.specs.Admission.{refusal, request_algorithm}
@@ -26,7 +26,7 @@ use Rattle.hdl_ops.specs.Replies.{fits}
 use Rattle.hdl_ops.specs.Decisions.{Level, Anyone, Proven, Decision, DecidesBy, decision, success, failure, show, carried_content, carried_by, may_read, change_of}
 use Rattle.hdl_ops.specs.Tables.{write_of, stamped_write, apply_if}
 use Rattle.hdl_ops.proofs.Codes.{decides_code}
-use Rattle.hdl_laws.specs.Tasks.{Task, Ignore, Break, Malformed, Unknown, Late, Ask, Redeem}
+use Rattle.hdl_laws.specs.Tasks.{Task, Ignore, Break, Malformed, Unknown, Late, Ask, Inform, Redeem}
 use Rattle.hdl_laws.specs.Effects.{Effect, Does, ask_effect, answer_effect}
 use Rattle.hdl_laws.specs.Isolation.{is_held, may_be_read, without_content, readable, AreTwins, code_of, proven_request}
 use Rattle.hdl_laws.proofs.Maps.{get-retained, alike_values}
@@ -129,6 +129,7 @@ module _ (H : List (List ℕ)) (t t' : Table) (twins : AreTwins H t t') where
   carried_twin (remove handle indexes) r level f = refl
   carried_twin (modify handle values) r level f = refl
   carried_twin (response kind handle index answer) r level f = refl
+  carried_twin (site_info octets) r level f = refl
   carried_twin (other octets) r level f = refl
 
   success_twin : (r : Content) (level : Level) → (IsTrue (resolves r.operation) → Reads (is_held H (requests.handle_of r)) level) → success (sight t r) r level ≡ success (sight t' r) r level
@@ -157,6 +158,7 @@ module _ (H : List (List ℕ)) (t t' : Table) (twins : AreTwins H t t') where
       let here : code_of x.outcome ≡ a.0.code = ap effect_code a.2 ∙ ask_code (request_algorithm algorithms r) s m r a.0 (decides_code hosted (request_algorithm algorithms r) t r Anyone a.0 a.1) in
       let there : code_of y.outcome ≡ b.0.code = ap effect_code b.2 ∙ ask_code (request_algorithm algorithms r) s m r b.0 (decides_code hosted (request_algorithm algorithms r) t' r Anyone b.0 b.1) in
       a.2 ∙ ap (ask_effect (request_algorithm algorithms r) s m r) (decides_twin (request_algorithm algorithms r) r Anyone a.0 b.0 (refusal hosted r) a.1 b.1 (sym here ∙ e ∙ there) (λ is res. reads_public (is_held H (requests.handle_of r)))) ∙ sym b.2
+  does_twin hosted algorithms (Inform m r site s) x y a b e f = a ∙ sym b
   does_twin hosted algorithms (Redeem m r p s) x y a b e f =
       let here : code_of x.outcome ≡ a.0.code = ap effect_code a.2 ∙ answer_code (algorithm_of p.digest) s m r a.0 (decides_code hosted (algorithm_of p.digest) t r (Proven p) a.0 a.1) in
       let there : code_of y.outcome ≡ b.0.code = ap effect_code b.2 ∙ answer_code (algorithm_of p.digest) s m r b.0 (decides_code hosted (algorithm_of p.digest) t' r (Proven p) b.0 b.1) in

@@ -16,13 +16,13 @@ use Rattle.hdl_slots.specs.declared.pending.Pending.{Pending}
 use Rattle.hdl_slots.specs.Lanes.{add_challenge}
 use Rattle.hdl_ops.specs.declared.change.Change.{Change}
 use Rattle.hdl_ops.specs.Admission.{request_algorithm}
-use Rattle.hdl_ops.specs.Decisions.{Decision, Anyone, Proven, failure, Decides}
+use Rattle.hdl_ops.specs.Decisions.{Decision, Anyone, Proven, failure, site_decision, Decides}
 use Rattle.hdl_ops.specs.Proven.{Proof}
 use Rattle.hdl_ops.specs.Replies.{digest_of, reply_to, challenge_to}
 use Rattle.hdl_events.specs.declared.Outcome.{Outcome}
 use Rattle.hdl_events.specs.declared.Outcome.TheVariants.{Reply, Silent, CloseAfter}
 use Rattle.hdl_laws.specs.Lanes.{LaneState}
-use Rattle.hdl_laws.specs.Tasks.{Message, Task, Ignore, Break, Malformed, Unknown, Late, Ask, Redeem}
+use Rattle.hdl_laws.specs.Tasks.{Message, Task, Ignore, Break, Malformed, Unknown, Late, Ask, Inform, Redeem}
 
 -- what an event of a lane does: its outcome, the lane after it, and the change of the table
 pub record Effect : Type 0 where
@@ -66,7 +66,7 @@ ask_effect algorithm state arrival request decision =
     else answer_effect algorithm state arrival request decision
 
 -- the effect of a task on this table, for a publisher who hosts these prefixes with these algorithms: a request has that of its
--- prefix, a challenged one that of its challenge's digest
+-- prefix, a challenged one that of its challenge's digest; one without a prefix has SHA-1
 abbrev pub Does : (List ℕ → Bool) → (List ℕ → Algorithm) → Table → Task → Effect → Type 0
 Does hosted algorithms table (Ignore state) effect = effect ≡ record { outcome = Silent; state = state; change = None }
 Does hosted algorithms table (Break session request state) effect = effect ≡ record { outcome = CloseAfter (short_reply (response_number ProtocolError) (message_envelope session request 0)); state = state; change = None }
@@ -75,5 +75,6 @@ Does hosted algorithms table (Unknown arrival request state) effect = effect ≡
 Does hosted algorithms table (Late arrival request algorithm state) effect = effect ≡ answer_effect algorithm state arrival request (failure (response_number AuthenticationTimeout) Empty)
 Does hosted algorithms table (Ask arrival request state) effect =
     (decision : Decision) × Decides hosted (request_algorithm algorithms request) table request Anyone decision × (effect ≡ ask_effect (request_algorithm algorithms request) state arrival request decision)
+Does hosted algorithms table (Inform arrival request site state) effect = effect ≡ answer_effect Sha1 state arrival request (site_decision Sha1 request site)
 Does hosted algorithms table (Redeem arrival request proof state) effect =
     (decision : Decision) × Decides hosted (algorithm_of proof.digest) table request (Proven proof) decision × (effect ≡ answer_effect (algorithm_of proof.digest) state arrival request decision)

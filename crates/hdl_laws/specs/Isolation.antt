@@ -21,8 +21,8 @@ use Rattle.hdl_ops.specs.Requests.{resolves, handle_of}
 use Rattle.hdl_events.specs.declared.Event.{Event}
 use Rattle.hdl_events.specs.declared.Outcome.{Outcome}
 use Rattle.hdl_events.specs.declared.Outcome.TheVariants.{Reply, Busy, Silent, CloseAfter}
-use Rattle.hdl_laws.specs.Worlds.{World, Site, owner, hosts, layout_for, lane_of}
-use Rattle.hdl_laws.specs.Tasks.{Task, IsTask, Ignore, Break, Malformed, Unknown, Late, Ask, Redeem}
+use Rattle.hdl_laws.specs.Worlds.{World, Site, owner, hosts, speech_for, lane_of}
+use Rattle.hdl_laws.specs.Tasks.{Task, IsTask, Ignore, Break, Malformed, Unknown, Late, Ask, Inform, Redeem}
 use Rattle.hdl_laws.specs.Steps.{Turn}
 use Rattle.hdl_laws.specs.Runs.{is_busy}
 
@@ -56,12 +56,13 @@ restrict_table hosted cover table = record {
   values = map.retain_keys table.values (is_retained hosted cover);
 }
 
--- the publisher's lanes, the prefixes hosted for it, and its layout
+-- the publisher's lanes, the prefixes hosted for it, its layout, and its site information
 abbrev pub restrict_site : Site → ℕ → Site
 restrict_site site publisher = record {
   owners = map.retain_keys site.owners (owns site publisher);
   hostings = filter (λ hosting. hosting.publisher == publisher) site.hostings;
   layouts = map.retain_keys site.layouts (λ other. other == publisher);
+  sites = filter (λ line. line.publisher == publisher) site.sites;
 }
 
 -- what the publisher has of the world, and the values at the cover
@@ -177,11 +178,12 @@ proven_request (Malformed message state) = None
 proven_request (Unknown message request state) = None
 proven_request (Late message request algorithm state) = None
 proven_request (Ask message request state) = None
+proven_request (Inform message request site state) = None
 
 -- if the event's task decides a challenged resolution, and its outcome has code Success, then the resolution's handle is authorised
 abbrev pub AllowsTurn : List (List ℕ) → World → Turn → Type 0
 AllowsTurn authorised world step =
-    (task : Task) (request : Content) → IsTask (layout_for world.site (owner world.site step.event.lane)) (lane_of world step.event.lane) step.event.what task → proven_request task ≡ Some request → IsTrue (resolves request.operation) → code_of step.outcome ≡ response_number Success → IsTrue (is_held authorised (handle_of request))
+    (task : Task) (request : Content) → IsTask (speech_for world.site (owner world.site step.event.lane)) (lane_of world step.event.lane) step.event.what task → proven_request task ≡ Some request → IsTrue (resolves request.operation) → code_of step.outcome ≡ response_number Success → IsTrue (is_held authorised (handle_of request))
 
 -- so is the handle of each challenged resolution that is answered Success
 abbrev pub Allows : List (List ℕ) → World → List Turn → Type 0

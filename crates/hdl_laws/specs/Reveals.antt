@@ -5,12 +5,13 @@ use Rattle.hdl_auth.specs.declared.algorithm.Algorithm.TheVariants.{Sha1}
 use Rattle.hdl_auth.specs.Digest.{algorithm_of}
 use Rattle.hdl_rows.specs.Table.{Table}
 use Rattle.hdl_msg.specs.Codes.{response_number}
-use Rattle.hdl_msg.specs.declared.codes.ResponseCode.TheVariants.{AuthenticationNeeded}
+use Rattle.hdl_msg.specs.declared.codes.ResponseCode.TheVariants.{Success, AuthenticationNeeded}
 use Rattle.hdl_msg.specs.Message.{Content, IsShort}
 use Rattle.hdl_msg.specs.Laws.{response_code_at}
 use Rattle.hdl_msg.specs.Reply.{short_reply, ReplyParts, IsAnnounced, PartsFit, parts_body, parts_message, parts_read, IsReplyFrame, wire_of_content}
 use Rattle.hdl_msg.specs.Reading.{reply_at}
-use Rattle.hdl_msg.specs.declared.replies.ReplyContent.TheVariants.{Empty}
+use Rattle.hdl_msg.specs.declared.replies.ReplyContent.{ReplyContent}
+use Rattle.hdl_msg.specs.declared.replies.ReplyContent.TheVariants.{Empty, Site}
 use Rattle.hdl_ops.specs.Admission.{request_algorithm}
 use Rattle.hdl_ops.specs.Decisions.{Anyone, Proven}
 use Rattle.hdl_ops.specs.Laws.{content_by_code}
@@ -18,8 +19,8 @@ use Rattle.hdl_events.specs.declared.Event.{Event}
 use Rattle.hdl_events.specs.declared.Outcome.{Outcome}
 use Rattle.hdl_events.specs.declared.Outcome.TheVariants.{Reply, Busy, Silent, CloseAfter}
 use Rattle.hdl_laws.specs.Lanes.{LaneState}
-use Rattle.hdl_laws.specs.Worlds.{World, owner, algorithms_for, lane_of, layout_for}
-use Rattle.hdl_laws.specs.Tasks.{Message, Task, Ignore, Break, Malformed, Unknown, Late, Ask, Redeem, IsTask}
+use Rattle.hdl_laws.specs.Worlds.{World, owner, algorithms_for, lane_of, speech_for}
+use Rattle.hdl_laws.specs.Tasks.{Message, Task, Ignore, Break, Malformed, Unknown, Late, Ask, Inform, Redeem, IsTask}
 use Rattle.hdl_laws.specs.Effects.{answer_octets, challenge_octets}
 use Rattle.hdl_laws.specs.Runs.{Steps}
 
@@ -28,6 +29,10 @@ abbrev pub asked_octets : Algorithm → Table → Message → Content → LaneSt
 asked_octets algorithm table message request state code =
     if code == response_number AuthenticationNeeded then challenge_octets algorithm message.moment state.challenges.next message.envelope request message.nonce
     else answer_octets algorithm message.moment message.envelope request code (content_by_code table request Anyone code)
+
+-- what the answer with this code to a question for site information carries
+abbrev pub site_by_code : List ℕ → ℕ → ReplyContent
+site_by_code site code = if code == response_number Success then Site site else Empty
 
 -- The octets are the reply with this code to what the event comes to, where prefixes have these hash functions. Of the table they
 -- hold what is told with the code at the level of the caller, and nothing else.
@@ -38,6 +43,7 @@ IsReplyBy algorithms table (Malformed message state) code octets = octets ≡ sh
 IsReplyBy algorithms table (Unknown message request state) code octets = octets ≡ answer_octets Sha1 message.moment message.envelope request code Empty
 IsReplyBy algorithms table (Late message request algorithm state) code octets = octets ≡ answer_octets algorithm message.moment message.envelope request code Empty
 IsReplyBy algorithms table (Ask message request state) code octets = octets ≡ asked_octets (request_algorithm algorithms request) table message request state code
+IsReplyBy algorithms table (Inform message request site state) code octets = octets ≡ answer_octets Sha1 message.moment message.envelope request code (site_by_code site code)
 IsReplyBy algorithms table (Redeem message request proof state) code octets = octets ≡ answer_octets (algorithm_of proof.digest) message.moment message.envelope request code (content_by_code table request (Proven proof) code)
 
 -- the same in this world and on this lane
@@ -46,7 +52,7 @@ IsReplyTo world lane task code octets = IsReplyBy (algorithms_for world.site (ow
 
 -- if the outcome is a reply, it is the one with its code to what the event comes to
 abbrev pub Reveals : World → Event → Outcome → Type 0
-Reveals world event outcome = (octets : List ℕ) → outcome ≡ Reply octets → (task : Task) × IsTask (layout_for world.site (owner world.site event.lane)) (lane_of world event.lane) event.what task × IsReplyTo world event.lane task (response_code_at octets) octets
+Reveals world event outcome = (octets : List ℕ) → outcome ≡ Reply octets → (task : Task) × IsTask (speech_for world.site (owner world.site event.lane)) (lane_of world event.lane) event.what task × IsReplyTo world event.lane task (response_code_at octets) octets
 
 -- each step does
 abbrev pub StepsTell : Type 0

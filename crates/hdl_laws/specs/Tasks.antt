@@ -6,7 +6,7 @@ use Rattle.hdl_auth.specs.Digest.{algorithm_of}
 use Rattle.hdl_frame.specs.declared.envelope.Envelope.{Envelope}
 use Rattle.hdl_frame.specs.Envelope.{envelope_at, is_truncated}
 use Rattle.hdl_frame.specs.Frames.{IsFrame}
-use Rattle.hdl_msg.specs.Message.{Content, SpellsRequest}
+use Rattle.hdl_msg.specs.Message.{Content, SpellsRequest, Operation, site_info}
 use Rattle.hdl_value.specs.declared.wire.Wire.{Wire}
 use Rattle.hdl_pool.specs.Partial.{Partial, key_of, piece_of}
 use Rattle.hdl_pool.specs.Taking.{Fate, take_piece, whole_message, free_partial}
@@ -17,6 +17,7 @@ use Rattle.hdl_ops.specs.Requests.{Response, response_of}
 use Rattle.hdl_events.specs.declared.What.{What}
 use Rattle.hdl_events.specs.declared.What.TheVariants.{Open, Bad, Close}
 use Rattle.hdl_laws.specs.Lanes.{LaneState, fresh, with_partials}
+use Rattle.hdl_laws.specs.Speech.{Speech}
 
 -- what a frame event brings
 pub record Received : Type 0 where
@@ -44,6 +45,7 @@ pub data Task : Type 0 where
   Unknown : Message → Content → LaneState → Task
   Late : Message → Content → Algorithm → LaneState → Task
   Ask : Message → Content → LaneState → Task
+  Inform : Message → Content → List ℕ → LaneState → Task
   Redeem : Message → Content → Proof → LaneState → Task
 
 -- what the octets spell, or that they spell nothing
@@ -73,48 +75,58 @@ IsResponseTask wire state arrival request response None task = task ≡ Unknown 
 IsResponseTask wire state arrival request response (Some challenge) task =
     (reading : Option Content) × IsReading (SpellsRequest wire challenge.message) reading × (task ≡ redeem_task state arrival response challenge reading)
 
+-- the site information that answers an operation: the lane's, for a question for it
+abbrev pub told_site : Option (List ℕ) → Operation → Option (List ℕ)
+told_site site (site_info octets) = site
+told_site site _ = None
+
+-- a request as it came, by the site information that answers it
+abbrev pub ask_task : LaneState → Message → Content → Option (List ℕ) → Task
+ask_task state arrival request None = Ask arrival request state
+ask_task state arrival request (Some site) = Inform arrival request site state
+
 -- a request, by whether it is a challenge response
-abbrev pub IsRequestTask : Wire → LaneState → Message → Content → Option Response → Task → Type 0
-IsRequestTask wire state arrival request None task = task ≡ Ask arrival request state
-IsRequestTask wire state arrival request (Some response) task =
-    IsResponseTask wire state arrival request response (challenge_of state.challenges.challenges arrival.peer arrival.envelope.session) task
+abbrev pub IsRequestTask : Speech → LaneState → Message → Content → Option Response → Task → Type 0
+IsRequestTask speech state arrival request None task = task ≡ ask_task state arrival request (told_site speech.site request.operation)
+IsRequestTask speech state arrival request (Some response) task =
+    IsResponseTask speech.wire state arrival request response (challenge_of state.challenges.challenges arrival.peer arrival.envelope.session) task
 
 -- a message, by its reading
-abbrev pub IsContentTask : Wire → LaneState → Message → Option Content → Task → Type 0
-IsContentTask wire state arrival None task = task ≡ Malformed arrival state
-IsContentTask wire state arrival (Some request) task = IsRequestTask wire state arrival request (response_of request.operation) task
+abbrev pub IsContentTask : Speech → LaneState → Message → Option Content → Task → Type 0
+IsContentTask speech state arrival None task = task ≡ Malformed arrival state
+IsContentTask speech state arrival (Some request) task = IsRequestTask speech state arrival request (response_of request.operation) task
 
 -- a message, by what it spells
-abbrev pub IsMessageTask : Wire → LaneState → Message → Task → Type 0
-IsMessageTask wire state arrival task = (reading : Option Content) × IsReading (SpellsRequest wire arrival.message) reading × IsContentTask wire state arrival reading task
+abbrev pub IsMessageTask : Speech → LaneState → Message → Task → Type 0
+IsMessageTask speech state arrival task = (reading : Option Content) × IsReading (SpellsRequest speech.wire arrival.message) reading × IsContentTask speech state arrival reading task
 
 -- a piece, by the message that it makes whole; the lane's partial message of its key is then gone
-abbrev pub IsWholeTask : Wire → LaneState → LaneState → Received → Option (List ℕ) → Task → Type 0
-IsWholeTask wire kept gone received None task = task ≡ Ignore kept
-IsWholeTask wire kept gone received (Some message) task = IsMessageTask wire gone (message_from received message) task
+abbrev pub IsWholeTask : Speech → LaneState → LaneState → Received → Option (List ℕ) → Task → Type 0
+IsWholeTask speech kept gone received None task = task ≡ Ignore kept
+IsWholeTask speech kept gone received (Some message) task = IsMessageTask speech gone (message_from received message) task
 
 -- a piece, by what becomes of it
-abbrev pub IsPieceTask : Wire → LaneState → Received → Fate × List Partial → Task → Type 0
-IsPieceTask wire state received after task =
-    IsWholeTask wire (with_partials state after.1) (with_partials state (free_partial state.partials (key_of received.peer (envelope_at received.bytes)))) received
+abbrev pub IsPieceTask : Speech → LaneState → Received → Fate × List Partial → Task → Type 0
+IsPieceTask speech state received after task =
+    IsWholeTask speech (with_partials state after.1) (with_partials state (free_partial state.partials (key_of received.peer (envelope_at received.bytes)))) received
     (whole_message after.0) task
 
 -- a frame, by its message or by the piece of one that it is
-abbrev pub IsFrameTask : Wire → LaneState → Received → Task → Type 0
-IsFrameTask wire state received task =
+abbrev pub IsFrameTask : Speech → LaneState → Received → Task → Type 0
+IsFrameTask speech state received task =
     MatchBool (is_truncated (envelope_at received.bytes))
-    (IsPieceTask wire state received (take_piece state.partials (piece_of received.peer received.bytes)) task)
-    (IsMessageTask wire state (message_from received (drop 20 received.bytes)) task)
+    (IsPieceTask speech state received (take_piece state.partials (piece_of received.peer received.bytes)) task)
+    (IsMessageTask speech state (message_from received (drop 20 received.bytes)) task)
 
 -- octets, by the frame that they are or are not
-abbrev pub IsOctetsTask : Wire → LaneState → Received → Task → Type 0
-IsOctetsTask wire state received task = (IsFrame received.bytes × IsFrameTask wire state received task) ⊎ ((¬ IsFrame received.bytes) × (task ≡ Ignore state))
+abbrev pub IsOctetsTask : Speech → LaneState → Received → Task → Type 0
+IsOctetsTask speech state received task = (IsFrame received.bytes × IsFrameTask speech state received task) ⊎ ((¬ IsFrame received.bytes) × (task ≡ Ignore state))
 
-abbrev pub IsTask : Wire → LaneState → What → Task → Type 0
-IsTask wire state Open task = task ≡ Ignore (fresh true)
-IsTask wire state Close task = task ≡ Ignore (fresh false)
-IsTask wire state (Bad session request) task = task ≡ (if state.is_open then Break session request state else Ignore state)
-IsTask wire state (What.Frame peer moment nonce bytes) task =
+abbrev pub IsTask : Speech → LaneState → What → Task → Type 0
+IsTask speech state Open task = task ≡ Ignore (fresh true)
+IsTask speech state Close task = task ≡ Ignore (fresh false)
+IsTask speech state (Bad session request) task = task ≡ (if state.is_open then Break session request state else Ignore state)
+IsTask speech state (What.Frame peer moment nonce bytes) task =
     MatchBool state.is_open
-    (IsOctetsTask wire state (record { peer = peer; moment = moment; nonce = nonce; bytes = bytes }) task)
+    (IsOctetsTask speech state (record { peer = peer; moment = moment; nonce = nonce; bytes = bytes }) task)
     (task ≡ Ignore state)

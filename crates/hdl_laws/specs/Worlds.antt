@@ -7,15 +7,18 @@ use Rattle.hdl_auth.specs.declared.algorithm.Algorithm.TheVariants.{Sha1}
 use Rattle.hdl_value.specs.declared.wire.Wire.{Wire}
 use Rattle.hdl_value.specs.declared.wire.Wire.TheVariants.{Profile}
 use Rattle.hdl_rows.specs.Table.{Table}
-use Rattle.hdl_tenants.specs.Register.{Hosting, hosts_among, algorithm_among}
+use Rattle.hdl_tenants.specs.Register.{Hosting, SiteInfo, hosts_among, algorithm_among, site_among}
+use Rattle.hdl_ops.specs.Decisions.{told_by}
 use Rattle.hdl_laws.specs.Lanes.{LaneState, fresh}
+use Rattle.hdl_laws.specs.Speech.{Speech}
 
--- which publisher owns a lane, which prefixes are hosted for whom, each with its hash function, and by whose layout a publisher's lanes
--- speak of values
+-- which publisher owns a lane, which prefixes are hosted for whom, each with its hash function, by whose layout a publisher's lanes
+-- speak of values, and the site information of publishers
 pub record Site : Type 0 where
   pub owners : map.FinMap nat_cmp ℕ
   pub hostings : List Hosting
   pub layouts : map.FinMap nat_cmp Wire
+  pub sites : List SiteInfo
 
 pub record World : Type 0 where
   pub site : Site
@@ -41,10 +44,14 @@ algorithms_for site (Some publisher) prefix = algorithms site publisher prefix
 abbrev pub layout : Site → ℕ → Wire
 layout site publisher = unwrap_or (map.get site.layouts publisher) Profile
 
+-- how the publisher's lanes speak: by its layout, and with its own site information
+abbrev pub speech : Site → ℕ → Speech
+speech site publisher = record { wire = layout site publisher; site = told_by (layout site publisher) (site_among site.sites publisher) }
+
 -- the same by a lane's owner
-abbrev pub layout_for : Site → Option ℕ → Wire
-layout_for site None = Profile
-layout_for site (Some publisher) = layout site publisher
+abbrev pub speech_for : Site → Option ℕ → Speech
+speech_for site None = record { wire = Profile; site = None }
+speech_for site (Some publisher) = speech site publisher
 
 -- a lane of which nothing is kept is closed
 abbrev pub lane_of : World → ℕ → LaneState

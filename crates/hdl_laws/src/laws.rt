@@ -29,7 +29,7 @@ pub fn twin_replies()
 {}
 
 /// The reply to one event is the rendering of its code, the request that it answers, the event's envelope and nonce, the lane's
-/// next number, and with code 1 of what the caller's level may see.
+/// next number, and with code 1 of what the caller's level may see, or of the site information of the lane's publisher.
 pub fn reply_told()
     ensures { StepsTell }
 {}

@@ -14,7 +14,7 @@ use Rattle.hdl_msg.specs.declared.replies.ReplyContent.TheVariants.{Referral, Em
 use Rattle.hdl_msg.specs.declared.reply_view.ReplyForm.{ReplyForm}
 use Rattle.hdl_msg.specs.declared.reply_view.ReplyForm.TheVariants as form
 use Rattle.hdl_msg.specs.Codes.{op_code_of, IsNumberOf, has_flag, flag_bit}
-use Rattle.hdl_msg.specs.Message.{Content, Operation, resolution, create, delete, add, remove, modify, list, response, other, code_of}
+use Rattle.hdl_msg.specs.Message.{Content, Operation, resolution, site_info, create, delete, add, remove, modify, list, response, other, code_of}
 use Rattle.hdl_msg.specs.Reply.{answer_header, reply_parts, IsAnnounced, announces_digest, announced_form, success_form, form_of}
 use Rattle.hdl_msg.proofs.OpCodes.{op_code_again}
 use Rattle.hdl_ops.specs.First.{first, or_code}
@@ -44,7 +44,7 @@ or_true : (b : Bool) → b || true ≡ true
 or_true true = refl
 or_true false = refl
 
-digest_announced : (a : Algorithm) (r : Content) (code : ℕ) → code == 402 ≡ false → is_some (asked_digest a r) ≡ announces_digest (answer_header r.header code)
+pub digest_announced : (a : Algorithm) (r : Content) (code : ℕ) → code == 402 ≡ false → is_some (asked_digest a r) ≡ announces_digest (answer_header r.header code)
 digest_announced a r code e = is_some_if (wants_digest r) (digest_of a r) ∙ sym (flag_again r.header.op_flag) ∙ sym (or_false (has_flag (bit_and r.header.op_flag (flag_bit ReturnDigest)) ReturnDigest) (code == 402) e)
 
 -- ---- the form of the content
@@ -58,6 +58,7 @@ carried_form (remove handle indexes) s r level e = refl
 carried_form (modify handle values) s r level e = refl
 carried_form (list handle) s r level e = refl
 carried_form (response kind handle index answer) s r level e = absurd cc
+carried_form (site_info octets) s r level e = absurd cc
 carried_form (other octets) s r level e = absurd cc
 
 first_row : (b : Bool) (c : ℕ) (rows : List (Bool × ℕ)) → b ≡ true → first ((b, c) ∷ rows) ≡ Some c

@@ -10,7 +10,7 @@ use Rattle.hdl_value.specs.Refs.{is_admin}
 use Rattle.hdl_value.specs.Tests.{is_sound}
 use Rattle.hdl_value.specs.Padding.{stored_by}
 use Rattle.hdl_rows.specs.Table.{Table, place, at, value_with, HaveTheirIndexes, AreDistinct, indexes}
-use Rattle.hdl_msg.specs.Message.{Content, Operation, resolution, create, delete, add, remove, modify, list, response, other}
+use Rattle.hdl_msg.specs.Message.{Content, Operation, resolution, site_info, create, delete, add, remove, modify, list, response, other}
 use Rattle.hdl_msg.specs.declared.fields.Header.{Header}
 use Rattle.hdl_ops.specs.First.{first, or_code}
 use Rattle.hdl_ops.specs.Requests.{handle_of, creates, resolves, with_stored, stored_operation}
@@ -150,6 +150,7 @@ changes t wire header (modify handle vs) s see by good stands = (
 )
 changes t wire header (list handle) s see by good stands = tt
 changes t wire header (response kind handle index answer) s see by good stands = tt
+changes t wire header (site_info octets) s see by good stands = tt
 changes t wire header (other octets) s see by good stands = tt
 
 -- ---- for anyone
@@ -172,6 +173,7 @@ open_stands (modify handle news) vs h =
     (all_false (λ n. not (is_admin n) && passes_at is_open vs n.index) (λ n. misses_at vs n.index) (λ n e. open_there vs n.index (and_true (not (is_admin n)) (passes_at is_open vs n.index) e).1) news h, refl)
 open_stands (list handle) vs h = (refl, refl)
 open_stands (response kind handle index answer) vs h = (refl, refl)
+open_stands (site_info octets) vs h = (refl, refl)
 open_stands (other octets) vs h = (refl, refl)
 
 -- a resolution changes nothing
@@ -194,6 +196,7 @@ anyone_stands t wire header o s see by good one =
     none_of (modify handle news) h = absurd (true≢false (sym h))
     none_of (list handle) h = absurd (true≢false (sym h))
     none_of (response kind handle index answer) h = absurd (true≢false (sym h))
+    none_of (site_info octets) h = absurd (true≢false (sym h))
     none_of (other octets) h = absurd (true≢false (sym h))
 
     by_resolving : (b : Bool) → resolves o ≡ b → or_code (first ((b, 1) ∷ (is_open_write o s.values, 1) ∷ [])) 402 ≡ 1 → (creates o && s.there) ≡ false → (not (creates o) && not s.there) ≡ false → IfSome (change_of (with_stored wire o)) (CanApply t)

@@ -13,7 +13,7 @@ use Rattle.hdl_rows.specs.Table.{Table, value_with}
 use Rattle.hdl_auth.specs.declared.algorithm.Algorithm.{Algorithm}
 use Rattle.hdl_msg.specs.Codes.{response_number}
 use Rattle.hdl_msg.specs.declared.codes.ResponseCode.TheVariants.{Success, HandleNotFound, HandleAlreadyExists, ValueNotFound, ValueAlreadyExists, ValueInvalid, AccessDenied, AuthenticationFailed, UnableToAuthenticate, AuthenticationNeeded}
-use Rattle.hdl_msg.specs.Message.{Content, Operation, resolution, create, delete, add, remove, modify, list, response, other}
+use Rattle.hdl_msg.specs.Message.{Content, Operation, resolution, site_info, create, delete, add, remove, modify, list, response, other}
 use Rattle.hdl_ops.specs.First.{first, or_code}
 use Rattle.hdl_ops.specs.Requests.{resolves, creates, is_public_only}
 use Rattle.hdl_ops.specs.Sights.{Sight, sight, bare, passes, passes_at, is_named, asks}
@@ -76,6 +76,7 @@ open_write (remove handle is) vs = λ k. list_all (λ i. passes_heads is_open (�
 open_write (modify handle news) vs = λ k. list_all (λ n. not (is_admin n) && passes_heads is_open (λ v. refl) vs n.index k) news
 open_write (list handle) vs = refl
 open_write (response kind handle index answer) vs = refl
+open_write (site_info octets) vs = refl
 open_write (other octets) vs = refl
 
 missing : (o : Operation) (vs : List Value) → misses o (map head vs) ≡ misses o vs
@@ -87,6 +88,7 @@ missing (remove handle is) vs = λ k. list_any (λ i. misses_heads vs i k) is
 missing (modify handle news) vs = λ k. list_any (λ n. misses_heads vs n.index k) news
 missing (list handle) vs = refl
 missing (response kind handle index answer) vs = refl
+missing (site_info octets) vs = refl
 missing (other octets) vs = refl
 
 taking : (o : Operation) (vs : List Value) → takes o (map head vs) ≡ takes o vs
@@ -98,6 +100,7 @@ taking (remove handle is) vs = refl
 taking (modify handle news) vs = refl
 taking (list handle) vs = refl
 taking (response kind handle index answer) vs = refl
+taking (site_info octets) vs = refl
 taking (other octets) vs = refl
 
 remove_need : (vs : List Value) (i : ℕ) → remove_needs (map head vs) i ≡ remove_needs vs i
@@ -115,6 +118,7 @@ allowed (remove handle is) vs m = λ k. list_all (λ i. mask_permits m (remove_n
 allowed (modify handle news) vs m = λ k. list_all (λ n. mask_permits m (modify_need vs n k)) news
 allowed (list handle) vs m = refl
 allowed (response kind handle index answer) vs m = refl
+allowed (site_info octets) vs m = refl
 allowed (other octets) vs m = refl
 
 locked : (o : Operation) (vs : List Value) → is_locked o (map head vs) ≡ is_locked o vs
@@ -126,6 +130,7 @@ locked (remove handle is) vs = λ k. list_any (λ i. locked_heads vs i k) is
 locked (modify handle news) vs = λ k. list_any (λ n. locked_heads vs n.index k) news
 locked (list handle) vs = refl
 locked (response kind handle index answer) vs = refl
+locked (site_info octets) vs = refl
 locked (other octets) vs = refl
 
 overfilling : (o : Operation) (vs : List Value) → overfills o (map head vs) ≡ overfills o vs
@@ -137,6 +142,7 @@ overfilling (remove handle is) vs = refl
 overfilling (modify handle news) vs = refl
 overfilling (list handle) vs = refl
 overfilling (response kind handle index answer) vs = refl
+overfilling (site_info octets) vs = refl
 overfilling (other octets) vs = refl
 
 -- ---- a resolution's tests don't see data: what it asks for is named by index and type
@@ -151,6 +157,7 @@ asks_head (remove handle is) v = refl
 asks_head (modify handle news) v = refl
 asks_head (list handle) v = refl
 asks_head (response kind handle index answer) v = refl
+asks_head (site_info octets) v = refl
 asks_head (other octets) v = refl
 
 left_head : (r : Content) (v : Value) → is_left r (head v) ≡ is_left r v

@@ -15,7 +15,7 @@ use Rattle.hdl_cache.specs.Cost.{mask_cost}
 use Rattle.hdl_msg.specs.Codes.{response_number}
 use Rattle.hdl_msg.specs.declared.codes.ResponseCode.TheVariants.{Success}
 use Rattle.hdl_msg.specs.declared.fields.Header.{Header}
-use Rattle.hdl_msg.specs.Message.{Content, Operation, resolution, create, delete, add, remove, modify, list, response, other}
+use Rattle.hdl_msg.specs.Message.{Content, Operation, resolution, site_info, create, delete, add, remove, modify, list, response, other}
 use Rattle.hdl_ops.specs.Anyone.{code_for_anyone}
 use Rattle.hdl_ops.specs.declared.seeing.TheConstants.{READ_MAX}
 use Rattle.hdl_ops.specs.Cost.{cost_of_heads, shown_cost, granted_cost, key_cost, decision_cost, anyone_cost, proof_cost}
@@ -58,6 +58,7 @@ shows_granted t (remove handle is) x y e read = absurd (true≢false (sym e))
 shows_granted t (modify handle news) x y e read = absurd (true≢false (sym e))
 shows_granted t (list handle) x y e read = absurd (true≢false (sym e))
 shows_granted t (response kind handle index answer) x y e read = absurd (true≢false (sym e))
+shows_granted t (site_info octets) x y e read = absurd (true≢false (sym e))
 shows_granted t (other octets) x y e read = absurd (true≢false (sym e))
 
 pub lists_granted : (t : Table) (o : Operation) (x y : ℕ) → is_list o ≡ true → ReadsWithin t names_cost x y → ReadsWithin t (granted_cost o) x y
@@ -69,6 +70,7 @@ lists_granted t (add handle news) x y e read = absurd (true≢false (sym e))
 lists_granted t (remove handle is) x y e read = absurd (true≢false (sym e))
 lists_granted t (modify handle news) x y e read = absurd (true≢false (sym e))
 lists_granted t (response kind handle index answer) x y e read = absurd (true≢false (sym e))
+lists_granted t (site_info octets) x y e read = absurd (true≢false (sym e))
 lists_granted t (other octets) x y e read = absurd (true≢false (sym e))
 
 -- ---- a decision for anyone
@@ -88,6 +90,7 @@ granted_less s wire header (remove handle is) e m = omega arith
 granted_less s wire header (modify handle news) e m = omega arith
 granted_less s wire header (list handle) e m = absurd (list_needs s.there e)
 granted_less s wire header (response kind handle index answer) e m = omega arith
+granted_less s wire header (site_info octets) e m = omega arith
 granted_less s wire header (other octets) e m = omega arith
 
 heads_less : (o : Operation) (m : Most) → heads_cost m ≤ decision_cost Anyone o m
@@ -99,6 +102,7 @@ heads_less (remove handle is) m = omega arith
 heads_less (modify handle news) m = omega arith
 heads_less (list handle) m = omega arith
 heads_less (response kind handle index answer) m = omega arith
+heads_less (site_info octets) m = omega arith
 heads_less (other octets) m = omega arith
 
 pub anyone_seen : (t : Table) (o : Operation) (x y : ℕ) → ReadsWithin t heads_cost x y → ReadsWithin t (decision_cost Anyone o) x y
@@ -134,6 +138,7 @@ decided_less (remove handle is) m = omega arith
 decided_less (modify handle news) m = omega arith
 decided_less (list handle) m = omega arith
 decided_less (response kind handle index answer) m = omega arith
+decided_less (site_info octets) m = omega arith
 decided_less (other octets) m = omega arith
 
 granted_most : (o : Operation) (m : Most) → granted_cost o m ≤ max (shown_cost m) (names_cost m)
@@ -145,6 +150,7 @@ granted_most (remove handle is) m = omega arith
 granted_most (modify handle news) m = omega arith
 granted_most (list handle) m = omega arith
 granted_most (response kind handle index answer) m = omega arith
+granted_most (site_info octets) m = omega arith
 granted_most (other octets) m = omega arith
 
 pub by_anyone : (t : Table) (o : Operation) (x y : ℕ) → ReadsWithin t (decision_cost Anyone o) x y → ReadsWithin t anyone_cost x y

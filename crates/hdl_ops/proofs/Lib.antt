@@ -10,3 +10,4 @@ pub mod Bare
 pub mod Shown
 pub mod Costs
 pub mod Rendered
+pub mod SiteDecisions

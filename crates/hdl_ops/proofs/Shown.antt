@@ -23,7 +23,7 @@ use Rattle.hdl_rows.proofs.Indexed.{stand_at_their_own}
 use Rattle.hdl_auth.specs.declared.algorithm.Algorithm.{Algorithm}
 use Rattle.hdl_msg.specs.Codes.{response_number}
 use Rattle.hdl_msg.specs.declared.codes.ResponseCode.TheVariants.{Success, Error}
-use Rattle.hdl_msg.specs.Message.{Content, Operation, resolution, create, delete, add, remove, modify, list, response, other, count_prefixed}
+use Rattle.hdl_msg.specs.Message.{Content, Operation, resolution, site_info, create, delete, add, remove, modify, list, response, other, count_prefixed}
 use Rattle.hdl_msg.specs.Reply.{reply_message}
 use Rattle.hdl_msg.specs.declared.fields.Header.{Header}
 use Rattle.hdl_msg.specs.declared.replies.ReplyContent.TheVariants.{Values, Handles, Empty}
@@ -216,6 +216,7 @@ granted_resolution a t wire header (remove handle is) level s e have enough = ab
 granted_resolution a t wire header (modify handle news) level s e have enough = absurd (true≢false (sym e))
 granted_resolution a t wire header (list handle) level s e have enough = absurd (true≢false (sym e))
 granted_resolution a t wire header (response kind handle index answer) level s e have enough = absurd (true≢false (sym e))
+granted_resolution a t wire header (site_info octets) level s e have enough = absurd (true≢false (sym e))
 granted_resolution a t wire header (other octets) level s e have enough = absurd (true≢false (sym e))
 
 pub granted_list : (a : Algorithm) (t : Table) (wire : Wire) (header : Header) (o : Operation) (level : Level) (s : Sight) → is_list o ≡ true → s.names ≡ names_of t (prefix (sent_handle o))
@@ -229,6 +230,7 @@ granted_list a t wire header (add handle news) level s e names = absurd (true≢
 granted_list a t wire header (remove handle is) level s e names = absurd (true≢false (sym e))
 granted_list a t wire header (modify handle news) level s e names = absurd (true≢false (sym e))
 granted_list a t wire header (response kind handle index answer) level s e names = absurd (true≢false (sym e))
+granted_list a t wire header (site_info octets) level s e names = absurd (true≢false (sym e))
 granted_list a t wire header (other octets) level s e names = absurd (true≢false (sym e))
 
 pub granted_write : (a : Algorithm) (t : Table) (wire : Wire) (header : Header) (o : Operation) (level : Level) (s : Sight) → resolves o ≡ false → is_list o ≡ false
@@ -244,6 +246,7 @@ granted_write a t wire header o level s e f = alike a s _ _ level (response_numb
     nothing (modify handle news) e f = refl
     nothing (list handle) e f = absurd (true≢false f)
     nothing (response kind handle index answer) e f = refl
+    nothing (site_info octets) e f = refl
     nothing (other octets) e f = refl
 
 -- ---- what is seen of a request that is granted

@@ -7,7 +7,7 @@ use Rattle.hdl_value.specs.declared.value.Value.{Value}
 use Rattle.hdl_value.specs.declared.wire.Wire.{Wire}
 use Rattle.hdl_value.specs.Padding.{stored_by}
 use Rattle.hdl_value.specs.Refs.{is_admin}
-use Rattle.hdl_msg.specs.Message.{Operation, resolution, create, delete, add, remove, modify, list, response, other}
+use Rattle.hdl_msg.specs.Message.{Operation, resolution, site_info, create, delete, add, remove, modify, list, response, other}
 use Rattle.hdl_ops.specs.Admission.{has_twins, is_bad_list}
 use Rattle.hdl_ops.specs.Requests.{sent_handle, with_stored}
 
@@ -38,4 +38,5 @@ stored_handle w (remove handle indexes) = refl
 stored_handle w (modify handle values) = refl
 stored_handle w (list handle) = refl
 stored_handle w (response kind handle index answer) = refl
+stored_handle w (site_info octets) = refl
 stored_handle w (other octets) = refl

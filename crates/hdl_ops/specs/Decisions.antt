@@ -3,6 +3,8 @@
 use Rattle.std.specs.Prelude.{◌≡◌, ℕ, List, Bool, ◌==◌, ◌&&◌, ◌||◌, Option, Some, None, if◌then◌else◌, filter}
 use Rattle.hdl_name.specs.Name as name
 use Rattle.hdl_value.specs.declared.value.Value.{Value}
+use Rattle.hdl_value.specs.declared.wire.Wire.{Wire}
+use Rattle.hdl_value.specs.declared.wire.Wire.TheVariants.{Profile, HandleNet}
 use Rattle.hdl_value.specs.Permission.{is_public, is_kept}
 use Rattle.hdl_auth.specs.declared.algorithm.Algorithm.{Algorithm}
 use Rattle.hdl_rows.specs.Table.{Table}
@@ -10,7 +12,7 @@ use Rattle.hdl_msg.specs.Codes.{response_number}
 use Rattle.hdl_msg.specs.declared.codes.ResponseCode.TheVariants.{Success, Error, ServiceReferral}
 use Rattle.hdl_msg.specs.Message.{Content, Operation, resolution, create, delete, add, remove, modify, list}
 use Rattle.hdl_msg.specs.declared.replies.ReplyContent.{ReplyContent}
-use Rattle.hdl_msg.specs.declared.replies.ReplyContent.TheVariants.{Values, Handles, Nothing, Referral, Empty}
+use Rattle.hdl_msg.specs.declared.replies.ReplyContent.TheVariants.{Values, Handles, Nothing, Referral, Empty, Site}
 use Rattle.hdl_ops.specs.declared.change.Change.{Change}
 use Rattle.hdl_ops.specs.declared.change.Change.TheVariants.{Create, Delete, Add, Remove, Modify}
 use Rattle.hdl_ops.specs.Admission.{refusal}
@@ -71,6 +73,17 @@ unfoldable pub decision : Algorithm → Sight → Content → Level → ℕ → 
 decision a s r level code =
     if code == response_number Success then (if fits a r (carried_content s r level) then success s r level else failure (response_number Error) Empty)
     else failure code Empty
+
+-- the site information that is told on lanes of this layout: none by our profile
+abbrev pub told_by : Wire → Option (List ℕ) → Option (List ℕ)
+told_by Profile site = None
+told_by HandleNet site = site
+
+-- the answer to a question for site information by these octets; where its message would be too long, the code is Error
+unfoldable pub site_decision : Algorithm → Content → List ℕ → Decision
+site_decision a r octets =
+    if fits a r (Site octets) then record { code = response_number Success; content = Site octets; change = None }
+    else failure (response_number Error) Empty
 
 unfoldable pub refusal_decision : Content → ℕ → Decision
 refusal_decision r code = failure code (if code == response_number ServiceReferral then Referral (name.sent_prefix (sent_handle r.operation)) else Empty)

@@ -6,7 +6,7 @@ use Rattle.hdl_value.specs.declared.wire.Wire.{Wire}
 use Rattle.hdl_value.specs.Padding.{stored_by}
 use Rattle.hdl_msg.specs.Codes.{has_flag}
 use Rattle.hdl_msg.specs.declared.codes.OpFlag.TheVariants.{PublicOnly, ReturnDigest}
-use Rattle.hdl_msg.specs.Message.{Content, Operation, resolution, create, delete, add, remove, modify, list, response, other}
+use Rattle.hdl_msg.specs.Message.{Content, Operation, resolution, site_info, create, delete, add, remove, modify, list, response, other}
 
 -- the handle that an operation names, as it was sent
 abbrev pub sent_handle : Operation → List ℕ
@@ -18,15 +18,18 @@ sent_handle (remove handle indexes) = handle
 sent_handle (modify handle values) = handle
 sent_handle (list handle) = handle
 sent_handle (response kind handle index answer) = []
+sent_handle (site_info octets) = []
 sent_handle (other octets) = []
 
 -- that handle in canonical form
 unfoldable pub handle_of : Content → List ℕ
 handle_of r = canonical (sent_handle r.operation)
 
--- no operation that is offered, or a challenge response, which is not decided by itself
+-- No table decides it: a challenge response, which is not decided by itself, a question for site information, or an operation
+-- that isn't offered.
 abbrev pub is_unused : Operation → Bool
 is_unused (response kind handle index answer) = true
+is_unused (site_info octets) = true
 is_unused (other octets) = true
 is_unused _ = false
 
@@ -69,6 +72,7 @@ with_stored wire (remove handle indexes) = remove handle indexes
 with_stored wire (modify handle values) = modify handle (map (stored_by wire) values)
 with_stored wire (list handle) = list handle
 with_stored wire (response kind handle index answer) = response kind handle index answer
+with_stored wire (site_info octets) = site_info octets
 with_stored wire (other octets) = other octets
 
 -- the same of a request

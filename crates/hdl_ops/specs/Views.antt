@@ -1,10 +1,10 @@
 -- What the code's types are in the words of the definitions.
-use Rattle.std.specs.Prelude.{◌≡◌, ℕ, Bool, List, Some, None, IsTrue}
+use Rattle.std.specs.Prelude.{◌≡◌, ℕ, Bool, List, Option, Some, None, IsTrue}
 use Rattle.hdl_auth.specs.declared.algorithm.Algorithm.{Algorithm}
 use Rattle.hdl_msg.specs.Codes.{response_number}
 use Rattle.hdl_msg.specs.Message.{Content}
 use Rattle.hdl_value.specs.declared.wire.Wire.{Wire}
-use Rattle.hdl_tenants.specs.Register.{algorithm, hosts, wire}
+use Rattle.hdl_tenants.specs.Register.{algorithm, hosts, site, wire}
 use Rattle.hdl_ops.specs.declared.admit.Admitted.{Admitted}
 use Rattle.hdl_ops.specs.declared.admit.Admitted.TheVariants as admitted
 use Rattle.hdl_ops.specs.declared.decision.Decision.{Decision}
@@ -29,6 +29,10 @@ hosted_by o = hosts o.tenants.now o.publisher
 -- the layout that is spoken on the owner's lanes
 abbrev pub wire_by : Owner → Wire
 wire_by o = wire o.tenants.now o.publisher
+
+-- the site information that is told on the owner's lanes
+abbrev pub site_by : Owner → Option (List ℕ)
+site_by o = d.told_by (wire_by o) (site o.tenants.now o.publisher)
 
 -- the hash functions of prefixes on the owner's lanes
 abbrev pub algorithms_by : Owner → List ℕ → Algorithm

@@ -8,7 +8,8 @@
 //! `Anyone` for a request as it came, `Proven` for one that comes back with a proof. Each is a list of rows, a test and a code,
 //! of which the first that holds decides. [`decide`] is proved to answer just that, leaves the table as it was, and promises
 //! that its change can be written; [`apply`] writes it, at the moment of its event; [`render`] and [`render_challenge`] spell
-//! the replies. The laws in [`laws`] say that a request is decided in one way, and what a decision tells.
+//! the replies. [`decide_site`] answers a question for site information, which no table decides. The laws in [`laws`] say that a
+//! request is decided in one way, and what a decision tells.
 //!
 //! It knows nothing of lanes, events or time.
 //!
@@ -50,3 +51,4 @@ pub use hdl_tenants::Tenants;
 pub use owner::Owner;
 pub use rendering::{render, render_challenge};
 pub use requests::{Response, response_of};
+pub use whole_decision::decide_site;

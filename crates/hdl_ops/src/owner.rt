@@ -1,7 +1,7 @@
 //! The publisher on whose lane a request came.
 
-ghost use Rattle.std.specs.Prelude.{◌≡◌};
-ghost use Rattle.hdl_ops.specs.Views.{wire_by};
+ghost use Rattle.std.specs.Prelude.{◌≡◌, Some, None, MatchOption};
+ghost use Rattle.hdl_ops.specs.Views.{site_by, wire_by};
 
 use hdl_tenants::Tenants;
 use hdl_value::Wire;
@@ -22,5 +22,15 @@ impl Owner<'_> {
         ensures { result ≡ wire_by self.now }
     {
         self.tenants.wire(self.publisher)
+    }
+
+    /// The site information that its lanes tell: none by our profile's layout.
+    pub fn site(&self) -> Option<&[u8]>
+        ensures { MatchOption result (site_by self.now ≡ None) (λ octets. site_by self.now ≡ Some octets.now) }
+    {
+        match self.wire() {
+            Wire::Profile => None,
+            Wire::HandleNet => self.tenants.site(self.publisher),
+        }
     }
 }

@@ -72,6 +72,7 @@ pub(crate) fn is_allowed(body: &Body<'_>, values: &[Value], mask: AdminMask) -> 
         Body::Modify { values: news, .. } => may_modify_all(mask, values, *news),
         Body::List { .. } => mask.permits(AdminPermission::ListHandle),
         Body::Response { .. } => false,
+        Body::SiteInfo { .. } => false,
         Body::Other { .. } => false,
     }
 }

@@ -43,6 +43,7 @@ pub fn response_of<'a>(body: &Body<'a>) -> Option<Response<'a>>
         Body::Remove { .. } => None,
         Body::Modify { .. } => None,
         Body::List { .. } => None,
+        Body::SiteInfo { .. } => None,
         Body::Other { .. } => None,
     }
 }
@@ -59,15 +60,19 @@ pub(crate) fn sent_handle<'a>(body: &Body<'a>) -> &'a [u8]
         Body::Remove { handle, .. } => handle,
         Body::Modify { handle, .. } => handle,
         Body::List { handle } => handle,
-        Body::Response { .. } | Body::Other { .. } => &[],
+        Body::Response { .. } | Body::SiteInfo { .. } | Body::Other { .. } => &[],
     }
 }
 
-/// Whether the body is of no operation that is offered, or a challenge response, which is not decided by itself.
+/// Whether the body is of no operation that is decided: a challenge response, which is not decided by itself, a question for
+/// site information, or an operation that isn't offered.
 pub(crate) fn is_unused(body: &Body<'_>) -> bool
     ensures { result ≡ is_unused (operation_of body.now) }
 {
-    matches!(body, Body::Response { .. } | Body::Other { .. })
+    matches!(
+        body,
+        Body::Response { .. } | Body::SiteInfo { .. } | Body::Other { .. }
+    )
 }
 
 /// Whether the body is that of a resolution.

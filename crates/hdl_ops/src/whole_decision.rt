@@ -78,6 +78,7 @@ fn carried_content(
         Body::Remove { .. } => (ReplyContent::Nothing, Some(name)),
         Body::Modify { .. } => (ReplyContent::Nothing, Some(name)),
         Body::Response { .. } => (ReplyContent::Nothing, Some(name)),
+        Body::SiteInfo { .. } => (ReplyContent::Nothing, Some(name)),
         Body::Other { .. } => (ReplyContent::Nothing, Some(name)),
     }
 }
@@ -122,6 +123,7 @@ fn change_of(
         Body::Resolution { .. } => Ok(None),
         Body::List { .. } => Ok(None),
         Body::Response { .. } => Ok(None),
+        Body::SiteInfo { .. } => Ok(None),
         Body::Other { .. } => Ok(None),
     }
 }
@@ -134,6 +136,27 @@ fn failure(code: ResponseCode) -> Decision
         content: ReplyContent::Empty,
         change: None,
     }
+}
+
+/// The answer to a question for site information, by these octets. No table is looked at.
+#[tactic(auto, unfolding(crate::specs::Decisions::site_decision), using(crate::proofs::Lengths::empty_fits))]
+pub fn decide_site(
+    alloc: Global,
+    asked: &HashedRequest<'_>,
+    octets: &[u8],
+) -> Result<Decision, AllocError>
+    ensures carried { IfOk result (λ d. IsTrue (fits asked.now.algorithm asked.now.request.now d.content)) }
+    ensures decided { IfOk result (λ d. decision_of d ≡ decisions.site_decision asked.now.algorithm asked.now.request.now octets.now) }
+{
+    let octets = Octets::new(Vec::from_slice(alloc, octets)?);
+    let Some(content) = fitting(asked, ReplyContent::Site { octets }) else {
+        return Ok(failure(ResponseCode::Error));
+    };
+    Ok(Decision {
+        code: ResponseCode::Success,
+        content,
+        change: None,
+    })
 }
 
 /// The whole decision, from the code of the table.

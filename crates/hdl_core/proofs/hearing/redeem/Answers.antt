@@ -6,6 +6,7 @@ use Rattle.hdl_ops.specs.Decisions.{Proven}
 use Rattle.hdl_ops.specs.Proven.{Proof}
 use Rattle.hdl_ops.specs.Tables.{apply_if}
 use Rattle.hdl_ops.specs.Views.{algorithms_by, decision_of, hosted_by, response_view, wire_by}
+use Rattle.hdl_core.specs.Serving.{speech_by}
 use Rattle.hdl_core.proofs.Heard.{on_ok, on_both, named_decides, unreadable, late, proven}
 use Rattle.hdl_ops.specs.Cost.{proof_cost}
 use Rattle.hdl_ops.proofs.Costs.{by_proof}
@@ -15,14 +16,14 @@ use Rattle.hdl_core.proofs.hearing.redeem.Goals as goal
 pub returns-in_default-clause-redeemed : goal.returns-in_default-clause-redeemed
 returns-in_default-clause-redeemed g c =
     on_ok c.malformed_reply.result _ _
-    (λ octets is. unreadable (wire_by c.args.owner.now) (hosted_by c.args.owner.now) (algorithms_by c.args.owner.now) (g.R.Rows.content c.args.rows.now) c.args.origin.now (response_view c.args.response) c.args.pending.now octets
+    (λ octets is. unreadable (speech_by c.args.owner.now) (hosted_by c.args.owner.now) (algorithms_by c.args.owner.now) (g.R.Rows.content c.args.rows.now) c.args.origin.now (response_view c.args.response) c.args.pending.now octets
     (λ r spells. c.in_default.ensures.malformed r (subst (λ (w : Wire). SpellsRequest w c.as_slice.result.now r) (sym c.wire.ensures) (subst (λ (b : List ℕ). SpellsRequest (wire_by c.args.owner.now) b r) (sym c.as_slice.ensures) spells))) is)
     c.malformed_reply.ensures.octets
 
 pub returns-then-is_late-clause-redeemed : goal.returns-then-is_late-clause-redeemed
 returns-then-is_late-clause-redeemed g c =
     on_ok c.code_reply.result _ _
-    (λ octets is. late (wire_by c.args.owner.now) (hosted_by c.args.owner.now) (algorithms_by c.args.owner.now) (g.R.Rows.content c.args.rows.now) c.args.origin.now (response_view c.args.response) c.args.pending.now c.in-Ok.request c.algorithm.result octets c.algorithm.ensures
+    (λ octets is. late (speech_by c.args.owner.now) (hosted_by c.args.owner.now) (algorithms_by c.args.owner.now) (g.R.Rows.content c.args.rows.now) c.args.origin.now (response_view c.args.response) c.args.pending.now c.in-Ok.request c.algorithm.result octets c.algorithm.ensures
     (subst (λ (b : List ℕ). SpellsRequest (wire_by c.args.owner.now) b c.in-Ok.request) c.as_slice.ensures (subst (λ (w : Wire). SpellsRequest w c.as_slice.result.now c.in-Ok.request) c.wire.ensures c.in-Ok.ensures.read)) (λ message. sym c.if-is_late.true ∙ c.is_late.ensures message) is)
     c.code_reply.ensures.reply
 
@@ -33,7 +34,7 @@ returns-clause-redeemed g c =
     let p : Proof = record { response = response_view c.args.response; nonce = c.args.pending.now.nonce; digest = c.args.pending.now.digest } in
     let d = decision_of c.in_ok-decision.decision in
     on_both c.answer.result _ _ _
-    (λ octets is table. proven (wire_by c.args.owner.now) hosts (algorithms_by c.args.owner.now) t c.args.origin.now (response_view c.args.response) c.args.pending.now c.in-Ok.request c.algorithm.result d octets (g.R.Rows.content c.answer.new.rows) c.algorithm.ensures
+    (λ octets is table. proven (speech_by c.args.owner.now) hosts (algorithms_by c.args.owner.now) t c.args.origin.now (response_view c.args.response) c.args.pending.now c.in-Ok.request c.algorithm.result d octets (g.R.Rows.content c.answer.new.rows) c.algorithm.ensures
     (subst (λ (b : List ℕ). SpellsRequest (wire_by c.args.owner.now) b c.in-Ok.request) c.as_slice.ensures (subst (λ (w : Wire). SpellsRequest w c.as_slice.result.now c.in-Ok.request) c.wire.ensures c.in-Ok.ensures.read)) (λ message. sym c.if-is_late.false ∙ c.is_late.ensures message)
     (named_decides t (Proven p) d c.in_ok-named.ensures.owner c.in_ok-named.ensures.asked c.in_ok-decision.ensures.decided) is (table ∙ ap (λ t. apply_if t c.args.origin.now.moment c.in_ok-decision.decision.change) c.decide.ensures.unchanged))
     c.answer.ensures.reply c.answer.ensures.done

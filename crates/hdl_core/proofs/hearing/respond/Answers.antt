@@ -2,7 +2,8 @@ use Rattle.std.proofs.Common.{sym, ap, ◌∙◌}
 use Rattle.std.specs.Prelude.{option_copied}
 use Rattle.hdl_auth.specs.declared.algorithm.Algorithm.TheVariants.{Sha1}
 use Rattle.hdl_ops.proofs.Announced.{protocol_error_announced}
-use Rattle.hdl_ops.specs.Views.{algorithms_by, hosted_by, response_view, wire_by}
+use Rattle.hdl_ops.specs.Views.{algorithms_by, hosted_by, response_view}
+use Rattle.hdl_core.specs.Serving.{speech_by}
 use Rattle.hdl_core.proofs.Heard.{on_ok, unknown, known}
 use Rattle.hdl_core.proofs.Costs.{none_found}
 use Rattle.hdl_core.proofs.hearing.respond.Goals as goal
@@ -10,13 +11,13 @@ use Rattle.hdl_core.proofs.hearing.respond.Goals as goal
 pub returns-in_default-clause-responded : goal.returns-in_default-clause-responded
 returns-in_default-clause-responded g c =
     on_ok c.code_reply.result _ _
-    (λ octets is. unknown (wire_by c.args.owner.now) (hosted_by c.args.owner.now) (algorithms_by c.args.owner.now) (g.R.Rows.content c.args.rows.now) c.args.origin.now c.args.lanes.now c.args.origin.now.lane c.args.request.now (response_view c.args.response) octets
+    (λ octets is. unknown (speech_by c.args.owner.now) (hosted_by c.args.owner.now) (algorithms_by c.args.owner.now) (g.R.Rows.content c.args.rows.now) c.args.origin.now c.args.lanes.now c.args.origin.now.lane c.args.request.now (response_view c.args.response) octets
     (sym (ap option_copied c.in_default.is) ∙ c.find.ensures) is)
     c.code_reply.ensures.reply
 
 pub returns-clause-responded : goal.returns-clause-responded
 returns-clause-responded g c =
-    known (wire_by c.args.owner.now) (hosted_by c.args.owner.now) (algorithms_by c.args.owner.now) (g.R.Rows.content c.args.rows.now) c.args.origin.now c.args.lanes.now c.args.origin.now.lane c.args.request.now (response_view c.args.response) c.in-Some.pending.now c.in_ok-octets.octets c.spend.new.self (g.R.Rows.content c.redeem.new.rows)
+    known (speech_by c.args.owner.now) (hosted_by c.args.owner.now) (algorithms_by c.args.owner.now) (g.R.Rows.content c.args.rows.now) c.args.origin.now c.args.lanes.now c.args.origin.now.lane c.args.request.now (response_view c.args.response) c.in-Some.pending.now c.in_ok-octets.octets c.spend.new.self (g.R.Rows.content c.redeem.new.rows)
     (sym (ap option_copied c.in-Some.is) ∙ c.find.ensures) c.in_ok-octets.ensures.redeemed c.spend.ensures
 
 pub returns-in_default-clause-read : goal.returns-in_default-clause-read

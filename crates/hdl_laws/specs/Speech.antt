@@ -1,0 +1,8 @@
+-- How the lanes of a publisher speak.
+use Rattle.std.specs.Prelude.{ℕ, List, Option}
+use Rattle.hdl_value.specs.declared.wire.Wire.{Wire}
+
+-- by whose layout, and with which site information they answer
+pub record Speech : Type 0 where
+  pub wire : Wire
+  pub site : Option (List ℕ)
