@@ -1,1 +1,3 @@
+pub mod Matter
+pub mod Naming
 pub mod ReplySummary

@@ -1,7 +1,7 @@
 //! Following the frames of a lane, and the replies to them.
 
-ghost use Rattle.std.specs.Prelude.{◌≡◌, ◌<◌, IfSome, IsSome, IsTrue, option_map};
-ghost use Rattle.hdl_audit.specs.ReplySummary.{answer_of, ends_change};
+ghost use Rattle.std.specs.Prelude.{◌≡◌, ◌<◌, true, None, IfSome, IsSome, IsTrue, option_map};
+ghost use Rattle.hdl_audit.specs.ReplySummary.{answer_of, changes, ends_change};
 
 use crate::answer::ReplySummary;
 use crate::entry::{Entry, KeyName};
@@ -24,6 +24,7 @@ struct Challenged {
     operation: u32,
     /// The handle, where names are followed.
     handle: Option<Vec<u8>>,
+    ghost changes: { changes operation ≡ true },
 }
 
 /// A frame of a reply, and what is known of the request that it answers.
@@ -49,8 +50,16 @@ pub struct Follower {
 }
 
 impl Follower {
+    ghost use Rattle.std.specs.Prelude.{◌⊎◌, ◌==◌, ◌&&◌, [], IfOk, Ok, Some};
+    ghost use Rattle.std.specs.List.{position};
+    ghost use Rattle.hdl_audit.specs.Matter.{is_consistent};
+    ghost use Rattle.hdl_audit.specs.Naming.{IsAsked, IsChallenged, IsOwnChallenge, IsPending, NamesBy, NamesNothing, NamesOwn, OnlyGains, handle_octets};
+
     /// A follower at the beginning of a connection, or of a lane of datagrams.
-    pub fn new(alloc: Global, detail: Detail) -> Follower {
+    pub fn new(alloc: Global, detail: Detail) -> Follower
+        ensures frames { result.unanswered.items ≡ [] }
+        ensures challenged { result.challenged.items ≡ [] }
+    {
         Follower {
             alloc,
             detail,
@@ -61,28 +70,42 @@ impl Follower {
     }
 
     /// Forgets requests without a reply. For a lane that receives one frame at a time: earlier requests have their replies, or get none.
-    pub fn forget_unanswered(&mut self) {
+    pub fn forget_unanswered(&mut self)
+        ensures frames { self.new.unanswered.items ≡ [] }
+        ensures challenged { self.new.challenged.items ≡ self.old.challenged.items }
+    {
         self.unanswered.clear();
     }
 
     /// A frame came that can't be followed, so it isn't certain any more which one is answered next.
-    pub fn lose(&mut self) {
+    pub fn lose(&mut self)
+        ensures frames { self.new.unanswered.items ≡ self.old.unanswered.items }
+        ensures challenged { self.new.challenged.items ≡ self.old.challenged.items }
+    {
         self.is_lost = true;
     }
 
     /// A frame came from a peer.
-    pub fn note_request(&mut self, peer: u16, frame: &[u8]) {
+    pub fn note_request(&mut self, peer: u16, frame: &[u8])
+        ensures frames { OnlyGains self.old.unanswered.items (λ question. question.peer ≡ peer) self.new.unanswered.items }
+        ensures challenged { self.new.challenged.items ≡ self.old.challenged.items }
+    {
         let question = self.question(peer, frame);
         self.put(question);
     }
 
     /// What a frame asks, which a peer sent: nothing, where it has no envelope.
-    pub fn question(&self, peer: u16, frame: &[u8]) -> Result<Option<UnansweredFrame>, AllocError> {
+    pub fn question(&self, peer: u16, frame: &[u8]) -> Result<Option<UnansweredFrame>, AllocError>
+        ensures own { IfOk result (λ asked. IfSome asked (λ question. question.peer ≡ peer)) }
+    {
         UnansweredFrame::of(self.alloc, self.detail, peer, frame)
     }
 
     /// A frame came that asks this. One for which memory was refused can't be followed.
-    pub fn put(&mut self, question: Result<Option<UnansweredFrame>, AllocError>) {
+    pub fn put(&mut self, question: Result<Option<UnansweredFrame>, AllocError>)
+        ensures frames { OnlyGains self.old.unanswered.items (λ one. question ≡ Ok (Some one)) self.new.unanswered.items }
+        ensures challenged { self.new.challenged.items ≡ self.old.challenged.items }
+    {
         if self.is_lost || self.unanswered.len() >= UNANSWERED {
             self.is_lost = true;
             return;
@@ -122,8 +145,12 @@ impl Follower {
         }
     }
 
-    /// Takes what a reply with this RequestId answers. Where that isn't certain nothing is followed any more.
-    fn take_matter(&mut self, request: u32) -> Matter {
+    /// Takes what a reply with this RequestId answers, if this peer asked it. Where that isn't certain nothing is followed any more.
+    fn take_matter(&mut self, peer: u16, request: u32) -> Matter
+        ensures asked { (result ≡ Matter.Other 0) ⊎ IsAsked self.old.unanswered.items peer result }
+        ensures consistent { is_consistent result ≡ true }
+        ensures challenged { self.new.challenged.items ≡ self.old.challenged.items }
+    {
         if self.is_lost {
             return UNKNOWN;
         }
@@ -135,13 +162,15 @@ impl Follower {
             self.unanswered.pop_front();
         }
         match self.unanswered.pop_front() {
-            Some(question) => question.matter,
-            None => UNKNOWN,
+            Some(question) if question.peer == peer => question.matter,
+            _ => UNKNOWN,
         }
     }
 
     /// A change was challenged.
-    fn put_challenged(&mut self, challenged: Challenged) {
+    fn put_challenged(&mut self, challenged: Challenged)
+        ensures challenged { OnlyGains self.old.challenged.items (λ one. one ≡ challenged) self.new.challenged.items }
+    {
         if self.challenged.len() >= CHALLENGES {
             self.challenged.remove(0);
         }
@@ -151,9 +180,21 @@ impl Follower {
     }
 
     /// The place of the change with this challenge.
-    fn place_of_challenge(&self, peer: u16, session: u32) -> Option<usize> {
+    fn place_of_challenge(&self, peer: u16, session: u32) -> Option<usize>
+        ensures place { result ≡ position (λ one. one.peer == peer && one.session == session) self.now.challenged.items }
+    {
         let mut all = self.challenged.iter();
         all.position(|one| one.peer == peer && one.session == session)
+    }
+
+    /// A copy of a handle, if one is named.
+    fn copy_of_handle(&self, handle: &Option<Vec<u8>>) -> Result<Option<Vec<u8>>, AllocError>
+        ensures { IfOk result (λ copied. handle_octets copied ≡ handle_octets handle.now) }
+    {
+        match handle {
+            Some(handle) => Ok(Some(copy_of(self.alloc, handle)?)),
+            None => Ok(None),
+        }
     }
 
     /// The change whose challenge was answered by this reply's request. It stays where the reply says busy.
@@ -162,7 +203,10 @@ impl Follower {
         peer: u16,
         session: u32,
         answer: ReplySummary,
-    ) -> Option<Challenged> {
+    ) -> Option<Challenged>
+        ensures own { IfSome result (λ one. IsPending self.old.challenged.items peer session one.operation (handle_octets one.handle)) }
+        ensures kept { OnlyGains self.old.challenged.items (λ _. ⊥) self.new.challenged.items }
+    {
         let place = self.place_of_challenge(peer, session)?;
         if place >= self.challenged.len() {
             return None;
@@ -171,16 +215,15 @@ impl Follower {
             return Some(self.challenged.remove(place));
         }
         let kept = self.challenged.get(place)?;
-        let handle = match &kept.handle {
-            Some(handle) => Some(copy_of(self.alloc, handle).ok()?),
-            None => None,
-        };
-        Some(Challenged {
-            peer,
-            session,
-            operation: kept.operation,
-            handle,
-        })
+        match self.copy_of_handle(&kept.handle) {
+            Ok(handle) => Some(Challenged {
+                peer,
+                session,
+                operation: kept.operation,
+                handle,
+            }),
+            Err(_) => None,
+        }
     }
 
     /// The number of the operation that a reply to this matter answers.
@@ -217,6 +260,9 @@ impl Follower {
         answer: ReplySummary,
     ) -> Option<Entry>
         ensures told { IsTrue (ends_change answer) → IsSome result }
+        ensures change { IfSome result (λ entry. changes entry.operation ≡ true) }
+        ensures own { IfSome result (λ entry. NamesNothing entry ⊎ NamesBy (Matter.Response challenge key) self.old.challenged.items peer entry) }
+        ensures kept { OnlyGains self.old.challenged.items (λ _. ⊥) self.new.challenged.items }
         ensures code { IfSome result (λ entry. entry.code ≡ answer.code) }
     {
         match self.take_challenged(peer, challenge, answer) {
@@ -232,7 +278,11 @@ impl Follower {
 
     /// The entry of a reply to this matter.
     fn entry_of(&mut self, peer: u16, matter: Matter, answer: ReplySummary) -> Option<Entry>
+        requires { is_consistent matter ≡ true }
         ensures told { IsTrue (ends_change answer) → IsSome result }
+        ensures change { IfSome result (λ entry. changes entry.operation ≡ true) }
+        ensures own { IfSome result (λ entry. NamesNothing entry ⊎ NamesBy matter self.old.challenged.items peer entry) }
+        ensures challenged { OnlyGains self.old.challenged.items (IsChallenged matter peer answer) self.new.challenged.items }
         ensures code { IfSome result (λ entry. entry.code ≡ answer.code) }
     {
         match matter {
@@ -264,10 +314,13 @@ impl Follower {
         ensures answer { option_map (λ followed. followed.answer) result ≡ answer_of frame.now }
         ensures operation { IfSome result (λ followed. 0 < followed.answer.operation → followed.operation ≡ followed.answer.operation) }
         ensures told { IfSome result (λ followed. IsTrue (ends_change followed.answer) → IsSome followed.entry) }
+        ensures change { IfSome result (λ followed. IfSome followed.entry (λ entry. changes entry.operation ≡ true)) }
+        ensures own { IfSome result (λ followed. IfSome followed.entry (NamesOwn self.old.unanswered.items self.old.challenged.items peer)) }
+        ensures challenged { OnlyGains self.old.challenged.items (IsOwnChallenge self.old.unanswered.items peer (answer_of frame.now)) self.new.challenged.items }
         ensures code { IfSome result (λ followed. IfSome followed.entry (λ entry. entry.code ≡ followed.answer.code)) }
     {
         let answer = ReplySummary::of(frame)?;
-        let matter = self.take_matter(answer.request);
+        let matter = self.take_matter(peer, answer.request);
         let operation = self.operation_of(peer, &matter, answer);
         let entry = self.entry_of(peer, matter, answer);
         Some(Followed {
@@ -282,6 +335,8 @@ impl Follower {
 fn entry_without_name(answer: ReplySummary) -> Option<Entry>
     ensures told { IsTrue (ends_change answer) → IsSome result }
     ensures only { IsSome result → IsTrue (ends_change answer) }
+    ensures change { IfSome result (λ entry. changes entry.operation ≡ true) }
+    ensures nothing { IfSome result (λ entry. (entry.handle ≡ None) × (entry.key ≡ None)) }
     ensures code { IfSome result (λ entry. entry.code ≡ answer.code) }
 {
     if !answer.ends_change() {

@@ -7,7 +7,8 @@
 //! ```
 //!
 //! A [`Follower`] reads along, between the socket and the service, and decides nothing: the service answers as it would without it. Promised is
-//! that each reply which names a change's operation gives an entry, unless it is a challenge, that an entry's code is that of the reply, and that a reply which names an operation is counted by it (`specs/ReplySummary.antt`). A short reply names none:
+//! that each reply which names a change's operation gives an entry, unless it is a challenge, that an entry's code is that of the reply, and that a reply which names an operation is counted by it (`specs/ReplySummary.antt`).
+//! An entry is of a change, and names only what frames of the peer ask to whom the reply goes (`specs/Naming.antt`). A short reply names none:
 //! its operation, and which handle and key an entry names, is found by the order of frames and replies; where that isn't certain there is none. Without a log no name is kept ([`Detail`]).
 //!
 //! It stands on frames and on the fields of messages, and knows no sockets and no service.

@@ -1,5 +1,9 @@
 //! What a frame from a client asks.
 
+ghost use Rattle.std.specs.Prelude.{◌≡◌, true, IfOk};
+ghost use Rattle.hdl_audit.specs.ReplySummary.{changes};
+ghost use Rattle.hdl_audit.specs.Matter.{is_consistent};
+
 use crate::answer::changes;
 use crate::entry::KeyName;
 use hdl_frame::{ENVELOPE_LEN, Envelope};
@@ -44,13 +48,16 @@ pub struct UnansweredFrame {
     pub peer: u16,
     pub request: u32,
     pub matter: Matter,
+    ghost consistent: { is_consistent matter ≡ true },
 }
 
 /// What asks nothing that is known.
 pub const UNKNOWN: Matter = Matter::Other { operation: 0 };
 
 /// A copy on the heap.
-pub fn copy_of(alloc: Global, octets: &[u8]) -> Result<Vec<u8>, AllocError> {
+pub fn copy_of(alloc: Global, octets: &[u8]) -> Result<Vec<u8>, AllocError>
+    ensures { IfOk result (λ copied. copied.items ≡ octets.now) }
+{
     let mut all = Vec::new(alloc);
     all.extend_from_slice(octets)?;
     Ok(all)
@@ -62,7 +69,10 @@ fn change_of(
     detail: Detail,
     operation: u32,
     body: &[u8],
-) -> Result<Matter, AllocError> {
+) -> Result<Matter, AllocError>
+    requires { changes operation ≡ true }
+    ensures { IfOk result (λ matter. is_consistent matter ≡ true) }
+{
     let Some((handle, _)) = string_at(body) else {
         return Ok(Matter::Other { operation });
     };
@@ -86,7 +96,9 @@ fn response_of(
     detail: Detail,
     challenge: u32,
     body: &[u8],
-) -> Result<Matter, AllocError> {
+) -> Result<Matter, AllocError>
+    ensures { IfOk result (λ matter. is_consistent matter ≡ true) }
+{
     let Some((handle, index)) = key_at(body) else {
         return Ok(UNKNOWN);
     };
@@ -106,7 +118,9 @@ fn matter_of(
     detail: Detail,
     session: u32,
     message: &[u8],
-) -> Result<Matter, AllocError> {
+) -> Result<Matter, AllocError>
+    ensures { IfOk result (λ matter. is_consistent matter ≡ true) }
+{
     let Some((operation, _)) = u32_at(message) else {
         return Ok(UNKNOWN);
     };
@@ -123,6 +137,8 @@ fn matter_of(
 }
 
 impl UnansweredFrame {
+    ghost use Rattle.std.specs.Prelude.{IfSome};
+
     /// Whether it is a piece of a message.
     pub fn is_piece(&self) -> bool {
         matches!(self.matter, Matter::Piece)
@@ -134,7 +150,9 @@ impl UnansweredFrame {
         detail: Detail,
         peer: u16,
         frame: &[u8],
-    ) -> Result<Option<UnansweredFrame>, AllocError> {
+    ) -> Result<Option<UnansweredFrame>, AllocError>
+        ensures own { IfOk result (λ asked. IfSome asked (λ question. question.peer ≡ peer)) }
+    {
         let Some((head, message)) = frame.split_at_checked(ENVELOPE_LEN) else {
             return Ok(None);
         };
