@@ -270,21 +270,28 @@ def summed(sums, octets):
     return one, two
 
 
+def killed_at(path, words, seconds):
+    """Starts a server over the file, and kills it after so long."""
+    with subprocess.Popen([servers.HANDLED, "serve", "--table", path, *words], stdin=subprocess.PIPE, stdout=subprocess.DEVNULL, stderr=subprocess.DEVNULL) as process:
+        process.stdin.write(tenants(*servers.free_ports(1)))
+        process.stdin.close()
+        try:
+            process.wait(timeout=seconds)
+        except subprocess.TimeoutExpired:
+            process.kill()
+
+
 def moved(folder, name, count, words):
-    """What a kill leaves while the log is moved into the file, at a start or at an ordered end, is the whole table, without a word of damage."""
+    """What kills leave while the log is moved into the file, at a start or at an ordered end, is the whole table, without a word of damage."""
     path = os.path.join(folder, "moved.db")
     put(path, (None, None))
     pair = killed(path, b"moved", count)
     right = text_of(folder, pair)
     for place in range(KILLS):
         put(path, pair)
-        with subprocess.Popen([servers.HANDLED, "serve", "--table", path, *words], stdin=subprocess.PIPE, stdout=subprocess.DEVNULL, stderr=subprocess.DEVNULL) as process:
-            process.stdin.write(tenants(*servers.free_ports(1)))
-            process.stdin.close()
-            try:
-                process.wait(timeout=0.005 * place * servers.SLOWER)
-            except subprocess.TimeoutExpired:
-                process.kill()
+        # twice: what a kill left is moved again, and that is killed too
+        for moment in (place, KILLS - place):
+            killed_at(path, words, 0.005 * moment * servers.SLOWER)
         status, said, fault = exported_in(folder, (octets_of(path), octets_of(path + "-wal")))
         if (status, said) != (0, right) or fault and not fault.startswith(TOLD):
             yield "a kill at %s, %d: %d %r" % (name, place, status, fault), False
